@@ -27,7 +27,7 @@ use Rattle.frame_laws.proofs.RecordLemmas.{last_below, none_altered, each_kept}
 
 -- ---- the bytes
 
-left_all : (units : List (List ℕ)) → left_of units (replicate (length units) Kept) ≡ joined units
+pub left_all : (units : List (List ℕ)) → left_of units (replicate (length units) Kept) ≡ joined units
 left_all [] = refl
 left_all (u ∷ units) = ap (λ (bytes : List ℕ). u ++ bytes) (left_all units)
 
@@ -36,7 +36,7 @@ whole_arrives c inputs = sym (left_all (pipe c.pid (packets_of c inputs)))
 
 -- ---- each packet survives
 
-all_begun : (xs : List JoinedByte) (at : ℕ) (packets : List (List ℕ))
+pub all_begun : (xs : List JoinedByte) (at : ℕ) (packets : List (List ℕ))
     → begun_from xs 0 at packets ≡ replicate (length packets) true
 all_begun xs at [] = refl
 all_begun xs at (packet ∷ packets) =

@@ -1,10 +1,10 @@
 -- The interleaving frames that a frame carries and that began before it, and what survives of their blocks.
-use Rattle.std.proofs.Common.{◌≡◌, ℕ, ◌+◌, ◌*◌, ◌/◌, ◌%◌, ◌-◌, ◌<◌, ◌≤◌, ◌==◌, ◌&&◌, ◌||◌, Bool, true, false, cond, List, [], ◌∷◌}
-use Rattle.std.proofs.Common.{length, get_or, Option, Some, None, refl, ap, sym, subst, ◌∙◌, ⊎_elim, arith, true≢false}
+use Rattle.std.proofs.Common.{◌≡◌, ℕ, ◌/◌, ◌%◌, ◌<◌, ◌≤◌, ◌==◌, ◌&&◌, ◌||◌, Bool, true, false, cond, List, [], ◌∷◌}
+use Rattle.std.proofs.Common.{length, get_or, Option, Some, None, refl, ap, sym, subst, ◌∙◌, arith, true≢false}
 use Rattle.std.specs.Prelude.{is_some}
 use Rattle.std.specs.List.{filter, filter_map, cons_option, items_where_true, list_any}
 use Rattle.std.proofs.Math.Nat.{mul-div_cancel, mod-le}
-use Rattle.std.proofs.lemmas.Bool.{cases_Bool, cases_lt, cond-true, cond-false, eqb-true, eqb-false}
+use Rattle.std.proofs.lemmas.Bool.{cond-true, eqb-true, eqb-false}
 use Rattle.std.proofs.lemmas.List.Folds.{Any-from_list_any, list_any_at}
 use Rattle.std.proofs.lemmas.List.FromFn.{length-range_with_len, get_or-range_with_len}
 use Rattle.bb_frame.specs.Laws.{BitCounts}
@@ -17,7 +17,6 @@ use Rattle.plp_config.specs.Rules.{AllRules}
 use Rattle.plp_config.specs.declared.config.Config.{Config}
 use Rattle.t2mi_packet.specs.declared.packet.Body.{Body}
 use Rattle.t2mi_packet.specs.declared.packet.Body.TheVariants.{Block, L1Current, Timestamp, Other}
-use Rattle.t2mi_packet.specs.declared.packet.Packet.{Packet}
 use Rattle.mode_adapt.specs.Blocks.{plp_blocks, own_blocks}
 use Rattle.frame_groups.specs.Modulated.{Numbered}
 use Rattle.frame_tests.specs.Begun.{is_begin, packets_at}
@@ -25,9 +24,10 @@ use Rattle.frame_tests.specs.Carried.{body_block, blocks_of, has_length, right_b
 use Rattle.damage_laws.specs.Laws.{WholeIsAll, IsMet}
 use Rattle.damage_laws.specs.SentPackets.{Sent, packets_of, frame_packets}
 use Rattle.damage_laws.specs.Survivors.{is_block_of, is_begun, carries, is_whole}
+use Rattle.formed_frames.proofs.MadeLemmas.{all_right}
 use Rattle.frame_laws.specs.SentFrames.{sent_frames}
 use Rattle.frame_laws.proofs.BlockLemmas.{blocks_long}
-use Rattle.frame_laws.proofs.CarriedLemmas.{HasFrame, all_right}
+use Rattle.frame_laws.proofs.CarriedLemmas.{HasFrame}
 
 -- What the laws of interleaving frames say.
 pub record Interleaving : Type 0 where

@@ -27,7 +27,8 @@ use Rattle.t2mi_packet.specs.T2miPacket.{payload_size, FitsBody}
 use Rattle.t2mi_packet.specs.declared.packet.Body.{Body}
 use Rattle.mode_adapt.specs.Blocks.{own_blocks, told_counts}
 use Rattle.record_laws.specs.Frames.{HasByteIds}
-use Rattle.gateway_core.specs.Packets.{l1_body, block_bodies, plp_bodies, frame_bodies, bodies_before}
+use Rattle.frame_writer.specs.FramePackets.{l1_body}
+use Rattle.gateway_core.specs.Packets.{block_bodies, plp_bodies, frame_bodies, bodies_before}
 use Rattle.gateway_core.specs.Signalling.{pre_part, conf_part, dyn_part}
 use Rattle.frame_laws.proofs.BlockLemmas.{own_long}
 
@@ -37,7 +38,7 @@ IsFit b = FitsBody b × (payload_size b < 2 ^ 16)
 
 -- ---- the parts of a frame
 
-bw_fits : (band : Band) → bw band < 2 ^ 4
+pub bw_fits : (band : Band) → bw band < 2 ^ 4
 bw_fits Mhz1_7 = omega arith
 bw_fits Mhz5 = omega arith
 bw_fits Mhz6 = omega arith
@@ -45,7 +46,7 @@ bw_fits Mhz7 = omega arith
 bw_fits Mhz8 = omega arith
 bw_fits Mhz10 = omega arith
 
-pre_len : PreBitsLength → (c : Config) → length (pre_part c) ≡ PRE_BITS
+pub pre_len : PreBitsLength → (c : Config) → length (pre_part c) ≡ PRE_BITS
 unfolding pre_part
 pre_len law c = law (pre_of c)
 
@@ -59,14 +60,14 @@ parts_len law c n counts =
     let d = length-append (conf_part c) (dyn_part c n counts) in
     omega (arith, a, b, d, length-field 32 (crc32_of (post_front_bits c n (shape_of c counts))))
 
-fit_blocks : (size frame_idx id : ℕ) (first : Bool) (blocks : List (List Bool)) → size ≤ 65000 → frame_idx < 2 ^ 8 → id < 2 ^ 8
+pub fit_blocks : (size frame_idx id : ℕ) (first : Bool) (blocks : List (List Bool)) → size ≤ 65000 → frame_idx < 2 ^ 8 → id < 2 ^ 8
     → AllByRecursion (λ b. length b ≡ size) blocks
     → AllByRecursion IsFit (block_bodies frame_idx id first blocks)
 fit_blocks size frame_idx id first [] l f i s = tt
 fit_blocks size frame_idx id first (b ∷ blocks) l f i s =
     (((f, i), omega (arith, l, s.0)), fit_blocks size frame_idx id false blocks l f i s.1)
 
-fit_plps : (count : ℕ) (bodies : ℕ → List Body) → ((plp : ℕ) → plp < count → AllByRecursion IsFit (bodies plp)) → (a k : ℕ)
+pub fit_plps : (count : ℕ) (bodies : ℕ → List Body) → ((plp : ℕ) → plp < count → AllByRecursion IsFit (bodies plp)) → (a k : ℕ)
     → a + k ≤ count → AllByRecursion IsFit (flat_map bodies (range_with_len a k))
 fit_plps count bodies h a zero l = tt
 fit_plps count bodies h a (suc k) l = all_append IsFit (bodies a) (flat_map bodies (range_with_len (a + 1) k))
@@ -78,7 +79,7 @@ fit_plps count bodies h a (suc k) l = all_append IsFit (bodies a) (flat_map bodi
 abbrev pub PairFits : ℕ × Body → Type 0
 PairFits b = IsFit b.1
 
-pairs_fit : (n : ℕ) (bodies : List Body) → AllByRecursion IsFit bodies
+pub pairs_fit : (n : ℕ) (bodies : List Body) → AllByRecursion IsFit bodies
     → AllByRecursion PairFits (map (λ (body : Body). (n, body)) bodies)
 pairs_fit n [] h = tt
 pairs_fit n (b ∷ bodies) h = (h.0, pairs_fit n bodies h.1)

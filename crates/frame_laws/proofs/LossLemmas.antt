@@ -31,10 +31,12 @@ use Rattle.frame_tests.specs.Carried.{body_block, has_length, blocks_of, right_b
 use Rattle.frame_tests.specs.Carried.{stamps_of}
 use Rattle.frame_tests.specs.Tests.{unless, begins_superframe, pool_test, missing_test, l1_test, time_test, l1_shape, first_shape}
 use Rattle.frame_tests.specs.Tests.{has_begun, has_count, has_counts, is_known, blocks_test, map_test, packets_fault}
-use Rattle.gateway_core.specs.Packets.{stamp_of, block_bodies, frame_bodies}
+use Rattle.frame_writer.specs.FramePackets.{stamp_of}
+use Rattle.gateway_core.specs.Packets.{block_bodies, frame_bodies}
 use Rattle.damage_laws.specs.SentPackets.{Sent, packets_of, frame_packets}
 use Rattle.damage_laws.specs.Survivors.{is_block_of, is_begun, carries, is_whole}
 use Rattle.damage_laws.specs.Laws.{Misses, NotWholeMisses}
+use Rattle.formed_frames.proofs.CarryLemmas.{own_stamps, time_passes}
 use Rattle.frame_laws.specs.Laws.{FrameCarries}
 use Rattle.frame_laws.specs.SentFrames.{sent_frames}
 use Rattle.frame_laws.specs.Types.{TypesFit}
@@ -43,7 +45,7 @@ use Rattle.frame_laws.proofs.SignalLemmas.{frame_parts}
 use Rattle.frame_laws.proofs.SentLemmas.{all_bodies, l1_of}
 use Rattle.frame_laws.proofs.CarriedLemmas.{HasFrame}
 use Rattle.frame_laws.proofs.BegunLemmas.{place_of_any, begun_here, block_some}
-use Rattle.frame_laws.proofs.PassLemmas.{Given, AreFew, HaveRoom, pool_passes, l1_passes, time_passes, parts_tell, own_stamps}
+use Rattle.frame_laws.proofs.PassLemmas.{Given, AreFew, HaveRoom, pool_passes, l1_passes, parts_tell}
 
 -- ---- what survives of a frame are some of its packets
 
@@ -354,7 +356,7 @@ lacks_packet given c inputs past n plan types left own rooms few stamps lacks =
     (nat_lt 0 (length (l1s_of left)) && (not (begins_superframe c n) || nat_lt 0 (length (stamps_of left))))
     (has_counts c past n left (first_shape c left) && list_all (is_known c) left)
     (pool_passes given c inputs n plan types past n left rooms few) (l1_passes given c inputs n plan types left own)
-    (time_passes given c inputs n plan types left stamps)
+    (time_passes c n left stamps)
     (λ b e. not_both given c inputs past n n plan types left own lacks b
     (and_parts (has_counts c past n left (first_shape c left)) (list_all (is_known c) left) e).0)
 

@@ -1,13 +1,13 @@
 -- The six tests of the packets of a frame, and what they say of fewer.
 use Rattle.std.proofs.Common.{◌≡◌, ℕ, zero, suc, ◌+◌, ◌*◌, ◌/◌, ◌<◌, ◌≤◌, ◌==◌, ◌&&◌, ◌||◌, not, Bool, true, false, List, [], ◌∷◌}
 use Rattle.std.proofs.Common.{length, Option, Some, None, refl, ap, sym, subst, ◌∙◌, ⊎_elim, arith, sum_by}
-use Rattle.std.specs.Prelude.{slice_get, slice_index, if◌then◌else◌, nat_le, nat_lt, option_map}
+use Rattle.std.specs.Prelude.{slice_get, slice_index, if◌then◌else◌, nat_le, nat_lt}
 use Rattle.std.specs.Bool.{beq}
 use Rattle.std.specs.Cmp.Lexicographic.{pointwise, pointwise_decides}
 use Rattle.std.specs.Int.{div_ceil}
-use Rattle.std.specs.List.{find, list_all, range_with_len, AllByRecursion}
+use Rattle.std.specs.List.{list_all, range_with_len, AllByRecursion}
 use Rattle.std.specs.Option.{option_and_then}
-use Rattle.std.proofs.lemmas.Bool.{and_from, cases_Bool, cond-true, cond-false, eq-eqb, le-leb, not_from_true, false≢true}
+use Rattle.std.proofs.lemmas.Bool.{and_from, cases_Bool, cond-true, cond-false, eq-eqb, le-leb, false≢true}
 use Rattle.std.proofs.lemmas.Bool.{true≢false, cond_both}
 use Rattle.std.proofs.lemmas.List.Folds.{fold-map}
 use Rattle.std.proofs.lemmas.List.FromFn.{fill_by_all}
@@ -15,11 +15,10 @@ use Rattle.std.proofs.lemmas.List.Sums.{sum_by-cons}
 use Rattle.std.proofs.lemmas.Nat.{mul-le}
 use Rattle.bb_frame.specs.Laws.{BitCounts}
 use Rattle.plp_config.specs.Capacity.{IsPlan, block_bytes, block_cells}
-use Rattle.plp_config.specs.Emission.{emission}
 use Rattle.plp_config.specs.InterleavingFrames.{interleaving_frame, is_first, begin_of}
 use Rattle.plp_config.specs.Laws.{FieldRange, BlockChunks, CellsByFive, BlocksFit}
 use Rattle.plp_config.specs.Plps.{plp_at, no_plp}
-use Rattle.plp_config.specs.Tables.{bw, cells_per_block}
+use Rattle.plp_config.specs.Tables.{cells_per_block}
 use Rattle.plp_config.specs.declared.config.Config.{Config}
 use Rattle.plp_config.specs.declared.plp.Plp.{Plp}
 use Rattle.linked_pool.specs.Pool.{chunks_for}
@@ -37,13 +36,14 @@ use Rattle.frame_groups.specs.declared.cause.MuteCause.TheVariants.{PacketMissin
 use Rattle.frame_tests.specs.Begun.{is_begin, packets_at}
 use Rattle.frame_tests.specs.Carried.{blocks_of, right_blocks, L1Parts, l1s_of, stamps_of}
 use Rattle.frame_tests.specs.Laws.{MapPasses, PartsTold}
-use Rattle.frame_tests.specs.Tests.{unless, begins_superframe, pool_chunks, pool_need, capped, room_test, begun_test, pool_test}
-use Rattle.frame_tests.specs.Tests.{first_failure, missing_test, same_parts, parts_agree, l1s_agree, l1_test, stamp_agrees}
-use Rattle.frame_tests.specs.Tests.{disagrees, time_test, l1_shape}
+use Rattle.frame_tests.specs.Tests.{begins_superframe, pool_chunks, pool_need, capped, room_test, begun_test, pool_test}
+use Rattle.frame_tests.specs.Tests.{missing_test, same_parts, parts_agree, l1s_agree, l1_test}
+use Rattle.frame_tests.specs.Tests.{time_test, l1_shape}
 use Rattle.frame_tests.specs.Tests.{first_shape, has_begun, has_count, has_counts, is_known, blocks_test, has_map, map_test}
 use Rattle.frame_tests.specs.Tests.{packets_fault}
 use Rattle.frame_tests.proofs.BegunLemmas.{none_fails}
-use Rattle.gateway_core.specs.Packets.{stamp_of}
+use Rattle.frame_writer.specs.FramePackets.{stamp_of}
+use Rattle.formed_frames.proofs.CarryLemmas.{unless_true, own_stamps, time_passes, each_place}
 use Rattle.frame_laws.specs.Types.{TypesFit}
 use Rattle.frame_laws.proofs.BlockLemmas.{count_at}
 use Rattle.frame_laws.proofs.SignalLemmas.{frame_parts, parts_pass, frame_told}
@@ -89,9 +89,6 @@ given_by a b d e f g h i j k l m n o p q = record {
   map = p;
   laws = q;
 }
-
-pub unless_true : (t : Bool) (cause : MuteCause) → t ≡ true → unless t cause ≡ None
-unless_true t cause e = ap (λ (t : Bool). unless t cause) e
 
 -- ---- two L1-current packets with the same parts are the same
 
@@ -155,20 +152,6 @@ pool_holds law cells room c packets plan few =
     let sum = sum_places (λ plp. plp.blocks * cells_per_block plp.fec plp.modulation) c.plps in
     let need = room c plan in
     omega (arith, all, sum, need)
-
--- ---- a test of each PLP
-
-each_place : (test : ℕ → Bool) (count : ℕ) → ((plp : ℕ) → plp < count → test plp ≡ true) → (a k : ℕ) → a + k ≤ count
-    → list_all test (range_with_len a k) ≡ true
-each_place test count h a zero l = refl
-each_place test count h a (suc k) l = and_from (test a) (list_all test (range_with_len (a + 1) k)) (h a (omega (arith, l)))
-    (each_place test count h (a + 1) k (omega (arith, l)))
-
--- a superframe has one timestamp
-pub own_stamps : (c : Config) (n : ℕ) (t : Bool) → AllByRecursion (λ (s : Stamp). s ≡ stamp_of c n)
-    (if t then stamp_of c n ∷ [] else [])
-own_stamps c n true = (refl, tt)
-own_stamps c n false = tt
 
 -- In the groups where an interleaving frame begins that frame n carries no PLP has more blocks than it may.
 abbrev pub HaveRoom : Config → List Numbered → ℕ → Type 0
@@ -241,34 +224,6 @@ module _ (given : Given) (c : Config) (inputs : ℕ → List (List ℕ)) (n : �
   unfolding l1_test
   l1_passes packets h = unless_true (l1s_agree c n (l1s_of packets)) L1Refused (l1s_pass (l1s_of packets) h)
 
-  -- d, if all timestamps are the superframe's
-  stamp_passes : stamp_agrees c n (stamp_of c n) ≡ true
-  stamp_passes =
-      and_from ((bw c.band == bw c.band) && ((emission c n).seconds == (emission c n).seconds))
-      ((emission c n).subseconds == (emission c n).subseconds)
-      (and_from (bw c.band == bw c.band) ((emission c n).seconds == (emission c n).seconds) (eq-eqb (bw c.band) (bw c.band) refl)
-      (eq-eqb (emission c n).seconds (emission c n).seconds refl))
-      (eq-eqb (emission c n).subseconds (emission c n).subseconds refl)
-
-  none_late : (stamps : List Stamp) → AllByRecursion (λ s. s ≡ stamp_of c n) stamps → find (λ s. not (stamp_agrees c n s)) stamps
-      ≡ None
-  none_late [] h = refl
-  none_late (s ∷ stamps) h =
-      cond-false {A = Option Stamp} (not (stamp_agrees c n s)) (Some s) (find (λ s. not (stamp_agrees c n s)) stamps)
-      (not_from_true (stamp_agrees c n s) (subst (λ (x : Stamp). stamp_agrees c n x ≡ true) (sym h.0) stamp_passes))
-      ∙ none_late stamps h.1
-
-  pub time_passes : (packets : List Packet) → AllByRecursion (λ s. s ≡ stamp_of c n) (stamps_of packets) → time_test c n packets
-      ≡ None
-  unfolding time_test
-  time_passes packets h = go (begins_superframe c n)
-    where
-      go : (t : Bool)
-          → ◌≡◌ {A = Option MuteCause}
-          (if t then option_map (disagrees c n) (find (λ s. not (stamp_agrees c n s)) (stamps_of packets)) else None) None
-      go true = ap (option_map (disagrees c n)) (none_late (stamps_of packets) h)
-      go false = refl
-
   -- the shape that the frame's L1-current tells
   pub parts_tell : l1_shape c (frame_parts c inputs n) ≡ Some (frame_shape c inputs n)
   parts_tell = frame_told given.counted given.dyn_back given.dyn_written given.fits c inputs n plan types
@@ -303,7 +258,7 @@ module _ (given : Given) (c : Config) (inputs : ℕ → List (List ℕ)) (n : �
 
     time_none : time_test c n packets ≡ None
     time_none =
-        time_passes packets
+        time_passes c n packets
         (subst (AllByRecursion (λ s. s ≡ stamp_of c n)) (sym has.stamps) (own_stamps c n (begins_superframe c n)))
 
     abbrev carried : ℕ → List (List Bool)

@@ -17,7 +17,8 @@ use Rattle.t2mi_packet.specs.declared.packet.Packet.{Packet}
 use Rattle.t2mi_packet.proofs.LawLemmas.{begun}
 use Rattle.t2mi_stream.specs.Laws.{ArePackets}
 use Rattle.modulator.specs.Modulating.{packet_of}
-use Rattle.gateway_core.specs.Packets.{bodies_before, packets_from, front_packets, packet_with}
+use Rattle.frame_writer.specs.FramePackets.{packets_from, packet_with}
+use Rattle.gateway_core.specs.Packets.{bodies_before, front_packets}
 use Rattle.damage_laws.specs.SentPackets.{packets_of}
 use Rattle.frame_laws.specs.SentFrames.{sent_from}
 use Rattle.frame_laws.specs.Laws.{SentAreFrames, FramesAreStream}
@@ -52,13 +53,13 @@ module _ (bounded : (w : List Bool) → crc32_of w < 2 ^ 32) (spell_is : SpellIs
         is = (begun bounded front p (packet_len p) begins).is;
       }
 
-  spelled_from : (c : Config) (number : ℕ) (bodies : List (ℕ × Body)) → AllByRecursion PairFits bodies
+  pub spelled_from : (c : Config) (number : ℕ) (bodies : List (ℕ × Body)) → AllByRecursion PairFits bodies
       → ArePackets (packets_from c number bodies)
   spelled_from c number [] h = tt
   spelled_from c number (b ∷ bodies) h =
       ((written (packet_with c number b.0 b.1) (fits_with c number b h.0)).spelled, spelled_from c (number + 1) bodies h.1)
 
-  reads_from : (c : Config) (number : ℕ) (bodies : List (ℕ × Body)) → AllByRecursion PairFits bodies
+  pub reads_from : (c : Config) (number : ℕ) (bodies : List (ℕ × Body)) → AllByRecursion PairFits bodies
       → map packet_of (packets_from c number bodies) ≡ packets_of (sent_from c number bodies)
   reads_from c number [] h = refl
   reads_from c number (b ∷ bodies) h =

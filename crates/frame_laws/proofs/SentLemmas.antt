@@ -11,8 +11,9 @@ use Rattle.plp_config.specs.declared.config.Config.{Config}
 use Rattle.t2mi_packet.specs.declared.packet.Body.{Body}
 use Rattle.t2mi_packet.specs.declared.packet.Packet.{Packet}
 use Rattle.mode_adapt.specs.Blocks.{own_blocks, told_counts}
-use Rattle.gateway_core.specs.Carried.{of_frame}
-use Rattle.gateway_core.specs.Packets.{l1_body, block_bodies, plp_bodies, frame_bodies, bodies_before, packet_with}
+use Rattle.frame_writer.specs.Carried.{of_frame}
+use Rattle.frame_writer.specs.FramePackets.{l1_body, packet_with}
+use Rattle.gateway_core.specs.Packets.{block_bodies, plp_bodies, frame_bodies, bodies_before}
 use Rattle.gateway_core.specs.Signalling.{pre_part, conf_part, dyn_part}
 use Rattle.damage_laws.specs.SentPackets.{Sent, packets_of, frame_packets, IsTimestamp, TellsFrame, FollowsSome, InFrameOrder}
 use Rattle.frame_laws.specs.SentFrames.{sent_from}
@@ -90,7 +91,7 @@ frame_carries c inputs n m l =
 -- ---- their order
 
 -- A body tells frame n, and is no timestamp.
-abbrev IsPlain : Config → ℕ → Body → Type 0
+abbrev pub IsPlain : Config → ℕ → Body → Type 0
 IsPlain c n b = TellsFrame c.frames n b × (IsTimestamp b → ⊥)
 
 plain_blocks : (c : Config) (n id : ℕ) (first : Bool) (blocks : List (List Bool))
@@ -104,28 +105,28 @@ plain_all c n bodies h a zero = tt
 plain_all c n bodies h a (suc k) = all_append (IsPlain c n) (bodies a) (flat_map bodies (range_with_len (a + 1) k)) (h a)
     (plain_all c n bodies h (a + 1) k)
 
-plain_plps : (c : Config) (n : ℕ) (blocks : ℕ → List (List Bool)) → AllByRecursion (IsPlain c n) (plp_bodies c n blocks 0)
+pub plain_plps : (c : Config) (n : ℕ) (blocks : ℕ → List (List Bool)) → AllByRecursion (IsPlain c n) (plp_bodies c n blocks 0)
 plain_plps c n blocks = plain_all c n (λ plp. block_bodies (n % c.frames) (plp_at c.plps plp).id true (blocks plp))
     (λ plp. plain_blocks c n (plp_at c.plps plp).id true (blocks plp)) 0 (length c.plps - 0)
 
 -- Frames come one behind another.
-abbrev Earlier : Option ℕ → ℕ → Type 0
+abbrev pub Earlier : Option ℕ → ℕ → Type 0
 Earlier None n = Unit {0}
 Earlier (Some m) n = m < n
 
-abbrev NotLater : Option ℕ → ℕ → Type 0
+abbrev pub NotLater : Option ℕ → ℕ → Type 0
 NotLater None n = Unit {0}
 NotLater (Some m) n = m ≤ n
 
-earlier_follows : (before : Option ℕ) (s : Sent) → Earlier before s.frame → FollowsSome before s
+pub earlier_follows : (before : Option ℕ) (s : Sent) → Earlier before s.frame → FollowsSome before s
 earlier_follows None s e = tt
 earlier_follows (Some m) s e = record { frame = omega (arith, e); stamp = λ t. e }
 
-plain_follows : (before : Option ℕ) (s : Sent) → (IsTimestamp s.packet.body → ⊥) → NotLater before s.frame → FollowsSome before s
+pub plain_follows : (before : Option ℕ) (s : Sent) → (IsTimestamp s.packet.body → ⊥) → NotLater before s.frame → FollowsSome before s
 plain_follows None s p e = tt
 plain_follows (Some m) s p e = record { frame = e; stamp = λ t. absurd (p t) }
 
-not_later : (before : Option ℕ) (n : ℕ) → Earlier before n → NotLater before n
+pub not_later : (before : Option ℕ) (n : ℕ) → Earlier before n → NotLater before n
 not_later None n e = tt
 not_later (Some m) n e = omega (arith, e)
 

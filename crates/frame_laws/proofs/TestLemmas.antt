@@ -1,27 +1,26 @@
 -- The six tests make of a run what they must, whatever survives.
-use Rattle.std.proofs.Common.{◌≡◌, ℕ, ◌%◌, ◌<◌, ◌==◌, true, false, List, [], ◌∷◌, length, refl, ap, sym, subst, ◌∙◌, arith}
+use Rattle.std.proofs.Common.{◌≡◌, ℕ, ◌%◌, ◌<◌, true, List, [], ◌∷◌, length, refl, ap, sym, subst, ◌∙◌, arith}
 use Rattle.std.specs.Prelude.{slice_get}
 use Rattle.std.specs.List.{items_where_true}
-use Rattle.std.proofs.lemmas.Bool.{cond-true, eq-eqb, eqb-true, both_ways}
+use Rattle.std.proofs.lemmas.Bool.{cond-true, eq-eqb, both_ways}
 use Rattle.plp_config.specs.InterleavingFrames.{is_first, begin_of}
 use Rattle.t2mi_packet.specs.declared.packet.Packet.{Packet}
 use Rattle.t2mi_packet.specs.declared.packet.Stamp.{Stamp}
 use Rattle.frame_groups.specs.Modulated.{Numbered}
 use Rattle.frame_groups.specs.declared.key.Key.{Key}
-use Rattle.frame_tests.specs.Begun.{is_begin}
 use Rattle.frame_tests.specs.Carried.{blocks_of}
 use Rattle.frame_tests.specs.Laws.{FrameNamed}
 use Rattle.frame_tests.specs.Tests.{begins_superframe}
-use Rattle.gateway_core.specs.Packets.{stamp_of}
+use Rattle.frame_writer.specs.FramePackets.{stamp_of}
 use Rattle.damage_laws.specs.SentPackets.{Sent, frame_packets, frame_group}
 use Rattle.damage_laws.specs.Survivors.{is_whole}
 use Rattle.damage_laws.specs.Laws.{WholeIsAll, NotWholeMisses, IsMet}
 use Rattle.frame_laws.specs.Laws.{FrameCarries, TestsMeet}
 use Rattle.frame_laws.specs.SentFrames.{sent_frames}
-use Rattle.frame_laws.proofs.BegunLemmas.{Interleaving, HaveBegun, begin_met, begun_met, begun_own, begun_before, have_begun}
+use Rattle.frame_laws.proofs.BegunLemmas.{HaveBegun, begin_met, begun_met, begun_own, begun_before, have_begun}
 use Rattle.frame_laws.proofs.CarriedLemmas.{HasFrame, has_frame}
 use Rattle.frame_laws.proofs.PassLemmas.{Given, AreFew, HaveRoom, own_few, passes}
-use Rattle.frame_laws.proofs.LossLemmas.{Lacks, FewBegun, BeginsAll, IsLeft, some_left, is_left, not_whole_lacks, fails}
+use Rattle.frame_laws.proofs.LossLemmas.{FewBegun, BeginsAll, IsLeft, some_left, is_left, not_whole_lacks, fails}
 use Rattle.frame_laws.proofs.LossLemmas.{lacks_packet}
 
 pub tests_meet : Given → FrameCarries → WholeIsAll → NotWholeMisses → FrameNamed → TestsMeet

@@ -33,7 +33,7 @@ same_view : (c : Config) (moment : Moment) (frame_idx : ℕ) (p q : List Bool) (
     → x ≡ y → s ≡ t → frame_view c moment frame_idx p x s ≡ frame_view c moment frame_idx q y t
 same_view c moment frame_idx p q x y s t e f g = rw (e, f, g) refl
 
-post_is : (c : Config) (n : ℕ) (counts : List ℕ) → post_with c (dyn_part c n counts) ≡ post_bits c n (shape_of c counts)
+pub post_is : (c : Config) (n : ℕ) (counts : List ℕ) → post_with c (dyn_part c n counts) ≡ post_bits c n (shape_of c counts)
 unfolding post_bits dyn_part
 post_is c n counts = refl
 

@@ -8,7 +8,8 @@ use Rattle.t2mi_stream.specs.Received.{Fate, received}
 use Rattle.t2mi_stream.specs.Received.Fate.{Kept}
 use Rattle.site_frame.specs.declared.reading.RecordView.{RecordView}
 use Rattle.record_laws.specs.Records.{records}
-use Rattle.gateway_core.specs.Packets.{bodies_before, front_packets, packet_with}
+use Rattle.frame_writer.specs.FramePackets.{packet_with}
+use Rattle.gateway_core.specs.Packets.{bodies_before, front_packets}
 use Rattle.damage_laws.specs.SentPackets.{Sent}
 use Rattle.damage_laws.specs.Streams.{Stream, stream_survival, stream_survivors}
 use Rattle.damage_laws.specs.Survivors.{is_whole, end_of}

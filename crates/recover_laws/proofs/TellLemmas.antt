@@ -40,7 +40,7 @@ use Rattle.packet_slots.specs.Epochs.{Epoch, lost_epoch, epoch_with}
 use Rattle.packet_slots.specs.Strings.{Block}
 use Rattle.terms.proofs.RangeLemmas.{map_same}
 use Rattle.packet_slots.proofs.TimeLemmas.{epoch_at}
-use Rattle.plp_receiver.specs.Readable.{Part, part_with, count_of, is_cell, stands, all_stand}
+use Rattle.plp_receiver.specs.Parts.{Part, part_with, count_of, is_cell, stands, all_stand}
 use Rattle.plp_receiver.specs.Taken.{IsTaken, IsGiven, bytes_at}
 use Rattle.plp_receiver.specs.Epochs.{part_of, with_part, parts_of, agree, agreeing, epoch_parts, cells_stand, place_of}
 use Rattle.plp_receiver.specs.Epochs.{TellsBlocks, Tells}

@@ -18,10 +18,17 @@ returns c =
             number = c.interleaving_law.ensures.number;
             frames = c.spread_law.ensures.frames;
           });
-      pre_back = c.pre_law.ensures.back;
-      pre_values = c.parts_law.ensures.pre;
-      post_len = c.post_law.ensures.len;
-      conf_len = c.post_law.ensures.conf;
+      signal = record {
+        told = c.parts_law.ensures.whole;
+        conf_told = c.parts_law.ensures.conf;
+        pre_values = c.parts_law.ensures.pre;
+        pre_back = c.pre_law.ensures.back;
+        pre_written = c.pre_law.ensures.written;
+        conf_written = c.conf_law.ensures.written;
+        conf_size = c.post_law.ensures.conf;
+        dyn_back = c.dyn_law.ensures.back;
+        dyn_size = c.dyn_law.ensures.len;
+      };
     })
     (record {
       block = c.stand_law.ensures.block;

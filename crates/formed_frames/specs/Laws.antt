@@ -1,0 +1,26 @@
+-- Laws of formed frames.
+use Rattle.std.specs.Prelude.{◌≡◌, ℕ, Bool, List}
+use Rattle.std.specs.List.{AllByRecursion}
+use Rattle.plp_config.specs.Capacity.{IsPlan}
+use Rattle.plp_config.specs.declared.config.Config.{Config}
+use Rattle.frame_groups.specs.Groups.{Group}
+use Rattle.frame_groups.specs.Modulated.{FrameRecord}
+use Rattle.frame_groups.specs.Modulated.Content.{Whole}
+use Rattle.open_group.specs.Written.{content_view}
+use Rattle.modulator.specs.StandsFor.{records_due}
+use Rattle.site_frame.specs.declared.reading.RecordView.{RecordView}
+use Rattle.formed_frames.specs.Formed.{IsFormed}
+use Rattle.formed_frames.specs.Remade.{CanBeSent}
+
+-- If a record is not muted, it is a frame formed for its number.
+abbrev pub IsFormedRecord : Config → FrameRecord → Type 0
+IsFormedRecord c x = (g : Group) → x.content ≡ Whole g → IsFormed c x.number (content_view c x.number x.content)
+
+-- So it is of every record of a plan that is due by the bytes of a stream.
+abbrev pub FramesAreFormed : Type 0
+FramesAreFormed = (c : Config) (finished : Bool) (bytes : List ℕ) → IsPlan c
+    → AllByRecursion (IsFormedRecord c) (records_due c finished bytes)
+
+-- A formed frame has what its packets carry.
+abbrev pub FormedCanBeSent : Type 0
+FormedCanBeSent = (c : Config) (n : ℕ) (view : RecordView) → IsFormed c n view → CanBeSent c view

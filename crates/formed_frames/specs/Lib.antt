@@ -1,0 +1,4 @@
+pub mod Formed
+pub mod Remade
+pub mod Carrying
+pub mod Laws
