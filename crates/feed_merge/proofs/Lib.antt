@@ -1,0 +1,4 @@
+mod RecordLemmas
+mod MergerLemmas
+mod PickLemmas
+pub mod GrowLemmas

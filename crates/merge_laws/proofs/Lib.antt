@@ -1,0 +1,3 @@
+mod FeedLemmas
+mod JoinLemmas
+mod MergeLemmas
