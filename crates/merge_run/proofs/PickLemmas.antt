@@ -1,0 +1,217 @@
+-- What is picked of the records that wait.
+use Rattle.std.proofs.Common.{◌≡◌, ℕ, ◌+◌, ◌<◌, ◌≤◌, ◌==◌, ◌&&◌, not, min, Bool, true, false, cond, List, [], ◌∷◌, Option, Some, None}
+use Rattle.std.proofs.Common.{is_some, refl, ap, sym, subst, ◌∙◌, arith, eqb-true}
+use Rattle.std.specs.Option.{option_or}
+use Rattle.std.proofs.lemmas.Bool.{true≢false, eqb-false, eq-eqb}
+use Rattle.terms.proofs.CaseLemmas.{both}
+use Rattle.terms.proofs.OptionLemmas.{some_injective, none_some}
+use Rattle.plp_config.specs.declared.config.Config.{Config}
+use Rattle.plp_config.specs.declared.moment.TheConstants.{MOST_FRAMES}
+use Rattle.frame_groups.specs.Groups.{Group}
+use Rattle.frame_groups.specs.Modulated.{Content, FrameRecord}
+use Rattle.frame_groups.specs.Modulated.Content.{Whole, Muted}
+use Rattle.frame_groups.specs.declared.cause.MuteCause.{MuteCause}
+use Rattle.frame_groups.specs.declared.waiting.Waiting.{Waiting}
+use Rattle.open_group.specs.Written.{content_view}
+use Rattle.modulator.specs.StandsFor.{mute_of}
+use Rattle.feed_merge.specs.declared.seen.Feed.{Feed}
+use Rattle.feed_merge.specs.declared.seen.Feed.TheVariants.{A, B}
+use Rattle.feed_merge.specs.Laws.{AreOf}
+use Rattle.feed_merge.specs.Picking.{is_at, is_there, source_at, pick_at, picked}
+use Rattle.feed_merge.specs.Picks.{is_frame, Picked, frame_from, pick_of}
+use Rattle.merge_run.specs.Sending.{numbered}
+use Rattle.merge_run.specs.Taking.{seen_of, least_of, one_if, CanBeTaken, IsOnly, AreTaken}
+
+-- the least number is the one that is picked
+pub picked_at : (v w : Option Waiting) (n : ℕ) → least_of v w ≡ Some n → picked (seen_of v) (seen_of w)
+    ≡ pick_at n (seen_of v) (seen_of w)
+picked_at None None n e = none_some n e
+picked_at (Some v) None n e = ap (λ (k : ℕ). pick_at k (seen_of (Some v)) None) (some_injective v.frame n e)
+picked_at None (Some w) n e = ap (λ (k : ℕ). pick_at k None (seen_of (Some w))) (some_injective w.frame n e)
+picked_at (Some v) (Some w) n e =
+    ap (λ (k : ℕ). pick_at k (seen_of (Some v)) (seen_of (Some w))) (some_injective (min v.frame w.frame) n e)
+
+-- it is no greater than either
+pub least_first : (v w : Option Waiting) (n : ℕ) → least_of v w ≡ Some n → (x : Waiting) → v ≡ Some x → n ≤ x.frame
+least_first None w n e x is = none_some x is
+least_first (Some v) None n e x is =
+    let a = some_injective v.frame n e in
+    let b = ap (λ (y : Waiting). y.frame) (some_injective v x is) in
+    omega (arith, a, b)
+least_first (Some v) (Some w) n e x is =
+    let a = some_injective (min v.frame w.frame) n e in
+    let b = ap (λ (y : Waiting). y.frame) (some_injective v x is) in
+    omega (arith, a, b)
+
+pub least_second : (v w : Option Waiting) (n : ℕ) → least_of v w ≡ Some n → (x : Waiting) → w ≡ Some x → n ≤ x.frame
+least_second v None n e x is = none_some x is
+least_second None (Some w) n e x is =
+    let a = some_injective w.frame n e in
+    let b = ap (λ (y : Waiting). y.frame) (some_injective w x is) in
+    omega (arith, a, b)
+least_second (Some v) (Some w) n e x is =
+    let a = some_injective (min v.frame w.frame) n e in
+    let b = ap (λ (y : Waiting). y.frame) (some_injective w x is) in
+    omega (arith, a, b)
+
+-- what is no greater than either is no greater than it
+pub least_most : (v w : Option Waiting) (n m : ℕ) → least_of v w ≡ Some n → ((x : Waiting) → v ≡ Some x → m ≤ x.frame)
+    → ((x : Waiting) → w ≡ Some x → m ≤ x.frame) → m ≤ n
+least_most None None n m e a b = none_some n e
+least_most (Some v) None n m e a b = let s = some_injective v.frame n e in let l = a v refl in omega (arith, s, l)
+least_most None (Some w) n m e a b = let s = some_injective w.frame n e in let l = b w refl in omega (arith, s, l)
+least_most (Some v) (Some w) n m e a b =
+    let s = some_injective (min v.frame w.frame) n e in
+    let l = a v refl in
+    let k = b w refl in
+    omega (arith, s, l, k)
+
+-- none waits
+pub least_none : (v w : Option Waiting) → least_of v w ≡ None → (v ≡ None) × (w ≡ None)
+least_none None None e = (refl, refl)
+least_none (Some v) None e = none_some v.frame (sym e)
+least_none None (Some w) e = none_some w.frame (sym e)
+least_none (Some v) (Some w) e = none_some (min v.frame w.frame) (sym e)
+
+one_at : (v : Waiting) (n : ℕ) → v.frame ≡ n → one_if (is_at n (seen_of (Some v))) ≡ 1
+one_at v n e = ap one_if (eq-eqb v.frame n e)
+
+-- a record of it waits
+pub some_taken : (v w : Option Waiting) (n : ℕ) → least_of v w ≡ Some n
+    → 1 ≤ one_if (is_at n (seen_of v)) + one_if (is_at n (seen_of w))
+some_taken None None n e = none_some n e
+some_taken (Some v) None n e = let o = one_at v n (some_injective v.frame n e) in omega (arith, o)
+some_taken None (Some w) n e = let o = one_at w n (some_injective w.frame n e) in omega (arith, o)
+some_taken (Some v) (Some w) n e = go (v.frame == n) refl
+  where
+    go : (b : Bool) → (v.frame == n) ≡ b → 1 ≤ one_if (is_at n (seen_of (Some v))) + one_if (is_at n (seen_of (Some w)))
+    go true t = let o = one_at v n (eqb-true v.frame n t) in omega (arith, o)
+    go false f =
+        let s = some_injective (min v.frame w.frame) n e in
+        let differ = eqb-false v.frame n f in
+        let o = one_at w n (omega (arith, s, differ)) in
+        omega (arith, o)
+
+pub can_take : (o : Option Waiting) (n : ℕ) → n < MOST_FRAMES → CanBeTaken (is_at n (seen_of o)) o
+can_take None n l = tt
+can_take (Some w) n l = go (w.frame == n) refl
+  where
+    go : (b : Bool) → (w.frame == n) ≡ b → CanBeTaken b (Some w)
+    go true e = let s = eqb-true w.frame n e in omega (arith, s, l)
+    go false e = tt
+
+-- what was taken is of that number
+pub are_of : (o : Option Waiting) (n : ℕ) (xs : List FrameRecord) → AreTaken (is_at n (seen_of o)) o xs → AreOf n xs
+are_of None n xs t = subst (AreOf n) (sym t) tt
+are_of (Some w) n xs t = go (w.frame == n) refl t
+  where
+    go : (b : Bool) → (w.frame == n) ≡ b → AreTaken b (Some w) xs → AreOf n xs
+    go true e t = subst (AreOf n) (sym t.only) (t.first.0 ∙ eqb-true w.frame n e)
+    go false e t = subst (AreOf n) (sym t) tt
+
+-- ---- a frame is picked
+
+pub record PickIs (c : Config) (n : ℕ) (feed : Feed) (xs : List FrameRecord) (o : Option Picked) : Type 0 where
+  pub one : FrameRecord
+  pub only : xs ≡ one ∷ []
+  pub number : one.number ≡ n
+  pub group : Group
+  pub whole : one.content ≡ Whole group
+  pub is : o ≡ Some (record { feed = feed; frame = numbered n (content_view c n one.content) })
+
+record IsWhole (content : Content) : Type 0 where
+  group : Group
+  is : content ≡ Whole group
+
+whole_content : (content : Content) (mute : Option MuteCause) → mute_of content ≡ mute → not (is_some mute) ≡ true → IsWhole content
+whole_content (Whole g) mute e off = record { group = g; is = refl }
+whole_content (Muted cause) mute e off =
+    absurd (true≢false (sym off ∙ ap (λ (o : Option MuteCause). not (is_some o)) (sym e)))
+
+muted_content : (content : Content) (mute : Option MuteCause) → mute_of content ≡ mute → not (is_some mute) ≡ false
+    → is_frame content ≡ false
+muted_content (Whole g) mute e on = ap (λ (o : Option MuteCause). not (is_some o)) e ∙ on
+muted_content (Muted cause) mute e on = refl
+
+there : (c : Config) (feed : Feed) (n : ℕ) (o : Option Waiting) (xs : List FrameRecord) → AreTaken (is_at n (seen_of o)) o xs
+    → is_there n (seen_of o) ≡ true → PickIs c n feed xs (frame_from c feed n xs)
+there c feed n None xs t e = absurd (true≢false (sym e))
+there c feed n (Some w) xs t e =
+    let h = both (w.frame == n) (not (is_some w.mute)) e in
+    let k : IsOnly (Some w) xs = subst (λ (b : Bool). AreTaken b (Some w) xs) h.0 t in
+    let g = whole_content k.one.content w.mute k.first.1 h.1 in
+    let number : k.one.number ≡ n = k.first.0 ∙ eqb-true w.frame n h.0 in
+    let found : frame_from c feed n (k.one ∷ []) ≡ Some (record { feed = feed; frame = numbered n (content_view c n k.one.content) }) =
+    rw (eq-eqb k.one.number n number, ap is_frame g.is) refl in
+    record {
+      one = k.one;
+      only = k.only;
+      number = number;
+      group = g.group;
+      whole = g.is;
+      is = ap (frame_from c feed n) k.only ∙ found;
+    }
+
+not_there : (c : Config) (feed : Feed) (n : ℕ) (o : Option Waiting) (xs : List FrameRecord) → AreTaken (is_at n (seen_of o)) o xs
+    → is_there n (seen_of o) ≡ false → frame_from c feed n xs ≡ None
+not_there c feed n None xs t e = ap (frame_from c feed n) t
+not_there c feed n (Some w) xs t e = go (w.frame == n) refl t
+  where
+    go : (b : Bool) → (w.frame == n) ≡ b → AreTaken b (Some w) xs → frame_from c feed n xs ≡ None
+    go true same k =
+        let off : not (is_some w.mute) ≡ false = sym (ap (λ (b : Bool). b && not (is_some w.mute)) same) ∙ e in
+        let none : is_frame k.one.content ≡ false = muted_content k.one.content w.mute k.first.1 off in
+        let number : k.one.number ≡ n = k.first.0 ∙ eqb-true w.frame n same in
+        let found : frame_from c feed n (k.one ∷ []) ≡ None = rw (eq-eqb k.one.number n number, none) refl in
+        ap (frame_from c feed n) k.only ∙ found
+    go false differ k = ap (frame_from c feed n) k
+
+-- by the source
+module _ (c : Config) (n : ℕ) (v w : Option Waiting) (xs ys : List FrameRecord) (a : AreTaken (is_at n (seen_of v)) v xs)
+    (b : AreTaken (is_at n (seen_of w)) w ys) where
+  pub pick_first : source_at n (seen_of v) (seen_of w) ≡ Some A → PickIs c n A xs (pick_of c xs ys n)
+  pick_first e = go (is_there n (seen_of v)) (is_there n (seen_of w)) refl e
+    where
+      go : (s t : Bool) → is_there n (seen_of v) ≡ s → cond s (Some A) (cond t (Some B) None) ≡ Some A
+          → PickIs c n A xs (pick_of c xs ys n)
+      go true t on e =
+          let p = there c A n v xs a on in
+          record {
+            one = p.one;
+            only = p.only;
+            number = p.number;
+            group = p.group;
+            whole = p.whole;
+            is = ap (λ (o : Option Picked). option_or o (frame_from c B n ys)) p.is;
+          }
+      go false true off e = absurd (let z : Some B ≡ Some A = e in cc)
+      go false false off e = none_some A e
+
+  pub pick_second : source_at n (seen_of v) (seen_of w) ≡ Some B → PickIs c n B ys (pick_of c xs ys n)
+  pick_second e = go (is_there n (seen_of v)) (is_there n (seen_of w)) refl refl e
+    where
+      go : (s t : Bool) → is_there n (seen_of v) ≡ s → is_there n (seen_of w) ≡ t → cond s (Some A) (cond t (Some B) None) ≡ Some B
+          → PickIs c n B ys (pick_of c xs ys n)
+      go true t on so e = absurd (let z : Some A ≡ Some B = e in cc)
+      go false true off so e =
+          let p = there c B n w ys b so in
+          record {
+            one = p.one;
+            only = p.only;
+            number = p.number;
+            group = p.group;
+            whole = p.whole;
+            is = ap (λ (o : Option Picked). option_or o (frame_from c B n ys)) (not_there c A n v xs a off) ∙ p.is;
+          }
+      go false false off so e = none_some B e
+
+  pub pick_none : source_at n (seen_of v) (seen_of w) ≡ None → pick_of c xs ys n ≡ None
+  pick_none e = go (is_there n (seen_of v)) (is_there n (seen_of w)) refl refl e
+    where
+      go : (s t : Bool) → is_there n (seen_of v) ≡ s → is_there n (seen_of w) ≡ t → cond s (Some A) (cond t (Some B) None) ≡ None
+          → pick_of c xs ys n ≡ None
+      go true t on so e = none_some A (sym e)
+      go false true off so e = none_some B (sym e)
+      go false false off so e =
+          ap (λ (o : Option Picked). option_or o (frame_from c B n ys)) (not_there c A n v xs a off)
+          ∙ not_there c B n w ys b so

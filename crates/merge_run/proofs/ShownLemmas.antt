@@ -1,0 +1,222 @@
+-- What is shown at first, of bytes that came, and of their end.
+use Rattle.std.proofs.Common.{◌≡◌, ◌≢◌, ℕ, Bool, true, false, List, [], ◌∷◌, ◌++◌, length}
+use Rattle.std.proofs.Common.{refl, ap, sym, subst, ◌∙◌, arith, append-nil}
+use Rattle.std.proofs.lemmas.List.{nil_from_length}
+use Rattle.plp_config.specs.declared.config.Config.{Config}
+use Rattle.frame_groups.specs.Modulated.{FrameRecord}
+use Rattle.modulator.specs.Laws.{DueFollow}
+use Rattle.t2mi_stream.specs.Complete.{complete_units, complete_in}
+use Rattle.t2mi_stream.specs.Pipe.{pipe}
+use Rattle.formed_frames.specs.Remade.{NumberedView, remade_packets}
+use Rattle.file_run.specs.Events.{Event, Fed, Ended, Gave, fed, has_ended, gave}
+use Rattle.file_run.specs.Laws.{EventsTell}
+use Rattle.frame_feed.specs.StandsFor.{FrameFeedStandsFor, waiting_of, longest_record}
+use Rattle.frame_feed.specs.StandsFor as feed
+use Rattle.frame_feed.specs.declared.feed.FrameFeed.{FrameFeed}
+use Rattle.feed_merge.specs.Picks.{Picked, picks, frames_of}
+use Rattle.feed_merge.specs.StandsFor.{MergerStandsFor, has_unit, has_finished}
+use Rattle.feed_merge.specs.StandsFor as merger
+use Rattle.feed_merge.specs.declared.merger.Merger.{Merger}
+use Rattle.merge_run.specs.Counted.{counted}
+use Rattle.merge_run.specs.Shown.{IsFedWith, IsBehind, Sends, IsReading, IsIn, Shown}
+use Rattle.merge_run.specs.declared.merging.Merging.{Merging}
+use Rattle.merge_run.specs.declared.phase.Phase.TheVariants.{Reads}
+use Rattle.merge_run.specs.declared.stop.Ran.{Ran}
+use Rattle.merge_run.proofs.FeedLemmas.{behind_more}
+use Rattle.merge_run.proofs.SplitLemmas.{picks_nothing}
+use Rattle.merge_run.proofs.StepLemmas.{IsIdle}
+
+-- ---- at first
+
+none_complete : (c : Config) → 0 ≡ length (complete_units c.pid (remade_packets c []))
+unfolding remade_packets complete_in
+none_complete c = refl
+
+pub sends_opened : (c : Config) (g : Merger) → merger.config_of g ≡ c → MergerStandsFor g c [] 0
+    → Sends c g (frames_of (picks c [] [])) 0 []
+sends_opened c g config stands =
+    subst (λ (ps : List Picked). Sends c g (frames_of ps) 0 []) (sym (picks_nothing c)) (record {
+      network = config;
+      stands = stands;
+      units = [];
+      gave_is = refl;
+      count_is = refl;
+      front = λ more _. (pipe c.pid (remade_packets c [] ++ more), refl);
+    })
+
+pub reading_opened : (c : Config) (g : Merger) → has_unit g ≡ false → has_finished g ≡ false
+    → IsReading c g (frames_of (picks c [] [])) 0
+reading_opened c g idle going =
+    subst (λ (ps : List Picked). IsReading c g (frames_of ps) 0) (sym (picks_nothing c))
+    (record { is_open = going; idle = idle; complete = none_complete c })
+
+pub ran_opened : (c : Config) → (let r : Ran = record { frames = 0; a = 0; b = 0; units = 0 } in r) ≡ counted (picks c [] []) 0
+ran_opened c = sym (ap (λ (ps : List Picked). counted ps 0) (picks_nothing c))
+
+-- ---- by one event more
+
+fed_here : EventsTell → (c : Config) (f : FrameFeed) (events : List Event) (input : ℕ) (bytes : List ℕ) (given : List FrameRecord)
+    → IsFedWith c f (fed input events ++ bytes) (has_ended input events) given
+    → IsFedWith c f (fed input (events ++ Fed input bytes ∷ [])) (has_ended input (events ++ Fed input bytes ∷ [])) given
+fed_here tell c f events input bytes given h =
+    let t = tell.fed input bytes events in
+    subst (λ (e : Bool). IsFedWith c f (fed input (events ++ Fed input bytes ∷ [])) e given) (sym (t.ended input))
+    (subst (λ (l : List ℕ). IsFedWith c f l (has_ended input events) given) (sym t.here) h)
+
+fed_there : EventsTell → (c : Config) (f : FrameFeed) (events : List Event) (input other : ℕ) (bytes : List ℕ)
+    (given : List FrameRecord) → other ≢ input → IsFedWith c f (fed other events) (has_ended other events) given
+    → IsFedWith c f (fed other (events ++ Fed input bytes ∷ [])) (has_ended other (events ++ Fed input bytes ∷ [])) given
+fed_there tell c f events input other bytes given differ h =
+    let t = tell.fed input bytes events in
+    subst (λ (e : Bool). IsFedWith c f (fed other (events ++ Fed input bytes ∷ [])) e given) (sym (t.ended other))
+    (subst (λ (l : List ℕ). IsFedWith c f l (has_ended other events) given) (sym (t.others other differ)) h)
+
+ended_here : EventsTell → (c : Config) (f : FrameFeed) (events : List Event) (input : ℕ) (bytes : List ℕ) (given : List FrameRecord)
+    → length bytes ≡ 0 → IsFedWith c f (fed input events) true given
+    → IsFedWith c f (fed input (events ++ Ended input bytes ∷ [])) (has_ended input (events ++ Ended input bytes ∷ [])) given
+ended_here tell c f events input bytes given none h =
+    let t = tell.ended input bytes events in
+    let same : fed input (events ++ Ended input bytes ∷ []) ≡ fed input events =
+    t.here ∙ ap (λ (l : List ℕ). fed input events ++ l) (nil_from_length bytes none) ∙ append-nil (fed input events) in
+    subst (λ (e : Bool). IsFedWith c f (fed input (events ++ Ended input bytes ∷ [])) e given) (sym t.ended)
+    (subst (λ (l : List ℕ). IsFedWith c f l true given) (sym same) h)
+
+ended_there : EventsTell → (c : Config) (f : FrameFeed) (events : List Event) (input other : ℕ) (bytes : List ℕ)
+    (given : List FrameRecord) → other ≢ input → IsFedWith c f (fed other events) (has_ended other events) given
+    → IsFedWith c f (fed other (events ++ Ended input bytes ∷ [])) (has_ended other (events ++ Ended input bytes ∷ [])) given
+ended_there tell c f events input other bytes given differ h =
+    let t = tell.ended input bytes events in
+    subst (λ (e : Bool). IsFedWith c f (fed other (events ++ Ended input bytes ∷ [])) e given) (sym (t.others_ended other differ))
+    (subst (λ (l : List ℕ). IsFedWith c f l (has_ended other events) given) (sym (t.others other differ)) h)
+
+pub gave_there : EventsTell → (c : Config) (f : FrameFeed) (events : List Event) (input : ℕ) (bytes : List ℕ)
+    (given : List FrameRecord) → IsFedWith c f (fed input events) (has_ended input events) given
+    → IsFedWith c f (fed input (events ++ Gave bytes ∷ [])) (has_ended input (events ++ Gave bytes ∷ [])) given
+gave_there tell c f events input bytes given h =
+    let t = tell.given bytes events in
+    subst (λ (e : Bool). IsFedWith c f (fed input (events ++ Gave bytes ∷ [])) e given) (sym (t.ended input))
+    (subst (λ (l : List ℕ). IsFedWith c f l (has_ended input events) given) (sym (t.fed input)) h)
+
+-- ---- bytes came
+
+-- of a feed that is idle, by what its call gives
+fed_with : (c : Config) (f g : FrameFeed) (bytes piece : List ℕ) (ended : Bool) (given : List FrameRecord)
+    → IsIdle (waiting_of f) (feed.has_ended f) → feed.config_of g ≡ feed.config_of f
+    → ((bytes : List ℕ) (given : List FrameRecord) → FrameFeedStandsFor f bytes false given
+    → FrameFeedStandsFor g (bytes ++ piece) false given)
+    → IsFedWith c f bytes ended given → IsFedWith c g (bytes ++ piece) ended given
+fed_with c f g bytes piece ended given idle config stands h =
+    let off : ended ≡ false = sym h.stands.end ∙ idle.going in
+    let was = subst (λ (e : Bool). FrameFeedStandsFor f bytes e given) off h.stands in
+    record {
+      network = config ∙ h.network;
+      stands = subst (λ (e : Bool). FrameFeedStandsFor g (bytes ++ piece) e given) (sym off) (stands bytes given was);
+    }
+
+ended_with : (c : Config) (f g : FrameFeed) (bytes : List ℕ) (ended : Bool) (given : List FrameRecord)
+    → IsIdle (waiting_of f) (feed.has_ended f) → feed.config_of g ≡ feed.config_of f
+    → ((bytes : List ℕ) (given : List FrameRecord) → FrameFeedStandsFor f bytes false given → FrameFeedStandsFor g bytes true given)
+    → IsFedWith c f bytes ended given → IsFedWith c g bytes true given
+ended_with c f g bytes ended given idle config stands h =
+    let off : ended ≡ false = sym h.stands.end ∙ idle.going in
+    let was = subst (λ (e : Bool). FrameFeedStandsFor f bytes e given) off h.stands in
+    record { network = config ∙ h.network; stands = stands bytes given was }
+
+-- while records are read, another feed changes nothing else
+still_reading : (c : Config) (m : Merging) (g h : FrameFeed) (frames : List NumberedView) → m.phase ≡ Reads → IsIn c m frames m.phase
+    → IsIn c (record m { a = g; b = h }) frames m.phase
+still_reading c m g h frames reads i =
+    subst (IsIn c (record m { a = g; b = h }) frames) (sym reads) (subst (IsIn c m frames) reads i)
+
+-- so the feeds changed
+shown_read : (c : Config) (m : Merging) (g h : FrameFeed) (events more : List Event) (s : Shown c events m) → m.phase ≡ Reads
+    → gave more ≡ gave events
+    → IsFedWith c g (fed 0 more) (has_ended 0 more) s.given_a → IsBehind m.next g s.given_a
+    → IsFedWith c h (fed 1 more) (has_ended 1 more) s.given_b → IsBehind m.next h s.given_b
+    → Shown c more (record m { a = g; b = h })
+shown_read c m g h events more s reads same of_a behind_a of_b behind_b = record {
+  config = s.config;
+  plan = s.plan;
+  ids = s.ids;
+  given_a = s.given_a;
+  given_b = s.given_b;
+  of_a = of_a;
+  of_b = of_b;
+  behind_a = behind_a;
+  behind_b = behind_b;
+  next_is = s.next_is;
+  early = s.early;
+  sends = subst (Sends c m.merger (frames_of (picks c s.given_a s.given_b)) m.ran.units) (sym same) s.sends;
+  ran_is = s.ran_is;
+  counts = record { frames = s.counts.frames; parts = s.counts.parts; units = s.counts.units };
+  is_in = still_reading c m g h (frames_of (picks c s.given_a s.given_b)) reads s.is_in;
+}
+
+module _ (tell : EventsTell) (follow : DueFollow) (c : Config) (m : Merging) (events : List Event) (s : Shown c events m)
+    (reads : m.phase ≡ Reads) where
+  pub shown_fed_first : (g : FrameFeed) (input : ℕ) (piece : List ℕ) → input ≡ 0 → IsIdle (waiting_of m.a) (feed.has_ended m.a)
+      → feed.config_of g ≡ feed.config_of m.a
+      → ((bytes : List ℕ) (given : List FrameRecord) → FrameFeedStandsFor m.a bytes false given
+      → FrameFeedStandsFor g (bytes ++ piece) false given)
+      → Shown c (events ++ Fed input piece ∷ []) (record m { a = g })
+  shown_fed_first g input piece is idle config stands =
+      let h = fed_here tell c g events 0 piece s.given_a (fed_with c m.a g _ piece _ s.given_a idle config stands s.of_a) in
+      subst (λ (k : ℕ). Shown c (events ++ Fed k piece ∷ []) (record m { a = g })) (sym is)
+      (shown_read c m g m.b events (events ++ Fed 0 piece ∷ []) s reads (tell.fed 0 piece events).gave h
+      (behind_more follow c m.next m.a g _ _ s.given_a idle.none idle.going s.behind_a h)
+      (fed_there tell c m.b events 0 1 piece s.given_b (λ e. absurd (omega (arith, e))) s.of_b) s.behind_b)
+
+  pub shown_fed_second : (g : FrameFeed) (input : ℕ) (piece : List ℕ) → input ≡ 1 → IsIdle (waiting_of m.b) (feed.has_ended m.b)
+      → feed.config_of g ≡ feed.config_of m.b
+      → ((bytes : List ℕ) (given : List FrameRecord) → FrameFeedStandsFor m.b bytes false given
+      → FrameFeedStandsFor g (bytes ++ piece) false given)
+      → Shown c (events ++ Fed input piece ∷ []) (record m { b = g })
+  shown_fed_second g input piece is idle config stands =
+      let h = fed_here tell c g events 1 piece s.given_b (fed_with c m.b g _ piece _ s.given_b idle config stands s.of_b) in
+      subst (λ (k : ℕ). Shown c (events ++ Fed k piece ∷ []) (record m { b = g })) (sym is)
+      (shown_read c m m.a g events (events ++ Fed 1 piece ∷ []) s reads (tell.fed 1 piece events).gave
+      (fed_there tell c m.a events 1 0 piece s.given_a (λ e. absurd (omega (arith, e))) s.of_a) s.behind_a h
+      (behind_more follow c m.next m.b g _ _ s.given_b idle.none idle.going s.behind_b h))
+
+  pub shown_ended_first : (g : FrameFeed) (input : ℕ) (bytes : List ℕ) → input ≡ 0 → length bytes ≡ 0
+      → IsIdle (waiting_of m.a) (feed.has_ended m.a) → feed.config_of g ≡ feed.config_of m.a
+      → ((bytes : List ℕ) (given : List FrameRecord) → FrameFeedStandsFor m.a bytes false given → FrameFeedStandsFor g bytes true given)
+      → Shown c (events ++ Ended input bytes ∷ []) (record m { a = g })
+  shown_ended_first g input bytes is none idle config stands =
+      let h = ended_here tell c g events 0 bytes s.given_a none (ended_with c m.a g _ _ s.given_a idle config stands s.of_a) in
+      subst (λ (k : ℕ). Shown c (events ++ Ended k bytes ∷ []) (record m { a = g })) (sym is)
+      (shown_read c m g m.b events (events ++ Ended 0 bytes ∷ []) s reads (tell.ended 0 bytes events).gave h
+      (behind_more follow c m.next m.a g _ _ s.given_a idle.none idle.going s.behind_a h)
+      (ended_there tell c m.b events 0 1 bytes s.given_b (λ e. absurd (omega (arith, e))) s.of_b) s.behind_b)
+
+  pub shown_ended_second : (g : FrameFeed) (input : ℕ) (bytes : List ℕ) → input ≡ 1 → length bytes ≡ 0
+      → IsIdle (waiting_of m.b) (feed.has_ended m.b) → feed.config_of g ≡ feed.config_of m.b
+      → ((bytes : List ℕ) (given : List FrameRecord) → FrameFeedStandsFor m.b bytes false given → FrameFeedStandsFor g bytes true given)
+      → Shown c (events ++ Ended input bytes ∷ []) (record m { b = g })
+  shown_ended_second g input bytes is none idle config stands =
+      let h = ended_here tell c g events 1 bytes s.given_b none (ended_with c m.b g _ _ s.given_b idle config stands s.of_b) in
+      subst (λ (k : ℕ). Shown c (events ++ Ended k bytes ∷ []) (record m { b = g })) (sym is)
+      (shown_read c m m.a g events (events ++ Ended 1 bytes ∷ []) s reads (tell.ended 1 bytes events).gave
+      (ended_there tell c m.a events 1 0 bytes s.given_a (λ e. absurd (omega (arith, e))) s.of_a) s.behind_a h
+      (behind_more follow c m.next m.b g _ _ s.given_b idle.none idle.going s.behind_b h))
+
+-- Nothing was given.
+pub shown_still : EventsTell → (c : Config) (m : Merging) (events : List Event) → Shown c events m → Shown c (events ++ Gave [] ∷ []) m
+shown_still tell c m events s = record {
+  config = s.config;
+  plan = s.plan;
+  ids = s.ids;
+  given_a = s.given_a;
+  given_b = s.given_b;
+  of_a = gave_there tell c m.a events 0 [] s.given_a s.of_a;
+  of_b = gave_there tell c m.b events 1 [] s.given_b s.of_b;
+  behind_a = s.behind_a;
+  behind_b = s.behind_b;
+  next_is = s.next_is;
+  early = s.early;
+  sends = subst (Sends c m.merger (frames_of (picks c s.given_a s.given_b)) m.ran.units)
+      (sym ((tell.given [] events).gave ∙ append-nil (gave events))) s.sends;
+  ran_is = s.ran_is;
+  counts = s.counts;
+  is_in = s.is_in;
+}

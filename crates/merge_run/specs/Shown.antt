@@ -1,0 +1,129 @@
+-- What was done to two feeds and the merger of their frames. No public clause cites this module.
+use Rattle.std.specs.Prelude.{◌≡◌, ℕ, ◌+◌, ◌*◌, ◌^◌, ◌≤◌, max, Bool, true, false, List, [], ◌∷◌, ◌++◌, length, Some, None}
+use Rattle.plp_config.specs.Capacity.{IsPlan}
+use Rattle.plp_config.specs.declared.config.Config.{Config}
+use Rattle.plp_config.specs.declared.moment.TheConstants.{MOST_FRAMES}
+use Rattle.ts_packet.specs.TsFile.{joined}
+use Rattle.frame_groups.specs.Laws.{IsPrefix}
+use Rattle.frame_groups.specs.Modulated.{FrameRecord}
+use Rattle.frame_groups.specs.declared.waiting.Waiting.{Waiting}
+use Rattle.record_laws.specs.Frames.{HasByteIds}
+use Rattle.site_frame.specs.Whole.{Spells}
+use Rattle.site_frame.specs.declared.reading.RecordView.{RecordView}
+use Rattle.t2mi_stream.specs.Complete.{complete_units}
+use Rattle.t2mi_stream.specs.Pipe.{pipe}
+use Rattle.formed_frames.specs.Formed.{IsFormed}
+use Rattle.formed_frames.specs.Remade.{NumberedView, remade_packets}
+use Rattle.file_run.specs.Events.{Event, fed, has_ended, gave}
+use Rattle.frame_feed.specs.StandsFor.{FrameFeedStandsFor, waiting_of}
+use Rattle.frame_feed.specs.StandsFor as feed
+use Rattle.frame_feed.specs.declared.feed.FrameFeed.{FrameFeed}
+use Rattle.feed_merge.specs.Picks.{picks, above_all, frames_of}
+use Rattle.feed_merge.specs.StandsFor.{MergerStandsFor, frame_of, has_unit, has_finished, is_fed, bytes_left}
+use Rattle.feed_merge.specs.StandsFor as merger
+use Rattle.feed_merge.specs.declared.merger.Merger.{Merger}
+use Rattle.merge_run.specs.Counted.{counted}
+use Rattle.merge_run.specs.Sending.{numbered, view_at, frame_at}
+use Rattle.merge_run.specs.declared.merging.Merging.{Merging}
+use Rattle.merge_run.specs.declared.phase.Phase.{Phase}
+use Rattle.merge_run.specs.declared.phase.Phase.TheVariants.{Reads, Gives, Rests, Done}
+
+-- A feed of a network was fed with an input, and gave these records.
+pub record IsFedWith (c : Config) (f : FrameFeed) (bytes : List ℕ) (ended : Bool) (given : List FrameRecord) : Type 0 where
+  pub network : feed.config_of f ≡ c
+  pub stands : FrameFeedStandsFor f bytes ended given
+
+-- What waits has a number that is no lower; and if nothing waits and the stream has not ended, no record that follows has one.
+pub record IsBehind (next : ℕ) (f : FrameFeed) (given : List FrameRecord) : Type 0 where
+  pub waits : (w : Waiting) → waiting_of f ≡ Some w → next ≤ w.frame
+  pub idle : waiting_of f ≡ None → feed.has_ended f ≡ false → next ≤ above_all given
+
+-- No record comes.
+pub record NoneComes (f : FrameFeed) : Type 0 where
+  pub none : waiting_of f ≡ None
+  pub ended : feed.has_ended f ≡ true
+
+-- Of these frames units were given, the first ones whatever packets follow.
+pub record Sends (c : Config) (g : Merger) (frames : List NumberedView) (count : ℕ) (gave : List ℕ) : Type 0 where
+  pub network : merger.config_of g ≡ c
+  pub stands : MergerStandsFor g c frames count
+  pub units : List (List ℕ)
+  pub gave_is : gave ≡ joined units
+  pub count_is : count ≡ length units
+  pub front : (more : List (List ℕ)) → (has_finished g ≡ true → more ≡ [])
+      → IsPrefix units (pipe c.pid (remade_packets c frames ++ more))
+
+-- All complete units were given, and more frames may come.
+pub record IsReading (c : Config) (g : Merger) (frames : List NumberedView) (count : ℕ) : Type 0 where
+  pub is_open : has_finished g ≡ false
+  pub idle : has_unit g ≡ false
+  pub complete : count ≡ length (complete_units c.pid (remade_packets c frames))
+
+-- The last of these frames is the one whose record is held.
+pub record IsGiving (c : Config) (g : Merger) (frames : List NumberedView) (bytes : List ℕ) : Type 0 where
+  pub is_open : has_finished g ≡ false
+  pub before : List NumberedView
+  pub view : RecordView
+  pub parts : frames ≡ before ++ numbered (frame_of g) view ∷ []
+  pub spells : Spells view bytes
+  pub formed : IsFormed c (frame_of g) view
+
+-- No more frames come.
+pub record IsResting (g : Merger) (a b : FrameFeed) : Type 0 where
+  pub over : has_finished g ≡ true
+  pub all_fed : is_fed g ≡ true
+  pub none_a : NoneComes a
+  pub none_b : NoneComes b
+
+-- All units were given.
+pub record IsDone (c : Config) (frames : List NumberedView) (count : ℕ) (a b : FrameFeed) : Type 0 where
+  pub all : length (pipe c.pid (remade_packets c frames)) ≡ count
+  pub none_a : NoneComes a
+  pub none_b : NoneComes b
+
+abbrev pub IsIn : Config → Merging → List NumberedView → Phase → Type 0
+IsIn c m frames Reads = IsReading c m.merger frames m.ran.units
+IsIn c m frames Gives = IsGiving c m.merger frames m.«record»
+IsIn c m frames Rests = IsResting m.merger m.a m.b
+IsIn c m frames Done = IsDone c frames m.ran.units m.a m.b
+
+-- no fewer than the units that can be given before the next frame; between frames fewer than 184 bytes wait
+abbrev pub more_units : Phase → Merger → List ℕ → ℕ
+more_units Reads g bytes = 184
+more_units Gives g bytes = 184 + bytes_left g (frame_at (frame_of g) (view_at bytes))
+more_units Rests g bytes = bytes_left g None
+more_units Done g bytes = 0
+
+-- no frame has so many bytes
+abbrev pub frame_bytes : ℕ
+frame_bytes = 2 ^ 30
+
+-- what was counted: frames by the numbers that were passed, and units by the bytes that frames have
+pub record CountsFrames (m : Merging) : Type 0 where
+  pub frames : m.ran.frames ≤ m.next
+  pub parts : m.ran.a + m.ran.b ≡ m.ran.frames
+  pub units : m.ran.units + more_units m.phase m.merger m.«record» ≤ m.next * frame_bytes + 184
+
+-- What was done, and where two feeds of a network and the merger are then.
+pub record Shown (c : Config) (events : List Event) (m : Merging) : Type 0 where
+  pub config : m.plan.now ≡ c
+  pub plan : IsPlan c
+  pub ids : HasByteIds c
+  pub given_a : List FrameRecord
+  pub given_b : List FrameRecord
+  pub of_a : IsFedWith c m.a (fed 0 events) (has_ended 0 events) given_a
+  pub of_b : IsFedWith c m.b (fed 1 events) (has_ended 1 events) given_b
+  pub behind_a : IsBehind m.next m.a given_a
+  pub behind_b : IsBehind m.next m.b given_b
+  pub next_is : m.next ≡ max (above_all given_a) (above_all given_b)
+  pub early : m.next ≤ MOST_FRAMES
+  pub sends : Sends c m.merger (frames_of (picks c given_a given_b)) m.ran.units (gave events)
+  pub ran_is : m.ran ≡ counted (picks c given_a given_b) m.ran.units
+  pub counts : CountsFrames m
+  pub is_in : IsIn c m (frames_of (picks c given_a given_b)) m.phase
+
+-- Something was done, and then they are there.
+pub record HasShown (m : Merging) : Type 0 where
+  pub network : Config
+  pub events : List Event
+  pub shown : Shown network events m

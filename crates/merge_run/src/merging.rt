@@ -1,0 +1,276 @@
+// Two feeds and a merger.
+ghost use Rattle.std.specs.Prelude.{◌≡◌, ◌<◌, ◌≤◌, ◌+◌, ◌^◌, ◌++◌, ◌∷◌, ℕ, List, [], false, Some, None, length, take, IfOk};
+ghost use Rattle.plp_config.specs.declared.config.Config.{Config};
+ghost use Rattle.plp_config.specs.declared.moment.TheConstants.{MOST_FRAMES};
+ghost use Rattle.ts_packet.specs.declared.sizes.TheConstants.{SIZE};
+ghost use Rattle.file_run.specs.Events.{Event, Fed, Ended, Gave};
+ghost use Rattle.file_run.specs.Steps.{Suffices, FallsShort};
+ghost use Rattle.file_run.specs.declared.machine.TheConstants.{PIECE};
+ghost use Rattle.file_run.specs.declared.machine.Step.TheVariants.{Give};
+ghost use Rattle.frame_feed.specs.StandsFor.{waiting_of, has_ended, fed_of};
+ghost use Rattle.merge_run.specs.Shown.{Shown, HasShown};
+ghost use Rattle.merge_run.specs.Steps.{is_idle, wants_of, step_by, step_of, fed_at, reach_of, left_of};
+ghost use Rattle.merge_run.specs.Taking.{least_of};
+ghost use Rattle.merge_run.specs.declared.phase.Phase.TheVariants as phase;
+
+use crate::buffer::RecordBuffer;
+use crate::phase::Phase;
+use crate::sending::{begin_frame, next_unit};
+use crate::stop::Ran;
+use crate::taking::{is_picked, least_number, pick_next};
+use bit_slice::OutOfMemory;
+use feed_merge::{Merger, grow_law};
+use file_run::{Step, events_law};
+use formed_frames::formed_law;
+use frame_feed::FrameFeed;
+use modulator::due_records_law;
+use plp_config::{MOST_FRAMES, Plan, block_law};
+use record_laws::id_law;
+use std::alloc::Global;
+use ts_packet::SIZE;
+
+/// How many bytes are read ahead at most of each input.
+pub const AHEAD: u64 = 65_536;
+
+/// Two feeds of a network, and the merger of their frames.
+#[derive(Drop)]
+pub struct Merging<'p> {
+    pub plan: &'p Plan,
+    pub a: FrameFeed<'p>,
+    pub b: FrameFeed<'p>,
+    pub merger: Merger<'p>,
+    // The record that was taken last.
+    pub record: RecordBuffer,
+    // The number behind those of all records that were taken.
+    pub next: u64,
+    pub phase: Phase,
+    pub ran: Ran,
+}
+
+// It wants bytes of an input.
+fn wants(input: usize) -> Step
+    ensures { result ≡ wants_of input }
+{
+    Step::Read {
+        input,
+        least: 1,
+        most: AHEAD,
+    }
+}
+
+// No record waits, and the stream has not ended.
+fn is_idle(feed: &FrameFeed<'_>) -> bool
+    ensures { result ≡ is_idle (waiting_of feed.now) (has_ended feed.now) }
+{
+    feed.waiting().is_none() && !feed.is_ended()
+}
+
+impl<'p> Merging<'p> {
+    /// Two feeds of a network to which nothing was fed, a merger, and all their memory.
+    pub fn open(alloc: Global, plan: &'p Plan) -> Result<Merging<'p>, OutOfMemory>
+        ensures plan { IfOk result (λ m. m.plan.now ≡ plan.now) }
+        ensures shown { IfOk result (λ m. Shown plan.now [] m) }
+    {
+        plan.rules_law();
+        id_law(plan);
+        let a = FrameFeed::open(alloc, plan)?;
+        let b = FrameFeed::open(alloc, plan)?;
+        let record = RecordBuffer::open(alloc)?;
+        Ok(Merging {
+            plan,
+            a,
+            b,
+            merger: Merger::new(plan),
+            record,
+            next: 0,
+            phase: Phase::Reads,
+            ran: Ran {
+                frames: 0,
+                a: 0,
+                b: 0,
+                units: 0,
+            },
+        })
+    }
+
+    // What it does next, if it is to read.
+    fn reading(&self) -> Step
+        ensures { result ≡ step_by (waiting_of self.now.a) (has_ended self.now.a) (waiting_of self.now.b) (has_ended self.now.b) }
+    {
+        if is_idle(&self.a) {
+            return wants(0);
+        }
+        if is_idle(&self.b) {
+            return wants(1);
+        }
+        match least_number(&self.a, &self.b) {
+            Some(number) if number < MOST_FRAMES => Step::Give,
+            Some(_) => Step::End,
+            None => Step::Give,
+        }
+    }
+
+    /// What it does next.
+    pub fn step(&self) -> Step
+        ensures { result ≡ step_of self.now }
+    {
+        match self.phase {
+            Phase::Reads => self.reading(),
+            Phase::Gives | Phase::Rests => Step::Give,
+            Phase::Done => Step::End,
+        }
+    }
+
+    /// Takes bytes of the input that it wants: how many.
+    pub fn feed(&mut self, input: usize, bytes: &[u8]) -> usize
+        requires wanted { Suffices (step_of self.old) input (length bytes.now) }
+        requires room { fed_at (fed_of self.old.a) (fed_of self.old.b) input + length bytes.now < 2 ^ 60 }
+        ensures some { (0 < result) × (result ≤ length bytes.now) }
+        ensures shown { (c : Config) (events : List Event) → Shown c events self.old
+            → Shown c (events ++ Fed input (take result bytes.now) ∷ []) self.new }
+        ensures reach { (other : ℕ) → reach_of self.old other ≤ reach_of self.new other }
+    {
+        events_law();
+        due_records_law();
+        if input == 0 {
+            return self.a.feed(bytes);
+        }
+        self.b.feed(bytes)
+    }
+
+    /// The input that it wants has ended.
+    pub fn end_input(&mut self, input: usize, bytes: &[u8])
+        requires wanted { FallsShort (step_of self.old) input (length bytes.now) }
+        ensures shown { (c : Config) (events : List Event) → Shown c events self.old
+            → Shown c (events ++ Ended input bytes.now ∷ []) self.new }
+        ensures reach { (other : ℕ) → reach_of self.old other ≤ reach_of self.new other }
+    {
+        events_law();
+        due_records_law();
+        if input == 0 {
+            self.a.finish();
+            return;
+        }
+        self.b.finish();
+    }
+
+    // Takes the records of the least number, and begins its frame if it is picked.
+    fn begin(&mut self, number: u64)
+        requires came { ∥ HasShown self.old ∥₁ }
+        requires reads { self.old.phase ≡ phase.Reads }
+        requires busy { (is_idle (waiting_of self.old.a) (has_ended self.old.a) ≡ false)
+            × (is_idle (waiting_of self.old.b) (has_ended self.old.b) ≡ false) }
+        requires least { least_of (waiting_of self.old.a) (waiting_of self.old.b) ≡ Some number }
+        requires early { number < MOST_FRAMES }
+        ensures shown { (c : Config) (events : List Event) → Shown c events self.old → Shown c events self.new }
+        ensures left { left_of self.new < left_of self.old }
+        ensures fed { (fed_of self.new.a ≡ fed_of self.old.a) × (fed_of self.new.b ≡ fed_of self.old.b) }
+    {
+        due_records_law();
+        formed_law();
+        grow_law();
+        block_law();
+        let pick = pick_next(&self.a, &self.b);
+        self.record.take_from(&mut self.a, &mut self.b, pick);
+        self.next = number + 1;
+        if !is_picked(pick.source) {
+            return;
+        }
+        let feed = pick.source.unwrap();
+        begin_frame(&mut self.merger, number, self.record.as_bytes());
+        self.ran.add(feed);
+        self.phase = Phase::Gives;
+    }
+
+    // No more frames come.
+    fn finish(&mut self)
+        requires came { ∥ HasShown self.old ∥₁ }
+        requires reads { self.old.phase ≡ phase.Reads }
+        requires busy { (is_idle (waiting_of self.old.a) (has_ended self.old.a) ≡ false)
+            × (is_idle (waiting_of self.old.b) (has_ended self.old.b) ≡ false) }
+        requires none { least_of (waiting_of self.old.a) (waiting_of self.old.b) ≡ None }
+        ensures shown { (c : Config) (events : List Event) → Shown c events self.old → Shown c events self.new }
+        ensures left { left_of self.new < left_of self.old }
+        ensures fed { (fed_of self.new.a ≡ fed_of self.old.a) × (fed_of self.new.b ≡ fed_of self.old.b) }
+    {
+        self.merger.finish();
+        self.phase = Phase::Rests;
+    }
+
+    // Goes on behind the records that wait.
+    fn go_on(&mut self)
+        requires came { ∥ HasShown self.old ∥₁ }
+        requires reads { self.old.phase ≡ phase.Reads }
+        requires gives { step_of self.old ≡ Give }
+        ensures shown { (c : Config) (events : List Event) → Shown c events self.old → Shown c events self.new }
+        ensures left { left_of self.new < left_of self.old }
+        ensures fed { (fed_of self.new.a ≡ fed_of self.old.a) × (fed_of self.new.b ≡ fed_of self.old.b) }
+    {
+        match least_number(&self.a, &self.b) {
+            Some(number) => self.begin(number),
+            None => self.finish(),
+        }
+    }
+
+    // Gives the next unit of the frame under way, or goes on behind them: how many bytes.
+    fn give_unit(&mut self, unit: &mut [u8; SIZE]) -> usize
+        requires came { ∥ HasShown self.old ∥₁ }
+        requires gives { self.old.phase ≡ phase.Gives }
+        ensures count { result ≤ length unit.new }
+        ensures whole { length unit.new ≡ SIZE }
+        ensures shown { (c : Config) (events : List Event) → Shown c events self.old
+            → Shown c (events ++ Gave (take result unit.new) ∷ []) self.new }
+        ensures left { left_of self.new < left_of self.old }
+        ensures fed { (fed_of self.new.a ≡ fed_of self.old.a) × (fed_of self.new.b ≡ fed_of self.old.b) }
+    {
+        events_law();
+        if next_unit(&mut self.merger, self.record.as_bytes(), unit) {
+            self.ran.add_unit();
+            return SIZE;
+        }
+        self.phase = Phase::Reads;
+        0
+    }
+
+    // Gives the next unit behind the end, or comes to its own end: how many bytes.
+    fn give_rest(&mut self, unit: &mut [u8; SIZE]) -> usize
+        requires came { ∥ HasShown self.old ∥₁ }
+        requires rests { self.old.phase ≡ phase.Rests }
+        ensures count { result ≤ length unit.new }
+        ensures whole { length unit.new ≡ SIZE }
+        ensures shown { (c : Config) (events : List Event) → Shown c events self.old
+            → Shown c (events ++ Gave (take result unit.new) ∷ []) self.new }
+        ensures left { left_of self.new < left_of self.old }
+        ensures fed { (fed_of self.new.a ≡ fed_of self.old.a) × (fed_of self.new.b ≡ fed_of self.old.b) }
+    {
+        events_law();
+        if self.merger.rest(unit) {
+            self.ran.add_unit();
+            return SIZE;
+        }
+        self.phase = Phase::Done;
+        0
+    }
+
+    /// Gives the next bytes, to the front of these, or goes on: how many.
+    pub fn give(&mut self, out: &mut [u8]) -> usize
+        requires came { ∥ HasShown self.old ∥₁ }
+        requires gives { step_of self.old ≡ Give }
+        requires room { PIECE ≤ length out.old }
+        ensures count { result ≤ length out.old }
+        ensures shown { (c : Config) (events : List Event) → Shown c events self.old
+            → Shown c (events ++ Gave (take result out.new) ∷ []) self.new }
+        ensures left { left_of self.new < left_of self.old }
+        ensures reach { (other : ℕ) → reach_of self.old other ≤ reach_of self.new other }
+    {
+        events_law();
+        match self.phase {
+            Phase::Reads => {
+                self.go_on();
+                0
+            }
+            Phase::Gives => self.give_unit(out.first_chunk_mut().unwrap()),
+            _ => self.give_rest(out.first_chunk_mut().unwrap()),
+        }
+    }
+}
