@@ -1,6 +1,6 @@
 // What is said for people, on standard error: what was wrong, where, and what to do.
 use crate::config_place::{is_data, plp_line, text_of};
-use crate::help::{COMMANDS, rule_of};
+use crate::help::{COMMANDS, meant_by, rule_of};
 use crate::pids::say_pids;
 use crate::shown::{Shown, Told};
 use config_text::{TextFault, TextWhy};
@@ -8,18 +8,17 @@ use plp_config::{CapacityFault, ConfigFault, MOST_FRAMES};
 use ports::HostFault;
 use site_frame::RecordWhy;
 use site_top::{ConfigCause, Outcome, Request, Word, request_of};
+use std::fmt::{self, Display, Formatter, Write};
 use std::fs::Files;
 use std::io::{self, Eprint};
 
-// Says which words are commands.
-fn say_commands(rt: &impl Eprint, program: &str) -> io::Result<()> {
-    let mut before = "usage:";
+// Says which words are commands: those of the command that was meant, or all.
+fn say_commands(rt: &impl Eprint, program: &str, meant: Option<&str>) -> io::Result<()> {
+    eprintln!(rt; "usage:")?;
     for command in &COMMANDS {
-        eprintln!(rt;
-            "{before} {program} {}\n         {}",
-            command.words, command.what
-        )?;
-        before = "      ";
+        if meant.map_or(true, |name| name == command.name) {
+            eprintln!(rt; "  {program} {}\n      {}", command.words, command.what)?;
+        }
     }
     Ok(())
 }
@@ -27,7 +26,9 @@ fn say_commands(rt: &impl Eprint, program: &str) -> io::Result<()> {
 /// Says of a word `-` that it is the name of a file, which it is not for other programs.
 pub fn warn(rt: &impl Eprint, words: &[Word]) {
     if words.iter().any(|word| word.as_str() == "-") {
-        let _ = eprintln!(rt; "- is taken as the name of a file; standard input is /dev/stdin");
+        let _ = eprintln!(rt;
+            "- is taken as the name of a file; standard input is /dev/stdin, and a stream is written to a descriptor of its own: /dev/fd/3 with 3>.."
+        );
     }
 }
 
@@ -41,8 +42,13 @@ fn why_no_command(words: &[Word]) -> &'static str {
 }
 
 fn say_usage(rt: &impl Eprint, program: &str, words: &[Word]) -> io::Result<()> {
+    let meant = meant_by(words);
     eprintln!(rt; "{}", why_no_command(words))?;
-    say_commands(rt, program)
+    say_commands(rt, program, meant)?;
+    match meant {
+        Some(_) => eprintln!(rt; "all commands: {program} --help"),
+        None => Ok(()),
+    }
 }
 
 // Says which PLP of a configuration is refused, and where its line is.
@@ -126,6 +132,22 @@ fn say_too_many_frames(
     }
 }
 
+// Why bytes are no record, for people.
+#[derive(Clone, Copy)]
+struct WhyNoRecord(RecordWhy);
+
+impl Display for WhyNoRecord {
+    fn fmt<W: Write>(&self, f: &mut Formatter<W>) -> fmt::Result {
+        match self.0 {
+            RecordWhy::Length => write!(
+                f,
+                "the file ends inside it, or its parts do not fill its length"
+            ),
+            why => write!(f, "{why}"),
+        }
+    }
+}
+
 // Says which record is refused.
 fn say_record(
     rt: &impl Eprint,
@@ -134,6 +156,7 @@ fn say_record(
     number: u64,
     why: RecordWhy,
 ) -> io::Result<()> {
+    let why = WhyNoRecord(why);
     match request {
         Some(Request::Receive { .. }) => eprintln!(rt;
             "{file}: record {number}, counted from 0: {why}; OUT holds what the records before it give back; see that the file holds the records of successive frames of CONFIG and nothing else"

@@ -1,11 +1,12 @@
 // What the program does with its words.
 use crate::advice::{advise, warn};
+use crate::damage::Damage;
 use crate::help;
 use crate::progress::Watched;
 use crate::stream_time::StreamTime;
 use ports::HostDesk;
 use site_top::{Outcome, Word, request_of, run};
-use std::fs::Files;
+use std::fs::{File, Files};
 use std::io::{Eprint, Print};
 use std::time::Clock;
 
@@ -17,6 +18,10 @@ pub fn carry_out<R: Files + Print + Eprint + Clock + AllocGlobal>(
     words: &[Word],
     wanted: bool,
 ) -> Outcome {
+    // If the program was started without the descriptors 0 to 2, they are taken, so that no file gets what is said.
+    let _first = File::open(rt, "/dev/null");
+    let _second = File::open(rt, "/dev/null");
+    let _third = File::open(rt, "/dev/null");
     if let Some(asked) = help::asked_of(words) {
         return match help::say(rt, program, asked) {
             Ok(()) => Outcome::Done,
@@ -24,11 +29,13 @@ pub fn carry_out<R: Files + Print + Eprint + Clock + AllocGlobal>(
         };
     }
     warn(rt, words);
-    let stream = match request_of(words) {
+    let request = request_of(words);
+    let stream = match request {
         Some(request) if wanted => StreamTime::of(rt, request),
         _ => None,
     };
-    let mut desk = Watched::new(HostDesk::new(rt, rt.alloc()), rt, wanted, stream);
+    let damage = Damage::of(rt, request);
+    let mut desk = Watched::new(HostDesk::new(rt, rt.alloc()), rt, wanted, stream, damage);
     let outcome = run(rt.alloc(), words, &mut desk);
     desk.wipe();
     advise(
@@ -39,5 +46,6 @@ pub fn carry_out<R: Files + Print + Eprint + Clock + AllocGlobal>(
         desk.desk.first_fault(),
         desk.lines == 1,
     );
+    desk.damage.say(rt, outcome);
     outcome
 }

@@ -1,12 +1,23 @@
 // Where in the text of CONFIG a refusal is, looked at again for people.
 use crate::front::front_of;
 use config_text::LONGEST_TEXT;
-use std::fs::Files;
-use std::{io, str};
+use plp_config::Config;
+use std::fs::{self, Files};
+use std::io::{self, ErrorKind};
+use std::str;
 
-/// What a named file has of a configuration: as many bytes as one may have.
+/// What a named file has of a configuration: as many bytes as one may have. A pipe gives its bytes once, so it is not read again.
 pub fn text_of(rt: &(impl Files + AllocGlobal), name: &str) -> io::Result<Vec<u8>> {
-    front_of(rt, name, LONGEST_TEXT)
+    if fs::metadata(rt, name)?.is_file() {
+        front_of(rt, name, LONGEST_TEXT)
+    } else {
+        Err(io::Error::from(ErrorKind::InvalidInput))
+    }
+}
+
+/// The configuration of a named file, if it can be read again.
+pub fn config_again(rt: &(impl Files + AllocGlobal), name: &str) -> Option<Config> {
+    config_text::read(rt.alloc(), &text_of(rt, name).ok()?).ok()
 }
 
 /// Whether it begins as a transport stream or as other data that is no text.

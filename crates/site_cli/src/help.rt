@@ -10,7 +10,7 @@ const KIT: &str = "rattle-kit-13f";
 /// A command: its first word, all its words, what it does, an example, and what its words must be beside their number, if
 /// something.
 pub struct Command {
-    name: &'static str,
+    pub name: &'static str,
     pub words: &'static str,
     pub what: &'static str,
     example: &'static str,
@@ -128,7 +128,7 @@ pub fn rule_of(words: &[Word]) -> Option<&'static str> {
     None
 }
 
-/// What is asked: the version or help by the first word, or help on a command by the word behind its name.
+/// What is asked: the version or help by the first word, or help on a command by a word behind its name.
 pub fn asked_of(words: &[Word]) -> Option<Asked<'_>> {
     let first = words.first()?.as_str();
     let second = words.get(1).map(|word| word.as_str());
@@ -138,8 +138,38 @@ pub fn asked_of(words: &[Word]) -> Option<Asked<'_>> {
     if asks_for_help(first) || first == "help" {
         return Some(Asked::Help(second));
     }
-    if is_command(first) && second.map_or(false, |word| asks_for_help(word)) {
+    if is_command(first) && words.iter().any(|word| asks_for_help(word.as_str())) {
         return Some(Asked::Help(Some(first)));
+    }
+    None
+}
+
+// How many bytes two words have in common at the front and at the end.
+fn common(one: &[u8], other: &[u8]) -> usize {
+    let front = one.iter().zip(other).take_while(|(a, b)| a == b).count();
+    let backwards = one.iter().rev().zip(other.iter().rev());
+    let back = backwards.take_while(|(a, b)| a == b).count();
+    front.saturating_add(back)
+}
+
+// Whether two words are the same but for two bytes in a row.
+fn is_near(one: &str, other: &str) -> bool {
+    let longest = one.len().max(other.len());
+    common(one.as_bytes(), other.as_bytes()).saturating_add(2) >= longest
+}
+
+/// The command that a first word names, or else that it is near to.
+pub fn meant_by(words: &[Word]) -> Option<&'static str> {
+    let first = words.first()?.as_str();
+    for command in &COMMANDS {
+        if command.name == first {
+            return Some(command.name);
+        }
+    }
+    for command in &COMMANDS {
+        if is_near(command.name, first) {
+            return Some(command.name);
+        }
     }
     None
 }
@@ -168,7 +198,7 @@ pub fn say(rt: &impl Print, program: &str, asked: Asked<'_>) -> io::Result<()> {
         Asked::Help(_) => {
             say_commands(rt, program, None)?;
             println!(rt;
-                "Formats, endings and examples: docs/FORMATS.md, README.md, docs/EXAMPLES.md"
+                "Formats, endings and examples: docs/FORMATS.md, README.md, docs/EXAMPLES.md (installed: PREFIX/share/doc/vicelotus)"
             )
         }
     }

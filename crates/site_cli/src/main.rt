@@ -8,14 +8,17 @@ ghost use Rattle.site_top.specs.Outcomes.{status_of};
 mod advice;
 mod command;
 mod config_place;
+mod damage;
 mod front;
 mod help;
+mod muted;
 mod pids;
 mod progress;
 mod shown;
 mod stream_time;
 #[cfg(test)]
 mod tests;
+mod units;
 mod words;
 
 use advice::advise;

@@ -45,26 +45,23 @@ fn pids_in(rt: &impl AllocGlobal, bytes: &[u8]) -> io::Result<Vec<u16>> {
     Ok(pids)
 }
 
-// The first units of a file. A pipe gives its bytes once, so it is not read again.
-fn units_of(rt: &(impl Files + AllocGlobal), name: &str) -> io::Result<Vec<u8>> {
-    if fs::metadata(rt, name)?.is_file() {
-        front_of(rt, name, UNITS * SIZE)
-    } else {
-        Ok(Vec::new(rt.alloc()))
-    }
-}
-
-/// Says on which PID of a file T2-MI was looked for: the first one in it. If none came there, the others are told.
+/// Says on which PID of a file T2-MI was looked for: the first one in it. If none came there, the others are told. A pipe gives its bytes
+/// once, so nothing is told of it.
 pub fn say_pids(
     rt: &(impl Eprint + Files + AllocGlobal),
     name: &str,
     none_came: bool,
 ) -> io::Result<()> {
-    let pids = pids_in(rt, &units_of(rt, name)?)?;
-    let Some((first, others)) = pids.split_first() else {
+    if !fs::metadata(rt, name)?.is_file() {
         return Ok(());
-    };
+    }
     let file = Shown(name);
+    let pids = pids_in(rt, &front_of(rt, name, UNITS * SIZE)?)?;
+    let Some((first, others)) = pids.split_first() else {
+        return eprintln!(rt;
+            "{file}: no unit of 188 bytes in its first {UNITS} is a transport packet with a payload"
+        );
+    };
     if !none_came {
         return eprintln!(rt; "{file}: T2-MI was looked for on PID {first}, the first one in it");
     }

@@ -3,6 +3,7 @@ ghost use Rattle.std.specs.Prelude.{◌<◌, ◌≤◌, length, take, IfOk, OnOk
 ghost use Rattle.ports.specs.Counts.{MayFailReading, MayFailWriting, MayFailAtLast};
 ghost use Rattle.ports.specs.Desk.{State, Keeps, Opens, Creates, FailsToCreate, Reads, Writes, Says, SaysLast};
 
+use crate::damage::Damage;
 use crate::stream_time::StreamTime;
 use ports::{Desk, DeskFault};
 use std::fmt::{self, Display, Formatter, Write};
@@ -107,18 +108,26 @@ impl<R: Clock + Eprint> Progress<'_, R> {
     }
 }
 
-/// A desk whose moves are told on standard error, in one line that is renewed twice a second at most.
+/// A desk whose moves are told on standard error, in one line that is renewed twice a second at most, and in which damage is counted.
 #[derive(Drop)]
 pub struct Watched<'a, D, R> {
     pub desk: D,
     progress: Progress<'a, R>,
+    /// What was damaged.
+    pub damage: Damage<'a>,
     /// How many lines were said.
     pub lines: u64,
 }
 
 impl<'a, D, R: Clock + Eprint> Watched<'a, D, R> {
     /// A desk whose moves are told from now on if this is wanted, with the stream time if it is given.
-    pub fn new(desk: D, rt: &'a R, wanted: bool, stream: Option<StreamTime>) -> Watched<'a, D, R> {
+    pub fn new(
+        desk: D,
+        rt: &'a R,
+        wanted: bool,
+        stream: Option<StreamTime>,
+        damage: Damage<'a>,
+    ) -> Watched<'a, D, R> {
         let start = if wanted { Instant::now(rt).ok() } else { None };
         Watched {
             desk,
@@ -131,6 +140,7 @@ impl<'a, D, R: Clock + Eprint> Watched<'a, D, R> {
                 written: 0,
                 stream,
             },
+            damage,
             lines: 0,
         }
     }
@@ -146,13 +156,16 @@ impl<D: Desk, R: Clock + Eprint> Desk for Watched<'_, D, R> {
     ghost state = { λ w. D.state w.desk };
 
     fn open(&mut self, name: &str) -> Result<u32, DeskFault> {
-        self.desk.open(name)
+        let handle = self.desk.open(name)?;
+        self.damage.opened(name, handle);
+        Ok(handle)
     }
 
     fn read(&mut self, handle: u32, buffer: &mut [u8]) -> Result<usize, DeskFault> {
         let count = self.desk.read(handle, buffer)?;
         self.progress.read = self.progress.read.saturating_add(count as u64);
         self.progress.tell();
+        self.damage.read(handle, buffer.get(..count).unwrap_or(&[]));
         Ok(count)
     }
 
@@ -162,7 +175,9 @@ impl<D: Desk, R: Clock + Eprint> Desk for Watched<'_, D, R> {
 
     fn write(&mut self, out: u32, piece: &[u8]) -> Result<usize, DeskFault> {
         let count = self.desk.write(out, piece)?;
-        self.progress.write(piece.get(..count).unwrap_or(piece));
+        let written = piece.get(..count).unwrap_or(piece);
+        self.progress.write(written);
+        self.damage.wrote(written);
         Ok(count)
     }
 

@@ -1,10 +1,10 @@
 // How much stream time the bytes of a run are, by its configuration.
-use crate::config_place::text_of;
+use crate::config_place::config_again;
 use plp_config::Config;
 use record_feed::RecordCount;
 use site_top::Request;
 use std::fmt::{self, Display, Formatter, Write};
-use std::fs::{self, Files};
+use std::fs::Files;
 
 // What tells the stream time.
 #[derive(Drop)]
@@ -95,11 +95,7 @@ fn config_of(request: Request<'_>) -> Option<&str> {
 impl StreamTime {
     /// That of a command, if its configuration can be read twice: a pipe gives its bytes once.
     pub fn of(rt: &(impl Files + AllocGlobal), request: Request<'_>) -> Option<StreamTime> {
-        let name = config_of(request)?;
-        if !fs::metadata(rt, name).ok()?.is_file() {
-            return None;
-        }
-        let config = config_text::read(rt.alloc(), &text_of(rt, name).ok()?).ok()?;
+        let config = config_again(rt, config_of(request)?)?;
         let told = told_by(request, &config)?;
         Some(StreamTime { told })
     }
