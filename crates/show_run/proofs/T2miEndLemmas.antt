@@ -9,7 +9,7 @@ use Rattle.std.proofs.Math.Seq.{take-length, take-append_seam}
 use Rattle.desk_io.specs.Reading.{longest_file}
 use Rattle.desk_io.specs.declared.input.TheConstants.{BUFFER}
 use Rattle.ts_packet.specs.declared.sizes.TheConstants.{SIZE}
-use Rattle.ts_packet.specs.Told.{fields_in}
+use Rattle.ts_packet.specs.FieldsIn.{fields_in}
 use Rattle.t2mi_stream.specs.Events as stream
 use Rattle.t2mi_stream.specs.FirstPid.{pid_of, PacketsBehind, NoPackets, t2mi_packets_in}
 use Rattle.t2mi_stream.specs.Skipping.{further}

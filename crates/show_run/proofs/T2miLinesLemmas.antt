@@ -4,7 +4,7 @@ use Rattle.std.proofs.Common.{ap, ap₂, sym, subst, ◌∙◌, arith, append_as
 use Rattle.std.proofs.lemmas.List.{take_all, take-append-drop, take-append-le, length-map, map-append, drop-drop}
 use Rattle.std.proofs.Math.ListN.{drop_of_length-le}
 use Rattle.ts_packet.specs.declared.sizes.TheConstants.{SIZE}
-use Rattle.ts_packet.specs.Told.{fields_in}
+use Rattle.ts_packet.specs.FieldsIn.{fields_in}
 use Rattle.t2mi_stream.specs.Events.UnpiperEvent.{Fed as Took}
 use Rattle.t2mi_stream.specs.Accepted.{AcceptedPacket}
 use Rattle.t2mi_stream.specs.Events as stream

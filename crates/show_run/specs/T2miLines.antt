@@ -3,7 +3,7 @@ use Rattle.std.specs.Prelude.{◌≡◌, ◌⊎◌, ℕ, ◌+◌, ◌-◌, ◌*�
 use Rattle.std.specs.Prelude.{length, map, take, drop, Some}
 use Rattle.desk_io.specs.declared.input.TheConstants.{BUFFER}
 use Rattle.ts_packet.specs.declared.sizes.TheConstants.{SIZE}
-use Rattle.ts_packet.specs.Told.{fields_in}
+use Rattle.ts_packet.specs.FieldsIn.{fields_in}
 use Rattle.t2mi_stream.specs.Accepted.{AcceptedPacket}
 use Rattle.t2mi_stream.specs.Events as stream
 use Rattle.t2mi_stream.specs.FirstPid.{pid_of, TellsNone, t2mi_packets_in}

@@ -92,7 +92,7 @@ impl T2miLines {
     ghost use Rattle.file_run.specs.Events.{Event, Fed, Gave};
     ghost use Rattle.file_run.specs.declared.machine.TheConstants.{PIECE};
     ghost use Rattle.show_run.specs.declared.t2mi_lines.Search.TheVariants.{Seeks, Unpipes};
-    ghost use Rattle.ts_packet.specs.Told.{fields_in};
+    ghost use Rattle.ts_packet.specs.FieldsIn.{fields_in};
     ghost use Rattle.t2mi_stream.specs.FirstPid.{pid_of};
     ghost use Rattle.file_run.specs.Events.{fed, gave};
     ghost use Rattle.file_run.specs.Steps.{Needs};

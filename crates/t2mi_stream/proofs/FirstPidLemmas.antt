@@ -6,7 +6,7 @@ use Rattle.std.specs.List.{range_with_len}
 use Rattle.std.proofs.lemmas.Bool.{cases_lt, both_ways, eqb-true}
 use Rattle.std.proofs.lemmas.List.{take_all}
 use Rattle.ts_packet.specs.TransportPacket.{Fields}
-use Rattle.ts_packet.specs.Told.{fields_in}
+use Rattle.ts_packet.specs.FieldsIn.{fields_in}
 use Rattle.t2mi_stream.specs.Skipping.{CarriesNothing, SkipLaw}
 use Rattle.t2mi_stream.specs.Units.{points_inside, PipedUnit, piped_unit_of, carried, unit_at}
 use Rattle.t2mi_stream.proofs.SkippingLemmas.{unit_before, unit_behind}

@@ -6,7 +6,7 @@ use Rattle.std.specs.Prelude.{option_to_list, option_map, flat_map}
 use Rattle.std.proofs.lemmas.List.{drop-drop, drop_at, take_all, drop_all}
 use Rattle.std.proofs.lemmas.Bool.{cond-true, cond-false, cond_both, cases_lt, both_ways}
 use Rattle.std.proofs.lemmas.Option.{none-some, same_Some}
-use Rattle.ts_packet.specs.Told.{fields_in}
+use Rattle.ts_packet.specs.FieldsIn.{fields_in}
 use Rattle.t2mi_stream.specs.Accepted.{Byte, packet_of}
 use Rattle.t2mi_stream.specs.Units.{PipedUnit, piped_unit_of, unit_at, Cut, goes_on, with_piped_unit, cut_from, runs}
 use Rattle.t2mi_stream.specs.Units.{bytes_from}

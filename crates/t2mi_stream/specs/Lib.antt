@@ -23,5 +23,5 @@ pub mod CandidateStands
 -- of the crates below, for those who read this one
 pub use Rattle.t2mi_packet.specs.Spell
 pub use Rattle.t2mi_packet.specs.T2miPacket
-pub use Rattle.ts_packet.specs.Told
+pub use Rattle.ts_packet.specs.FieldsIn
 pub use Rattle.ts_packet.specs.Written

@@ -1,6 +1,6 @@
 // The PID that a unit tells.
 ghost use Rattle.std.specs.Prelude.{◌≡◌};
-ghost use Rattle.ts_packet.specs.Told.{fields_in};
+ghost use Rattle.ts_packet.specs.FieldsIn.{fields_in};
 ghost use Rattle.t2mi_stream.specs.FirstPid.{pid_of, TellsNoneOn, PacketsBehind, NoPackets};
 
 use crate::skipping::skip_law;

@@ -14,7 +14,7 @@ use Rattle.ts_packet.specs.declared.fault.TsFault.TheVariants.{NoSync, BadAdapta
 use Rattle.ts_packet.specs.TransportPacket.{Fields, header_bits, control_of, adaptation_bytes, packet_bytes, Spells, control_at}
 use Rattle.ts_packet.specs.TransportPacket.{length_at, IsBadAdaptation, Refuses}
 use Rattle.ts_packet.specs.Reading.{IsRead}
-use Rattle.ts_packet.specs.Told.{fits_adaptation, is_packet, fields_in}
+use Rattle.ts_packet.specs.FieldsIn.{fits_adaptation, is_packet, fields_in}
 use Rattle.ts_packet.specs.Laws.{FieldsTold, PayloadLast}
 use Rattle.ts_packet.proofs.LawLemmas.{read_back, spelled_or_refused}
 use Rattle.ts_packet.proofs.WritingLemmas.{length-header_bits}

@@ -4,7 +4,7 @@ use Rattle.std.specs.Prelude.{Some, None}
 use Rattle.ts_packet.specs.declared.sizes.TheConstants.{PAYLOAD, SIZE}
 use Rattle.ts_packet.specs.declared.fault.TsFault.{TsFault}
 use Rattle.ts_packet.specs.TransportPacket.{Fields, Spells, Refuses}
-use Rattle.ts_packet.specs.Told.{fields_in}
+use Rattle.ts_packet.specs.FieldsIn.{fields_in}
 use Rattle.ts_packet.specs.Null.{is_null, null_packet}
 use Rattle.ts_packet.specs.Written.{area_of, written_fields, written_bytes}
 

@@ -1,7 +1,7 @@
 pub mod TransportPacket
 pub mod Null
 pub mod Reading
-pub mod Told
+pub mod FieldsIn
 pub mod TsFile
 pub mod Written
 pub mod Laws

@@ -1,4 +1,4 @@
--- What the reader takes from its bytes, place by place. `fields_in` (Told) rests on `fields_of` and `place_for`; no public clause
+-- What the reader takes from its bytes, place by place. `fields_in` (FieldsIn) rests on `fields_of` and `place_for`; no public clause
 -- cites `IsRead`.
 use Rattle.std.specs.Prelude.{◌≡◌, ℕ, ◌+◌, ◌==◌, List, Bool, drop, if◌then◌else◌}
 use Rattle.terms.specs.Bits.{bits_of, part, number_at}
