@@ -1,9 +1,9 @@
 // The outside of a command.
-ghost use Rattle.std.specs.Prelude.{◌<◌, ◌≤◌, length, take, IfOk, OnOk, OnErr};
+ghost use Rattle.std.specs.Prelude.{◌≡◌, ◌<◌, ◌≤◌, length, take, IfOk, OnOk, OnErr};
 ghost use Rattle.ports.specs.Counts.{MayFailReading, MayFailWriting, MayFailAtLast};
 ghost use Rattle.ports.specs.Desk.{State, Keeps, Opens, Creates, FailsToCreate, Reads, Writes, Says, SaysLast};
 
-use crate::DeskFault;
+use crate::{DeskFault, Note};
 
 /// The outside of a command: named files, and standard output.
 ///
@@ -55,4 +55,8 @@ pub trait Desk {
     fn say_last(&mut self, text: &[u8])
         ensures said { SaysLast (state self.old) (state self.new) text.now }
         ensures counts { MayFailAtLast (state self.old).counts (state self.new).counts };
+
+    /// Takes note, for people, of what a run met. It is no output of the run.
+    fn note(&mut self, note: Note)
+        ensures { state self.new ≡ state self.old };
 }

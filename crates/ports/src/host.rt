@@ -4,7 +4,7 @@ ghost use Rattle.ports.specs.Counts.{with_fault};
 
 use crate::fault::fault;
 use crate::host_fault::{HostFault, Reason};
-use crate::{Counts, Desk, DeskFault, FaultKind};
+use crate::{Counts, Desk, DeskFault, FaultKind, Note};
 use std::alloc::Global;
 use std::fs::{Metadata, OpenFile};
 use std::io::{ErrorKind, Read, Write};
@@ -111,7 +111,7 @@ fn say<R: Print>(
     match rt.write_all(text) {
         Ok(()) => Ok(()),
         Err(error) => {
-            let why = Reason(error.kind());
+            let why = Reason::from(error);
             Err(fail(counts, kind, first, HostFault::Said { why }))
         }
     }
@@ -155,11 +155,11 @@ impl<F: Read> Handle<F> {
     {
         let count = match read_again(&mut self.file, buffer) {
             Ok(count) => count,
-            Err(error) => return Err(Reason(error.kind())),
+            Err(error) => return Err(Reason::from(error)),
         };
         match self.place.checked_add(count as u64) {
             Some(place) => self.place = place,
-            None => return Err(Reason(ErrorKind::FileTooLarge)),
+            None => return Err(Reason::from(ErrorKind::FileTooLarge)),
         }
         Ok(count)
     }
@@ -219,11 +219,11 @@ impl<R: Files + Print + Drop> HostDesk<R> {
         ensures full { 2 ^ 32 ≤ length self.old.opened → IsErr result }
     {
         let Ok(number) = u32::try_from(self.handles.len()) else {
-            return Err(Reason(ErrorKind::OutOfMemory));
+            return Err(Reason::from(ErrorKind::OutOfMemory));
         };
         let file = match fs::open(&self.rt, name) {
             Ok(file) => file,
-            Err(error) => return Err(Reason(error.kind())),
+            Err(error) => return Err(Reason::from(error)),
         };
         let handle = Handle {
             node: node_of(file.metadata()),
@@ -233,7 +233,7 @@ impl<R: Files + Print + Drop> HostDesk<R> {
         };
         match self.handles.push(handle) {
             Ok(()) => Ok(number),
-            Err(_) => Err(Reason(ErrorKind::OutOfMemory)),
+            Err(_) => Err(Reason::from(ErrorKind::OutOfMemory)),
         }
     }
 
@@ -265,11 +265,11 @@ impl<R: Files + Print + Drop> HostDesk<R> {
         ensures full { 2 ^ 32 ≤ self.old.created → IsErr result }
     {
         let Ok(number) = u32::try_from(self.outs.len()) else {
-            return Err(Reason(ErrorKind::OutOfMemory));
+            return Err(Reason::from(ErrorKind::OutOfMemory));
         };
         let file = match fs::create(&self.rt, name) {
             Ok(file) => file,
-            Err(error) => return Err(Reason(error.kind())),
+            Err(error) => return Err(Reason::from(error)),
         };
         let out = Handle {
             node: None,
@@ -279,7 +279,7 @@ impl<R: Files + Print + Drop> HostDesk<R> {
         };
         match self.outs.push(out) {
             Ok(()) => Ok(number),
-            Err(_) => Err(Reason(ErrorKind::OutOfMemory)),
+            Err(_) => Err(Reason::from(ErrorKind::OutOfMemory)),
         }
     }
 }
@@ -350,8 +350,8 @@ impl<R: Files + Print + Drop> Desk for HostDesk<R> {
     {
         let why = match write_again(&mut self.outs[out as usize].file, piece) {
             Ok(count) if count > 0 => return Ok(count),
-            Ok(_) => Reason(ErrorKind::WriteZero),
-            Err(error) => Reason(error.kind()),
+            Ok(_) => Reason::from(ErrorKind::WriteZero),
+            Err(error) => Reason::from(error),
         };
         let name = self.name_of(&self.outs[out as usize]);
         let what = HostFault::Write { name, why };
@@ -384,6 +384,11 @@ impl<R: Files + Print + Drop> Desk for HostDesk<R> {
             &mut self.first,
         );
     }
+
+    /// Nothing is done.
+    fn note(&mut self, _note: Note)
+        ensures { self.new ≡ self.old }
+    {}
 }
 
 #[cfg(test)]

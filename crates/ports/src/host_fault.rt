@@ -1,17 +1,36 @@
 // What failed on real files, and why.
 use std::fmt::{self, Display, Formatter, Write};
-use std::io::ErrorKind;
+use std::io::{self, ErrorKind};
 
-/// Why a call on a file or on standard output failed: the system's reason, in words.
+/// Why a call on a file or on standard output failed: the system's reason, in words, and its number if it has one.
 #[derive(Clone, Copy, PartialEq, Eq, Debug)]
-pub struct Reason(pub ErrorKind);
+pub struct Reason {
+    kind: ErrorKind,
+    number: Option<i32>,
+}
+
+impl From<ErrorKind> for Reason {
+    fn from(kind: ErrorKind) -> Reason {
+        Reason { kind, number: None }
+    }
+}
+
+impl From<io::Error> for Reason {
+    fn from(error: io::Error) -> Reason {
+        Reason {
+            kind: error.kind(),
+            number: error.raw_os_error(),
+        }
+    }
+}
 
 impl Display for Reason {
     fn fmt<W: Write>(&self, f: &mut Formatter<W>) -> fmt::Result {
-        match self.0 {
-            ErrorKind::NotFound => f.write_str("no such file or directory"),
-            ErrorKind::StorageFull => f.write_str("no space left on device"),
-            kind => Display::fmt(&kind, f),
+        match (self.kind, self.number) {
+            (ErrorKind::NotFound, _) => f.write_str("no such file or directory"),
+            (ErrorKind::StorageFull, _) => f.write_str("no space left on device"),
+            (kind, Some(number)) => write!(f, "{kind} (os error {number})"),
+            (kind, None) => Display::fmt(&kind, f),
         }
     }
 }

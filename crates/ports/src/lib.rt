@@ -9,6 +9,7 @@ mod host;
 mod host_fault;
 mod laws;
 mod memory;
+mod note;
 mod script;
 mod word;
 
@@ -19,5 +20,6 @@ pub use host::HostDesk;
 pub use host_fault::{HostFault, Reason};
 pub use laws::writes_law;
 pub use memory::MemoryDesk;
+pub use note::Note;
 pub use script::CallKind;
 pub use word::Word;

@@ -8,7 +8,7 @@ ghost use Rattle.ports.specs.Stored.{files_of};
 
 use crate::fault::fault;
 use crate::script::Script;
-use crate::{CallKind, Counts, Desk, DeskFault, FaultKind};
+use crate::{CallKind, Counts, Desk, DeskFault, FaultKind, Note};
 use bit_slice::OutOfMemory;
 use std::alloc::Global;
 use std::collections::BTreeMap;
@@ -409,6 +409,11 @@ impl Desk for MemoryDesk {
             fault(&mut self.counts, FaultKind::LastLine);
         }
     }
+
+    /// Nothing is done.
+    fn note(&mut self, _note: Note)
+        ensures { self.new ≡ self.old }
+    {}
 }
 
 #[cfg(test)]

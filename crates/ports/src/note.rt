@@ -1,0 +1,11 @@
+// What a run tells people besides.
+
+/// How many of something a run met, and the numbers of the first and the last of them.
+#[derive(Clone, Copy, Debug, PartialEq, Eq)]
+pub struct Note {
+    /// What was met, in words.
+    pub what: &'static str,
+    pub count: u64,
+    pub first: u64,
+    pub last: u64,
+}
