@@ -16,7 +16,7 @@ use Rattle.frame_writer.specs.declared.flow.Outlet.{Outlet}
 use Rattle.feed_merge.specs.RecordLeft.{left_at}
 use Rattle.formed_frames.specs.Remade.{view_bodies}
 use Rattle.feed_merge.specs.declared.record.RecordPlace.{RecordPlace}
-use Rattle.feed_merge.specs.declared.record.Step.{Step}
+use Rattle.frame_writer.specs.declared.step.FrameStep.{FrameStep}
 use Rattle.formed_frames.specs.Remade.{NumberedView, frame_pairs, remade_bodies}
 use Rattle.feed_merge.specs.StandsFor.{left_in}
 
@@ -27,7 +27,7 @@ last_is o (y ∷ xs) x = last_is (Some y) xs x
 
 pub over_left : (c : Config) (p : RecordPlace) (view : RecordView) → IsOver p → left_of c p view ≡ []
 over_left c p (Frame moment pre post blocks cells) e =
-    ap (λ (step : Step). left_at c p.number step p.block p.before (Frame moment pre post blocks cells)) e
+    ap (λ (step : FrameStep). left_at c p.number step p.block p.before (Frame moment pre post blocks cells)) e
 over_left c p (Muted moment) e = refl
 
 pub over_in : (c : Config) (p : RecordPlace) (o : Option NumberedView) → IsOver p → left_in c p o ≡ []

@@ -5,7 +5,7 @@ use Rattle.t2mi_packet.specs.declared.packet.Body.{Body}
 use Rattle.site_frame.specs.declared.reading.RecordView.{RecordView}
 use Rattle.feed_merge.specs.RecordLeft.{left_at}
 use Rattle.feed_merge.specs.declared.record.RecordPlace.{RecordPlace}
-use Rattle.feed_merge.specs.declared.record.Step.TheVariants.{Over}
+use Rattle.frame_writer.specs.declared.step.FrameStep.TheVariants.{Over}
 
 -- Nothing is left behind it, whatever the record is.
 abbrev pub IsOver : RecordPlace → Type 0

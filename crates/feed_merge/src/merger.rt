@@ -1,6 +1,7 @@
 // Frames of records in, units out.
 ghost use Rattle.std.specs.Prelude.{◌≡◌, ◌<◌, ◌^◌, true};
 ghost use Rattle.plp_config.specs.declared.moment.TheConstants.{MOST_FRAMES};
+ghost use Rattle.frame_writer.specs.Flowing.{packet_bound};
 ghost use Rattle.feed_merge.specs.PlaceOver.{IsOver, number_of};
 
 use crate::record::RecordPlace;
@@ -67,7 +68,7 @@ impl<'p> Merger<'p> {
         ensures finished { has_finished self.new ≡ false }
         // It has no more to give than its packets have bytes, and what was left.
         ensures more { bytes_left self.new (Some (record { number = number; view = view.now }))
-            ≤ bytes_left self.old None + 8203 * length (view_bodies (config_of self.old) number view.now) }
+            ≤ bytes_left self.old None + packet_bound * length (view_bodies (config_of self.old) number view.now) }
     {
         send_law();
         let mut place = RecordPlace::first(self.plan, number);

@@ -14,32 +14,13 @@ ghost use Rattle.formed_frames.specs.Remade.{signal_of, intl_frame_start};
 
 use bb_frame::scramble;
 use bit_slice::{BitSlice, FixedBits};
-use frame_writer::{FrameSource, write_block_bytes, write_l1_current, write_timestamp};
+use frame_writer::{
+    FrameSource, FrameStep, first_step, write_block_bytes, write_l1_current, write_timestamp,
+};
 use l1_signal::{PRE_BITS, conf_len, dyn_len};
 use plp_config::{MOST_BLOCK_BYTES, MOST_FRAMES, Plan};
 use site_frame::{Blocks, RecordView};
 use t2mi_packet::LARGEST;
-
-/// Which packet of a frame comes next: the timestamp, the L1-current, a block if one is left, or none.
-#[derive(Clone, Copy)]
-pub enum Step {
-    Stamp,
-    Signal,
-    Blocks,
-    Over,
-}
-
-// A superframe begins with a timestamp.
-#[tactic(auto, unfolding(crate::specs::RecordLeft::first_step))]
-fn first_step(plan: &Plan, frame: u64) -> Step
-    ensures { result ≡ (if frame % plan.now.frames == 0 then Step.Stamp else Step.Signal) }
-{
-    if plan.frame_idx(frame) == 0 {
-        Step::Stamp
-    } else {
-        Step::Signal
-    }
-}
 
 // Whether a block is the first one of its PLP in the frame, behind one of a PLP or behind none.
 fn intl_frame_start(before: Option<u8>, plp_id: u8) -> bool
@@ -107,7 +88,7 @@ fn write_sent_block(
 #[derive(Clone, Copy)]
 pub struct RecordPlace {
     number: u64,
-    step: Step,
+    step: FrameStep,
     // The block that is next, and the PLP of the one before it.
     block: u32,
     before: Option<u8>,
@@ -130,7 +111,7 @@ impl RecordPlace {
     {
         RecordPlace {
             number: 0,
-            step: Step::Over,
+            step: FrameStep::Over,
             block: 0,
             before: None,
         }
@@ -158,20 +139,20 @@ impl RecordPlace {
         packet_count: u8,
         out: &mut FixedBits<LARGEST>,
     ) -> bool
-        requires step { self.old.step ≡ Step.Blocks }
+        requires step { self.old.step ≡ FrameStep.Blocks }
         requires short { AllByRecursion (λ b. length b.bytes ≤ MOST_BLOCK_BYTES) blocks.now }
         ensures some { result ≡ true → Builds plan.now self.old.number packet_count
             (record_bodies (self.old.number % plan.now.frames) self.old.before (drop self.old.block blocks.now))
             (record_bodies (self.old.number % plan.now.frames) self.new.before (drop self.new.block blocks.now)) out.new }
         ensures none { result ≡ false → drop self.old.block blocks.now ≡ [] }
-        ensures step { result ≡ true → self.new.step ≡ Step.Blocks }
-        ensures over { result ≡ false → self.new.step ≡ Step.Over }
+        ensures step { result ≡ true → self.new.step ≡ FrameStep.Blocks }
+        ensures over { result ≡ false → self.new.step ≡ FrameStep.Over }
         ensures stays { result ≡ false → out.new ≡ out.old }
         ensures number { self.new.number ≡ self.old.number }
     {
         let _count = blocks.len();
         let Some((plp_id, sent)) = blocks.get(self.block) else {
-            self.step = Step::Over;
+            self.step = FrameStep::Over;
             return false;
         };
         let first = intl_frame_start(self.before, plp_id);
@@ -208,7 +189,7 @@ impl<'a> FrameSource<RecordView<'a>> for RecordPlace {
     ) -> bool {
         match frame {
             RecordView::Muted { .. } => {
-                self.step = Step::Over;
+                self.step = FrameStep::Over;
                 false
             }
             RecordView::Frame {
@@ -217,18 +198,18 @@ impl<'a> FrameSource<RecordView<'a>> for RecordPlace {
                 blocks,
                 ..
             } => match self.step {
-                Step::Stamp => {
+                FrameStep::Stamp => {
                     write_timestamp(out, plan, packet_count, self.number);
-                    self.step = Step::Signal;
+                    self.step = FrameStep::Signal;
                     true
                 }
-                Step::Signal => {
+                FrameStep::Signal => {
                     write_signal(out, plan, packet_count, self.number, pre, post);
-                    self.step = Step::Blocks;
+                    self.step = FrameStep::Blocks;
                     true
                 }
-                Step::Blocks => self.build_block(blocks, plan, packet_count, out),
-                Step::Over => false,
+                FrameStep::Blocks => self.build_block(blocks, plan, packet_count, out),
+                FrameStep::Over => false,
             },
         }
     }

@@ -20,10 +20,13 @@ Flows o c n left all given = Carries (PiperStandsFor o.piper) (is_finished o.pip
 abbrev pub at_hand : Outlet → ℕ
 at_hand o = waiting_of o.piper + length (rest_of o)
 
--- a bound for the bytes that are not yet given: those at hand, and for each body that is left one more than the longest packet
--- has
+-- a bound for the bytes of a packet: one more than the longest has
+abbrev pub packet_bound : ℕ
+packet_bound = 8203
+
+-- a bound for the bytes that are not yet given: those at hand, and those of the packet of each body that is left
 abbrev pub bytes_bound : Outlet → List Body → ℕ
-bytes_bound o left = at_hand o + 8203 * length left
+bytes_bound o left = at_hand o + packet_bound * length left
 
 -- A unit is complete, or no more frames come and a byte is left.
 abbrev pub gives_unit : Outlet → Bool

@@ -1,4 +1,5 @@
 pub mod FramePackets
+pub mod FirstPacket
 pub mod Builds
 pub mod Whole
 pub mod Carried

@@ -22,11 +22,12 @@ use Rattle.plp_config.specs.declared.plp.Plp.{Plp}
 use Rattle.t2mi_packet.specs.declared.packet.Body.{Body}
 use Rattle.gateway_core.specs.BlocksLeft.{blocks_left}
 use Rattle.gateway_core.specs.Lists.{bits_in, own_in}
-use Rattle.gateway_core.specs.Left.{from_step}
+use Rattle.frame_writer.specs.FirstPacket.{from_step}
+use Rattle.frame_writer.specs.Flowing.{packet_bound}
 use Rattle.gateway_core.specs.Packets.{block_bodies, plp_bodies}
 use Rattle.gateway_core.proofs.LeftLemmas.{bodies_more}
-use Rattle.gateway_core.specs.declared.frame.Step.{Step}
-use Rattle.gateway_core.specs.declared.frame.Step.TheVariants.{Stamp, Signal, Blocks, Over}
+use Rattle.frame_writer.specs.declared.step.FrameStep.{FrameStep}
+use Rattle.frame_writer.specs.declared.step.FrameStep.TheVariants.{Stamp, Signal, Blocks, Over}
 
 bodies_count : (frame id : ℕ) (first : Bool) (blocks : List (List Bool)) → length (block_bodies frame id first blocks)
     ≡ length blocks
@@ -65,7 +66,7 @@ bodies_within field c n blocks (p ∷ plps) from at each =
       length-append (bodies_of c n blocks from) (flat_map (bodies_of c n blocks) (range_with_len (from + 1) (length plps))),
     )
 
-few_steps : (c : Config) (n : ℕ) (step : Step) (signal : Body) (rest : List Body) → length (from_step c n step signal rest)
+few_steps : (c : Config) (n : ℕ) (step : FrameStep) (signal : Body) (rest : List Body) → length (from_step c n step signal rest)
     ≤ length rest + 2
 few_steps c n Stamp signal rest = omega arith
 few_steps c n Signal signal rest = omega arith
@@ -73,9 +74,9 @@ few_steps c n Blocks signal rest = omega arith
 few_steps c n Over signal rest = omega arith
 
 -- So the packets of a frame have fewer than 2^32 bytes.
-pub few_left : FieldRange → (c : Config) (n : ℕ) (step : Step) (signal : Body) (blocks : ℕ → List (List Bool)) → IsPlan c
+pub few_left : FieldRange → (c : Config) (n : ℕ) (step : FrameStep) (signal : Body) (blocks : ℕ → List (List Bool)) → IsPlan c
     → ((j : ℕ) → j < length c.plps → length (blocks j) ≤ (plp_at c.plps j).blocks)
-    → 8203 * length (from_step c n step signal (blocks_left c n blocks 0 true)) ≤ 2 ^ 32
+    → packet_bound * length (from_step c n step signal (blocks_left c n blocks 0 true)) ≤ 2 ^ 32
 unfolding longest_rest
 few_left field c n step signal blocks plan each =
     let some : (1 ≤ length c.plps) × (length c.plps ≤ 255) = plan.rules PlpCount in

@@ -26,7 +26,8 @@ use Rattle.gateway_core.specs.Events.{given, finishes, finished}
 use Rattle.frame_writer.specs.Flowing.{Flows}
 use Rattle.gateway_core.specs.InputsStandFor.{HasFrame, AllFed, AllContinue, AllEnded, HaveEnded, AreSupplied, CountsStay}
 use Rattle.gateway_core.specs.IsFed.{IsFed, wanted}
-use Rattle.gateway_core.specs.Left.{from_step, all_of, early_at}
+use Rattle.gateway_core.specs.Left.{all_of, early_at}
+use Rattle.frame_writer.specs.FirstPacket.{from_step}
 use Rattle.t2mi_stream.specs.Complete.{complete_units}
 use Rattle.t2mi_stream.specs.Pipe.{pipe}
 use Rattle.mode_adapt.specs.Blocks.{own_blocks, told_counts}
@@ -39,8 +40,8 @@ use Rattle.gateway_core.specs.InputSoFar.{Told, told, with_packet, at_end, Conti
 use Rattle.frame_writer.specs.declared.flow.Flow.{Flow}
 use Rattle.gateway_core.specs.declared.input.Input.{Input}
 use Rattle.gateway_core.specs.declared.signalling.Signalling.{Signalling}
-use Rattle.gateway_core.specs.declared.frame.Step.{Step}
-use Rattle.gateway_core.specs.declared.frame.Step.TheVariants.{Stamp, Signal, Over}
+use Rattle.frame_writer.specs.declared.step.FrameStep.{FrameStep}
+use Rattle.frame_writer.specs.declared.step.FrameStep.TheVariants.{Stamp, Signal, Over}
 use Rattle.frame_writer.proofs.CarriedLemmas.{carries_more}
 use Rattle.gateway_core.proofs.EpochLemmas.{begins_at_once}
 use Rattle.gateway_core.proofs.FedLemmas.{wants}
@@ -160,14 +161,14 @@ holds_offer old new before after s frames flow n left c events plp packet lt som
     (λ all more. back_offered c events plp packet all (open_input old before plp c events lt some h.fed) more) h
 
 -- Once nothing is left of a frame, the lists of its pool hold what the chains put already.
-pub early_over : (inputs : List Input) (p : Config) (n : ℕ) (step : Step) (plp : ℕ) (pool : State) (c : Config)
+pub early_over : (inputs : List Input) (p : Config) (n : ℕ) (step : FrameStep) (plp : ℕ) (pool : State) (c : Config)
     (events : List Event) → step ≡ Over → AllFed inputs (early_at p n step plp pool) c events
     → AllFed inputs (bits_in pool) c events
-early_over inputs p n step plp pool c events e h = subst (λ (s : Step). AllFed inputs (early_at p n s plp pool) c events) e h
+early_over inputs p n step plp pool c events e h = subst (λ (s : FrameStep). AllFed inputs (early_at p n s plp pool) c events) e h
 
 -- They may get more: nothing is left of the frame yet.
 pub holds_over : (old new : List Input) (before : ℕ → List (List Bool)) (s : Signalling) (frames : ℕ) (flow : Flow) (p : Config)
-    (n : ℕ) (step : Step) (place : ℕ) (signal : Body) (rest blocks : List Body) (pool : State) (c : Config) (events : List Event)
+    (n : ℕ) (step : FrameStep) (place : ℕ) (signal : Body) (rest blocks : List Body) (pool : State) (c : Config) (events : List Event)
     (plp : ℕ) (packet : List ℕ)
     → step ≡ Over → plp < length old → 0 < slice_index (map wanted old) plp
     → AllFed new (bits_in pool) c (events ++ Offered plp packet ∷ [])
@@ -176,11 +177,11 @@ pub holds_over : (old new : List Input) (before : ℕ → List (List Bool)) (s :
     (events ++ Offered plp packet ∷ [])
 holds_over old new before s frames flow p n step place signal rest blocks pool c events plp packet e lt some fed h =
     let stays : from_step p n step signal rest ≡ from_step p n step signal blocks =
-    ap (λ (s : Step). from_step p n s signal rest) e ∙ sym (ap (λ (s : Step). from_step p n s signal blocks) e) in
+    ap (λ (s : FrameStep). from_step p n s signal rest) e ∙ sym (ap (λ (s : FrameStep). from_step p n s signal blocks) e) in
     subst (λ (l : List Body). Holds new (early_at p n step place pool) s frames flow n l c (events ++ Offered plp packet ∷ []))
     stays
     (holds_offer old new before (early_at p n step place pool) s frames flow n (from_step p n step signal rest) c events plp
-    packet lt some (subst (λ (s : Step). AllFed new (early_at p n s place pool) c (events ++ Offered plp packet ∷ [])) (sym e)
+    packet lt some (subst (λ (s : FrameStep). AllFed new (early_at p n s place pool) c (events ++ Offered plp packet ∷ [])) (sym e)
     fed) h)
 
 pub has_frame : (p c : Config) (pool : State) → p ≡ c → pool.opened ≡ frame_chunks p → length pool.lists ≡ length p.plps
@@ -467,7 +468,7 @@ fit_zeros c counts e = record {
 
 -- ---- what the inputs stand for, whatever it is, from call to call
 
-pub supplied_over : (c : Config) (frame n : ℕ) (inputs same : List Input) (step : Step) (place : ℕ) (pool : State) → same ≡ inputs
+pub supplied_over : (c : Config) (frame n : ℕ) (inputs same : List Input) (step : FrameStep) (place : ℕ) (pool : State) → same ≡ inputs
     → step ≡ Over → AreSupplied c frame inputs (early_at c n step place pool) → AreSupplied c frame same (bits_in pool)
 supplied_over c frame n inputs same step place pool e over s = record {
   events = s.events;
@@ -476,14 +477,14 @@ supplied_over c frame n inputs same step place pool e over s = record {
       (early_over inputs c n step place pool c s.events over s.fed);
 }
 
-pub supplied_offered : (c : Config) (frame n plp : ℕ) (packet : List ℕ) (old new : List Input) (step : Step) (place : ℕ)
+pub supplied_offered : (c : Config) (frame n plp : ℕ) (packet : List ℕ) (old new : List Input) (step : FrameStep) (place : ℕ)
     (was is : State) → step ≡ Over
     → ((events : List Event) → AllFed old (bits_in was) c events → AllFed new (bits_in is) c (events ++ Offered plp packet ∷ []))
     → AreSupplied c frame old (early_at c n step place was) → AreSupplied c frame new (early_at c n step place is)
 supplied_offered c frame n plp packet old new step place was is over fed s = record {
   events = s.events ++ Offered plp packet ∷ [];
   frame_is = s.frame_is ∙ sym (ap (λ (t : Told). t.frame) (told_offered plp s.events packet));
-  fed = subst (λ (p : Step). AllFed new (early_at c n p place is) c (s.events ++ Offered plp packet ∷ [])) (sym over)
+  fed = subst (λ (p : FrameStep). AllFed new (early_at c n p place is) c (s.events ++ Offered plp packet ∷ [])) (sym over)
       (fed s.events (early_over old c n step place was c s.events over s.fed));
 }
 

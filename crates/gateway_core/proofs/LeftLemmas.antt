@@ -20,12 +20,13 @@ use Rattle.t2mi_packet.specs.T2miPacket.{written_bits}
 use Rattle.frame_writer.specs.FramePackets.{packet_with}
 use Rattle.gateway_core.specs.Packets.{block_bodies, plp_bodies}
 use Rattle.frame_writer.specs.Builds.{Builds}
-use Rattle.gateway_core.specs.Left.{from_step, early_until, early_at}
+use Rattle.gateway_core.specs.Left.{early_until, early_at}
+use Rattle.frame_writer.specs.FirstPacket.{from_step}
 use Rattle.frame_writer.specs.Whole.{IsWhole}
-use Rattle.gateway_core.specs.declared.frame.Step.{Step}
-use Rattle.gateway_core.specs.declared.frame.Step.TheVariants.{Stamp, Signal, Blocks}
+use Rattle.frame_writer.specs.declared.step.FrameStep.{FrameStep}
+use Rattle.frame_writer.specs.declared.step.FrameStep.TheVariants.{Stamp, Signal, Blocks}
 use Rattle.gateway_core.specs.BlocksLeft.{blocks_left}
-use Rattle.gateway_core.specs.FirstPacket.{first_step}
+use Rattle.frame_writer.specs.FirstPacket.{first_step}
 use Rattle.gateway_core.specs.Lists.{bits_in, own_in, later_in, AllShort, IsNext}
 
 -- the PLPs from one on are that one and the others
@@ -163,7 +164,7 @@ block_left c n pool plp first lt on some =
     ∷ (block_bodies (n % c.frames) (plp_at c.plps plp).id false l ++ plp_bodies c n (own_in c n (popped pool plp)) (plp + 1)))
     (sym (own_is c n (popped pool plp) plp on))
 
-pub built_block : (c : Config) (n number : ℕ) (step : Step) (signal : Body) (pool : State) (plp next : ℕ) (first now : Bool)
+pub built_block : (c : Config) (n number : ℕ) (step : FrameStep) (signal : Body) (pool : State) (plp next : ℕ) (first now : Bool)
     (block : List ℕ) (bits : List Bool) → step ≡ Blocks → length pool.lists ≡ length c.plps → IsNext c n pool plp next
     → now ≡ (first || not (next == plp)) → block ≡ slice_index_or (list_at pool next) 0 []
     → bits ≡ written_bits (packet_with c number n (Block (n % c.frames) (plp_at c.plps next).id now (bits_of block)))
@@ -177,16 +178,16 @@ built_block c n number step signal pool plp next first now block bits e plps is 
     ∙ ap (blocks_left c n (own_in c n pool) next) (sym begins) ∙ block_left c n pool next now inside is.own is.some
     ∙ ap (λ (b : List ℕ). Block (n % c.frames) (plp_at c.plps next).id now (bits_of b)
     ∷ blocks_left c n (own_in c n (popped pool next)) next false) (sym front) in
-    subst (λ (s : Step). Builds c n number (from_step c n s signal (blocks_left c n (own_in c n pool) plp first))
+    subst (λ (s : FrameStep). Builds c n number (from_step c n s signal (blocks_left c n (own_in c n pool) plp first))
     (from_step c n s signal (blocks_left c n (own_in c n (popped pool next)) next false)) bits) (sym e)
     (record { body = Block (n % c.frames) (plp_at c.plps next).id now (bits_of block); was = was; built = built; whole = whole })
 
 -- Nothing is left of a frame without blocks.
-pub nothing_left : (c : Config) (n : ℕ) (step : Step) (signal : Body) (pool : State) (plp : ℕ) (first : Bool) → step ≡ Blocks
+pub nothing_left : (c : Config) (n : ℕ) (step : FrameStep) (signal : Body) (pool : State) (plp : ℕ) (first : Bool) → step ≡ Blocks
     → ((j : ℕ) → plp ≤ j → own_in c n pool j ≡ [])
     → from_step c n step signal (blocks_left c n (own_in c n pool) plp first) ≡ []
 nothing_left c n step signal pool plp first e none =
-    ap (λ (s : Step). from_step c n s signal (blocks_left c n (own_in c n pool) plp first)) e
+    ap (λ (s : FrameStep). from_step c n s signal (blocks_left c n (own_in c n pool) plp first)) e
     ∙ none_left c n (own_in c n pool) plp first none
 
 -- ---- of those that begin later
@@ -220,30 +221,30 @@ until_popped c n plp next pool is j =
           ∙ sym (is_from c n plp pool j (let order = is.order in omega arith))
     ]
 
-pub early_popped : (c : Config) (n plp next : ℕ) (step : Step) (pool : State) → step ≡ Blocks → IsNext c n pool plp next → (j : ℕ)
+pub early_popped : (c : Config) (n plp next : ℕ) (step : FrameStep) (pool : State) → step ≡ Blocks → IsNext c n pool plp next → (j : ℕ)
     → early_at c n step next (popped pool next) j ≡ early_at c n step plp pool j
 early_popped c n plp next step pool e is j =
-    ap (λ (s : Step). early_at c n s next (popped pool next) j) e ∙ until_popped c n plp next pool is j
-    ∙ sym (ap (λ (s : Step). early_at c n s plp pool j) e)
+    ap (λ (s : FrameStep). early_at c n s next (popped pool next) j) e ∙ until_popped c n plp next pool is j
+    ∙ sym (ap (λ (s : FrameStep). early_at c n s plp pool j) e)
 
 -- and as it turns out that none has one.
-pub early_end : (c : Config) (n plp : ℕ) (step : Step) (pool : State) → step ≡ Blocks
+pub early_end : (c : Config) (n plp : ℕ) (step : FrameStep) (pool : State) → step ≡ Blocks
     → ((j : ℕ) → plp ≤ j → own_in c n pool j ≡ []) → (j : ℕ) → bits_in pool j ≡ early_at c n step plp pool j
 early_end c n plp step pool e none j =
     elim (cases_lt j plp) [
       | inl below ↦ sym (is_below c n plp pool j below)
       | inr from ↦ sym (is_from c n plp pool j from ∙ later_is c n pool j (none j from))
-    ] ∙ sym (ap (λ (s : Step). early_at c n s plp pool j) e)
+    ] ∙ sym (ap (λ (s : FrameStep). early_at c n s plp pool j) e)
 
 at_begin : (c : Config) (n : ℕ) (pool : State) (b : Bool) (j : ℕ) → early_at c n (cond b Stamp Signal) 0 pool j
     ≡ early_until c n 0 pool j
 at_begin c n pool true j = refl
 at_begin c n pool false j = refl
 
-pub early_begin : (c : Config) (n : ℕ) (step : Step) (pool : State) → step ≡ first_step c n → (j : ℕ)
+pub early_begin : (c : Config) (n : ℕ) (step : FrameStep) (pool : State) → step ≡ first_step c n → (j : ℕ)
     → early_at c n step 0 pool j ≡ later_in c n pool j
 early_begin c n step pool e j =
-    ap (λ (s : Step). early_at c n s 0 pool j) e ∙ at_begin c n pool (n % c.frames == 0) j ∙ is_from c n 0 pool j (omega arith)
+    ap (λ (s : FrameStep). early_at c n s 0 pool j) e ∙ at_begin c n pool (n % c.frames == 0) j ∙ is_from c n 0 pool j (omega arith)
 
 -- The blocks stay short as a list gives its first one.
 pub pop_short : (pool : State) (list : ℕ) → list < length pool.lists → AllShort pool → AllShort (popped pool list)

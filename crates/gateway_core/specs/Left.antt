@@ -1,25 +1,17 @@
 -- What a frame still has to give. No public clause cites this module.
-use Rattle.std.specs.Prelude.{ℕ, nat_lt, Bool, true, List, [], ◌∷◌, length, if◌then◌else◌}
+use Rattle.std.specs.Prelude.{ℕ, nat_lt, Bool, true, List, length, if◌then◌else◌}
 use Rattle.linked_pool.specs.Pool.{State}
 use Rattle.plp_config.specs.declared.config.Config.{Config}
 use Rattle.t2mi_packet.specs.declared.packet.Body.{Body}
-use Rattle.t2mi_packet.specs.declared.packet.Body.TheVariants.{Timestamp}
-use Rattle.frame_writer.specs.FramePackets.{stamp_of, l1_body}
+use Rattle.frame_writer.specs.FramePackets.{l1_body}
 use Rattle.gateway_core.specs.BlocksLeft.{blocks_left}
 use Rattle.gateway_core.specs.Lists.{bits_in, own_in, later_in}
-use Rattle.gateway_core.specs.FirstPacket.{first_step}
+use Rattle.frame_writer.specs.FirstPacket.{first_step, from_step}
 use Rattle.gateway_core.specs.Signalling.{dyn_part}
-use Rattle.gateway_core.specs.declared.frame.Step.{Step}
-use Rattle.gateway_core.specs.declared.frame.Step.TheVariants.{Stamp, Signal, Blocks, Over}
+use Rattle.frame_writer.specs.declared.step.FrameStep.{FrameStep}
+use Rattle.frame_writer.specs.declared.step.FrameStep.TheVariants.{Stamp, Signal, Blocks, Over}
 use Rattle.gateway_core.specs.declared.frame.Frame.{Frame}
 use Rattle.gateway_core.specs.declared.signalling.Signalling.{Signalling}
-
--- what comes from a step on
-abbrev pub from_step : Config → ℕ → Step → Body → List Body → List Body
-from_step c n Stamp signal rest = Timestamp (stamp_of c n) ∷ signal ∷ rest
-from_step c n Signal signal rest = signal ∷ rest
-from_step c n Blocks signal rest = rest
-from_step c n Over signal rest = []
 
 abbrev pub left : Config → Signalling → Frame → List Body
 left c s f = from_step c f.number f.step (l1_body c f.number s.pre s.conf f.dynamic.bits)
@@ -36,7 +28,7 @@ abbrev pub early_until : Config → ℕ → ℕ → State → ℕ → List (List
 early_until c n plp pool j = if nat_lt j plp then bits_in pool j else later_in c n pool j
 
 -- once nothing is left of it, all are.
-abbrev pub early_at : Config → ℕ → Step → ℕ → State → ℕ → List (List Bool)
+abbrev pub early_at : Config → ℕ → FrameStep → ℕ → State → ℕ → List (List Bool)
 early_at c n Stamp plp pool j = early_until c n plp pool j
 early_at c n Signal plp pool j = early_until c n plp pool j
 early_at c n Blocks plp pool j = early_until c n plp pool j

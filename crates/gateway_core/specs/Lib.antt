@@ -11,7 +11,6 @@ pub mod Lists
 pub mod IsFed
 pub mod BlocksLeft
 pub mod Left
-pub mod FirstPacket
 -- of the crates below, for those who read this one
 pub use Rattle.terms.specs.Bits
 pub use Rattle.plp_config.specs.RunLength

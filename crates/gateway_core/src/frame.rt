@@ -3,37 +3,19 @@ ghost use Rattle.std.specs.Prelude.{◌≡◌, ◌≢◌, ◌<◌, ◌≤◌, �
 ghost use Rattle.linked_pool.specs.Fits.{frame_chunks};
 ghost use Rattle.linked_pool.specs.Pool.{list_at};
 ghost use Rattle.plp_config.specs.declared.moment.TheConstants.{MOST_FRAMES};
+ghost use Rattle.frame_writer.specs.Flowing.{packet_bound};
 ghost use Rattle.gateway_core.specs.Lists.{AllShort, IsNext, own_in};
-ghost use Rattle.gateway_core.specs.FirstPacket.{first_step};
-ghost use Rattle.gateway_core.specs.declared.frame.Step.TheVariants.{Over};
+ghost use Rattle.frame_writer.specs.declared.step.FrameStep.TheVariants.{Over};
 
 use crate::signalling::{Dynamic, Signalling};
 use bit_slice::{FixedBits, OutOfMemory};
-use frame_writer::{FrameSource, write_block, write_l1_current, write_timestamp};
+use frame_writer::{
+    FrameSource, FrameStep, first_step, write_block, write_l1_current, write_timestamp,
+};
 use linked_pool::{BlockRef, Pool, frame_chunks};
 use plp_config::{Plan, block_law};
 use std::alloc::Global;
 use t2mi_packet::LARGEST;
-
-// Which packet of a frame comes next: the timestamp, the L1-current, a block if one is left, or none.
-#[derive(Clone, Copy)]
-enum Step {
-    Stamp,
-    Signal,
-    Blocks,
-    Over,
-}
-
-// A superframe begins with a timestamp.
-fn first_step(plan: &Plan, frame: u64) -> Step
-    ensures { result ≡ first_step plan.now frame }
-{
-    if plan.frame_idx(frame) == 0 {
-        Step::Stamp
-    } else {
-        Step::Signal
-    }
-}
 
 // The first list from a given one on that has a block that is sent in a frame.
 fn next_list(plan: &Plan, pool: &Pool, frame: u64, from: u32) -> Option<u32>
@@ -76,7 +58,7 @@ pub struct Frame {
     // A list for each PLP, and how many blocks each PLP has in the interleaving frame that the frame carries.
     pub blocks: Pool,
     pub counts: Vec<u16>,
-    step: Step,
+    step: FrameStep,
     // The PLP from which on the next block is looked for, and whether none of its blocks was built yet.
     plp: u32,
     first: bool,
@@ -113,7 +95,7 @@ impl Frame {
             dynamic: Dynamic::open(alloc, plan)?,
             blocks: Pool::open(alloc, frame_chunks(plan), plps as u32)?,
             counts: vec![in alloc; 0; plps]?,
-            step: Step::Over,
+            step: FrameStep::Over,
             plp: 0,
             first: true,
         })
@@ -129,7 +111,7 @@ impl Frame {
             → length (list_at self.old.blocks plp) ≤ (plp_at plan.now.plps plp).blocks }
         ensures all { (s : Signalling) → left plan.now s self.new
             ≡ all_of plan.now s number self.old.counts.items (own_in plan.now number self.old.blocks) }
-        ensures few { (s : Signalling) → 8203 * length (left plan.now s self.new) ≤ 2 ^ 32 }
+        ensures few { (s : Signalling) → packet_bound * length (left plan.now s self.new) ≤ 2 ^ 32 }
         ensures early { (j : ℕ) → early_of plan.now self.new j ≡ later_in plan.now number self.old.blocks j }
         ensures layout { layout_of self.new ≡ record (layout_of self.old) { number = number } }
     {
@@ -145,7 +127,7 @@ impl Frame {
     // Builds the packet of the next block, if there is one.
     fn build_block(&mut self, plan: &Plan, packet_count: u8, out: &mut FixedBits<LARGEST>) -> bool
         requires plps { length self.old.blocks.lists ≡ length plan.now.plps }
-        requires step { self.old.step ≡ Step.Blocks }
+        requires step { self.old.step ≡ FrameStep.Blocks }
         ensures some { result ≡ true → (s : Signalling)
             → Builds plan.now self.old.number packet_count (left plan.now s self.old) (left plan.now s self.new) out.new }
         ensures none { result ≡ false → (s : Signalling) → left plan.now s self.old ≡ [] }
@@ -155,7 +137,7 @@ impl Frame {
         ensures layout { layout_of self.new ≡ layout_of self.old }
     {
         let Some(list) = next_list(plan, &self.blocks, self.number, self.plp) else {
-            self.step = Step::Over;
+            self.step = FrameStep::Over;
             return false;
         };
         let first = is_first(self.first, self.plp, list);
@@ -194,12 +176,12 @@ impl Frame {
         ensures layout { layout_of self.new ≡ layout_of self.old }
     {
         match self.step {
-            Step::Stamp => {
+            FrameStep::Stamp => {
                 write_timestamp(out, plan, packet_count, self.number);
-                self.step = Step::Signal;
+                self.step = FrameStep::Signal;
                 true
             }
-            Step::Signal => {
+            FrameStep::Signal => {
                 let (pre, conf) = (signalling.pre.as_slice(), signalling.conf.as_slice());
                 write_l1_current(
                     out,
@@ -210,11 +192,11 @@ impl Frame {
                     conf,
                     self.dynamic.bits.as_slice(),
                 );
-                self.step = Step::Blocks;
+                self.step = FrameStep::Blocks;
                 true
             }
-            Step::Blocks => self.build_block(plan, packet_count, out),
-            Step::Over => false,
+            FrameStep::Blocks => self.build_block(plan, packet_count, out),
+            FrameStep::Over => false,
         }
     }
 }
@@ -222,7 +204,7 @@ impl Frame {
 impl FrameSource<Signalling> for Frame {
     ghost use Rattle.std.specs.Prelude.{◌≡◌, length};
     ghost use Rattle.gateway_core.specs.Left.{left, Stays, stays_of};
-    ghost use Rattle.gateway_core.specs.declared.frame.Step.TheVariants.{Over};
+    ghost use Rattle.frame_writer.specs.declared.step.FrameStep.TheVariants.{Over};
 
     ghost number = { λ f. f.number };
 

@@ -5,7 +5,7 @@ ghost use Rattle.plp_config.specs.declared.moment.TheConstants.{MOST_FRAMES};
 ghost use Rattle.scheduler.specs.Laws.{CountsFit};
 ghost use Rattle.gateway_core.specs.InputsStandFor.{AreFor, AreSupplied};
 ghost use Rattle.gateway_core.specs.Left.{early_of};
-ghost use Rattle.gateway_core.specs.declared.frame.Step.TheVariants.{Over};
+ghost use Rattle.frame_writer.specs.declared.step.FrameStep.TheVariants.{Over};
 
 use crate::frame::Frame;
 use crate::input::Input;

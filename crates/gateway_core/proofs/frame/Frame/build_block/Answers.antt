@@ -3,7 +3,8 @@ use Rattle.linked_pool.specs.Pool.{State}
 use Rattle.gateway_core.specs.BlocksLeft.{blocks_left}
 use Rattle.gateway_core.specs.Lists.{own_in, AllShort}
 use Rattle.frame_writer.specs.Builds.{Builds}
-use Rattle.gateway_core.specs.Left.{from_step, early_at}
+use Rattle.gateway_core.specs.Left.{early_at}
+use Rattle.frame_writer.specs.FirstPacket.{from_step}
 use Rattle.frame_writer.specs.FramePackets.{l1_body}
 use Rattle.gateway_core.proofs.LeftLemmas.{built_block, nothing_left, pop_short, early_popped, early_end}
 use Rattle.gateway_core.proofs.frame.Frame.build_block.Goals as goal
