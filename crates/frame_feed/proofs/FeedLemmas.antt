@@ -1,11 +1,21 @@
 -- What each call of a feed makes of what it stood for.
-use Rattle.std.proofs.Common.{◌≡◌, ◌⊎◌, ℕ, ◌+◌, ◌-◌, ◌^◌, ◌<◌, ◌≤◌, Bool, true, false, List, [], ◌∷◌, ◌++◌, length, take}
+use Rattle.std.proofs.Common.{◌≡◌, ◌⊎◌, ℕ, ◌+◌, ◌-◌, ◌^◌, ◌<◌, ◌≤◌, Bool, true, false, List, [], ◌∷◌, ◌++◌, length, take, drop}
 use Rattle.std.proofs.Common.{Option, Some, None, inl, inr, refl, ap, sym, subst, ◌∙◌, arith, length-append, append-nil, append_assoc}
 use Rattle.std.specs.Prelude.{IfSome, IfNone, nat_lt, flat_map}
 use Rattle.std.proofs.lemmas.Bool.{ltb-true, ltb-false, ne_eqb, eq-eqb, true≢false}
-use Rattle.std.proofs.lemmas.List.{append_cancel_left, take-append-le, take-take, length-take, length-take-le}
-use Rattle.std.proofs.Math.Seq.{take-append-add}
-use borrow.Rule.Slice.PartMut.{put_mid, post_of}
+use Rattle.std.proofs.lemmas.List.{
+  append_cancel_left,
+  take-append-le,
+  take-take,
+  length-take,
+  length-take-le,
+  length-drop,
+  drop-append-le,
+  drop-drop,
+  take-append-drop,
+}
+use Rattle.std.proofs.Math.Seq.{take-append-add, drop-append-add}
+use borrow.Rule.Slice.PartMut.{put_mid, mid_of, post_of}
 use Rattle.std.proofs.lemmas.List.Concat.{flat_map-append}
 use Rattle.std.specs.List.{AllByRecursion}
 use Rattle.terms.proofs.CaseLemmas.{bool_cases}
@@ -474,6 +484,24 @@ piece_taken xs ys len k count inside few =
     ap (λ (n : ℕ). take (n + count) (put_mid len k xs ys)) (sym (length-take-le len xs inside))
     ∙ take-append-add (take len xs) (ys ++ post_of len k xs) count
     ∙ ap (λ (l : List ℕ). take len xs ++ l) (take-append-le count ys (post_of len k xs) few)
+
+-- and behind it the bytes are what they were
+pub rest_kept : (xs ys : List ℕ) (len k count : ℕ) → len ≤ length xs → len + k ≡ length xs → length ys ≡ k → count ≤ length ys
+    → drop count ys ≡ drop count (mid_of len k xs) → drop (len + count) (put_mid len k xs ys) ≡ drop (len + count) xs
+rest_kept xs ys len k count inside whole size few same =
+    ap (λ (n : ℕ). drop (n + count) (put_mid len k xs ys)) (sym (length-take-le len xs inside))
+    ∙ drop-append-add (take len xs) (ys ++ post_of len k xs) count
+    ∙ drop-append-le count ys (post_of len k xs) few
+    ∙ ap (λ (l : List ℕ). l ++ post_of len k xs) same
+    ∙ sym (drop-append-le count (mid_of len k xs) (post_of len k xs) part)
+    ∙ ap (drop count) (take-append-drop k (drop len xs))
+    ∙ drop-drop count len xs
+  where
+    part : count ≤ length (mid_of len k xs)
+    part =
+        let rest = length-drop len xs in
+        let e = length-take-le k (drop len xs) (omega (arith, rest, whole, inside)) in
+        omega (arith, e, few, size)
 
 -- fewer records can be given than at first
 pub left_less : (f g h : FrameFeed) (len : ℕ) → left_of h < left_of g → (left_of g < left_of f) ⊎ ((len ≡ 0) × (g ≡ f))

@@ -143,7 +143,7 @@ impl<'p> FrameFeed<'p> {
         ensures stands { (bytes : List ℕ) (ended : Bool) (given : List FrameRecord) → FrameFeedStandsFor self.old bytes ended given
             → GaveNext self.old self.new bytes ended given (take result out.new) }
         ensures inside { result ≤ length out.old }
-        ensures len { length out.new ≡ length out.old }
+        ensures stays { (length out.new ≡ length out.old) × (drop result out.new ≡ drop result out.old) }
         // So no more than so many records are given before bytes are fed.
         ensures left { left_of self.new < left_of self.old }
         ensures fed { fed_of self.new ≡ fed_of self.old }

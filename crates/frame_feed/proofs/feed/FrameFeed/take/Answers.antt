@@ -1,9 +1,10 @@
-use Rattle.std.proofs.Common.{◌≡◌, ◌≤◌, Some, inl, length, take, rules, sym, subst, ◌∙◌, arith}
+use Rattle.std.proofs.Common.{◌≡◌, ◌≤◌, Some, inl, length, take, drop, rules, ap, sym, subst, ◌∙◌, arith}
+use Rattle.std.proofs.lemmas.List.{drop-drop}
 use Rattle.plp_config.specs.Capacity.{IsPlan}
 use Rattle.record_laws.specs.Frames.{HasByteIds}
 use Rattle.frame_feed.specs.StandsFor.{waiting_of}
 use Rattle.frame_feed.specs.Taking.{IsTaking}
-use Rattle.frame_feed.proofs.FeedLemmas.{goes_further, given_whole, piece_taken, left_less}
+use Rattle.frame_feed.proofs.FeedLemmas.{goes_further, given_whole, piece_taken, rest_kept, left_less}
 use Rattle.frame_feed.proofs.feed.FrameFeed.take.Goals as goal
 
 pub loop-len-preserved : goal.loop-len-preserved
@@ -15,6 +16,10 @@ loop-len-preserved c =
     record {
       inside = search (rules, arith);
       size = search (rules, arith);
+      behind = rest_kept now.out p.new.out now.len _ p.result now.invariant.inside (search (rules, arith)) (search (rules, arith)) few
+          p.ensures.stays.1
+          ∙ sym (drop-drop p.result now.len now.out) ∙ ap (drop p.result) now.invariant.behind
+          ∙ drop-drop p.result now.len c.args.out.now;
       taking = λ bytes ended given s.
           subst (IsTaking f p.new.self bytes ended given c.unwrap-record.result)
           (sym (piece_taken now.out p.new.out now.len _ p.result now.invariant.inside few))

@@ -1,4 +1,4 @@
-use Rattle.std.proofs.Common.{◌≡◌, ◌⊎◌, ◌<◌, ◌≤◌, ◌-◌, List, ℕ, Bool, length, take}
+use Rattle.std.proofs.Common.{◌≡◌, ◌⊎◌, ◌<◌, ◌≤◌, ◌-◌, List, ℕ, Bool, length, take, drop}
 use Rattle.frame_groups.specs.Modulated.{FrameRecord}
 use Rattle.frame_feed.specs.StandsFor.{FrameFeedStandsFor, config_of, has_ended, fed_of, left_of}
 use Rattle.frame_feed.specs.Taking.{IsTaking}
@@ -8,6 +8,7 @@ abbrev pub invariant-loop-len : goal.invariant-loop-len
 invariant-loop-len l = record {
   inside : l.len ≤ length l.out;
   size : length l.out ≡ length l.initial.out;
+  behind : drop l.len l.out ≡ drop l.len l.initial.out;
   taking : (bytes : List ℕ) (ended : Bool) (given : List FrameRecord) → FrameFeedStandsFor l.initial.self bytes ended given
       → IsTaking l.initial.self l.self bytes ended given l.record (take l.len l.out);
   left : (left_of l.self < left_of l.initial.self) ⊎ ((l.len ≡ 0) × (l.self ≡ l.initial.self));
