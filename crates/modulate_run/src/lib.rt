@@ -1,6 +1,7 @@
 //! The modulator of a plan between files: the units of one in, records into the other.
 #![tactic(auto)]
 
+mod causes;
 mod laws;
 mod machine;
 mod running;

@@ -4,6 +4,7 @@ ghost use Rattle.frame_groups.specs.declared.waiting.Waiting.{Waiting};
 ghost use Rattle.plp_config.specs.declared.moment.TheConstants.{MOST_FRAMES};
 ghost use Rattle.modulator.specs.StandsFor.{next_of, is_waiting, is_finished};
 
+use crate::causes::Causes;
 use crate::stop::{ModulateStop, Ran};
 use bit_slice::OutOfMemory;
 use file_run::{Ending, Machine, Step, events_law};
@@ -23,8 +24,9 @@ pub struct ModulatorMachine<'p> {
     waiting: Option<Waiting>,
     // The input has ended.
     ended: bool,
-    // The records that were given whole.
+    // The records that were given whole, and why they are muted.
     ran: Ran,
+    causes: Causes,
     ghost waits: { is_some waiting ≡ is_waiting modulator },
     ghost number: { (w : Waiting) → waiting ≡ Some w → w.frame ≡ next_of modulator },
     ghost early: { next_of modulator ≤ MOST_FRAMES },
@@ -83,6 +85,7 @@ impl<'p> Machine for ModulatorMachine<'p> {
         self.waiting = self.modulator.waiting();
         if !is_of(self.waiting, record.frame) {
             self.ran.add(record);
+            self.causes.add(record);
         }
         count
     }
@@ -131,6 +134,12 @@ impl<'p> ModulatorMachine<'p> {
                 records: 0,
                 muted: 0,
             },
+            causes: Causes::new(),
         })
+    }
+
+    /// The muted frames so far, by their causes.
+    pub fn causes(&self) -> &Causes {
+        &self.causes
     }
 }

@@ -12,6 +12,7 @@ use std::alloc::Global;
 
 /// Runs the modulator of a plan: opens the input, creates the output, and writes each record as soon as it is due, before it
 /// reads on. It reads 65,536 bytes ahead at most. All memory is taken before the input is opened.
+/// Behind the end the desk takes note of the causes for which frames are muted.
 pub fn run<D: Desk>(
     alloc: Global,
     plan: &Plan,
@@ -26,5 +27,7 @@ pub fn run<D: Desk>(
     events_law();
     due_records_law();
     let mut machine = ModulatorMachine::open(alloc, plan)?;
-    run_over(alloc, &mut machine, input, out, desk)
+    let ended = run_over(alloc, &mut machine, input, out, desk);
+    machine.causes().note(desk);
+    ended
 }
