@@ -24,6 +24,7 @@ use Rattle.site_frame.specs.Record.{Block}
 use Rattle.site_frame.specs.declared.reading.RecordView.{RecordView}
 use Rattle.site_frame.specs.declared.reading.RecordView.TheVariants.{Frame, Muted}
 use Rattle.frame_tests.specs.Readable.{BlockSize, block_sizes, coming, has_size}
+use Rattle.frame_writer.specs.Flowing.{packet_bound}
 use Rattle.frame_writer.specs.FramePackets.{with_stamp}
 use Rattle.formed_frames.specs.Formed.{IsFormed}
 use Rattle.formed_frames.specs.Remade.{record_bodies, view_bodies, signal_of}
@@ -87,7 +88,7 @@ stamp_count : (c : Config) (n : ℕ) (bodies : List Body) → length (with_stamp
 stamp_count c n bodies = bool_cases (n % c.frames == 0) (λ e. rw e (omega arith)) (λ e. rw e (omega arith))
 
 pub few_bodies : FieldRange → (c : Config) (n : ℕ) (view : RecordView) → IsPlan c → IsFormed c n view
-    → 8203 * length (view_bodies c n view) + 1000 ≤ frame_bytes
+    → packet_bound * length (view_bodies c n view) + 1000 ≤ frame_bytes
 unfolding longest_rest
 few_bodies field c n (Muted moment) plan formed = absurd formed
 few_bodies field c n (Frame moment pre post blocks cells) plan formed =

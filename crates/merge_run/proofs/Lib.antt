@@ -15,4 +15,5 @@ pub mod SplitLemmas
 pub mod StepLemmas
 pub mod TakeLemmas
 pub mod UnitLemmas
+pub mod UnitsLemmas
 pub mod WantLemmas

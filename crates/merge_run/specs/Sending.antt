@@ -1,11 +1,14 @@
 -- The frame of a record is sent again. No public clause cites this module.
-use Rattle.std.specs.Prelude.{◌≡◌, ℕ, ◌+◌, ◌*◌, ◌<◌, ◌≤◌, Bool, true, false, List, [], ◌∷◌, ◌++◌, length, slice_get, Option, Some, None}
+use Rattle.std.specs.Prelude.{◌≡◌, ◌≢◌, ℕ, ◌+◌, ◌*◌, ◌<◌, ◌≤◌, Bool, true, false, List, [], ◌∷◌, ◌++◌, length, slice_get, Option, Some, None}
 use Rattle.plp_config.specs.declared.config.Config.{Config}
+use Rattle.ts_packet.specs.TsFile.{joined}
+use Rattle.ts_packet.specs.declared.sizes.TheConstants.{SIZE}
 use Rattle.site_frame.specs.Whole.{Spells, view_in, told_moment, told_rest}
 use Rattle.std.specs.Prelude.{slice_index}
 use Rattle.site_frame.specs.declared.reading.RecordView.{RecordView}
 use Rattle.t2mi_stream.specs.Complete.{complete_units}
 use Rattle.t2mi_stream.specs.Pipe.{pipe}
+use Rattle.frame_writer.specs.Flowing.{packet_bound}
 use Rattle.formed_frames.specs.Formed.{IsFormed}
 use Rattle.formed_frames.specs.Remade.{NumberedView, remade_packets, view_bodies}
 use Rattle.feed_merge.specs.StandsFor.{MergerStandsFor, config_of, frame_of, has_unit, has_finished, bytes_left}
@@ -37,7 +40,7 @@ pub record Begins (old new : Merger) (number : ℕ) (view : RecordView) : Type 0
   pub frame : frame_of new ≡ number
   pub finished : has_finished new ≡ false
   pub more : bytes_left new (Some (numbered number view))
-      ≤ bytes_left old None + 8203 * length (view_bodies (config_of old) number view)
+      ≤ bytes_left old None + packet_bound * length (view_bodies (config_of old) number view)
 
 -- The next unit was given, behind the frames of which the last has this record.
 pub record GivesUnit (old new : Merger) (view : RecordView) (unit : List ℕ) : Type 0 where
@@ -69,3 +72,23 @@ pub record Nexts (old new : Merger) (view : RecordView) (given : Bool) (unit : L
   pub config : config_of new ≡ config_of old
   pub frame : frame_of new ≡ frame_of old
   pub finished : has_finished new ≡ has_finished old
+
+-- These units were given, one after the other.
+abbrev pub GivesAll : RecordView → Merger → List (List ℕ) → Merger → Type 0
+GivesAll view old [] new = new ≡ old
+GivesAll view old (unit ∷ units) new = (mid : Merger) × Nexts old mid view true unit × GivesAll view mid units new
+
+-- Either there was no room for more, or no more was complete.
+abbrev pub EndsSo : Merger → Merger → RecordView → Bool → Type 0
+EndsSo old new view true = new ≡ old
+EndsSo old new view false = (unit : List ℕ) × Nexts old new view false unit
+
+-- The bytes are units that were given, one at least if the room ended.
+pub record NextsAll (old new : Merger) (view : RecordView) (full : Bool) (bytes : List ℕ) : Type 0 where
+  pub units : List (List ℕ)
+  pub mid : Merger
+  pub bytes_are : bytes ≡ joined units
+  pub size : length bytes ≡ SIZE * length units
+  pub gives : GivesAll view old units mid
+  pub ends : EndsSo mid new view full
+  pub some : full ≡ true → units ≢ []

@@ -15,7 +15,7 @@ ghost use Rattle.merge_run.specs.declared.phase.Phase.TheVariants as phase;
 
 use crate::buffer::RecordBuffer;
 use crate::phase::Phase;
-use crate::sending::{begin_frame, next_unit};
+use crate::sending::{begin_frame, next_units};
 use crate::stop::Ran;
 use crate::taking::{is_picked, least_number, pick_next};
 use bit_slice::OutOfMemory;
@@ -212,24 +212,24 @@ impl<'p> Merging<'p> {
         }
     }
 
-    // Gives the next unit of the frame under way, or goes on behind them: how many bytes.
-    fn give_unit(&mut self, unit: &mut [u8; SIZE]) -> usize
+    // Gives units of the frame under way, to the front of these bytes, and goes on behind the last: how many bytes.
+    fn give_units(&mut self, out: &mut [u8]) -> usize
         requires came { ∥ HasShown self.old ∥₁ }
         requires gives { self.old.phase ≡ phase.Gives }
-        ensures count { result ≤ length unit.new }
-        ensures whole { length unit.new ≡ SIZE }
+        requires room { PIECE ≤ length out.old }
+        ensures count { result ≤ length out.old }
         ensures shown { (c : Config) (events : List Event) → Shown c events self.old
-            → Shown c (events ++ Gave (take result unit.new) ∷ []) self.new }
+            → Shown c (events ++ Gave (take result out.new) ∷ []) self.new }
         ensures left { left_of self.new < left_of self.old }
         ensures fed { (fed_of self.new.a ≡ fed_of self.old.a) × (fed_of self.new.b ≡ fed_of self.old.b) }
     {
         events_law();
-        if next_unit(&mut self.merger, self.record.as_bytes(), unit) {
-            self.ran.add_unit();
-            return SIZE;
+        let (len, full) = next_units(&mut self.merger, self.record.as_bytes(), out);
+        self.ran.add_units(len / SIZE);
+        if !full {
+            self.phase = Phase::Reads;
         }
-        self.phase = Phase::Reads;
-        0
+        len
     }
 
     // Gives the next unit behind the end, or comes to its own end: how many bytes.
@@ -245,7 +245,7 @@ impl<'p> Merging<'p> {
     {
         events_law();
         if self.merger.rest(unit) {
-            self.ran.add_unit();
+            self.ran.add_units(1);
             return SIZE;
         }
         self.phase = Phase::Done;
@@ -269,7 +269,7 @@ impl<'p> Merging<'p> {
                 self.go_on();
                 0
             }
-            Phase::Gives => self.give_unit(out.first_chunk_mut().unwrap()),
+            Phase::Gives => self.give_units(out),
             _ => self.give_rest(out.first_chunk_mut().unwrap()),
         }
     }

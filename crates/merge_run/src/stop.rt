@@ -32,12 +32,12 @@ impl Ran {
         }
     }
 
-    // Counts one unit more.
-    pub(crate) fn add_unit(&mut self)
-        requires few { self.old.units < 2 ^ 62 }
-        ensures { self.new ≡ record self.old { units = self.old.units + 1 } }
+    // Counts units.
+    pub(crate) fn add_units(&mut self, count: usize)
+        requires few { self.old.units + count < 2 ^ 63 }
+        ensures { self.new ≡ record self.old { units = self.old.units + count } }
     {
-        self.units += 1;
+        self.units += count as u64;
     }
 }
 

@@ -11,13 +11,6 @@ pub returns-in-Reads-clause-shown : goal.returns-in-Reads-clause-shown
 returns-in-Reads-clause-shown c = λ k events s.
     shown_still c.events_law.ensures k _ events (c.go_on.ensures.shown k events s)
 
-pub returns-in-Gives-clause-shown : goal.returns-in-Gives-clause-shown
-returns-in-Gives-clause-shown c = λ k events s.
-    let n = c.give_unit.ensures.count in
-    subst (λ (l : List ℕ). Shown k (events ++ Gave l ∷ []) c.give_unit.new.self)
-    (sym (take-append-le c.give_unit.result c.give_unit.new.unit (drop SIZE c.args.out.now) n))
-    (c.give_unit.ensures.shown k events s)
-
 pub returns-in_default-clause-shown : goal.returns-in_default-clause-shown
 returns-in_default-clause-shown c = λ k events s.
     let n = c.give_rest.ensures.count in

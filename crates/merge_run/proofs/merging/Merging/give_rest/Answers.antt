@@ -15,9 +15,9 @@ returns-then-rest-clause-shown c = λ k events s.
     let unit = c.rest.new.out in
     let n = c.rest.ensures in
     let on = c.if-rest.true in
-    subst (λ (l : List ℕ). Shown k (events ++ Gave l ∷ []) (record m { merger = g; ran = c.add_unit.new.self }))
+    subst (λ (l : List ℕ). Shown k (events ++ Gave l ∷ []) (record m { merger = g; ran = c.add_units.new.self }))
     (sym (take_all SIZE unit (omega (arith, c.rest.array_long))))
-    (subst (λ (r : Ran). Shown k (events ++ Gave unit ∷ []) (record m { merger = g; ran = r })) (sym c.add_unit.ensures)
+    (subst (λ (r : Ran). Shown k (events ++ Gave unit ∷ []) (record m { merger = g; ran = r })) (sym c.add_units.ensures)
     (shown_rest c.events_law.ensures k m g events unit s c.requires.rests n.config n.finished n.fed (n.unit on) (n.stands on) (n.less on)))
 
 pub returns-then-rest-clause-left : goal.returns-then-rest-clause-left
@@ -41,7 +41,8 @@ rest-requires c = record {
       (λ (h : HasShown c.args.self.now). (resting h.network c.args.self.now h.events h.shown c.requires.rests).all_fed);
 }
 
-pub add_unit-requires : goal.add_unit-requires
-add_unit-requires c = record {
-  few = less_of _ _ c.requires.came (λ (h : HasShown c.args.self.now). few_units h.network c.args.self.now h.events h.shown);
+pub add_units-requires : goal.add_units-requires
+add_units-requires c = record {
+  few = less_of _ _ c.requires.came (λ (h : HasShown c.args.self.now).
+      let f = few_units h.network c.args.self.now h.events h.shown in omega (arith, f));
 }
