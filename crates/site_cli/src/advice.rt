@@ -126,8 +126,29 @@ fn say_too_many_frames(
         Some(Request::Modulate { .. }) => eprintln!(rt;
             "{file}: frame {MOST_FRAMES} of CONFIG comes in it; the records before it were written; what is behind it wants a CONFIG that starts later"
         ),
+        Some(Request::Merge { .. }) => eprintln!(rt;
+            "{file}: frame {MOST_FRAMES} of CONFIG comes in it; the frames before it were written; what is behind it wants a CONFIG that starts later"
+        ),
         _ => eprintln!(rt;
             "the inputs go on for more than {MOST_FRAMES} frames; what was written stays, give the rest to another run"
+        ),
+    }
+}
+
+// Says that no superframe is found.
+fn say_no_superframe(
+    rt: &impl Eprint,
+    request: Option<Request<'_>>,
+    file: Shown<'_>,
+) -> io::Result<()> {
+    match request {
+        Some(Request::Merge { a, b, .. }) => eprintln!(rt;
+            "{} and {}: no superframe begins in either with a frame that passes the tests; see that both are T2-MI streams of the network of CONFIG, on its PID",
+            Shown(a),
+            Shown(b)
+        ),
+        _ => eprintln!(rt;
+            "{file}: no superframe begins in it with a frame that passes the tests; see that it is the T2-MI stream of the network of CONFIG, on its PID"
         ),
     }
 }
@@ -207,9 +228,7 @@ fn say(
         Outcome::InputRefused { packet, .. } => eprintln!(rt;
             "{file}: packet {packet}, counted from 0, does not begin with the sync byte 0x47, or the file ends inside it; OUT holds the units of the frames before; mend the file"
         ),
-        Outcome::NoSuperframe => eprintln!(rt;
-            "{file}: no superframe begins in it with a frame that passes the tests; see that it is the T2-MI stream of the network of CONFIG, on its PID"
-        ),
+        Outcome::NoSuperframe => say_no_superframe(rt, request, file),
         Outcome::TooLong { count: MOST_FRAMES } => say_too_many_frames(rt, request, file),
         Outcome::TooLong { count } => eprintln!(rt;
             "{file}: it gave {count} bytes, which is more than a file may have; split it"
@@ -243,11 +262,13 @@ fn file_of(request: Option<Request<'_>>, outcome: Outcome) -> &str {
             Some(Request::Receive { input, .. }),
             Outcome::TooLong { .. } | Outcome::RecordRefused { .. },
         ) => input,
+        (Some(Request::Merge { .. }), Outcome::TooLong { .. }) => "A or B",
         (
             Some(
                 Request::Gateway { config, .. }
                 | Request::Modulate { config, .. }
                 | Request::Receive { config, .. }
+                | Request::Merge { config, .. }
                 | Request::Plan { config },
             ),
             _,

@@ -4,11 +4,23 @@ use crate::damage::Damage;
 use crate::help;
 use crate::progress::Watched;
 use crate::stream_time::StreamTime;
-use ports::HostDesk;
+use ports::{Desk, HostDesk};
 use site_top::{Outcome, Word, request_of, run};
+use std::alloc::Global;
 use std::fs::{File, Files};
 use std::io::{Eprint, Print};
 use std::time::Clock;
+
+// Carries a command out over a desk that is watched, and wipes the line away that tells how far it is.
+fn run_watched<D: Desk, R: Clock + Eprint>(
+    alloc: Global,
+    words: &[Word],
+    desk: &mut Watched<'_, D, R>,
+) -> Outcome {
+    let outcome = run(alloc, words, desk);
+    desk.wipe();
+    outcome
+}
 
 /// Answers what the words ask for, or carries out the command that they name, over the files of the system, and tells people, who
 /// know the program by this name, why it is not done: how it ended. If it is wanted, a line tells how far it is.
@@ -36,8 +48,7 @@ pub fn carry_out<R: Files + Print + Eprint + Clock + AllocGlobal>(
     };
     let damage = Damage::of(rt, request);
     let mut desk = Watched::new(HostDesk::new(rt, rt.alloc()), rt, wanted, stream, damage);
-    let outcome = run(rt.alloc(), words, &mut desk);
-    desk.wipe();
+    let outcome = run_watched(rt.alloc(), words, &mut desk);
     advise(
         rt,
         program,

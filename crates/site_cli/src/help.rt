@@ -30,7 +30,7 @@ impl Command {
 }
 
 /// The commands.
-pub const COMMANDS: [Command; 9] = [
+pub const COMMANDS: [Command; 10] = [
     Command {
         name: "gateway",
         words: "gateway CONFIG OUT IN..",
@@ -53,6 +53,13 @@ pub const COMMANDS: [Command; 9] = [
         rule: Some(
             "PLP must be a decimal number from 0 to 255, without sign and leading zeros, and OUT neither CONFIG nor IN",
         ),
+    },
+    Command {
+        name: "merge",
+        words: "merge CONFIG A B OUT",
+        what: "writes to OUT one T2-MI stream of two of a network, A and B: each frame from the first of them that has it whole",
+        example: "merge small.txt a.ts b.ts stream.ts",
+        rule: Some("OUT must be neither CONFIG nor A nor B"),
     },
     Command {
         name: "plan",

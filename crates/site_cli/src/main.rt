@@ -9,6 +9,7 @@ mod advice;
 mod command;
 mod config_place;
 mod damage;
+mod frame_count;
 mod front;
 mod help;
 mod muted;

@@ -5,7 +5,7 @@ ghost use Rattle.ports.specs.Desk.{State, Keeps, Opens, Creates, FailsToCreate, 
 
 use crate::damage::Damage;
 use crate::stream_time::StreamTime;
-use ports::{Desk, DeskFault};
+use ports::{Desk, DeskFault, Note};
 use std::fmt::{self, Display, Formatter, Write};
 use std::io::Eprint;
 use std::time::{Clock, Duration, Instant};
@@ -157,7 +157,7 @@ impl<D: Desk, R: Clock + Eprint> Desk for Watched<'_, D, R> {
 
     fn open(&mut self, name: &str) -> Result<u32, DeskFault> {
         let handle = self.desk.open(name)?;
-        self.damage.opened(name, handle);
+        self.damage.opened(handle);
         Ok(handle)
     }
 
@@ -184,11 +184,17 @@ impl<D: Desk, R: Clock + Eprint> Desk for Watched<'_, D, R> {
     fn say(&mut self, text: &[u8]) -> Result<(), DeskFault> {
         self.progress.wipe();
         self.lines = self.lines.saturating_add(lines_in(text));
+        self.damage.said(text);
         self.desk.say(text)
     }
 
     fn say_last(&mut self, text: &[u8]) {
         self.progress.wipe();
         self.desk.say_last(text);
+    }
+
+    fn note(&mut self, note: Note) {
+        self.damage.note(note);
+        self.desk.note(note);
     }
 }

@@ -1,5 +1,6 @@
 // How much stream time the bytes of a run are, by its configuration.
 use crate::config_place::config_again;
+use crate::frame_count::FrameCount;
 use plp_config::Config;
 use record_feed::RecordCount;
 use site_top::Request;
@@ -20,6 +21,12 @@ enum Told {
     // The records written: subseconds of a frame, and in a second.
     Records {
         records: RecordCount,
+        frame: u64,
+        second: u64,
+    },
+    // The frames whose packets were written: the same.
+    Frames {
+        frames: FrameCount,
         frame: u64,
         second: u64,
     },
@@ -58,15 +65,14 @@ fn rate_with_id(config: &Config, id: u8) -> Option<u64> {
     None
 }
 
-fn records_of(config: &Config) -> Told {
-    let frame = u64::from(config.ticks).saturating_mul(u64::from(
-        config.band.subseconds_per_tick(),
-    ));
-    Told::Records {
-        records: RecordCount::new(),
-        frame,
-        second: u64::from(config.band.subseconds_per_second()),
-    }
+// The subseconds of a frame.
+fn frame_of(config: &Config) -> u64 {
+    u64::from(config.ticks).saturating_mul(u64::from(config.band.subseconds_per_tick()))
+}
+
+// The time of so many frames, in seconds.
+fn by_frames(count: u64, frame: u64, second: u64) -> u64 {
+    count.saturating_mul(frame) / second.max(1)
 }
 
 fn told_by(request: Request<'_>, config: &Config) -> Option<Told> {
@@ -74,7 +80,16 @@ fn told_by(request: Request<'_>, config: &Config) -> Option<Told> {
         Request::Gateway { .. } => Some(Told::Read {
             bits_per_second: rate_of(config),
         }),
-        Request::Modulate { .. } => Some(records_of(config)),
+        Request::Modulate { .. } => Some(Told::Records {
+            records: RecordCount::new(),
+            frame: frame_of(config),
+            second: u64::from(config.band.subseconds_per_second()),
+        }),
+        Request::Merge { .. } => Some(Told::Frames {
+            frames: FrameCount::new(),
+            frame: frame_of(config),
+            second: u64::from(config.band.subseconds_per_second()),
+        }),
         Request::Receive { plp_id, .. } => Some(Told::Written {
             bits_per_second: rate_with_id(config, plp_id)?,
         }),
@@ -87,7 +102,8 @@ fn config_of(request: Request<'_>) -> Option<&str> {
     match request {
         Request::Gateway { config, .. }
         | Request::Modulate { config, .. }
-        | Request::Receive { config, .. } => Some(config),
+        | Request::Receive { config, .. }
+        | Request::Merge { config, .. } => Some(config),
         _ => None,
     }
 }
@@ -102,8 +118,10 @@ impl StreamTime {
 
     /// Takes bytes that were written.
     pub fn take(&mut self, piece: &[u8]) {
-        if let Told::Records { records, .. } = &mut self.told {
-            records.take(piece);
+        match &mut self.told {
+            Told::Records { records, .. } => records.take(piece),
+            Told::Frames { frames, .. } => frames.take(piece),
+            Told::Read { .. } | Told::Written { .. } => {}
         }
     }
 
@@ -116,7 +134,12 @@ impl StreamTime {
                 records,
                 frame,
                 second,
-            } => records.count().saturating_mul(*frame) / (*second).max(1),
+            } => by_frames(records.count(), *frame, *second),
+            Told::Frames {
+                frames,
+                frame,
+                second,
+            } => by_frames(frames.count(), *frame, *second),
         })
     }
 }

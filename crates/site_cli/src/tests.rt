@@ -1,12 +1,14 @@
 // The program's endings, and what it tells people. Files are real ones; standard output and standard error are kept here.
+mod counts;
+
 use crate::advice::advise;
 use crate::command::carry_out;
 use crate::damage::Damage;
 use crate::exit_code;
-use crate::muted::{MutedRecords, Runs};
+use crate::frame_count::FrameCount;
+use crate::front::front_of;
 use crate::progress::Watched;
 use crate::stream_time::StreamTime;
-use crate::units::UnitCounts;
 use bit_slice::OutOfMemory;
 use ports::MemoryDesk;
 use site_frame::{HEAD, RecordWhy};
@@ -236,7 +238,7 @@ struct Ending {
 }
 
 #[rattlefmt::skip]
-static ENDINGS: [Ending; 32] = [
+static ENDINGS: [Ending; 34] = [
     Ending { words: &["--version"], takes: true, status: 0 },
     Ending { words: &["show", "frames", "--help"], takes: true, status: 0 },
     Ending { words: &["gateway", "cli.txt", "cli.out", "cli.ts"], takes: true, status: 0 },
@@ -247,10 +249,12 @@ static ENDINGS: [Ending; 32] = [
     Ending { words: &["plan"], takes: true, status: 2 },
     Ending { words: &["gateway", "cli.txt", "cli.ts", "cli.ts"], takes: true, status: 2 },
     Ending { words: &["gateway", "cli.txt", "cli.out", "cli.ts", "cli.ts"], takes: true, status: 2 },
+    Ending { words: &["merge", "cli.txt", "cli.ts", "cli.none", "cli.ts"], takes: true, status: 2 },
     Ending { words: &["plan", "cli.zeros"], takes: true, status: 3 },
     Ending { words: &["plan", "cli.full"], takes: true, status: 4 },
     Ending { words: &["gateway", "cli.txt", "cli.out", "cli.zeros"], takes: true, status: 5 },
     Ending { words: &["modulate", "cli.txt", "cli.ts", "cli.out"], takes: true, status: 6 },
+    Ending { words: &["merge", "cli.txt", "cli.ts", "cli.none", "cli.out"], takes: true, status: 6 },
     Ending { words: &["receive", "cli.txt", "0", "cli.ts", "cli.out"], takes: true, status: 7 },
     Ending { words: &["show", "frames", "cli.ts"], takes: true, status: 7 },
     Ending { words: &["receive", "cli.txt", "9", "cli.ts", "cli.out"], takes: true, status: 8 },
@@ -297,7 +301,7 @@ struct Told {
 }
 
 #[rattlefmt::skip]
-static TOLD: [Told; 17] = [
+static TOLD: [Told; 21] = [
     Told { words: &["plan", "c"], outcome: Outcome::Done, begins: "" },
     Told { words: &["plan"], outcome: Outcome::Usage, begins: "these words are no command\nusage:\n  site_cli plan CONFIG\n" },
     Told { words: &["recieve", "c"], outcome: Outcome::Usage,
@@ -305,13 +309,16 @@ static TOLD: [Told; 17] = [
     Told { words: &["gatway"], outcome: Outcome::Usage, begins: "these words are no command\nusage:\n  site_cli gateway CONFIG OUT IN..\n" },
     Told { words: &["show", "t2m", "f"], outcome: Outcome::Usage,
         begins: "these words are no command\nusage:\n  site_cli show config FILE\n" },
+    Told { words: &["marge"], outcome: Outcome::Usage, begins: "these words are no command\nusage:\n  site_cli merge CONFIG A B OUT\n" },
     Told { words: &["zzz"], outcome: Outcome::Usage, begins: "these words are no command\nusage:\n  site_cli gateway CONFIG OUT IN..\n" },
     Told { words: &["gateway", "c", "a", "a"], outcome: Outcome::Usage, begins: "OUT must be neither CONFIG nor an IN\n" },
+    Told { words: &["merge", "c", "a", "b", "b"], outcome: Outcome::Usage, begins: "OUT must be neither CONFIG nor A nor B\n" },
     Told { words: &["gateway", "c", "o", "a", "b"], outcome: Outcome::WrongInputs { plps: 3, inputs: 2 },
         begins: "c wants one IN for each PLP, in its order: 3, and 2 were given\n" },
     Told { words: &["gateway", "c", "o", "a", "b"], outcome: Outcome::InputRefused { input: 1, packet: 7 },
         begins: "b: packet 7, " },
     Told { words: &["modulate", "c", "i", "o"], outcome: Outcome::NoSuperframe, begins: "i: no superframe begins in it " },
+    Told { words: &["merge", "c", "a", "b", "o"], outcome: Outcome::NoSuperframe, begins: "a and b: no superframe begins in either " },
     Told { words: &["receive", "c", "9", "i", "o"], outcome: Outcome::UnknownPlp { plp_id: 9 },
         begins: "c: no PLP has the identifier 9; " },
     Told { words: &["receive", "c", "0", "i", "o"], outcome: Outcome::RecordRefused { number: 4, why: RecordWhy::Order },
@@ -322,6 +329,8 @@ static TOLD: [Told; 17] = [
         begins: "f: it gave 1099511627776 bytes, " },
     Told { words: &["modulate", "c", "i", "o"], outcome: Outcome::TooLong { count: 1 << 31 },
         begins: "i: frame 2147483648 of CONFIG " },
+    Told { words: &["merge", "c", "a", "b", "o"], outcome: Outcome::TooLong { count: 1 << 31 },
+        begins: "A or B: frame 2147483648 of CONFIG " },
     Told { words: &["plan", "c"], outcome: Outcome::OutOfMemory, begins: "out of memory; " },
     Told { words: &["trial", "1", "6"], outcome: Outcome::TrialFault, begins: "a run inside the trial ended " },
 ];
@@ -375,10 +384,11 @@ struct Time {
 
 // At 2 Mbit/s a second has 250,000 bytes.
 #[rattlefmt::skip]
-static TIMES: [Time; 3] = [
+static TIMES: [Time; 4] = [
     Time { words: &["gateway", "time.txt", "o", "i"], read: 931_250_000, written: 1, time: "1:02:05" },
     Time { words: &["receive", "time.txt", "0", "i", "o"], read: 1, written: 15_000_000, time: "0:01:00" },
     Time { words: &["modulate", "time.txt", "i", "o"], read: 1, written: 1, time: "0:00:00" },
+    Time { words: &["merge", "time.txt", "a", "b", "o"], read: 1, written: 1, time: "0:00:00" },
 ];
 
 // That of the command that words name.
@@ -421,186 +431,47 @@ fn the_time_of_the_stream_is_told(rt: HostRuntime) -> Result<(), Fail> {
     Ok(())
 }
 
-// How long a stream of the tests of units is.
-const UNITS: usize = 8;
-
-const STREAM: usize = UNITS * SIZE;
-
-// A stream on PID 256 whose counters go on, each unit with a payload.
-fn stream() -> [u8; STREAM] {
-    let mut bytes = [0; STREAM];
-    for (number, unit) in bytes.chunks_exact_mut(SIZE).enumerate() {
-        for (place, byte) in unit
-            .iter_mut()
-            .zip([0x47, 1, 0, 0x10 | (number % 16) as u8])
-        {
-            *place = byte;
-        }
-    }
-    bytes
+// Whether a command is done, and people are told this of it.
+fn tells<R: Files + AllocGlobal + Drop>(
+    rt: R,
+    words: &[&str],
+    told: &str,
+) -> Result<bool, OutOfMemory> {
+    let words = words_from(rt.alloc(), words)?;
+    let outside = Outside::new(rt, true);
+    let outcome = carry_out(&outside, "site_cli", &words, false);
+    Ok(outcome == Outcome::Done && outside.has_heard(told))
 }
 
-// What its units are, if it comes by so many bytes at a time.
-fn counted(alloc: Global, bytes: &[u8], size: usize) -> Result<String, Fail> {
-    let mut units = UnitCounts::new(Some(256));
+// How many frames a stream has that comes by so many bytes at a time.
+fn frames_by(bytes: &[u8], size: usize) -> u64 {
+    let mut frames = FrameCount::new();
     for piece in bytes.chunks(size.max(1)) {
-        units.take(piece);
+        frames.take(piece);
     }
-    Ok(format!(in alloc; "{units}")?)
+    frames.count()
 }
 
-// A byte that is put at a place, and what is told of the stream then.
-struct Changed {
-    place: usize,
-    byte: u8,
-    told: &'static str,
-}
-
-#[rattlefmt::skip]
-static CHANGED: [Changed; 6] = [
-    Changed { place: 0, byte: 0x47, told: "8 units" },
-    Changed { place: 376, byte: 0x48, told: "8 units; not beginning with 0x47: 1, first at byte 376; jumps of the continuity counter: 1, first at byte 564" },
-    Changed { place: 755, byte: 0x17, told: "8 units; jumps of the continuity counter: 2, first at byte 752" },
-    Changed { place: 190, byte: 1, told: "8 units; of other PIDs: 1, first at byte 188; jumps of the continuity counter: 1, first at byte 376" },
-    Changed { place: 1317, byte: 0x81, told: "8 units; marked as wrong or scrambled, or empty: 1, first at byte 1316" },
-    Changed { place: 1319, byte: 0x27, told: "8 units; marked as wrong or scrambled, or empty: 1, first at byte 1316" },
-];
-
+// The stream of an empty input has four frames, in two units.
 #[test]
-fn units_that_are_passed_over_are_told(rt: HostRuntime) -> Result<(), Fail> {
-    for (at, changed) in CHANGED.iter().enumerate() {
-        let mut bytes = stream();
-        if let Some(byte) = bytes.get_mut(changed.place) {
-            *byte = changed.byte;
-        }
-        for size in [1, 3, 187, 189, STREAM] {
-            let told = counted(rt.alloc(), &bytes, size)?;
-            assert!(rt;
-                told.as_str() == changed.told,
-                "change {at} by {size}: {told}"
-            );
-        }
+fn it_is_told_from_which_stream_no_frame_came(rt: HostRuntime) -> Result<(), Fail> {
+    fs::write(&rt, "merge.txt", CONFIG.as_bytes())?;
+    fs::write(&rt, "merge.none", b"")?;
+    let make = ["gateway", "merge.txt", "merge.ts", "merge.none"];
+    assert!(rt; tells(&rt, &make, "")?);
+    let behind = ["merge", "merge.txt", "merge.none", "merge.ts", "merge.out"];
+    let why = "merge.none: no frame came from it: it has no unit of 188 bytes\n";
+    assert!(rt; tells(&rt, &behind, why)?);
+    let before = ["merge", "merge.txt", "merge.ts", "merge.none", "merge.out"];
+    let why =
+        "merge.none: no frame came from it: each that it has is in merge.ts too, or it has none\n";
+    assert!(rt; tells(&rt, &before, why)?);
+    let bytes = front_of(&rt, "merge.out", 3 * SIZE)?;
+    for size in [1, 187, 189, 3 * SIZE] {
+        assert!(rt; frames_by(&bytes, size) == 4, "frames by {size}");
     }
-    Ok(())
-}
-
-// A stream that lacks its byte 300: from unit 2 on each unit begins a byte earlier.
-#[test]
-fn a_lost_byte_is_told(rt: HostRuntime) -> Result<(), Fail> {
-    let bytes = stream();
-    let mut units = UnitCounts::new(Some(256));
-    units.take(bytes.get(..300).unwrap_or(&[]));
-    units.take(bytes.get(301..).unwrap_or(&[]));
-    let told = format!(in rt.alloc(); "{units}")?;
-    assert!(rt;
-        told.as_str()
-            == "7 units; the last one is cut off behind 187 bytes; not beginning with 0x47: 5, first at byte 376; at byte 376 no unit begins, and one does 187 bytes on: bytes were lost or added before",
-        "{told}"
-    );
-    Ok(())
-}
-
-// Why no superframe is found in a stream without units, in one of no sync bytes, on another PID, and on the PID that is looked for.
-#[test]
-fn it_is_told_why_no_superframe_is_found(rt: HostRuntime) -> Result<(), Fail> {
-    let mut none = UnitCounts::new(Some(256));
-    assert!(rt; none.why_none() == "it has no unit of 188 bytes");
-    none.take(&[0; 100]);
-    assert!(rt; !none.is_clean() && none.why_none() == "it has no unit of 188 bytes");
-    none.take(&[0; STREAM]);
-    assert!(rt;
-        none.why_none()
-            .starts_with("most of its units do not begin with 0x47")
-    );
-    let mut elsewhere = UnitCounts::new(Some(300));
-    elsewhere.take(&stream());
-    assert!(rt;
-        elsewhere
-            .why_none()
-            .starts_with("none of its units is on the PID of CONFIG")
-    );
-    let mut unknown = UnitCounts::new(None);
-    unknown.take(&stream());
-    assert!(rt; unknown.is_clean() && unknown.why_none().starts_with("CONFIG is not read twice"));
-    let mut there = UnitCounts::new(Some(256));
-    there.take(&stream());
-    assert!(rt; there.is_clean() && there.why_none().starts_with("units come on the PID"));
-    Ok(())
-}
-
-// What a list of numbers is, as runs.
-struct Listed {
-    numbers: &'static [u64],
-    told: &'static str,
-}
-
-#[rattlefmt::skip]
-static LISTED: [Listed; 4] = [
-    Listed { numbers: &[7], told: "7" },
-    Listed { numbers: &[0, 1, 2], told: "0 to 2" },
-    Listed { numbers: &[1, 2, 4, 8, 9], told: "1 to 2, 4, 8 to 9" },
-    Listed { numbers: &[1, 3, 5, 7, 9, 11, 12], told: "1, 3, 5, 7 and 2 more runs up to 12" },
-];
-
-#[test]
-fn numbers_are_told_as_runs(rt: HostRuntime) -> Result<(), Fail> {
-    for (at, listed) in LISTED.iter().enumerate() {
-        let mut runs = Runs::new();
-        for number in listed.numbers {
-            runs.add(*number);
-        }
-        let told = format!(in rt.alloc(); "{runs}")?;
-        assert!(rt; told.as_str() == listed.told, "list {at}: {told}");
-    }
-    Ok(())
-}
-
-// A record's head, of a frame that has so many bytes behind it; without any it is muted.
-fn head(rest: u8) -> [u8; HEAD] {
-    let mut bytes = [0; HEAD];
-    let kind = if rest == 0 { 2 } else { 1 };
-    for (place, byte) in bytes.iter_mut().zip([0x54, 0x32, 0x46, 0x52, kind]) {
-        *place = byte;
-    }
-    if let Some(last) = bytes.last_mut() {
-        *last = rest;
-    }
-    bytes
-}
-
-// A record that has so many bytes behind its head.
-fn push_record(bytes: &mut Vec<u8>, rest: u8) -> Result<(), OutOfMemory> {
-    let front = head(rest);
-    bytes.extend_from_slice(&front)?;
-    for _ in 0..rest {
-        bytes.push(0x54)?;
-    }
-    Ok(())
-}
-
-// Five records of which the second and the last two are muted, by so many bytes at a time.
-fn muted_by(alloc: Global, size: usize) -> Result<MutedRecords, OutOfMemory> {
-    let mut bytes = Vec::new(alloc);
-    for rest in [40, 0, 50, 0, 0] {
-        push_record(&mut bytes, rest)?;
-    }
-    let mut records = MutedRecords::new();
-    for piece in bytes.as_slice().chunks(size.max(1)) {
-        records.take(piece);
-    }
-    Ok(records)
-}
-
-#[test]
-fn muted_frames_are_told(rt: HostRuntime) -> Result<(), Fail> {
-    for size in [1, 7, 24, 1000] {
-        let records = muted_by(rt.alloc(), size)?;
-        let told = format!(in rt.alloc(); "{records}")?;
-        assert!(rt;
-            told.as_str() == "muted frames: 3 of 5, records 1, 3 to 4",
-            "by {size}: {told}"
-        );
-        assert!(rt; records.ends_muted(2) && !records.ends_muted(3));
+    for name in ["merge.txt", "merge.none", "merge.ts", "merge.out"] {
+        fs::remove_file(&rt, name)?;
     }
     Ok(())
 }

@@ -38,6 +38,11 @@ use Rattle.receive_run.specs.Laws.{OneRun as OneReception}
 use Rattle.receive_run.specs.declared.stop.Ran.{Ran as Received}
 use Rattle.receive_run.specs.declared.stop.ReceiveStop.{ReceiveStop}
 use Rattle.receive_run.specs.declared.stop.ReceiveStop.TheVariants as receive
+use Rattle.merge_run.specs.Laws.{OneRun as OneMerging}
+use Rattle.merge_run.specs.MergeRun.{names_of}
+use Rattle.merge_run.specs.declared.stop.Ran.{Ran as Merged}
+use Rattle.merge_run.specs.declared.stop.MergeStop.{MergeStop}
+use Rattle.merge_run.specs.declared.stop.MergeStop.TheVariants as merge
 use Rattle.show_run.specs.PacketText.{IsPacketText}
 use Rattle.show_run.specs.RecordText.{IsRecordText}
 use Rattle.show_run.specs.Shows.{Counted}
@@ -48,21 +53,22 @@ use Rattle.ts_packet.specs.TsFile.{HasBad}
 use Rattle.site_top.specs.declared.outcome.Outcome.{Outcome}
 use Rattle.site_top.specs.declared.outcome.Outcome.TheVariants.{Done, ReadFault, WriteFault, OutOfMemory}
 use Rattle.site_top.specs.Commands.{Command, ShowPackets, ShowT2mi, ShowFrames, ShowConfig, Plan, Gateway, Modulate, Receive}
-use Rattle.site_top.specs.Commands.{Trial}
+use Rattle.site_top.specs.Commands.{Merge, Trial}
 use Rattle.site_top.specs.ConfigCommands.{ShowsConfig, Plans}
 use Rattle.trial_run.specs.declared.stop.TrialStop.TheVariants as trial
 use Rattle.site_top.specs.GatewayCommand as gateways
 use Rattle.site_top.specs.Laws.{OneEnding, Completeness}
+use Rattle.site_top.specs.MergeCommand as merges
 use Rattle.site_top.specs.ModulateCommand as modulates
 use Rattle.site_top.specs.Outcomes.{run_outcome, stop_outcome, config_outcome, gateway_cause, modulate_cause, receive_cause}
-use Rattle.site_top.specs.Outcomes.{show_cause}
+use Rattle.site_top.specs.Outcomes.{merge_cause, show_cause}
 use Rattle.site_top.specs.PlanCommand.{RunsAndTells, ByPlan}
 use Rattle.site_top.specs.ReceiveCommand as receives
-use Rattle.site_top.specs.Runs.{PlanMustEnd, ModulateMustEnd, ReceiveMustEnd, OverPlan, MustEnd, IsComplete}
+use Rattle.site_top.specs.Runs.{PlanMustEnd, ModulateMustEnd, ReceiveMustEnd, MergeMustEnd, OverPlan, MustEnd, IsComplete}
 use Rattle.site_top.specs.Saying.{Tells}
 use Rattle.site_top.specs.TrialCommand.{Tries}
 use Rattle.site_top.proofs.EndingLemmas.{GatewayIfShort, gateway_one, ModulatesIfShort, modulate_one, ReceivesIfShort, receive_one}
-use Rattle.site_top.proofs.EndingLemmas.{over_one, unplanned_so}
+use Rattle.site_top.proofs.EndingLemmas.{MergesIfShort, merge_one, over_one, unplanned_so}
 
 -- How a run came to its outcome: by its files, if something is so of what must be; or by a fault, or want of memory.
 abbrev By : (State → State → Outcome → Type 0)
@@ -417,6 +423,41 @@ receive_so one run old new config id file out result does =
     (λ held c mine outcome plan. receive_one run (bytes_of held.files file) id c mine outcome plan)
     (receive_follows id file out) old new result does
 
+-- ---- `merge`
+
+abbrev MergingMust : List (List ℕ) → Config → State → Outcome → Type 0
+MergingMust ins c mid outcome = IfSome mid.held (λ h. MergesIfShort h ins c outcome)
+
+merge_stops : (a b out : List ℕ) (c : Config) (mid new : State) (stop : RunStop MergeStop) → merges.StopsSo a b out c mid new stop
+    → MergingMust (names_of a b) c mid (stop_outcome merge_cause stop) ⊎ By mid new (stop_outcome merge_cause stop)
+merge_stops a b out c mid new (run.Refused merge.NoSuperframe) s =
+    inl (IfSome_then mid.held s.works.holds (λ h w. λ short. (Err merge.NoSuperframe, w.2.2.none, refl)))
+merge_stops a b out c mid new (run.Refused merge.TooManyFrames) s =
+    inl (IfSome_then mid.held s.works.holds (λ h w. λ short. (Err merge.TooManyFrames, w.2.2.late, refl)))
+merge_stops a b out c mid new (run.Files (run_fault.TooLong input)) s =
+    inl (IfSome_then mid.held s.long
+    (λ h long. λ short. let most = long.1 in let few = short input s.place in absurd (omega (arith, most, few))))
+merge_stops a b out c mid new (run.Files (run_fault.ReadFault input)) s = inr (inl s.0.rose)
+merge_stops a b out c mid new (run.Files run_fault.WriteFault) s = inr (inr (inl s.0.rose))
+merge_stops a b out c mid new run.OutOfMemory s = inr (inr (inr refl))
+
+merge_ends : (a b out : List ℕ) (c : Config) (mid after : State) (ran : Merged) → merges.Ends a b out c mid after ran
+    → MergingMust (names_of a b) c mid Done × SameCounts mid after
+merge_ends a b out c mid after ran (r, holds) = (
+  IfSome_then mid.held r.works.holds (λ h w. λ short. (Ok ran, (w.2.2.some, w.2.2.early, w.2.2.ran_is), refl)),
+  r.counts,
+)
+
+merge_so : OnePlan → OneMerging → (old new : State) (config a b out : List ℕ) (result : Outcome)
+    → merges.Merges old new config a b out result → IsComplete (Merge config a b out) old new result
+merge_so one run old new config a b out result does =
+    by_plan one (Merge config a b out) config (merges.Follows a b out) (λ held. MergesIfShort held (names_of a b))
+    (λ held. MergeMustEnd held (names_of a b)) (λ held outcome m. m) (λ held c outcome m. m)
+    (λ held c mine outcome plan. merge_one run held (names_of a b) c mine outcome)
+    (λ c old mid new result same runs. ways (merges.Ends a b out c) (merges.StopsSo a b out c) merges.merge_line merge_cause
+    (MergingMust (names_of a b) c) (merge_stops a b out c) (merge_ends a b out c) old mid new result same runs)
+    old new result does
+
 -- ---- `trial`
 
 trial_so : (old new : State) (seed frames : ℕ) (result : Outcome) → Tries old new seed frames result
@@ -432,21 +473,23 @@ trial_so old new seed frames result (inr (text, lines, tells)) =
     (failed (Trial seed frames) old new result)
     (told old old new text result refl tells)
 
-pub is_complete : OneEnding → OnePlan → OneRun → OneModulation → OneReception → Completeness
-is_complete law one run modulation reception (ShowPackets file) old new result s =
+pub is_complete : OneEnding → OnePlan → OneRun → OneModulation → OneReception → OneMerging → Completeness
+is_complete law one run modulation reception merging (ShowPackets file) old new result s =
     subst (IsComplete (ShowPackets file) old new) (sym s.2)
     (packets_so law file old new s.1.given s.1.text s.0 s.1.lines s.1.counts)
-is_complete law one run modulation reception (ShowT2mi file) old new result s =
+is_complete law one run modulation reception merging (ShowT2mi file) old new result s =
     subst (IsComplete (ShowT2mi file) old new) (sym s.2) (t2mi_so file old new s.1.given s.1.text s.0 s.1.lines s.1.counts)
-is_complete law one run modulation reception (ShowFrames file) old new result s =
+is_complete law one run modulation reception merging (ShowFrames file) old new result s =
     subst (IsComplete (ShowFrames file) old new) (sym s.2)
     (records_so law file old new s.1.given s.1.text s.0 s.1.lines s.1.counts)
-is_complete law one run modulation reception (ShowConfig file) old new result s = config_so law old new file result s
-is_complete law one run modulation reception (Plan config) old new result s = plan_so law old new config result s
-is_complete law one run modulation reception (Gateway config out ins) old new result s =
+is_complete law one run modulation reception merging (ShowConfig file) old new result s = config_so law old new file result s
+is_complete law one run modulation reception merging (Plan config) old new result s = plan_so law old new config result s
+is_complete law one run modulation reception merging (Gateway config out ins) old new result s =
     gateway_so one run old new config out ins result s
-is_complete law one run modulation reception (Modulate config file out) old new result s =
+is_complete law one run modulation reception merging (Modulate config file out) old new result s =
     modulate_so one modulation old new config file out result s
-is_complete law one run modulation reception (Receive config id file out) old new result s =
+is_complete law one run modulation reception merging (Receive config id file out) old new result s =
     receive_so one reception old new config id file out result s
-is_complete law one run modulation reception (Trial seed frames) old new result s = trial_so old new seed frames result s
+is_complete law one run modulation reception merging (Merge config a b out) old new result s =
+    merge_so one merging old new config a b out result s
+is_complete law one run modulation reception merging (Trial seed frames) old new result s = trial_so old new seed frames result s

@@ -18,15 +18,19 @@ use Rattle.modulate_run.specs.declared.stop.ModulateStop.{ModulateStop}
 use Rattle.receive_run.specs.Laws.{MustRun as ReceiveMust, OneRun as OneReception}
 use Rattle.receive_run.specs.declared.stop.Ran.{Ran as Received}
 use Rattle.receive_run.specs.declared.stop.ReceiveStop.{ReceiveStop}
+use Rattle.merge_run.specs.Laws.{MustRun as MergeMust, OneRun as OneMerging}
+use Rattle.merge_run.specs.MergeRun.{names_of}
+use Rattle.merge_run.specs.declared.stop.Ran.{Ran as Merged}
+use Rattle.merge_run.specs.declared.stop.MergeStop.{MergeStop}
 use Rattle.show_run.specs.Laws.{OneEnd, OneRecordsEnd}
 use Rattle.site_top.specs.declared.outcome.Outcome.{Outcome}
 use Rattle.site_top.specs.declared.outcome.Outcome.TheVariants.{UnknownPlp}
-use Rattle.site_top.specs.Commands.{ShowPackets, ShowT2mi, ShowFrames, ShowConfig, Plan, Gateway, Modulate, Receive, Trial}
+use Rattle.site_top.specs.Commands.{ShowPackets, ShowT2mi, ShowFrames, ShowConfig, Plan, Gateway, Modulate, Receive, Merge, Trial}
 use Rattle.site_top.specs.Laws.{OneEnding}
-use Rattle.site_top.specs.Outcomes.{run_outcome, gateway_cause, modulate_cause, receive_cause, show_cause}
+use Rattle.site_top.specs.Outcomes.{run_outcome, gateway_cause, modulate_cause, receive_cause, merge_cause, show_cause}
 use Rattle.site_top.specs.Outcomes.{config_outcome, Miscounts}
 use Rattle.desk_io.specs.Reading.{longest_file}
-use Rattle.site_top.specs.Runs.{AreShort, PlanMustEnd, ModulateMustEnd, ReceiveMustEnd, OverPlan, MustEnd}
+use Rattle.site_top.specs.Runs.{AreShort, PlanMustEnd, ModulateMustEnd, ReceiveMustEnd, MergeMustEnd, OverPlan, MustEnd}
 
 -- what texts give
 abbrev Given : Type 0
@@ -133,25 +137,42 @@ receive_if_short : (bytes : List ℕ) (id : ℕ) (c : Config) (outcome : Outcome
 receive_if_short bytes id c outcome (inl none) = inl none
 receive_if_short bytes id c outcome (inr (plp, at, short, must)) = inr (plp, at, λ x. must)
 
-pub one_ending : OneEnd → OneRecordsEnd → OneConfig → OnePlan → OneRun → OneModulation → OneReception → OneEnding
-one_ending packets records config plan run modulate receive (ShowPackets file) held outcome other a b =
+-- ---- `merge`
+
+-- How it must end over a plan, if its inputs are not too long.
+abbrev pub MergesIfShort : Held → List (List ℕ) → Config → Outcome → Type 0
+MergesIfShort held ins c outcome = AreShort held ins → (result : Result Merged MergeStop) × MergeMust c (file_at held ins) result
+    × (outcome ≡ run_outcome merge_cause result)
+
+pub merge_one : OneMerging → (held : Held) (ins : List (List ℕ)) (c : Config) (result outcome : Outcome)
+    → MergesIfShort held ins c result → MergeMustEnd held ins c outcome → result ≡ outcome
+merge_one run held ins c result outcome mine must =
+    let r = mine must.0 in
+    r.2 ∙ ap (run_outcome merge_cause) (run c (file_at held ins) r.0 must.1.0 r.1 must.1.1) ∙ sym must.1.2
+
+pub one_ending : OneEnd → OneRecordsEnd → OneConfig → OnePlan → OneRun → OneModulation → OneReception → OneMerging → OneEnding
+one_ending packets records config plan run modulate receive merge (ShowPackets file) held outcome other a b =
     a.1.2 ∙ ap (run_outcome show_cause) (packets (bytes_of held.files file) a.1.0 b.1.0 a.1.1 b.1.1) ∙ sym b.1.2
-one_ending packets records config plan run modulate receive (ShowT2mi file) held outcome other a b = a.1 ∙ sym b.1
-one_ending packets records config plan run modulate receive (ShowFrames file) held outcome other a b =
+one_ending packets records config plan run modulate receive merge (ShowT2mi file) held outcome other a b = a.1 ∙ sym b.1
+one_ending packets records config plan run modulate receive merge (ShowFrames file) held outcome other a b =
     a.1.2 ∙ ap (run_outcome show_cause) (records (bytes_of held.files file) a.1.0 b.1.0 a.1.1 b.1.1) ∙ sym b.1.2
-one_ending packets records config plan run modulate receive (ShowConfig file) held outcome other a b =
+one_ending packets records config plan run modulate receive merge (ShowConfig file) held outcome other a b =
     a.2 ∙ ap (run_outcome config_outcome) (config (bytes_of held.files file) a.0 b.0 a.1 b.1) ∙ sym b.2
-one_ending packets records config plan run modulate receive (Plan file) held outcome other a b =
+one_ending packets records config plan run modulate receive merge (Plan file) held outcome other a b =
     a.2 ∙ ap (run_outcome config_outcome) (plan (bytes_of held.files file) a.0 b.0 a.1 b.1) ∙ sym b.2
-one_ending packets records config plan run modulate receive (Gateway file out ins) held outcome other a b =
+one_ending packets records config plan run modulate receive merge (Gateway file out ins) held outcome other a b =
     one_by_plan plan (bytes_of held.files file) (GatewayIfShort held ins) (PlanMustEnd held ins) (gateway_if_short held ins)
     (λ c result outcome is mine must. gateway_one run held ins c result outcome mine must) outcome other a b
-one_ending packets records config plan run modulate receive (Modulate config_file file out) held outcome other a b =
+one_ending packets records config plan run modulate receive merge (Modulate config_file file out) held outcome other a b =
     let bytes : List ℕ = bytes_of held.files file in
     one_by_plan plan (bytes_of held.files config_file) (ModulatesIfShort bytes) (ModulateMustEnd bytes) (λ c outcome must short. must.1)
     (λ c result outcome is mine must. modulate_one modulate bytes c result outcome mine must) outcome other a b
-one_ending packets records config plan run modulate receive (Receive config_file id file out) held outcome other a b =
+one_ending packets records config plan run modulate receive merge (Receive config_file id file out) held outcome other a b =
     let bytes : List ℕ = bytes_of held.files file in
     one_by_plan plan (bytes_of held.files config_file) (ReceivesIfShort bytes id) (ReceiveMustEnd bytes id)
     (receive_if_short bytes id) (receive_one receive bytes id) outcome other a b
-one_ending packets records config plan run modulate receive (Trial seed frames) held outcome other a b = a ∙ sym b
+one_ending packets records config plan run modulate receive merge (Merge config_file a b out) held outcome other x y =
+    one_by_plan plan (bytes_of held.files config_file) (MergesIfShort held (names_of a b)) (MergeMustEnd held (names_of a b))
+    (λ c outcome must short. must.1)
+    (λ c result outcome is mine must. merge_one merge held (names_of a b) c result outcome mine must) outcome other x y
+one_ending packets records config plan run modulate receive merge (Trial seed frames) held outcome other a b = a ∙ sym b

@@ -13,13 +13,16 @@ use Rattle.file_run.specs.FileRun.{file_at}
 use Rattle.gateway_run.specs.Laws.{RunEnds}
 use Rattle.modulate_run.specs.Laws.{RunEnds as ModulationEnds}
 use Rattle.receive_run.specs.Laws.{RunEnds as ReceptionEnds}
+use Rattle.merge_run.specs.Laws.{RunEnds as MergingEnds}
+use Rattle.merge_run.specs.MergeRun.{names_of}
 use Rattle.show_run.specs.Laws.{EachEnds, EachRecordsEnd}
 use Rattle.site_top.specs.declared.outcome.Outcome.{Outcome}
 use Rattle.site_top.specs.declared.outcome.Outcome.TheVariants.{Done, UnknownPlp, WrongInputs}
-use Rattle.site_top.specs.Commands.{ShowPackets, ShowT2mi, ShowFrames, ShowConfig, Plan, Gateway, Modulate, Receive, Trial}
+use Rattle.site_top.specs.Commands.{ShowPackets, ShowT2mi, ShowFrames, ShowConfig, Plan, Gateway, Modulate, Receive, Merge, Trial}
 use Rattle.site_top.specs.Laws.{CommandsHaveEnding}
-use Rattle.site_top.specs.Outcomes.{run_outcome, config_outcome, gateway_cause, modulate_cause, receive_cause, show_cause}
-use Rattle.site_top.specs.Runs.{AreShort, PlanMustEnd, ModulateMustEnd, ReceiveMustEnd, OverPlan}
+use Rattle.site_top.specs.Outcomes.{run_outcome, config_outcome, gateway_cause, modulate_cause, receive_cause, merge_cause}
+use Rattle.site_top.specs.Outcomes.{show_cause}
+use Rattle.site_top.specs.Runs.{AreShort, PlanMustEnd, ModulateMustEnd, ReceiveMustEnd, MergeMustEnd, OverPlan}
 use Rattle.site_top.proofs.PlaceLemmas.{has_place}
 
 -- over a plan
@@ -46,26 +49,31 @@ by_plan : (text : List ℕ) (Must : Config → Outcome → Type 0) → ((c : Con
 by_plan text Must over (Err stop) gives = (config_outcome stop, inl (stop, gives, refl))
 by_plan text Must over (Ok c) gives = let end = over c gives.1 in (end.0, inr (c, gives, end.1))
 
-pub commands_end : EachEnds → EachRecordsEnd → ConfigEnds → PlanEnds → RunEnds → ModulationEnds → ReceptionEnds
+pub commands_end : EachEnds → EachRecordsEnd → ConfigEnds → PlanEnds → RunEnds → ModulationEnds → ReceptionEnds → MergingEnds
     → CommandsHaveEnding
-commands_end packets records config plan run modulate receive (ShowPackets file) held short = let end =
+commands_end packets records config plan run modulate receive merge (ShowPackets file) held short = let end =
     packets (bytes_of held.files file) in (run_outcome show_cause end.0, (short, (end.0, end.1, refl)))
-commands_end packets records config plan run modulate receive (ShowT2mi file) held short = (Done, (short, refl))
-commands_end packets records config plan run modulate receive (ShowFrames file) held short = let end =
+commands_end packets records config plan run modulate receive merge (ShowT2mi file) held short = (Done, (short, refl))
+commands_end packets records config plan run modulate receive merge (ShowFrames file) held short = let end =
     records (bytes_of held.files file) short.1 in (run_outcome show_cause end.0, (short.0, (end.0, end.1, refl)))
-commands_end packets records config plan run modulate receive (ShowConfig file) held short = let end =
+commands_end packets records config plan run modulate receive merge (ShowConfig file) held short = let end =
     config (bytes_of held.files file) in (run_outcome config_outcome end.0, (end.0, end.1, refl))
-commands_end packets records config plan run modulate receive (Plan file) held short = let end =
+commands_end packets records config plan run modulate receive merge (Plan file) held short = let end =
     plan (bytes_of held.files file) in (run_outcome config_outcome end.0, (end.0, end.1, refl))
-commands_end packets records config plan run modulate receive (Gateway file out ins) held short =
+commands_end packets records config plan run modulate receive merge (Gateway file out ins) held short =
     let end = plan (bytes_of held.files file) in
     by_plan (bytes_of held.files file) (PlanMustEnd held ins) (λ c is. plan_ends run held ins c short is) end.0 end.1
-commands_end packets records config plan run modulate receive (Modulate config_file file out) held short =
+commands_end packets records config plan run modulate receive merge (Modulate config_file file out) held short =
     let end = plan (bytes_of held.files config_file) in
     by_plan (bytes_of held.files config_file) (ModulateMustEnd (bytes_of held.files file))
     (λ c is. let m = modulate c (bytes_of held.files file) in (run_outcome modulate_cause m.0, (short, (m.0, m.1, refl)))) end.0 end.1
-commands_end packets records config plan run modulate receive (Receive config_file id file out) held short =
+commands_end packets records config plan run modulate receive merge (Receive config_file id file out) held short =
     let end = plan (bytes_of held.files config_file) in
     by_plan (bytes_of held.files config_file) (ReceiveMustEnd (bytes_of held.files file) id)
     (λ c is. receive_ends receive (bytes_of held.files file) id c short is) end.0 end.1
-commands_end packets records config plan run modulate receive (Trial seed frames) held short = (Done, refl)
+commands_end packets records config plan run modulate receive merge (Merge config_file a b out) held short =
+    let end = plan (bytes_of held.files config_file) in
+    by_plan (bytes_of held.files config_file) (MergeMustEnd held (names_of a b))
+    (λ c is. let m = merge c (file_at held (names_of a b)) in (run_outcome merge_cause m.0, (short, (m.0, m.1, refl))))
+    end.0 end.1
+commands_end packets records config plan run modulate receive merge (Trial seed frames) held short = (Done, refl)

@@ -4,6 +4,7 @@ pub mod GatewayLemmas
 pub mod RequestLemmas
 pub mod RunLemmas
 pub mod HaveEndingLemmas
+mod MergeLemmas
 mod SurvivorLemmas
 pub mod PlaceLemmas
 pub mod PlanCommandLemmas

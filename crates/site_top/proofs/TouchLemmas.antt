@@ -25,19 +25,24 @@ use Rattle.modulate_run.specs.declared.stop.ModulateStop.TheVariants as modulate
 use Rattle.receive_run.specs.ReceiveRun as receiving
 use Rattle.receive_run.specs.declared.stop.ReceiveStop.{ReceiveStop}
 use Rattle.receive_run.specs.declared.stop.ReceiveStop.TheVariants as receive
+use Rattle.merge_run.specs.MergeRun as merging
+use Rattle.merge_run.specs.MergeRun.{names_of}
+use Rattle.merge_run.specs.declared.stop.MergeStop.{MergeStop}
+use Rattle.merge_run.specs.declared.stop.MergeStop.TheVariants as merge
 use Rattle.show_run.specs.Shows.{Shows, ReadsFile}
 use Rattle.show_run.specs.declared.stop.ShowStop.{ShowStop}
 use Rattle.site_top.specs.declared.outcome.Outcome.{Outcome}
 use Rattle.site_top.specs.declared.outcome.Outcome.TheVariants as outcome
 use Rattle.site_top.specs.Commands.{Command, ShowPackets, ShowT2mi, ShowFrames, ShowConfig, Plan, Gateway, Modulate, Receive}
-use Rattle.site_top.specs.Commands.{Trial}
+use Rattle.site_top.specs.Commands.{Merge, Trial}
 use Rattle.site_top.specs.ConfigCommands.{ShowsConfig, Plans}
 use Rattle.site_top.specs.GatewayCommand as gateways
+use Rattle.site_top.specs.MergeCommand as merges
 use Rattle.site_top.specs.ModulateCommand as modulates
 use Rattle.site_top.specs.ReceiveCommand as receives
 use Rattle.site_top.specs.Endings.{Ends}
 use Rattle.site_top.specs.Laws.{OnlyOutChanges}
-use Rattle.site_top.specs.Outcomes.{gateway_cause, modulate_cause, receive_cause}
+use Rattle.site_top.specs.Outcomes.{gateway_cause, modulate_cause, receive_cause, merge_cause}
 use Rattle.site_top.specs.PlanCommand.{RunsAndTells, ByPlan}
 use Rattle.site_top.specs.Runs.{Does}
 use Rattle.site_top.specs.Saying.{Tells}
@@ -295,6 +300,25 @@ receive_follows id file out c mid new result f = ⊎_elim
     (Some out) 1 (λ a b stop s. receive_stops c all.0 a b file out stop s)
     (λ a b ran r. run_works a b out (file ∷ []) _ _ r.0.works) mid new result all.2) f
 
+-- that of a merger
+merge_stops : (c : Config) (old new : State) (a b out : List ℕ) (stop : RunStop MergeStop) → merging.Stops c old new a b out stop
+    → Touches (Some out) 2 old new
+merge_stops c old new a b out (run.Refused merge.NoSuperframe) s = run_works old new out (names_of a b) s.places _ s.works
+merge_stops c old new a b out (run.Refused merge.TooManyFrames) s = run_works old new out (names_of a b) s.places _ s.works
+merge_stops c old new a b out (run.Files (run_fault.TooLong input)) s = run_works old new out (names_of a b) s.places _ s.works
+merge_stops c old new a b out (run.Files (run_fault.ReadFault input)) s =
+    ⊎_elim (λ o. run_opens old new out (names_of a b) input o) (λ w. run_works old new out (names_of a b) w.places _ w.works) s.1
+merge_stops c old new a b out (run.Files run_fault.WriteFault) s =
+    ⊎_elim (λ f. run_creates old new out (names_of a b) f) (λ w. run_works old new out (names_of a b) w.places _ w.works) s.1
+merge_stops c old new a b out run.OutOfMemory s = untouched (Some out) 2 old new s
+
+merge_follows : (a b out : List ℕ) (c : Config) (mid new : State) (result : Outcome) → merges.Follows a b out c mid new result
+    → Touches (Some out) 2 mid new
+merge_follows a b out c mid new result f =
+    runs_touch (merges.Ends a b out c) (merges.StopsSo a b out c) merges.merge_line merge_cause (Some out) 2
+    (λ x y stop s. merge_stops c x y a b out stop s) (λ x y ran r. run_works x y out (names_of a b) r.0.places _ r.0.works)
+    mid new result f
+
 -- a file that is shown
 file_read : (old new : State) (name : List ℕ) (given : ℕ) (text : List ℕ) (result : Result ℕ (RunStop ShowStop))
     → ReadsFile old new name given result → new.said ≡ option_map (λ (said : List ℕ). said ++ text) old.said
@@ -344,6 +368,8 @@ only_out_changes (Modulate config file out) old new result does =
     plan_then (modulates.Follows file out) (Some out) 1 (modulate_follows file out) old new config result does
 only_out_changes (Receive config id file out) old new result does =
     plan_then (receives.Follows id file out) (Some out) 1 (receive_follows id file out) old new config result does
+only_out_changes (Merge config a b out) old new result does =
+    plan_then (merges.Follows a b out) (Some out) 2 (merge_follows a b out) old new config result does
 only_out_changes (Trial seed frames) old new result does = trial_touches old new seed frames result does
 
 -- its last line changes nothing of that

@@ -21,6 +21,7 @@ pub data Command : Type 0 where
   Modulate : List ℕ → List ℕ → List ℕ → Command
   -- its second part is the identifier of a PLP
   Receive : List ℕ → ℕ → List ℕ → List ℕ → Command
+  Merge : List ℕ → List ℕ → List ℕ → List ℕ → Command
   -- the number that is drawn from, and the number of frames
   Trial : ℕ → ℕ → Command
 
@@ -63,6 +64,11 @@ receive_of receive config plp file out =
     if bytes_eq receive (codes "receive") && not (is_empty out) && is_input out config && is_input out file
     then option_map (λ id. Receive config id file out) (number_named 0 255 plp) else None
 
+-- the command of the words `merge CONFIG A B OUT`: A and B may be one file
+abbrev pub merge_of : List ℕ → List ℕ → List ℕ → List ℕ → Option Command
+merge_of config a b out =
+    if not (is_empty out) && is_input out config && is_input out a && is_input out b then Some (Merge config a b out) else None
+
 -- the command of the words `trial SEED FRAMES`
 abbrev pub trial_of : List ℕ → List ℕ → Option Command
 trial_of seed frames = option_and_then (λ s. option_map (λ n. Trial s n) (number_named FEWEST_TRIED MOST_TRIED frames))
@@ -76,7 +82,8 @@ show_of show what file = if bytes_eq show (codes "show") && not (is_empty file) 
 abbrev pub counted_of : List ℕ → List ℕ → List ℕ → List (List ℕ) → Option Command
 counted_of first second third [] = if bytes_eq first (codes "trial") then trial_of second third else show_of first second third
 counted_of first second third (fourth ∷ []) = modulate_of first second third fourth
-counted_of first second third (fourth ∷ fifth ∷ []) = receive_of first second third fourth fifth
+counted_of first second third (fourth ∷ fifth ∷ []) =
+    if bytes_eq first (codes "merge") then merge_of second third fourth fifth else receive_of first second third fourth fifth
 counted_of first second third (fourth ∷ fifth ∷ more) = None
 
 -- the command that words name; no word of a command is empty
@@ -96,6 +103,7 @@ meant (asked.Plan config) = Plan config.now
 meant (asked.Gateway config out ins) = Gateway config.now out.now ins.now
 meant (asked.Modulate config file out) = Modulate config.now file.now out.now
 meant (asked.Receive config plp file out) = Receive config.now plp file.now out.now
+meant (asked.Merge config a b out) = Merge config.now a.now b.now out.now
 meant (asked.Trial seed frames) = Trial seed frames
 
 -- The output of a request is none of its inputs.
@@ -103,4 +111,5 @@ abbrev pub IsApart : Request → Type 0
 IsApart (asked.Gateway config out ins) = are_inputs out.now ins.now ≡ true
 IsApart (asked.Modulate config file out) = is_input out.now file.now ≡ true
 IsApart (asked.Receive config plp file out) = is_input out.now file.now ≡ true
+IsApart (asked.Merge config a b out) = (is_input out.now a.now ≡ true) × (is_input out.now b.now ≡ true)
 IsApart request = Unit {0}

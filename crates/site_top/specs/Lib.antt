@@ -3,6 +3,7 @@ pub mod ConfigCommands
 pub mod Endings
 pub mod GatewayCommand
 pub mod Laws
+pub mod MergeCommand
 pub mod ModulateCommand
 pub mod ReceiveCommand
 pub mod Outcomes

@@ -25,6 +25,8 @@ use Rattle.modulate_run.specs.declared.stop.ModulateStop.{ModulateStop}
 use Rattle.modulate_run.specs.declared.stop.ModulateStop.TheVariants as modulate
 use Rattle.receive_run.specs.declared.stop.ReceiveStop.{ReceiveStop}
 use Rattle.receive_run.specs.declared.stop.ReceiveStop.TheVariants as receive
+use Rattle.merge_run.specs.declared.stop.MergeStop.{MergeStop}
+use Rattle.merge_run.specs.declared.stop.MergeStop.TheVariants as merge
 use Rattle.show_run.specs.declared.stop.ShowStop.{ShowStop}
 use Rattle.show_run.specs.declared.stop.ShowStop.TheVariants as show
 use Rattle.trial_run.specs.declared.stop.TrialStop.{TrialStop}
@@ -138,6 +140,10 @@ modulate_cause modulate.TooManyFrames = TooLong MOST_FRAMES
 
 abbrev pub receive_cause : ReceiveStop → Outcome
 receive_cause (receive.RecordRefused number why) = RecordRefused number why
+
+abbrev pub merge_cause : MergeStop → Outcome
+merge_cause merge.NoSuperframe = NoSuperframe
+merge_cause merge.TooManyFrames = TooLong MOST_FRAMES
 
 abbrev pub show_cause : ShowStop → Outcome
 show_cause (show.PacketRefused at why) = PacketRefused at why

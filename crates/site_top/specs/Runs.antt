@@ -18,6 +18,10 @@ use Rattle.modulate_run.specs.declared.stop.ModulateStop.{ModulateStop}
 use Rattle.receive_run.specs.Laws.{MustRun as ReceiveMust}
 use Rattle.receive_run.specs.declared.stop.Ran.{Ran as Received}
 use Rattle.receive_run.specs.declared.stop.ReceiveStop.{ReceiveStop}
+use Rattle.merge_run.specs.Laws.{MustRun as MergeMust}
+use Rattle.merge_run.specs.MergeRun.{names_of}
+use Rattle.merge_run.specs.declared.stop.Ran.{Ran as Merged}
+use Rattle.merge_run.specs.declared.stop.MergeStop.{MergeStop}
 use Rattle.show_run.specs.Laws.{PacketsEnd, RecordsEnd}
 use Rattle.show_run.specs.PacketText.{IsPacketText}
 use Rattle.show_run.specs.RecordText.{IsRecordText}
@@ -28,14 +32,15 @@ use Rattle.site_frame.specs.RecordFile.{AreBytes}
 use Rattle.site_top.specs.declared.outcome.Outcome.{Outcome}
 use Rattle.site_top.specs.declared.outcome.Outcome.TheVariants.{Done, UnknownPlp, OutOfMemory, TrialFault}
 use Rattle.site_top.specs.Commands.{Command, ShowPackets, ShowT2mi, ShowFrames, ShowConfig, Plan, Gateway, Modulate, Receive}
-use Rattle.site_top.specs.Commands.{Trial}
+use Rattle.site_top.specs.Commands.{Merge, Trial}
 use Rattle.site_top.specs.ConfigCommands.{ShowsConfig, Plans}
 use Rattle.site_top.specs.GatewayCommand.{Gateways}
+use Rattle.site_top.specs.MergeCommand.{Merges}
 use Rattle.site_top.specs.ModulateCommand.{Modulates}
 use Rattle.site_top.specs.ReceiveCommand.{Receives}
 use Rattle.site_top.specs.TrialCommand.{Tries}
-use Rattle.site_top.specs.Outcomes.{run_outcome, stop_outcome, gateway_cause, modulate_cause, receive_cause, show_cause}
-use Rattle.site_top.specs.Outcomes.{config_outcome, Miscounts}
+use Rattle.site_top.specs.Outcomes.{run_outcome, stop_outcome, gateway_cause, modulate_cause, receive_cause, merge_cause}
+use Rattle.site_top.specs.Outcomes.{show_cause, config_outcome, Miscounts}
 
 -- A file is shown by the text that a definition asks for.
 abbrev pub Shows : (List ℕ → ℕ → Result ℕ (RunStop ShowStop) → List ℕ → Type 0) → State → State → List ℕ → Outcome → Type 0
@@ -51,6 +56,7 @@ Does (Plan config) old new outcome = Plans old new config outcome
 Does (Gateway config out ins) old new outcome = Gateways old new config out ins outcome
 Does (Modulate config file out) old new outcome = Modulates old new config file out outcome
 Does (Receive config id file out) old new outcome = Receives old new config id file out outcome
+Does (Merge config a b out) old new outcome = Merges old new config a b out outcome
 Does (Trial seed frames) old new outcome = Tries old new seed frames outcome
 
 -- No input is too long.
@@ -68,6 +74,7 @@ AreShortFor (Gateway config out ins) held = AreShort held ins
 AreShortFor (Modulate config file out) held = length (bytes_of held.files file) < longest_file
 AreShortFor (Receive config id file out) held = (length (bytes_of held.files file) < longest_file)
     × AreBytes (bytes_of held.files file)
+AreShortFor (Merge config a b out) held = AreShort held (names_of a b)
 AreShortFor (Trial seed frames) held = Unit {0}
 
 -- How `gateway` must end over a plan: with the numbers if there is not one input for each PLP, else as the run does over inputs
@@ -88,6 +95,11 @@ abbrev pub ReceiveMustEnd : List ℕ → ℕ → Config → Outcome → Type 0
 ReceiveMustEnd bytes id c outcome = (HasNoPlace c id × (outcome ≡ UnknownPlp id))
     ⊎ ((plp : ℕ) × IsPlace c id plp × (length bytes < longest_file)
     × ((result : Result Received ReceiveStop) × ReceiveMust c plp bytes result × (outcome ≡ run_outcome receive_cause result)))
+
+-- How `merge` must end over a plan: as the run does over two inputs that are not too long.
+abbrev pub MergeMustEnd : Held → List (List ℕ) → Config → Outcome → Type 0
+MergeMustEnd held ins c outcome = AreShort held ins
+    × ((result : Result Merged MergeStop) × MergeMust c (file_at held ins) result × (outcome ≡ run_outcome merge_cause result))
 
 -- How a command must end whose CONFIG has this text: with its refusal, or as it must over the plan that it gives.
 abbrev pub OverPlan : List ℕ → (Config → Outcome → Type 0) → Outcome → Type 0
@@ -112,6 +124,7 @@ MustEnd (Modulate config file out) held outcome =
     OverPlan (bytes_of held.files config) (ModulateMustEnd (bytes_of held.files file)) outcome
 MustEnd (Receive config id file out) held outcome =
     OverPlan (bytes_of held.files config) (ReceiveMustEnd (bytes_of held.files file) id) outcome
+MustEnd (Merge config a b out) held outcome = OverPlan (bytes_of held.files config) (MergeMustEnd held (names_of a b)) outcome
 MustEnd (Trial seed frames) held outcome = outcome ≡ Done
 
 -- A trial can show a defect of its own.

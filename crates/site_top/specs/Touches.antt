@@ -3,7 +3,7 @@ use Rattle.std.specs.Prelude.{◌≡◌, ◌≢◌, ℕ, ◌+◌, ◌≤◌, Lis
 use Rattle.std.specs.FinMap.{get}
 use Rattle.ports.specs.Desk.{State, Held}
 use Rattle.site_top.specs.Commands.{Command, ShowPackets, ShowT2mi, ShowFrames, ShowConfig, Plan, Gateway, Modulate, Receive}
-use Rattle.site_top.specs.Commands.{Trial}
+use Rattle.site_top.specs.Commands.{Merge, Trial}
 
 -- the file that a command writes, if it writes one
 abbrev pub out_of : Command → Option (List ℕ)
@@ -15,6 +15,7 @@ out_of (Plan config) = None
 out_of (Gateway config out ins) = Some out
 out_of (Modulate config file out) = Some out
 out_of (Receive config id file out) = Some out
+out_of (Merge config a b out) = Some out
 out_of (Trial seed frames) = None
 
 -- the files that it reads
@@ -27,6 +28,7 @@ ins_of (Plan config) = config ∷ []
 ins_of (Gateway config out ins) = config ∷ ins
 ins_of (Modulate config file out) = config ∷ file ∷ []
 ins_of (Receive config id file out) = config ∷ file ∷ []
+ins_of (Merge config a b out) = config ∷ a ∷ b ∷ []
 ins_of (Trial seed frames) = []
 
 -- how many files it writes

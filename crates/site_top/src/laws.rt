@@ -3,6 +3,7 @@ ghost use Rattle.site_top.specs.Laws.{OneEnding, CommandsHaveEnding, Completenes
 
 use config_file::{config_ends_law, one_config_law};
 use gateway_run::{one_run_law, run_ends_law};
+use merge_run::{one_run_law as one_merging, run_ends_law as merging_ends};
 use modulate_run::{one_run_law as one_modulation, run_ends_law as modulation_ends};
 use receive_run::{one_run_law as one_reception, run_ends_law as reception_ends};
 use show_run::{packets_end_law, records_end_law};
@@ -17,6 +18,7 @@ pub fn one_ending_law()
     one_run_law();
     one_modulation();
     one_reception();
+    one_merging();
 }
 
 /// Over files that are not too long each command has an ending.
@@ -29,6 +31,7 @@ pub fn commands_have_ending_law()
     run_ends_law();
     modulation_ends();
     reception_ends();
+    merging_ends();
 }
 
 /// A command that did what it does is complete.
@@ -40,6 +43,7 @@ pub fn completeness_law()
     one_run_law();
     one_modulation();
     one_reception();
+    one_merging();
 }
 
 /// However a command ends, it changes no file but the one that it writes, creates it once at most, and opens no more files than

@@ -5,6 +5,7 @@ mod config_commands;
 mod gateway;
 mod last_lines;
 mod laws;
+mod merge;
 mod modulate;
 mod outcome;
 mod plan_lines;

@@ -3,7 +3,7 @@ ghost use Rattle.std.specs.Prelude.{◌≡◌, ◌≤◌, IfSome};
 ghost use Rattle.std.specs.Option.{option_map};
 ghost use Rattle.site_top.specs.Commands.{command_of, shown as shown_by, show_of as show_by, is_input, are_inputs};
 ghost use Rattle.site_top.specs.Commands.{gateway_of as gateway_by, modulate_of as modulate_by, number_named as number_by};
-ghost use Rattle.site_top.specs.Commands.{receive_of as receive_by, trial_of as trial_by, meant, IsApart};
+ghost use Rattle.site_top.specs.Commands.{receive_of as receive_by, merge_of as merge_by, trial_of as trial_by, meant, IsApart};
 
 use config_text::number_within;
 use ports::Word;
@@ -54,6 +54,13 @@ pub enum Request<'a> {
         config: &'a str,
         plp_id: u8,
         input: &'a str,
+        out: &'a str,
+    },
+    /// Makes one T2-MI stream of two of a network: its configuration, both streams, which may be one file, and the stream.
+    Merge {
+        config: &'a str,
+        a: &'a str,
+        b: &'a str,
         out: &'a str,
     },
     /// Tries a whole network, for so many frames, with inputs that are drawn from a number.
@@ -158,6 +165,17 @@ fn receive_of<'a>(
     })
 }
 
+// The command `merge CONFIG A B OUT`, if the output is none of the files that are read.
+fn merge_of<'a>(config: &'a str, a: &'a str, b: &'a str, out: &'a str) -> Option<Request<'a>>
+    ensures named { option_map meant result ≡ merge_by config.now a.now b.now out.now }
+    ensures apart { IfSome result IsApart }
+{
+    if !out.is_empty() && is_input(out, config) && is_input(out, a) && is_input(out, b) {
+        return Some(Request::Merge { config, a, b, out });
+    }
+    None
+}
+
 // The command `trial SEED FRAMES`.
 fn trial_of<'a>(seed: &str, frames: &str) -> Option<Request<'a>>
     ensures named { option_map meant result ≡ trial_by seed.now frames.now }
@@ -207,6 +225,9 @@ pub fn request_of<'a>(words: &'a [Word]) -> Option<Request<'a>>
             input.as_str(),
             out.as_str(),
         ),
+        [merge, config, a, b, out] if merge.as_str() == "merge" => {
+            merge_of(config.as_str(), a.as_str(), b.as_str(), out.as_str())
+        }
         [receive, config, plp, input, out] => receive_of(
             receive.as_str(),
             config.as_str(),

@@ -8,6 +8,7 @@ use crate::outcome::{Outcome, file_outcome};
 use desk_io::Line;
 use file_run::RunStop;
 use gateway_run::GatewayStop;
+use merge_run::MergeStop;
 use modulate_run::ModulateStop;
 use plp_config::MOST_FRAMES;
 use ports::Desk;
@@ -60,6 +61,19 @@ impl Cause for ReceiveStop {
     fn outcome(self) -> Outcome {
         match self {
             ReceiveStop::RecordRefused { number, why } => Outcome::RecordRefused { number, why },
+        }
+    }
+}
+
+impl Cause for MergeStop {
+    ghost use Rattle.site_top.specs.Outcomes.{merge_cause};
+
+    ghost outcome = { merge_cause };
+
+    fn outcome(self) -> Outcome {
+        match self {
+            MergeStop::NoSuperframe => Outcome::NoSuperframe,
+            MergeStop::TooManyFrames => Outcome::TooLong { count: MOST_FRAMES },
         }
     }
 }
@@ -149,6 +163,22 @@ impl Ran for receive_run::Ran {
         let mut line = Line::new();
         line.push_field(b"first=", self.first);
         line.push_field(b" slots=", self.slots);
+        line.push(b"\n");
+        line
+    }
+}
+
+impl Ran for merge_run::Ran {
+    ghost use Rattle.site_top.specs.MergeCommand.{merge_line};
+
+    ghost line = { merge_line };
+
+    fn line(self) -> Line {
+        let mut line = Line::new();
+        line.push_field(b"merged frames=", self.frames);
+        line.push_field(b" a=", self.a);
+        line.push_field(b" b=", self.b);
+        line.push_field(b" units=", self.units);
         line.push(b"\n");
         line
     }

@@ -10,6 +10,7 @@ use crate::config_commands::{plan, show_config};
 use crate::gateway::gateway;
 use crate::last_lines::last_line;
 use crate::laws::{completeness_law, only_out_changes_law};
+use crate::merge::merge;
 use crate::modulate::modulate;
 use crate::outcome::Outcome;
 use crate::receive::receive;
@@ -41,6 +42,7 @@ fn command<D: Desk>(alloc: Global, words: &[Word], desk: &mut D) -> Outcome
                 out,
             },
         ) => receive(alloc, config, plp_id, input, out, desk),
+        Some(Request::Merge { config, a, b, out }) => merge(alloc, config, a, b, out, desk),
         Some(Request::Trial { seed, frames }) => trial(alloc, seed, frames, desk),
         None => Outcome::Usage,
     }

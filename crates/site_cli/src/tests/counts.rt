@@ -1,0 +1,192 @@
+// What is counted of the bytes of a run, and how it is told: units and muted records.
+use crate::muted::{MutedRecords, Runs};
+use crate::units::UnitCounts;
+use bit_slice::OutOfMemory;
+use site_frame::HEAD;
+use std::alloc::Global;
+use std::test::Fail;
+use ts_packet::SIZE;
+
+// How long a stream of the tests of units is.
+const UNITS: usize = 8;
+
+const STREAM: usize = UNITS * SIZE;
+
+// A stream on PID 256 whose counters go on, each unit with a payload.
+fn stream() -> [u8; STREAM] {
+    let mut bytes = [0; STREAM];
+    for (number, unit) in bytes.chunks_exact_mut(SIZE).enumerate() {
+        for (place, byte) in unit
+            .iter_mut()
+            .zip([0x47, 1, 0, 0x10 | (number % 16) as u8])
+        {
+            *place = byte;
+        }
+    }
+    bytes
+}
+
+// What its units are, if it comes by so many bytes at a time.
+fn counted(alloc: Global, bytes: &[u8], size: usize) -> Result<String, Fail> {
+    let mut units = UnitCounts::new(Some(256));
+    for piece in bytes.chunks(size.max(1)) {
+        units.take(piece);
+    }
+    Ok(format!(in alloc; "{units}")?)
+}
+
+// A byte that is put at a place, and what is told of the stream then.
+struct Changed {
+    place: usize,
+    byte: u8,
+    told: &'static str,
+}
+
+#[rattlefmt::skip]
+static CHANGED: [Changed; 6] = [
+    Changed { place: 0, byte: 0x47, told: "8 units" },
+    Changed { place: 376, byte: 0x48, told: "8 units; not beginning with 0x47: 1, first at byte 376; jumps of the continuity counter: 1, first at byte 564" },
+    Changed { place: 755, byte: 0x17, told: "8 units; jumps of the continuity counter: 2, first at byte 752" },
+    Changed { place: 190, byte: 1, told: "8 units; of other PIDs: 1, first at byte 188; jumps of the continuity counter: 1, first at byte 376" },
+    Changed { place: 1317, byte: 0x81, told: "8 units; marked as wrong or scrambled, or empty: 1, first at byte 1316" },
+    Changed { place: 1319, byte: 0x27, told: "8 units; marked as wrong or scrambled, or empty: 1, first at byte 1316" },
+];
+
+#[test]
+fn units_that_are_passed_over_are_told(rt: HostRuntime) -> Result<(), Fail> {
+    for (at, changed) in CHANGED.iter().enumerate() {
+        let mut bytes = stream();
+        if let Some(byte) = bytes.get_mut(changed.place) {
+            *byte = changed.byte;
+        }
+        for size in [1, 3, 187, 189, STREAM] {
+            let told = counted(rt.alloc(), &bytes, size)?;
+            assert!(rt;
+                told.as_str() == changed.told,
+                "change {at} by {size}: {told}"
+            );
+        }
+    }
+    Ok(())
+}
+
+// A stream that lacks its byte 300: from unit 2 on each unit begins a byte earlier.
+#[test]
+fn a_lost_byte_is_told(rt: HostRuntime) -> Result<(), Fail> {
+    let bytes = stream();
+    let mut units = UnitCounts::new(Some(256));
+    units.take(bytes.get(..300).unwrap_or(&[]));
+    units.take(bytes.get(301..).unwrap_or(&[]));
+    let told = format!(in rt.alloc(); "{units}")?;
+    assert!(rt;
+        told.as_str()
+            == "7 units; the last one is cut off behind 187 bytes; not beginning with 0x47: 5, first at byte 376; at byte 376 no unit begins, and one does 187 bytes on: bytes were lost or added before",
+        "{told}"
+    );
+    Ok(())
+}
+
+// Why no superframe is found in a stream without units, in one of no sync bytes, on another PID, and on the PID that is looked for.
+#[test]
+fn it_is_told_why_no_superframe_is_found(rt: HostRuntime) -> Result<(), Fail> {
+    let mut none = UnitCounts::new(Some(256));
+    assert!(rt; none.why_none() == "it has no unit of 188 bytes");
+    none.take(&[0; 100]);
+    assert!(rt; !none.is_clean() && none.why_none() == "it has no unit of 188 bytes");
+    none.take(&[0; STREAM]);
+    assert!(rt;
+        none.why_none()
+            .starts_with("most of its units do not begin with 0x47")
+    );
+    let mut elsewhere = UnitCounts::new(Some(300));
+    elsewhere.take(&stream());
+    assert!(rt;
+        elsewhere
+            .why_none()
+            .starts_with("none of its units is on the PID of CONFIG")
+    );
+    let mut unknown = UnitCounts::new(None);
+    unknown.take(&stream());
+    assert!(rt; unknown.is_clean() && unknown.why_none().starts_with("CONFIG is not read twice"));
+    let mut there = UnitCounts::new(Some(256));
+    there.take(&stream());
+    assert!(rt; there.is_clean() && there.why_none().starts_with("units come on the PID"));
+    Ok(())
+}
+
+// What a list of numbers is, as runs.
+struct Listed {
+    numbers: &'static [u64],
+    told: &'static str,
+}
+
+#[rattlefmt::skip]
+static LISTED: [Listed; 4] = [
+    Listed { numbers: &[7], told: "7" },
+    Listed { numbers: &[0, 1, 2], told: "0 to 2" },
+    Listed { numbers: &[1, 2, 4, 8, 9], told: "1 to 2, 4, 8 to 9" },
+    Listed { numbers: &[1, 3, 5, 7, 9, 11, 12], told: "1, 3, 5, 7 and 2 more runs up to 12" },
+];
+
+#[test]
+fn numbers_are_told_as_runs(rt: HostRuntime) -> Result<(), Fail> {
+    for (at, listed) in LISTED.iter().enumerate() {
+        let mut runs = Runs::new();
+        for number in listed.numbers {
+            runs.add(*number);
+        }
+        let told = format!(in rt.alloc(); "{runs}")?;
+        assert!(rt; told.as_str() == listed.told, "list {at}: {told}");
+    }
+    Ok(())
+}
+
+// A record's head, of a frame that has so many bytes behind it; without any it is muted.
+fn head(rest: u8) -> [u8; HEAD] {
+    let mut bytes = [0; HEAD];
+    let kind = if rest == 0 { 2 } else { 1 };
+    for (place, byte) in bytes.iter_mut().zip([0x54, 0x32, 0x46, 0x52, kind]) {
+        *place = byte;
+    }
+    if let Some(last) = bytes.last_mut() {
+        *last = rest;
+    }
+    bytes
+}
+
+// A record that has so many bytes behind its head.
+fn push_record(bytes: &mut Vec<u8>, rest: u8) -> Result<(), OutOfMemory> {
+    let front = head(rest);
+    bytes.extend_from_slice(&front)?;
+    for _ in 0..rest {
+        bytes.push(0x54)?;
+    }
+    Ok(())
+}
+
+// Five records of which the second and the last two are muted, by so many bytes at a time.
+fn muted_by(alloc: Global, size: usize) -> Result<MutedRecords, OutOfMemory> {
+    let mut bytes = Vec::new(alloc);
+    for rest in [40, 0, 50, 0, 0] {
+        push_record(&mut bytes, rest)?;
+    }
+    let mut records = MutedRecords::new();
+    for piece in bytes.as_slice().chunks(size.max(1)) {
+        records.take(piece);
+    }
+    Ok(records)
+}
+
+#[test]
+fn muted_frames_are_told(rt: HostRuntime) -> Result<(), Fail> {
+    for size in [1, 7, 24, 1000] {
+        let records = muted_by(rt.alloc(), size)?;
+        let told = format!(in rt.alloc(); "{records}")?;
+        assert!(rt;
+            told.as_str() == "muted frames: 3 of 5, records 1, 3 to 4",
+            "by {size}: {told}"
+        );
+        assert!(rt; records.ends_muted(2) && !records.ends_muted(3));
+    }
+    Ok(())
+}
