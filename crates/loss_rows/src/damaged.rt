@@ -23,19 +23,21 @@ pub(crate) enum Damage {
     Lost,
     /// All units before it are lost.
     Late,
+    /// It is lost, and all units behind it.
+    Early,
     /// This byte of it is inverted.
     Altered(usize),
 }
 
 // So many units, one behind the other, and what is left if any one of them is damaged: the records of the frames from `first` on
 // and before `end`, of which those from `muted` on and before `back` are muted.
-struct Row {
-    why: &'static str,
-    units: usize,
-    first: usize,
-    end: usize,
-    muted: usize,
-    back: usize,
+pub(crate) struct Row {
+    pub(crate) why: &'static str,
+    pub(crate) units: usize,
+    pub(crate) first: usize,
+    pub(crate) end: usize,
+    pub(crate) muted: usize,
+    pub(crate) back: usize,
 }
 
 // Rows for the units from one on and before another.
@@ -107,6 +109,7 @@ pub(crate) fn damaged(
         _ => before.to_vec(alloc)?,
     };
     match damage {
+        Damage::Early => {}
         Damage::Lost => bytes.extend_from_slice(rest.get(SIZE..).unwrap_or(&[]))?,
         _ => bytes.extend_from_slice(rest)?,
     }
@@ -118,8 +121,8 @@ pub(crate) fn damaged(
     Ok(bytes)
 }
 
-// The records that are left of all.
-fn left_of(alloc: Global, whole: &[u8], row: &Row) -> Result<Vec<u8>, Fail> {
+/// The records that are left of all.
+pub(crate) fn left_of(alloc: Global, whole: &[u8], row: &Row) -> Result<Vec<u8>, Fail> {
     let mut bytes = Vec::new(alloc);
     let mut left = whole;
     for (frame, subseconds) in SUBSECONDS.iter().enumerate() {

@@ -8,6 +8,8 @@ mod hostile_records;
 #[cfg(test)]
 mod hostile_rows;
 #[cfg(test)]
+mod merged;
+#[cfg(test)]
 mod random_networks;
 #[cfg(test)]
 mod returned;

@@ -12,6 +12,8 @@ mod gateway;
 #[cfg(test)]
 mod interleaving;
 #[cfg(test)]
+mod merge;
+#[cfg(test)]
 mod modulate;
 #[cfg(test)]
 mod reading;
