@@ -1,0 +1,5 @@
+pub mod SupplyLemmas
+pub mod RegionLemmas
+pub mod TellLemmas
+pub mod LeftLemmas
+pub mod SwapLemmas

@@ -1,0 +1,286 @@
+-- A swapper takes packets, begins frames, gives units and passes on.
+use Rattle.std.proofs.Common.{◌≡◌, ℕ, ◌+◌, ◌-◌, ◌*◌, ◌<◌, Bool, true, false, cond, List, [], ◌∷◌, ◌++◌, Option, Some, None, length, map, is_some}
+use Rattle.std.proofs.Common.{replicate, refl, ap, sym, subst, ◌∙◌, arith, append-nil}
+use Rattle.std.specs.List.{last_or}
+use Rattle.std.proofs.lemmas.Grind.{flat_map-append}
+use Rattle.std.proofs.lemmas.List.{map-append}
+use Rattle.plp_config.specs.SlotTime.{slots_by}
+use Rattle.plp_config.specs.declared.config.Config.{Config}
+use Rattle.ts_packet.specs.Null.{null_packet}
+use Rattle.t2mi_packet.specs.declared.packet.Body.{Body}
+use Rattle.t2mi_stream.specs.PiperStandsFor.{PiperStandsFor, is_finished}
+use Rattle.frame_writer.specs.Carried.{of_frame}
+use Rattle.frame_writer.specs.Flowing.{Flows, rest_of}
+use Rattle.frame_writer.specs.declared.flow.Flow.{Flow}
+use Rattle.frame_writer.specs.declared.flow.Outlet.{Outlet}
+use Rattle.frame_writer.proofs.CarriedLemmas.{carries_more}
+use Rattle.site_frame.specs.declared.reading.RecordView.{RecordView}
+use Rattle.record_laws.specs.Frames.{sent_block}
+use Rattle.frame_writer.specs.FirstPacket.{first_step}
+use Rattle.formed_frames.specs.Remade.{CanBeSent, NumberedView, frame_pairs, remade_bodies, view_bodies}
+use Rattle.gateway_core.specs.InputSoFar.{Told, with_packet, at_end, in_next, Continues}
+use Rattle.region_swap.specs.Left.{own_list, left_of, IsOver, number_of}
+use Rattle.region_swap.specs.Making.{IsMadeFor}
+use Rattle.region_swap.specs.RegionFed.{GivesFrame, RegionStandsFor, region_told, Kept, kept_of}
+use Rattle.region_swap.specs.StandsFor.{wants_by, left_in, Swaps, SwapperStandsFor, wants_of}
+use Rattle.region_swap.specs.Supplied.{IsFed, wanted}
+use Rattle.region_swap.specs.Swapped.{swapped, swapped_frame, swapped_view}
+use Rattle.region_swap.specs.declared.dynamic.Dynamic.{Dynamic}
+use Rattle.region_swap.specs.declared.input.Input.{Input}
+use Rattle.region_swap.specs.declared.place.Part.TheVariants.{Before}
+use Rattle.region_swap.specs.declared.place.SwapPlace.{SwapPlace}
+use Rattle.region_swap.specs.declared.region.Region.{Region}
+use Rattle.region_swap.specs.declared.swapper.Swapper.{Swapper}
+use Rattle.region_swap.proofs.LeftLemmas.{over_left, first_left, long_of}
+use Rattle.region_swap.proofs.RegionLemmas.{back_offered, back_ended, back_next, still}
+
+-- the last of some frames
+pub last_is : {X : Type 0} (o : Option X) (xs : List X) (x : X) → last_or o (xs ++ x ∷ []) ≡ Some x
+last_is o [] x = refl
+last_is o (y ∷ xs) x = last_is (Some y) xs x
+
+-- ---- frames
+
+pub over_in : (c : Config) (plp : ℕ) (place : SwapPlace) (r : Region) (d : Dynamic) (o : Option NumberedView) → IsOver place
+    → left_in c plp place r d o ≡ []
+over_in c plp place r d None e = refl
+over_in c plp place r d (Some f) e = over_left c place plp (own_list c plp r.sends r.blocks) d.bits f.view e
+
+-- a frame that is over has nothing left, whatever its parts
+pub over_same : (c : Config) (plp : ℕ) (place : SwapPlace) (r q : Region) (d e : Dynamic) (o : Option NumberedView) → IsOver place
+    → left_in c plp place r d o ≡ left_in c plp place q e o
+over_same c plp place r q d e o over = over_in c plp place r d o over ∙ sym (over_in c plp place q e o over)
+
+-- one frame more
+pub bodies_push : (c : Config) (plp : ℕ) (input : List (List ℕ)) (frames : List NumberedView) (f : NumberedView)
+    → remade_bodies c (swapped c plp input (frames ++ f ∷ [])) ≡ remade_bodies c (swapped c plp input frames)
+    ++ frame_pairs c (swapped_frame c plp input f)
+bodies_push c plp input frames f =
+    ap (remade_bodies c) (map-append (swapped_frame c plp input) frames (f ∷ []))
+    ∙ flat_map-append (frame_pairs c) (swapped c plp input frames) (swapped_frame c plp input f ∷ [])
+    ∙ ap (λ (l : List (ℕ × Body)). remade_bodies c (swapped c plp input frames) ++ l) (append-nil (frame_pairs c (swapped_frame c plp input f)))
+
+-- its packets follow when nothing is left of the frame before
+pub begun : (c : Config) (plp : ℕ) (old new : Outlet) (frames : List NumberedView) (f : NumberedView) (input : List (List ℕ)) (m n k : ℕ)
+    (gone left rest : List Body) (given : ℕ) → gone ≡ []
+    → Flows old c m gone (remade_bodies c (swapped c plp input frames)) given → n ≡ f.number
+    → left ≡ view_bodies c f.number (swapped_view c plp input f.number f.view)
+    → ((all : List (ℕ × Body)) (given : ℕ) → Flows old c n left all given → Flows new c n rest all given) → k ≡ n
+    → Flows new c k rest (remade_bodies c (swapped c plp input (frames ++ f ∷ []))) given
+begun c plp old new frames f input m n k gone left rest given none h number is feeds same =
+    let before : List (ℕ × Body) = remade_bodies c (swapped c plp input frames) in
+    let bodies : List Body = view_bodies c f.number (swapped_view c plp input f.number f.view) in
+    let all : List (ℕ × Body) = remade_bodies c (swapped c plp input (frames ++ f ∷ [])) in
+    let more : Flows old c f.number bodies (before ++ of_frame f.number bodies) given =
+    carries_more (PiperStandsFor old.piper) (is_finished old.piper) (rest_of old) old.packet_count c m f.number gone bodies before given none h in
+    let pushed : Flows old c f.number bodies all given =
+    subst (λ (l : List (ℕ × Body)). Flows old c f.number bodies l given) (sym (bodies_push c plp input frames f)) more in
+    let began : Flows old c n left all given =
+    subst (λ (j : ℕ). Flows old c j left all given) (sym number)
+    (subst (λ (l : List Body). Flows old c f.number l all given) (sym is) pushed) in
+    subst (λ (j : ℕ). Flows new c j rest all given) (sym same) (feeds all given began)
+
+-- ---- what is wanted
+
+wants_as : (ended : Bool) (packets slots due slot : ℕ) (total : Option ℕ) → total ≡ cond ended (Some packets) None → due ≡ slots
+    → (ended ≡ false → slot ≡ packets) → cond (is_some total) 0 (due - slot) ≡ cond ended 0 (slots - packets)
+wants_as true packets slots due slot total t d s = ap (λ (o : Option ℕ). cond {A = ℕ} (is_some o) 0 (due - slot)) t
+wants_as false packets slots due slot total t d s =
+    ap (λ (o : Option ℕ). cond {A = ℕ} (is_some o) 0 (due - slot)) t ∙ (let e = s refl in omega (arith, d, e))
+
+pub wanted_is : (i : Input) (c : Config) (plp : ℕ) (t : Told) (early : List (List Bool)) → IsFed i c plp t early → wanted i ≡ wants_by c plp t
+wanted_is i c plp t early h =
+    wants_as t.ended (length t.packets) (slots_by c plp (t.frame * c.ticks)) i.due i.slot i.total h.total_is h.due_is
+    (λ off. h.slot_is ∙ ap length (h.given ∙ ap (λ (k : ℕ). t.packets ++ replicate k null_packet) (h.still off) ∙ append-nil t.packets))
+
+-- what is wanted is told by what it stands for
+pub wants_is : (c : Config) (plp : ℕ) (r : Region) (d : Dynamic) (flow : Flow) (place : SwapPlace) (number : ℕ) (b : Bool) (t : Told)
+    (frames : List NumberedView) (given : ℕ) → Swaps c plp r d flow place number b t frames given
+    → cond b 0 (wanted r.input) ≡ wants_by c plp t
+wants_is c plp r d flow place number true t frames given h = sym (h.offered refl)
+wants_is c plp r d flow place number false t frames given h = wanted_is r.input c plp t _ h.supplied.fed
+
+pub record NotBegun (b : Bool) (n : ℕ) : Type 0 where
+  pub off : b ≡ false
+  pub some : 0 < n
+
+pub not_begun : (b : Bool) (n : ℕ) → 0 < cond b 0 n → NotBegun b n
+not_begun true n lt = absurd (omega (arith, lt))
+not_begun false n lt = record { off = refl; some = lt }
+
+-- ---- packets, and the end
+
+pub swaps_offer : (c : Config) (plp : ℕ) (r q : Region) (d : Dynamic) (flow : Flow) (place : SwapPlace) (number : ℕ) (b : Bool) (t : Told)
+    (packet : List ℕ) (frames : List NumberedView) (given : ℕ) → b ≡ false → 0 < wanted r.input → IsOver place
+    → ((t : Told) → RegionStandsFor r c plp t → RegionStandsFor q c plp (with_packet t packet))
+    → Swaps c plp r d flow place number b t frames given → Swaps c plp q d flow place number b (with_packet t packet) frames given
+swaps_offer c plp r q d flow place number true t packet frames given off some over fed h = absurd (let z : true ≡ false = off in cc)
+swaps_offer c plp r q d flow place number false t packet frames given off some over fed h = record {
+  supplied = fed t h.supplied;
+  number_is = h.number_is;
+  offered = λ on. absurd (let z : false ≡ true = on in cc);
+  flows = λ input more.
+      subst (λ (l : List Body). Flows flow.outlet c (number_of place) l (remade_bodies c (swapped c plp input frames)) given)
+      (over_same c plp place r q d d (last_or None frames) over)
+      (h.flows input (back_offered t packet input (still r.input c plp t _ some h.supplied.fed) more));
+}
+
+told_end : (b : Bool) (t : Told) → at_end (region_told b t) ≡ region_told b (at_end t)
+told_end true t = refl
+told_end false t = refl
+
+same_left : (c : Config) (plp : ℕ) (place : SwapPlace) (r q : Region) (d : Dynamic) (o : Option NumberedView) → kept_of q ≡ kept_of r
+    → left_in c plp place r d o ≡ left_in c plp place q d o
+same_left c plp place r q d None e = refl
+same_left c plp place r q d (Some f) e =
+    sym (ap (λ (k : Kept). left_of c place plp (own_list c plp k.sends k.blocks) d.bits f.view) e)
+
+pub swaps_end : (c : Config) (plp : ℕ) (r q : Region) (d : Dynamic) (flow : Flow) (place : SwapPlace) (number : ℕ) (b : Bool) (t : Told)
+    (frames : List NumberedView) (given : ℕ) → kept_of q ≡ kept_of r
+    → ((t : Told) → RegionStandsFor r c plp t → RegionStandsFor q c plp (at_end t))
+    → Swaps c plp r d flow place number b t frames given → Swaps c plp q d flow place number b (at_end t) frames given
+swaps_end c plp r q d flow place number b t frames given kept fed h = record {
+  supplied = subst (RegionStandsFor q c plp) (told_end b t) (fed (region_told b t) h.supplied);
+  number_is = h.number_is;
+  offered = λ on. refl;
+  flows = λ input more.
+      subst (λ (l : List Body). Flows flow.outlet c (number_of place) l (remade_bodies c (swapped c plp input frames)) given)
+      (same_left c plp place r q d (last_or None frames) kept) (h.flows input (back_ended t input more));
+}
+
+-- ---- the next frame
+
+pub swaps_pass : (c : Config) (plp : ℕ) (r q : Region) (d : Dynamic) (flow : Flow) (place : SwapPlace) (number : ℕ) (b : Bool) (t : Told)
+    (frames : List NumberedView) (given : ℕ) → IsOver place
+    → ((t : Told) → RegionStandsFor r c plp (region_told b t) → RegionStandsFor q c plp (in_next t))
+    → Swaps c plp r d flow place number b t frames given → Swaps c plp q d flow place (number + 1) false (in_next t) frames given
+swaps_pass c plp r q d flow place number b t frames given over fed h = record {
+  supplied = fed t h.supplied;
+  number_is = ap (λ (n : ℕ). n + 1) h.number_is;
+  offered = λ on. absurd (let z : false ≡ true = on in cc);
+  flows = λ input more.
+      subst (λ (l : List Body). Flows flow.outlet c (number_of place) l (remade_bodies c (swapped c plp input frames)) given)
+      (over_same c plp place r q d d (last_or None frames) over) (h.flows input (back_next t input more));
+}
+
+-- ---- units
+
+-- with the flow that gave a unit, or another that goes on as it did
+pub swaps_flow : (c : Config) (plp : ℕ) (r : Region) (d : Dynamic) (old new : Flow) (place now : SwapPlace) (number : ℕ) (b : Bool) (t : Told)
+    (frames : List NumberedView) (given next : ℕ)
+    → ((all : List (ℕ × Body)) → Flows old.outlet c (number_of place) (left_in c plp place r d (last_or None frames)) all given
+    → Flows new.outlet c (number_of now) (left_in c plp now r d (last_or None frames)) all next)
+    → Swaps c plp r d old place number b t frames given → Swaps c plp r d new now number b t frames next
+swaps_flow c plp r d old new place now number b t frames given next goes h = record {
+  supplied = h.supplied;
+  number_is = h.number_is;
+  offered = h.offered;
+  flows = λ input more. goes (remade_bodies c (swapped c plp input frames)) (h.flows input more);
+}
+
+-- what the flow says of the frame under way, by its record
+pub flows_at : (c : Config) (plp : ℕ) (r : Region) (d : Dynamic) (flow : Flow) (place : SwapPlace) (number : ℕ) (b : Bool) (t : Told)
+    (before : List NumberedView) (f : NumberedView) (given : ℕ) → Swaps c plp r d flow place number b t (before ++ f ∷ []) given
+    → (input : List (List ℕ)) → Continues t input
+    → Flows flow.outlet c (number_of place) (left_of c place plp (own_list c plp r.sends r.blocks) d.bits f.view)
+    (remade_bodies c (swapped c plp input (before ++ f ∷ []))) given
+flows_at c plp r d flow place number b t before f given h input more =
+    subst (λ (l : Option NumberedView). Flows flow.outlet c (number_of place) (left_in c plp place r d l)
+    (remade_bodies c (swapped c plp input (before ++ f ∷ []))) given) (last_is None before f) (h.flows input more)
+
+pub swaps_unit : (c : Config) (plp : ℕ) (r : Region) (d : Dynamic) (old new : Flow) (place now : SwapPlace) (number : ℕ) (b : Bool) (t : Told)
+    (before : List NumberedView) (f : NumberedView) (given : ℕ)
+    → ((all : List (ℕ × Body)) (given : ℕ)
+    → Flows old.outlet c (number_of place) (left_of c place plp (own_list c plp r.sends r.blocks) d.bits f.view) all given
+    → Flows new.outlet c (number_of now) (left_of c now plp (own_list c plp r.sends r.blocks) d.bits f.view) all (given + 1))
+    → Swaps c plp r d old place number b t (before ++ f ∷ []) given
+    → Swaps c plp r d new now number b t (before ++ f ∷ []) (given + 1)
+swaps_unit c plp r d old new place now number b t before f given goes h = record {
+  supplied = h.supplied;
+  number_is = h.number_is;
+  offered = h.offered;
+  flows = λ input more.
+      subst (λ (l : Option NumberedView). Flows new.outlet c (number_of now) (left_in c plp now r d l)
+      (remade_bodies c (swapped c plp input (before ++ f ∷ []))) (given + 1)) (sym (last_is None before f))
+      (goes (remade_bodies c (swapped c plp input (before ++ f ∷ []))) given
+      (flows_at c plp r d old place number b t before f given h input more));
+}
+
+-- nothing is left of a place that is over
+pub none_left : (c : Config) (plp : ℕ) (r : Region) (d : Dynamic) (flow : Flow) (place : SwapPlace) (number : ℕ) (b : Bool) (t : Told)
+    (frames : List NumberedView) (given : ℕ) → IsOver place → Swaps c plp r d flow place number b t frames given
+    → (input : List (List ℕ)) → Continues t input
+    → Flows flow.outlet c (number_of place) [] (remade_bodies c (swapped c plp input frames)) given
+none_left c plp r d flow place number b t frames given over h input more =
+    subst (λ (l : List Body). Flows flow.outlet c (number_of place) l (remade_bodies c (swapped c plp input frames)) given)
+    (over_in c plp place r d (last_or None frames) over) (h.flows input more)
+
+pub swaps_rest : (c : Config) (plp : ℕ) (r : Region) (d : Dynamic) (old new : Flow) (place : SwapPlace) (number : ℕ) (b : Bool) (t : Told)
+    (frames : List NumberedView) (given : ℕ) → IsOver place
+    → ((all : List (ℕ × Body)) (given : ℕ) → Flows old.outlet c (number_of place) [] all given
+    → Flows new.outlet c (number_of place) [] all (given + 1))
+    → Swaps c plp r d old place number b t frames given → Swaps c plp r d new place number b t frames (given + 1)
+swaps_rest c plp r d old new place number b t frames given over goes h = record {
+  supplied = h.supplied;
+  number_is = h.number_is;
+  offered = h.offered;
+  flows = λ input more.
+      subst (λ (l : List Body). Flows new.outlet c (number_of place) l (remade_bodies c (swapped c plp input frames)) (given + 1))
+      (sym (over_in c plp place r d (last_or None frames) over))
+      (goes (remade_bodies c (swapped c plp input frames)) given
+      (none_left c plp r d old place number b t frames given over h input more));
+}
+
+-- ---- a frame is begun
+
+pub swaps_begin : (c : Config) (plp : ℕ) (r q : Region) (d e : Dynamic) (old new : Flow) (place now : SwapPlace) (number n : ℕ) (b : Bool)
+    (t : Told) (frames : List NumberedView) (f : NumberedView) (given : ℕ) (left : List Body) → IsOver place → f.number ≡ number
+    → b ≡ false → cond b 0 (wanted r.input) ≡ 0
+    → ((t : Told) → RegionStandsFor r c plp t → RegionStandsFor q c plp (in_next t))
+    → ((input : List (List ℕ)) → Continues t input → left ≡ view_bodies c f.number (swapped_view c plp input f.number f.view))
+    → n ≡ f.number → number_of now ≡ n
+    → ((all : List (ℕ × Body)) (given : ℕ) → Flows old.outlet c n left all given
+    → Flows new.outlet c n (left_of c now plp (own_list c plp q.sends q.blocks) e.bits f.view) all given)
+    → Swaps c plp r d old place number b t frames given → Swaps c plp q e new now number true t (frames ++ f ∷ []) given
+swaps_begin c plp r q d e old new place now number n true t frames f given left over is off none fed made same stays feeds h =
+    absurd (let z : true ≡ false = off in cc)
+swaps_begin c plp r q d e old new place now number n false t frames f given left over is off none fed made same stays feeds h = record {
+  supplied = fed t h.supplied;
+  number_is = h.number_is;
+  offered = λ on. sym (wants_is c plp r d old place number false t frames given h) ∙ none;
+  flows = λ input more.
+      subst (λ (l : Option NumberedView). Flows new.outlet c (number_of now) (left_in c plp now q e l)
+      (remade_bodies c (swapped c plp input (frames ++ f ∷ []))) given) (sym (last_is None frames f))
+      (begun c plp old.outlet new.outlet frames f input (number_of place) n (number_of now)
+      (left_in c plp place r d (last_or None frames)) left (left_of c now plp (own_list c plp q.sends q.blocks) e.bits f.view) given
+      (over_in c plp place r d (last_or None frames) over) (h.flows input more) same (made input more) feeds stays);
+}
+
+-- what its packets carry
+pub begin_made : (c : Config) (plp : ℕ) (r q : Region) (d e : Dynamic) (flow : Flow) (place first : SwapPlace) (number : ℕ) (b : Bool)
+    (t : Told) (frames : List NumberedView) (given : ℕ) (view : RecordView) (input : List (List ℕ)) → b ≡ false → CanBeSent c view
+    → first ≡ record { number = number; step = first_step c number; part = Before; block = 0; before = None }
+    → ((t : Told) → RegionStandsFor r c plp t → (input : List (List ℕ)) → Continues t input → GivesFrame q c plp t.frame input)
+    → IsMadeFor c number plp q.count view e.bits → Swaps c plp r d flow place number b t frames given → Continues t input
+    → left_of c first plp (own_list c plp q.sends q.blocks) e.bits view ≡ view_bodies c number (swapped_view c plp input number view)
+begin_made c plp r q d e flow place first number true t frames given view input off sent is gives made h more =
+    absurd (let z : true ≡ false = off in cc)
+begin_made c plp r q d e flow place first number false t frames given view input off sent is gives made h more =
+    let g : GivesFrame q c plp number input =
+    subst (λ (n : ℕ). GivesFrame q c plp n input) (sym h.number_is) (gives t h.supplied input more) in
+    ap (λ (p : SwapPlace). left_of c p plp (own_list c plp q.sends q.blocks) e.bits view) is
+    ∙ first_left c plp number q.count (own_list c plp q.sends q.blocks) e.bits input view (ap (map (sent_block c plp)) g.blocks) g.count_is
+    (long_of c view sent) made
+
+-- what is said of the parts of a swapper is so of the network and the place that it stands for
+pub to_told : (P : Config → ℕ → Type 0) (p c : Config) (j k : ℕ) → p ≡ c → j ≡ k → P p j → P c k
+to_told P p c j k e f x = subst (λ (y : Config). P y k) e (subst (λ (n : ℕ). P p n) f x)
+
+-- ---- for who holds a swapper
+
+pub wants_told : (s : Swapper) (c : Config) (plp : ℕ) (t : Told) (frames : List NumberedView) (given : ℕ)
+    → SwapperStandsFor s c plp t frames given → wants_of s ≡ wants_by c plp t
+unfolding SwapperStandsFor
+wants_told s c plp t frames given h =
+    to_told (λ (k : Config) (j : ℕ). wants_of s ≡ wants_by k j t) s.plan.now c s.list plp h.0 h.1
+    (wants_is s.plan.now s.list s.region s.dynamic s.flow s.place s.number s.begun t frames given h.2)

@@ -1,0 +1,21 @@
+use Rattle.region_swap.specs.StandsFor.{SwapperStandsFor}
+use Rattle.region_swap.specs.Supplied.{wanted}
+use Rattle.region_swap.proofs.SwapLemmas.{not_begun, swaps_offer}
+use Rattle.region_swap.proofs.swapper.Swapper.offer.Goals as goal
+
+pub offer-requires : goal.offer-requires
+offer-requires c =
+    let s = c.args.self.now in
+    let b = not_begun s.begun (wanted s.region.input) c.requires in
+    record { of = s.parts.region_is; wanted = b.some; free = s.parts.free b.off }
+
+pub returns-clause-stands : goal.returns-clause-stands
+unfolding SwapperStandsFor
+returns-clause-stands c = λ config plp t frames given h.
+    let s = c.args.self.now in
+    let b = not_begun s.begun (wanted s.region.input) c.requires in (
+      h.0,
+      h.1,
+      swaps_offer s.plan.now s.list s.region c.offer.new.self s.dynamic s.flow s.place s.number s.begun t c.args.packet.now frames given
+          b.off b.some (s.parts.over (s.parts.idle b.off)) c.offer.ensures.stands h.2,
+    )

@@ -1,0 +1,45 @@
+use Rattle.std.proofs.Common.{◌≡◌, ◌∙◌, [], List, ℕ, Some, length, refl, ap, sym, append-nil}
+use Rattle.std.specs.Prelude.{slice_get}
+use Rattle.plp_config.specs.declared.config.Config.{Config}
+use Rattle.t2mi_stream.specs.Pipe.{pipe}
+use Rattle.formed_frames.specs.Remade.{remade_bodies, remade_packets}
+use Rattle.region_swap.specs.Left.{number_of}
+use Rattle.region_swap.specs.StandsFor.{SwapperStandsFor}
+use Rattle.region_swap.specs.Swapped.{swapped}
+use Rattle.region_swap.proofs.SwapLemmas.{none_left, swaps_rest, to_told}
+use Rattle.region_swap.proofs.swapper.Swapper.rest.Goals as goal
+
+pub returns-clause-unit : goal.returns-clause-unit
+unfolding SwapperStandsFor remade_packets
+returns-clause-unit c = λ on config plp t frames given h input more.
+    let s = c.args.self.now in
+    let p = s.plan.now in
+    to_told (λ (k : Config) (j : ℕ). slice_get (pipe k.pid (remade_packets k (swapped k j input frames))) given ≡ Some c.rest.new.out)
+    p config s.list plp h.0 h.1
+    (ap (λ (l : List (List ℕ)). slice_get (pipe p.pid l) given) (sym (append-nil (remade_packets p (swapped p s.list input frames))))
+    ∙ c.rest.ensures.unit on p (number_of s.place) (remade_bodies p (swapped p s.list input frames)) given
+    (none_left p s.list s.region s.dynamic s.flow s.place s.number s.begun t frames given (s.parts.over c.requires.fed) h.2 input more)
+    [] (λ _. refl))
+
+pub returns-clause-stands : goal.returns-clause-stands
+unfolding SwapperStandsFor
+returns-clause-stands c = λ on config plp t frames given h.
+    let s = c.args.self.now in (
+      h.0,
+      h.1,
+      swaps_rest s.plan.now s.list s.region s.dynamic s.flow c.rest.new.self s.place s.number s.begun t frames given
+          (s.parts.over c.requires.fed) (λ all given. c.rest.ensures.flows on s.plan.now (number_of s.place) all given) h.2,
+    )
+
+pub returns-clause-none : goal.returns-clause-none
+unfolding SwapperStandsFor remade_packets
+returns-clause-none c = λ off config plp t frames given h input more.
+    let s = c.args.self.now in
+    let p = s.plan.now in
+    to_told (λ (k : Config) (j : ℕ). length (pipe k.pid (remade_packets k (swapped k j input frames))) ≡ given) p config s.list plp h.0 h.1
+    (c.rest.ensures.none off c.requires.finished p (number_of s.place) (remade_bodies p (swapped p s.list input frames)) given
+    (none_left p s.list s.region s.dynamic s.flow s.place s.number s.begun t frames given (s.parts.over c.requires.fed) h.2 input more))
+
+pub returns-clause-kept : goal.returns-clause-kept
+unfolding SwapperStandsFor
+returns-clause-kept c = λ none config plp t frames given h. rw (c.rest.ensures.stays none).0 h

@@ -1,0 +1,14 @@
+pub mod Swapped
+pub mod StandsFor
+-- inner: no public clause cites these
+pub mod Supplied
+pub mod RegionFed
+pub mod Telling
+pub mod Making
+pub mod Left
+pub mod Inside
+-- of the crates below, for those who read this one
+pub use Rattle.gateway_core.specs.InputSoFar
+pub use Rattle.mode_adapt.specs.Blocks
+pub use Rattle.record_laws.specs.Frames
+pub use Rattle.formed_frames.specs.Remade

@@ -1,0 +1,145 @@
+// The dynamic part of a frame, made anew.
+ghost use Rattle.std.specs.Prelude.{◌≡◌, ◌≤◌, ◌+◌, length, vec_len, Some, None, if◌then◌else◌};
+ghost use Rattle.scheduler.specs.Laws.{CountsFit, FitsL1};
+ghost use Rattle.l1_signal.specs.L1Dynamic.{dyn_bits};
+ghost use Rattle.l1_signal.specs.L1Of.{dyn_of};
+ghost use Rattle.l1_signal.specs.Lengths.{conf_len, dyn_len};
+ghost use Rattle.l1_signal.specs.declared.lengths.TheConstants.{MOST_DYN_BITS};
+ghost use Rattle.frame_tests.specs.Readable.{told_dynamic};
+ghost use Rattle.region_swap.specs.Swapped.{counts_in};
+ghost use Rattle.region_swap.specs.Telling.{TellsCounts};
+
+use bit_slice::{BitSlice, FixedBits, OutOfMemory};
+use frame_tests::{read_dynamic, tell_shape};
+use l1_signal::{L1Dyn, MOST_DYN_BYTES, conf_len, dyn_law, dyn_len, dyn_of, write_dyn};
+use plp_config::Plan;
+use scheduler::{Shape, field_law, shape};
+use std::alloc::Global;
+
+/// The dynamic part of a frame by its record, with another number of blocks of one PLP.
+#[derive(Drop)]
+pub struct Dynamic {
+    pub bits: FixedBits<MOST_DYN_BYTES>,
+    // What is read of the record, and then written.
+    rows: L1Dyn,
+    shape: Shape,
+    counts: Vec<u16>,
+    ghost short: { length bits ≤ MOST_DYN_BITS },
+    ghost plps: { length rows.plps ≡ length shape.counts },
+    ghost whole: { vec_len counts ≡ length shape.counts },
+}
+
+// Copies the numbers of blocks of a shape.
+fn copy_counts(shape: &Shape, counts: &mut [u16])
+    requires { length counts.old ≡ length shape.now.counts }
+    ensures { counts.new ≡ shape.now.counts }
+{
+    for plp in 0..counts.len() {
+        counts[plp] = shape.count(plp);
+    }
+}
+
+// Reads the dynamic part of an L1-post: whether it is one.
+fn read_part(plan: &Plan, post: &BitSlice<'_>, rows: &mut L1Dyn) -> bool
+    requires rows { length rows.old.plps ≡ length plan.now.plps }
+    requires long { conf_len (length plan.now.plps) + dyn_len (length plan.now.plps) ≤ length post.now }
+    ensures value { told_dynamic plan.now post.now ≡ (if result then Some rows.new else None) }
+    ensures rows { length rows.new.plps ≡ length plan.now.plps }
+{
+    plan.rules_law();
+    let plps = plan.config().plps.len();
+    read_dynamic(&post.sub(conf_len(plps), dyn_len(plps)), rows)
+}
+
+// Reads how many blocks the dynamic part of an L1-post tells of each PLP.
+fn read_counts(
+    plan: &Plan,
+    post: &BitSlice<'_>,
+    rows: &mut L1Dyn,
+    told: &mut Shape,
+    counts: &mut [u16],
+)
+    requires tells { TellsCounts plan.now post.now }
+    requires rows { length rows.old.plps ≡ length plan.now.plps }
+    requires shape { length told.old.counts ≡ length plan.now.plps }
+    requires counts { length counts.old ≡ length plan.now.plps }
+    requires long { conf_len (length plan.now.plps) + dyn_len (length plan.now.plps) ≤ length post.now }
+    ensures counts { counts.new ≡ counts_in plan.now post.now }
+    ensures fit { CountsFit plan.now counts.new }
+    ensures rows { length rows.new.plps ≡ length plan.now.plps }
+    ensures shape { length told.new.counts ≡ length plan.now.plps }
+{
+    read_part(plan, post, rows);
+    tell_shape(rows, told);
+    copy_counts(told, counts);
+}
+
+// Writes the dynamic part of a frame of a shape.
+#[tactic(auto, unfolding(l1_signal::specs::L1Of::dyn_of))]
+fn write_bits(
+    plan: &Plan,
+    frame: u64,
+    shape: &Shape,
+    rows: &mut L1Dyn,
+    bits: &mut FixedBits<MOST_DYN_BYTES>,
+)
+    requires fits { FitsL1 shape.now }
+    requires shape { length shape.now.counts ≡ length plan.now.plps }
+    requires rows { length rows.old.plps ≡ length plan.now.plps }
+    ensures value { bits.new ≡ dyn_bits (dyn_of plan.now frame shape.now) }
+    ensures size { length bits.new ≡ dyn_len (length plan.now.plps) }
+    ensures rows { length rows.new.plps ≡ length plan.now.plps }
+{
+    dyn_law();
+    plan.rules_law();
+    dyn_of(plan, frame, shape, rows);
+    bits.clear();
+    // There is room for it.
+    write_dyn(bits, rows).unwrap();
+}
+
+impl Dynamic {
+    ghost use Rattle.std.specs.Prelude.{◌≡◌, ◌<◌, ◌≤◌, ◌+◌, length, IfOk};
+    ghost use Rattle.plp_config.specs.Plps.{plp_at};
+    ghost use Rattle.l1_signal.specs.Lengths.{conf_len, dyn_len};
+    ghost use Rattle.region_swap.specs.Making.{IsMade, plps_in};
+    ghost use Rattle.region_swap.specs.Telling.{TellsCounts};
+
+    /// One without bits, with the memory of those of all frames of a plan.
+    pub fn open(alloc: Global, plan: &Plan) -> Result<Dynamic, OutOfMemory>
+        ensures { IfOk result (λ d. plps_in d ≡ length plan.now.plps) }
+    {
+        let plps = plan.config().plps.len();
+        Ok(Dynamic {
+            bits: FixedBits::new(),
+            rows: L1Dyn::open(alloc, plps as u16)?,
+            shape: Shape::open(alloc, plan)?,
+            counts: vec![in alloc; 0; plps]?,
+        })
+    }
+
+    /// Writes that of a frame, by the L1-post of its record: the PLP at a place has so many blocks, and each other as many as before.
+    #[tactic(auto, unfolding(gateway_core::specs::Signalling::dyn_part))]
+    pub fn write(&mut self, plan: &Plan, frame: u64, post: &BitSlice<'_>, plp: usize, count: u16)
+        requires plps { plps_in self.old ≡ length plan.now.plps }
+        requires tells { TellsCounts plan.now post.now }
+        requires long { conf_len (length plan.now.plps) + dyn_len (length plan.now.plps) ≤ length post.now }
+        requires place { plp < length plan.now.plps }
+        requires few { count ≤ (plp_at plan.now.plps plp).blocks }
+        ensures made { IsMade plan.now frame plp count post.now self.new.bits }
+        ensures plps { plps_in self.new ≡ length plan.now.plps }
+    {
+        field_law();
+        plan.rules_law();
+        read_counts(
+            plan,
+            post,
+            &mut self.rows,
+            &mut self.shape,
+            &mut self.counts,
+        );
+        self.counts[plp] = count;
+        shape(plan, &self.counts, &mut self.shape);
+        write_bits(plan, frame, &self.shape, &mut self.rows, &mut self.bits);
+    }
+}

@@ -1,0 +1,419 @@
+-- What is known of two files by what was fed of them.
+use Rattle.std.proofs.Common.{◌≡◌, ◌≢◌, ◌⊎◌, ℕ, ◌+◌, ◌-◌, ◌*◌, ◌<◌, ◌≤◌, Bool, true, false, List, [], ◌∷◌, ◌++◌, length, take, Option, Some, None}
+use Rattle.std.proofs.Common.{refl, ap, sym, subst, ◌∙◌, inl, inr, arith, append-nil, length-append}
+use Rattle.std.specs.Prelude.{slice_index}
+use Rattle.std.proofs.lemmas.Bool.{true≢false, lt-ltb}
+use Rattle.std.proofs.lemmas.List.{take_at}
+use Rattle.terms.proofs.CaseLemmas.{bool_cases}
+use Rattle.plp_config.specs.Laws.{CountRises, SlotLength}
+use Rattle.plp_config.specs.SlotTime.{slots_by}
+use Rattle.plp_config.specs.declared.config.Config.{Config}
+use Rattle.plp_config.specs.declared.moment.TheConstants.{MOST_FRAMES}
+use Rattle.ts_packet.specs.TsFile.{joined, packets_in}
+use Rattle.ts_packet.specs.declared.sizes.TheConstants.{SIZE}
+use Rattle.frame_groups.specs.Modulated.{FrameRecord}
+use Rattle.frame_groups.specs.declared.waiting.Waiting.{Waiting}
+use Rattle.modulator.specs.Laws.{DueFront, DueFollow}
+use Rattle.modulator.specs.StandsFor.{records_due}
+use Rattle.t2mi_stream.specs.CompleteLaws.{CompleteLaw}
+use Rattle.t2mi_stream.specs.Pipe.{pipe, units_in}
+use Rattle.formed_frames.specs.Remade.{NumberedView, remade_packets}
+use Rattle.feed_merge.specs.Laws.{AllBelow}
+use Rattle.feed_merge.specs.Picks.{above_all}
+use Rattle.frame_feed.specs.StandsFor.{IsFirst, waiting_of}
+use Rattle.frame_feed.specs.StandsFor as feed
+use Rattle.file_run.specs.Events.{Event, fed, has_ended, gave}
+use Rattle.file_run.specs.FileRun.{AreFed, IsFed}
+use Rattle.gateway_core.specs.InputSoFar.{Continues}
+use Rattle.gateway_run.proofs.FileLemmas.{NextIsBad}
+use Rattle.merge_run.specs.MergeRun.{AreEarly, records_of}
+use Rattle.merge_run.specs.Shown.{NoneComes}
+use Rattle.merge_run.proofs.FeedLemmas.{IsDue, due_of, waits_above}
+use Rattle.merge_run.proofs.NumberLemmas.{below_of, above_append, below_append}
+use Rattle.merge_run.proofs.SendLemmas.{joined_append}
+use Rattle.merge_run.proofs.SplitLemmas as split
+use Rattle.region_swap.specs.StandsFor.{Status, status_of, wants_of}
+use Rattle.region_swap.specs.Swapped.{swapped}
+use Rattle.swap_run.specs.Shown.{Read, Shown, HasCaughtUp, IsIn, InRecords, InPackets, InDrains, IsDone, IsBehindAll, IsWanted, finished_in}
+use Rattle.swap_run.specs.Shown as shown
+use Rattle.swap_run.specs.SwapRun.{frames_in, packets_of, units_of, complete_of, slots_of, below, counted, WantBad, SwapsAll, HasNone, MeetsBad}
+use Rattle.swap_run.specs.SwapRun.{HasLate, HasSwapped, WantsMore}
+use Rattle.swap_run.specs.declared.phase.Phase.{Phase}
+use Rattle.swap_run.specs.declared.phase.Phase.TheVariants as phase
+use Rattle.swap_run.specs.declared.stop.Ran.{Ran}
+use Rattle.swap_run.specs.declared.stop.SwapStop.TheVariants.{NoSuperframe, InputRefused, TooManyFrames}
+use Rattle.swap_run.specs.declared.swapping.Swapping.{Swapping}
+use Rattle.swap_run.proofs.GoLemmas.{slots_rise}
+use Rattle.swap_run.proofs.PacketLemmas.{file_continues, none_wanted, few_taken, all_taken, nothing_bad, bad_next}
+use Rattle.swap_run.proofs.SendLemmas.{frames_append, more_packets, gave_complete, gave_all}
+use Rattle.swap_run.proofs.ShownLemmas.{in_records, in_packets, in_drains, has_wanted}
+
+nothing_piped : (c : Config) (plp : ℕ) (input : List (List ℕ)) → pipe c.pid (remade_packets c (swapped c plp input []) ++ []) ≡ []
+unfolding remade_packets units_in
+nothing_piped c plp input = refl
+
+ran_same : (r : Ran) (f m u n : ℕ) → r.frames ≡ f → r.muted ≡ m → r.unsent ≡ u → r.units ≡ n
+    → r ≡ (let x : Ran = record { frames = f; muted = m; unsent = u; units = n } in x)
+ran_same r f m u n a b d e =
+    subst (λ (x : ℕ). r ≡ (let y : Ran = record { frames = x; muted = m; unsent = u; units = n } in y)) a
+    (subst (λ (x : ℕ). r ≡ (let y : Ran = record { frames = r.frames; muted = x; unsent = u; units = n } in y)) b
+    (subst (λ (x : ℕ). r ≡ (let y : Ran = record { frames = r.frames; muted = r.muted; unsent = x; units = n } in y)) d
+    (subst (λ (x : ℕ). r ≡ (let y : Ran = record { frames = r.frames; muted = r.muted; unsent = r.unsent; units = x } in y)) e refl)))
+
+below_both : (n : ℕ) (xs ys : List FrameRecord) → AllBelow n xs → below n (xs ++ ys) ≡ xs ++ below n ys
+below_both n [] ys all = refl
+below_both n (x ∷ xs) ys all = rw (lt-ltb x.number n all.0) (ap (λ (l : List FrameRecord). x ∷ l) (below_both n xs ys all.1))
+
+module _ (front : DueFront) (follow : DueFollow) (law : CompleteLaw) (rises : CountRises) (slot : SlotLength) (c : Config) (plp : ℕ)
+    (m : Swapping) (events : List Event) (s : Shown c plp events m) (files : ℕ → List ℕ) (places : List ℕ)
+    (are : AreFed 2 files places events) where
+  abbrev r : Read
+  r = s.read
+
+  abbrev input : List (List ℕ)
+  input = packets_in (files 1)
+
+  abbrev frames : List NumberedView
+  frames = frames_in c r.given
+
+  fed_t2mi : IsFed (files 0) (slice_index places 0) (fed 0 events) (has_ended 0 events)
+  fed_t2mi = are 0 (omega arith)
+
+  fed_input : IsFed (files 1) (slice_index places 1) (fed 1 events) (has_ended 1 events)
+  fed_input = are 1 (omega arith)
+
+  cont : Continues r.told input
+  cont = file_continues (files 1) (slice_index places 1) (fed 1 events) (has_ended 1 events) fed_input r.told r.rest r.tail m.taken m.ended s.of_input
+
+  all_given : NoneComes m.feed → records_of c (files 0) ≡ r.given
+  all_given none = split.all_given front follow c m.feed (files 0) (slice_index places 0) (fed 0 events) (has_ended 0 events) r.given fed_t2mi s.of_feed none
+
+  abbrev d : IsDue c m.feed (fed 0 events) (has_ended 0 events) r.given
+  d = due_of c m.feed (fed 0 events) (has_ended 0 events) r.given s.of_feed
+
+  abbrev more : List FrameRecord
+  more = (split.due_front front c (has_ended 0 events) (files 0) (fed 0 events) fed_t2mi.more fed_t2mi.parts fed_t2mi.end).0
+
+  -- the record that waits is the next
+  record Follows (w : Waiting) : Type 0 where
+    next : FrameRecord
+    later : List FrameRecord
+    parts : records_of c (files 0) ≡ r.given ++ next ∷ later
+    number : next.number ≡ w.frame
+
+  follows : (w : Waiting) → waiting_of m.feed ≡ Some w → Follows w
+  follows w waits = go d.later (subst (λ (o : Option Waiting). IsFirst o d.later) waits d.first)
+      (split.behind front follow c m.feed (files 0) (slice_index places 0) (fed 0 events) (has_ended 0 events) r.given fed_t2mi s.of_feed)
+    where
+      go : (later : List FrameRecord) → IsFirst (Some w) later → records_of c (files 0) ≡ r.given ++ (later ++ more) → Follows w
+      go [] first is = absurd first
+      go (x ∷ later) first is = record { next = x; later = later ++ more; parts = is; number = first.0 }
+
+  unwanted : ¬ (WantBad c plp (files 1) r.given)
+  unwanted = none_wanted (files 1) (slice_index places 1) (fed 1 events) (has_ended 1 events) fed_input r.told r.rest r.tail m.taken m.ended s.of_input
+      (slots_of c plp r.given) s.had
+
+  few : length (r.told.packets ++ r.rest) ≤ length input
+  few = few_taken (files 1) (slice_index places 1) (fed 1 events) (has_ended 1 events) fed_input r.told r.rest r.tail m.taken m.ended s.of_input
+
+  -- the complete units of the frames were given
+  complete : HasCaughtUp c plp m.swapper r.told frames m.ran.units → (status_of m.swapper).finished ≡ false
+      → gave events ≡ joined (complete_of c plp files r.given)
+  complete caught going = gave_complete law c plp m.swapper r.told frames m.ran.units (gave events) input cont going (caught.complete input cont) s.sends
+
+  finished_is : (p : Phase) → m.phase ≡ p → (status_of m.swapper).finished ≡ finished_in p
+  finished_is p e = ap (λ (x : Status). x.finished) s.status ∙ ap finished_in e
+
+  -- ---- all was given
+
+  slots_told : IsBehindAll c plp m r → m.ended ≡ true → r.tail ≡ [] → m.ran.unsent ≡ length input - slots_of c plp r.given
+  slots_told b over whole = bool_cases r.told.ended on off
+    where
+      total : length input ≡ length (r.told.packets ++ r.rest)
+      total = ap length (all_taken (files 1) (slice_index places 1) (fed 1 events) (has_ended 1 events) fed_input r.told r.rest r.tail m.taken
+          m.ended s.of_input over whole)
+
+      on : r.told.ended ≡ true → m.ran.unsent ≡ length input - slots_of c plp r.given
+      on e =
+          let unsent = s.counts.unsent_is in
+          let none = ap length (s.of_input.told e).1 in
+          let sum = length-append r.told.packets r.rest in
+          let most = b.few in
+          omega (arith, unsent, none, sum, most, total)
+
+      off : r.told.ended ≡ false → m.ran.unsent ≡ length input - slots_of c plp r.given
+      off e =
+          let unsent = s.counts.unsent_is in
+          let sum = length-append r.told.packets r.rest in
+          let most = b.few in
+          let least = s.had e in
+          omega (arith, unsent, sum, most, least, total)
+
+  early_below : above_all r.given ≤ MOST_FRAMES → AreEarly r.given
+  early_below le = below_of MOST_FRAMES r.given le
+
+  behind_above : IsBehindAll c plp m r → above_all r.given ≤ MOST_FRAMES
+  behind_above b = let n = b.next in let e = s.counts.early in omega (arith, n, e)
+
+  behind_some : IsBehindAll c plp m r → records_of c (files 0) ≢ []
+  behind_some b none = b.some (sym (all_given b.none) ∙ none)
+
+  pub swaps_all : m.phase ≡ phase.Done → SwapsAll c plp files m.ran (gave events)
+  swaps_all done =
+      let i : IsDone c plp m r = subst (IsIn c plp m r (has_ended 1 events)) done s.is_in in
+      let all = all_given i.behind.none in
+      let units : units_of c plp files ≡ pipe c.pid (remade_packets c (swapped c plp input frames)) =
+      ap (λ (l : List FrameRecord). pipe c.pid (packets_of c plp input l)) all in
+      let frames_is = s.counts.frames_is in
+      let muted_is = s.counts.muted_is in
+      record {
+        some = behind_some i.behind;
+        early = subst AreEarly (sym all) (early_below (behind_above i.behind));
+        whole = nothing_bad (files 1) (slice_index places 1) (fed 1 events) (has_ended 1 events) fed_input r.told r.rest r.tail m.taken m.ended
+            s.of_input i.over i.whole;
+        output = gave_all c plp m.swapper r.told frames m.ran.units (gave events) input cont (i.all input cont) s.sends ∙ ap joined (sym units);
+        ran_is = subst (λ (l : List FrameRecord). m.ran ≡ counted c plp l input (length (units_of c plp files))) (sym all)
+            (ran_same m.ran (length frames) (length r.given - length frames) (length input - slots_of c plp r.given) (length (units_of c plp files))
+            frames_is (omega (arith, frames_is, muted_is)) (slots_told i.behind i.over i.whole) (sym (i.all input cont) ∙ ap length (sym units)));
+      }
+
+  -- ---- it stopped
+
+  pub has_none : m.phase ≡ phase.Stopped NoSuperframe → HasNone c files (gave events)
+  has_none e =
+      let i : shown.StopsWithNone c plp m r = subst (IsIn c plp m r (has_ended 1 events)) e s.is_in in
+      let p = s.sends.front input cont [] (λ _. refl) in
+      let empty : frames ≡ [] = ap (frames_in c) i.nothing in
+      let nothing : s.sends.units ++ p.0 ≡ [] =
+      sym p.1 ∙ ap (λ (l : List NumberedView). pipe c.pid (remade_packets c (swapped c plp input l) ++ [])) empty ∙ nothing_piped c plp input in
+      record {
+        none = all_given i.none ∙ i.nothing;
+        empty = s.sends.gave_is ∙ ap joined (none_of s.sends.units p.0 nothing);
+      }
+    where
+      none_of : (xs ys : List (List ℕ)) → xs ++ ys ≡ [] → xs ≡ []
+      none_of [] ys is = refl
+      none_of (x ∷ xs) ys is = absurd (let n = ap length is in omega (arith, n))
+
+  pub has_late : m.phase ≡ phase.Stopped TooManyFrames → HasLate c plp files (gave events)
+  has_late e =
+      let i : shown.StopsAtLate c plp m r = subst (IsIn c plp m r (has_ended 1 events)) e s.is_in in
+      let f = follows i.waiting i.waits in
+      let late = i.late in
+      let number = f.number in
+      let next = i.next in
+      let early = s.counts.early in
+      record {
+        before = r.given;
+        late = f.next;
+        after = f.later;
+        parts = f.parts;
+        early = early_below (omega (arith, next, early));
+        number = omega (arith, late, number);
+        unwanted = unwanted;
+        output = complete i.caught (finished_is (phase.Stopped TooManyFrames) e);
+      }
+
+  -- the next frame wants so many packets
+  module _ (w : Waiting) (waits : waiting_of m.feed ≡ Some w) (early : w.frame < MOST_FRAMES) (behind : m.number ≤ w.frame) where
+    early_next : AreEarly (r.given ++ take 1 ((follows w waits).next ∷ (follows w waits).later))
+    early_next =
+        let f = follows w waits in
+        let above = waits_above follow c m.feed (fed 0 events) (has_ended 0 events) r.given s.of_feed w waits in
+        let number = f.number in
+        below_append MOST_FRAMES r.given (f.next ∷ []) (early_below (omega (arith, above, early))) (omega (arith, number, early), tt)
+
+    some_next : records_of c (files 0) ≢ []
+    some_next none =
+        let f = follows w waits in
+        let n = ap length (sym f.parts ∙ none) in
+        absurd (omega (arith, n, length-append r.given (f.next ∷ f.later)))
+
+    slots_next : slots_by c plp (m.number * c.ticks) ≤ slots_of c plp (r.given ++ take 1 ((follows w waits).next ∷ (follows w waits).later))
+    slots_next =
+        let f = follows w waits in
+        let number = f.number in
+        let above = above_append r.given (f.next ∷ []) in
+        slots_rise rises slot c plp m.number (above_all (r.given ++ f.next ∷ []) - 1) s.plan s.place (omega (arith, above, number, behind))
+
+  pub meets_bad : (n : ℕ) → m.phase ≡ phase.Stopped (InputRefused n) → MeetsBad c plp files n (gave events)
+  meets_bad n e = go i.met
+    where
+      i : shown.StopsAtBad c plp m r (has_ended 1 events) n
+      i = subst (IsIn c plp m r (has_ended 1 events)) e s.is_in
+
+      next : NextIsBad (files 1) (r.told.packets ++ r.rest)
+      next = bad_next (files 1) (slice_index places 1) (fed 1 events) (has_ended 1 events) fed_input r.told r.rest r.tail m.taken m.ended s.of_input
+          i.some i.bad i.cut
+
+      go : IsWanted c plp m r ⊎ IsBehindAll c plp m r → MeetsBad c plp files n (gave events)
+      go (inl w) =
+          let f = follows w.waiting w.waits in
+          let number = next.number in
+          let sum = length-append r.told.packets r.rest in
+          let none = ap length w.offered in
+          let less = w.wanted in
+          let slots = slots_next w.waiting w.waits w.early w.behind in
+          record {
+            some = some_next w.waiting w.waits w.early w.behind;
+            bad = next.bad;
+            number = i.number ∙ sym next.number;
+            before = r.given;
+            after = f.next ∷ f.later;
+            parts = f.parts;
+            early = early_next w.waiting w.waits w.early w.behind;
+            unwanted = unwanted;
+            wanted = λ _. (next.bad, omega (arith, number, sum, none, less, slots));
+            output = complete i.caught (finished_is (phase.Stopped (InputRefused n)) e);
+          }
+      go (inr b) = record {
+        some = behind_some b;
+        bad = next.bad;
+        number = i.number ∙ sym next.number;
+        before = r.given;
+        after = [];
+        parts = all_given b.none ∙ sym (append-nil r.given);
+        early = subst AreEarly (sym (append-nil r.given)) (early_below (behind_above b));
+        unwanted = unwanted;
+        wanted = λ some. absurd (some refl);
+        output = complete i.caught (finished_is (phase.Stopped (InputRefused n)) e);
+      }
+
+  -- ---- an input is to be read on
+
+  pub has_swapped : (taken : ℕ) → m.phase ≡ phase.Records → waiting_of m.feed ≡ None → feed.has_ended m.feed ≡ false
+      → taken ≡ length (fed 0 events) → HasSwapped c plp taken files (gave events)
+  has_swapped taken e none going is =
+      let i = in_records c plp events m s e in
+      let next = i.next in
+      let early = s.counts.early in
+      record {
+        early = subst AreEarly (sym due_is) (early_below (omega (arith, next, early)));
+        unwanted = subst (λ (l : List FrameRecord). ¬ (WantBad c plp (files 1) l)) (sym due_is) unwanted;
+        output = complete i.caught (finished_is phase.Records e) ∙ ap (λ (l : List FrameRecord). joined (complete_of c plp files l)) (sym due_is);
+      }
+    where
+      due_is : records_due c false (take taken (files 0)) ≡ r.given
+      due_is =
+          let later : d.later ≡ [] = subst (λ (o : Option Waiting). IsFirst o d.later) none d.first in
+          ap (λ (k : ℕ). records_due c false (take k (files 0))) is
+          ∙ ap (records_due c false) (ap (take (length (fed 0 events))) fed_t2mi.parts ∙ take_at (fed 0 events) fed_t2mi.more (length (fed 0 events)) refl)
+          ∙ ap (λ (b : Bool). records_due c b (fed 0 events)) (sym going ∙ s.of_feed.stands.end) ∙ d.all
+          ∙ ap (λ (l : List FrameRecord). r.given ++ l) later ∙ append-nil r.given
+
+  pub wants_packets : (place : ℕ) → (e : m.phase ≡ phase.Packets) → 0 < wants_of m.swapper → place < SIZE * (m.taken + 1) → WantsMore c plp place files (gave events)
+  wants_packets place e some near =
+      let i = in_packets c plp events m s e in
+      let w = i.waiting in
+      let f = follows w i.waits in
+      let h = has_wanted c plp events m s some in
+      let less = h.less in
+      let slots = slots_next w i.waits i.early i.behind in
+      let count = s.of_input.count in
+      let sum = length-append r.told.packets r.rest in
+      let none = ap length i.quiet.rest_is in
+      let most = few in
+      record {
+        before = r.given;
+        after = f.next ∷ f.later;
+        parts = f.parts;
+        early = early_next w i.waits i.early i.behind;
+        some = some_next w i.waits i.early i.behind;
+        wanted = λ _. omega (arith, near, less, slots, count, sum, none);
+        unread = omega (arith, near, most, count);
+        output = complete i.caught (finished_is phase.Packets e);
+      }
+
+  pub wants_rest : (place : ℕ) → (e : m.phase ≡ phase.Drains) → place < SIZE * (m.taken + 1) → WantsMore c plp place files (gave events)
+  wants_rest place e near =
+      let i = in_drains c plp events m s e in
+      let most = few in
+      let count = s.of_input.count in
+      record {
+        before = r.given;
+        after = [];
+        parts = all_given i.behind.none ∙ sym (append-nil r.given);
+        early = subst AreEarly (sym (append-nil r.given)) (early_below (behind_above i.behind));
+        some = behind_some i.behind;
+        wanted = λ some. absurd (some refl);
+        unread = omega (arith, near, most, count);
+        output = complete i.caught (finished_is phase.Drains e);
+      }
+
+  -- ---- some were given
+
+  above_few : above_all r.given ≤ MOST_FRAMES
+  above_few = by m.phase s.is_in
+    where
+      by : (p : Phase) → IsIn c plp m r (has_ended 1 events) p → above_all r.given ≤ MOST_FRAMES
+      by phase.Records i = let n = i.next in let e = s.counts.early in omega (arith, n, e)
+      by phase.Packets i = let n = i.above in let e = s.counts.early in omega (arith, n, e)
+      by phase.Units i = let n = i.next in let e = i.early in omega (arith, n, e)
+      by phase.Drains i = behind_above i.behind
+      by phase.Rests i = behind_above i.behind
+      by phase.Done i = behind_above i.behind
+      by (phase.Stopped NoSuperframe) i = let n = ap above_all i.nothing in omega (arith, n)
+      by (phase.Stopped TooManyFrames) i = let n = i.next in let e = s.counts.early in omega (arith, n, e)
+      by (phase.Stopped (InputRefused n)) i = met i.met
+        where
+          met : IsWanted c plp m r ⊎ IsBehindAll c plp m r → above_all r.given ≤ MOST_FRAMES
+          met (inl w) =
+              let a = waits_above follow c m.feed (fed 0 events) (has_ended 0 events) r.given s.of_feed w.waiting w.waits in
+              let e = w.early in
+              omega (arith, a, e)
+          met (inr b) = behind_above b
+
+  -- once no more frames come, the file ended
+  over_in : (p : Phase) → IsIn c plp m r (has_ended 1 events) p → finished_in p ≡ true → NoneComes m.feed
+  over_in phase.Records i over = absurd (true≢false (sym over))
+  over_in phase.Packets i over = absurd (true≢false (sym over))
+  over_in phase.Units i over = absurd (true≢false (sym over))
+  over_in phase.Drains i over = absurd (true≢false (sym over))
+  over_in phase.Rests i over = i.behind.none
+  over_in phase.Done i over = i.behind.none
+  over_in (phase.Stopped why) i over = absurd (true≢false (sym over))
+
+  abbrev after : List FrameRecord
+  after = d.later ++ more
+
+  record MayFollow : Type 0 where
+    later : List (List ℕ)
+    packets : packets_of c plp input (below MOST_FRAMES (records_of c (files 0))) ≡ remade_packets c (swapped c plp input frames) ++ later
+    none : (status_of m.swapper).finished ≡ true → later ≡ []
+
+  may_follow : MayFollow
+  may_follow = bool_cases (status_of m.swapper).finished ended going
+    where
+      ended : (status_of m.swapper).finished ≡ true → MayFollow
+      ended over =
+          let all = all_given (over_in m.phase s.is_in (sym (finished_is m.phase refl) ∙ over)) in
+          let kept : below MOST_FRAMES r.given ≡ r.given =
+          ap (below MOST_FRAMES) (sym (append-nil r.given)) ∙ below_both MOST_FRAMES r.given [] (early_below above_few) ∙ append-nil r.given in
+          record {
+            later = [];
+            packets = ap (λ (l : List FrameRecord). packets_of c plp input (below MOST_FRAMES l)) all ∙ ap (packets_of c plp input) kept
+                ∙ sym (append-nil (remade_packets c (swapped c plp input frames)));
+            none = λ _. refl;
+          }
+
+      going : (status_of m.swapper).finished ≡ false → MayFollow
+      going off =
+          let all : records_of c (files 0) ≡ r.given ++ after =
+          split.behind front follow c m.feed (files 0) (slice_index places 0) (fed 0 events) (has_ended 0 events) r.given fed_t2mi s.of_feed in
+          let kept = ap (below MOST_FRAMES) all ∙ below_both MOST_FRAMES r.given after (early_below above_few) in
+          let q = more_packets c plp input frames (frames_in c (below MOST_FRAMES after)) in
+          record {
+            later = q.0;
+            packets = ap (packets_of c plp input) kept
+                ∙ ap (λ (l : List NumberedView). remade_packets c (swapped c plp input l)) (frames_append c r.given (below MOST_FRAMES after)) ∙ q.1;
+            none = λ over. absurd (true≢false (sym over ∙ off));
+          }
+
+  pub gave_front : (rest : List ℕ) × (joined (pipe c.pid (packets_of c plp input (below MOST_FRAMES (records_of c (files 0))))) ≡ gave events ++ rest)
+  gave_front =
+      let f = may_follow in
+      let p = s.sends.front input cont f.later f.none in (
+        joined p.0,
+        ap (λ (l : List (List ℕ)). joined (pipe c.pid l)) f.packets ∙ ap joined p.1 ∙ joined_append s.sends.units p.0
+            ∙ ap (λ (l : List ℕ). l ++ joined p.0) (sym s.sends.gave_is),
+      )

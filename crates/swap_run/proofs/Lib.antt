@@ -1,0 +1,11 @@
+pub mod SendLemmas
+pub mod PacketLemmas
+pub mod ShownLemmas
+pub mod BoundLemmas
+pub mod GoLemmas
+pub mod NextLemmas
+pub mod UnitLemmas
+pub mod StepLemmas
+pub mod WantLemmas
+pub mod FileLemmas
+pub mod RunLemmas

@@ -1,0 +1,282 @@
+-- What is left to give, how far an input may be read, and what is known of a machine that came.
+use Rattle.std.proofs.Common.{◌≡◌, ◌≢◌, ℕ, ◌+◌, ◌*◌, ◌<◌, ◌≤◌, Bool, true, false, List, [], ◌∷◌, ◌++◌, length, Option, Some, None}
+use Rattle.std.proofs.Common.{refl, ap, sym, subst, ◌∙◌, arith, length-append, append-nil}
+use Rattle.plp_config.specs.Laws.{CountRises, SlotLength}
+use Rattle.plp_config.specs.SlotTime.{slots_by}
+use Rattle.plp_config.specs.declared.config.Config.{Config}
+use Rattle.plp_config.specs.declared.moment.TheConstants.{MOST_FRAMES}
+use Rattle.ts_packet.specs.TsFile.{begins_with_packet}
+use Rattle.ts_packet.specs.declared.sizes.TheConstants.{SIZE, SYNC}
+use Rattle.std.specs.Prelude.{IsSome, is_some, slice_index, ◌&&◌, ◌==◌}
+use Rattle.std.proofs.lemmas.Bool.{lt-leb, true≢false}
+use Rattle.frame_groups.specs.declared.cause.MuteCause.{MuteCause}
+use Rattle.frame_groups.specs.declared.waiting.Waiting.{Waiting}
+use Rattle.file_run.specs.Events.{Event, Fed, Ended, Gave, fed, has_ended, gave}
+use Rattle.file_run.specs.Laws.{EventsTell}
+use Rattle.frame_feed.specs.StandsFor.{fed_of}
+use Rattle.frame_feed.specs.declared.feed.FrameFeed.{FrameFeed}
+use Rattle.frame_groups.specs.Modulated.{FrameRecord}
+use Rattle.merge_run.specs.Shown.{IsFedWith}
+use Rattle.frame_feed.specs.StandsFor as feed
+use Rattle.merge_run.proofs.CameLemmas.{test_of, most_of, less_of, number_of, nothing_of}
+use Rattle.terms.proofs.CaseLemmas.{bool_cases}
+use Rattle.terms.proofs.OptionLemmas.{some_injective, none_some}
+use Rattle.merge_run.specs.Steps.{is_idle}
+use Rattle.region_swap.specs.StandsFor.{Status, status_of, frame_of, has_unit, is_fed}
+use Rattle.region_swap.specs.declared.swapper.Swapper.{Swapper}
+use Rattle.swap_run.specs.SwapRun.{frames_in}
+use Rattle.swap_run.proofs.PacketLemmas.{reads_same}
+use Rattle.swap_run.specs.Shown.{IsIn, Shown, HasShown, next_in}
+use Rattle.swap_run.specs.Steps.{left_in, left_of, reach_of, input_reach, drained}
+use Rattle.swap_run.specs.declared.phase.Phase.{Phase}
+use Rattle.swap_run.specs.declared.phase.Phase.TheVariants as phase
+use Rattle.swap_run.specs.declared.swapping.Swapping.{Swapping}
+use Rattle.swap_run.proofs.GoLemmas.{slots_rise}
+use Rattle.swap_run.proofs.ShownLemmas.{Same, feed_same, sends_same, status_in, in_packets, in_units, in_drains, in_rests}
+
+-- ---- events
+
+pub fed_same : EventsTell → (input other : ℕ) (bytes : List ℕ) (events : List Event) → other ≢ input → Same other events (events ++ Fed input bytes ∷ [])
+fed_same tell input other bytes events differ =
+    let t = tell.fed input bytes events in
+    record { fed_is = t.others other differ; ended_is = t.ended other }
+
+pub ended_same : EventsTell → (input other : ℕ) (bytes : List ℕ) (events : List Event) → other ≢ input
+    → Same other events (events ++ Ended input bytes ∷ [])
+ended_same tell input other bytes events differ =
+    let t = tell.ended input bytes events in
+    record { fed_is = t.others other differ; ended_is = t.others_ended other differ }
+
+pub gave_same : EventsTell → (input : ℕ) (bytes : List ℕ) (events : List Event) → Same input events (events ++ Gave bytes ∷ [])
+gave_same tell input bytes events =
+    let t = tell.given bytes events in
+    record { fed_is = t.fed input; ended_is = t.ended input }
+
+pub zero_one : ◌≢◌ {A = ℕ} 0 1
+zero_one e = absurd (omega (arith, e))
+
+pub one_zero : ◌≢◌ {A = ℕ} 1 0
+one_zero e = absurd (omega (arith, e))
+
+-- ---- how far an input may be read
+
+pub reach_by : (m n : Swapping) → fed_of m.feed ≤ fed_of n.feed → input_reach m ≤ input_reach n → (other : ℕ) → reach_of m other ≤ reach_of n other
+reach_by m n a b other = bool_cases (other == 0) (λ e. rw e (omega (arith, a))) (λ e. rw e b)
+
+-- the slots that are over when the frame under way begins
+abbrev pub slots_at : Swapping → ℕ
+slots_at m = slots_by m.plan.now (status_of m.swapper).plp (m.number * m.plan.now.ticks)
+
+pub reach_on : (m n : Swapping) → fed_of m.feed ≤ fed_of n.feed → slots_at m ≤ slots_at n
+    → drained m.draining m.ran.unsent ≤ drained n.draining n.ran.unsent → (other : ℕ) → reach_of m other ≤ reach_of n other
+reach_on m n f s d = reach_by m n f (omega (arith, s, d))
+
+pub drained_more : (b : Bool) (n : ℕ) → drained b n ≤ drained true n
+drained_more true n = omega arith
+drained_more false n = omega arith
+
+pub drained_on : (b : Bool) (m n : ℕ) → m ≤ n → drained b m ≤ drained b n
+drained_on true m n le = omega (arith, le)
+drained_on false m n le = omega arith
+
+pub slots_status : (m : Swapping) (q : Swapper) → (status_of q).plp ≡ (status_of m.swapper).plp
+    → slots_at m ≤ slots_by m.plan.now (status_of q).plp (m.number * m.plan.now.ticks)
+slots_status m q e =
+    let s = ap (λ (p : ℕ). slots_by m.plan.now p (m.number * m.plan.now.ticks)) e in
+    omega (arith, s)
+
+pub slots_next : CountRises → SlotLength → (m : Swapping) (q : Swapper) → ∥ HasShown m ∥₁ → (status_of q).plp ≡ (status_of m.swapper).plp
+    → slots_at m ≤ slots_by m.plan.now (status_of q).plp ((m.number + 1) * m.plan.now.ticks)
+slots_next rises slot m q came e = most_of _ _ came (λ (h : HasShown m). go h)
+  where
+    go : HasShown m → slots_at m ≤ slots_by m.plan.now (status_of q).plp ((m.number + 1) * m.plan.now.ticks)
+    go h =
+        let s = h.shown in
+        let c = h.network in
+        let plp : (status_of m.swapper).plp ≡ h.plp = ap (λ (x : Status). x.plp) s.status in
+        let a = ap (λ (p : ℕ). slots_by c p (m.number * c.ticks)) plp in
+        let b = ap (λ (p : ℕ). slots_by c p ((m.number + 1) * c.ticks)) (e ∙ plp) in
+        let up = slots_rise rises slot c h.plp m.number (m.number + 1) s.plan s.place (omega arith) in
+        subst (λ (k : Config). slots_by k (status_of m.swapper).plp (m.number * k.ticks) ≤ slots_by k (status_of q).plp ((m.number + 1) * k.ticks))
+        (sym s.config) (omega (arith, up, a, b))
+
+-- ---- what is left to give
+
+pub left_at : (m : Swapping) (p : Phase) → m.phase ≡ p → left_of m ≡ left_in p (feed.left_of m.feed) m.number m.swapper m.«record»
+left_at m p e = ap (λ (x : Phase). left_in x (feed.left_of m.feed) m.number m.swapper m.«record») e
+
+-- ---- what is known of a machine that came
+
+pub number_most : (m : Swapping) → ∥ HasShown m ∥₁ → m.number ≤ MOST_FRAMES
+number_most m came = most_of _ _ came (λ (h : HasShown m). h.shown.counts.early)
+
+pub few_counted : (m : Swapping) → ∥ HasShown m ∥₁ → m.ran.muted + m.ran.frames ≤ MOST_FRAMES + 1
+few_counted m came = most_of _ _ came (λ (h : HasShown m). go h)
+  where
+    most_next : (p : Phase) → next_in p m.number ≤ m.number + 1
+    most_next phase.Records = omega arith
+    most_next phase.Packets = omega arith
+    most_next phase.Units = omega arith
+    most_next phase.Drains = omega arith
+    most_next phase.Rests = omega arith
+    most_next phase.Done = omega arith
+    most_next (phase.Stopped why) = omega arith
+
+    go : HasShown m → m.ran.muted + m.ran.frames ≤ MOST_FRAMES + 1
+    go h =
+        let k = h.shown.counts in
+        let a = k.muted_is in
+        let b = k.few in
+        let d = k.early in
+        let e = most_next m.phase in
+        omega (arith, a, b, d, e)
+
+pub few_unsent : (m : Swapping) → ∥ HasShown m ∥₁ → m.ran.unsent ≤ m.taken
+few_unsent m came = most_of _ _ came (λ (h : HasShown m). go h)
+  where
+    go : HasShown m → m.ran.unsent ≤ m.taken
+    go h =
+        let s = h.shown in
+        let a = s.counts.unsent_is in
+        let b = s.of_input.count in
+        let d = length-append s.read.told.packets s.read.rest in
+        omega (arith, a, b, d)
+
+module _ (m : Swapping) (came : ∥ HasShown m ∥₁) where
+  pub packets_idle : m.phase ≡ phase.Packets → has_unit m.swapper ≡ false
+  packets_idle e = test_of _ _ came (λ (h : HasShown m). (in_packets h.network h.plp h.events m h.shown e).caught.idle)
+
+  pub packets_free : m.phase ≡ phase.Packets → (status_of m.swapper).begun ≡ false
+  packets_free e = test_of _ _ came (λ (h : HasShown m).
+      ap (λ (x : Status). x.begun) (h.shown.status ∙ ap (status_in h.network h.plp m.number) e))
+
+  pub packets_open : m.phase ≡ phase.Packets → (status_of m.swapper).finished ≡ false
+  packets_open e = test_of _ _ came (λ (h : HasShown m).
+      ap (λ (x : Status). x.finished) (h.shown.status ∙ ap (status_in h.network h.plp m.number) e))
+
+  -- of the record that waits
+  pub packets_early : m.phase ≡ phase.Packets → (w : Waiting) → feed.waiting_of m.feed ≡ Some w → w.frame < MOST_FRAMES
+  packets_early e w waits = less_of _ _ came (λ (h : HasShown m).
+      let i = in_packets h.network h.plp h.events m h.shown e in
+      let same : w.frame ≡ i.waiting.frame = ap (λ (x : Waiting). x.frame) (some_injective w i.waiting (sym waits ∙ i.waits)) in
+      let early = i.early in
+      omega (arith, same, early))
+
+  pub packets_behind : m.phase ≡ phase.Packets → (w : Waiting) → feed.waiting_of m.feed ≡ Some w → m.number ≤ w.frame
+  packets_behind e w waits = most_of _ _ came (λ (h : HasShown m).
+      let i = in_packets h.network h.plp h.events m h.shown e in
+      let same : w.frame ≡ i.waiting.frame = ap (λ (x : Waiting). x.frame) (some_injective w i.waiting (sym waits ∙ i.waits)) in
+      let behind = i.behind in
+      omega (arith, same, behind))
+
+  pub packets_waits : m.phase ≡ phase.Packets → IsSome (feed.waiting_of m.feed)
+  packets_waits e = some_of (feed.waiting_of m.feed) (λ none. nothing_of came (λ (h : HasShown m).
+      let i = in_packets h.network h.plp h.events m h.shown e in
+      none_some i.waiting (sym none ∙ i.waits)))
+    where
+      some_of : (o : Option Waiting) → (o ≡ None → ⊥) → IsSome o
+      some_of None f = absurd (f refl)
+      some_of (Some w) f = refl
+
+  pub frame_is : frame_of m.swapper ≡ m.number
+  frame_is = number_of _ _ came (λ (h : HasShown m). ap (λ (x : Status). x.frame) h.shown.status)
+
+  pub units_begun : m.phase ≡ phase.Units → (status_of m.swapper).begun ≡ true
+  units_begun e = test_of _ _ came (λ (h : HasShown m).
+      ap (λ (x : Status). x.begun) (h.shown.status ∙ ap (status_in h.network h.plp m.number) e))
+
+  pub units_early : m.phase ≡ phase.Units → m.number < MOST_FRAMES
+  units_early e = less_of _ _ came (λ (h : HasShown m). (in_units h.network h.plp h.events m h.shown e).early)
+
+  pub drains_idle : m.phase ≡ phase.Drains → has_unit m.swapper ≡ false
+  drains_idle e = test_of _ _ came (λ (h : HasShown m). (in_drains h.network h.plp h.events m h.shown e).caught.idle)
+
+  pub drains_open : m.phase ≡ phase.Drains → (status_of m.swapper).finished ≡ false
+  drains_open e = test_of _ _ came (λ (h : HasShown m).
+      ap (λ (x : Status). x.finished) (h.shown.status ∙ ap (status_in h.network h.plp m.number) e))
+
+  pub rests_over : m.phase ≡ phase.Rests → (status_of m.swapper).finished ≡ true
+  rests_over e = test_of _ _ came (λ (h : HasShown m).
+      ap (λ (x : Status). x.finished) (h.shown.status ∙ ap (status_in h.network h.plp m.number) e))
+
+  pub rests_fed : m.phase ≡ phase.Rests → is_fed m.swapper ≡ true
+  rests_fed e = test_of _ _ came (λ (h : HasShown m). (in_rests h.network h.plp h.events m h.shown e).all_fed)
+
+-- ---- the bytes behind which an input ended
+
+pub some_length : (bytes : List ℕ) → 0 < length bytes → bytes ≢ []
+some_length bytes lt e = let n = ap (λ (l : List ℕ). length l) e in absurd (omega (arith, lt, n))
+
+pub too_few : (bytes : List ℕ) → length bytes < SIZE → begins_with_packet bytes ≡ false
+too_few bytes lt = ap (λ (b : Bool). b && (slice_index bytes 0 == SYNC)) (lt-leb SIZE (length bytes) lt)
+
+pub nothing_more : (front bytes : List ℕ) → length bytes ≡ 0 → front ++ bytes ≡ front
+nothing_more front [] e = append-nil front
+nothing_more front (x ∷ bytes) e = absurd (omega (arith, e))
+
+pub not_idle : (o : Option Waiting) (e : Bool) → o ≡ None → is_idle o e ≡ false → e ≡ true
+not_idle None true n i = refl
+not_idle None false n i = absurd (true≢false i)
+not_idle (Some w) e n i = absurd (none_some w (sym n))
+
+pub is_muted : (o : Option MuteCause) → is_some o ≡ true → o ≡ None → ⊥
+is_muted None e n = true≢false (sym e)
+is_muted (Some x) e n = none_some x (sym n)
+
+pub not_muted : (o : Option MuteCause) → is_some o ≡ false → o ≡ None
+not_muted None e = refl
+not_muted (Some x) e = absurd (true≢false e)
+
+-- ---- nothing was given
+
+pub shown_still : EventsTell → (c : Config) (plp : ℕ) (m : Swapping) (events : List Event) → Shown c plp events m
+    → Shown c plp (events ++ Gave [] ∷ []) m
+shown_still tell c plp m events s =
+    let zero = gave_same tell 0 [] events in
+    let one = gave_same tell 1 [] events in
+    let r = s.read in
+    record {
+      config = s.config;
+      plan = s.plan;
+      ids = s.ids;
+      place = s.place;
+      read = r;
+      of_feed = feed_same c m.feed _ _ _ _ r.given zero.fed_is zero.ended_is s.of_feed;
+      of_input = reads_same _ _ _ _ r.told r.rest r.tail m.taken m.ended one.fed_is one.ended_is s.of_input;
+      at = s.at;
+      had = s.had;
+      sends = sends_same c plp m.swapper r.told (frames_in c r.given) m.ran.units (gave events) (gave (events ++ Gave [] ∷ []))
+          ((tell.given [] events).gave ∙ append-nil (gave events)) s.sends;
+      status = s.status;
+      counts = s.counts;
+      is_in = subst (λ (b : Bool). IsIn c plp m r b m.phase) (sym one.ended_is) s.is_in;
+    }
+
+-- ---- the T2-MI stream came, or its end
+
+pub feed_more : EventsTell → (c : Config) (f g : FrameFeed) (events : List Event) (piece : List ℕ) (given : List FrameRecord)
+    → feed.has_ended f ≡ false → feed.config_of g ≡ feed.config_of f
+    → ((bytes : List ℕ) (given : List FrameRecord) → feed.FrameFeedStandsFor f bytes false given
+    → feed.FrameFeedStandsFor g (bytes ++ piece) false given)
+    → IsFedWith c f (fed 0 events) (has_ended 0 events) given
+    → IsFedWith c g (fed 0 (events ++ Fed 0 piece ∷ [])) (has_ended 0 (events ++ Fed 0 piece ∷ [])) given
+feed_more tell c f g events piece given going config stands h =
+    let t = tell.fed 0 piece events in
+    let off : has_ended 0 events ≡ false = sym h.stands.end ∙ going in
+    let was = subst (λ (e : Bool). feed.FrameFeedStandsFor f (fed 0 events) e given) off h.stands in
+    subst (λ (e : Bool). IsFedWith c g (fed 0 (events ++ Fed 0 piece ∷ [])) e given) (sym (t.ended 0 ∙ off))
+    (subst (λ (l : List ℕ). IsFedWith c g l false given) (sym t.here)
+    (record { network = config ∙ h.network; stands = stands (fed 0 events) given was }))
+
+pub feed_over : EventsTell → (c : Config) (f g : FrameFeed) (events : List Event) (bytes : List ℕ) (given : List FrameRecord)
+    → length bytes ≡ 0 → feed.has_ended f ≡ false → feed.config_of g ≡ feed.config_of f
+    → ((bytes : List ℕ) (given : List FrameRecord) → feed.FrameFeedStandsFor f bytes false given → feed.FrameFeedStandsFor g bytes true given)
+    → IsFedWith c f (fed 0 events) (has_ended 0 events) given
+    → IsFedWith c g (fed 0 (events ++ Ended 0 bytes ∷ [])) (has_ended 0 (events ++ Ended 0 bytes ∷ [])) given
+feed_over tell c f g events bytes given none going config stands h =
+    let t = tell.ended 0 bytes events in
+    let off : has_ended 0 events ≡ false = sym h.stands.end ∙ going in
+    let was = subst (λ (e : Bool). feed.FrameFeedStandsFor f (fed 0 events) e given) off h.stands in
+    subst (λ (e : Bool). IsFedWith c g (fed 0 (events ++ Ended 0 bytes ∷ [])) e given) (sym t.ended)
+    (subst (λ (l : List ℕ). IsFedWith c g l true given) (sym (t.here ∙ nothing_more (fed 0 events) bytes none))
+    (record { network = config ∙ h.network; stands = stands (fed 0 events) given was }))

@@ -1,0 +1,145 @@
+-- What a swapper sends, from call to call.
+use Rattle.std.proofs.Common.{◌≡◌, ℕ, ◌+◌, true, false, List, [], ◌∷◌, ◌++◌, length, take, Some, None, refl, ap, sym, subst, ◌∙◌, arith}
+use Rattle.std.proofs.Common.{append-nil, append_assoc, length-append}
+use Rattle.std.specs.Prelude.{slice_get}
+use Rattle.std.proofs.lemmas.Bool.{true≢false}
+use Rattle.std.proofs.lemmas.Grind.{flat_map-append}
+use Rattle.std.proofs.lemmas.List.{take_at, map-append}
+use Rattle.plp_config.specs.declared.config.Config.{Config}
+use Rattle.ts_packet.specs.TsFile.{joined}
+use Rattle.frame_groups.specs.Laws.{IsPrefix}
+use Rattle.frame_groups.specs.Modulated.{FrameRecord}
+use Rattle.t2mi_stream.specs.Complete.{complete_units}
+use Rattle.t2mi_stream.specs.CompleteLaws.{CompleteLaw}
+use Rattle.t2mi_stream.specs.Pipe.{pipe}
+use Rattle.formed_frames.specs.Remade.{NumberedView, remade_packets}
+use Rattle.gateway_core.specs.InputSoFar.{Told, Continues}
+use Rattle.merge_run.proofs.SendLemmas.{joined_push, packets_more}
+use Rattle.region_swap.specs.StandsFor.{SwapperStandsFor, status_of, has_unit}
+use Rattle.region_swap.specs.Swapped.{swapped, swapped_frame}
+use Rattle.region_swap.specs.declared.swapper.Swapper.{Swapper}
+use Rattle.swap_run.specs.Shown.{Sends, HasCaughtUp}
+use Rattle.swap_run.specs.SwapRun.{frame_in, frames_in}
+
+-- ---- frames of records
+
+pub frames_append : (c : Config) (xs ys : List FrameRecord) → frames_in c (xs ++ ys) ≡ frames_in c xs ++ frames_in c ys
+frames_append c xs ys = flat_map-append (λ (x : FrameRecord). frame_in c x.number x.content) xs ys
+
+pub frames_push : (c : Config) (xs : List FrameRecord) (x : FrameRecord)
+    → frames_in c (xs ++ x ∷ []) ≡ frames_in c xs ++ frame_in c x.number x.content
+frames_push c xs x = frames_append c xs (x ∷ [])
+    ∙ ap (λ (l : List NumberedView). frames_in c xs ++ l) (append-nil (frame_in c x.number x.content))
+
+-- more frames have more packets behind those of the first
+pub more_packets : (c : Config) (plp : ℕ) (input : List (List ℕ)) (frames more : List NumberedView)
+    → IsPrefix (remade_packets c (swapped c plp input frames)) (remade_packets c (swapped c plp input (frames ++ more)))
+more_packets c plp input frames more =
+    let p = packets_more c (swapped c plp input frames) (swapped c plp input more) in
+    (p.0, ap (remade_packets c) (map-append (swapped_frame c plp input) frames more) ∙ p.1)
+
+-- ---- inputs that continue
+
+pub sends_told : (c : Config) (plp : ℕ) (s q : Swapper) (t u : Told) (frames : List NumberedView) (count : ℕ) (gave : List ℕ)
+    → ((input : List (List ℕ)) → Continues u input → Continues t input) → (status_of q).finished ≡ (status_of s).finished
+    → SwapperStandsFor q c plp u frames count → Sends c plp s t frames count gave → Sends c plp q u frames count gave
+sends_told c plp s q t u frames count gave back finished stands h = record {
+  stands = stands;
+  units = h.units;
+  gave_is = h.gave_is;
+  count_is = h.count_is;
+  front = λ input cont more over. h.front input (back input cont) more (λ on. over (finished ∙ on));
+}
+
+pub caught_told : (c : Config) (plp : ℕ) (s q : Swapper) (t u : Told) (frames : List NumberedView) (count : ℕ)
+    → ((input : List (List ℕ)) → Continues u input → Continues t input) → has_unit q ≡ has_unit s
+    → HasCaughtUp c plp s t frames count → HasCaughtUp c plp q u frames count
+caught_told c plp s q t u frames count back unit h = record {
+  idle = unit ∙ h.idle;
+  complete = λ input cont. h.complete input (back input cont);
+}
+
+-- ---- a frame is begun
+
+pub sends_begun : (c : Config) (plp : ℕ) (s q : Swapper) (t : Told) (frames : List NumberedView) (f : NumberedView) (count : ℕ)
+    (gave : List ℕ) → (status_of s).finished ≡ false → SwapperStandsFor q c plp t (frames ++ f ∷ []) count
+    → Sends c plp s t frames count gave → Sends c plp q t (frames ++ f ∷ []) count gave
+sends_begun c plp s q t frames f count gave going stands h = record {
+  stands = stands;
+  units = h.units;
+  gave_is = h.gave_is;
+  count_is = h.count_is;
+  front = λ input cont later _.
+      let more = more_packets c plp input frames (f ∷ []) in
+      subst (λ (l : List (List ℕ)). IsPrefix h.units (pipe c.pid l))
+      (sym (append_assoc (remade_packets c (swapped c plp input frames)) more.0 later) ∙ ap (λ (l : List (List ℕ)). l ++ later) (sym more.1))
+      (h.front input cont (more.0 ++ later) (λ over. absurd (true≢false (sym over ∙ going))));
+}
+
+-- ---- units
+
+next_element : (xs ys : List (List ℕ)) (x : List ℕ) → slice_get (xs ++ ys) (length xs) ≡ Some x → (more : List (List ℕ)) × (ys ≡ x ∷ more)
+next_element [] [] x e = absurd (let z : None ≡ Some x = e in cc)
+next_element [] (y ∷ ys) x e = (ys, (let z : Some y ≡ Some x = e in let s : y ≡ x = cc in ap (λ (v : List ℕ). v ∷ ys) s))
+next_element (z ∷ xs) ys x e = next_element xs ys x e
+
+same_front : (xs ys vs bs : List (List ℕ)) → xs ++ vs ≡ ys ++ bs → length xs ≡ length ys → xs ≡ ys
+same_front xs ys vs bs e l = sym (take_at xs vs (length xs) refl) ∙ ap (take (length xs)) e ∙ take_at ys bs (length xs) (sym l)
+
+all_of : (xs ys : List (List ℕ)) → length (xs ++ ys) ≡ length xs → ys ≡ []
+all_of xs [] e = refl
+all_of xs (y ∷ ys) e = absurd (omega (arith, e, length-append xs (y ∷ ys)))
+
+pub sends_next : (c : Config) (plp : ℕ) (s q : Swapper) (t : Told) (frames : List NumberedView) (count : ℕ) (gave unit : List ℕ)
+    → (status_of q).finished ≡ (status_of s).finished
+    → ((input : List (List ℕ)) → Continues t input → (more : List (List ℕ)) → ((status_of s).finished ≡ true → more ≡ [])
+    → slice_get (pipe c.pid (remade_packets c (swapped c plp input frames) ++ more)) count ≡ Some unit)
+    → SwapperStandsFor q c plp t frames (count + 1) → Sends c plp s t frames count gave
+    → Sends c plp q t frames (count + 1) (gave ++ unit)
+sends_next c plp s q t frames count gave unit finished next stands h = record {
+  stands = stands;
+  units = h.units ++ unit ∷ [];
+  gave_is = ap (λ (l : List ℕ). l ++ unit) h.gave_is ∙ sym (joined_push h.units unit);
+  count_is = (let e = h.count_is in omega (arith, e, length-append h.units (unit ∷ [])));
+  front = λ input cont more over.
+      let p = h.front input cont more (λ on. over (finished ∙ on)) in
+      let at : slice_get (h.units ++ p.0) (length h.units) ≡ Some unit =
+      ap (λ (l : List (List ℕ)). slice_get l (length h.units)) (sym p.1)
+      ∙ ap (slice_get (pipe c.pid (remade_packets c (swapped c plp input frames) ++ more))) (sym h.count_is)
+      ∙ next input cont more (λ on. over (finished ∙ on)) in
+      let r = next_element h.units p.0 unit at in
+      (r.0, p.1 ∙ ap (λ (l : List (List ℕ)). h.units ++ l) r.1 ∙ sym (append_assoc h.units (unit ∷ []) r.0));
+}
+
+-- all complete units, as bytes
+pub gave_complete : CompleteLaw → (c : Config) (plp : ℕ) (s : Swapper) (t : Told) (frames : List NumberedView) (count : ℕ) (gave : List ℕ)
+    (input : List (List ℕ)) → Continues t input → (status_of s).finished ≡ false
+    → count ≡ length (complete_units c.pid (remade_packets c (swapped c plp input frames))) → Sends c plp s t frames count gave
+    → gave ≡ joined (complete_units c.pid (remade_packets c (swapped c plp input frames)))
+gave_complete law c plp s t frames count gave input cont going all h =
+    let packets : List (List ℕ) = remade_packets c (swapped c plp input frames) in
+    let p = h.front input cont [] (λ over. absurd (true≢false (sym over ∙ going))) in
+    let l = law c.pid packets [] in
+    h.gave_is ∙ ap joined (same_front h.units (complete_units c.pid packets) p.0 l.rest (sym p.1 ∙ l.units) (sym h.count_is ∙ all))
+
+pub gave_all : (c : Config) (plp : ℕ) (s : Swapper) (t : Told) (frames : List NumberedView) (count : ℕ) (gave : List ℕ)
+    (input : List (List ℕ)) → Continues t input → length (pipe c.pid (remade_packets c (swapped c plp input frames))) ≡ count
+    → Sends c plp s t frames count gave → gave ≡ joined (pipe c.pid (remade_packets c (swapped c plp input frames)))
+gave_all c plp s t frames count gave input cont all h =
+    let packets : List (List ℕ) = remade_packets c (swapped c plp input frames) in
+    let p = h.front input cont [] (λ _. refl) in
+    let units : pipe c.pid packets ≡ h.units ++ p.0 = ap (pipe c.pid) (sym (append-nil packets)) ∙ p.1 in
+    let none : p.0 ≡ [] = all_of h.units p.0 (ap length (sym units) ∙ all ∙ h.count_is) in
+    h.gave_is ∙ ap joined (sym (units ∙ ap (λ (l : List (List ℕ)). h.units ++ l) none ∙ append-nil h.units))
+
+-- it is finished
+pub sends_over : (c : Config) (plp : ℕ) (s q : Swapper) (t : Told) (frames : List NumberedView) (count : ℕ) (gave : List ℕ)
+    → (status_of s).finished ≡ false → SwapperStandsFor q c plp t frames count → Sends c plp s t frames count gave
+    → Sends c plp q t frames count gave
+sends_over c plp s q t frames count gave going stands h = record {
+  stands = stands;
+  units = h.units;
+  gave_is = h.gave_is;
+  count_is = h.count_is;
+  front = λ input cont more _. h.front input cont more (λ on. absurd (true≢false (sym on ∙ going)));
+}

@@ -1,0 +1,427 @@
+-- What is shown of bytes that came, and of their end.
+use Rattle.std.proofs.Common.{◌≡◌, ◌≢◌, ◌⊎◌, ℕ, ◌+◌, ◌-◌, ◌*◌, ◌<◌, ◌≤◌, Bool, true, false, cond, List, [], ◌∷◌, ◌++◌, length}
+use Rattle.std.proofs.Common.{refl, ap, sym, subst, ◌∙◌, arith, length-append, inl, inr}
+use Rattle.std.specs.Prelude.{slice_index}
+use Rattle.std.proofs.lemmas.Bool.{true≢false}
+use Rattle.plp_config.specs.SlotTime.{slots_by}
+use Rattle.plp_config.specs.declared.config.Config.{Config}
+use Rattle.ts_packet.specs.TsFile.{begins_with_packet}
+use Rattle.ts_packet.specs.declared.sizes.TheConstants.{SIZE, SYNC}
+use Rattle.frame_groups.specs.Modulated.{FrameRecord}
+use Rattle.formed_frames.specs.Remade.{NumberedView}
+use Rattle.file_run.specs.Events.{Event, fed, has_ended, gave}
+use Rattle.frame_feed.specs.declared.feed.FrameFeed.{FrameFeed}
+use Rattle.gateway_core.specs.InputSoFar.{Told, with_packet, at_end, Continues}
+use Rattle.merge_run.specs.Shown.{IsFedWith}
+use Rattle.region_swap.specs.StandsFor.{SwapperStandsFor, Status, status_of, wants_of, wants_by, has_unit}
+use Rattle.region_swap.specs.declared.swapper.Swapper.{Swapper}
+use Rattle.region_swap.proofs.RegionLemmas.{back_offered, back_ended}
+use Rattle.region_swap.proofs.SwapLemmas.{wants_told}
+use Rattle.swap_run.specs.Shown.{ReadsPackets, Sends, HasCaughtUp, Read, InRecords, InPackets, InUnits, InDrains, InRests}
+use Rattle.swap_run.specs.Shown.{IsBehindAll, IsWanted, IsIn, Shown, more_units, begun_in, finished_in, next_in, frame_bytes}
+use Rattle.swap_run.specs.SwapRun.{frames_in}
+use Rattle.swap_run.specs.declared.phase.Phase.{Phase}
+use Rattle.swap_run.specs.declared.phase.Phase.TheVariants as phase
+use Rattle.swap_run.specs.declared.stop.SwapStop.TheVariants.{InputRefused}
+use Rattle.swap_run.specs.declared.swapping.Swapping.{Swapping}
+use Rattle.swap_run.proofs.PacketLemmas.{reads_offer, reads_drain, reads_tail, reads_end, reads_over, reads_same}
+use Rattle.swap_run.proofs.SendLemmas.{sends_told, caught_told}
+
+-- ---- by one event more
+
+pub feed_same : (c : Config) (f : FrameFeed) (bytes now : List ℕ) (ended is : Bool) (given : List FrameRecord) → now ≡ bytes
+    → is ≡ ended → IsFedWith c f bytes ended given → IsFedWith c f now is given
+feed_same c f bytes now ended is given e d h =
+    subst (λ (x : Bool). IsFedWith c f now x given) (sym d) (subst (λ (l : List ℕ). IsFedWith c f l ended given) (sym e) h)
+
+pub sends_same : (c : Config) (plp : ℕ) (s : Swapper) (t : Told) (frames : List NumberedView) (count : ℕ) (was is : List ℕ) → is ≡ was
+    → Sends c plp s t frames count was → Sends c plp s t frames count is
+sends_same c plp s t frames count was is e h = subst (Sends c plp s t frames count) (sym e) h
+
+-- The inputs have these bytes, and so much was given, as before but for an input.
+pub record Same (input : ℕ) (events more : List Event) : Type 0 where
+  pub fed_is : fed input more ≡ fed input events
+  pub ended_is : has_ended input more ≡ has_ended input events
+
+-- what is wanted of an input that has not ended
+pub record HasWanted (ended : Bool) (slots len : ℕ) : Type 0 where
+  pub off : ended ≡ false
+  pub less : len < slots
+
+wanted_more : (ended : Bool) (slots len : ℕ) → 0 < cond ended 0 (slots - len) → HasWanted ended slots len
+wanted_more true slots len lt = absurd (omega (arith, lt))
+wanted_more false slots len lt = record { off = refl; less = omega (arith, lt) }
+
+pub none_wanted : (ended : Bool) (slots len : ℕ) → cond ended 0 (slots - len) ≡ 0 → ended ≡ false → slots ≤ len
+none_wanted true slots len e off = absurd (true≢false off)
+none_wanted false slots len e off = omega (arith, e)
+
+-- what is seen of a swapper in a phase
+abbrev pub status_in : Config → ℕ → ℕ → Phase → Status
+status_in c plp number p = record { network = c; plp = plp; frame = number; begun = begun_in p; finished = finished_in p }
+
+-- units are counted alike in a phase that tells nothing of the swapper
+pub units_packets : (m : Swapping) (q : Swapper) (n : ℕ) → m.phase ≡ phase.Packets
+    → m.ran.units + more_units m.phase m.swapper m.«record» ≤ n → m.ran.units + more_units m.phase q m.«record» ≤ n
+units_packets m q n e h =
+    subst (λ (p : Phase). m.ran.units + more_units p q m.«record» ≤ n) (sym e)
+    (subst (λ (p : Phase). m.ran.units + more_units p m.swapper m.«record» ≤ n) e h)
+
+module _ (c : Config) (plp : ℕ) (events : List Event) (m : Swapping) (s : Shown c plp events m) where
+  abbrev pub r : Read
+  r = s.read
+
+  pub in_records : m.phase ≡ phase.Records → InRecords c plp m r
+  in_records e = subst (IsIn c plp m r (has_ended 1 events)) e s.is_in
+
+  pub in_packets : m.phase ≡ phase.Packets → InPackets c plp m r
+  in_packets e = subst (IsIn c plp m r (has_ended 1 events)) e s.is_in
+
+  pub in_units : m.phase ≡ phase.Units → InUnits c plp m r
+  in_units e = subst (IsIn c plp m r (has_ended 1 events)) e s.is_in
+
+  pub in_drains : m.phase ≡ phase.Drains → InDrains c plp m r
+  in_drains e = subst (IsIn c plp m r (has_ended 1 events)) e s.is_in
+
+  pub in_rests : m.phase ≡ phase.Rests → InRests c plp m r
+  in_rests e = subst (IsIn c plp m r (has_ended 1 events)) e s.is_in
+
+  -- what is wanted
+  pub wants_is : wants_of m.swapper ≡ wants_by c plp r.told
+  wants_is = wants_told m.swapper c plp r.told (frames_in c r.given) m.ran.units s.sends.stands
+
+  pub has_wanted : 0 < wants_of m.swapper → HasWanted r.told.ended (slots_by c plp (m.number * c.ticks)) (length r.told.packets)
+  has_wanted lt =
+      subst (λ (n : ℕ). HasWanted r.told.ended (slots_by c plp (n * c.ticks)) (length r.told.packets)) s.at
+      (wanted_more r.told.ended (slots_by c plp (r.told.frame * c.ticks)) (length r.told.packets)
+      (let e = wants_is in omega (arith, lt, e)))
+
+  pub all_there : wants_of m.swapper ≡ 0 → r.told.ended ≡ false → slots_by c plp (m.number * c.ticks) ≤ length r.told.packets
+  all_there none off =
+      subst (λ (n : ℕ). slots_by c plp (n * c.ticks) ≤ length r.told.packets) s.at
+      (none_wanted r.told.ended (slots_by c plp (r.told.frame * c.ticks)) (length r.told.packets) (sym wants_is ∙ none) off)
+
+  -- ---- bytes of the T2-MI stream came, or its end
+
+  pub shown_feed : (g : FrameFeed) (more : List Event) → m.phase ≡ phase.Records → Same 1 events more → gave more ≡ gave events
+      → IsFedWith c g (fed 0 more) (has_ended 0 more) r.given → Shown c plp more (record m { feed = g })
+  shown_feed g more e one gave_is fed_is =
+      let i = in_records e in
+      record {
+        config = s.config;
+        plan = s.plan;
+        ids = s.ids;
+        place = s.place;
+        read = r;
+        of_feed = fed_is;
+        of_input = reads_same _ _ _ _ r.told r.rest r.tail m.taken m.ended one.fed_is one.ended_is s.of_input;
+        at = s.at;
+        had = s.had;
+        sends = sends_same c plp m.swapper r.told (frames_in c r.given) m.ran.units (gave events) (gave more) gave_is s.sends;
+        status = s.status;
+        counts = record {
+          frames_is = s.counts.frames_is;
+          muted_is = s.counts.muted_is;
+          unsent_is = s.counts.unsent_is;
+          few = s.counts.few;
+          early = s.counts.early;
+          joined = s.counts.joined;
+          units = s.counts.units;
+        };
+        is_in = subst (IsIn c plp (record m { feed = g }) r (has_ended 1 more)) (sym e) (record {
+          caught = i.caught;
+          next = i.next;
+          few = i.few;
+          quiet = record { rest_is = i.quiet.rest_is; tail_is = i.quiet.tail_is; calm = i.quiet.calm; ends = i.quiet.ends };
+        });
+      }
+
+  -- ---- a packet was offered
+
+  pub shown_offer : (q : Swapper) (p : List ℕ) (more : List Event) → m.phase ≡ phase.Packets → 0 < wants_of m.swapper → Same 0 events more
+      → fed 1 more ≡ fed 1 events ++ p → has_ended 1 more ≡ has_ended 1 events → gave more ≡ gave events
+      → length p ≡ SIZE → slice_index p 0 ≡ SYNC
+      → ((c : Config) (plp : ℕ) (t : Told) (frames : List NumberedView) (given : ℕ) → SwapperStandsFor m.swapper c plp t frames given
+      → SwapperStandsFor q c plp (with_packet t p) frames given)
+      → has_unit q ≡ has_unit m.swapper → status_of q ≡ status_of m.swapper
+      → Shown c plp more (record m { swapper = q; taken = m.taken + 1 })
+  shown_offer q p more e some zero here ended gave_is long sync stands unit status =
+      let i = in_packets e in
+      let w = has_wanted some in
+      let t : Told = with_packet r.told p in
+      let back : (input : List (List ℕ)) → Continues t input → Continues r.told input = λ input cont. back_offered r.told p input w.off cont in
+      let longer = length-append r.told.packets (p ∷ []) in
+      let less = w.less in
+      record {
+        config = s.config;
+        plan = s.plan;
+        ids = s.ids;
+        place = s.place;
+        read = record { given = r.given; told = t; rest = r.rest; tail = r.tail };
+        of_feed = feed_same c m.feed _ _ _ _ r.given zero.fed_is zero.ended_is s.of_feed;
+        of_input = reads_offer _ _ p _ _ r.told r.rest r.tail m.taken m.ended here ended i.quiet.rest_is i.quiet.tail_is w.off long sync s.of_input;
+        at = s.at;
+        had = λ off. let h = s.had w.off in omega (arith, h, longer);
+        sends = sends_same c plp q t (frames_in c r.given) m.ran.units (gave events) (gave more) gave_is
+            (sends_told c plp m.swapper q r.told t (frames_in c r.given) m.ran.units (gave events) back (ap (λ (x : Status). x.finished) status)
+            (stands c plp r.told (frames_in c r.given) m.ran.units s.sends.stands) s.sends);
+        status = status ∙ s.status;
+        counts = record {
+          frames_is = s.counts.frames_is;
+          muted_is = s.counts.muted_is;
+          unsent_is = s.counts.unsent_is;
+          few = s.counts.few;
+          early = s.counts.early;
+          joined = s.counts.joined;
+          units = units_packets m q _ e s.counts.units;
+        };
+        is_in = subst (IsIn c plp (record m { swapper = q; taken = m.taken + 1 }) (record { given = r.given; told = t; rest = r.rest; tail = r.tail })
+            (has_ended 1 more)) (sym e) (record {
+              caught = caught_told c plp m.swapper q r.told t (frames_in c r.given) m.ran.units back unit i.caught;
+              waiting = i.waiting;
+              waits = i.waits;
+              early = i.early;
+              behind = i.behind;
+              above = i.above;
+              few = omega (arith, less, longer);
+              quiet = record { rest_is = i.quiet.rest_is; tail_is = i.quiet.tail_is; calm = i.quiet.calm; ends = i.quiet.ends };
+            });
+      }
+
+  -- ---- the input ended before the frame under way
+
+  pub shown_end : (q : Swapper) (more : List Event) → m.phase ≡ phase.Packets → Same 0 events more → fed 1 more ≡ fed 1 events
+      → has_ended 1 more ≡ true → gave more ≡ gave events
+      → ((c : Config) (plp : ℕ) (t : Told) (frames : List NumberedView) (given : ℕ) → SwapperStandsFor m.swapper c plp t frames given
+      → SwapperStandsFor q c plp (at_end t) frames given)
+      → has_unit q ≡ has_unit m.swapper → status_of q ≡ status_of m.swapper
+      → Shown c plp more (record m { swapper = q; ended = true })
+  shown_end q more e zero here ended gave_is stands unit status =
+      let i = in_packets e in
+      let t : Told = at_end r.told in
+      let back : (input : List (List ℕ)) → Continues t input → Continues r.told input = λ input cont. back_ended r.told input cont in
+      record {
+        config = s.config;
+        plan = s.plan;
+        ids = s.ids;
+        place = s.place;
+        read = record { given = r.given; told = t; rest = r.rest; tail = r.tail };
+        of_feed = feed_same c m.feed _ _ _ _ r.given zero.fed_is zero.ended_is s.of_feed;
+        of_input = subst (λ (x : Bool). ReadsPackets (fed 1 more) x t r.rest r.tail m.taken true) (sym ended)
+            (reads_end _ _ _ r.told r.rest r.tail m.taken m.ended here i.quiet.rest_is i.quiet.tail_is s.of_input);
+        at = s.at;
+        had = λ off. absurd (true≢false off);
+        sends = sends_same c plp q t (frames_in c r.given) m.ran.units (gave events) (gave more) gave_is
+            (sends_told c plp m.swapper q r.told t (frames_in c r.given) m.ran.units (gave events) back (ap (λ (x : Status). x.finished) status)
+            (stands c plp r.told (frames_in c r.given) m.ran.units s.sends.stands) s.sends);
+        status = status ∙ s.status;
+        counts = record {
+          frames_is = s.counts.frames_is;
+          muted_is = s.counts.muted_is;
+          unsent_is = s.counts.unsent_is;
+          few = s.counts.few;
+          early = s.counts.early;
+          joined = s.counts.joined;
+          units = units_packets m q _ e s.counts.units;
+        };
+        is_in = subst (IsIn c plp (record m { swapper = q; ended = true }) (record { given = r.given; told = t; rest = r.rest; tail = r.tail })
+            (has_ended 1 more)) (sym e) (record {
+              caught = caught_told c plp m.swapper q r.told t (frames_in c r.given) m.ran.units back unit i.caught;
+              waiting = i.waiting;
+              waits = i.waits;
+              early = i.early;
+              behind = i.behind;
+              above = i.above;
+              few = i.few;
+              quiet = record { rest_is = i.quiet.rest_is; tail_is = i.quiet.tail_is; calm = i.quiet.calm; ends = refl };
+            });
+      }
+
+  -- ---- of the rest a packet was taken, or its end came
+
+  behind_same : (n : Swapping) (x : List (List ℕ)) (y : List ℕ) → n.feed ≡ m.feed → n.number ≡ m.number → IsBehindAll c plp m r
+      → IsBehindAll c plp n (record { given = r.given; told = r.told; rest = x; tail = y })
+  behind_same n x y f k b = record {
+    none = rw f b.none;
+    some = b.some;
+    next = k ∙ b.next;
+    few = b.few;
+  }
+
+  pub shown_drain : (p : List ℕ) (more : List Event) → m.phase ≡ phase.Drains → m.ended ≡ false → Same 0 events more
+      → fed 1 more ≡ fed 1 events ++ p → has_ended 1 more ≡ has_ended 1 events → gave more ≡ gave events
+      → length p ≡ SIZE → slice_index p 0 ≡ SYNC
+      → Shown c plp more (record m { taken = m.taken + 1; ran = record m.ran { unsent = m.ran.unsent + 1 } })
+  shown_drain p more e off zero here ended gave_is long sync =
+      let i = in_drains e in
+      let longer = length-append r.rest (p ∷ []) in
+      let unsent = s.counts.unsent_is in
+      let now : Swapping = record m { taken = m.taken + 1; ran = record m.ran { unsent = m.ran.unsent + 1 } } in
+      record {
+        config = s.config;
+        plan = s.plan;
+        ids = s.ids;
+        place = s.place;
+        read = record { given = r.given; told = r.told; rest = r.rest ++ p ∷ []; tail = r.tail };
+        of_feed = feed_same c m.feed _ _ _ _ r.given zero.fed_is zero.ended_is s.of_feed;
+        of_input = reads_drain _ _ p _ _ r.told r.rest r.tail m.taken m.ended here ended i.whole off long sync s.of_input;
+        at = s.at;
+        had = s.had;
+        sends = sends_same c plp m.swapper r.told (frames_in c r.given) m.ran.units (gave events) (gave more) gave_is s.sends;
+        status = s.status;
+        counts = record {
+          frames_is = s.counts.frames_is;
+          muted_is = s.counts.muted_is;
+          unsent_is = omega (arith, unsent, longer);
+          few = s.counts.few;
+          early = s.counts.early;
+          joined = s.counts.joined;
+          units = s.counts.units;
+        };
+        is_in = subst (IsIn c plp now (record { given = r.given; told = r.told; rest = r.rest ++ p ∷ []; tail = r.tail })
+            (has_ended 1 more)) (sym e) (record {
+              caught = i.caught;
+              behind = behind_same now (r.rest ++ p ∷ []) r.tail refl refl i.behind;
+              whole = i.whole;
+              drains = i.drains;
+            });
+      }
+
+  pub shown_over : (more : List Event) → m.phase ≡ phase.Drains → m.ended ≡ false → Same 0 events more → fed 1 more ≡ fed 1 events
+      → has_ended 1 more ≡ true → gave more ≡ gave events → Shown c plp more (record m { ended = true })
+  shown_over more e off zero here ended gave_is =
+      let i = in_drains e in
+      let now : Swapping = record m { ended = true } in
+      record {
+        config = s.config;
+        plan = s.plan;
+        ids = s.ids;
+        place = s.place;
+        read = r;
+        of_feed = feed_same c m.feed _ _ _ _ r.given zero.fed_is zero.ended_is s.of_feed;
+        of_input = subst (λ (x : Bool). ReadsPackets (fed 1 more) x r.told r.rest r.tail m.taken true) (sym ended)
+            (reads_over _ _ _ r.told r.rest r.tail m.taken m.ended here i.whole off s.of_input);
+        at = s.at;
+        had = s.had;
+        sends = sends_same c plp m.swapper r.told (frames_in c r.given) m.ran.units (gave events) (gave more) gave_is s.sends;
+        status = s.status;
+        counts = record {
+          frames_is = s.counts.frames_is;
+          muted_is = s.counts.muted_is;
+          unsent_is = s.counts.unsent_is;
+          few = s.counts.few;
+          early = s.counts.early;
+          joined = s.counts.joined;
+          units = s.counts.units;
+        };
+        is_in = subst (IsIn c plp now r (has_ended 1 more)) (sym e) (record {
+          caught = i.caught;
+          behind = behind_same now r.rest r.tail refl refl i.behind;
+          whole = i.whole;
+          drains = i.drains;
+        });
+      }
+
+  -- ---- a bad packet came
+
+  -- what is known where one can
+  pub record CanRefuse : Type 0 where
+    pub caught : HasCaughtUp c plp m.swapper r.told (frames_in c r.given) m.ran.units
+    pub whole : r.tail ≡ []
+    pub going : m.ended ≡ false
+    pub met : IsWanted c plp m r ⊎ IsBehindAll c plp m r
+    pub begun : next_in m.phase m.number ≡ m.number
+    pub status : status_of m.swapper ≡ record { network = c; plp = plp; frame = m.number; begun = false; finished = false }
+
+  pub can_packets : m.phase ≡ phase.Packets → 0 < wants_of m.swapper → CanRefuse
+  can_packets e some =
+      let i = in_packets e in
+      let w = has_wanted some in
+      record {
+        caught = i.caught;
+        whole = i.quiet.tail_is;
+        going = i.quiet.ends ∙ w.off;
+        met = inl (record {
+          waiting = i.waiting;
+          waits = i.waits;
+          early = i.early;
+          behind = i.behind;
+          wanted = w.less;
+          offered = i.quiet.rest_is;
+        });
+        begun = ap (λ (p : Phase). next_in p m.number) e;
+        status = s.status ∙ ap (status_in c plp m.number) e;
+      }
+
+  pub can_drains : m.phase ≡ phase.Drains → m.ended ≡ false → CanRefuse
+  can_drains e going =
+      let i = in_drains e in
+      record {
+        caught = i.caught;
+        whole = i.whole;
+        going = going;
+        met = inr i.behind;
+        begun = ap (λ (p : Phase). next_in p m.number) e;
+        status = s.status ∙ ap (status_in c plp m.number) e;
+      }
+
+  pub shown_refuse : (p : List ℕ) (more : List Event) → CanRefuse → Same 0 events more → fed 1 more ≡ fed 1 events ++ p
+      → gave more ≡ gave events → p ≢ [] → begins_with_packet p ≡ false → (slice_index p 0 ≢ SYNC) ⊎ (has_ended 1 more ≡ true)
+      → Shown c plp more (record m { phase = phase.Stopped (InputRefused m.taken) })
+  shown_refuse p more can zero here gave_is some bad cut =
+      let now : Swapping = record m { phase = phase.Stopped (InputRefused m.taken) } in
+      let read : Read = record { given = r.given; told = r.told; rest = r.rest; tail = p } in
+      let begun = can.begun in
+      let few = s.counts.few in
+      let units = s.counts.units in
+      record {
+        config = s.config;
+        plan = s.plan;
+        ids = s.ids;
+        place = s.place;
+        read = read;
+        of_feed = feed_same c m.feed _ _ _ _ r.given zero.fed_is zero.ended_is s.of_feed;
+        of_input = reads_tail _ _ p _ _ r.told r.rest r.tail m.taken m.ended here can.whole some can.going s.of_input;
+        at = s.at;
+        had = s.had;
+        sends = sends_same c plp m.swapper r.told (frames_in c r.given) m.ran.units (gave events) (gave more) gave_is s.sends;
+        status = can.status;
+        counts = record {
+          frames_is = s.counts.frames_is;
+          muted_is = s.counts.muted_is;
+          unsent_is = s.counts.unsent_is;
+          few = omega (arith, few, begun);
+          early = s.counts.early;
+          joined = s.counts.joined;
+          units = few_units begun units;
+        };
+        is_in = record {
+          caught = can.caught;
+          number = s.of_input.count;
+          some = some;
+          bad = bad;
+          cut = cut;
+          met = still can.met;
+        };
+      }
+    where
+      few_units : next_in m.phase m.number ≡ m.number
+          → m.ran.units + more_units m.phase m.swapper m.«record» ≤ next_in m.phase m.number * frame_bytes + 184
+          → m.ran.units + 0 ≤ m.number * frame_bytes + 184
+      few_units same h =
+          let x = subst (λ (n : ℕ). m.ran.units + more_units m.phase m.swapper m.«record» ≤ n * frame_bytes + 184) same h in
+          omega (arith, x)
+
+      still : IsWanted c plp m r ⊎ IsBehindAll c plp m r
+          → IsWanted c plp (record m { phase = phase.Stopped (InputRefused m.taken) }) (record { given = r.given; told = r.told; rest = r.rest; tail = p })
+          ⊎ IsBehindAll c plp (record m { phase = phase.Stopped (InputRefused m.taken) })
+          (record { given = r.given; told = r.told; rest = r.rest; tail = p })
+      still (inl w) = inl (record {
+        waiting = w.waiting;
+        waits = w.waits;
+        early = w.early;
+        behind = w.behind;
+        wanted = w.wanted;
+        offered = w.offered;
+      })
+      still (inr b) = inr (record { none = b.none; some = b.some; next = b.next; few = b.few })

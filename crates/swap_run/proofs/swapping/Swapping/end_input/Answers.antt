@@ -1,0 +1,61 @@
+use Rattle.std.proofs.Common.{ℕ, [], ◌∷◌, ◌++◌, subst, arith}
+use Rattle.file_run.specs.Events.{Ended}
+use Rattle.swap_run.specs.Shown.{Shown}
+use Rattle.swap_run.proofs.NextLemmas.{ended_same, one_zero, reach_on, feed_over}
+use Rattle.swap_run.proofs.ShownLemmas.{shown_feed}
+use Rattle.swap_run.proofs.StepLemmas.{short_records, short_packets, short_rest, short_else}
+use Rattle.swap_run.proofs.swapping.Swapping.end_input.Goals as goal
+
+pub finish-requires-clause-idle : goal.finish-requires-clause-idle
+finish-requires-clause-idle c = (short_records c.args.self.now c.args.input _ c.in-Records.is c.requires.wanted).0.none
+
+pub finish-requires-clause-open : goal.finish-requires-clause-open
+finish-requires-clause-open c = (short_records c.args.self.now c.args.input _ c.in-Records.is c.requires.wanted).0.going
+
+pub end_packets-requires-clause-wanted : goal.end_packets-requires-clause-wanted
+end_packets-requires-clause-wanted c = (short_packets c.args.self.now c.args.input _ c.in-Packets.is c.requires.wanted).0.some
+
+pub end_packets-requires-clause-short : goal.end_packets-requires-clause-short
+end_packets-requires-clause-short c = (short_packets c.args.self.now c.args.input _ c.in-Packets.is c.requires.wanted).1
+
+pub end_rest-requires : goal.end_rest-requires
+end_rest-requires c =
+    let m = c.args.self.now in
+    let d = short_else m c.args.input _ c.requires.wanted c.in_default.not-Records c.in_default.not-Packets in
+    let w = short_rest m c.args.input _ d c.requires.wanted in
+    record { drains = d; going = w.0.going; short = w.1 }
+
+pub returns-in-Records-clause-shown : goal.returns-in-Records-clause-shown
+returns-in-Records-clause-shown c = λ k plp events s.
+    let m = c.args.self.now in
+    let w = short_records m c.args.input _ c.in-Records.is c.requires.wanted in
+    let p = c.args.bytes.now in
+    let g = c.finish.new.self in
+    let tell = c.events_law.ensures in
+    subst (λ (i : ℕ). Shown k plp (events ++ Ended i p ∷ []) (record m { feed = g })) w.0.at
+    (shown_feed k plp events m s g (events ++ Ended 0 p ∷ []) c.in-Records.is (ended_same tell 0 1 p events one_zero) (tell.ended 0 p events).gave
+    (feed_over tell k m.feed g events p s.read.given w.1 w.0.going c.finish.ensures.config c.finish.ensures.stands s.of_feed))
+
+pub returns-in-Records-clause-reach : goal.returns-in-Records-clause-reach
+returns-in-Records-clause-reach c =
+    let m = c.args.self.now in
+    let f = c.finish.ensures.fed in
+    reach_on m (record m { feed = c.finish.new.self }) (omega (arith, f)) (omega arith) (omega arith)
+
+pub returns-in-Packets-clause-shown : goal.returns-in-Packets-clause-shown
+returns-in-Packets-clause-shown c = λ k plp events s.
+    let w = (short_packets c.args.self.now c.args.input _ c.in-Packets.is c.requires.wanted).0 in
+    subst (λ (i : ℕ). Shown k plp (events ++ Ended i c.args.bytes.now ∷ []) c.end_packets.new.self) w.at
+    (c.end_packets.ensures.shown k plp events s)
+
+pub returns-in_default : goal.returns-in_default
+returns-in_default c =
+    let m = c.args.self.now in
+    let d = short_else m c.args.input _ c.requires.wanted c.in_default.not-Records c.in_default.not-Packets in
+    let w = short_rest m c.args.input _ d c.requires.wanted in
+    record {
+      shown = λ k plp events s.
+          subst (λ (i : ℕ). Shown k plp (events ++ Ended i c.args.bytes.now ∷ []) c.end_rest.new.self) w.0.at
+          (c.end_rest.ensures.shown k plp events s);
+      reach = c.end_rest.ensures.reach;
+    }

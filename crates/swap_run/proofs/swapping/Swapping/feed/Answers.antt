@@ -1,0 +1,78 @@
+use Rattle.std.proofs.Common.{ℕ, [], ◌∷◌, ◌++◌, take, sym, subst, ◌∙◌, arith}
+use Rattle.ts_packet.specs.declared.sizes.TheConstants.{SIZE}
+use Rattle.file_run.specs.Events.{Fed}
+use Rattle.swap_run.specs.Shown.{Shown}
+use Rattle.swap_run.proofs.NextLemmas.{fed_same, one_zero, reach_on, feed_more}
+use Rattle.swap_run.proofs.ShownLemmas.{shown_feed}
+use Rattle.swap_run.proofs.StepLemmas.{enough_records, enough_packets, enough_rest, enough_else, packets_apart}
+use Rattle.swap_run.proofs.swapping.Swapping.feed.Goals as goal
+
+pub feed-requires-clause-idle : goal.feed-requires-clause-idle
+feed-requires-clause-idle c = (enough_records c.args.self.now c.args.input _ c.in-Records.is c.requires.wanted).0.none
+
+pub feed-requires-clause-open : goal.feed-requires-clause-open
+feed-requires-clause-open c = (enough_records c.args.self.now c.args.input _ c.in-Records.is c.requires.wanted).0.going
+
+pub feed-requires-clause-some : goal.feed-requires-clause-some
+feed-requires-clause-some c = (enough_records c.args.self.now c.args.input _ c.in-Records.is c.requires.wanted).1
+
+pub take_packet-requires-clause-wanted : goal.take_packet-requires-clause-wanted
+take_packet-requires-clause-wanted c = (enough_packets c.args.self.now c.args.input _ c.in-Packets.is c.requires.wanted).0.some
+
+pub take_packet-requires-clause-long : goal.take_packet-requires-clause-long
+take_packet-requires-clause-long c = (enough_packets c.args.self.now c.args.input _ c.in-Packets.is c.requires.wanted).1
+
+pub drain_packet-requires : goal.drain_packet-requires
+drain_packet-requires c =
+    let m = c.args.self.now in
+    let d = enough_else m c.args.input _ c.requires.wanted c.in_default.not-Records c.in_default.not-Packets in
+    let w = enough_rest m c.args.input _ d c.requires.wanted in
+    record { drains = d; going = w.0.going; long = w.1; few = c.requires.few c.in_default.not-Records; came = c.requires.came }
+
+pub returns-in-Records-clause-shown : goal.returns-in-Records-clause-shown
+returns-in-Records-clause-shown c = λ k plp events s.
+    let m = c.args.self.now in
+    let w = (enough_records m c.args.input _ c.in-Records.is c.requires.wanted).0 in
+    let p = take c.feed.result c.args.bytes.now in
+    let g = c.feed.new.self in
+    let tell = c.events_law.ensures in
+    subst (λ (i : ℕ). Shown k plp (events ++ Fed i p ∷ []) (record m { feed = g })) w.at
+    (shown_feed k plp events m s g (events ++ Fed 0 p ∷ []) c.in-Records.is (fed_same tell 0 1 p events one_zero) (tell.fed 0 p events).gave
+    (feed_more tell k m.feed g events p s.read.given w.going c.feed.ensures.config c.feed.ensures.stands s.of_feed))
+
+pub returns-in-Packets-clause-shown : goal.returns-in-Packets-clause-shown
+returns-in-Packets-clause-shown c = λ k plp events s.
+    let w = (enough_packets c.args.self.now c.args.input _ c.in-Packets.is c.requires.wanted).0 in
+    subst (λ (i : ℕ). Shown k plp (events ++ Fed i (take SIZE c.args.bytes.now) ∷ []) c.take_packet.new.self) w.at
+    (c.take_packet.ensures.shown k plp events s)
+
+pub returns-in-Packets-clause-some : goal.returns-in-Packets-clause-some
+returns-in-Packets-clause-some c =
+    let w = (enough_packets c.args.self.now c.args.input _ c.in-Packets.is c.requires.wanted).1 in
+    (omega arith, omega (arith, w))
+
+pub returns-in-Records-clause-reach : goal.returns-in-Records-clause-reach
+returns-in-Records-clause-reach c =
+    let m = c.args.self.now in
+    let f = c.feed.ensures.fed in
+    reach_on m (record m { feed = c.feed.new.self }) (omega (arith, f)) (omega arith) (omega arith)
+
+pub returns-in_default : goal.returns-in_default
+returns-in_default c =
+    let m = c.args.self.now in
+    let d = enough_else m c.args.input _ c.requires.wanted c.in_default.not-Records c.in_default.not-Packets in
+    let w = enough_rest m c.args.input _ d c.requires.wanted in
+    let long = w.1 in
+    record {
+      some = (omega arith, omega (arith, long));
+      shown = λ k plp events s.
+          subst (λ (i : ℕ). Shown k plp (events ++ Fed i (take SIZE c.args.bytes.now) ∷ []) c.drain_packet.new.self) w.0.at
+          (c.drain_packet.ensures.shown k plp events s);
+      reach = c.drain_packet.ensures.reach;
+    }
+
+pub feed-requires-clause-room : goal.feed-requires-clause-room
+feed-requires-clause-room c = c.requires.room c.in-Records.is
+
+pub take_packet-requires-clause-few : goal.take_packet-requires-clause-few
+take_packet-requires-clause-few c = c.requires.few (λ e. packets_apart (sym c.in-Packets.is ∙ e))

@@ -1,0 +1,42 @@
+use Rattle.std.proofs.Common.{◌≡◌, true, false, refl, arith, ◌<◌}
+use Rattle.plp_config.specs.SlotTime.{num}
+use Rattle.swap_run.proofs.WantLemmas.{none_complete, none_over, none_read, sends_opened}
+use Rattle.swap_run.proofs.swapping.Swapping.open.Goals as goal
+
+pub returns-clause-shown : goal.returns-clause-shown
+returns-clause-shown c =
+    let f = c.in_ok-feed.ensures in
+    let w = c.in_ok-swapper.ensures in
+    let k = c.args.plan.now in
+    let plan = c.rules_law.ensures.plan in
+    let slot = c.length_law.ensures.slot k c.args.plp plan.rules c.requires in
+    let lt : 0 < num k = (let a = slot.0 in let b = slot.2 in omega (arith, a, b)) in
+    let none = none_over c.slot_time_law.ensures.none_at_zero c.length_law.ensures.slot k c.args.plp lt in
+    record {
+      config = refl;
+      plan = plan;
+      ids = c.id_law.ensures;
+      place = c.requires;
+      read = none_read;
+      of_feed = record { network = f.config; stands = f.stands };
+      of_input = record { parts = refl; each = tt; count = refl; end = λ _. refl; told = λ on. absurd (let z : false ≡ true = on in cc) };
+      at = refl;
+      had = λ off. none;
+      sends = sends_opened k c.args.plp c.in_ok-swapper.swapper w.stands;
+      status = w.status;
+      counts = record {
+        frames_is = refl;
+        muted_is = refl;
+        unsent_is = refl;
+        few = omega arith;
+        early = omega arith;
+        joined = refl;
+        units = omega arith;
+      };
+      is_in = record {
+        caught = record { idle = w.unit; complete = λ input cont. none_complete k c.args.plp input };
+        next = refl;
+        few = omega arith;
+        quiet = record { rest_is = refl; tail_is = refl; calm = refl; ends = refl };
+      };
+    }

@@ -1,0 +1,34 @@
+use Rattle.std.proofs.Common.{arith, true}
+use Rattle.swap_run.specs.declared.phase.Phase.TheVariants as phase
+use Rattle.swap_run.specs.declared.stop.SwapStop.TheVariants.{NoSuperframe}
+use Rattle.swap_run.proofs.GoLemmas.{shown_nothing, shown_parted}
+use Rattle.swap_run.proofs.NextLemmas.{left_at, reach_on, drained_more}
+use Rattle.swap_run.proofs.swapping.Swapping.part.Goals as goal
+
+pub returns-then-not-self-clause-shown : goal.returns-then-not-self-clause-shown
+returns-then-not-self-clause-shown c = λ k plp events s.
+    shown_nothing k plp events c.args.self.now s c.requires.records c.requires.none c.requires.over c.if-not-self.true
+
+pub returns-then-not-self-clause-left : goal.returns-then-not-self-clause-left
+returns-then-not-self-clause-left c =
+    let was = left_at c.args.self.now phase.Records c.requires.records in
+    omega (arith, was)
+
+pub returns-then-not-self-clause-reach : goal.returns-then-not-self-clause-reach
+returns-then-not-self-clause-reach c =
+    let m = c.args.self.now in
+    reach_on m (record m { phase = phase.Stopped NoSuperframe }) (omega arith) (omega arith) (omega arith)
+
+pub returns-clause-shown : goal.returns-clause-shown
+returns-clause-shown c = λ k plp events s.
+    shown_parted k plp events c.args.self.now s c.requires.records c.requires.none c.requires.over c.if-not-self.false
+
+pub returns-clause-left : goal.returns-clause-left
+returns-clause-left c =
+    let was = left_at c.args.self.now phase.Records c.requires.records in
+    omega (arith, was)
+
+pub returns-clause-reach : goal.returns-clause-reach
+returns-clause-reach c =
+    let m = c.args.self.now in
+    reach_on m (record m { phase = phase.Drains; draining = true }) (omega arith) (omega arith) (drained_more m.draining m.ran.unsent)

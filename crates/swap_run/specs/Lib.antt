@@ -1,0 +1,6 @@
+pub mod SwapRun
+-- inner: no public clause cites these
+pub mod AsMachine
+pub mod Sending
+pub mod Shown
+pub mod Steps

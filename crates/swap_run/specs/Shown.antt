@@ -1,0 +1,263 @@
+-- What was done to a feed and the swapper of its frames. No public clause cites this module.
+use Rattle.std.specs.Prelude.{◌≡◌, ◌≢◌, ◌⊎◌, ℕ, ◌+◌, ◌*◌, ◌^◌, ◌<◌, ◌≤◌, nat_lt, Bool, true, false, List, [], ◌∷◌, ◌++◌, length, Some, None}
+use Rattle.std.specs.Prelude.{slice_index, if◌then◌else◌}
+use Rattle.plp_config.specs.Capacity.{IsPlan}
+use Rattle.plp_config.specs.SlotTime.{slots_by}
+use Rattle.plp_config.specs.declared.config.Config.{Config}
+use Rattle.plp_config.specs.declared.moment.TheConstants.{MOST_FRAMES}
+use Rattle.ts_packet.specs.TsFile.{joined, begins_with_packet}
+use Rattle.ts_packet.specs.declared.sizes.TheConstants.{SYNC}
+use Rattle.frame_groups.specs.Laws.{IsPrefix}
+use Rattle.frame_groups.specs.Modulated.{FrameRecord}
+use Rattle.frame_groups.specs.declared.waiting.Waiting.{Waiting}
+use Rattle.record_laws.specs.Frames.{HasByteIds}
+use Rattle.site_frame.specs.Whole.{Spells}
+use Rattle.site_frame.specs.declared.reading.RecordView.{RecordView}
+use Rattle.t2mi_stream.specs.Complete.{complete_units}
+use Rattle.t2mi_stream.specs.Pipe.{pipe}
+use Rattle.formed_frames.specs.Formed.{IsFormed}
+use Rattle.formed_frames.specs.Remade.{NumberedView, remade_packets}
+use Rattle.file_run.specs.Events.{Event, fed, has_ended, gave}
+use Rattle.frame_feed.specs.StandsFor.{waiting_of}
+use Rattle.feed_merge.specs.Picks.{above_all}
+use Rattle.gateway_core.specs.InputSoFar.{Told, Continues}
+use Rattle.gateway_run.specs.Holds.{ArePackets}
+use Rattle.merge_run.specs.Sending.{numbered, view_at, frame_at}
+use Rattle.merge_run.specs.Shown.{IsFedWith, NoneComes}
+use Rattle.region_swap.specs.StandsFor.{SwapperStandsFor, status_of, frame_of, has_unit, is_fed, bytes_left}
+use Rattle.region_swap.specs.Swapped.{swapped}
+use Rattle.region_swap.specs.declared.swapper.Swapper.{Swapper}
+use Rattle.swap_run.specs.SwapRun.{frames_in, slots_of}
+use Rattle.swap_run.specs.declared.phase.Phase.{Phase}
+use Rattle.swap_run.specs.declared.phase.Phase.TheVariants.{Records, Packets, Units, Drains, Rests, Done, Stopped}
+use Rattle.swap_run.specs.declared.stop.SwapStop.{SwapStop}
+use Rattle.swap_run.specs.declared.stop.SwapStop.TheVariants.{NoSuperframe, InputRefused, TooManyFrames}
+use Rattle.swap_run.specs.declared.swapping.Swapping.{Swapping}
+
+-- Of an input these packets were offered, and then others taken, so many in all; a tail is no packet. If it ended for the swapper, it
+-- did.
+pub record ReadsPackets (bytes : List ℕ) (ended : Bool) (t : Told) (rest : List (List ℕ)) (tail : List ℕ) (taken : ℕ)
+    (over : Bool) : Type 0 where
+  pub parts : bytes ≡ joined (t.packets ++ rest) ++ tail
+  pub each : ArePackets (t.packets ++ rest)
+  pub count : taken ≡ length (t.packets ++ rest)
+  pub end : tail ≡ [] → ended ≡ over
+  pub told : t.ended ≡ true → (over ≡ true) × (rest ≡ []) × (tail ≡ [])
+
+-- Of these frames, with the PLP replaced, units were given, the first ones whatever packets follow.
+pub record Sends (c : Config) (plp : ℕ) (s : Swapper) (t : Told) (frames : List NumberedView) (count : ℕ) (gave : List ℕ) : Type 0 where
+  pub stands : SwapperStandsFor s c plp t frames count
+  pub units : List (List ℕ)
+  pub gave_is : gave ≡ joined units
+  pub count_is : count ≡ length units
+  pub front : (input : List (List ℕ)) → Continues t input → (more : List (List ℕ)) → ((status_of s).finished ≡ true → more ≡ [])
+      → IsPrefix units (pipe c.pid (remade_packets c (swapped c plp input frames) ++ more))
+
+-- All complete units were given.
+pub record HasCaughtUp (c : Config) (plp : ℕ) (s : Swapper) (t : Told) (frames : List NumberedView) (count : ℕ) : Type 0 where
+  pub idle : has_unit s ≡ false
+  pub complete : (input : List (List ℕ)) → Continues t input
+      → count ≡ length (complete_units c.pid (remade_packets c (swapped c plp input frames)))
+
+-- The last of these frames is the one under way, whose record is held.
+pub record IsHolding (c : Config) (s : Swapper) (frames : List NumberedView) (bytes : List ℕ) : Type 0 where
+  pub before : List NumberedView
+  pub view : RecordView
+  pub parts : frames ≡ before ++ numbered (frame_of s) view ∷ []
+  pub spells : Spells view bytes
+  pub formed : IsFormed c (frame_of s) view
+
+-- ---- where it is
+
+-- what was told and taken: the records, what the swapper was told, the packets that it was not offered, and a tail
+pub record Read : Type 0 where
+  pub given : List FrameRecord
+  pub told : Told
+  pub rest : List (List ℕ)
+  pub tail : List ℕ
+
+-- Every packet that was taken was offered, and nothing else came.
+pub record IsQuiet (m : Swapping) (r : Read) : Type 0 where
+  pub rest_is : r.rest ≡ []
+  pub tail_is : r.tail ≡ []
+  pub calm : m.draining ≡ false
+  pub ends : m.ended ≡ r.told.ended
+
+-- The next record is looked for.
+pub record InRecords (c : Config) (plp : ℕ) (m : Swapping) (r : Read) : Type 0 where
+  pub caught : HasCaughtUp c plp m.swapper r.told (frames_in c r.given) m.ran.units
+  pub next : m.number ≡ above_all r.given
+  pub few : length r.told.packets ≤ slots_of c plp r.given
+  pub quiet : IsQuiet m r
+
+-- A record waits, and packets of the frames up to its own are taken.
+pub record InPackets (c : Config) (plp : ℕ) (m : Swapping) (r : Read) : Type 0 where
+  pub caught : HasCaughtUp c plp m.swapper r.told (frames_in c r.given) m.ran.units
+  pub waiting : Waiting
+  pub waits : waiting_of m.feed ≡ Some waiting
+  pub early : waiting.frame < MOST_FRAMES
+  pub behind : m.number ≤ waiting.frame
+  pub above : above_all r.given ≤ m.number
+  pub few : length r.told.packets ≤ slots_by c plp (m.number * c.ticks)
+  pub quiet : IsQuiet m r
+
+-- Units of the frame under way are given.
+pub record InUnits (c : Config) (plp : ℕ) (m : Swapping) (r : Read) : Type 0 where
+  pub holds : IsHolding c m.swapper (frames_in c r.given) m.«record»
+  pub next : m.number + 1 ≡ above_all r.given
+  pub early : m.number < MOST_FRAMES
+  pub few : length r.told.packets ≤ slots_of c plp r.given
+  pub quiet : IsQuiet m r
+
+-- No record comes, and there was one.
+pub record IsBehindAll (c : Config) (plp : ℕ) (m : Swapping) (r : Read) : Type 0 where
+  pub none : NoneComes m.feed
+  pub some : r.given ≢ []
+  pub next : m.number ≡ above_all r.given
+  pub few : length r.told.packets ≤ slots_of c plp r.given
+
+pub record InDrains (c : Config) (plp : ℕ) (m : Swapping) (r : Read) : Type 0 where
+  pub caught : HasCaughtUp c plp m.swapper r.told (frames_in c r.given) m.ran.units
+  pub behind : IsBehindAll c plp m r
+  pub whole : r.tail ≡ []
+  pub drains : m.draining ≡ true
+
+pub record InRests (c : Config) (plp : ℕ) (m : Swapping) (r : Read) : Type 0 where
+  pub all_fed : is_fed m.swapper ≡ true
+  pub behind : IsBehindAll c plp m r
+  pub whole : r.tail ≡ []
+  pub over : m.ended ≡ true
+
+pub record IsDone (c : Config) (plp : ℕ) (m : Swapping) (r : Read) : Type 0 where
+  pub all : (input : List (List ℕ)) → Continues r.told input
+      → length (pipe c.pid (remade_packets c (swapped c plp input (frames_in c r.given)))) ≡ m.ran.units
+  pub behind : IsBehindAll c plp m r
+  pub whole : r.tail ≡ []
+  pub over : m.ended ≡ true
+
+-- The stream was read to its end, and had no record.
+pub record StopsWithNone (c : Config) (plp : ℕ) (m : Swapping) (r : Read) : Type 0 where
+  pub none : NoneComes m.feed
+  pub nothing : r.given ≡ []
+  pub first : m.number ≡ 0
+  pub quiet : IsQuiet m r
+
+-- A record waits whose number none may have.
+pub record StopsAtLate (c : Config) (plp : ℕ) (m : Swapping) (r : Read) : Type 0 where
+  pub caught : HasCaughtUp c plp m.swapper r.told (frames_in c r.given) m.ran.units
+  pub waiting : Waiting
+  pub waits : waiting_of m.feed ≡ Some waiting
+  pub late : MOST_FRAMES ≤ waiting.frame
+  pub next : m.number ≡ above_all r.given
+  pub quiet : IsQuiet m r
+
+-- A frame up to that of the record that waits wants the next packet.
+pub record IsWanted (c : Config) (plp : ℕ) (m : Swapping) (r : Read) : Type 0 where
+  pub waiting : Waiting
+  pub waits : waiting_of m.feed ≡ Some waiting
+  pub early : waiting.frame < MOST_FRAMES
+  pub behind : m.number ≤ waiting.frame
+  pub wanted : length r.told.packets < slots_by c plp (m.number * c.ticks)
+  pub offered : r.rest ≡ []
+
+-- The next packet is bad, and wanted or of the rest.
+pub record StopsAtBad (c : Config) (plp : ℕ) (m : Swapping) (r : Read) (over : Bool) (packet : ℕ) : Type 0 where
+  pub caught : HasCaughtUp c plp m.swapper r.told (frames_in c r.given) m.ran.units
+  pub number : packet ≡ length (r.told.packets ++ r.rest)
+  pub some : r.tail ≢ []
+  pub bad : begins_with_packet r.tail ≡ false
+  -- It is none for its first byte, or since nothing follows.
+  pub cut : (slice_index r.tail 0 ≢ SYNC) ⊎ (over ≡ true)
+  pub met : IsWanted c plp m r ⊎ IsBehindAll c plp m r
+
+abbrev pub StopsFor : Config → ℕ → Swapping → Read → Bool → SwapStop → Type 0
+StopsFor c plp m r over NoSuperframe = StopsWithNone c plp m r
+StopsFor c plp m r over (InputRefused packet) = StopsAtBad c plp m r over packet
+StopsFor c plp m r over TooManyFrames = StopsAtLate c plp m r
+
+abbrev pub IsIn : Config → ℕ → Swapping → Read → Bool → Phase → Type 0
+IsIn c plp m r over Records = InRecords c plp m r
+IsIn c plp m r over Packets = InPackets c plp m r
+IsIn c plp m r over Units = InUnits c plp m r
+IsIn c plp m r over Drains = InDrains c plp m r
+IsIn c plp m r over Rests = InRests c plp m r
+IsIn c plp m r over Done = IsDone c plp m r
+IsIn c plp m r over (Stopped why) = StopsFor c plp m r over why
+
+-- ---- what is counted
+
+-- whether a frame is under way, and whether no more come
+abbrev pub begun_in : Phase → Bool
+begun_in Records = false
+begun_in Packets = false
+begun_in Units = true
+begun_in Drains = false
+begun_in Rests = false
+begun_in Done = false
+begun_in (Stopped why) = false
+
+abbrev pub finished_in : Phase → Bool
+finished_in Records = false
+finished_in Packets = false
+finished_in Units = false
+finished_in Drains = false
+finished_in Rests = true
+finished_in Done = true
+finished_in (Stopped why) = false
+
+-- the frame behind the one under way
+abbrev pub next_in : Phase → ℕ → ℕ
+next_in phase number = if begun_in phase then number + 1 else number
+
+-- no fewer than the units that can be given before the next frame; between frames fewer than 184 bytes wait
+abbrev pub more_units : Phase → Swapper → List ℕ → ℕ
+more_units Records s bytes = 184
+more_units Packets s bytes = 184
+more_units Units s bytes = 184 + bytes_left s (frame_at (frame_of s) (view_at bytes))
+more_units Drains s bytes = 184
+more_units Rests s bytes = bytes_left s None
+more_units Done s bytes = 0
+more_units (Stopped why) s bytes = 0
+
+-- no frame has so many bytes
+abbrev pub frame_bytes : ℕ
+frame_bytes = 2 ^ 32
+
+pub record Counts (m : Swapping) (r : Read) (frames : List NumberedView) : Type 0 where
+  pub frames_is : m.ran.frames ≡ length frames
+  pub muted_is : m.ran.muted + m.ran.frames ≡ length r.given
+  pub unsent_is : m.ran.unsent ≡ length r.rest
+  pub few : length r.given ≤ next_in m.phase m.number
+  pub early : m.number ≤ MOST_FRAMES
+  pub joined : m.joined ≡ nat_lt 0 (length r.given)
+  pub units : m.ran.units + more_units m.phase m.swapper m.«record» ≤ next_in m.phase m.number * frame_bytes + 184
+
+-- ---- what was done, and where a feed of a network and the swapper are then
+pub record Shown (c : Config) (plp : ℕ) (events : List Event) (m : Swapping) : Type 0 where
+  pub config : m.plan.now ≡ c
+  pub plan : IsPlan c
+  pub ids : HasByteIds c
+  pub place : plp < length c.plps
+  pub read : Read
+  pub of_feed : IsFedWith c m.feed (fed 0 events) (has_ended 0 events) read.given
+  pub of_input : ReadsPackets (fed 1 events) (has_ended 1 events) read.told read.rest read.tail m.taken m.ended
+  pub at : read.told.frame ≡ m.number
+  -- All that the frames of the records wanted was offered, unless the input ended.
+  pub had : read.told.ended ≡ false → slots_of c plp read.given ≤ length read.told.packets
+  pub sends : Sends c plp m.swapper read.told (frames_in c read.given) m.ran.units (gave events)
+  pub status : status_of m.swapper ≡ record {
+    network = c;
+    plp = plp;
+    frame = m.number;
+    begun = begun_in m.phase;
+    finished = finished_in m.phase;
+  }
+  pub counts : Counts m read (frames_in c read.given)
+  pub is_in : IsIn c plp m read (has_ended 1 events) m.phase
+
+-- Something was done, and then they are there.
+pub record HasShown (m : Swapping) : Type 0 where
+  pub network : Config
+  pub plp : ℕ
+  pub events : List Event
+  pub shown : Shown network plp events m

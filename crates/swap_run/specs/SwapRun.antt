@@ -1,0 +1,227 @@
+-- What a run of the swapper over two files does, from the opening of its inputs on.
+use Rattle.std.specs.Prelude.{◌≡◌, ◌≢◌, ◌⊎◌, ℕ, zero, suc, ◌+◌, ◌-◌, ◌*◌, ◌<◌, ◌≤◌, nat_lt, false, List, [], ◌∷◌, ◌++◌, length}
+use Rattle.std.specs.Prelude.{map, take, slice_index, slice_index_or, IsSome, IfSome}
+use Rattle.std.specs.FinMap.{get}
+use Rattle.std.specs.List.{filter, flat_map}
+use Rattle.ports.specs.Desk.{State, SameCounts, bytes_of}
+use Rattle.plp_config.specs.SlotTime.{slots_by}
+use Rattle.plp_config.specs.declared.config.Config.{Config}
+use Rattle.plp_config.specs.declared.moment.TheConstants.{MOST_FRAMES}
+use Rattle.ts_packet.specs.TsFile.{packets_in, HasBad, joined}
+use Rattle.ts_packet.specs.declared.sizes.TheConstants.{SIZE}
+use Rattle.t2mi_stream.specs.Complete.{complete_units}
+use Rattle.t2mi_stream.specs.Pipe.{pipe}
+use Rattle.frame_groups.specs.Modulated.{Content, FrameRecord}
+use Rattle.frame_groups.specs.Modulated.Content.{Whole, Muted}
+use Rattle.open_group.specs.Written.{content_view}
+use Rattle.modulator.specs.StandsFor.{records_due}
+use Rattle.formed_frames.specs.Remade.{NumberedView, remade_packets}
+use Rattle.feed_merge.specs.Picks.{above_all}
+use Rattle.merge_run.specs.MergeRun.{AreEarly, records_of}
+use Rattle.region_swap.specs.Swapped.{swapped}
+use Rattle.desk_io.specs.Faults.{ReadsFail, WritesFail}
+use Rattle.desk_io.specs.Reading.{longest_file}
+use Rattle.file_run.specs.FileRun.{file_at, OpensInputs, FailsToCreateOutput, Works, AllShort}
+use Rattle.file_run.specs.declared.stop.RunFault.TheVariants.{TooLong, ReadFault, WriteFault}
+use Rattle.file_run.specs.declared.stop.RunStop.{RunStop}
+use Rattle.file_run.specs.declared.stop.RunStop.TheVariants.{Refused, Files, OutOfMemory}
+use Rattle.swap_run.specs.declared.stop.Ran.{Ran}
+use Rattle.swap_run.specs.declared.stop.SwapStop.{SwapStop}
+use Rattle.swap_run.specs.declared.stop.SwapStop.TheVariants.{NoSuperframe, InputRefused, TooManyFrames}
+
+-- how many bytes of the T2-MI stream, and of the rest of the input, are read ahead at most
+abbrev pub read_ahead : ℕ
+read_ahead = 65536
+
+-- the names of the inputs: the T2-MI stream is input 0, and the transport stream of the region input 1
+abbrev pub names_of : List ℕ → List ℕ → List (List ℕ)
+names_of t2mi input = t2mi ∷ input ∷ []
+
+-- ---- what comes out
+
+-- those whose number is below one
+abbrev pub below : ℕ → List FrameRecord → List FrameRecord
+below end records = filter (λ x. nat_lt x.number end) records
+
+-- the frame of a record, if it is not muted
+abbrev pub frame_in : Config → ℕ → Content → List NumberedView
+frame_in c n (Whole g) = record { number = n; view = content_view c n (Whole g) } ∷ []
+frame_in c n (Muted cause) = []
+
+-- and those of all
+abbrev pub frames_in : Config → List FrameRecord → List NumberedView
+frames_in c records = flat_map (λ x. frame_in c x.number x.content) records
+
+-- their packets, with a PLP replaced by an input
+abbrev pub packets_of : Config → ℕ → List (List ℕ) → List FrameRecord → List (List ℕ)
+packets_of c plp input records = remade_packets c (swapped c plp input (frames_in c records))
+
+-- all units of all frames of the first file, with the packets of the second, up to the first bad one
+abbrev pub units_of : Config → ℕ → (ℕ → List ℕ) → List (List ℕ)
+units_of c plp files = pipe c.pid (packets_of c plp (packets_in (files 1)) (records_of c (files 0)))
+
+-- the complete units of the frames of some records
+abbrev pub complete_of : Config → ℕ → (ℕ → List ℕ) → List FrameRecord → List (List ℕ)
+complete_of c plp files records = complete_units c.pid (packets_of c plp (packets_in (files 1)) records)
+
+-- the slots that are over when the frame of the last of some records begins
+abbrev pub slots_of : Config → ℕ → List FrameRecord → ℕ
+slots_of c plp records = slots_by c plp ((above_all records - 1) * c.ticks)
+
+-- what a run counts: frames, muted records, the packets of the slots that are not over when the last frame begins, and units
+abbrev pub counted : Config → ℕ → List FrameRecord → List (List ℕ) → ℕ → Ran
+counted c plp records packets units = record {
+  frames = length (frames_in c records);
+  muted = length records - length (frames_in c records);
+  unsent = length packets - slots_of c plp records;
+  units = units;
+}
+
+-- ---- when it ends
+
+-- The second file has a bad packet, and the last of some records wants it: its slot is over when that frame begins.
+abbrev pub WantBad : Config → ℕ → List ℕ → List FrameRecord → Type 0
+WantBad c plp file records = HasBad file × (length (packets_in file) < slots_of c plp records)
+
+-- The first file has a record and no late one, the second no bad packet; the output is all units, and these are the numbers.
+pub record SwapsAll (c : Config) (plp : ℕ) (files : ℕ → List ℕ) (ran : Ran) (bytes : List ℕ) : Type 0 where
+  pub some : records_of c (files 0) ≢ []
+  pub early : AreEarly (records_of c (files 0))
+  pub whole : ¬ (HasBad (files 1))
+  pub output : bytes ≡ joined (units_of c plp files)
+  pub ran_is : ran ≡ counted c plp (records_of c (files 0)) (packets_in (files 1)) (length (units_of c plp files))
+
+-- A run to its end: both inputs were read to their ends.
+pub record RunsAll (c : Config) (plp : ℕ) (old new : State) (t2mi input out : List ℕ) (ran : Ran) : Type 0 where
+  pub places : List ℕ
+  pub works : Works old new out (names_of t2mi input) places (λ h bytes. SwapsAll c plp (file_at h (names_of t2mi input)) ran bytes)
+  pub short : AllShort places
+  pub counts : SameCounts old new
+  pub present : IfSome old.held (λ h. (place : ℕ) → place < 2 → IsSome (get h.files (slice_index_or (names_of t2mi input) place [])))
+  pub ends : IfSome old.held (λ h. places ≡ map (λ name. length (bytes_of h.files name)) (names_of t2mi input))
+
+-- The first file has no record, and the output is empty.
+pub record HasNone (c : Config) (files : ℕ → List ℕ) (bytes : List ℕ) : Type 0 where
+  pub none : records_of c (files 0) ≡ []
+  pub empty : bytes ≡ []
+
+-- The first input was read to its end, and has no record; the second was not read.
+pub record FindsNone (c : Config) (old new : State) (t2mi input out : List ℕ) : Type 0 where
+  pub places : List ℕ
+  pub works : Works old new out (names_of t2mi input) places (λ h bytes. HasNone c (file_at h (names_of t2mi input)) bytes)
+  pub short : AllShort places
+  pub counts : SameCounts old new
+  pub end : IfSome old.held (λ h. slice_index places 0 ≡ length (file_at h (names_of t2mi input) 0))
+  pub unread : slice_index places 1 ≡ 0
+
+-- The first file has a record, and the first bad packet of the second is this: the first of some records wants it, whose frame may have
+-- its number, or all were sent and the rest has it. The output is the complete units of the frames before.
+pub record MeetsBad (c : Config) (plp : ℕ) (files : ℕ → List ℕ) (packet : ℕ) (bytes : List ℕ) : Type 0 where
+  pub some : records_of c (files 0) ≢ []
+  pub bad : HasBad (files 1)
+  pub number : packet ≡ length (packets_in (files 1))
+  pub before : List FrameRecord
+  pub after : List FrameRecord
+  pub parts : records_of c (files 0) ≡ before ++ after
+  pub early : AreEarly (before ++ take 1 after)
+  pub unwanted : ¬ (WantBad c plp (files 1) before)
+  pub wanted : after ≢ [] → WantBad c plp (files 1) (before ++ take 1 after)
+  pub output : bytes ≡ joined (complete_of c plp files before)
+
+-- A bad packet was met.
+pub record StopsAtBad (c : Config) (plp : ℕ) (old new : State) (t2mi input out : List ℕ) (packet : ℕ) : Type 0 where
+  pub places : List ℕ
+  pub works : Works old new out (names_of t2mi input) places (λ h bytes. MeetsBad c plp (file_at h (names_of t2mi input)) packet bytes)
+  pub short : AllShort places
+  pub counts : SameCounts old new
+
+-- The first file has a record whose number none may have, no frame before wants a bad packet, and the output is the complete units of
+-- the frames before it.
+pub record HasLate (c : Config) (plp : ℕ) (files : ℕ → List ℕ) (bytes : List ℕ) : Type 0 where
+  pub before : List FrameRecord
+  pub late : FrameRecord
+  pub after : List FrameRecord
+  pub parts : records_of c (files 0) ≡ before ++ late ∷ after
+  pub early : AreEarly before
+  pub number : MOST_FRAMES ≤ late.number
+  pub unwanted : ¬ (WantBad c plp (files 1) before)
+  pub output : bytes ≡ joined (complete_of c plp files before)
+
+-- The record of frame 2^31 waits.
+pub record MeetsLate (c : Config) (plp : ℕ) (old new : State) (t2mi input out : List ℕ) : Type 0 where
+  pub places : List ℕ
+  pub works : Works old new out (names_of t2mi input) places (λ h bytes. HasLate c plp (file_at h (names_of t2mi input)) bytes)
+  pub short : AllShort places
+  pub counts : SameCounts old new
+
+-- Behind the packets of a file, up to its first bad one, fewer bytes were read than a packet has: so no bad packet was read whole.
+abbrev pub ReadsNoBad : List ℕ → ℕ → Type 0
+ReadsNoBad file place = place < SIZE * (length (packets_in file) + 1)
+
+-- These are the records that are due by so many bytes of the first file. All may have their numbers, none wants a bad packet, and the
+-- output is the complete units of their frames.
+pub record HasSwapped (c : Config) (plp taken : ℕ) (files : ℕ → List ℕ) (bytes : List ℕ) : Type 0 where
+  pub early : AreEarly (records_due c false (take taken (files 0)))
+  pub unwanted : ¬ (WantBad c plp (files 1) (records_due c false (take taken (files 0))))
+  pub output : bytes ≡ joined (complete_of c plp files (records_due c false (take taken (files 0))))
+
+-- A frame wants more of the second file than so many bytes, or all frames were sent; in these bytes no bad packet is whole. The output
+-- is the complete units of the frames before.
+pub record WantsMore (c : Config) (plp place : ℕ) (files : ℕ → List ℕ) (bytes : List ℕ) : Type 0 where
+  pub before : List FrameRecord
+  pub after : List FrameRecord
+  pub parts : records_of c (files 0) ≡ before ++ after
+  pub early : AreEarly (before ++ take 1 after)
+  pub some : records_of c (files 0) ≢ []
+  pub wanted : after ≢ [] → place < SIZE * slots_of c plp (before ++ take 1 after)
+  pub unread : ReadsNoBad (files 1) place
+  pub output : bytes ≡ joined (complete_of c plp files before)
+
+-- what is written when an input is to be read on: of the first so many bytes were taken, and of the second so many read
+abbrev pub HasWritten : Config → ℕ → ℕ → ℕ → ℕ → (ℕ → List ℕ) → List ℕ → Type 0
+HasWritten c plp zero taken place files bytes = HasSwapped c plp taken files bytes
+HasWritten c plp (suc input) taken place files bytes = WantsMore c plp place files bytes
+
+-- An input gave as many bytes as no file may have. Of these all but a packet were taken, at least: no step wants more than one.
+pub record GivesTooMuch (c : Config) (plp : ℕ) (old new : State) (t2mi input out : List ℕ) (place : ℕ) : Type 0 where
+  pub places : List ℕ
+  pub taken : ℕ
+  pub inside : place < 2
+  pub near : longest_file ≤ taken + SIZE
+  pub works : Works old new out (names_of t2mi input) places
+      (λ h bytes. HasWritten c plp place taken taken (file_at h (names_of t2mi input)) bytes)
+  pub gave : slice_index places place ≡ longest_file
+  pub long : IfSome old.held (λ h. (taken ≤ longest_file) × (longest_file ≤ length (file_at h (names_of t2mi input) place)))
+  pub counts : SameCounts old new
+
+-- An input could not be read on.
+pub record StopsReading (c : Config) (plp : ℕ) (old new : State) (t2mi input out : List ℕ) (place : ℕ) : Type 0 where
+  pub places : List ℕ
+  pub inside : place < 2
+  pub works : Works old new out (names_of t2mi input) places (λ h bytes. HasWritten c plp place (slice_index places place)
+      (slice_index places place) (file_at h (names_of t2mi input)) bytes)
+  pub short : AllShort places
+
+-- These bytes are the first of all units of the frames whose numbers one may have, but not all.
+pub record HasSome (c : Config) (plp : ℕ) (files : ℕ → List ℕ) (bytes : List ℕ) : Type 0 where
+  pub more : List ℕ
+  pub some : more ≢ []
+  pub begins : joined (pipe c.pid (packets_of c plp (packets_in (files 1)) (below MOST_FRAMES (records_of c (files 0))))) ≡ bytes ++ more
+
+-- The output could not be written on.
+pub record StopsWriting (c : Config) (plp : ℕ) (old new : State) (t2mi input out : List ℕ) : Type 0 where
+  pub places : List ℕ
+  pub works : Works old new out (names_of t2mi input) places (λ h bytes. HasSome c plp (file_at h (names_of t2mi input)) bytes)
+  pub short : AllShort places
+
+-- A run that did not come to its end, by its cause.
+abbrev pub Stops : Config → ℕ → State → State → List ℕ → List ℕ → List ℕ → RunStop SwapStop → Type 0
+Stops c plp old new t2mi input out (Refused NoSuperframe) = FindsNone c old new t2mi input out
+Stops c plp old new t2mi input out (Refused (InputRefused packet)) = StopsAtBad c plp old new t2mi input out packet
+Stops c plp old new t2mi input out (Refused TooManyFrames) = MeetsLate c plp old new t2mi input out
+Stops c plp old new t2mi input out (Files (TooLong place)) = GivesTooMuch c plp old new t2mi input out place
+Stops c plp old new t2mi input out (Files (ReadFault place)) =
+    ReadsFail old new × (OpensInputs old new (names_of t2mi input) place ⊎ StopsReading c plp old new t2mi input out place)
+Stops c plp old new t2mi input out (Files WriteFault) =
+    WritesFail old new × (FailsToCreateOutput old new out (names_of t2mi input) ⊎ StopsWriting c plp old new t2mi input out)
+Stops c plp old new t2mi input out OutOfMemory = new ≡ old

@@ -1,0 +1,63 @@
+// A run of the swapper of a plan.
+ghost use Rattle.std.specs.Prelude.{◌≡◌, ◌≢◌, ◌<◌, [], ◌∷◌, length, IfOk, IfErr};
+ghost use Rattle.file_run.specs.OneRun.{RunsOnce};
+ghost use Rattle.swap_run.specs.SwapRun.{RunsAll, Stops};
+
+use crate::machine::SwapMachine;
+use crate::stop::{Ran, SwapStop};
+use file_run::{Ending, RunStop, events_law, run_one};
+use modulator::due_records_law;
+use plp_config::{Plan, length_law, slot_time_law};
+use ports::{Desk, Word};
+use std::alloc::Global;
+use t2mi_stream::complete_law;
+
+// Runs a machine of two inputs, which are named.
+fn run_two<M: Ending, D: Desk>(
+    alloc: Global,
+    machine: &mut M,
+    first: &str,
+    second: &str,
+    out: &str,
+    desk: &mut D,
+) -> Result<M::Ran, RunStop<M::Stop>>
+    requires inputs { M.inputs machine.old ≡ 2 }
+    requires start { M.Becomes machine.old [] machine.old }
+    requires apart_first { first.now ≢ out.now }
+    requires apart_second { second.now ≢ out.now }
+    ensures { RunsOnce (D.state desk.old) (D.state desk.new) out.now (first.now ∷ second.now ∷ []) M.reach M.next
+        (M.Becomes machine.old) M.ending machine.new result }
+{
+    let one = Word::new(alloc, first)?;
+    let other = Word::new(alloc, second)?;
+    let ins = [one, other];
+    run_one(alloc, machine, out, &ins, desk)
+}
+
+/// Runs the swapper of a plan for the PLP at a place: opens the T2-MI stream and the transport stream that replaces it, which may be
+/// one file, creates the output, and goes record by record through the stream; of the input it reads the packets of the slots that are
+/// over when the frame of that record begins, and behind the last frame the rest, which is tested and not sent. All units that are
+/// complete are written before it reads on. All memory is taken before the first input is opened.
+pub fn run<D: Desk>(
+    alloc: Global,
+    plan: &Plan,
+    plp: usize,
+    t2mi: &str,
+    input: &str,
+    out: &str,
+    desk: &mut D,
+) -> Result<Ran, RunStop<SwapStop>>
+    requires place { plp < length plan.now.plps }
+    requires apart_t2mi { t2mi.now ≢ out.now }
+    requires apart_input { input.now ≢ out.now }
+    ensures ok { IfOk result (RunsAll plan.now plp (D.state desk.old) (D.state desk.new) t2mi.now input.now out.now) }
+    ensures err { IfErr result (Stops plan.now plp (D.state desk.old) (D.state desk.new) t2mi.now input.now out.now) }
+{
+    events_law();
+    due_records_law();
+    complete_law();
+    slot_time_law();
+    length_law();
+    let mut machine = SwapMachine::open(alloc, plan, plp)?;
+    run_two(alloc, &mut machine, t2mi, input, out, desk)
+}
