@@ -1,0 +1,5 @@
+pub mod LengthLemmas
+pub mod LawLemmas
+pub mod DueLemmas
+pub mod ReleaseLemmas
+pub mod StepLemmas
