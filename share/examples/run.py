@@ -3,7 +3,7 @@
 
     run.py PROGRAM [FOLDER]     PROGRAM is site_cli; FOLDER is a new one in which all files stay
 
-A comment behind a command that begins as `first=0` must be a line on standard output, in its order. Lines that want a screen (ffplay, less) or a
+A comment behind a command that begins as `first=0` or `merged frames=4` must be a line on standard output, in its order. Lines that want a screen (ffplay, less) or a
 program that is not there (ffmpeg, tshark) are left out, and told.
 """
 import os
@@ -41,7 +41,7 @@ def left_out(line):
 
 def wanted_of(lines):
     comments = [line.rpartition("  # ")[2].strip() for line in lines if "  # " in line]
-    return [comment for comment in comments if re.match(r"\w+=\S", comment)]
+    return [comment for comment in comments if re.match(r"(\w+ )?\w+=\S", comment)]
 
 
 def run_block(number, block, folder):
