@@ -16,7 +16,4 @@ pub use laws::{
 };
 pub use reading::{BbView, read_frame};
 pub use scrambling::scramble;
-pub use writing::write_frame;
-
-#[cfg(test)]
-mod tests;
+pub use writing::{header_bytes, write_frame};

@@ -5,7 +5,7 @@ ghost use Rattle.bit_slice.specs.Sink.{Puts, Stops};
 ghost use Rattle.bb_frame.specs.BasebandFrame.{fields_bits, header_bits, frame_bits, Describes};
 
 use crate::header::MODE;
-use crate::{HEADER_BITS, Header};
+use crate::{HEADER_BITS, HEADER_BYTES, Header};
 use bit_slice::{BitSink, BitSlice, SinkFault, crc8, puts_law, stops_law};
 
 // The bytes of the header but for the last one.
@@ -29,17 +29,25 @@ fn field_bytes(header: &Header) -> [u8; 9]
     ]
 }
 
+/// The bytes of a header, of which CRC-8 XOR MODE is the last one.
+pub fn header_bytes(header: &Header) -> [u8; HEADER_BYTES]
+    requires { header.now.issy < 2 ^ 24 }
+    ensures { bits_of result ≡ header_bits header.now }
+{
+    let fields = field_bytes(header);
+    let mut bytes = [0; HEADER_BYTES];
+    bytes[..9].copy_from_slice(&fields);
+    bytes[9] = crc8(BitSlice::whole(&fields)) ^ MODE;
+    bytes
+}
+
 fn put_header<S: BitSink>(sink: &mut S, header: &Header) -> Result<(), SinkFault>
     requires { header.now.issy < 2 ^ 24 }
     ensures ok { OnOk result (Puts (S.state sink.old) (S.state sink.new) (header_bits header.now)) }
     ensures fault { IfErr result (Stops (S.state sink.old) (S.state sink.new) (header_bits header.now)) }
 {
-    puts_law();
     stops_law();
-    let fields = field_bytes(header);
-    let crc = crc8(BitSlice::whole(&fields)) ^ MODE;
-    sink.put_slice(BitSlice::whole(&fields))?;
-    sink.put(u64::from(crc), 8)
+    sink.put_slice(BitSlice::whole(&header_bytes(header)))
 }
 
 fn put_zeros<S: BitSink>(sink: &mut S, count: usize) -> Result<(), SinkFault>

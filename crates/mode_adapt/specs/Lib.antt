@@ -9,6 +9,7 @@ pub mod Place
 pub mod Calls
 pub mod Laws
 -- inner: no public clause cites these
+pub mod Waiting
 pub mod Pieces
 pub mod Steps
 -- of the crates below, for those who read this one

@@ -1,5 +1,5 @@
 -- What calls change in the fields of a chain. No public clause cites this module.
-use Rattle.std.specs.Prelude.{◌≡◌, ◌<◌, ◌≤◌, ℕ, ◌+◌, ◌-◌, ◌*◌, List, map, length, [], ◌∷◌, ◌++◌, take, drop}
+use Rattle.std.specs.Prelude.{◌≡◌, ◌<◌, ◌≤◌, ℕ, ◌+◌, ◌-◌, List, map, length, [], ◌∷◌, ◌++◌, take, drop}
 use Rattle.std.specs.Int.{div_ceil}
 use Rattle.terms.specs.Bits.{bits_of}
 use Rattle.bb_frame.specs.declared.header.TheConstants.{HEADER_BYTES}
@@ -48,18 +48,6 @@ IsLeft chain = (chain.made < chain.settings.blocks) × (0 < length chain.pending
 -- None are.
 abbrev pub IsOver : Chain → Type 0
 IsOver chain = chain.made < chain.settings.blocks → length chain.pending.items ≡ 0
-
--- The block of the first bytes was written.
-pub record Writes (old new : Chain) (count : ℕ) : Type 0 where
-  pub settings : new.settings ≡ old.settings
-  pub deleter : new.deleter ≡ old.deleter
-  pub slot : new.slot ≡ old.slot
-  pub sent : new.sent ≡ old.sent
-  pub made : new.made ≡ old.made
-  pub pending : new.pending ≡ old.pending
-  pub slots : new.slots ≡ old.slots
-  pub block : new.block ≡ piece_of old count
-  pub size : length new.block ≡ 8 * (old.settings.field_bytes + HEADER_BYTES)
 
 -- The block of the first bytes was put at the end of a list.
 pub record Puts (old new : Chain) (count : ℕ) (was is : List (List ℕ)) : Type 0 where

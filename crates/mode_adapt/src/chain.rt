@@ -6,16 +6,18 @@ ghost use Rattle.terms.specs.Bits.{bits_of};
 ghost use Rattle.plp_config.specs.SlotTime.{epoch_ticks};
 ghost use Rattle.plp_config.specs.Capacity.{up_bytes, field_bytes, block_bytes};
 ghost use Rattle.plp_config.specs.Plps.{plp_at};
+ghost use Rattle.bb_frame.specs.BasebandFrame.{header_bits};
+ghost use Rattle.bb_frame.specs.declared.header.TheConstants.{HEADER_BYTES};
 ghost use Rattle.plp_config.specs.declared.plp.TheConstants.{MOST_FIELD_BYTES};
 ghost use Rattle.ts_packet.specs.declared.sizes.TheConstants.{SIZE};
 ghost use Rattle.mode_adapt.specs.declared.chain.TheConstants.{MOST_SLOTS};
 
-use crate::block::{LONGEST_BLOCK, write_block};
 use crate::block_header::Settings;
 use crate::front::drop_front;
 use crate::laws::{backlog_law, early_fits_law, within_law};
-use bb_frame::bit_counts_law;
-use bit_slice::{FixedBits, OutOfMemory};
+use crate::waiting::Waiting;
+use bb_frame::{HEADER_BYTES, header_bytes};
+use bit_slice::OutOfMemory;
 use linked_pool::{Pool, PoolFull, plan_fits_law};
 use null_delete::{Deleter, decided_by_the_past_law};
 use plp_config::{MOST_FIELD_BYTES, Plan, block_law, length_law};
@@ -38,17 +40,15 @@ pub struct Chain {
     // How many blocks of the next interleaving frame were put.
     made: u32,
     // The bytes that wait for a block.
-    pending: Vec<u8>,
+    pending: Waiting,
     // The slots of the user packets that begin in them.
     slots: Vec<u64>,
-    // The block that was put last.
-    block: FixedBits<LONGEST_BLOCK>,
-    ghost bound: { sent + vec_len pending ≤ SIZE * slot },
+    ghost bound: { sent + length pending.items ≤ SIZE * slot },
     ghost small: { slot ≤ 2 ^ 54 },
     ghost few: { made ≤ settings.blocks },
-    ghost short: { vec_len pending ≤ settings.field_bytes + SIZE },
-    ghost starts: { sent + vec_len pending ≡ settings.up_bytes * (div_ceil sent settings.up_bytes + vec_len slots) },
-    ghost bytes: { settings.field_bytes + SIZE ≤ vec_capacity pending },
+    ghost short: { length pending.items ≤ settings.field_bytes + SIZE },
+    ghost starts: { sent + length pending.items ≡ settings.up_bytes * (div_ceil sent settings.up_bytes + vec_len slots) },
+    ghost bytes: { settings.field_bytes + SIZE ≤ pending.room },
     ghost places: { MOST_SLOTS ≤ vec_capacity slots },
 }
 
@@ -59,9 +59,9 @@ impl Chain {
     ghost use Rattle.mode_adapt.specs.Events.{Event, Cut, IsDue, offered, cuts};
     ghost use Rattle.mode_adapt.specs.StandsFor.{ChainStandsFor, IsPartial, slot_of, most_blocks, kept_of, waiting, early_blocks};
     ghost use Rattle.mode_adapt.specs.Place.{AreShort};
-    ghost use Rattle.mode_adapt.specs.Steps.{Keeps, Sends, HasSpace, Writes, Puts, Stays, IsFull, IsOver, IsLeft, Skips, Resets};
+    ghost use Rattle.mode_adapt.specs.Steps.{Keeps, Sends, HasSpace, Puts, Stays, IsFull, IsOver, IsLeft, Skips, Resets};
     ghost use Rattle.mode_adapt.specs.Steps.{Lacks};
-    ghost use Rattle.mode_adapt.specs.Pieces.{first_in, piece_of};
+    ghost use Rattle.mode_adapt.specs.Pieces.{first_in, header_by};
     ghost use Rattle.mode_adapt.specs.Blocks.{rates_of, plp_keeps};
     ghost use Rattle.mode_adapt.specs.Queue.{arrived, sent};
     ghost use Rattle.null_delete.specs.Deletion.{packet_at};
@@ -85,9 +85,8 @@ impl Chain {
             sent: 0,
             made: 0,
             // A data field, and a user packet more.
-            pending: Vec::with_capacity(alloc, settings.field_bytes as usize + SIZE)?,
+            pending: Waiting::open(alloc, settings.field_bytes as usize + SIZE)?,
             slots: Vec::with_capacity(alloc, MOST_SLOTS)?,
-            block: FixedBits::new(),
         })
     }
 
@@ -157,9 +156,9 @@ impl Chain {
             self.slot += 1;
             return;
         }
-        self.pending.extend_from_slice(&packet[1..]).unwrap();
+        self.pending.add(&packet[1..]);
         if self.settings.up_bytes == SIZE as u32 {
-            self.pending.push(dnp).unwrap();
+            self.pending.add(&[dnp]);
         }
         self.slots.push(self.slot).unwrap();
         self.slot += 1;
@@ -188,16 +187,15 @@ impl Chain {
         if self.pending.len() < field_bytes {
             return Ok(());
         }
-        self.put_block(field_bytes, pool, list)
+        self.put_block(pool, list)
     }
 
-    // Puts the block of the first bytes of those that wait.
-    fn put_block(&mut self, count: usize, pool: &mut Pool, list: u32) -> Result<(), PoolFull>
-        requires inside { count ≤ vec_len self.old.pending }
-        requires short { count ≤ self.old.settings.field_bytes }
+    // Puts the block of the first bytes of those that wait, a whole data field if there are so many.
+    fn put_block(&mut self, pool: &mut Pool, list: u32) -> Result<(), PoolFull>
         requires made { self.old.made < self.old.settings.blocks }
         requires list { list < length pool.old.lists }
-        ensures puts { OnOk result (Puts self.old self.new count (list_at pool.old list) (list_at pool.new list)) }
+        ensures puts { OnOk result (Puts self.old self.new
+            (min self.old.settings.field_bytes (length self.old.pending.items)) (list_at pool.old list) (list_at pool.new list)) }
         ensures short { AreShort (list_at pool.old list) → AreShort (list_at pool.new list) }
         ensures others { Others pool.old pool.new list }
         ensures full { IfErr result (λ e. Lacks self.old pool.old e.need e.spare) }
@@ -207,8 +205,10 @@ impl Chain {
         ensures stays { self.new.settings ≡ self.old.settings }
         ensures slot { self.new.slot ≡ self.old.slot }
     {
-        self.write(count);
-        match pool.append(list, self.block.as_bytes()) {
+        let field_bytes = self.settings.field_bytes as usize;
+        let count = field_bytes.min(self.pending.len());
+        let header = self.header(count);
+        match self.pending.put_block(&header, field_bytes, pool, list) {
             Ok(()) => {
                 self.send(count);
                 Ok(())
@@ -217,26 +217,19 @@ impl Chain {
         }
     }
 
-    // Writes the block of the first bytes of those that wait.
-    fn write(&mut self, count: usize)
-        requires inside { count ≤ vec_len self.old.pending }
-        requires short { count ≤ self.old.settings.field_bytes }
-        ensures { Writes self.old self.new count }
+    // The header of the block of the first bytes of those that wait.
+    fn header(&self, count: usize) -> [u8; HEADER_BYTES]
+        requires inside { count ≤ length self.now.pending.items }
+        requires short { count ≤ self.now.settings.field_bytes }
+        ensures { bits_of result ≡ header_bits (header_by self.now.settings self.now.sent count (first_in self.now count)) }
     {
-        bit_counts_law();
         let up = self.first_up(count);
-        let header = self.settings.header(self.sent, count, up);
-        write_block(
-            &header,
-            &self.pending[..count],
-            self.settings.field_bytes,
-            &mut self.block,
-        );
+        header_bytes(&self.settings.header(self.sent, count, up))
     }
 
     // The place and the slot of the first user packet that begins in the first bytes of those that wait.
     fn first_up(&self, count: usize) -> Option<(u64, u64)>
-        requires { count ≤ vec_len self.now.pending }
+        requires { count ≤ length self.now.pending.items }
         ensures up { result ≡ first_in self.now count }
         ensures within { IfSome result (λ u. (self.now.sent ≤ u.0) × (u.0 < self.now.sent + count)) }
     {
@@ -312,26 +305,25 @@ impl Chain {
         ensures slot { self.new.slot ≡ self.old.slot }
     {
         pool.is_whole_law();
-        let count = self.pending.len();
         if self.made >= u32::from(self.settings.blocks) {
             return Ok(());
         }
-        if count == 0 {
+        if self.pending.len() == 0 {
             return Ok(());
         }
-        self.put_block(count.min(self.settings.field_bytes as usize), pool, list)
+        self.put_block(pool, list)
     }
 
     // Sends bytes from the front, those of a block.
     fn send(&mut self, count: usize)
-        requires inside { count ≤ vec_len self.old.pending }
+        requires inside { count ≤ length self.old.pending.items }
         requires made { self.old.made < self.old.settings.blocks }
         ensures { Sends self.old self.new count }
     {
         let up_bytes = u64::from(self.settings.up_bytes);
         let sent = self.sent + count as u64;
         let begun = sent.div_ceil(up_bytes) - self.sent.div_ceil(up_bytes);
-        drop_front(&mut self.pending, count);
+        self.pending.drop_front(count);
         drop_front(&mut self.slots, begun as usize);
         self.sent = sent;
         self.made += 1;

@@ -8,10 +8,6 @@ mod laws;
 mod packet;
 mod packet_view;
 mod reading;
-#[cfg(test)]
-mod samples;
-#[cfg(test)]
-mod tests;
 mod writing;
 
 pub use fault::{PacketFault, PacketWhy};

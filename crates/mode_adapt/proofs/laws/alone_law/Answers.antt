@@ -1,4 +1,4 @@
-use Rattle.std.proofs.Common.{ℕ, List, [], length, ap, ◌∙◌}
+use Rattle.std.proofs.Common.{ℕ, [], length, ap, ◌∙◌}
 use Rattle.std.proofs.lemmas.Bool.{cond-true}
 use Rattle.plp_config.specs.InterleavingFrames.{interleaving_frame, is_first}
 use Rattle.mode_adapt.specs.Blocks.{plp_blocks}
