@@ -1,19 +1,19 @@
 -- Packets that carry what a written frame's record says come back as that frame.
 use Rattle.std.proofs.Common.{◌≡◌, ℕ, zero, suc, ◌+◌, ◌*◌, ◌%◌, ◌<◌, ◌≤◌, ◌==◌, ◌&&◌, ◌||◌, not, Bool, true, false, List, []}
-use Rattle.std.proofs.Common.{◌∷◌, ◌++◌, length, map, get_or, Option, Some, None, refl, ap, ap₂, sym, subst, ◌∙◌, ⊎_elim, arith}
-use Rattle.std.proofs.Common.{sum_by, true≢false}
+use Rattle.std.proofs.Common.{◌∷◌, ◌++◌, length, map, Option, Some, None, refl, ap, sym, subst, ◌∙◌, ⊎_elim, arith}
+use Rattle.std.proofs.Common.{sum_by}
 use Rattle.std.specs.Prelude.{slice_get, slice_index, if◌then◌else◌, nat_le, nat_lt, unwrap_or, option_map}
-use Rattle.std.specs.List.{filter, filter_map, find, flat_map, range_with_len, list_all, AllByRecursion}
+use Rattle.std.specs.List.{filter, filter_map, find, range_with_len, list_all, AllByRecursion}
 use Rattle.std.specs.Option.{option_and_then, option_map_or}
 use Rattle.std.proofs.lemmas.Bool.{cases_Bool, and_from, and_left, cond-true, cond-false, eq-eqb, not_from_true}
 use Rattle.std.proofs.lemmas.List.Folds.{list_all-map}
-use Rattle.std.proofs.lemmas.List.FromFn.{length-range_with_len, get_or-range_with_len}
-use Rattle.std.proofs.lemmas.List.Sums.{sum_by-cons, AllPass-from_list_all}
+use Rattle.std.proofs.lemmas.List.Sums.{sum_by-cons}
+use Rattle.terms.proofs.RangeLemmas.{flat_same}
+use Rattle.open_group.proofs.CountLemmas.{not_all_places}
 use Rattle.bb_frame.specs.Laws.{BitCounts, ScramblesBack}
 use Rattle.plp_config.specs.Capacity.{IsPlan, block_bytes}
 use Rattle.plp_config.specs.Emission.{emission}
 use Rattle.plp_config.specs.InterleavingFrames.{is_first, begin_of}
-use Rattle.plp_config.specs.Places.{places}
 use Rattle.plp_config.specs.Plps.{plp_at}
 use Rattle.plp_config.specs.Tables.{bw}
 use Rattle.plp_config.specs.declared.config.Config.{Config}
@@ -72,24 +72,6 @@ pub each_place : (test : ℕ → Bool) (count : ℕ) → ((plp : ℕ) → plp < 
 each_place test count h a zero l = refl
 each_place test count h a (suc k) l = and_from (test a) (list_all test (range_with_len (a + 1) k)) (h a (omega (arith, l)))
     (each_place test count h (a + 1) k (omega (arith, l)))
-
--- one PLP does not pass
-not_all_places : (c : Config) (test : ℕ → Bool) (plp : ℕ) → plp < length c.plps → test plp ≡ false → list_all test (places c) ≡ false
-not_all_places c test plp inside fails = ⊎_elim
-    (λ (all : list_all test (places c) ≡ true).
-    let there : get_or (places c) plp 0 ≡ plp = let e = get_or-range_with_len 0 (length c.plps) plp 0 inside in
-    omega (arith, e) in
-    let within : plp < length (places c) = let size = length-range_with_len 0 (length c.plps) in omega (arith, size, inside) in
-    absurd (true≢false (sym (subst (λ (j : ℕ). test j ≡ true) there (AllPass-from_list_all test (places c) all plp 0 within))
-    ∙ fails)))
-    (λ (some : list_all test (places c) ≡ false). some)
-    (cases_Bool (list_all test (places c)))
-
-same_over : {X : Type 0} (f g : ℕ → List X) (count : ℕ) → ((plp : ℕ) → plp < count → f plp ≡ g plp) → (a k : ℕ) → a + k ≤ count
-    → flat_map f (range_with_len a k) ≡ flat_map g (range_with_len a k)
-same_over f g count h a zero l = refl
-same_over {X = X} f g count h a (suc k) l =
-    ap₂ (λ (x y : List X). x ++ y) (h a (omega (arith, l))) (same_over f g count h (a + 1) k (omega (arith, l)))
 
 pub unless_true : (t : Bool) (cause : MuteCause) → t ≡ true → unless t cause ≡ None
 unless_true t cause e = ap (λ (t : Bool). unless t cause) e
@@ -331,9 +313,9 @@ module _ (numbers : BitCounts) (back : ScramblesBack) (law : PreBitsLength) (nam
       ap (λ (o : Option FrameShape). unwrap_or o (blank (length c.plps))) first_is
       ∙ sym (view_shape knows c n first p) in
       let b : sent_blocks c (λ plp. right_blocks c plp packets) ≡ sent_blocks c (λ plp. right_blocks c plp first) =
-      same_over (λ plp. map (sent_block c plp) (right_blocks c plp packets))
-      (λ plp. map (sent_block c plp) (right_blocks c plp first)) (length c.plps)
-      (λ plp inside. ap (map (sent_block c plp)) (rights plp inside)) 0 (length c.plps) (omega arith) in
+      flat_same (λ plp. map (sent_block c plp) (right_blocks c plp packets))
+      (λ plp. map (sent_block c plp) (right_blocks c plp first)) 0 (length c.plps)
+      (λ plp le lt. ap (map (sent_block c plp)) (rights plp (omega (arith, lt)))) in
       ap (λ (bits : List Bool). frame_view c (emission c n) (n % c.frames) (post_with c bits)
       (sent_blocks c (λ plp. right_blocks c plp packets)) (shape_in c packets)) d
       ∙ ap (λ (l : List SentBlock). frame_view c (emission c n) (n % c.frames) (post_with c (dynamic_in first)) l (shape_in c packets)) b

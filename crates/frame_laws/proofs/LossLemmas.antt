@@ -12,6 +12,7 @@ use Rattle.std.proofs.lemmas.List.FromFn.{length-range_with_len, get_or-range_wi
 use Rattle.std.proofs.lemmas.List.Sums.{sum_by-cons, length-filter, count_by-le-length, AllPass-from_list_all}
 use Rattle.terms.proofs.AllLemmas.{all_append}
 use Rattle.terms.proofs.OptionLemmas.{none_if}
+use Rattle.formed_frames.proofs.MadeLemmas.{all_bodies}
 use Rattle.plp_config.specs.Capacity.{IsPlan}
 use Rattle.plp_config.specs.InterleavingFrames.{interleaving_frame, is_first, begin_of}
 use Rattle.plp_config.specs.Places.{places}
@@ -42,7 +43,7 @@ use Rattle.frame_laws.specs.SentFrames.{sent_frames}
 use Rattle.frame_laws.specs.Types.{TypesFit}
 use Rattle.frame_laws.proofs.BlockLemmas.{count_at}
 use Rattle.frame_laws.proofs.SignalLemmas.{frame_parts}
-use Rattle.frame_laws.proofs.SentLemmas.{all_bodies, l1_of}
+use Rattle.frame_laws.proofs.SentLemmas.{l1_of}
 use Rattle.frame_laws.proofs.CarriedLemmas.{HasFrame}
 use Rattle.frame_laws.proofs.BegunLemmas.{place_of_any, begun_here, block_some}
 use Rattle.frame_laws.proofs.PassLemmas.{Given, AreFew, HaveRoom, pool_passes, l1_passes, parts_tell}

@@ -6,10 +6,10 @@ use Rattle.std.proofs.lemmas.Bool.{cases_eq, cond_both, cond-true, cond-false, e
 use Rattle.std.proofs.lemmas.List.{map-append}
 use Rattle.std.proofs.lemmas.List.Elements.{filter-append}
 use Rattle.terms.proofs.AllLemmas.{all_append}
+use Rattle.formed_frames.proofs.MadeLemmas.{all_bodies}
 use Rattle.plp_config.specs.Plps.{plp_at}
 use Rattle.plp_config.specs.declared.config.Config.{Config}
 use Rattle.t2mi_packet.specs.declared.packet.Body.{Body}
-use Rattle.t2mi_packet.specs.declared.packet.Packet.{Packet}
 use Rattle.mode_adapt.specs.Blocks.{own_blocks, told_counts}
 use Rattle.frame_writer.specs.Carried.{of_frame}
 use Rattle.frame_writer.specs.FramePackets.{l1_body, packet_with}
@@ -28,9 +28,6 @@ of_frames bodies from count = flat_map (λ n. of_frame n (bodies n)) (range_with
 -- the bodies of one frame among them
 abbrev own_bodies : ℕ → List (ℕ × Body) → List Body
 own_bodies m bodies = map (λ (b : ℕ × Body). b.1) (filter (λ (b : ℕ × Body). b.0 == m) bodies)
-
-abbrev pub all_bodies : List Packet → List Body
-all_bodies packets = map (λ (p : Packet). p.body) packets
 
 carried_own : (c : Config) (m number : ℕ) (bodies : List (ℕ × Body)) → all_bodies (frame_packets m (sent_from c number bodies))
     ≡ own_bodies m bodies

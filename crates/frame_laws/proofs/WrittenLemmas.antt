@@ -1,9 +1,9 @@
 -- What is written of the packets of a frame is the frame.
-use Rattle.std.proofs.Common.{◌≡◌, ℕ, zero, suc, ◌+◌, ◌%◌, ◌<◌, ◌≤◌, Bool, List, [], ◌++◌, length, Option, refl, ap, ap₂}
+use Rattle.std.proofs.Common.{◌≡◌, ℕ, ◌+◌, ◌%◌, ◌<◌, ◌≤◌, Bool, List, [], ◌++◌, length, Option, refl, ap}
 use Rattle.std.proofs.Common.{◌∙◌, arith, map}
 use Rattle.std.specs.Prelude.{slice_get, unwrap_or}
-use Rattle.std.specs.List.{flat_map, range_with_len}
 use Rattle.std.specs.Option.{option_map_or, option_and_then}
+use Rattle.terms.proofs.RangeLemmas.{flat_same}
 use Rattle.bb_frame.specs.Laws.{BitCounts}
 use Rattle.plp_config.specs.Laws.{FieldRange}
 use Rattle.scheduler.specs.Laws.{ShapeFitsL1}
@@ -37,12 +37,6 @@ pub post_is : (c : Config) (n : ℕ) (counts : List ℕ) → post_with c (dyn_pa
 unfolding post_bits dyn_part
 post_is c n counts = refl
 
-same_over : {X : Type 0} (f g : ℕ → List X) (count : ℕ) → ((plp : ℕ) → plp < count → f plp ≡ g plp) → (a k : ℕ) → a + k ≤ count
-    → flat_map f (range_with_len a k) ≡ flat_map g (range_with_len a k)
-same_over f g count h a zero l = refl
-same_over {X = X} f g count h a (suc k) l =
-    ap₂ (λ (x y : List X). x ++ y) (h a (omega (arith, l))) (same_over f g count h (a + 1) k (omega (arith, l)))
-
 pub written_is_frame : BitCounts → FieldRange → ToldCountsFit → DynReadBack → DynWritten → ShapeFitsL1 → FrameCarries
     → WrittenIsFrame
 written_is_frame numbers field counted back written law carries c inputs n m plan types l =
@@ -53,9 +47,9 @@ written_is_frame numbers field counted back written law carries c inputs n m pla
     (sent_blocks c (λ plp. right_blocks c plp packets)) (sent_blocks c (own_blocks c inputs m)) (shape_in c packets)
     (frame_shape c inputs m)
     (ap (λ (s : List L1Parts). post_with c (option_map_or (λ l1. l1.dynamic) (slice_get s 0) [])) has.l1s ∙ post_is c m counts)
-    (same_over (λ plp. map (sent_block c plp) (right_blocks c plp packets))
-    (λ plp. map (sent_block c plp) (own_blocks c inputs m plp)) (length c.plps)
-    (λ plp inside. ap (map (sent_block c plp)) (has.right plp inside)) 0 (length c.plps) (omega arith))
+    (flat_same (λ plp. map (sent_block c plp) (right_blocks c plp packets))
+    (λ plp. map (sent_block c plp) (own_blocks c inputs m plp)) 0 (length c.plps)
+    (λ plp le lt. ap (map (sent_block c plp)) (has.right plp (omega (arith, lt)))))
     (ap (λ (s : List L1Parts). unwrap_or (option_and_then (l1_shape c) (slice_get s 0)) (blank (length c.plps))) has.l1s
     ∙ ap (λ (o : Option FrameShape). unwrap_or o (blank (length c.plps)))
     (frame_told counted back written law c inputs m plan types))

@@ -50,7 +50,7 @@ use Rattle.gateway_core.proofs.LeftLemmas.{bodies_more as more_left}
 use Rattle.terms.proofs.RangeLemmas.{range_more}
 
 -- what continues with an event continues without it
-cont_packet : (t : Told) (packet : List ℕ) (input : List (List ℕ)) → t.ended ≡ false → Continues (with_packet t packet) input
+pub cont_packet : (t : Told) (packet : List ℕ) (input : List (List ℕ)) → t.ended ≡ false → Continues (with_packet t packet) input
     → Continues t input
 cont_packet t packet input off h = record {
   rest = packet ∷ h.rest;
@@ -58,7 +58,7 @@ cont_packet t packet input off h = record {
   whole = λ on. absurd (let z : true ≡ false = sym on ∙ off in cc);
 }
 
-cont_end : (t : Told) (input : List (List ℕ)) → Continues (at_end t) input → Continues t input
+pub cont_end : (t : Told) (input : List (List ℕ)) → Continues (at_end t) input → Continues t input
 cont_end t input h = record { rest = h.rest; front = h.front; whole = λ on. h.whole refl }
 
 pub other_offered : (j plp : ℕ) (events : List Event) (packet : List ℕ) → j ≢ plp → told j (events ++ Offered plp packet ∷ [])

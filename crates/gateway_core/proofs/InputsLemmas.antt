@@ -76,7 +76,7 @@ told_begun j events =
     (let s = sum_by-append (λ (e : Event). cond (begins e) 1 0) events (Begun ∷ []) in omega (arith, s))
 
 -- What continues with the begin of a frame continues without it.
-cont_next : (t : Told) (input : List (List ℕ)) → Continues (in_next t) input → Continues t input
+pub cont_next : (t : Told) (input : List (List ℕ)) → Continues (in_next t) input → Continues t input
 cont_next t input h = record { rest = h.rest; front = h.front; whole = h.whole }
 
 pub back_begun : (c : Config) (events : List Event) (all : ℕ → List (List ℕ)) → AllContinue c (events ++ Begun ∷ []) all

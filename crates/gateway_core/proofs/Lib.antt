@@ -8,3 +8,4 @@ mod FrameLemmas
 pub mod HoldsLemmas
 pub mod LawLemmas
 mod AheadLemmas
+pub mod WantLemmas

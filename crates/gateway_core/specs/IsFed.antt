@@ -1,4 +1,4 @@
--- What an input stands for. No public clause cites this module.
+-- What an input stands for.
 use Rattle.std.specs.Prelude.{◌≡◌, ◌≤◌, ℕ, ◌-◌, ◌*◌, Bool, false, List, ◌++◌, length, replicate, Some, None, is_some}
 use Rattle.std.specs.Prelude.{if◌then◌else◌}
 use Rattle.std.specs.Int.{div_ceil}

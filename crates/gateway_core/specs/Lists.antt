@@ -1,4 +1,4 @@
--- The lists of a pool, one for each PLP. No public clause cites this module.
+-- The lists of a pool, one for each PLP.
 use Rattle.std.specs.Prelude.{◌≡◌, ◌<◌, ◌≤◌, ℕ, Bool, true, List, [], length, map, if◌then◌else◌}
 use Rattle.terms.specs.Bits.{bits_of}
 use Rattle.linked_pool.specs.Pool.{State, list_at}

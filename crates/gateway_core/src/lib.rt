@@ -10,7 +10,6 @@ mod run_length;
 mod signalling;
 
 pub use gateway::Gateway;
+pub use input::Input;
 pub use laws::{ahead_law, front_law, last_law, not_yet_last_law, units_law};
-
-#[cfg(test)]
-mod tests;
+pub use signalling::write_dynamic;

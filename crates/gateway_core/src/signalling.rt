@@ -3,6 +3,7 @@ ghost use Rattle.std.specs.Prelude.{◌≡◌, ◌≤◌, length, IfOk};
 ghost use Rattle.scheduler.specs.Laws.{CountsFit, FitsL1};
 ghost use Rattle.l1_signal.specs.L1Dynamic.{dyn_bits};
 ghost use Rattle.l1_signal.specs.L1Of.{dyn_of};
+ghost use Rattle.l1_signal.specs.Lengths.{dyn_len};
 ghost use Rattle.gateway_core.specs.Signalling.{pre_part, conf_part, dyn_part};
 ghost use Rattle.l1_signal.specs.declared.lengths.TheConstants.{MOST_CONF_BITS, MOST_DYN_BITS, PRE_BITS};
 
@@ -71,9 +72,9 @@ impl Signalling {
     }
 }
 
-// Writes the dynamic part of a frame of a shape.
+/// Writes the dynamic part of L1-post of a frame of a shape, by rows that are of as many PLPs.
 #[tactic(auto, unfolding(l1_signal::specs::L1Of::dyn_of))]
-fn write_bits(
+pub fn write_dynamic(
     plan: &Plan,
     frame: u64,
     shape: &Shape,
@@ -84,6 +85,7 @@ fn write_bits(
     requires shape { length shape.now.counts ≡ length plan.now.plps }
     requires rows { length rows.old.plps ≡ length plan.now.plps }
     ensures value { bits.new ≡ dyn_bits (dyn_of plan.now frame shape.now) }
+    ensures size { length bits.new ≡ dyn_len (length plan.now.plps) }
     ensures short { length bits.new ≤ MOST_DYN_BITS }
     ensures rows { length rows.new.plps ≡ length plan.now.plps }
 {
@@ -132,6 +134,6 @@ impl Dynamic {
         field_law();
         plan.rules_law();
         shape(plan, counts, &mut self.shape);
-        write_bits(plan, frame, &self.shape, &mut self.rows, &mut self.bits);
+        write_dynamic(plan, frame, &self.shape, &mut self.rows, &mut self.bits);
     }
 }

@@ -9,6 +9,8 @@ use Rattle.std.proofs.lemmas.List.Elements.{filter-append}
 use Rattle.std.proofs.lemmas.List.Folds.{list_all-append}
 use Rattle.std.proofs.lemmas.List.Concat.{flat_map-append}
 use Rattle.terms.proofs.CaseLemmas.{bool_cases}
+use Rattle.modulator.proofs.WaitLemmas.{number_at}
+use Rattle.modulator.proofs.OneLemmas.{place_of}
 use Rattle.plp_config.specs.declared.config.Config.{Config}
 use Rattle.plp_config.specs.declared.moment.TheConstants.{MOST_FRAMES}
 use Rattle.frame_groups.specs.Laws.{AreFrom, IsPrefix}
@@ -28,12 +30,6 @@ use Rattle.modulator.proofs.PlaceLemmas.{place, AllSome, place_within, place_end
 -- a record has its head at least
 pub some_bytes : (c : Config) → AllSome (spelled c)
 some_bytes c x = omega arith
-
--- the number of a record is by its place
-pub number_at : (n : ℕ) (before : List FrameRecord) (next : FrameRecord) (after : List FrameRecord)
-    → AreFrom n (before ++ next ∷ after) → next.number ≡ n + length before
-number_at n [] next after are = omega (arith, are.0)
-number_at n (x ∷ before) next after are = omega (arith, number_at (n + 1) before next after are.1)
 
 -- ---- one more
 
@@ -98,15 +94,6 @@ taken_len c ended bytes taken w a = ap length a.taken_is ∙ length-append (flat
 part_less : (c : Config) (ended : Bool) (bytes taken : List ℕ) (w : Waiting) (a : WaitsAs c ended bytes taken w)
     → length (spelled c a.next) ≡ length a.part + length a.rest
 part_less c ended bytes taken w a = ap length a.cut ∙ length-append a.part a.rest
-
-place_of : (c : Config) (ended : Bool) (bytes taken : List ℕ) (w : Waiting) (a : WaitsAs c ended bytes taken w)
-    → place (spelled c) (records_due c ended bytes) (length taken) ≡ length a.before
-place_of c ended bytes taken w a =
-    let less : length a.part < length (spelled c a.next) = let p = part_less c ended bytes taken w a in let s = a.some in
-    omega (arith, p, s) in
-    ap (λ (xs : List FrameRecord). place (spelled c) xs (length taken)) a.all
-    ∙ ap (place (spelled c) (a.before ++ a.next ∷ a.after)) (taken_len c ended bytes taken w a)
-    ∙ place_within (spelled c) a.before a.next a.after (length a.part) less
 
 -- the same record waits, and as much of it is left
 same_rest : (c : Config) (ended : Bool) (bytes taken : List ℕ) (v w : Waiting) (a : WaitsAs c ended bytes taken v)

@@ -4,11 +4,12 @@ use Rattle.std.specs.Prelude.{nat_lt, Result, Ok, Err}
 use Rattle.std.specs.List.{list_all}
 use Rattle.std.proofs.lemmas.Bool.{true≢false}
 use Rattle.terms.proofs.CaseLemmas.{bool_cases}
+use Rattle.modulator.specs.StandsFor.{records_of}
 use Rattle.plp_config.specs.declared.moment.TheConstants.{MOST_FRAMES}
 use Rattle.frame_groups.specs.Modulated.{FrameRecord}
 use Rattle.modulate_run.specs.Counted.{counted}
 use Rattle.modulate_run.specs.Laws.{MustRun, OneRun, RunEnds}
-use Rattle.modulate_run.specs.ModulateRun.{records_of, AreEarly}
+use Rattle.modulate_run.specs.ModulateRun.{AreEarly}
 use Rattle.modulate_run.specs.declared.stop.Ran.{Ran}
 use Rattle.modulate_run.specs.declared.stop.ModulateStop.{ModulateStop}
 use Rattle.modulate_run.specs.declared.stop.ModulateStop.TheVariants.{NoSuperframe, TooManyFrames}

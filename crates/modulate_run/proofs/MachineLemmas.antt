@@ -1,7 +1,7 @@
 -- What each call of the machine makes of what was done to it.
 use Rattle.std.proofs.Common.{◌≡◌, ℕ, ◌+◌, ◌<◌, ◌≤◌, Bool, true, false, cond, List, [], ◌∷◌, ◌++◌, length, take, Option, Some}
 use Rattle.std.proofs.Common.{None, refl, ap, sym, subst, ◌∙◌, arith, length-append, append-nil, eqb-true, ltb-true}
-use Rattle.std.specs.Prelude.{IfSome, IfNone, nat_lt}
+use Rattle.std.specs.Prelude.{nat_lt}
 use Rattle.std.proofs.lemmas.Bool.{true≢false, eqb-false}
 use Rattle.std.proofs.lemmas.List.{length-take-le, nil_from_length}
 use Rattle.plp_config.specs.declared.config.Config.{Config}
@@ -9,14 +9,14 @@ use Rattle.plp_config.specs.declared.moment.TheConstants.{MOST_FRAMES}
 use Rattle.frame_groups.specs.Laws.{IsPrefix}
 use Rattle.frame_groups.specs.declared.waiting.Waiting.{Waiting}
 use Rattle.terms.proofs.OptionLemmas.{some_injective, none_some}
+use Rattle.modulator.proofs.WaitLemmas.{TellsNext, NextIs, next_told}
 use Rattle.file_run.specs.Events.{Event, Fed, Ended, Gave, fed, has_ended, gave}
 use Rattle.file_run.specs.Laws.{EventsTell}
 use Rattle.file_run.specs.Steps.{Suffices, FallsShort}
 use Rattle.file_run.specs.declared.machine.Step.TheVariants.{Give, End}
 use Rattle.modulator.specs.Laws.{DueFront, DueFollow}
-use Rattle.modulator.specs.StandsFor.{ModulatorStandsFor, WaitsAs, TakesOf, records_due, bytes_due, config_of, is_finished}
-use Rattle.modulator.specs.StandsFor.{fed_of, next_of, is_waiting, waits_for}
-use Rattle.modulator.specs.declared.modulator.Modulator.{Modulator}
+use Rattle.modulator.specs.StandsFor.{ModulatorStandsFor, TakesOf, records_due, bytes_due, config_of, is_finished}
+use Rattle.modulator.specs.StandsFor.{fed_of, next_of, waits_for}
 use Rattle.modulate_run.specs.GivenRecord.{added}
 use Rattle.modulate_run.specs.AsMachine.{step_of, IsNext, IsAll, Behind, Shown}
 use Rattle.modulate_run.specs.declared.machine.ModulatorMachine.{ModulatorMachine}
@@ -59,23 +59,6 @@ waits_early (Some v) e w h is =
 waits_early None e w h is = none_some w is
 
 -- ---- what a modulator tells of its next record
-
-abbrev pub TellsNext : Modulator → Option Waiting → Type 0
-TellsNext m o =
-    IfSome o (λ w. (is_waiting m ≡ true) × (w.frame ≡ next_of m) × ((bytes taken : List ℕ) → ModulatorStandsFor m bytes taken
-    → WaitsAs (config_of m) (is_finished m) bytes taken w))
-    × IfNone o
-    ((is_waiting m ≡ false) × ((bytes taken : List ℕ) → ModulatorStandsFor m bytes taken
-    → bytes_due (config_of m) (is_finished m) bytes ≡ taken))
-
-abbrev NextIs : Config → Bool → List ℕ → List ℕ → Option Waiting → Type 0
-NextIs c e bytes taken None = bytes_due c e bytes ≡ taken
-NextIs c e bytes taken (Some w) = WaitsAs c e bytes taken w
-
-next_told : (m : Modulator) (o : Option Waiting) (bytes taken : List ℕ) → TellsNext m o → ModulatorStandsFor m bytes taken
-    → NextIs (config_of m) (is_finished m) bytes taken o
-next_told m None bytes taken t s = t.1.1 bytes taken s
-next_told m (Some w) bytes taken t s = t.0.2 bytes taken s
 
 -- of a machine, by how far it has come
 next_of_machine : (m : ModulatorMachine) (bytes taken : List ℕ) → TellsNext m.modulator m.waiting

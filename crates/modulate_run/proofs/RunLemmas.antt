@@ -8,19 +8,19 @@ use Rattle.std.proofs.lemmas.List.Concat.{flat_map-append}
 use Rattle.std.proofs.lemmas.Option.{IfSome_then}
 use Rattle.terms.proofs.CaseLemmas.{bool_cases}
 use Rattle.terms.proofs.OptionLemmas.{if_both}
+use Rattle.modulator.proofs.WaitLemmas.{front_due}
 use Rattle.ports.specs.Desk.{State, bytes_of}
 use Rattle.plp_config.specs.declared.config.Config.{Config}
 use Rattle.plp_config.specs.declared.moment.TheConstants.{MOST_FRAMES}
-use Rattle.frame_groups.specs.Laws.{IsPrefix}
 use Rattle.frame_groups.specs.Modulated.{FrameRecord}
 use Rattle.frame_groups.specs.declared.waiting.Waiting.{Waiting}
 use Rattle.open_group.specs.Written.{spelled}
 use Rattle.modulator.specs.Laws.{DueFront}
-use Rattle.modulator.specs.StandsFor.{records_due, bytes_due, config_of, fed_of, next_of}
+use Rattle.modulator.specs.StandsFor.{records_due, bytes_due, config_of, fed_of, next_of, records_of}
 use Rattle.desk_io.specs.Reading.{longest_file}
 use Rattle.file_run.specs.Events.{Event, fed, has_ended, gave}
 use Rattle.file_run.specs.FileRun as driver
-use Rattle.file_run.specs.FileRun.{file_at, AreFed, IsFed, Works, OpensInputs, Writes, ReadsAll}
+use Rattle.file_run.specs.FileRun.{IsFed, OpensInputs, Writes, ReadsAll}
 use Rattle.file_run.specs.Laws.{EventsTell}
 use Rattle.file_run.specs.OneRun.{RunsOnce}
 use Rattle.file_run.specs.Steps.{Needs}
@@ -31,7 +31,7 @@ use Rattle.file_run.specs.declared.stop.RunStop.{RunStop}
 use Rattle.file_run.specs.declared.stop.RunStop.TheVariants.{Refused, Files, OutOfMemory}
 use Rattle.modulate_run.specs.AsMachine.{step_of, Behind, IsNext, IsAll, Becomes, ending_of}
 use Rattle.modulate_run.specs.Counted.{counted}
-use Rattle.modulate_run.specs.ModulateRun.{read_ahead, records_of, output_of, AreEarly, RunsAll, FindsNone, HasWritten}
+use Rattle.modulate_run.specs.ModulateRun.{read_ahead, output_of, AreEarly, RunsAll, FindsNone, HasWritten}
 use Rattle.modulate_run.specs.ModulateRun.{GivesTooMuch, HasEarly, MeetsLate, StopsReading, HasSome, StopsWriting, Stops}
 use Rattle.modulate_run.specs.declared.machine.ModulatorMachine.{ModulatorMachine}
 use Rattle.modulate_run.specs.declared.stop.Ran.{Ran}
@@ -41,14 +41,6 @@ use Rattle.modulate_run.proofs.MachineLemmas.{falls_short}
 use Rattle.file_run.proofs.OneInputLemmas.{writes_by, whole_file}
 
 -- ---- what is due
-
--- what was taken is a front of the file, and all of it if it ended; so what is due by it is a front of the records
-due_front : DueFront → (c : Config) (ended : Bool) (file bytes more : List ℕ) → file ≡ bytes ++ more → (ended ≡ true → more ≡ [])
-    → IsPrefix (records_due c ended bytes) (records_of c file)
-due_front law c false file bytes more is end = subst (λ (l : List ℕ). IsPrefix (records_due c false bytes) (records_of c l))
-    (sym is) (law c true bytes more)
-due_front law c true file bytes more is end =
-    ([], ap (records_of c) (is ∙ ap (λ (l : List ℕ). bytes ++ l) (end refl) ∙ append-nil bytes) ∙ sym (append-nil _))
 
 -- of some first records, each early, what was taken is a front
 record GivesEarly (c : Config) (ended : Bool) (bytes taken : List ℕ) : Type 0 where
@@ -193,7 +185,7 @@ meets_late law start now old new name out w is late r =
       place = slice_index s.places 0;
       short = (let n = s.works.all in r.short 0 (omega (arith, n)));
       works = writes_by (HasEarly c) s (λ file bytes f holds.
-          let front = due_front law c now.ended file (fed 0 s.events) f.more f.parts (λ e. f.end (sym s.came.1.end ∙ e)) in
+          let front = front_due law c now.ended file (fed 0 s.events) f.more f.parts (λ e. f.end (sym s.came.1.end ∙ e)) in
           record {
             before = a.before;
             next = a.next;
@@ -337,7 +329,7 @@ stops_writing tell law start now old new name out g =
           let f2 : IsFed file (slice_index s.places 0) (fed 0 (s.events ++ g.late)) (has_ended 0 (s.events ++ g.late)) =
           subst (λ (l : List ℕ). IsFed file (slice_index s.places 0) l (has_ended 0 (s.events ++ g.late))) (sym (late.fed 0))
           (subst (λ (b : Bool). IsFed file (slice_index s.places 0) (fed 0 s.events) b) (sym (late.ended 0)) f) in
-          let front = due_front law c now.ended file (fed 0 (s.events ++ g.late)) f2.more f2.parts
+          let front = front_due law c now.ended file (fed 0 (s.events ++ g.late)) f2.more f2.parts
           (λ e. f2.end (sym s.came.1.1.end ∙ e)) in
           let e = gives_early c now.ended (fed 0 (s.events ++ g.late)) (gave (s.events ++ g.late)) now.waiting now.ran
           s.came.1.1.behind (λ w is. let n = now.number w is in let m = now.early in omega (arith, n, m)) in

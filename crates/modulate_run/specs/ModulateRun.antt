@@ -8,7 +8,7 @@ use Rattle.plp_config.specs.declared.moment.TheConstants.{MOST_FRAMES}
 use Rattle.frame_groups.specs.Laws.{IsPrefix}
 use Rattle.frame_groups.specs.Modulated.{FrameRecord}
 use Rattle.open_group.specs.Written.{spelled}
-use Rattle.modulator.specs.StandsFor.{records_due, bytes_due}
+use Rattle.modulator.specs.StandsFor.{records_due, bytes_due, records_of}
 use Rattle.desk_io.specs.Faults.{ReadsFail, WritesFail}
 use Rattle.desk_io.specs.Reading.{longest_file}
 use Rattle.file_run.specs.FileRun.{OpensInputs, FailsToCreateOutput, Writes, ReadsAll}
@@ -24,10 +24,7 @@ use Rattle.modulate_run.specs.declared.stop.ModulateStop.TheVariants.{NoSuperfra
 abbrev pub read_ahead : ℕ
 read_ahead = 65536
 
--- the records of a stream, and their bytes
-abbrev pub records_of : Config → List ℕ → List FrameRecord
-records_of c bytes = records_due c true bytes
-
+-- the bytes of the records of a stream
 abbrev pub output_of : Config → List ℕ → List ℕ
 output_of c bytes = bytes_due c true bytes
 

@@ -8,3 +8,4 @@ pub mod JoinLemmas
 pub mod DueLemmas
 pub mod PlaceLemmas
 pub mod OneLemmas
+pub mod WaitLemmas

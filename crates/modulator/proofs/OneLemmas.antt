@@ -1,5 +1,5 @@
 -- Which record waits is told in one way.
-use Rattle.std.proofs.Common.{◌≡◌, ◌≢◌, ℕ, ◌+◌, ◌<◌, Bool, List, [], ◌∷◌, ◌++◌, length, refl, ap, sym, ◌∙◌, arith, length-append}
+use Rattle.std.proofs.Common.{◌≡◌, ◌≢◌, ℕ, ◌+◌, ◌<◌, Bool, List, [], ◌∷◌, ◌++◌, length, ap, sym, ◌∙◌, arith, length-append}
 use Rattle.std.specs.Prelude.{flat_map}
 use Rattle.std.proofs.lemmas.List.{append_cancel_left}
 use Rattle.std.proofs.lemmas.List.Concat.{flat_map-append}
@@ -7,7 +7,7 @@ use Rattle.plp_config.specs.declared.config.Config.{Config}
 use Rattle.frame_groups.specs.Modulated.{FrameRecord}
 use Rattle.frame_groups.specs.declared.waiting.Waiting.{Waiting}
 use Rattle.open_group.specs.Written.{spelled}
-use Rattle.modulator.specs.Laws.{SameWaits, OneWaits, NoneWaits, AllTaken}
+use Rattle.modulator.specs.Laws.{OneWaits, NoneWaits, AllTaken}
 use Rattle.modulator.specs.StandsFor.{WaitsAs, records_due, bytes_due}
 use Rattle.modulator.proofs.PlaceLemmas.{place, AllSome, place_within, none_left, same_cut}
 
@@ -15,7 +15,7 @@ use Rattle.modulator.proofs.PlaceLemmas.{place, AllSome, place_within, none_left
 some_bytes : (c : Config) → AllSome (spelled c)
 some_bytes c x = omega arith
 
-place_of : (c : Config) (finished : Bool) (bytes taken : List ℕ) (w : Waiting) (a : WaitsAs c finished bytes taken w)
+pub place_of : (c : Config) (finished : Bool) (bytes taken : List ℕ) (w : Waiting) (a : WaitsAs c finished bytes taken w)
     → place (spelled c) (records_due c finished bytes) (length taken) ≡ length a.before
 place_of c finished bytes taken w a =
     let size : length taken ≡ length (flat_map (spelled c) a.before) + length a.part =

@@ -1,5 +1,5 @@
 -- What a `Modulator` stands for.
-use Rattle.std.specs.Prelude.{◌≡◌, ℕ, ◌+◌, ◌*◌, ◌<◌, ◌≤◌, ◌==◌, Bool, false, List, ◌++◌, ◌∷◌, length, Option, Some, None, flat_map}
+use Rattle.std.specs.Prelude.{◌≡◌, ℕ, ◌+◌, ◌*◌, ◌<◌, ◌≤◌, ◌==◌, Bool, true, false, List, ◌++◌, ◌∷◌, length, Option, Some, None, flat_map}
 use Rattle.std.specs.Prelude.{if◌then◌else◌}
 use Rattle.plp_config.specs.declared.config.Config.{Config}
 use Rattle.t2mi_stream.specs.Units.{accepted_of}
@@ -20,7 +20,11 @@ use Rattle.modulator.specs.declared.modulator.Modulator.{Modulator}
 abbrev pub records_due : Config → Bool → List ℕ → List FrameRecord
 records_due c finished bytes = due (rules c) finished (packets_of (accepted_of c.pid bytes))
 
--- and their bytes
+-- those of a whole stream
+abbrev pub records_of : Config → List ℕ → List FrameRecord
+records_of c bytes = records_due c true bytes
+
+-- and the bytes of those that are due
 abbrev pub bytes_due : Config → Bool → List ℕ → List ℕ
 bytes_due c finished bytes = flat_map (spelled c) (records_due c finished bytes)
 

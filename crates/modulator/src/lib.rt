@@ -11,6 +11,3 @@ mod waiting;
 pub use laws::{due_records_law, one_waits_law};
 pub use modulator::Modulator;
 pub use waiting::is_of;
-
-#[cfg(test)]
-mod tests;

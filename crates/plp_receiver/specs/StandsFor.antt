@@ -7,7 +7,7 @@ use Rattle.site_frame.specs.declared.reading.RecordView.{RecordView}
 use Rattle.packet_slots.specs.Epochs.{Epoch}
 use Rattle.packet_slots.specs.StandsFor as slots
 use Rattle.packet_slots.specs.declared.slots.PacketSlots.{PacketSlots}
-use Rattle.plp_receiver.specs.Epochs.{slot_rule, TellAll}
+use Rattle.plp_receiver.specs.Epochs.{slot_rule, TellAll, Readback}
 use Rattle.plp_receiver.specs.Holds.{Holds, seen}
 use Rattle.plp_receiver.specs.declared.held.HeldBlocks.{HeldBlocks}
 use Rattle.plp_receiver.specs.declared.receiver.Receiver.{Receiver}
@@ -75,3 +75,8 @@ ReceiverStandsFor v first views released = Stands v.network v.plp v.slots v.held
 
 unfoldable pub IsFresh : Receiver → Type 0
 IsFresh v = Fresh v.network v.plp v.slots v.held
+
+-- There is a list of packets that the records give back, and of these so many are due.
+abbrev pub TellsDue : Receiver → Type 0
+TellsDue v = (first : ℕ) (views : List RecordView) (released : ℕ) → ReceiverStandsFor v first views released
+    → (packets : List (List ℕ)) × Readback (network_of v) (plp_of v) first views packets × (due_of v ≡ length packets - released)

@@ -11,8 +11,6 @@ mod readable;
 mod receiver;
 mod standing;
 mod taking;
-#[cfg(test)]
-mod tests;
 
 pub use laws::{alone_law, readback_law};
 pub use receiver::Receiver;

@@ -1,11 +1,12 @@
 -- What is lost of the narrow network, if frames 3 and 4 are muted.
-use Rattle.std.proofs.Common.{sym, inl, inr, ◌⊎◌, lit≤, ◌≡◌, ℕ, zero, suc, ◌+◌, ◌*◌, ◌<◌, ◌≤◌, Bool, true, false, List, [], ◌∷◌}
+use Rattle.std.proofs.Common.{inl, inr, ◌⊎◌, lit≤, ◌≡◌, ℕ, ◌+◌, ◌*◌, ◌<◌, ◌≤◌, Bool, true, false, List, [], ◌∷◌}
 use Rattle.std.proofs.Common.{length, refl, ap, ap₂, ◌∙◌, arith, lit<}
 use Rattle.std.specs.Prelude.{◌||◌, not, cond, nat_le, nat_lt, ◌&&◌}
 use Rattle.std.specs.List.{range_with_len, list_any}
 use Rattle.std.proofs.Math.Bool.{or-true}
 use Rattle.std.proofs.lemmas.Bool.{cases_lt}
 use Rattle.std.proofs.lemmas.Bool.Decides.{nat_tests}
+use Rattle.terms.proofs.ListLemmas.{none_in, one_in}
 use Rattle.plp_config.specs.Capacity.{block_bytes, field_bytes, up_bytes, capacity}
 use Rattle.plp_config.specs.SlotTime.{num, den, slot_count}
 use Rattle.ts_packet.specs.Null.{null_packet}
@@ -67,23 +68,6 @@ narrow_is : (k : ℕ) (touched : Bool) → k < 110 → touches narrow_rates.up_l
 narrow_is k touched lt e =
     ap (λ (t : Bool). given_back (narrow_keeps k) t (packet_at (data_packets 110) k)) (narrow_touched k (omega (arith, lt)) ∙ e)
     ∙ ap₂ (λ (b : Bool) (p : List ℕ). given_back b touched p) (data_kept true 110 k lt) (data_at 110 k lt)
-
--- whether one of the numbers from one on passes a test
-none_in : (test : ℕ → Bool) (from count : ℕ) → ((i : ℕ) → from ≤ i → i < from + count → test i ≡ false)
-    → list_any test (range_with_len from count) ≡ false
-none_in test from zero fails = refl
-none_in test from (suc count) fails =
-    rw (fails from (omega arith) (omega arith))
-    (none_in test (from + 1) count (λ i le lt. fails i (omega (arith, le)) (omega (arith, lt))))
-
-one_in : (test : ℕ → Bool) (from count i : ℕ) → from ≤ i → i < from + count → test i ≡ true
-    → list_any test (range_with_len from count) ≡ true
-one_in test from zero i le lt passes = absurd (omega (arith, le, lt))
-one_in test from (suc count) i le lt passes = elim (cases_lt from i) [
-  | inl more ↦ rw (one_in test (from + 1) count i (omega (arith, more)) (omega (arith, lt)) passes) (or-true (test from))
-  | inr less ↦ (let same : i ≡ from = omega (arith, le, less) in let here : test from ≡ true = ap test (sym same) ∙ passes in
-      rw here refl)
-]
 
 -- the bytes from a up to b
 abbrev inside : ℕ → ℕ → ℕ → Bool

@@ -3,7 +3,7 @@ use Rattle.std.proofs.Common.{◌≡◌, ◌⊎◌, ℕ, zero, suc, ◌+◌, ◌
 use Rattle.std.proofs.Common.{map, drop, get_or, Option, Some, None, refl, ap, ap₂, ◌∙◌, sym, subst, arith, inl, inr, cond}
 use Rattle.std.specs.List.{AllByRecursion, range_with_len, list_any, find, filter}
 use Rattle.std.proofs.lemmas.List.{take_all, take-append-le}
-use Rattle.std.proofs.lemmas.Bool.{both_ways, cases_eq, eq-eqb, eqb-true}
+use Rattle.std.proofs.lemmas.Bool.{both_ways, cases_eq, eq-eqb, eqb-true, or_parts}
 use Rattle.packet_slots.specs.Packets.{packet_of}
 use Rattle.packet_slots.specs.Packets.{UserPacket}
 use Rattle.mode_adapt.specs.UserPackets.{user_packet}
@@ -51,10 +51,6 @@ all_filter P p (x ∷ xs) h = go (p x) refl h (λ k. all_filter P p xs k)
 pub none_any : {X : Type 0} (test : X → Bool) (xs : List X) → AllByRecursion (λ x. test x ≡ false) xs → list_any test xs ≡ false
 none_any test [] h = refl
 none_any test (x ∷ xs) h = ap₂ (λ (a b : Bool). a || b) h.0 (none_any test xs h.1)
-
-or_parts : (a b : Bool) → (a || b) ≡ false → (a ≡ false) × (b ≡ false)
-or_parts true b e = absurd (both_ways _ e refl)
-or_parts false b e = (refl, e)
 
 pub any_none : {X : Type 0} (test : X → Bool) (xs : List X) → list_any test xs ≡ false → AllByRecursion (λ x. test x ≡ false) xs
 any_none test [] e = tt

@@ -40,12 +40,12 @@ use Rattle.recover_laws.proofs.TellLemmas as T
 
 -- ---- packets of an input
 
-small_run : (n i v : ℕ) → v < 256 → get_or (replicate n v) i 0 < 256
+pub small_run : (n i v : ℕ) → v < 256 → get_or (replicate n v) i 0 < 256
 small_run zero i v l = omega arith
 small_run (suc n) zero v l = l
 small_run (suc n) (suc i) v l = small_run n i v l
 
-null_is : IsPacket null_packet
+pub null_is : IsPacket null_packet
 null_is = record { size = refl; sync = refl; bytes = small }
   where
     small : (i : ℕ) → get_or null_packet i 0 < 256

@@ -16,4 +16,4 @@ mod LostLemmas
 mod TakenLemmas
 mod ReadableLemmas
 mod TellLemmas
-mod GivenLemmas
+pub mod GivenLemmas

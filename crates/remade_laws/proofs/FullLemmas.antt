@@ -1,6 +1,6 @@
 -- Frames as packets that are sent frame by frame, of which those of other frames are lost; and one more is lost of each frame that is
 -- not complete.
-use Rattle.std.proofs.Common.{◌≡◌, ◌≢◌, ℕ, zero, suc, ◌+◌, ◌-◌, ◌%◌, ◌<◌, ◌≤◌, ◌==◌, Bool, true, false, List, [], ◌∷◌, ◌++◌}
+use Rattle.std.proofs.Common.{◌≡◌, ◌≢◌, ℕ, zero, suc, ◌+◌, ◌-◌, ◌%◌, ◌<◌, ◌≤◌, ◌==◌, Bool, true, false, List, [], ◌∷◌, ◌++◌, cond}
 use Rattle.std.proofs.Common.{length, map, replicate, Option, Some, None, refl, ap, ap₂, sym, subst, ◌∙◌, ⊎_elim, arith}
 use Rattle.std.proofs.Common.{append-nil, length-append}
 use Rattle.std.specs.List.{filter, items_where_true}
@@ -19,15 +19,14 @@ use Rattle.remade_laws.specs.Coming.{frame_at as at, is_complete}
 
 -- ---- packets of frames
 
-pub packets_here : (n : ℕ) (s : Sent) (sent : List Sent) → s.frame ≡ n → frame_packets n (s ∷ sent) ≡ s.packet ∷ frame_packets n sent
-packets_here n s sent e =
+pub packets_step : (n : ℕ) (s : Sent) (sent : List Sent) (here : Bool) → (s.frame == n) ≡ here
+    → frame_packets n (s ∷ sent) ≡ cond here (s.packet ∷ frame_packets n sent) (frame_packets n sent)
+packets_step n s sent true e =
     let rest : List Sent = filter (λ (s : Sent). s.frame == n) sent in
-    ap packets_of (cond-true (s.frame == n) (s ∷ rest) rest (eq-eqb s.frame n e))
-
-pub packets_other : (n : ℕ) (s : Sent) (sent : List Sent) → s.frame ≢ n → frame_packets n (s ∷ sent) ≡ frame_packets n sent
-packets_other n s sent e =
+    ap packets_of (cond-true (s.frame == n) (s ∷ rest) rest e)
+packets_step n s sent false e =
     let rest : List Sent = filter (λ (s : Sent). s.frame == n) sent in
-    ap packets_of (cond-false (s.frame == n) (s ∷ rest) rest (ne_eqb s.frame n e))
+    ap packets_of (cond-false (s.frame == n) (s ∷ rest) rest e)
 
 -- ---- packets of bodies
 
@@ -49,10 +48,10 @@ length-sent c number (x ∷ xs) = let e = length-sent c (number + 1) xs in omega
 pub packets_append : (n : ℕ) (xs ys : List Sent) → frame_packets n (xs ++ ys) ≡ frame_packets n xs ++ frame_packets n ys
 packets_append n [] ys = refl
 packets_append n (x ∷ xs) ys = ⊎_elim
-    (λ (e : x.frame ≡ n). packets_here n x (xs ++ ys) e ∙ ap (λ (l : List Packet). x.packet ∷ l) (packets_append n xs ys)
-    ∙ ap (λ (l : List Packet). l ++ frame_packets n ys) (sym (packets_here n x xs e)))
-    (λ (e : x.frame ≡ n → ⊥). packets_other n x (xs ++ ys) e ∙ packets_append n xs ys
-    ∙ ap (λ (l : List Packet). l ++ frame_packets n ys) (sym (packets_other n x xs e)))
+    (λ (e : x.frame ≡ n). packets_step n x (xs ++ ys) true (eq-eqb x.frame n e) ∙ ap (λ (l : List Packet). x.packet ∷ l) (packets_append n xs ys)
+    ∙ ap (λ (l : List Packet). l ++ frame_packets n ys) (sym (packets_step n x xs true (eq-eqb x.frame n e))))
+    (λ (e : x.frame ≡ n → ⊥). packets_step n x (xs ++ ys) false (ne_eqb x.frame n e) ∙ packets_append n xs ys
+    ∙ ap (λ (l : List Packet). l ++ frame_packets n ys) (sym (packets_step n x xs false (ne_eqb x.frame n e))))
     (cases_eq x.frame n)
 
 -- those of one frame
@@ -60,13 +59,13 @@ pub own_here : (c : Config) (n number : ℕ) (bodies : List Body) → all_bodies
     ≡ bodies
 own_here c n number [] = refl
 own_here c n number (b ∷ bodies) =
-    ap all_bodies (packets_here n _ (sent_from c (number + 1) (pairs n bodies)) refl)
+    ap all_bodies (packets_step n _ (sent_from c (number + 1) (pairs n bodies)) true (eq-eqb _ n refl))
     ∙ ap (λ (l : List Body). b ∷ l) (own_here c n (number + 1) bodies)
 
 own_other : (c : Config) (n m number : ℕ) (bodies : List Body) → (m ≡ n → ⊥) → frame_packets n (sent_from c number (pairs m bodies))
     ≡ []
 own_other c n m number [] e = refl
-own_other c n m number (b ∷ bodies) e = packets_other n _ (sent_from c (number + 1) (pairs m bodies)) e
+own_other c n m number (b ∷ bodies) e = packets_step n _ (sent_from c (number + 1) (pairs m bodies)) false (ne_eqb _ n e)
     ∙ own_other c n m (number + 1) bodies e
 
 -- ---- the list: stand-ins for what is lost
@@ -219,21 +218,21 @@ module _ (c : Config) (all : List NumberedView) where
 
   stand_none : (n from k : ℕ) → (from + k ≤ n) → frame_packets n (stand_ins c from k) ≡ []
   stand_none n from zero b = refl
-  stand_none n from (suc k) b = packets_other n (stand_in c from) (stand_ins c (from + 1) k) (λ e. omega (arith, e, b))
+  stand_none n from (suc k) b = packets_step n (stand_in c from) (stand_ins c (from + 1) k) false (ne_eqb (stand_in c from).frame n (λ e. omega (arith, e, b)))
       ∙ stand_none n (from + 1) k (omega (arith, b))
 
   stand_before : (n from k : ℕ) → n < from → frame_packets n (stand_ins c from k) ≡ []
   stand_before n from zero l = refl
-  stand_before n from (suc k) l = packets_other n (stand_in c from) (stand_ins c (from + 1) k) (λ e. omega (arith, e, l))
+  stand_before n from (suc k) l = packets_step n (stand_in c from) (stand_ins c (from + 1) k) false (ne_eqb (stand_in c from).frame n (λ e. omega (arith, e, l)))
       ∙ stand_before n (from + 1) k (omega (arith, l))
 
   lost_other : (n m : ℕ) (t : Bool) → (m ≡ n → ⊥) → frame_packets n (lost_by c m t) ≡ []
   lost_other n m true e = refl
-  lost_other n m false e = packets_other n (stand_in c m) [] e
+  lost_other n m false e = packets_step n (stand_in c m) [] false (ne_eqb (stand_in c m).frame n e)
 
   lost_here : (n m : ℕ) (t : Bool) → m ≡ n → frame_packets n (lost_by c m t) ≡ packets_of (lost_by c m t)
   lost_here n m true e = refl
-  lost_here n m false e = packets_here n (stand_in c m) [] e
+  lost_here n m false e = packets_step n (stand_in c m) [] true (eq-eqb (stand_in c m).frame n e)
 
   abbrev bodies_of : NumberedView → List Body
   bodies_of f = view_bodies c f.number f.view

@@ -2,7 +2,7 @@
 use Rattle.std.proofs.Common.{◌≡◌, ◌≢◌, ℕ, zero, suc, ◌+◌, ◌-◌, ◌%◌, ◌<◌, ◌≤◌, ◌==◌, Bool, true, false, List, [], ◌∷◌, ◌++◌}
 use Rattle.std.proofs.Common.{length, Option, Some, None, refl, ap, sym, subst, ◌∙◌, ⊎_elim, arith}
 use Rattle.std.specs.List.{AllByRecursion}
-use Rattle.std.proofs.lemmas.Bool.{cases_eq, cases_lt, cond_both, eqb-true}
+use Rattle.std.proofs.lemmas.Bool.{cases_eq, cases_lt, cond_both, eqb-true, eq-eqb, ne_eqb}
 use Rattle.terms.proofs.AllLemmas.{all_append}
 use Rattle.plp_config.specs.declared.config.Config.{Config}
 use Rattle.t2mi_packet.specs.declared.packet.Body.{Body}
@@ -13,8 +13,8 @@ use Rattle.frame_laws.proofs.SentLemmas.{IsPlain, plain_plps, Earlier, NotLater,
 use Rattle.formed_frames.specs.Remade.{NumberedView, view_bodies, frame_pairs, remade_bodies, IsSpaced, AreSpacedFrom}
 use Rattle.formed_frames.proofs.MadeLemmas.{all_bodies, made_l1, made_bodies}
 use Rattle.remade_laws.specs.Coming.{end_after, is_complete}
-use Rattle.remade_laws.proofs.FullLemmas.{pairs, sent_append, stand_in, stand_ins, lost_by, lost, full, RisesFrom, own, own_here}
-use Rattle.remade_laws.proofs.FullLemmas.{packets_append, packets_here, packets_other}
+use Rattle.remade_laws.proofs.FullLemmas.{packets_step, pairs, sent_append, stand_in, stand_ins, lost_by, lost, full, RisesFrom, own, own_here}
+use Rattle.remade_laws.proofs.FullLemmas.{packets_append}
 
 -- The packets of a frame carry what a written frame has.
 pub record Made (c : Config) (f : NumberedView) : Type 0 where
@@ -157,10 +157,10 @@ stand_some : (c : Config) (n from k : ℕ) → from ≤ n → n < from + k → f
 stand_some c n from zero a b e = omega (arith, a, b)
 stand_some c n from (suc k) a b e = ⊎_elim
     (λ (s : from ≡ n).
-    let z = ap length (sym (packets_here n (stand_in c from) (stand_ins c (from + 1) k) s) ∙ e) in absurd (omega (arith, z)))
+    let z = ap length (sym (packets_step n (stand_in c from) (stand_ins c (from + 1) k) true (eq-eqb (stand_in c from).frame n s)) ∙ e) in absurd (omega (arith, z)))
     (λ (s : from ≡ n → ⊥).
     stand_some c n (from + 1) k (omega (arith, a, s)) (omega (arith, b))
-    (sym (packets_other n (stand_in c from) (stand_ins c (from + 1) k) s) ∙ e))
+    (sym (packets_step n (stand_in c from) (stand_ins c (from + 1) k) false (ne_eqb (stand_in c from).frame n s)) ∙ e))
     (cases_eq from n)
 
 pub some_full : (c : Config) (all : List NumberedView) (n : ℕ) (fs : List NumberedView) (from number : ℕ) → RisesFrom from fs

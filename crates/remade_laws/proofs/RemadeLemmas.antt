@@ -5,7 +5,7 @@ use Rattle.std.proofs.Common.{⊎_elim, arith, append-nil, length-append}
 use Rattle.std.specs.Prelude.{if◌then◌else◌, nat_le}
 use Rattle.std.specs.List.{filter, range_with_len, items_where_true, last_or, list_all, list_any, AllByRecursion}
 use Rattle.std.specs.Option.{option_map_or}
-use Rattle.std.proofs.lemmas.Bool.{cases_Bool, cases_lt, cond-true, cond-false, and_from, and_left, eq-eqb}
+use Rattle.std.proofs.lemmas.Bool.{cases_Bool, cases_lt, cond-true, cond-false, and_from, and_left, eq-eqb, or_parts}
 use Rattle.std.proofs.lemmas.Bool.{le-leb, true≢false}
 use Rattle.std.proofs.lemmas.List.{length-map}
 use Rattle.std.proofs.lemmas.List.FromFn.{length-range_with_len, get_or-range_with_len}
@@ -137,10 +137,6 @@ or_left t u e = ap (λ (b : Bool). b || u) e
 or_right : (t u : Bool) → (t || u) ≡ true → t ≡ false → u ≡ true
 or_right true u e n = absurd (true≢false n)
 or_right false u e n = e
-
-or_parts : (t u : Bool) → (t || u) ≡ false → (t ≡ false) × (u ≡ false)
-or_parts true u e = absurd (true≢false e)
-or_parts false u e = (refl, e)
 
 and_false : (t : Bool) → (t && false) ≡ false
 and_false true = refl

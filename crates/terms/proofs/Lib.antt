@@ -6,3 +6,4 @@ pub mod NatLemmas
 pub mod AllLemmas
 pub mod OptionLemmas
 pub mod DecisionLemmas
+pub mod ListLemmas

@@ -6,6 +6,7 @@ use Rattle.std.specs.List.{range_with_len}
 use Rattle.std.proofs.lemmas.List.{get_or-map, length-map}
 use Rattle.std.proofs.lemmas.List.FromFn.{length-map-range_with_len, get_or-map-range_with_len}
 use Rattle.std.specs.FinMap.{empty, insert, get}
+use Rattle.modulator.specs.StandsFor.{records_of}
 use Rattle.ports.proofs.WriteLemmas.{get_set, get_other}
 use Rattle.ports.specs.Desk.{State, Held, Files, file_of}
 use Rattle.ports.specs.MemoryDesk.{Memory, empty_memory, with_file}
@@ -19,7 +20,7 @@ use Rattle.gateway_core.specs.Packets.{front_packets}
 use Rattle.file_run.specs.FileRun.{Works, file_at}
 use Rattle.gateway_run.specs.GatewayRun.{RunsAll as GatewayRuns, frames_of, units_of, inputs_of}
 use Rattle.modulate_run.specs.Counted.{counted}
-use Rattle.modulate_run.specs.ModulateRun.{RunsAll as ModulatorRuns, output_of, records_of}
+use Rattle.modulate_run.specs.ModulateRun.{RunsAll as ModulatorRuns, output_of}
 use Rattle.modulate_run.specs.declared.stop.Ran.{Ran}
 use Rattle.receive_run.specs.ReceiveRun.{RunsAll as ReceiverRuns, HasAll}
 use Rattle.receive_run.specs.declared.stop.Ran.{Ran as Received}

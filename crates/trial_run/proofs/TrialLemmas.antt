@@ -1,5 +1,5 @@
 -- A trial, from its inputs to its lines.
-use Rattle.std.proofs.Common.{◌≡◌, ℕ, zero, suc, ◌+◌, ◌*◌, ◌<◌, ◌≤◌, ◌⊎◌, List, [], ◌∷◌, ◌++◌, length, map, refl, ap, sym, subst}
+use Rattle.std.proofs.Common.{◌≡◌, ℕ, suc, ◌+◌, ◌*◌, ◌<◌, ◌≤◌, ◌⊎◌, List, [], ◌∷◌, ◌++◌, length, map, refl, ap, sym, subst}
 use Rattle.std.proofs.Common.{◌∙◌, arith, inl, inr, append-nil, append_assoc, length-append, get_or-append-add, Vec, Global}
 use Rattle.std.specs.Prelude.{slice_index_or}
 use Rattle.std.specs.List.{concat, range_with_len}
@@ -7,10 +7,11 @@ use Rattle.std.proofs.lemmas.Bool.{cases_lt}
 use Rattle.std.proofs.lemmas.List.{get_or_append_left, length-map, map-append}
 use Rattle.std.proofs.lemmas.List.Folds.{concat-append}
 use Rattle.std.proofs.lemmas.List.FromFn.{map-range_with_len_more, length-map-range_with_len}
+use Rattle.modulator.specs.StandsFor.{records_of}
 use Rattle.plp_config.specs.Plps.{plp_at}
 use Rattle.plp_config.specs.declared.config.Config.{Config}
 use Rattle.modulate_run.specs.Counted.{counted}
-use Rattle.modulate_run.specs.ModulateRun.{records_of, output_of}
+use Rattle.modulate_run.specs.ModulateRun.{output_of}
 use Rattle.desk_io.specs.declared.line.TheConstants.{ROOM}
 use Rattle.trial_run.specs.Losses.{kept_from}
 use Rattle.trial_run.specs.Made.{IsModulated, IsMade, HasLines}

@@ -1,10 +1,11 @@
 -- What a trial makes on the way to its lines. No public clause cites this module.
 use Rattle.std.specs.Prelude.{◌≡◌, ℕ, ◌+◌, ◌*◌, ◌≤◌, ◌++◌, List, length, map}
 use Rattle.std.specs.List.{range_with_len}
+use Rattle.modulator.specs.StandsFor.{records_of}
 use Rattle.plp_config.specs.declared.config.Config.{Config}
 use Rattle.desk_io.specs.declared.line.TheConstants.{ROOM}
 use Rattle.modulate_run.specs.Counted.{counted}
-use Rattle.modulate_run.specs.ModulateRun.{records_of, output_of}
+use Rattle.modulate_run.specs.ModulateRun.{output_of}
 use Rattle.trial_run.specs.Stages.{IsSent}
 use Rattle.trial_run.specs.Trial.{stream_of, lossy_of, IsNetworkText, ArePlpLines}
 use Rattle.trial_run.specs.TrialInput.{input_of}

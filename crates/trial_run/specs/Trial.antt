@@ -6,13 +6,14 @@ use Rattle.std.specs.Fmt.{decimal}
 use Rattle.std.specs.Int.{w32, to_be_bytes}
 use Rattle.hex.specs.Hex.{encode_lower}
 use Rattle.terms.specs.Bits.{bits_of}
+use Rattle.modulator.specs.StandsFor.{records_of}
 use Rattle.bit_slice.specs.Crc.{crc32_of}
 use Rattle.plp_config.specs.Plps.{plp_at}
 use Rattle.plp_config.specs.declared.config.Config.{Config}
 use Rattle.ts_packet.specs.TsFile.{joined}
 use Rattle.gateway_run.specs.GatewayRun.{frames_of, units_of}
 use Rattle.modulate_run.specs.Counted.{counted}
-use Rattle.modulate_run.specs.ModulateRun.{records_of, output_of}
+use Rattle.modulate_run.specs.ModulateRun.{output_of}
 use Rattle.modulate_run.specs.declared.stop.Ran.{Ran}
 use Rattle.receive_run.specs.ReceiveRun.{HasAll}
 use Rattle.receive_run.specs.declared.stop.Ran.{Ran as Received}

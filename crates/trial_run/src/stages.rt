@@ -5,7 +5,8 @@ ghost use Rattle.std.specs.Prelude.{◌≡◌, ◌≢◌, ◌<◌, ℕ, List, []
 ghost use Rattle.ports.specs.Desk.{file_of};
 ghost use Rattle.gateway_run.specs.GatewayRun.{RunsAll as GatewayRuns};
 ghost use Rattle.modulate_run.specs.Counted.{counted};
-ghost use Rattle.modulate_run.specs.ModulateRun.{RunsAll as ModulatorRuns, output_of, records_of};
+ghost use Rattle.modulate_run.specs.ModulateRun.{RunsAll as ModulatorRuns, output_of};
+ghost use Rattle.modulator.specs.StandsFor.{records_of};
 ghost use Rattle.receive_run.specs.ReceiveRun.{RunsAll as ReceiverRuns};
 ghost use Rattle.trial_run.specs.Stages.{HasFile, HasInputs, AreFiles, IsSent, input_names};
 ghost use Rattle.trial_run.specs.Trial.{ComesOf};

@@ -3,3 +3,4 @@ pub mod SpellingLemmas
 pub mod LawLemmas
 pub mod WritingLemmas
 pub mod ToldLemmas
+pub mod JoinedLemmas

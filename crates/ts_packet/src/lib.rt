@@ -18,6 +18,3 @@ pub use packet::TsPacket;
 pub use sizes::{PAYLOAD, SIZE, SYNC};
 pub use view::{TsView, read};
 pub use writing::write_payload;
-
-#[cfg(test)]
-mod tests;
