@@ -104,7 +104,7 @@ all_below c ra rb n a b =
 
 -- ---- one number more
 
-all_push : (n : ℕ) (records xs : List FrameRecord) → AllBelow n records → AreOf n xs → AllBelow (n + 1) (records ++ xs)
+pub all_push : (n : ℕ) (records xs : List FrameRecord) → AllBelow n records → AreOf n xs → AllBelow (n + 1) (records ++ xs)
 all_push n [] [] h o = tt
 all_push n [] (x ∷ []) h o = (omega (arith, o), tt)
 all_push n [] (x ∷ y ∷ xs) h o = absurd o

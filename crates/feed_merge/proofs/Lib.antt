@@ -1,4 +1,4 @@
-mod RecordLemmas
+pub mod RecordLemmas
 mod MergerLemmas
-mod PickLemmas
+pub mod PickLemmas
 pub mod GrowLemmas

@@ -3,6 +3,7 @@ use Rattle.std.proofs.Common.{◌≡◌, ℕ, List, [], ◌∷◌, ◌++◌, Opt
 use Rattle.std.specs.List.{last_or}
 use Rattle.std.proofs.lemmas.Grind.{flat_map-append}
 use Rattle.std.proofs.Common.{append-nil}
+use Rattle.terms.proofs.ListLemmas.{last_is}
 use Rattle.plp_config.specs.declared.config.Config.{Config}
 use Rattle.t2mi_packet.specs.declared.packet.Body.{Body}
 use Rattle.site_frame.specs.declared.reading.RecordView.{RecordView}
@@ -19,11 +20,6 @@ use Rattle.feed_merge.specs.declared.record.RecordPlace.{RecordPlace}
 use Rattle.frame_writer.specs.declared.step.FrameStep.{FrameStep}
 use Rattle.formed_frames.specs.Remade.{NumberedView, frame_pairs, remade_bodies}
 use Rattle.feed_merge.specs.StandsFor.{left_in}
-
--- the last of some frames
-pub last_is : {X : Type 0} (o : Option X) (xs : List X) (x : X) → last_or o (xs ++ x ∷ []) ≡ Some x
-last_is o [] x = refl
-last_is o (y ∷ xs) x = last_is (Some y) xs x
 
 pub over_left : (c : Config) (p : RecordPlace) (view : RecordView) → IsOver p → left_of c p view ≡ []
 over_left c p (Frame moment pre post blocks cells) e =

@@ -35,7 +35,7 @@ range_below : (n a k : ℕ) → a + k ≤ n → AllByRecursion (λ j. j < n) (ra
 range_below n a zero l = tt
 range_below n a (suc k) l = (omega (arith, l), range_below n (a + 1) k (omega (arith, l)))
 
-numbers_below : (n end : ℕ) (first : Option ℕ) → end ≤ n → AllByRecursion (λ j. j < n) (numbers_from end first)
+pub numbers_below : (n end : ℕ) (first : Option ℕ) → end ≤ n → AllByRecursion (λ j. j < n) (numbers_from end first)
 numbers_below n end None l = tt
 numbers_below n end (Some first) l = ⊎_elim
     (λ (s : first < end). range_below n first (end - first) (omega (arith, l, s)))

@@ -1,39 +1,30 @@
--- The next block of a record.
-use Rattle.std.proofs.Common.{◌≡◌, ℕ, zero, suc, ◌+◌, ◌%◌, Bool, List, [], ◌∷◌, drop, Option, Some, None, refl, ap}
-use Rattle.std.proofs.Common.{subst, ◌∙◌, arith}
+-- A record that is written, and its next block.
+use Rattle.std.proofs.Common.{◌≡◌, ℕ, zero, suc, ◌+◌, ◌%◌, Bool, List, [], ◌∷◌, length, drop, Option, Some, None, refl, ap}
+use Rattle.std.proofs.Common.{subst, ◌∙◌, append-nil}
 use Rattle.std.specs.Prelude.{slice_get}
-use Rattle.std.specs.List.{AllByRecursion}
-use Rattle.std.proofs.lemmas.Option.{same_Some}
 use Rattle.terms.specs.Bits.{bits_of}
+use Rattle.terms.proofs.ListLemmas.{drop_some}
 use Rattle.bb_frame.specs.Scrambled.{scrambled}
 use Rattle.plp_config.specs.declared.config.Config.{Config}
 use Rattle.t2mi_packet.specs.T2miPacket.{written_bits}
 use Rattle.t2mi_packet.specs.declared.packet.Body.TheVariants.{Block as BlockBody}
+use Rattle.site_frame.specs.Laws.{WrittenIsRead}
 use Rattle.site_frame.specs.Record.{Block}
+use Rattle.site_frame.specs.Whole.{Spells, BeginsWith}
+use Rattle.site_frame.specs.declared.reading.RecordView.{RecordView}
 use Rattle.frame_writer.specs.FramePackets.{packet_with}
 use Rattle.frame_writer.specs.Whole.{IsWhole}
 use Rattle.frame_writer.specs.Builds.{Builds}
 use Rattle.formed_frames.specs.Remade.{intl_frame_start, record_bodies}
+
+pub begins_so : WrittenIsRead → (view : RecordView) (bytes : List ℕ) → Spells view bytes → BeginsWith bytes view (length bytes)
+begins_so law view bytes s = subst (λ (l : List ℕ). BeginsWith l view (length bytes)) (append-nil bytes) (law view bytes [] s)
 
 pub drop_none : {X : Type 0} (xs : List X) (k : ℕ) → slice_get xs k ≡ None → drop k xs ≡ []
 drop_none [] zero e = refl
 drop_none [] (suc k) e = refl
 drop_none (x ∷ xs) zero e = absurd (let z : Some x ≡ None = e in cc)
 drop_none (x ∷ xs) (suc k) e = drop_none xs k e
-
-pub drop_some : {X : Type 0} (xs : List X) (k : ℕ) (x : X) → slice_get xs k ≡ Some x → drop k xs ≡ x ∷ drop (k + 1) xs
-drop_some {X = X} [] zero x e = absurd (let z : ◌≡◌ {A = Option X} None (Some x) = e in cc)
-drop_some {X = X} [] (suc k) x e = absurd (let z : ◌≡◌ {A = Option X} None (Some x) = e in cc)
-drop_some {X = X} (y ∷ xs) zero x e = ap (λ (z : X). z ∷ xs) (same_Some y x e)
-drop_some {X = X} (y ∷ xs) (suc k) x e =
-    let next : suc (k + 1) ≡ suc k + 1 = omega arith in
-    drop_some xs k x e ∙ ap (λ (j : ℕ). x ∷ drop j (y ∷ xs)) next
-
-pub all_get : {X : Type 0} (P : X → Type 0) (xs : List X) (k : ℕ) (x : X) → AllByRecursion P xs → slice_get xs k ≡ Some x → P x
-all_get {X = X} P [] zero x h e = absurd (let z : ◌≡◌ {A = Option X} None (Some x) = e in cc)
-all_get {X = X} P [] (suc k) x h e = absurd (let z : ◌≡◌ {A = Option X} None (Some x) = e in cc)
-all_get P (y ∷ xs) zero x h e = subst P (same_Some y x e) h.0
-all_get P (y ∷ xs) (suc k) x h e = all_get P xs k x h.1 e
 
 -- the packet of the next block was built
 pub built_block : (c : Config) (n packet_count : ℕ) (before : Option ℕ) (blocks : List Block) (k : ℕ) (b : Block)

@@ -11,6 +11,3 @@ pub use laws::{grow_law, picks_law};
 pub use merger::Merger;
 pub use picking::pick;
 pub use seen::{Feed, Pick, Seen};
-
-#[cfg(test)]
-mod tests;

@@ -1,24 +1,15 @@
 -- What each call of a feed makes of what it stood for.
 use Rattle.std.proofs.Common.{◌≡◌, ◌⊎◌, ℕ, ◌+◌, ◌-◌, ◌^◌, ◌<◌, ◌≤◌, Bool, true, false, List, [], ◌∷◌, ◌++◌, length, take, drop}
 use Rattle.std.proofs.Common.{Option, Some, None, inl, inr, refl, ap, sym, subst, ◌∙◌, arith, length-append, append-nil, append_assoc}
-use Rattle.std.specs.Prelude.{IfSome, IfNone, nat_lt, flat_map}
+use Rattle.std.specs.Prelude.{nat_lt, flat_map}
 use Rattle.std.proofs.lemmas.Bool.{ltb-true, ltb-false, ne_eqb, eq-eqb, true≢false}
-use Rattle.std.proofs.lemmas.List.{
-  append_cancel_left,
-  take-append-le,
-  take-take,
-  length-take,
-  length-take-le,
-  length-drop,
-  drop-append-le,
-  drop-drop,
-  take-append-drop,
-}
+use Rattle.std.proofs.lemmas.List.{append_cancel_left, take-append-le, take-take, length-take, length-take-le, length-drop, drop-append-le, drop-drop, take-append-drop}
 use Rattle.std.proofs.Math.Seq.{take-append-add, drop-append-add}
 use borrow.Rule.Slice.PartMut.{put_mid, mid_of, post_of}
 use Rattle.std.proofs.lemmas.List.Concat.{flat_map-append}
 use Rattle.std.specs.List.{AllByRecursion}
 use Rattle.terms.proofs.CaseLemmas.{bool_cases}
+use Rattle.modulator.proofs.WaitLemmas.{TellsNext, NextIs, next_told}
 use Rattle.plp_config.specs.declared.config.Config.{Config}
 use Rattle.frame_groups.specs.Laws.{AreFrom, IsPrefix}
 use Rattle.frame_groups.specs.Modulated.{FrameRecord}
@@ -32,37 +23,19 @@ use Rattle.site_frame.specs.Whole.{Spells, kind_of, moment_of}
 use Rattle.site_frame.specs.declared.reading.RecordView.{RecordView}
 use Rattle.open_group.specs.Written.{content_view, spelled}
 use Rattle.modulator.specs.Laws.{DueFront, DueFollow, DueSpelled, AreSpelled, OneWaits, NoneWaits, AllTaken}
-use Rattle.modulator.specs.StandsFor.{ModulatorStandsFor, WaitsAs, TakesOf, records_due, bytes_due, is_finished, is_waiting, mute_of, waits_for}
+use Rattle.modulator.specs.StandsFor.{ModulatorStandsFor, WaitsAs, TakesOf, records_due, bytes_due, is_finished, mute_of, waits_for}
 use Rattle.modulator.specs.StandsFor as modulator
-use Rattle.modulator.specs.declared.modulator.Modulator.{Modulator}
 use Rattle.frame_feed.specs.StandsFor.{FrameFeedStandsFor, IsFirst, GaveNext, config_of, waiting_of, fed_of, left_of, longest_record}
 use Rattle.frame_feed.specs.Taking.{IsMidway, GoesOn, TakesPiece, IsTaking}
 use Rattle.frame_feed.specs.declared.feed.FrameFeed.{FrameFeed}
 
 -- ---- what a modulator tells of its next record
 
-abbrev pub Tells : Modulator → Option Waiting → Type 0
-Tells m o =
-    IfSome o (λ w. (is_waiting m ≡ true) × (w.frame ≡ modulator.next_of m) × ((bytes taken : List ℕ) → ModulatorStandsFor m bytes taken
-    → WaitsAs (modulator.config_of m) (is_finished m) bytes taken w))
-    × IfNone o
-    ((is_waiting m ≡ false) × ((bytes taken : List ℕ) → ModulatorStandsFor m bytes taken
-    → bytes_due (modulator.config_of m) (is_finished m) bytes ≡ taken))
-
-abbrev pub NextIs : Config → Bool → List ℕ → List ℕ → Option Waiting → Type 0
-NextIs c e bytes taken None = bytes_due c e bytes ≡ taken
-NextIs c e bytes taken (Some w) = WaitsAs c e bytes taken w
-
-told_by : (m : Modulator) (o : Option Waiting) (bytes taken : List ℕ) → Tells m o → ModulatorStandsFor m bytes taken
-    → NextIs (modulator.config_of m) (is_finished m) bytes taken o
-told_by m None bytes taken t s = t.1.1 bytes taken s
-told_by m (Some w) bytes taken t s = t.0.2 bytes taken s
-
 -- of a feed, that has ended or not
-told_of : (f : FrameFeed) (bytes taken : List ℕ) → Tells f.modulator f.waiting → ModulatorStandsFor f.modulator bytes taken
+told_of : (f : FrameFeed) (bytes taken : List ℕ) → TellsNext f.modulator f.waiting → ModulatorStandsFor f.modulator bytes taken
     → NextIs (config_of f) f.ended bytes taken f.waiting
 told_of f bytes taken t s =
-    subst (λ (e : Bool). NextIs (config_of f) e bytes taken f.waiting) (sym f.finished) (told_by f.modulator f.waiting bytes taken t s)
+    subst (λ (e : Bool). NextIs (config_of f) e bytes taken f.waiting) (sym f.finished) (next_told f.modulator f.waiting bytes taken t s)
 
 -- ---- what waits is the first of those that were not given
 
@@ -98,7 +71,7 @@ first_is one none taken c ended bytes given (x ∷ later) (Some w) all n =
 -- ---- it was opened
 
 pub opened : OneWaits → NoneWaits → AllTaken → (f : FrameFeed) → f.ended ≡ false → fed_of f ≡ 0
-    → ModulatorStandsFor f.modulator [] [] → Tells f.modulator f.waiting → FrameFeedStandsFor f [] false []
+    → ModulatorStandsFor f.modulator [] [] → TellsNext f.modulator f.waiting → FrameFeedStandsFor f [] false []
 opened one none taken f going count stands tells = record {
   stands = stands;
   count = count;
@@ -154,7 +127,7 @@ pub fed : DueFront → OneWaits → NoneWaits → AllTaken → (f g : FrameFeed)
     → ((bytes taken : List ℕ) → ModulatorStandsFor f.modulator bytes taken → ModulatorStandsFor g.modulator (bytes ++ take count piece) taken)
     → ((k : ℕ) → k < count → (bytes taken : List ℕ) → ModulatorStandsFor f.modulator bytes taken
     → bytes_due (config_of f) false (bytes ++ take k piece) ≡ taken)
-    → Tells g.modulator g.waiting → FrameFeedStandsFor f bytes false given → FrameFeedStandsFor g (bytes ++ take count piece) false given
+    → TellsNext g.modulator g.waiting → FrameFeedStandsFor f bytes false given → FrameFeedStandsFor g (bytes ++ take count piece) false given
 fed front one none taken f g bytes piece count given idle config going len few stands first tells s =
     let c : Config = config_of f in
     let more : List ℕ = take count piece in
@@ -188,7 +161,7 @@ fed front one none taken f g bytes piece count given idle config going len few s
 pub ended : DueFront → OneWaits → NoneWaits → AllTaken → (f g : FrameFeed) (bytes : List ℕ) (given : List FrameRecord)
     → f.waiting ≡ None → config_of g ≡ config_of f → g.ended ≡ true → fed_of g ≡ fed_of f
     → ((bytes taken : List ℕ) → ModulatorStandsFor f.modulator bytes taken → ModulatorStandsFor g.modulator bytes taken)
-    → Tells g.modulator g.waiting → FrameFeedStandsFor f bytes false given → FrameFeedStandsFor g bytes true given
+    → TellsNext g.modulator g.waiting → FrameFeedStandsFor f bytes false given → FrameFeedStandsFor g bytes true given
 ended front one none taken f g bytes given idle config over len stands tells s =
     let c : Config = config_of f in
     let all : records_due c false bytes ≡ given = all_given f bytes false given idle s in
@@ -276,7 +249,7 @@ module _ (follow : DueFollow) (one : OneWaits) (none : NoneWaits) (all_taken : A
     → IsPrefix (taken ++ piece) (bytes_due (config_of f) (is_finished f.modulator) bytes))
     (within : (bytes taken : List ℕ) → ModulatorStandsFor f.modulator bytes taken
     → TakesOf (config_of f) (is_finished f.modulator) bytes taken frame count)
-    (tells : Tells g.modulator g.waiting) (bytes : List ℕ) (ended : Bool) (given : List FrameRecord) (next : FrameRecord)
+    (tells : TellsNext g.modulator g.waiting) (bytes : List ℕ) (ended : Bool) (given : List FrameRecord) (next : FrameRecord)
     (part rest : List ℕ) (m : IsMidway f bytes ended given next part rest) where
   abbrev c : Config
   c = config_of f
@@ -508,3 +481,8 @@ pub left_less : (f g h : FrameFeed) (len : ℕ) → left_of h < left_of g → (l
     → left_of h < left_of f
 left_less f g h len l (inl was) = omega (arith, l, was)
 left_less f g h len l (inr (none, same)) = subst (λ (e : FrameFeed). left_of h < left_of e) same l
+
+-- what stands at the front of bytes that were written back
+pub written_back : (count len : ℕ) (out more : List ℕ) → count ≤ len → count ≤ length out
+    → take count (take len (out ++ more)) ≡ take count out
+written_back count len out more most few = take-take count len (out ++ more) most ∙ take-append-le count out more few

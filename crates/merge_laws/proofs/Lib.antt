@@ -1,3 +1,3 @@
 mod FeedLemmas
 mod JoinLemmas
-mod MergeLemmas
+pub mod MergeLemmas

@@ -29,7 +29,7 @@ use Rattle.merge_laws.proofs.FeedLemmas.{IsPick, from_feed, either_pick, picked_
 use Rattle.merge_laws.proofs.JoinLemmas.{BeginsAt, Begins, due_starts, feed_begins, either_begins}
 
 -- the number of the first frame
-abbrev first_number : List NumberedView → ℕ
+abbrev pub first_number : List NumberedView → ℕ
 first_number [] = 0
 first_number (f ∷ fs) = f.number
 
@@ -78,7 +78,7 @@ unfolding modulated groups
 none_come c = refl
 
 -- what comes of any frames that are such
-comes : RemadeComesBack → RemadeArrives → (c : Config) → IsPlan c → HasByteIds c → (frames : List NumberedView)
+pub comes : RemadeComesBack → RemadeArrives → (c : Config) → IsPlan c → HasByteIds c → (frames : List NumberedView)
     → AllByRecursion (IsWrittenFrame c) frames → Rise frames → AreSpaced c frames → first_number frames % c.frames ≡ 0
     → map (λ (x : FrameRecord). content_view c x.number x.content) (records_due c true (joined (pipe c.pid (remade_packets c frames))))
     ≡ must_come c frames

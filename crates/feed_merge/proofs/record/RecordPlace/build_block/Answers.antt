@@ -1,8 +1,9 @@
 use Rattle.std.proofs.Common.{◌≤◌, length, arith}
 use Rattle.std.proofs.lemmas.Option.{slice_get_within}
+use Rattle.terms.proofs.ListLemmas.{all_get}
 use Rattle.plp_config.specs.declared.plp.TheConstants.{MOST_BLOCK_BYTES}
 use Rattle.site_frame.specs.Reading.{block_of}
-use Rattle.feed_merge.proofs.RecordLemmas.{drop_none, all_get, built_block}
+use Rattle.feed_merge.proofs.RecordLemmas.{drop_none, built_block}
 use Rattle.feed_merge.proofs.record.RecordPlace.build_block.Goals as goal
 
 pub returns-in_default-clause-none : goal.returns-in_default-clause-none
