@@ -25,7 +25,7 @@ use Rattle.common_plp.specs.Groups.{is_common, common_of, group_of, own_places}
 use Rattle.common_plp.specs.Shared.{shared_packet, common_packet, own_packet, is_shared, joined_packet}
 use Rattle.common_plp.specs.Split.{slot_of, group_streams, split, joined}
 use Rattle.common_plp.specs.Laws.{InStep, SplitSlot, JoinedSlots}
-use Rattle.common_plp.proofs.LawLemmas.{has_common, own_member}
+use Rattle.common_plp.proofs.LawLemmas.{has_common, own_member, own_case}
 use Rattle.common_plp.proofs.MemberLemmas.{members_have}
 use Rattle.joined_receiver.specs.JoinedBack.{JoinedBackWith, JoinedBack}
 use Rattle.common_laws.specs.Laws.{CommonComesBack, comes_back}
@@ -40,10 +40,6 @@ null_is_null = canonical_null.0
 kept : (deletes : Bool) (nulls : ℕ → Bool) (k : ℕ) → nulls k ≡ false → is_kept deletes nulls k ≡ true
 kept true nulls k off = rw off refl
 kept false nulls k off = refl
-
-same_null : (b : Bool) → (if b then null_packet else null_packet) ≡ null_packet
-same_null true = refl
-same_null false = refl
 
 -- what is recovered of a slot
 some_back : (c : Config) (plp : ℕ) (at : ℕ → List ℕ) (lost : List ℕ) (k : ℕ) → is_null (at k) ≡ false
@@ -126,13 +122,6 @@ null_slot c common plp at mine lost gone k a b =
 
 -- ---- by whether a packet is shared
 
--- what goes in both PLPs in a slot
-own_case : (common some : Bool) (x y z : List ℕ) → common ≡ false → some ≡ true → (if common then x else if some then y else z) ≡ y
-own_case common some x y z off on = rw (off, on) refl
-
-first_case : (common : Bool) (x y : List ℕ) → common ≡ true → (if common then x else y) ≡ x
-first_case common x y on = rw on refl
-
 if_true : (b : Bool) (x y : List ℕ) → b ≡ true → (if b then x else y) ≡ x
 if_true b x y e = rw e refl
 
@@ -158,7 +147,7 @@ slot_comes law c inputs common plp muted first count k inside is =
     let lost : List ℕ = lost_frames c common muted first count in
     let gone : List ℕ = lost_frames c plp muted first count in
     let at : packet_at (split c inputs common) k ≡ common_packet slot =
-    law c inputs common k ∙ first_case (is_common c common) _ _ h.is
+    law c inputs common k ∙ if_true (is_common c common) _ _ h.is
     ∙ ap (λ (g : ℕ). common_packet (slot_of (group_streams c inputs g) k)) h.same in
     let mine : packet_at (split c inputs plp) k ≡ own_packet slot p =
     law c inputs plp k ∙ own_case (is_common c plp) (is_some (common_of c plp)) _ _ _ h.own (ap is_some is) in

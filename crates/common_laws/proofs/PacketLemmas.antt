@@ -1,11 +1,11 @@
 -- The streams into which inputs are split are packets.
-use Rattle.std.proofs.Common.{◌≡◌, ℕ, zero, suc, ◌<◌, Bool, true, false, List, [], ◌∷◌, length, map, Some, None, refl, subst, arith}
-use Rattle.std.proofs.Common.{replicate, get_or}
+use Rattle.std.proofs.Common.{◌≡◌, ℕ, zero, suc, ◌<◌, Bool, true, false, List, [], ◌∷◌, length, map, Some, None, refl, subst}
 use Rattle.std.specs.Prelude.{slice_get, is_some, unwrap_or, if◌then◌else◌}
 use Rattle.std.specs.declared.option.Option.{Option}
 use Rattle.std.specs.List.{AllByRecursion, range_with_len}
 use Rattle.terms.proofs.AllLemmas.{all_map}
 use Rattle.terms.proofs.OptionLemmas.{some_injective, none_some}
+use Rattle.recover_laws.proofs.GivenLemmas.{null_is}
 use Rattle.plp_config.specs.declared.config.Config.{Config}
 use Rattle.ts_packet.specs.Null.{null_packet}
 use Rattle.null_delete.specs.Deletion.{packet_at}
@@ -14,21 +14,6 @@ use Rattle.common_plp.specs.Shared.{shared_packet, common_packet, own_packet, is
 use Rattle.common_plp.specs.Split.{slot_of, longest, common_stream, own_stream, split}
 use Rattle.common_plp.proofs.MemberLemmas.{first_has}
 use Rattle.recover_laws.specs.ToldEpochs.{IsPacket}
-
-small_run : (n i v : ℕ) → v < 256 → get_or (replicate n v) i 0 < 256
-small_run zero i v l = omega arith
-small_run (suc n) zero v l = l
-small_run (suc n) (suc i) v l = small_run n i v l
-
-null_is : IsPacket null_packet
-null_is = record { size = refl; sync = refl; bytes = small }
-  where
-    small : (i : ℕ) → get_or null_packet i 0 < 256
-    small zero = omega arith
-    small (suc zero) = omega arith
-    small (suc (suc zero)) = omega arith
-    small (suc (suc (suc zero))) = omega arith
-    small (suc (suc (suc (suc i)))) = small_run 184 i 0xFF (omega arith)
 
 one_of : (packets : List (List ℕ)) (k : ℕ) (p : List ℕ) → AllByRecursion IsPacket packets → slice_get packets k ≡ Some p → IsPacket p
 one_of [] k p h e = none_some p e

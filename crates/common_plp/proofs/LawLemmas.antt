@@ -95,7 +95,7 @@ own_member c plp inside own =
     (rw (own, (Decides-eqb (group_of c plp) (group_of c plp)).1 refl) refl)
     (in_range 0 (length c.plps) plp (omega arith) (omega (arith, inside)))
 
-own_case : (common some : Bool) (x y z : List ℕ) → common ≡ false → some ≡ true
+pub own_case : (common some : Bool) (x y z : List ℕ) → common ≡ false → some ≡ true
     → (if common then x else if some then y else z) ≡ y
 own_case common some x y z off on = rw (off, on) refl
 

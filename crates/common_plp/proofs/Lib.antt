@@ -6,3 +6,5 @@ pub mod LawLemmas
 pub mod GroupLemmas
 pub mod JoinLemmas
 pub mod StepLemmas
+pub mod OwnLemmas
+pub mod InputLemmas

@@ -74,7 +74,7 @@ pub common_at : (streams : List (List (List ℕ))) (k : ℕ) → packet_at (comm
 common_at streams k =
     made_at (λ k. common_packet (slot_of streams k)) (longest streams) k (λ past. rw (none_shared streams k past) refl)
 
-same_null : (b : Bool) → (if b then null_packet else null_packet) ≡ null_packet
+pub same_null : (b : Bool) → (if b then null_packet else null_packet) ≡ null_packet
 same_null true = refl
 same_null false = refl
 

@@ -1,4 +1,7 @@
 pub mod Groups
+pub mod Inputs
+pub mod Places
+pub mod Sharing
 pub mod Shared
 pub mod Split
 pub mod StandsFor

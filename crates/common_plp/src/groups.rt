@@ -9,8 +9,8 @@ use plp_config::{Config, Plan, PlpType};
 use std::alloc::Global;
 use std::marker::Model;
 
-// Whether the PLP at a place is the common one of its group.
-fn is_common(config: &Config, place: usize) -> bool
+/// Whether the PLP at a place is the common one of its group.
+pub fn is_common(config: &Config, place: usize) -> bool
     requires { place < length config.now.plps }
     ensures { result ≡ is_common config.now place }
 {
@@ -45,8 +45,8 @@ fn common_in(config: &Config, group: u8) -> Option<usize>
     None
 }
 
-// The common PLP of the group of a PLP, if it has one and is not that one.
-fn common_of(config: &Config, plp: usize) -> Option<usize>
+/// The common PLP of the group of a PLP, if it has one and is not that one.
+pub fn common_of(config: &Config, plp: usize) -> Option<usize>
     requires { plp < length config.now.plps }
     ensures { result ≡ common_of config.now plp }
 {

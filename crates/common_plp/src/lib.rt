@@ -4,12 +4,11 @@
 mod groups;
 mod joining;
 mod laws;
+mod places;
 mod splitter;
 
-pub use groups::Groups;
+pub use groups::{Groups, common_of, is_common};
 pub use joining::join;
 pub use laws::{groups_law, join_law, split_law};
+pub use places::{commons, own_place_of};
 pub use splitter::Splitter;
-
-#[cfg(test)]
-mod tests;

@@ -1,5 +1,6 @@
 -- What is due of a PLP and of the common one of its group.
 use Rattle.std.proofs.Common.{◌≡◌, ℕ, ◌-◌, ◌<◌, max, List, length, Option, Some, None, refl, ap, sym, subst, ◌∙◌, arith}
+use Rattle.plp_receiver.specs.StandsFor.{TellsDue}
 use Rattle.plp_config.specs.Rules.{AllRules}
 use Rattle.plp_config.specs.declared.config.Config.{Config}
 use Rattle.site_frame.specs.declared.reading.RecordView.{RecordView}
@@ -9,9 +10,9 @@ use Rattle.plp_receiver.specs.declared.receiver.Receiver.{Receiver}
 use Rattle.common_plp.specs.Laws as common
 use Rattle.common_plp.specs.Laws.{JoinedSlots}
 use Rattle.common_plp.specs.Split.{joined}
-use Rattle.joined_receiver.specs.Both.{KeepsStep, InStep, TellsDue, CommonTellsDue}
-use Rattle.joined_receiver.specs.JoinedBack.{JoinsReadbacks, JoinedBackWith, JoinedBack}
-use Rattle.joined_receiver.specs.StandsFor.{CommonStandsFor, common_due}
+use Rattle.joined_receiver.specs.Both.{KeepsStep, InStep, CommonTellsDue}
+use Rattle.joined_receiver.specs.JoinedBack.{JoinsReadbacks, JoinedBackWith}
+use Rattle.joined_receiver.specs.StandsFor.{CommonStandsFor, common_at, common_due}
 use Rattle.joined_receiver.proofs.LengthLemmas.{same_length}
 
 -- what the other receiver tells, in the words of this one's network
@@ -40,19 +41,14 @@ told_in : common.InStep → JoinedSlots → (own : Receiver) (other : Option Rec
     → one.plp_of own < length (one.network_of own).plps → InStep own other → TellsDue own → CommonTellsDue other
     → (first : ℕ) (views : List RecordView) (released : ℕ) → one.ReceiverStandsFor own first views released
     → CommonStandsFor other first views released
-    → (packets : List (List ℕ)) × JoinedBack (one.network_of own) (one.plp_of own) first views packets
+    → (packets : List (List ℕ)) × JoinedBackWith (common_at other) (one.network_of own) (one.plp_of own) first views packets
     × (max (one.due_of own) (common_due other) ≡ length packets - released)
-unfolding JoinedBack
-told_in law slots own None rules inside step due other first views released s t =
-    let a = due first views released s in (
-      a.0,
-      subst (λ (o : Option ℕ). JoinedBackWith o (one.network_of own) (one.plp_of own) first views a.0) (sym (step.alone refl)) a.1,
-      (let d = a.2 in omega (arith, d)),
-    )
-told_in law slots own (Some v) rules inside step due other first views released s t =
+told_in law slots own None rules inside step due tells first views released s t =
+    let a = due first views released s in (a.0, a.1, (let d = a.2 in omega (arith, d)))
+told_in law slots own (Some v) rules inside step due tells first views released s t =
     let a = due first views released s in
     let k = step.both v refl in
-    let b = common_told own v k other first views released t in
+    let b = common_told own v k tells first views released t in
     let same = same_length law (one.network_of own) (one.plp_of own) (one.plp_of v) rules inside k.place first views b.0 a.0
     b.1 a.1 in
     let both : JoinsReadbacks (one.network_of own) (one.plp_of v) (one.plp_of own) first views (joined b.0 a.0) = record {
@@ -64,8 +60,7 @@ told_in law slots own (Some v) rules inside step due other first views released 
       packets_are = refl;
     } in (
       joined b.0 a.0,
-      subst (λ (o : Option ℕ). JoinedBackWith o (one.network_of own) (one.plp_of own) first views (joined b.0 a.0))
-          (sym k.place) both,
+      both,
       (let d = a.2 in let e = b.2 in let n = slots.count b.0 a.0 in omega (arith, d, e, n, same)),
     )
 
@@ -73,7 +68,7 @@ pub told_with : common.InStep → JoinedSlots → (own : Receiver) (other : Opti
     → one.plp_of own < length c.plps → InStep own other → TellsDue own → CommonTellsDue other
     → (first : ℕ) (views : List RecordView) (released : ℕ) → one.ReceiverStandsFor own first views released
     → CommonStandsFor other first views released
-    → (packets : List (List ℕ)) × JoinedBack (one.network_of own) (one.plp_of own) first views packets
+    → (packets : List (List ℕ)) × JoinedBackWith (common_at other) (one.network_of own) (one.plp_of own) first views packets
     × (max (one.due_of own) (common_due other) ≡ length packets - released)
 told_with law slots own other c same rules inside =
     told_in law slots own other (subst AllRules (sym same) rules) (subst (λ (d : Config). one.plp_of own < length d.plps) (sym same) inside)

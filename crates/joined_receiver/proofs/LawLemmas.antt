@@ -4,11 +4,10 @@ use Rattle.plp_config.specs.Capacity.{IsPlan}
 use Rattle.plp_config.specs.declared.config.Config.{Config}
 use Rattle.site_frame.specs.declared.reading.RecordView.{RecordView}
 use Rattle.plp_receiver.specs.Laws.{ReadbackOnce, ReadbackFront}
-use Rattle.common_plp.specs.Groups.{common_of}
 use Rattle.common_plp.specs.Laws.{JoinedSlots}
 use Rattle.common_plp.specs.Split.{joined}
 use Rattle.common_plp.proofs.LawLemmas.{has_common}
-use Rattle.joined_receiver.specs.JoinedBack.{JoinedBackWith, JoinedBack}
+use Rattle.joined_receiver.specs.JoinedBack.{JoinedBackWith}
 use Rattle.joined_receiver.specs.Laws.{JoinedOnce, JoinedFront}
 
 once_with : ReadbackOnce → (o : Option ℕ) (c : Config) (plp first : ℕ) (views : List RecordView) (packets other : List (List ℕ))
@@ -21,25 +20,16 @@ once_with once (Some common) c plp first views packets other a b =
     ∙ sym b.packets_are
 
 pub joined_once : ReadbackOnce → JoinedOnce
-unfolding JoinedBack
-joined_once once c plp first views packets other a b = once_with once (common_of c plp) c plp first views packets other a b
+joined_once once joins c plp first views packets other a b = once_with once joins c plp first views packets other a b
 
-front_with : ReadbackFront → JoinedSlots → (o : Option ℕ) (c : Config) (plp first : ℕ) (views more : List RecordView)
-    (packets all : List (List ℕ)) → IsPlan c → plp < length c.plps → ((common : ℕ) → o ≡ Some common → common < length c.plps)
-    → JoinedBackWith o c plp first views packets → JoinedBackWith o c plp first (views ++ more) all
-    → (others : List (List ℕ)) × (all ≡ packets ++ others)
-front_with front slots None c plp first views more packets all plan inside within a b =
+pub joined_front : ReadbackFront → JoinedSlots → JoinedFront
+joined_front front slots None c plp first views more packets all plan inside may a b =
     front c plp first views more packets all plan inside a b
-front_with front slots (Some common) c plp first views more packets all plan inside within a b =
-    let shared = front c common first views more a.shared b.shared plan (within common refl) a.back_shared b.back_shared in
+joined_front front slots (Some common) c plp first views more packets all plan inside may a b =
+    let within = (has_common c plp common (may common refl)).inside in
+    let shared = front c common first views more a.shared b.shared plan within a.back_shared b.back_shared in
     let own = front c plp first views more a.own b.own plan inside a.back_own b.back_own in (
       joined shared.0 own.0,
       b.packets_are ∙ ap₂ joined shared.1 own.1 ∙ slots.more a.shared a.own shared.0 own.0 a.same_slots
           ∙ ap (λ (l : List (List ℕ)). l ++ joined shared.0 own.0) (sym a.packets_are),
     )
-
-pub joined_front : ReadbackFront → JoinedSlots → JoinedFront
-unfolding JoinedBack
-joined_front front slots c plp first views more packets all plan inside a b =
-    front_with front slots (common_of c plp) c plp first views more packets all plan inside
-    (λ common is. (has_common c plp common is).inside) a b

@@ -3,6 +3,7 @@ use Rattle.std.proofs.Common.{◌≡◌, ℕ, ◌+◌, ◌<◌, max, Bool, List,
 use Rattle.std.specs.Prelude.{slice_get, if◌then◌else◌}
 use Rattle.std.proofs.lemmas.Bool.{lt-ltb}
 use Rattle.std.proofs.lemmas.Option.{slice_get_within, get_or_from_slice_get}
+use Rattle.plp_receiver.specs.StandsFor.{TellsDue}
 use Rattle.plp_config.specs.Rules.{AllRules}
 use Rattle.plp_config.specs.declared.config.Config.{Config}
 use Rattle.site_frame.specs.declared.reading.RecordView.{RecordView}
@@ -10,14 +11,13 @@ use Rattle.ts_packet.specs.Null.{null_packet}
 use Rattle.plp_receiver.specs.Epochs.{Readback}
 use Rattle.plp_receiver.specs.StandsFor as one
 use Rattle.plp_receiver.specs.declared.receiver.Receiver.{Receiver}
-use Rattle.common_plp.specs.Groups.{common_of}
 use Rattle.common_plp.specs.Laws as common
 use Rattle.common_plp.specs.Laws.{JoinedSlots}
 use Rattle.common_plp.specs.Shared.{joined_packet}
 use Rattle.common_plp.specs.Split.{joined}
-use Rattle.joined_receiver.specs.Both.{InStep, TellsDue, CommonTellsDue, Gives, GivesJoined}
-use Rattle.joined_receiver.specs.JoinedBack.{JoinedBackWith, JoinedBack}
-use Rattle.joined_receiver.specs.StandsFor.{CommonStandsFor, common_due}
+use Rattle.joined_receiver.specs.Both.{InStep, CommonTellsDue, Gives, GivesJoined}
+use Rattle.joined_receiver.specs.JoinedBack.{JoinedBackWith}
+use Rattle.joined_receiver.specs.StandsFor.{CommonStandsFor, common_at, common_due}
 use Rattle.joined_receiver.proofs.DueLemmas.{equal_due}
 
 -- one more was given out, if one was due
@@ -52,45 +52,27 @@ joined_here slots shared own k p q a b =
     ∙ ap₂ (λ (x y : List ℕ). Some (joined_packet x y)) (get_or_from_slice_get shared k p null_packet a)
     (get_or_from_slice_get own k q null_packet b)
 
-answer_with : common.InStep → JoinedSlots → (own own_new : Receiver) (other other_new : Option Receiver) (packet out : List ℕ)
-    → AllRules (one.network_of own)
-    → one.plp_of own < length (one.network_of own).plps → InStep own other → TellsDue own → CommonTellsDue other
-    → 0 < max (one.due_of own) (common_due other) → Gives packet own own_new → GivesJoined other other_new packet out
-    → (first : ℕ) (views : List RecordView) (released : ℕ) (packets : List (List ℕ)) → one.ReceiverStandsFor own first views released
-    → CommonStandsFor other first views released
-    → (o : Option ℕ) → common_of (one.network_of own) (one.plp_of own) ≡ o
-    → JoinedBackWith o (one.network_of own) (one.plp_of own) first views packets → slice_get packets released ≡ Some out
-answer_with law slots own own_new None None packet out rules inside step due tells some g h first views released packets s t o is b =
-    let back : Readback (one.network_of own) (one.plp_of own) first views packets =
-    subst (λ (x : Option ℕ). JoinedBackWith x (one.network_of own) (one.plp_of own) first views packets) (sym is ∙ step.alone refl) b in
-    g.answer (omega (arith, some)) first views released packets s back ∙ ap (λ (p : List ℕ). Some p) (sym h)
-answer_with law slots own own_new None (Some w) packet out rules inside step due tells some g h first views released packets s t o
-    is b = absurd h
-answer_with law slots own own_new (Some v) None packet out rules inside step due tells some g h first views released packets s t o
-    is b = absurd h
-answer_with law slots own own_new (Some v) (Some w) packet out rules inside step due tells some g h first views released packets s t
-    o is b =
-    let c : Config = one.network_of own in
-    let both = subst (λ (x : Option ℕ). JoinedBackWith x c (one.plp_of own) first views packets) (sym is ∙ (step.both v refl).place) b in
-    let same = equal_due law own v rules inside (step.both v refl) due tells first views released s t in
-    let shared = h.1.answer (omega (arith, some, same)) first views released both.shared t
-    (subst (λ (d : Config). Readback d (one.plp_of v) first views both.shared) (sym (step.both v refl).network) both.back_shared) in
-    let mine = g.answer (omega (arith, some, same)) first views released both.own s both.back_own in
-    ap (λ (l : List (List ℕ)). slice_get l released) both.packets_are
-    ∙ joined_here slots both.shared both.own released h.0 packet shared mine
-    ∙ ap (λ (p : List ℕ). Some p) (sym h.2)
-
 answer_in : common.InStep → JoinedSlots → (own own_new : Receiver) (other other_new : Option Receiver) (packet out : List ℕ)
     → AllRules (one.network_of own)
     → one.plp_of own < length (one.network_of own).plps → InStep own other → TellsDue own → CommonTellsDue other
     → 0 < max (one.due_of own) (common_due other) → Gives packet own own_new → GivesJoined other other_new packet out
     → (first : ℕ) (views : List RecordView) (released : ℕ) (packets : List (List ℕ)) → one.ReceiverStandsFor own first views released
     → CommonStandsFor other first views released
-    → JoinedBack (one.network_of own) (one.plp_of own) first views packets → slice_get packets released ≡ Some out
-unfolding JoinedBack
-answer_in law slots own own_new other other_new packet out rules inside step due tells some g h first views released packets s t b =
-    answer_with law slots own own_new other other_new packet out rules inside step due tells some g h first views released packets
-    s t (common_of (one.network_of own) (one.plp_of own)) refl b
+    → JoinedBackWith (common_at other) (one.network_of own) (one.plp_of own) first views packets → slice_get packets released ≡ Some out
+answer_in law slots own own_new None None packet out rules inside step due tells some g h first views released packets s t b =
+    g.answer (omega (arith, some)) first views released packets s b ∙ ap (λ (p : List ℕ). Some p) (sym h)
+answer_in law slots own own_new None (Some w) packet out rules inside step due tells some g h first views released packets s t b =
+    absurd h
+answer_in law slots own own_new (Some v) None packet out rules inside step due tells some g h first views released packets s t b =
+    absurd h
+answer_in law slots own own_new (Some v) (Some w) packet out rules inside step due tells some g h first views released packets s t b =
+    let same = equal_due law own v rules inside (step.both v refl) due tells first views released s t in
+    let shared = h.1.answer (omega (arith, some, same)) first views released b.shared t
+    (subst (λ (d : Config). Readback d (one.plp_of v) first views b.shared) (sym (step.both v refl).network) b.back_shared) in
+    let mine = g.answer (omega (arith, some, same)) first views released b.own s b.back_own in
+    ap (λ (l : List (List ℕ)). slice_get l released) b.packets_are
+    ∙ joined_here slots b.shared b.own released h.0 packet shared mine
+    ∙ ap (λ (p : List ℕ). Some p) (sym h.2)
 
 -- ---- of a plan whose network it is
 
@@ -110,7 +92,7 @@ pub answer_is : common.InStep → JoinedSlots → (own own_new : Receiver) (othe
     → 0 < max (one.due_of own) (common_due other) → Gives packet own own_new → GivesJoined other other_new packet out
     → (first : ℕ) (views : List RecordView) (released : ℕ) (packets : List (List ℕ)) → one.ReceiverStandsFor own first views released
     → CommonStandsFor other first views released
-    → JoinedBack (one.network_of own) (one.plp_of own) first views packets → slice_get packets released ≡ Some out
+    → JoinedBackWith (common_at other) (one.network_of own) (one.plp_of own) first views packets → slice_get packets released ≡ Some out
 answer_is law slots own own_new other other_new packet out c same rules inside =
     answer_in law slots own own_new other other_new packet out (subst AllRules (sym same) rules)
     (subst (λ (d : Config). one.plp_of own < length d.plps) (sym same) inside)

@@ -9,8 +9,10 @@ use Rattle.plp_receiver.specs.StandsFor as one
 use Rattle.plp_receiver.specs.StandsFor.{Status}
 use Rattle.plp_receiver.specs.declared.receiver.Receiver.{Receiver}
 use Rattle.common_plp.specs.Groups.{common_of}
+use Rattle.common_plp.specs.Laws.{GroupingTold}
 use Rattle.joined_receiver.specs.Both.{KeepsStep, InStep, OnBoth, Begins, Takes, GivesJoined, CommonIs}
-use Rattle.joined_receiver.specs.StandsFor.{CommonStandsFor, CommonIsFresh, common_due}
+use Rattle.joined_receiver.specs.JoinedBack.{MayJoin}
+use Rattle.joined_receiver.specs.StandsFor.{CommonStandsFor, CommonIsFresh, common_at, common_due}
 
 -- the same by other names
 common_as : (c d : Config) (p q : ℕ) (o : Option ℕ) → c ≡ d → p ≡ q → common_of d q ≡ o → common_of c p ≡ o
@@ -37,19 +39,10 @@ still own own_new v w k net plp other_net other_plp frame = record {
 
 -- it is there, or not
 with_one : (own : Receiver) (v : Receiver) → KeepsStep own v → InStep own (Some v)
-with_one own v k = record {
-  alone = λ e. absurd (let f : Some v ≡ None = e in cc);
-  both = λ w e. subst (KeepsStep own) (some_injective v w e) k;
-}
+with_one own v k = record { both = λ w e. subst (KeepsStep own) (some_injective v w e) k }
 
-with_none : (own : Receiver) → common_of (one.network_of own) (one.plp_of own) ≡ None → InStep own None
-with_none own none = record { alone = λ e. none; both = λ w e. none_some w e }
-
-lone : (own own_new : Receiver) → InStep own None → one.network_of own_new ≡ one.network_of own
-    → one.plp_of own_new ≡ one.plp_of own → InStep own_new None
-lone own own_new step net plp =
-    with_none own_new (common_as (one.network_of own_new) (one.network_of own) (one.plp_of own_new) (one.plp_of own) None net plp
-    (step.alone refl))
+with_none : (own : Receiver) → InStep own None
+with_none own = record { both = λ w e. none_some w e }
 
 -- of a status
 network_by : (a b : Status) → a ≡ b → a.network ≡ b.network
@@ -67,7 +60,7 @@ due_by a b e = ap (λ (s : Status). s.due) e
 pub begun_step : (own own_new : Receiver) (other other_new : Option Receiver) (first : ℕ) → InStep own other
     → one.status_of own_new ≡ record (one.status_of own) { frame = first; due = 0 } → OnBoth (Begins first) other other_new
     → InStep own_new other_new
-begun_step own own_new None None first step status b = lone own own_new step (network_by _ _ status) (plp_by _ _ status)
+begun_step own own_new None None first step status b = with_none own_new
 begun_step own own_new None (Some w) first step status b = absurd b
 begun_step own own_new (Some v) None first step status b = absurd b
 begun_step own own_new (Some v) (Some w) first step status b =
@@ -77,7 +70,7 @@ begun_step own own_new (Some v) (Some w) first step status b =
 pub taken_step : (own own_new : Receiver) (other other_new : Option Receiver) (view : RecordView) (due : ℕ) → InStep own other
     → one.status_of own_new ≡ record (one.status_of own) { frame = one.frame_of own + 1; due = due } → OnBoth (Takes view) other other_new
     → InStep own_new other_new
-taken_step own own_new None None view due step status b = lone own own_new step (network_by _ _ status) (plp_by _ _ status)
+taken_step own own_new None None view due step status b = with_none own_new
 taken_step own own_new None (Some w) view due step status b = absurd b
 taken_step own own_new (Some v) None view due step status b = absurd b
 taken_step own own_new (Some v) (Some w) view due step status b =
@@ -87,7 +80,7 @@ taken_step own own_new (Some v) (Some w) view due step status b =
 pub given_step : (own own_new : Receiver) (other other_new : Option Receiver) (packet out : List ℕ) (due : ℕ) → InStep own other
     → one.status_of own_new ≡ record (one.status_of own) { due = due } → GivesJoined other other_new packet out
     → InStep own_new other_new
-given_step own own_new None None packet out due step status b = lone own own_new step (network_by _ _ status) (plp_by _ _ status)
+given_step own own_new None None packet out due step status b = with_none own_new
 given_step own own_new None (Some w) packet out due step status b = absurd b
 given_step own own_new (Some v) None packet out due step status b = absurd b
 given_step own own_new (Some v) (Some w) packet out due step status b =
@@ -133,27 +126,65 @@ pub common_small : (own : Receiver) (other : Option Receiver) → InStep own oth
 common_small own None step small = tt
 common_small own (Some v) step small = (let e = (step.both v refl).frame in omega (arith, e, small))
 
+-- ---- of which PLP it is
+
+pub begun_at : (other other_new : Option Receiver) (first : ℕ) → OnBoth (Begins first) other other_new → common_at other_new
+    ≡ common_at other
+begun_at None None first b = refl
+begun_at None (Some w) first b = absurd b
+begun_at (Some v) None first b = absurd b
+begun_at (Some v) (Some w) first b = ap (λ (n : ℕ). Some n) (plp_by _ _ b.status)
+
+pub taken_at : (other other_new : Option Receiver) (view : RecordView) → OnBoth (Takes view) other other_new → common_at other_new
+    ≡ common_at other
+taken_at None None view b = refl
+taken_at None (Some w) view b = absurd b
+taken_at (Some v) None view b = absurd b
+taken_at (Some v) (Some w) view b = ap (λ (n : ℕ). Some n) (plp_by _ _ b.status)
+
+pub given_at : (other other_new : Option Receiver) (packet out : List ℕ) → GivesJoined other other_new packet out
+    → common_at other_new ≡ common_at other
+given_at None None packet out b = refl
+given_at None (Some w) packet out b = absurd b
+given_at (Some v) None packet out b = absurd b
+given_at (Some v) (Some w) packet out b = ap (λ (n : ℕ). Some n) (plp_by _ _ b.1.status)
+
 -- ---- opened
 
-pub opened_step : (own : Receiver) (other : Option Receiver) (c : Config) (plp : ℕ) → one.status_of own ≡ one.new_status c plp
-    → CommonIs c plp other → InStep own other
-opened_step own None c plp status is =
-    with_none own (common_as (one.network_of own) c (one.plp_of own) plp None (network_by _ _ status) (plp_by _ _ status) is)
-opened_step own (Some v) c plp status is =
+-- two receivers in step may be joined
+pub step_joins : (own : Receiver) (other : Option Receiver) → InStep own other
+    → MayJoin (one.network_of own) (one.plp_of own) (common_at other)
+step_joins own None step common e = none_some common e
+step_joins own (Some v) step common e = (step.both v refl).place ∙ e
+
+pub joins_inside : GroupingTold → (c : Config) (plp : ℕ) (joins : Option ℕ) → MayJoin c plp joins
+    → IfSome joins (λ place. place < length c.plps)
+joins_inside told c plp None may = tt
+joins_inside told c plp (Some common) may = (told c).inside plp common (may common refl)
+
+pub opened_step : (own : Receiver) (other : Option Receiver) (c : Config) (plp : ℕ) (joins : Option ℕ)
+    → one.status_of own ≡ one.new_status c plp → MayJoin c plp joins → CommonIs c joins other → InStep own other
+opened_step own None c plp joins status may is = with_none own
+opened_step own (Some v) c plp joins status may is =
     let net = network_by _ _ status in let at = plp_by _ _ status in
     let other_at : one.plp_of v ≡ is.0 = plp_by _ _ is.4 in
+    let place : common_of c plp ≡ Some is.0 = may is.0 is.1 in
     with_one own v (record {
       place = common_as (one.network_of own) c (one.plp_of own) plp (Some (one.plp_of v)) net at
-          (is.1 ∙ ap (λ (n : ℕ). Some n) (sym other_at));
+          (place ∙ ap (λ (n : ℕ). Some n) (sym other_at));
       inside = inside_as (one.network_of own) c (one.plp_of v) is.0 net other_at is.2;
       network = network_by _ _ is.4 ∙ sym net;
       frame = frame_by _ _ is.4 ∙ sym (frame_by _ _ status);
     })
 
-pub opened_fresh : (other : Option Receiver) (c : Config) (plp : ℕ) → CommonIs c plp other → CommonIsFresh other
-opened_fresh None c plp is = tt
-opened_fresh (Some v) c plp is = is.3
+pub opened_fresh : (other : Option Receiver) (c : Config) (joins : Option ℕ) → CommonIs c joins other → CommonIsFresh other
+opened_fresh None c joins is = tt
+opened_fresh (Some v) c joins is = is.3
 
-pub opened_due : (other : Option Receiver) (c : Config) (plp : ℕ) → CommonIs c plp other → common_due other ≡ 0
-opened_due None c plp is = refl
-opened_due (Some v) c plp is = due_by _ _ is.4
+pub opened_due : (other : Option Receiver) (c : Config) (joins : Option ℕ) → CommonIs c joins other → common_due other ≡ 0
+opened_due None c joins is = refl
+opened_due (Some v) c joins is = due_by _ _ is.4
+
+pub opened_at : (other : Option Receiver) (c : Config) (joins : Option ℕ) → CommonIs c joins other → common_at other ≡ joins
+opened_at None c joins is = sym is
+opened_at (Some v) c joins is = ap (λ (n : ℕ). Some n) (plp_by _ _ is.4) ∙ sym is.1

@@ -4,7 +4,7 @@ use Rattle.std.specs.Prelude.{if◌then◌else◌}
 use Rattle.plp_config.specs.declared.config.Config.{Config}
 use Rattle.site_frame.specs.declared.reading.RecordView.{RecordView}
 use Rattle.plp_receiver.specs.Epochs.{Readback}
-use Rattle.plp_receiver.specs.StandsFor.{ReceiverStandsFor, IsFresh, status_of, new_status, network_of}
+use Rattle.plp_receiver.specs.StandsFor.{ReceiverStandsFor, IsFresh, status_of, new_status, network_of, TellsDue}
 use Rattle.plp_receiver.specs.StandsFor.{plp_of, frame_of, due_of}
 use Rattle.plp_receiver.specs.declared.receiver.Receiver.{Receiver}
 use Rattle.common_plp.specs.Groups.{common_of}
@@ -17,8 +17,8 @@ pub record KeepsStep (own common : Receiver) : Type 0 where
   pub network : network_of common ≡ network_of own
   pub frame : frame_of common ≡ frame_of own
 
+-- It is there, or not.
 pub record InStep (own : Receiver) (common : Option Receiver) : Type 0 where
-  pub alone : common ≡ None → common_of (network_of own) (plp_of own) ≡ None
   pub both : (v : Receiver) → common ≡ Some v → KeepsStep own v
 
 -- Of two receivers that may be there: either is, and something was done to it, or neither.
@@ -48,11 +48,6 @@ pub record Gives (packet : List ℕ) (old new : Receiver) : Type 0 where
       → slice_get packets released ≡ Some packet
   pub status : status_of new ≡ record (status_of old) { due = due_of old - 1 }
 
--- What is due are the packets of a list that its records give back.
-abbrev pub TellsDue : Receiver → Type 0
-TellsDue v = (first : ℕ) (views : List RecordView) (released : ℕ) → ReceiverStandsFor v first views released
-    → (packets : List (List ℕ)) × Readback (network_of v) (plp_of v) first views packets × (due_of v ≡ length packets - released)
-
 abbrev pub CommonTellsDue : Option Receiver → Type 0
 CommonTellsDue None = Unit {0}
 CommonTellsDue (Some v) = TellsDue v
@@ -64,8 +59,8 @@ GivesJoined None (Some new) own packet = ⊥
 GivesJoined (Some old) None own packet = ⊥
 GivesJoined (Some old) (Some new) own packet = (shared : List ℕ) × Gives shared old new × (packet ≡ joined_packet shared own)
 
--- It is that of the common PLP of the group of a PLP, and no record came to it.
-abbrev pub CommonIs : Config → ℕ → Option Receiver → Type 0
-CommonIs c plp None = common_of c plp ≡ None
-CommonIs c plp (Some v) = (place : ℕ) × (common_of c plp ≡ Some place) × (place < length c.plps) × IsFresh v
+-- It is that of the PLP that is joined, if one is, and no record came to it.
+abbrev pub CommonIs : Config → Option ℕ → Option Receiver → Type 0
+CommonIs c joins None = joins ≡ None
+CommonIs c joins (Some v) = (place : ℕ) × (joins ≡ Some place) × (place < length c.plps) × IsFresh v
     × (status_of v ≡ new_status c place)

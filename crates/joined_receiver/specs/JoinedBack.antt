@@ -15,6 +15,10 @@ pub record JoinsReadbacks (c : Config) (common plp first : ℕ) (views : List Re
   pub same_slots : length shared ≡ length own
   pub packets_are : packets ≡ joined shared own
 
+-- What may be joined with a PLP: nothing, or the common PLP of its group.
+abbrev pub MayJoin : Config → ℕ → Option ℕ → Type 0
+MayJoin c plp joins = (common : ℕ) → joins ≡ Some common → common_of c plp ≡ Some common
+
 -- Without a common PLP, what the PLP itself is given back.
 abbrev pub JoinedBackWith : Option ℕ → Config → ℕ → ℕ → List RecordView → List (List ℕ) → Type 0
 JoinedBackWith None c plp first views packets = Readback c plp first views packets

@@ -16,6 +16,11 @@ abbrev pub CommonIsFresh : Option Receiver → Type 0
 CommonIsFresh None = Unit {0}
 CommonIsFresh (Some v) = one.IsFresh v
 
+-- the PLP of which it is
+abbrev pub common_at : Option Receiver → Option ℕ
+common_at None = None
+common_at (Some v) = Some (one.plp_of v)
+
 -- how many slots it has due
 abbrev pub common_due : Option Receiver → ℕ
 common_due None = 0
@@ -42,6 +47,10 @@ frame_of j = one.frame_of j.own
 
 unfoldable pub due_of : JoinedReceiver → ℕ
 due_of j = max (one.due_of j.own) (common_due j.common)
+
+-- the common PLP that is joined with it, if one is
+abbrev pub joins_of : JoinedReceiver → Option ℕ
+joins_of j = common_at j.common
 
 abbrev pub status_of : JoinedReceiver → Status
 status_of j = record { network = network_of j; plp = plp_of j; frame = frame_of j; due = due_of j }

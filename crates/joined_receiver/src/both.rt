@@ -2,39 +2,28 @@
 ghost use Rattle.std.specs.Prelude.{◌≡◌, ◌<◌, length, IfOk, IfSome};
 ghost use Rattle.plp_config.specs.declared.moment.TheConstants.{MOST_FRAMES};
 ghost use Rattle.plp_receiver.specs.StandsFor.{frame_of};
-ghost use Rattle.common_plp.specs.Groups.{common_of};
-ghost use Rattle.joined_receiver.specs.Both.{OnBoth, Begins, Takes, Gives, GivesJoined, TellsDue, CommonTellsDue, CommonIs};
+ghost use Rattle.joined_receiver.specs.Both.{OnBoth, Begins, Takes, Gives, GivesJoined, CommonTellsDue, CommonIs};
+ghost use Rattle.plp_receiver.specs.StandsFor.{TellsDue};
 ghost use Rattle.joined_receiver.specs.StandsFor.{CommonIsFresh, common_due};
 
 use bit_slice::OutOfMemory;
-use common_plp::{Groups, groups_law, join};
+use common_plp::join;
 use plp_config::Plan;
 use plp_receiver::Receiver;
 use site_frame::RecordView;
 use std::alloc::Global;
 use ts_packet::{SIZE, TsPacket};
 
-/// The common PLP of the group of a PLP.
-pub fn common_place(alloc: Global, plan: &Plan, plp: usize) -> Result<Option<usize>, OutOfMemory>
-    requires { plp < length plan.now.plps }
-    ensures { IfOk result (λ place. place ≡ common_of plan.now plp) }
-{
-    groups_law();
-    let groups = Groups::open(alloc, plan)?;
-    Ok(groups.common_of(plp))
-}
-
-/// The receiver of the common PLP of the group of a PLP, if there is one.
+/// The receiver of the PLP that is joined, if one is.
 pub fn open_common<'p>(
     alloc: Global,
     plan: &'p Plan,
-    plp: usize,
+    joins: Option<usize>,
 ) -> Result<Option<Receiver<'p>>, OutOfMemory>
-    requires { plp < length plan.now.plps }
-    ensures { IfOk result (CommonIs plan.now plp) }
+    requires { IfSome joins (λ place. place < length plan.now.plps) }
+    ensures { IfOk result (CommonIs plan.now joins) }
 {
-    groups_law();
-    match common_place(alloc, plan, plp)? {
+    match joins {
         Some(place) => Ok(Some(Receiver::open(alloc, plan, place)?)),
         None => Ok(None),
     }

@@ -15,7 +15,8 @@ use site_frame::RecordView;
 use std::alloc::Global;
 use ts_packet::SIZE;
 
-/// Gives back the packets of a PLP, with those that all PLPs of its group have in common, from the records of successive frames.
+/// Gives back the packets of a PLP, if so wanted with those that all PLPs of its group have in common, from the records of
+/// successive frames.
 ///
 /// [`begin_at`](Self::begin_at) names the first frame. Then [`frame`](Self::frame) takes the record of each, and behind each
 /// [`release`](Self::release) gives out what is due.
@@ -35,26 +36,31 @@ impl<'p> JoinedReceiver<'p> {
     ghost use Rattle.plp_config.specs.declared.moment.TheConstants.{MOST_FRAMES};
     ghost use Rattle.site_frame.specs.declared.reading.RecordView.{RecordView};
     ghost use Rattle.plp_receiver.specs.StandsFor.{new_status};
-    ghost use Rattle.joined_receiver.specs.JoinedBack.{JoinedBack};
+    ghost use Rattle.joined_receiver.specs.JoinedBack.{MayJoin, JoinedBackWith};
     ghost use Rattle.joined_receiver.specs.StandsFor.{JoinedReceiverStandsFor, IsFresh, network_of, plp_of, frame_of, due_of};
-    ghost use Rattle.joined_receiver.specs.StandsFor.{status_of};
+    ghost use Rattle.joined_receiver.specs.StandsFor.{joins_of, status_of};
 
-    /// Takes all the memory that is needed to receive the PLP at a place, and the common PLP of its group.
+    /// Takes all the memory that is needed to receive the PLP at a place, and the common PLP of its group if its packets are to be
+    /// joined: `joins` is then that PLP's place, else `None`.
     ///
     /// # Errors
     /// There is no memory for it. No later call wants any.
-    #[tactic(auto, unfolding(crate::specs::StandsFor::JoinedReceiverStandsFor, crate::specs::StandsFor::IsFresh, crate::specs::StandsFor::due_of), using(crate::proofs::StepLemmas::opened_fresh, crate::proofs::StepLemmas::opened_due))]
+    #[tactic(auto, unfolding(crate::specs::StandsFor::JoinedReceiverStandsFor, crate::specs::StandsFor::IsFresh, crate::specs::StandsFor::due_of), using(crate::proofs::StepLemmas::opened_fresh, crate::proofs::StepLemmas::opened_due, crate::proofs::StepLemmas::opened_at))]
     pub fn open(
         alloc: Global,
         plan: &'p Plan,
         plp: usize,
+        joins: Option<usize>,
     ) -> Result<JoinedReceiver<'p>, OutOfMemory>
-        requires { plp < length plan.now.plps }
+        requires inside { plp < length plan.now.plps }
+        requires may { MayJoin plan.now plp joins }
+        ensures joins { IfOk result (λ j. joins_of j ≡ joins) }
         ensures fresh { IfOk result IsFresh }
         ensures status { IfOk result (λ j. status_of j ≡ new_status plan.now plp) }
     {
+        groups_law();
         let own = Receiver::open(alloc, plan, plp)?;
-        let common = open_common(alloc, plan, plp)?;
+        let common = open_common(alloc, plan, joins)?;
         own.due();
         due_of_common(&common);
         Ok(JoinedReceiver { plan, own, common })
@@ -67,6 +73,7 @@ impl<'p> JoinedReceiver<'p> {
         requires fresh { IsFresh self.old }
         ensures stands { JoinedReceiverStandsFor self.new first [] 0 }
         ensures status { status_of self.new ≡ record (status_of self.old) { frame = first; due = 0 } }
+        ensures joins { joins_of self.new ≡ joins_of self.old }
     {
         self.own.begin_at(first);
         begin_common(&mut self.common, first);
@@ -83,6 +90,7 @@ impl<'p> JoinedReceiver<'p> {
           frame = frame_of self.old + 1;
           due = due_of self.new;
         } }
+        ensures joins { joins_of self.new ≡ joins_of self.old }
     {
         self.own.frame(view);
         take_common(&mut self.common, view);
@@ -91,13 +99,14 @@ impl<'p> JoinedReceiver<'p> {
     /// How many slots are due and not given out.
     #[tactic(auto, unfolding(crate::specs::StandsFor::JoinedReceiverStandsFor, crate::specs::StandsFor::IsFresh, crate::specs::StandsFor::due_of))]
     pub fn due(&self) -> u64
+        ensures joins { MayJoin (network_of self.now) (plp_of self.now) (joins_of self.now) }
         ensures value { result ≡ due_of self.now }
         ensures fresh { IsFresh self.now → result ≡ 0 }
         ensures some { (first : ℕ) (views : List RecordView) (released : ℕ) → JoinedReceiverStandsFor self.now first views released
-            → (packets : List (List ℕ)) × JoinedBack (network_of self.now) (plp_of self.now) first views packets }
+            → (packets : List (List ℕ)) × JoinedBackWith (joins_of self.now) (network_of self.now) (plp_of self.now) first views packets }
         ensures answer { (first : ℕ) (views : List RecordView) (released : ℕ) (packets : List (List ℕ))
             → JoinedReceiverStandsFor self.now first views released
-            → JoinedBack (network_of self.now) (plp_of self.now) first views packets → result ≡ length packets - released }
+            → JoinedBackWith (joins_of self.now) (network_of self.now) (plp_of self.now) first views packets → result ≡ length packets - released }
     {
         self.plan.rules_law();
         groups_law();
@@ -116,8 +125,10 @@ impl<'p> JoinedReceiver<'p> {
             → JoinedReceiverStandsFor self.new first views (released + 1) }
         ensures answer { (first : ℕ) (views : List RecordView) (released : ℕ) (packets : List (List ℕ))
             → JoinedReceiverStandsFor self.old first views released
-            → JoinedBack (network_of self.old) (plp_of self.old) first views packets → slice_get packets released ≡ Some out.new }
+            → JoinedBackWith (joins_of self.old) (network_of self.old) (plp_of self.old) first views packets
+            → slice_get packets released ≡ Some out.new }
         ensures status { status_of self.new ≡ record (status_of self.old) { due = due_of self.old - 1 } }
+        ensures joins { joins_of self.new ≡ joins_of self.old }
     {
         self.plan.rules_law();
         groups_law();

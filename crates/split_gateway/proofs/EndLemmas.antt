@@ -4,6 +4,7 @@ use Rattle.std.proofs.Common.{append-nil}
 use Rattle.std.specs.Prelude.{◌↔◌}
 use Rattle.std.specs.declared.option.Option.{Option}
 use Rattle.terms.proofs.CaseLemmas.{bool_cases}
+use Rattle.gateway_core.proofs.WantLemmas.{wants_is, none_wanted}
 use Rattle.plp_config.specs.Capacity.{IsPlan}
 use Rattle.plp_config.specs.RunLength.{frame_count}
 use Rattle.plp_config.specs.SlotTime.{slots_by}
@@ -19,7 +20,6 @@ use Rattle.gateway_core.proofs.LawLemmas.{frame_count_same}
 use Rattle.split_gateway.specs.Continuing.{IsLast, frames_of}
 use Rattle.split_gateway.specs.Works.{Works}
 use Rattle.split_gateway.proofs.SplitLemmas.{told_as, closed_length}
-use Rattle.split_gateway.proofs.WorkLemmas.{wants_is, none_wanted}
 
 -- what came continues itself, once all ended
 itself : (c : Config) (events : List Event) (plp : ℕ)

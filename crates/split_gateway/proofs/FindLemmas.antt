@@ -7,6 +7,7 @@ use Rattle.std.proofs.lemmas.Bool.{cases_lt, true≢false}
 use Rattle.std.proofs.lemmas.Grind.{not_there}
 use Rattle.std.proofs.lemmas.Option.{slice_get_past}
 use Rattle.terms.proofs.CaseLemmas.{bool_cases}
+use Rattle.gateway_core.proofs.WantLemmas.{wants_is, some_wanted, none_wanted}
 use Rattle.plp_config.specs.Rules.{AllRules}
 use Rattle.plp_config.specs.SlotTime.{slots_by}
 use Rattle.plp_config.specs.declared.config.Config.{Config}
@@ -21,7 +22,7 @@ use Rattle.split_gateway.specs.StandsFor.{FindsWanted}
 use Rattle.split_gateway.specs.Works.{Works, HasWorked, AreSettled, ComesOfTurn, FindsFirst}
 use Rattle.split_gateway.proofs.MemberLemmas.{member_input, self_member, turn_common, turn_is}
 use Rattle.split_gateway.proofs.SplitLemmas.{none_held}
-use Rattle.split_gateway.proofs.WorkLemmas.{wants_is, some_wanted, none_wanted, same_slots}
+use Rattle.split_gateway.proofs.WorkLemmas.{same_slots}
 
 -- ---- the first PLP of a group
 
@@ -124,14 +125,14 @@ comes_first law c g held events plp rules plps w t =
     λ k. ap (λ (n : ℕ). slots_by c k (n * c.ticks)) w.splits.begun_is in
     let want = some_wanted (has_ended plp w.done) (slots_by c plp (begun w.done * c.ticks)) (length (offered plp w.done)) (wants_of g plp)
     (wants_is g c w.done plp w.stands (let lt = n.inside in omega (arith, lt, plps))) n.comes.some in
-    let off : has_ended plp events ≡ false = sym (s.closed_is plp i) ∙ want.0 in
+    let off : has_ended plp events ≡ false = sym (s.closed_is plp i) ∙ want.is_open in
     let count = none_held c _ held _ _ _ _ plp s i n.comes.none off in
     let a = alive law c g held events plp rules plps w i off in
     record {
       wanted = record {
         input = i;
         is_open = off;
-        less = (let less = want.1 in let f = frames plp in omega (arith, less, count, f));
+        less = (let less = want.less in let f = frames plp in omega (arith, less, count, f));
       };
       first = λ other wanted earlier.
           let b = alive law c g held events other rules plps w wanted.input wanted.is_open in

@@ -10,6 +10,7 @@ use Rattle.std.proofs.lemmas.Bool.{cases_eq, cases_lt, true≢false}
 use Rattle.std.proofs.lemmas.List.{get_or-replicate}
 use Rattle.std.proofs.Math.ListN.{get_or-eq_default}
 use Rattle.std.proofs.lemmas.List.{length-replicate}
+use Rattle.gateway_core.proofs.WantLemmas.{wants_is, some_wanted}
 use Rattle.plp_config.specs.Rules.{AllRules}
 use Rattle.plp_config.specs.declared.config.Config.{Config}
 use Rattle.plp_config.specs.Plps.{no_plp}
@@ -41,7 +42,7 @@ use Rattle.split_gateway.proofs.EventLemmas.{offered_append, ended_append}
 use Rattle.split_gateway.proofs.FindLemmas.{none_wanted_by}
 use Rattle.split_gateway.proofs.OnLemmas.{gave_as}
 use Rattle.split_gateway.proofs.RangeLemmas.{any_append}
-use Rattle.split_gateway.proofs.WorkLemmas.{or_false, wants_is, some_wanted}
+use Rattle.split_gateway.proofs.WorkLemmas.{or_false}
 use Rattle.split_gateway.proofs.MemberLemmas.{member_input}
 use Rattle.split_gateway.proofs.SplitLemmas.{goes_on, none_held, packet_came, input_ended}
 
@@ -245,7 +246,7 @@ asked_going c g held events plp plps w i some =
     let is = wants_is g c w.done plp w.stands (let lt = i.0 in omega (arith, lt, plps)) in
     let want = some_wanted (has_ended plp w.done) (slots_by c plp (begun w.done * c.ticks)) (length (offered plp w.done)) (wants_of g plp)
     is some in
-    (sym (w.splits.splits.closed_is plp i) ∙ want.0, is ∙ rw want.0 refl)
+    (sym (w.splits.splits.closed_is plp i) ∙ want.is_open, is ∙ rw want.is_open refl)
 
 pub asked_wants : (c : Config) (g : Gateway) (held : List (Option (List ℕ))) (events : List Event) (plp : ℕ) → plps_of g ≡ length c.plps
     → Works c g held events → IsInput c plp → held_at held plp ≡ None → 0 < wants_of g plp

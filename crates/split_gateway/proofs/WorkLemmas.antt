@@ -1,10 +1,11 @@
 -- What a gateway wants, and what holds behind a slot that went on.
-use Rattle.std.proofs.Common.{◌≡◌, ◌≢◌, ℕ, zero, suc, ◌+◌, ◌-◌, ◌*◌, ◌<◌, ◌≤◌, ◌||◌, Bool, true, false, cond, List, [], ◌++◌, length, Some, None}
+use Rattle.std.proofs.Common.{◌≡◌, ◌≢◌, ℕ, zero, suc, ◌+◌, ◌-◌, ◌*◌, ◌<◌, ◌≤◌, ◌||◌, Bool, true, false, List, [], ◌++◌, length, Some, None}
 use Rattle.std.proofs.Common.{refl, ap, sym, ◌∙◌, inl, inr, arith}
 use Rattle.std.specs.Prelude.{is_some, unwrap_or, if◌then◌else◌}
 use Rattle.std.specs.declared.option.Option.{Option}
 use Rattle.std.proofs.lemmas.Bool.{true≢false}
 use Rattle.terms.proofs.CaseLemmas.{bool_cases, both}
+use Rattle.gateway_core.proofs.WantLemmas.{wants_is, some_wanted}
 use Rattle.plp_config.specs.Rules.{AllRules}
 use Rattle.plp_config.specs.SlotTime.{slots_by, slot_count}
 use Rattle.plp_config.specs.declared.config.Config.{Config}
@@ -12,9 +13,8 @@ use Rattle.plp_config.specs.declared.slot_times.SlotTimes.{SlotTimes}
 use Rattle.common_plp.specs.Groups.{common_of}
 use Rattle.common_plp.specs.Laws.{InStep}
 use Rattle.gateway_core.specs.Events.{Event, offered, has_ended, begun}
-use Rattle.gateway_core.specs.StandsFor.{GatewayStandsFor, plps_of, wants_of, wants_by}
+use Rattle.gateway_core.specs.StandsFor.{GatewayStandsFor, plps_of, wants_of}
 use Rattle.gateway_core.specs.declared.gateway.Gateway.{Gateway}
-use Rattle.gateway_core.proofs.HoldsLemmas.{wants_are}
 use Rattle.split_gateway.specs.Order.{is_member}
 use Rattle.split_gateway.specs.Slots.{held_at, kept_of, is_held_in, any_held, HasCome, PassesOn, passed}
 use Rattle.split_gateway.specs.Splitting.{Splits}
@@ -24,19 +24,6 @@ use Rattle.split_gateway.proofs.RangeLemmas.{any_more}
 use Rattle.split_gateway.proofs.SlotLemmas.{IsReady, HasSome}
 
 -- ---- what is wanted
-
-pub wants_is : (g : Gateway) (c : Config) (events : List Event) (plp : ℕ) → GatewayStandsFor g c events → plp < plps_of g
-    → wants_of g plp ≡ wants_by c events plp
-unfolding GatewayStandsFor
-wants_is g c events plp s lt = wants_are g.inputs.items _ plp c events lt s.1.fed
-
-pub some_wanted : (ended : Bool) (slots n wants : ℕ) → wants ≡ cond ended 0 (slots - n) → 0 < wants → (ended ≡ false) × (n < slots)
-some_wanted true slots n wants e lt = absurd (omega (arith, e, lt))
-some_wanted false slots n wants e lt = (refl, omega (arith, e, lt))
-
-pub none_wanted : (ended : Bool) (slots n wants : ℕ) → wants ≡ cond ended 0 (slots - n) → wants ≡ 0 → ended ≡ false → slots ≤ n
-none_wanted true slots n wants e z off = absurd (true≢false off)
-none_wanted false slots n wants e z off = omega (arith, e, z)
 
 -- of the group of a common PLP as many slots are over
 pub same_slots : InStep → (c : Config) (plp tick : ℕ) → AllRules c → plp < length c.plps → (o : Option ℕ) → common_of c plp ≡ o
@@ -66,7 +53,7 @@ live_wanted law c g held events done turn plp rules plps stands s inside first s
     let count = s.step plp i going ∙ ap (λ (k : ℕ). length (offered k done)) t in
     let slots = sym (same_slots law c plp tick rules lt (common_of c plp) refl) ∙ ap (λ (k : ℕ). slots_by c k tick) t in
     let is : wants_of g plp ≡ slots_by c plp tick - length (offered plp done) = here ∙ rw off refl in
-    (let less = w.1 in omega (arith, is, count, slots, less))
+    (let less = w.less in omega (arith, is, count, slots, less))
 
 -- ---- a slot went on
 
@@ -79,7 +66,7 @@ ready_of law c g held events done turn rules plps stands s inside first some com
   inside = inside;
   first = first;
   going = (some_wanted (has_ended turn done) (slots_by c turn (begun done * c.ticks)) (length (offered turn done)) (wants_of g turn)
-      (wants_is g c done turn stands (omega (arith, inside, plps))) some).0;
+      (wants_is g c done turn stands (omega (arith, inside, plps))) some).is_open;
   come = λ plp lt member going. elim (come plp lt member) [
     | inl none ↦ absurd (let w = live_wanted law c g held events done turn plp rules plps stands s inside first some lt member going in
         omega (arith, w, none))

@@ -35,6 +35,10 @@ abbrev pub FindsWanted : Config → List Event → Option ℕ → Type 0
 FindsWanted c events None = (plp : ℕ) → ¬ (IsWanted c events plp)
 FindsWanted c events (Some plp) = IsWantedFirst c events plp
 
+-- how many packets the next frame still wants of an input that was asked for
+abbrev pub wants_of : SplitGateway → ℕ → ℕ
+wants_of s plp = core.wants_of s.gateway plp
+
 -- its configuration, and what a caller sees of it besides
 abbrev pub config_of : SplitGateway → Config
 config_of s = s.plan.now

@@ -56,7 +56,7 @@ impl<'p> SplitGateway<'p> {
     ghost use Rattle.gateway_core.specs.Packets.{front_packets};
     ghost use Rattle.gateway_core.specs.StandsFor.{new_status};
     ghost use Rattle.split_gateway.specs.Continuing.{InputsContinue, IsLast};
-    ghost use Rattle.split_gateway.specs.StandsFor.{SplitGatewayStandsFor, IsAsked, NoneWanted, Asks, FindsWanted, config_of};
+    ghost use Rattle.split_gateway.specs.StandsFor.{SplitGatewayStandsFor, IsAsked, NoneWanted, Asks, FindsWanted, config_of, wants_of};
     ghost use Rattle.split_gateway.specs.StandsFor.{frame_of, has_unit, bytes_left, has_finished, status_of};
 
     /// A gateway to which nothing came, for a plan. It takes all the memory that it needs.
@@ -96,6 +96,7 @@ impl<'p> SplitGateway<'p> {
     /// How many packets the next frame still wants of an input that was asked for.
     pub fn wants(&self, plp: usize) -> u64
         requires { IsAsked self.now plp }
+        ensures value { result ≡ wants_of self.now plp }
         ensures some { 0 < result }
         ensures answer { (c : Config) (events : List Event) → SplitGatewayStandsFor self.now c events
             → result ≡ slots_by c plp (begun events * c.ticks) - length (offered plp events) }

@@ -9,8 +9,8 @@ ghost use Rattle.split_gateway.specs.Slots.{held_at, passed_of, passed, PassesOn
 ghost use Rattle.split_gateway.specs.Slots.{HasCome, FindsNext, share_events, pass_events};
 ghost use Rattle.split_gateway.specs.Works.{Moves, SettlesOn, FindsFirst};
 
-use crate::slots::{has_held, is_common, is_member, next_in, shared_in};
-use common_plp::{Groups, groups_law};
+use crate::slots::{has_held, is_member, next_in, shared_in};
+use common_plp::{Groups, groups_law, is_common};
 use gateway_core::Gateway;
 use plp_config::Plan;
 use ts_packet::TsPacket;
@@ -119,7 +119,7 @@ fn pass(plan: &Plan, gateway: &mut Gateway<'_>, held: &mut [Option<TsPacket>], t
 {
     if !has_held(plan, held, turn) {
         gateway.end_input(turn);
-    } else if is_common(plan, turn) {
+    } else if is_common(plan.config(), turn) {
         share(plan, gateway, held, turn);
     } else {
         pass_on(plan, gateway, held, turn, false);

@@ -8,18 +8,10 @@ ghost use Rattle.gateway_core.specs.StandsFor.{plps_of};
 ghost use Rattle.split_gateway.specs.Order.{is_member};
 ghost use Rattle.split_gateway.specs.Slots.{HasCome, ComesOf, FindsNext, is_held_in, any_held, slot_in, seen_of};
 
-use common_plp::Splitter;
+use common_plp::{Splitter, is_common};
 use gateway_core::Gateway;
-use plp_config::{Plan, PlpType};
+use plp_config::Plan;
 use ts_packet::TsPacket;
-
-/// Whether the PLP at a place is a common one.
-pub fn is_common(plan: &Plan, plp: usize) -> bool
-    requires { plp < length plan.now.plps }
-    ensures { result ≡ is_common plan.now plp }
-{
-    plan.config().plps.get(plp).unwrap().plp_type == PlpType::Common
-}
 
 // Whether two PLPs are of one group.
 fn is_one_group(plan: &Plan, plp: usize, other: usize) -> bool
@@ -36,8 +28,9 @@ pub fn is_member(plan: &Plan, turn: usize, plp: usize) -> bool
     requires plp { plp < length plan.now.plps }
     ensures { result ≡ is_member plan.now turn plp }
 {
-    if is_common(plan, turn) {
-        return !is_common(plan, plp) && is_one_group(plan, plp, turn);
+    let config = plan.config();
+    if is_common(config, turn) {
+        return !is_common(config, plp) && is_one_group(plan, plp, turn);
     }
     plp == turn
 }

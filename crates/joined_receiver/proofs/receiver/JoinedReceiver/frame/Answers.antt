@@ -1,6 +1,6 @@
 use Rattle.std.proofs.Common.{◌∙◌, ap, arith}
 use Rattle.plp_receiver.specs.StandsFor.{Status}
-use Rattle.joined_receiver.proofs.StepLemmas.{taken_step}
+use Rattle.joined_receiver.proofs.StepLemmas.{taken_step, taken_at}
 use Rattle.joined_receiver.proofs.receiver.JoinedReceiver.frame.Goals as goal
 
 pub invariant_of-self : goal.invariant_of-self
@@ -13,3 +13,6 @@ invariant_of-self c =
       step = taken_step m.own c.frame.new.self m.common c.take_common.new.common c.args.view.now _ m.step status
           c.take_common.ensures;
     }
+
+pub returns-clause-joins : goal.returns-clause-joins
+returns-clause-joins c = taken_at c.args.self.now.common c.take_common.new.common c.args.view.now c.take_common.ensures

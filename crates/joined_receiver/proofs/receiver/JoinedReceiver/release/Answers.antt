@@ -1,7 +1,7 @@
 use Rattle.std.proofs.Common.{◌∙◌, ap, arith}
 use Rattle.plp_receiver.specs.StandsFor.{Status}
 use Rattle.joined_receiver.specs.StandsFor.{JoinedReceiverStandsFor, due_of}
-use Rattle.joined_receiver.proofs.StepLemmas.{given_step, given_due, status_as}
+use Rattle.joined_receiver.proofs.StepLemmas.{given_step, given_due, given_at, status_as}
 use Rattle.joined_receiver.proofs.ReleaseLemmas.{stands_with, answer_is}
 use Rattle.joined_receiver.proofs.receiver.JoinedReceiver.release.Goals as goal
 
@@ -39,3 +39,6 @@ returns-clause-status c =
     status_as _ _ (ap (λ (s : Status). s.network) status) (ap (λ (s : Status). s.plp) status) (ap (λ (s : Status). s.frame) status)
     (let d = ap (λ (s : Status). s.due) status in let e = given_due m.common c.join_common.new.common _ _ c.join_common.ensures in
     omega (arith, d, e))
+
+pub returns-clause-joins : goal.returns-clause-joins
+returns-clause-joins c = given_at c.args.self.now.common c.join_common.new.common _ _ c.join_common.ensures
