@@ -167,7 +167,7 @@ stands_unfed Becomes m reach b old new readings input is out events lt r came on
     })
 
 -- how much was read and not taken
-untaken : (readings : List Reading) (input fed : ℕ) (is : Reading) → input < length readings → is.taken ≡ fed
+pub untaken : (readings : List Reading) (input fed : ℕ) (is : Reading) → input < length readings → is.taken ≡ fed
     → slice_index (places_of (slice_set readings input is)) input - fed ≡ length is.waiting
 untaken readings input fed is lt t =
     let n = length-set readings input is in

@@ -48,7 +48,7 @@ stopped_drained Becomes start m n reach next b old new readings out fault gives 
   inr (stops_drained Becomes start m n reach next b old new readings out r.events r.runs r.came gives d),
 )
 
-item_is : (readings : List Reading) (input : ℕ) (was d : Reading) → input < length readings
+pub item_is : (readings : List Reading) (input : ℕ) (was d : Reading) → input < length readings
     → was ≡ slice_index_or readings input d → was ≡ reading_at readings input
 item_is readings input was d lt e = e ∙ get_or_default readings input d no_reading lt
 

@@ -1,4 +1,4 @@
--- How far a run has come. Of public clauses those of `OutBuffer` cite `Gathers`, and no other cites this module.
+-- How far a run has come.
 use Rattle.std.specs.Prelude.{◌≡◌, ◌≢◌, ℕ, ◌+◌, ◌<◌, ◌≤◌, Bool, true, false, List, [], ◌∷◌, ◌++◌, length, map, slice_index_or}
 use Rattle.std.specs.Prelude.{None, Some, IsSome, IfSome, option_map}
 use Rattle.std.specs.declared.option.Option.{Option}

@@ -1,4 +1,4 @@
--- How far a run has come that says what its machine gives. No public clause cites this module.
+-- How far a run has come that says what its machine gives.
 use Rattle.std.specs.Prelude.{◌≡◌, ◌≢◌, ◌⊎◌, ℕ, ◌+◌, ◌<◌, List, [], ◌∷◌, ◌++◌, length, IsSome, IfSome, Some, option_map}
 use Rattle.std.specs.Prelude.{Result, Err}
 use Rattle.std.specs.FinMap.{get}

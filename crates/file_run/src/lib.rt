@@ -14,10 +14,12 @@ mod telling;
 #[cfg(test)]
 mod tests;
 
+pub use feeding::feed;
 pub use laws::{events_law, faults_law};
 pub use machine::{Ending, Machine, PIECE, Step};
-pub use one_run::{run_one, run_over};
+pub use one_run::{open_readers, run_one, run_over};
+pub use opening::open_files;
 pub use out_buffer::OutBuffer;
-pub use running::run;
+pub use running::{fault_of, run};
 pub use stop::{RunFault, RunStop};
-pub use telling::tell;
+pub use telling::{make_room, say_page, tell};

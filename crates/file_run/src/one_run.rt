@@ -12,8 +12,8 @@ use desk_io::ReadAhead;
 use ports::{Desk, Word};
 use std::alloc::Global;
 
-// So many readers, of nothing yet.
-fn open_readers(alloc: Global, count: usize) -> Result<Vec<ReadAhead>, OutOfMemory>
+/// So many readers, of nothing yet.
+pub fn open_readers(alloc: Global, count: usize) -> Result<Vec<ReadAhead>, OutOfMemory>
     ensures { IfOk result (λ readers. length readers.items ≡ count) }
 {
     let mut readers = Vec::new(alloc);

@@ -12,8 +12,8 @@ use crate::stop::RunFault;
 use desk_io::{ReadAhead, ReadStop, creates_law};
 use ports::{Desk, Word};
 
-// A run stops if an input could not be read on.
-fn fault_of(input: usize, why: ReadStop) -> RunFault
+/// How a run stops if an input could not be read on.
+pub fn fault_of(input: usize, why: ReadStop) -> RunFault
     ensures { result ≡ read_fault input why }
 {
     match why {

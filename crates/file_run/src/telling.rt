@@ -15,8 +15,8 @@ use crate::stop::RunFault;
 use desk_io::{ReadAhead, ReadStop};
 use ports::{Desk, DeskFault};
 
-// Says what waits on the page.
-fn say_page<D: Desk>(desk: &mut D, page: &mut OutBuffer) -> Result<(), DeskFault>
+/// Says what waits on the page.
+pub fn say_page<D: Desk>(desk: &mut D, page: &mut OutBuffer) -> Result<(), DeskFault>
     ensures ok { OnOk result (Says (D.state desk.old) (D.state desk.new) page.old) }
     ensures err { OnErr result (Keeps (D.state desk.old) (D.state desk.new)) }
     ensures page { page.new ≡ [] }
@@ -31,8 +31,8 @@ fn say_page<D: Desk>(desk: &mut D, page: &mut OutBuffer) -> Result<(), DeskFault
     said
 }
 
-// Makes room for a piece: if there is none, all that waits is said.
-fn make_room<D: Desk>(desk: &mut D, page: &mut OutBuffer) -> Result<(), DeskFault>
+/// Makes room for a piece: if there is none, all that waits is said.
+pub fn make_room<D: Desk>(desk: &mut D, page: &mut OutBuffer) -> Result<(), DeskFault>
     ensures ok { OnOk result (GivesWay (D.state desk.old) (D.state desk.new) page.old page.new) }
     ensures room { OnOk result (length page.new + PIECE ≤ PAGE) }
     ensures err { OnErr result (Keeps (D.state desk.old) (D.state desk.new)) }

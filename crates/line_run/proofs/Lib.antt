@@ -1,0 +1,2 @@
+pub mod SpeakLemmas
+pub mod StandsLemmas

@@ -1,0 +1,53 @@
+use Rattle.std.proofs.Common.{refl, sym, ◌∙◌, inl, inr, arith}
+use Rattle.std.proofs.lemmas.Result.{on_ok_weaker, on_err_weaker, err_from_is_err_and}
+use Rattle.file_run.proofs.DrainLemmas.{gave_first}
+use Rattle.line_run.proofs.SpeakLemmas.{uttered_none, uttered_room, uttered_more, uttered_all, uttered_short, gave_before, err_both}
+use Rattle.line_run.proofs.speaking.say_given.Goals as goal
+
+pub loop-desk-init : goal.loop-desk-init
+loop-desk-init g c = record {
+  part = uttered_none _ _ _ _ c.requires.nothing;
+  first = inl (refl, c.requires.nothing);
+  reach = λ other. omega arith;
+  counts = refl;
+}
+
+pub loop-desk-preserved : goal.loop-desk-preserved
+loop-desk-preserved g c = record {
+  part = uttered_more _ _ _ _ _ _ _ _
+      (uttered_room _ _ _ _ _ _ _ _ c.loop-desk.invariant.part c.in_ok-make_room.ensures.ok)
+      c.take_from.ensures.gathers;
+  first = inr (gave_first _ c.loop-desk.machine _ g.M.Machine.next c.loop-desk.invariant.first
+      (sym c.step.ensures.next ∙ c.in-Give.is));
+  reach = λ other. let u = c.take_from.ensures.reach other in let v = c.loop-desk.invariant.reach other in omega (arith, u, v);
+  counts = c.in_ok-make_room.ensures.counts.ok ∙ c.loop-desk.invariant.counts;
+}
+
+pub returns-in_err-make_room-clause-err : goal.returns-in_err-make_room-clause-err
+returns-in_err-make_room-clause-err g c =
+    let p = err_from_is_err_and c.from_residual.result c.from_residual.ensures.1 in
+    rw p.1 (uttered_short _ _ _ _ _ _ _ c.loop-desk.invariant.part c.in_err-make_room.ensures.some c.in_err-make_room.ensures.err)
+
+pub returns-in_err-make_room-clause-gives : goal.returns-in_err-make_room-clause-gives
+returns-in_err-make_room-clause-gives g c =
+    let p = err_from_is_err_and c.from_residual.result c.from_residual.ensures.1 in
+    rw p.1 (gave_first _ c.loop-desk.machine _ g.M.Machine.next c.loop-desk.invariant.first
+    (sym c.step.ensures.next ∙ c.in-Give.is))
+
+pub returns-clause-ok : goal.returns-clause-ok
+returns-clause-ok g c =
+    on_ok_weaker c.say_page.result (λ a. uttered_all _ _ _ _ _ _ _ c.loop-desk.invariant.part a) c.say_page.ensures.ok
+
+pub returns-clause-err : goal.returns-clause-err
+returns-clause-err g c =
+    on_err_weaker c.say_page.result
+    (λ a. uttered_short _ _ _ _ _ _ _ c.loop-desk.invariant.part a.0 a.1)
+    (err_both _ _ c.say_page.result c.say_page.ensures.some c.say_page.ensures.err)
+
+pub returns-clause-gives : goal.returns-clause-gives
+returns-clause-gives g c =
+    on_err_weaker c.say_page.result
+    (λ a. gave_before _ c.loop-desk.machine _ g.M.Machine.next c.loop-desk.invariant.first a) c.say_page.ensures.some
+
+pub returns-clause-dry : goal.returns-clause-dry
+returns-clause-dry g c = on_ok_weaker c.say_page.result (λ a e. c.in_default.not-Give (c.step.ensures.next ∙ e)) c.say_page.ensures.ok

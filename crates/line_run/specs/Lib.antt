@@ -1,0 +1,3 @@
+pub mod Speaking
+-- inner: no public clause cites these
+pub mod SpeakingOn
