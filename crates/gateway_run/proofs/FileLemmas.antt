@@ -3,7 +3,6 @@ use Rattle.std.proofs.Common.{◌≡◌, ◌≢◌, ℕ, zero, suc, ◌+◌, ◌
 use Rattle.std.proofs.Common.{drop, refl, ap, sym, ◌∙◌, arith, append_assoc, append-nil, length-append, inl, inr}
 use Rattle.std.specs.Prelude.{slice_index, nat_le, ◌==◌, ◌&&◌, ◌⊎◌}
 use Rattle.std.proofs.lemmas.Bool.{cases_Bool, ne_eqb}
-use Rattle.std.proofs.lemmas.Grind.{flat_map-append}
 use Rattle.std.proofs.lemmas.List.{take_at, drop_at, length-drop, drop-drop, get_or_append_left}
 use Rattle.gateway_core.specs.InputSoFar.{Told, Continues}
 use Rattle.ts_packet.specs.TsFile.{begins_with_packet, packets_up_to, packets_in, left_in, joined, HasBad}
@@ -94,10 +93,6 @@ pub packets_push : (packets : List (List ℕ)) (p : List ℕ) → ArePackets pac
     → ArePackets (packets ++ p ∷ [])
 packets_push [] p each long sync = ((long, sync), tt)
 packets_push (q ∷ packets) p each long sync = (each.0, packets_push packets p each.1 long sync)
-
-pub joined_push : (packets : List (List ℕ)) (p : List ℕ) → joined (packets ++ p ∷ []) ≡ joined packets ++ p
-joined_push packets p = flat_map-append (λ (q : List ℕ). q) packets (p ∷ []) ∙ ap (λ (l : List ℕ). joined packets ++ l)
-    (append-nil p)
 
 -- These packets of a file were taken, and this is left of it: nothing, if it ended.
 pub record IsRead (file : List ℕ) (packets : List (List ℕ)) (ended : Bool) (left : List ℕ) : Type 0 where

@@ -7,8 +7,9 @@ use Rattle.plp_config.specs.declared.config.Config.{Config}
 use Rattle.t2mi_stream.specs.Complete.{complete_in, complete_units}
 use Rattle.t2mi_stream.specs.Pipe.{pipe}
 use Rattle.gateway_core.specs.Packets.{front_packets}
-use Rattle.gateway_core.specs.StandsFor.{GatewayStandsFor}
-use Rattle.gateway_core.specs.declared.gateway.Gateway.{Gateway}
+use Rattle.common_plp.specs.Inputs.{place_of, streams_by}
+use Rattle.common_plp.specs.Sharing.{Sharing}
+use Rattle.gateway_core.specs.Events.{Event}
 use Rattle.gateway_run.specs.Holds.{Holds}
 use Rattle.gateway_run.specs.declared.place.Phase.TheVariants.{Gives}
 use Rattle.gateway_run.specs.declared.place.Place.{Place}
@@ -24,13 +25,14 @@ unfolding front_packets complete_in
 none_complete c inputs = refl
 
 abbrev pub first_place : Place
-first_place = record { plp = 0; phase = Gives }
+first_place = record { input = 0; phase = Gives }
 
 abbrev pub first_ran : Ran
 first_ran = record { frames = 0; units = 0 }
 
-pub first : (c : Config) (g : Gateway) → IsPlan c → GatewayStandsFor g c [] → Holds c [] g first_place first_ran
-first c g plan stands = record {
+pub first : (way : Sharing) (c : Config) (g : Config → List Event → Type 0) → IsPlan c → g c []
+    → Holds way c [] g first_place first_ran
+first way c g plan stands = record {
   plan = plan;
   events = [];
   stands = stands;
@@ -40,7 +42,7 @@ first c g plan stands = record {
   inputs = record { each = λ plp lt. record { parts = refl; each = tt; end = λ _. refl }; whole = λ plp on. refl };
   time = record {
     within = λ plp lt. omega arith;
-    there = λ plp lt on. let z = none_over c plp in omega (arith, z);
+    there = λ plp lt on. let z = none_over c (place_of way c plp) in omega (arith, z);
     few = λ inputs k. omega arith;
     last = λ on. absurd (let z : false ≡ true = on in cc);
   };
@@ -49,13 +51,13 @@ first c g plan stands = record {
     gave = refl;
     count = refl;
     front = λ inputs k more none.
-        (pipe c.pid (front_packets c inputs 0 ++ more), refl);
+        (pipe c.pid (front_packets c (streams_by way c inputs) 0 ++ more), refl);
   };
   is_in = (
     λ plp. refl,
     record {
       begun_all = omega arith;
-      units = λ inputs k. let n = ap length (none_complete c inputs) in
+      units = λ inputs k. let n = ap length (none_complete c (streams_by way c inputs)) in
           omega (arith, n);
     },
   );

@@ -9,223 +9,226 @@ use Rattle.file_run.specs.Events as run
 use Rattle.file_run.specs.Laws.{EventsTell}
 use Rattle.gateway_core.specs.Events.{Event, Gave, begun, finished}
 use Rattle.gateway_core.specs.Packets.{front_packets}
-use Rattle.gateway_core.specs.StandsFor.{GatewayStandsFor, bytes_left}
 use Rattle.gateway_core.specs.InputSoFar.{told}
-use Rattle.gateway_core.specs.declared.gateway.Gateway.{Gateway}
 use Rattle.gateway_core.proofs.InputsLemmas.{nothing_told}
-use Rattle.gateway_core.proofs.HoldsLemmas.{back_same, given_with, begun_same, finished_same}
+use Rattle.gateway_core.proofs.HoldsLemmas.{given_with, begun_same, finished_same}
 use Rattle.gateway_run.specs.Holds.{AreComplete, AreAll, HasGiven, NoTails, IsIn, StandsIn, Holds}
-use Rattle.gateway_run.specs.Ready.{IsGiving, IsLooked, IsLookedAs, IsReady, IsBehindAs, left_of}
+use Rattle.common_plp.specs.Inputs.{place_of, streams_by}
+use Rattle.common_plp.specs.Sharing.{Sharing}
+use Rattle.gateway_run.specs.Phases.{IsGiving, IsLooking, IsBehind, left_by}
 use Rattle.gateway_run.specs.declared.place.Phase.{Phase}
 use Rattle.gateway_run.specs.declared.place.Phase.TheVariants.{Wants, Begins, Gives, Rests, Done, Stopped}
 use Rattle.gateway_run.specs.declared.place.Place.{Place}
 use Rattle.gateway_run.specs.declared.stop.Ran.{Ran}
-use Rattle.gateway_run.proofs.EventLemmas.{still_last, finished_is}
-use Rattle.gateway_run.proofs.ReadyLemmas.{giving_cases}
+use Rattle.gateway_run.proofs.ContinueLemmas.{back_same}
+use Rattle.gateway_run.proofs.PhaseLemmas.{giving_cases}
+use Rattle.gateway_run.proofs.StreamLemmas.{still_last}
 use Rattle.gateway_run.proofs.StepLemmas.{IsNext, sends_gave, time_same}
 use Rattle.gateway_run.proofs.TakeLemmas.{offered_as, looked_in, looked_stands}
 
-stands_giving : (phase : Phase) (g : Gateway) (c : Config) (events : List Event) → IsGiving phase → StandsIn phase g c events
-    → GatewayStandsFor g c events
-stands_giving phase g c events i s =
-    elim (giving_cases phase i) [
-      | inl gives ↦ subst (λ (p : Phase). StandsIn p g c events) gives s
-      | inr rests ↦
-          subst (λ (p : Phase). StandsIn p g c events) rests s
-    ]
+module _ (way : Sharing) where
+  stands_giving : (phase : Phase) (g : Config → List Event → Type 0) (c : Config) (events : List Event)
+      → IsGiving phase → StandsIn phase g c events
+      → g c events
+  stands_giving phase g c events i s =
+      elim (giving_cases phase i) [
+        | inl gives ↦ subst (λ (p : Phase). StandsIn p g c events) gives s
+        | inr rests ↦
+            subst (λ (p : Phase). StandsIn p g c events) rests s
+      ]
 
-giving_stands : (phase : Phase) (g : Gateway) (c : Config) (events : List Event) → IsGiving phase → GatewayStandsFor g c events
-    → StandsIn phase g c events
-giving_stands phase g c events i s =
-    elim (giving_cases phase i) [
-      | inl gives ↦ subst (λ (p : Phase). StandsIn p g c events) (sym gives) s
-      | inr rests ↦
-          subst (λ (p : Phase). StandsIn p g c events) (sym rests) s
-    ]
+  giving_stands : (phase : Phase) (g : Config → List Event → Type 0) (c : Config) (events : List Event)
+      → IsGiving phase → g c events
+      → StandsIn phase g c events
+  giving_stands phase g c events i s =
+      elim (giving_cases phase i) [
+        | inl gives ↦ subst (λ (p : Phase). StandsIn p g c events) (sym gives) s
+        | inr rests ↦
+            subst (λ (p : Phase). StandsIn p g c events) (sym rests) s
+      ]
 
-no_tails : (phase : Phase) (c : Config) (events : List Event) (tails : ℕ → List ℕ) → IsGiving phase → IsIn c events tails phase
-    → NoTails tails
-no_tails phase c events tails i s =
-    elim (giving_cases phase i) [
-      | inl gives ↦
-          (let at : NoTails tails × HasGiven c events (begun events - 1) = subst (λ (p : Phase). IsIn c events tails p) gives s in
-          at.0)
-      | inr rests ↦
-          (let at : NoTails tails × HasGiven c events (begun events) × (finished events ≡ true) =
-          subst (λ (p : Phase). IsIn c events tails p) rests s in at.0)
-    ]
+  no_tails : (phase : Phase) (c : Config) (events : List Event) (tails : ℕ → List ℕ) → IsGiving phase → IsIn way c events tails phase
+      → NoTails tails
+  no_tails phase c events tails i s =
+      elim (giving_cases phase i) [
+        | inl gives ↦
+            (let at : NoTails tails × HasGiven way c events (begun events - 1) = subst (λ (p : Phase). IsIn way c events tails p) gives s in
+            at.0)
+        | inr rests ↦
+            (let at : NoTails tails × HasGiven way c events (begun events) × (finished events ≡ true) =
+            subst (λ (p : Phase). IsIn way c events tails p) rests s in at.0)
+      ]
 
--- one unit more was given
-given_more : (c : Config) (events : List Event) (frames now : ℕ) → ((plp : ℕ) → told plp (events ++ Gave ∷ []) ≡ told plp events)
-    → now ≡ frames → HasGiven c events frames → HasGiven c (events ++ Gave ∷ []) now
-given_more c events frames now same e h = record {
-  begun_all = (let b = h.begun_all in let n = begun_same events Gave refl in omega (arith, b, n, e));
-  units = λ inputs k.
-      let w = h.units inputs (back_same c events Gave inputs same k) in
-      let m = given_with events Gave in
-      let q = ap (λ (j : ℕ). length (complete_units c.pid (front_packets c inputs j))) e in
-      omega (arith, w, m, q);
-}
+  -- one unit more was given
+  given_more : (c : Config) (events : List Event) (frames now : ℕ) → ((plp : ℕ) → told plp (events ++ Gave ∷ []) ≡ told plp events)
+      → now ≡ frames → HasGiven way c events frames → HasGiven way c (events ++ Gave ∷ []) now
+  given_more c events frames now same e h = record {
+    begun_all = (let b = h.begun_all in let n = begun_same events Gave refl in omega (arith, b, n, e));
+    units = λ inputs k.
+        let w = h.units inputs (back_same way c events Gave inputs same k) in
+        let m = given_with events Gave in
+        let q = ap (λ (j : ℕ). length (complete_units c.pid (front_packets c (streams_by way c inputs) j))) e in
+        omega (arith, w, m, q);
+  }
 
-in_giving : (phase : Phase) (c : Config) (events : List Event) (tails : ℕ → List ℕ) → IsGiving phase
-    → ((plp : ℕ) → told plp (events ++ Gave ∷ []) ≡ told plp events) → IsIn c events tails phase
-    → IsIn c (events ++ Gave ∷ []) tails phase
-in_giving phase c events tails i same s =
-    let n = begun_same events Gave refl in
-    elim (giving_cases phase i) [
-      | inl gives ↦
-          let at : NoTails tails × HasGiven c events (begun events - 1) = subst (λ (p : Phase). IsIn c events tails p) gives s in
-          subst (λ (p : Phase). IsIn c (events ++ Gave ∷ []) tails p) (sym gives)
-          (at.0, given_more c events (begun events - 1) (begun (events ++ Gave ∷ []) - 1) same (ap (λ (k : ℕ). k - 1) n) at.1)
-      | inr rests ↦
-          let at : NoTails tails × HasGiven c events (begun events) × (finished events ≡ true) =
-          subst (λ (p : Phase). IsIn c events tails p) rests s in
-          subst (λ (p : Phase). IsIn c (events ++ Gave ∷ []) tails p) (sym rests) (
-            at.0,
-            given_more c events (begun events) (begun (events ++ Gave ∷ [])) same n at.1,
-            finished_same events Gave refl
-                ∙ at.2,
-          )
-    ]
+  in_giving : (phase : Phase) (c : Config) (events : List Event) (tails : ℕ → List ℕ) → IsGiving phase
+      → ((plp : ℕ) → told plp (events ++ Gave ∷ []) ≡ told plp events) → IsIn way c events tails phase
+      → IsIn way c (events ++ Gave ∷ []) tails phase
+  in_giving phase c events tails i same s =
+      let n = begun_same events Gave refl in
+      elim (giving_cases phase i) [
+        | inl gives ↦
+            let at : NoTails tails × HasGiven way c events (begun events - 1) = subst (λ (p : Phase). IsIn way c events tails p) gives s in
+            subst (λ (p : Phase). IsIn way c (events ++ Gave ∷ []) tails p) (sym gives)
+            (at.0, given_more c events (begun events - 1) (begun (events ++ Gave ∷ []) - 1) same (ap (λ (k : ℕ). k - 1) n) at.1)
+        | inr rests ↦
+            let at : NoTails tails × HasGiven way c events (begun events) × (finished events ≡ true) =
+            subst (λ (p : Phase). IsIn way c events tails p) rests s in
+            subst (λ (p : Phase). IsIn way c (events ++ Gave ∷ []) tails p) (sym rests) (
+              at.0,
+              given_more c events (begun events) (begun (events ++ Gave ∷ [])) same n at.1,
+              finished_same events Gave refl
+                  ∙ at.2,
+            )
+      ]
 
--- A unit was given.
-pub unit_gave : EventsTell → (c : Config) (done : List run.Event) (g next : Gateway) (place : Place) (ran now : Ran)
-    (unit bytes : List ℕ) → IsGiving place.phase → bytes ≡ unit → now.frames ≡ ran.frames → now.units ≡ ran.units + 1
-    → ((c : Config) (events : List Event) → GatewayStandsFor g c events → IsNext c events unit)
-    → ((c : Config) (events : List Event) → GatewayStandsFor g c events → GatewayStandsFor next c (events ++ Gave ∷ []))
-    → Holds c done g place ran → Holds c (done ++ run.Gave bytes ∷ []) next place now
-unit_gave tell c done g next place ran now unit bytes i is frames units gives stands h =
-    let s = stands_giving place.phase g c h.events i h.stands in
-    let same : (plp : ℕ) → told plp (h.events ++ Gave ∷ []) ≡ told plp h.events =
-    λ plp. nothing_told plp h.events Gave refl refl refl in
-    let none = no_tails place.phase c h.events h.tails i h.is_in in
-    let f = tell.given bytes done in
-    record {
-      plan = h.plan;
-      events = h.events ++ Gave ∷ [];
-      stands = giving_stands place.phase next c (h.events ++ Gave ∷ []) i (stands c h.events s);
-      frames = frames ∙ h.frames ∙ sym (begun_same h.events Gave refl);
-      units = (let u = h.units in let m = given_with h.events Gave in omega (arith, units, u, m));
-      tails = h.tails;
-      inputs = record {
-        each = λ plp lt. offered_as _ _ _ _ (told plp h.events) (told plp (h.events ++ Gave ∷ [])) _ (f.fed plp) (f.ended plp)
-            (same plp) (h.inputs.each plp lt);
-        whole = λ plp on. none plp;
-      };
-      time = time_same c h.events Gave same refl
-          (λ on. still_last c h.events Gave same (h.time.last (sym (finished_same h.events Gave refl) ∙ on))) h.time;
-      sends = sends_gave c done (done ++ run.Gave bytes ∷ []) h.events unit (f.gave ∙ ap (λ (l : List ℕ). run.gave done ++ l) is)
-          (gives c h.events s) h.sends;
-      is_in = in_giving place.phase c h.events h.tails i same h.is_in;
-      cut = λ plp some. absurd (some (none plp));
-    }
+  -- A unit was given.
+  pub unit_gave : EventsTell → (c : Config) (done : List run.Event) (g next : Config → List Event → Type 0) (place : Place) (ran now : Ran)
+      (unit bytes : List ℕ) → IsGiving place.phase → bytes ≡ unit → now.frames ≡ ran.frames → now.units ≡ ran.units + 1
+      → ((events : List Event) → g c events → IsNext way c events unit)
+      → ((events : List Event) → g c events → next c (events ++ Gave ∷ []))
+      → Holds way c done g place ran → Holds way c (done ++ run.Gave bytes ∷ []) next place now
+  unit_gave tell c done g next place ran now unit bytes i is frames units gives stands h =
+      let s = stands_giving place.phase g c h.events i h.stands in
+      let same : (plp : ℕ) → told plp (h.events ++ Gave ∷ []) ≡ told plp h.events =
+      λ plp. nothing_told plp h.events Gave refl refl refl in
+      let none = no_tails place.phase c h.events h.tails i h.is_in in
+      let f = tell.given bytes done in
+      record {
+        plan = h.plan;
+        events = h.events ++ Gave ∷ [];
+        stands = giving_stands place.phase next c (h.events ++ Gave ∷ []) i (stands h.events s);
+        frames = frames ∙ h.frames ∙ sym (begun_same h.events Gave refl);
+        units = (let u = h.units in let m = given_with h.events Gave in omega (arith, units, u, m));
+        tails = h.tails;
+        inputs = record {
+          each = λ plp lt. offered_as _ _ _ _ (told (place_of way c plp) h.events) (told (place_of way c plp) (h.events ++ Gave ∷ [])) _ (f.fed plp) (f.ended plp)
+              (same (place_of way c plp)) (h.inputs.each plp lt);
+          whole = λ plp on. none plp;
+        };
+        time = time_same way c h.events Gave same refl
+            (λ on. still_last way c h.events Gave h.plan.rules same (h.time.last (sym (finished_same h.events Gave refl) ∙ on))) h.time;
+        sends = sends_gave way c done (done ++ run.Gave bytes ∷ []) h.events unit (f.gave ∙ ap (λ (l : List ℕ). run.gave done ++ l) is)
+            (gives h.events s) h.sends;
+        is_in = in_giving place.phase c h.events h.tails i same h.is_in;
+        cut = λ plp some. absurd (some (none plp));
+      }
 
--- what holds of a gateway that stands for the same, if nothing was given
-moved : EventsTell → (c : Config) (done : List run.Event) (g next : Gateway) (place after : Place) (ran : Ran)
-    (h : Holds c done g place ran) → StandsIn after.phase next c h.events → IsIn c h.events h.tails after.phase
-    → ((plp : ℕ) → h.tails plp ≢ [] → (slice_index (h.tails plp) 0 ≢ SYNC) ⊎ (run.has_ended plp done ≡ true))
-    → Holds c (done ++ run.Gave [] ∷ []) next after ran
-moved tell c done g next place after ran h stands at cut =
-    let f = tell.given [] done in
-    record {
-      plan = h.plan;
-      events = h.events;
-      stands = stands;
-      frames = h.frames;
-      units = h.units;
-      tails = h.tails;
-      inputs =
-          record {
-            each = λ plp lt. offered_as _ _ _ _ (told plp h.events) (told plp h.events) _ (f.fed plp) (f.ended plp) refl
-                (h.inputs.each plp lt);
-            whole = h.inputs.whole;
-          };
-      time = h.time;
-      sends = record {
-        units = h.sends.units;
-        gave = f.gave ∙ append-nil (run.gave done) ∙ h.sends.gave;
-        count = h.sends.count;
-        front = h.sends.front;
-      };
-      is_in = at;
-      cut = λ plp some. elim (cut plp some) [ inl sync ↦ inl sync | inr on ↦ inr (f.ended plp ∙ on) ];
-    }
+  -- what holds of a gateway that stands for the same, if nothing was given
+  moved : EventsTell → (c : Config) (done : List run.Event) (g next : Config → List Event → Type 0) (place after : Place) (ran : Ran)
+      (h : Holds way c done g place ran) → StandsIn after.phase next c h.events → IsIn way c h.events h.tails after.phase
+      → ((plp : ℕ) → h.tails plp ≢ [] → (slice_index (h.tails plp) 0 ≢ SYNC) ⊎ (run.has_ended plp done ≡ true))
+      → Holds way c (done ++ run.Gave [] ∷ []) next after ran
+  moved tell c done g next place after ran h stands at cut =
+      let f = tell.given [] done in
+      record {
+        plan = h.plan;
+        events = h.events;
+        stands = stands;
+        frames = h.frames;
+        units = h.units;
+        tails = h.tails;
+        inputs =
+            record {
+              each = λ plp lt. offered_as _ _ _ _ (told (place_of way c plp) h.events) (told (place_of way c plp) h.events) _ (f.fed plp) (f.ended plp) refl
+                  (h.inputs.each plp lt);
+              whole = h.inputs.whole;
+            };
+        time = h.time;
+        sends = record {
+          units = h.sends.units;
+          gave = f.gave ∙ append-nil (run.gave done) ∙ h.sends.gave;
+          count = h.sends.count;
+          front = h.sends.front;
+        };
+        is_in = at;
+        cut = λ plp some. elim (cut plp some) [ inl sync ↦ inl sync | inr on ↦ inr (f.ended plp ∙ on) ];
+      }
 
-pub nothing_gave : EventsTell → (c : Config) (done : List run.Event) (g : Gateway) (place : Place) (ran : Ran)
-    → Holds c done g place ran → Holds c (done ++ run.Gave [] ∷ []) g place ran
-nothing_gave tell c done g place ran h = moved tell c done g g place place ran h h.stands h.is_in h.cut
+  pub nothing_gave : EventsTell → (c : Config) (done : List run.Event) (g : Config → List Event → Type 0) (place : Place) (ran : Ran)
+      → Holds way c done g place ran → Holds way c (done ++ run.Gave [] ∷ []) g place ran
+  nothing_gave tell c done g place ran h = moved tell c done g g place place ran h h.stands h.is_in h.cut
 
--- All units of the run were given.
-units_over : EventsTell → (c : Config) (done : List run.Event) (g next : Gateway) (place after : Place) (ran : Ran)
-    → place.phase ≡ Rests → after.phase ≡ Done
-    → ((c : Config) (events : List Event) → GatewayStandsFor g c events → finished events ≡ true → AreAll c events)
-    → Holds c done g place ran → Holds c (done ++ run.Gave [] ∷ []) next after ran
-units_over tell c done g next place after ran e to none h =
-    let s : GatewayStandsFor g c h.events = subst (λ (p : Phase). StandsIn p g c h.events) e h.stands in
-    let i : NoTails h.tails × HasGiven c h.events (begun h.events) × (finished h.events ≡ true) =
-    subst (λ (p : Phase). IsIn c h.events h.tails p) e h.is_in in
-    moved tell c done g next place after ran h (subst (λ (p : Phase). StandsIn p next c h.events) (sym to) tt)
-    (subst (λ (p : Phase). IsIn c h.events h.tails p) (sym to) (i.0, i.2, none c h.events s i.2))
-    (λ plp some. absurd (some (i.0 plp)))
+  -- All units of the run were given.
+  units_over : EventsTell → (c : Config) (done : List run.Event) (g next : Config → List Event → Type 0) (place after : Place) (ran : Ran)
+      → place.phase ≡ Rests → after.phase ≡ Done
+      → ((events : List Event) → g c events → finished events ≡ true → AreAll way c events)
+      → Holds way c done g place ran → Holds way c (done ++ run.Gave [] ∷ []) next after ran
+  units_over tell c done g next place after ran e to none h =
+      let s : g c h.events = subst (λ (p : Phase). StandsIn p g c h.events) e h.stands in
+      let i : NoTails h.tails × HasGiven way c h.events (begun h.events) × (finished h.events ≡ true) =
+      subst (λ (p : Phase). IsIn way c h.events h.tails p) e h.is_in in
+      moved tell c done g next place after ran h (subst (λ (p : Phase). StandsIn p next c h.events) (sym to) tt)
+      (subst (λ (p : Phase). IsIn way c h.events h.tails p) (sym to) (i.0, i.2, none h.events s i.2))
+      (λ plp some. absurd (some (i.0 plp)))
 
--- All complete units of the frames begun were given.
-units_out : EventsTell → (c : Config) (done : List run.Event) (g next : Gateway) (place after : Place) (ran : Ran)
-    (from count : ℕ) → IsGiving place.phase → IsLooked next from count after
-    → ((c : Config) (events : List Event) → GatewayStandsFor g c events → GatewayStandsFor next c events)
-    → ((c : Config) (events : List Event) → GatewayStandsFor g c events → finished events ≡ false → AreComplete c events)
-    → ((events : List Event) → GatewayStandsFor g c events → finished events ≡ false)
-    → Holds c done g place ran → Holds c (done ++ run.Gave [] ∷ []) next after ran
-units_out tell c done g next place after ran from count i look still caught off h =
-    let s = stands_giving place.phase g c h.events i h.stands in
-    let none = no_tails place.phase c h.events h.tails i h.is_in in
-    moved tell c done g next place after ran h
-    (looked_stands next from count after.plp c h.events after.phase look (still c h.events s))
-    (looked_in next from count after.plp c h.events h.tails after.phase look none (caught c h.events s (off h.events s)))
-    (λ plp some. absurd (some (none plp)))
+  -- All complete units of the frames begun were given.
+  units_out : EventsTell → (c : Config) (done : List run.Event) (g next : Config → List Event → Type 0) (place after : Place) (ran : Ran)
+      → IsGiving place.phase → IsLooking after.phase
+      → ((events : List Event) → g c events → next c events)
+      → ((events : List Event) → g c events → finished events ≡ false → AreComplete way c events)
+      → ((events : List Event) → g c events → finished events ≡ false)
+      → Holds way c done g place ran → Holds way c (done ++ run.Gave [] ∷ []) next after ran
+  units_out tell c done g next place after ran i look still caught off h =
+      let s = stands_giving place.phase g c h.events i h.stands in
+      let none = no_tails place.phase c h.events h.tails i h.is_in in
+      moved tell c done g next place after ran h
+      (looked_stands way next c h.events after.phase look (still h.events s))
+      (looked_in way c h.events h.tails after.phase look none (caught h.events s (off h.events s)))
+      (λ plp some. absurd (some (none plp)))
 
--- No unit was given, and what comes behind them.
-pub gave_none : EventsTell → (c : Config) (done : List run.Event) (g next : Gateway) (place after : Place) (ran : Ran)
-    → IsReady g c place ran → IsGiving place.phase → IsBehindAs place.phase next (length c.plps) after
-    → ((c : Config) (events : List Event) → GatewayStandsFor g c events → GatewayStandsFor next c events)
-    → ((c : Config) (events : List Event) → GatewayStandsFor g c events → finished events ≡ false → AreComplete c events)
-    → ((c : Config) (events : List Event) → GatewayStandsFor g c events → finished events ≡ true → AreAll c events)
-    → Holds c done g place ran → Holds c (done ++ run.Gave [] ∷ []) next after ran
-gave_none tell c done g next place after ran r i b still caught none h =
-    elim (giving_cases place.phase i) [
-      | inl gives ↦ units_out tell c done g next place after ran 0 (length c.plps) i
-          (subst (λ (p : Phase). IsBehindAs p next (length c.plps) after) gives b) still caught
-          (λ events s. sym (finished_is g c events s) ∙ r.giving gives) h
-      | inr rests ↦ units_over tell c done g next place after ran rests
-          (subst (λ (p : Phase). IsBehindAs p next (length c.plps) after) rests b) none h
-    ]
+  -- No unit was given, and what comes behind them.
+  pub gave_none : EventsTell → (c : Config) (done : List run.Event) (g next : Config → List Event → Type 0) (place after : Place) (ran : Ran)
+      → (place.phase ≡ Gives → (events : List Event) → g c events → finished events ≡ false) → IsGiving place.phase
+      → IsBehind place.phase after.phase
+      → ((events : List Event) → g c events → next c events)
+      → ((events : List Event) → g c events → finished events ≡ false → AreComplete way c events)
+      → ((events : List Event) → g c events → finished events ≡ true → AreAll way c events)
+      → Holds way c done g place ran → Holds way c (done ++ run.Gave [] ∷ []) next after ran
+  gave_none tell c done g next place after ran going i b still caught none h =
+      elim (giving_cases place.phase i) [
+        | inl gives ↦ units_out tell c done g next place after ran i (subst (λ (p : Phase). IsBehind p after.phase) gives b) still caught
+            (going gives) h
+        | inr rests ↦ units_over tell c done g next place after ran rests (subst (λ (p : Phase). IsBehind p after.phase) rests b) none h
+      ]
 
 -- what is left to give is less behind a unit
-pub unit_left : (phase : Phase) (g next : Gateway) (frames : ℕ) → IsGiving phase → bytes_left next < bytes_left g
-    → left_of next phase frames < left_of g phase frames
-unit_left Wants g next frames i less = absurd i
-unit_left Begins g next frames i less = absurd i
-unit_left Gives g next frames i less = omega (arith, less)
-unit_left Rests g next frames i less = omega (arith, less)
-unit_left Done g next frames i less = absurd i
-unit_left (Stopped why) g next frames i less = absurd i
+pub unit_left : (phase : Phase) (bytes later frames : ℕ) → IsGiving phase → later < bytes
+    → left_by later phase frames < left_by bytes phase frames
+unit_left Wants bytes later frames i less = absurd i
+unit_left Begins bytes later frames i less = absurd i
+unit_left Gives bytes later frames i less = omega (arith, less)
+unit_left Rests bytes later frames i less = omega (arith, less)
+unit_left Done bytes later frames i less = absurd i
+unit_left (Stopped why) bytes later frames i less = absurd i
 
-looked_left : (phase : Phase) (g next : Gateway) (frames from count plp : ℕ) → bytes_left next ≡ bytes_left g
-    → IsLookedAs next from count plp phase → left_of next phase frames < left_of g Gives frames
-looked_left Wants g next frames from count plp kept l = omega (arith, kept)
-looked_left Begins g next frames from count plp kept l = omega (arith, kept)
-looked_left Gives g next frames from count plp kept l = absurd l
-looked_left Rests g next frames from count plp kept l = absurd l
-looked_left Done g next frames from count plp kept l = absurd l
-looked_left (Stopped why) g next frames from count plp kept l = absurd l
+looked_left : (phase : Phase) (bytes later frames : ℕ) → later ≡ bytes → IsLooking phase
+    → left_by later phase frames < left_by bytes Gives frames
+looked_left Wants bytes later frames kept l = omega (arith, kept)
+looked_left Begins bytes later frames kept l = omega (arith, kept)
+looked_left Gives bytes later frames kept l = absurd l
+looked_left Rests bytes later frames kept l = absurd l
+looked_left Done bytes later frames kept l = absurd l
+looked_left (Stopped why) bytes later frames kept l = absurd l
 
 -- and behind the last one
-pub behind_left : (phase : Phase) (g next : Gateway) (frames count : ℕ) (after : Place) → IsGiving phase
-    → bytes_left next ≡ bytes_left g → IsBehindAs phase next count after → left_of next after.phase frames
-    < left_of g phase frames
-behind_left Wants g next frames count after i kept b = absurd i
-behind_left Begins g next frames count after i kept b = absurd i
-behind_left Gives g next frames count after i kept b = looked_left after.phase g next frames 0 count after.plp kept b
-behind_left Rests g next frames count after i kept b = let less : left_of next Done frames < left_of g Rests frames =
-    omega arith in subst (λ (p : Phase). left_of next p frames < left_of g Rests frames) (sym b) less
-behind_left Done g next frames count after i kept b = absurd i
-behind_left (Stopped why) g next frames count after i kept b = absurd i
+pub behind_left : (phase : Phase) (bytes later frames : ℕ) (after : Phase) → IsGiving phase → later ≡ bytes → IsBehind phase after
+    → left_by later after frames < left_by bytes phase frames
+behind_left Wants bytes later frames after i kept b = absurd i
+behind_left Begins bytes later frames after i kept b = absurd i
+behind_left Gives bytes later frames after i kept b = looked_left after bytes later frames kept b
+behind_left Rests bytes later frames after i kept b =
+    let less : left_by later Done frames < left_by bytes Rests frames = omega arith in
+    subst (λ (p : Phase). left_by later p frames < left_by bytes Rests frames) (sym b) less
+behind_left Done bytes later frames after i kept b = absurd i
+behind_left (Stopped why) bytes later frames after i kept b = absurd i

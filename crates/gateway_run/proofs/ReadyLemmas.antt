@@ -6,26 +6,13 @@ use Rattle.plp_config.specs.declared.config.Config.{Config}
 use Rattle.plp_config.specs.declared.moment.TheConstants.{MOST_FRAMES}
 use Rattle.gateway_core.specs.StandsFor.{Status, status_of, plps_of, wants_of, frame_of, has_unit, bytes_left}
 use Rattle.gateway_core.specs.declared.gateway.Gateway.{Gateway}
-use Rattle.gateway_run.specs.Ready.{IsIdle, IsReady, IsGiving, IsUsed, IsLookedAs, IsLooked, IsBehindAs}
+use Rattle.gateway_run.specs.Phases.{IsGiving, IsUsed}
+use Rattle.gateway_run.specs.Ready.{IsIdle, IsReady, IsLookedAs, IsLooked, IsBehindAs}
+use Rattle.gateway_run.proofs.PhaseLemmas.{giving_cases, giving_used}
 use Rattle.gateway_run.specs.declared.place.Phase.{Phase}
 use Rattle.gateway_run.specs.declared.place.Phase.TheVariants.{Wants, Begins, Gives, Rests, Done, Stopped}
 use Rattle.gateway_run.specs.declared.place.Place.{Place}
 use Rattle.gateway_run.specs.declared.stop.Ran.{Ran}
-
-pub giving_cases : (phase : Phase) → IsGiving phase → (phase ≡ Gives) ⊎ (phase ≡ Rests)
-giving_cases Wants i = absurd i
-giving_cases Begins i = absurd i
-giving_cases Gives i = inl refl
-giving_cases Rests i = inr refl
-giving_cases Done i = absurd i
-giving_cases (Stopped why) i = absurd i
-
-giving_used : (phase : Phase) → IsGiving phase → IsUsed phase
-giving_used phase i = elim (giving_cases phase i) [
-  | inl gives ↦ subst (λ (p : Phase). IsUsed p) (sym gives) tt
-  | inr rests ↦
-      subst (λ (p : Phase). IsUsed p) (sym rests) tt
-]
 
 -- what it counted is what it tells
 pub record IsCounted (g : Gateway) (c : Config) (ran : Ran) : Type 0 where
@@ -42,8 +29,8 @@ looked_ready g c after ran n idle look = record {
   early = n.early;
   few = λ _. n.few;
   wanting = λ e.
-      let l : (after.plp < length c.plps) × (0 < wants_of g after.plp) × ((k : ℕ) → 0 ≤ k → k < after.plp → wants_of g k ≡ 0) =
-      subst (λ (p : Phase). IsLookedAs g 0 (length c.plps) after.plp p) e look in
+      let l : (after.input < length c.plps) × (0 < wants_of g after.input) × ((k : ℕ) → 0 ≤ k → k < after.input → wants_of g k ≡ 0) =
+      subst (λ (p : Phase). IsLookedAs g 0 (length c.plps) after.input p) e look in
       record {
         place = (let a = l.0 in let p = n.plps in omega (arith, a, p));
         some = l.1;
@@ -52,10 +39,10 @@ looked_ready g c after ran n idle look = record {
       };
   beginning = λ e.
       let l : (k : ℕ) → 0 ≤ k → k < length c.plps → wants_of g k ≡ 0 =
-      subst (λ (p : Phase). IsLookedAs g 0 (length c.plps) after.plp p) e look in
+      subst (λ (p : Phase). IsLookedAs g 0 (length c.plps) after.input p) e look in
       record { none = λ k lt. l k (omega arith) (let p = n.plps in omega (arith, lt, p)); idle = idle };
-  giving = λ e. absurd (subst (λ (p : Phase). IsLookedAs g 0 (length c.plps) after.plp p) e look);
-  resting = λ e. absurd (subst (λ (p : Phase). IsLookedAs g 0 (length c.plps) after.plp p) e look);
+  giving = λ e. absurd (subst (λ (p : Phase). IsLookedAs g 0 (length c.plps) after.input p) e look);
+  resting = λ e. absurd (subst (λ (p : Phase). IsLookedAs g 0 (length c.plps) after.input p) e look);
 }
 
 -- a look from a place on finds what one over all inputs would, if nothing is wanted of those below
@@ -75,8 +62,8 @@ looked_whole g from count all plp (Stopped why) e below l = absurd l
 
 -- behind a packet or an end of the input that was looked at, the look goes on from it
 pub ready_on : (g next : Gateway) (c : Config) (place after : Place) (ran : Ran) (count : ℕ) → IsReady g c place ran
-    → place.phase ≡ Wants → status_of next ≡ status_of g → ((k : ℕ) → k ≢ place.plp → wants_of next k ≡ wants_of g k)
-    → count ≡ length c.plps → IsLooked next place.plp count after → IsReady next c after ran
+    → place.phase ≡ Wants → status_of next ≡ status_of g → ((k : ℕ) → k ≢ place.input → wants_of next k ≡ wants_of g k)
+    → count ≡ length c.plps → IsLooked next place.input count after → IsReady next c after ran
 ready_on g next c place after ran count r wants status others len look =
     let used : IsUsed place.phase = subst (λ (p : Phase). IsUsed p) (sym wants) tt in
     let w = r.wanting wants in
@@ -92,7 +79,7 @@ ready_on g next c place after ran count r wants status others len look =
       is_open = ap (λ (s : Status). s.finished) status ∙ w.idle.is_open;
     } in
     looked_ready next c after ran n idle
-    (looked_whole next place.plp count (length c.plps) after.plp after.phase len
+    (looked_whole next place.input count (length c.plps) after.input after.phase len
     (λ k lt. others k (λ e. absurd (omega (arith, lt, e))) ∙ w.below k lt) look)
 
 done_ready : (g : Gateway) (c : Config) (after : Place) (ran : Ran) → IsCounted g c ran → after.phase ≡ Done

@@ -43,9 +43,9 @@ impl<'p> Machine for GatewayMachine<'p> {
     fn step(&self) -> Step {
         match self.place.phase {
             Phase::Wants => Step::Read {
-                input: self.place.plp,
+                input: self.place.input,
                 least: SIZE,
-                most: SIZE as u64 * self.gateway.wants(self.place.plp).min(PACKETS),
+                most: SIZE as u64 * self.gateway.wants(self.place.input).min(PACKETS),
             },
             Phase::Begins | Phase::Gives | Phase::Rests => Step::Give,
             Phase::Done | Phase::Stopped(_) => Step::End,
@@ -78,7 +78,7 @@ impl<'p> Machine for GatewayMachine<'p> {
 }
 
 impl<'p> Ending for GatewayMachine<'p> {
-    ghost use Rattle.gateway_run.specs.AsMachine.{ending_of};
+    ghost use Rattle.gateway_run.specs.Phases.{ending_of};
 
     type Ran = Ran;
 
@@ -108,7 +108,7 @@ impl<'p> GatewayMachine<'p> {
             plan,
             gateway: Gateway::open(alloc, plan)?,
             place: Place {
-                plp: 0,
+                input: 0,
                 phase: Phase::Gives,
             },
             ran: Ran {

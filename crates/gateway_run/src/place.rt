@@ -22,6 +22,6 @@ pub enum Phase {
 /// The input that is looked at, and what comes next.
 #[derive(Clone, Copy, Debug, PartialEq, Eq)]
 pub struct Place {
-    pub plp: usize,
+    pub input: usize,
     pub phase: Phase,
 }

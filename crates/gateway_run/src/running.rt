@@ -5,7 +5,7 @@ ghost use Rattle.gateway_run.specs.GatewayRun.{RunsAll, Stops};
 use crate::machine::GatewayMachine;
 use crate::stop::{GatewayStop, Ran};
 use file_run::{RunStop, events_law, run_one};
-use gateway_core::{ahead_law, front_law, last_law, units_law};
+use gateway_core::{ahead_law, front_law, units_law};
 use plp_config::Plan;
 use ports::{Desk, Word};
 use std::alloc::Global;
@@ -27,7 +27,6 @@ pub fn run<D: Desk>(
 {
     events_law();
     front_law();
-    last_law();
     units_law();
     ahead_law();
     let mut machine = GatewayMachine::open(alloc, plan)?;

@@ -1,9 +1,10 @@
 // The steps of a gateway between files.
 ghost use Rattle.std.specs.Prelude.{◌≡◌, ◌<◌, ◌≤◌, ◌++◌, ◌∷◌, ◌^◌, ℕ, List, [], length, take};
 ghost use Rattle.file_run.specs.Events.{Event, Fed, Ended, Gave};
-ghost use Rattle.gateway_core.specs.StandsFor.{plps_of, wants_of};
-ghost use Rattle.gateway_run.specs.Ready.{IsReady, IsLooked, IsBad, IsGiving, IsBehindAs, left_of};
-ghost use Rattle.gateway_run.specs.AsMachine.{frame_read};
+ghost use Rattle.common_plp.specs.Sharing.{Apart};
+ghost use Rattle.gateway_core.specs.StandsFor.{GatewayStandsFor, plps_of, wants_of};
+ghost use Rattle.gateway_run.specs.Ready.{IsReady, IsLooked, IsBehindAs, left_of};
+ghost use Rattle.gateway_run.specs.Phases.{IsBad, IsGiving, frame_read};
 ghost use Rattle.gateway_run.specs.Holds.{Holds};
 ghost use Rattle.gateway_run.specs.declared.place.Place.{Place};
 ghost use Rattle.gateway_run.specs.declared.place.Phase.TheVariants.{Wants, Begins};
@@ -15,8 +16,8 @@ use gateway_core::{Gateway, front_law, not_yet_last_law};
 use plp_config::{MOST_FRAMES, Plan};
 use ts_packet::{SIZE, SYNC, TsPacket};
 
-// The packet at the front of some bytes.
-fn front_packet(bytes: &[u8]) -> TsPacket
+/// The packet at the front of some bytes.
+pub fn front_packet(bytes: &[u8]) -> TsPacket
     requires { SIZE ≤ length bytes.now }
     ensures { result ≡ take SIZE bytes.now }
 {
@@ -35,43 +36,51 @@ fn look(gateway: &Gateway<'_>, from: usize, count: usize) -> Place
     while plp < count {
         if gateway.wants(plp) > 0 {
             return Place {
-                plp,
+                input: plp,
                 phase: Phase::Wants,
             };
         }
         plp += 1;
     }
     Place {
-        plp,
+        input: plp,
         phase: Phase::Begins,
     }
 }
 
-// Where it stops.
-fn stopped(why: GatewayStop) -> Place
-    ensures { result ≡ record { plp = 0; phase = Phase.Stopped why } }
+/// Where it stops.
+pub fn stopped(why: GatewayStop) -> Place
+    ensures { result ≡ record { input = 0; phase = Phase.Stopped why } }
 {
     Place {
-        plp: 0,
+        input: 0,
         phase: Phase::Stopped(why),
     }
 }
 
-// The next packet of an input is bad.
+/// The next packet of the input of a PLP is bad, of which the next frame still wants so many.
+pub fn bad_at(plan: &Plan, plp: usize, input: usize, frames: u64, wants: u64) -> Place
+    requires place { plp < length plan.now.plps }
+    requires input { input ≤ plp }
+    requires early { frames ≤ MOST_FRAMES }
+    ensures { IsBad plan.now plp input frames wants result }
+{
+    let ticks = u64::from(plan.config().ticks);
+    let packet = plan.slots_by(plp, frames * ticks).saturating_sub(wants);
+    stopped(GatewayStop::Bad {
+        input: input as u8,
+        packet,
+    })
+}
+
+// The same, where each input goes in its own PLP.
 fn bad(gateway: &Gateway<'_>, plan: &Plan, plp: usize, frames: u64) -> Place
     requires place { plp < length plan.now.plps }
     requires plps { plps_of gateway.now ≡ length plan.now.plps }
     requires early { frames ≤ MOST_FRAMES }
-    ensures { IsBad plan.now plp frames (wants_of gateway.now plp) result }
+    ensures { IsBad plan.now plp plp frames (wants_of gateway.now plp) result }
 {
-    let ticks = u64::from(plan.config().ticks);
-    let packet = plan
-        .slots_by(plp, frames * ticks)
-        .saturating_sub(gateway.wants(plp));
-    stopped(GatewayStop::Bad {
-        input: plp as u8,
-        packet,
-    })
+    bad_at(plan, plp, plp, frames, gateway.wants(plp))
 }
 
 /// Takes the packet at the front of the bytes of the input that is looked at, or stops at it.
@@ -87,16 +96,16 @@ pub fn take_packet(
     requires long { SIZE ≤ length bytes.now }
     ensures ready { IsReady gateway.new plan.now result ran }
     ensures read { frame_read result.phase ran.frames ≡ ran.frames }
-    ensures holds { (done : List Event) → Holds plan.now done gateway.old place ran
-        → Holds plan.now (done ++ Fed place.plp (take SIZE bytes.now) ∷ []) gateway.new result ran }
+    ensures holds { (done : List Event) → Holds Apart plan.now done (GatewayStandsFor gateway.old) place ran
+        → Holds Apart plan.now (done ++ Fed place.input (take SIZE bytes.now) ∷ []) (GatewayStandsFor gateway.new) result ran }
 {
     events_law();
     let packet = front_packet(bytes);
     if packet.as_array()[0] != SYNC {
-        return bad(gateway, plan, place.plp, ran.frames);
+        return bad(gateway, plan, place.input, ran.frames);
     }
-    gateway.offer(place.plp, &packet);
-    look(gateway, place.plp, plan.config().plps.len())
+    gateway.offer(place.input, &packet);
+    look(gateway, place.input, plan.config().plps.len())
 }
 
 /// The file of the input that is looked at has ended behind these bytes.
@@ -112,17 +121,17 @@ pub fn end_input(
     requires short { length bytes.now < SIZE }
     ensures ready { IsReady gateway.new plan.now result ran }
     ensures read { frame_read result.phase ran.frames ≡ ran.frames }
-    ensures holds { (done : List Event) → Holds plan.now done gateway.old place ran
-        → Holds plan.now (done ++ Ended place.plp bytes.now ∷ []) gateway.new result ran }
+    ensures holds { (done : List Event) → Holds Apart plan.now done (GatewayStandsFor gateway.old) place ran
+        → Holds Apart plan.now (done ++ Ended place.input bytes.now ∷ []) (GatewayStandsFor gateway.new) result ran }
 {
     events_law();
     let rest = bytes.len();
     if rest > 0 {
-        return bad(gateway, plan, place.plp, ran.frames);
+        return bad(gateway, plan, place.input, ran.frames);
     }
     let count = plan.config().plps.len();
-    gateway.end_input(place.plp);
-    look(gateway, place.plp, count)
+    gateway.end_input(place.input);
+    look(gateway, place.input, count)
 }
 
 /// Begins the next frame, or the rest if no frame comes.
@@ -132,8 +141,8 @@ pub fn begin(gateway: &mut Gateway<'_>, plan: &Plan, place: Place, ran: &mut Ran
     ensures ready { IsReady gateway.new plan.now result ran.new }
     ensures left { left_of gateway.new result.phase ran.new.frames < left_of gateway.old place.phase ran.old.frames }
     ensures read { frame_read result.phase ran.new.frames ≡ ran.old.frames }
-    ensures holds { (done : List Event) → Holds plan.now done gateway.old place ran.old
-        → Holds plan.now done gateway.new result ran.new }
+    ensures holds { (done : List Event) → Holds Apart plan.now done (GatewayStandsFor gateway.old) place ran.old
+        → Holds Apart plan.now done (GatewayStandsFor gateway.new) result ran.new }
 {
     not_yet_last_law();
     front_law();
@@ -141,7 +150,7 @@ pub fn begin(gateway: &mut Gateway<'_>, plan: &Plan, place: Place, ran: &mut Ran
     if gateway.last() {
         gateway.finish();
         return Place {
-            plp: 0,
+            input: 0,
             phase: Phase::Rests,
         };
     }
@@ -151,7 +160,7 @@ pub fn begin(gateway: &mut Gateway<'_>, plan: &Plan, place: Place, ran: &mut Ran
     gateway.begin_frame();
     ran.frames += 1;
     Place {
-        plp: 0,
+        input: 0,
         phase: Phase::Gives,
     }
 }
@@ -163,7 +172,7 @@ fn behind(gateway: &Gateway<'_>, plan: &Plan, place: Place) -> Place
 {
     match place.phase {
         Phase::Rests => Place {
-            plp: 0,
+            input: 0,
             phase: Phase::Done,
         },
         _ => look(gateway, 0, plan.config().plps.len()),
@@ -186,8 +195,8 @@ pub fn give(
     ensures frames { ran.new.frames ≡ ran.old.frames }
     ensures left { left_of gateway.new place.new.phase ran.new.frames < left_of gateway.old place.old.phase ran.old.frames }
     ensures read { frame_read place.old.phase ran.old.frames ≤ frame_read place.new.phase ran.new.frames }
-    ensures holds { (done : List Event) → Holds plan.now done gateway.old place.old ran.old
-        → Holds plan.now (done ++ Gave (take result unit.new) ∷ []) gateway.new place.new ran.new }
+    ensures holds { (done : List Event) → Holds Apart plan.now done (GatewayStandsFor gateway.old) place.old ran.old
+        → Holds Apart plan.now (done ++ Gave (take result unit.new) ∷ []) (GatewayStandsFor gateway.new) place.new ran.new }
 {
     events_law();
     if gateway.next_ts(unit) {

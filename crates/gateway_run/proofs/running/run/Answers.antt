@@ -2,7 +2,7 @@ use Rattle.std.proofs.Common.{length, ap, sym, subst, ◌∙◌}
 use Rattle.std.specs.Prelude.{IfOk, IfErr}
 use Rattle.plp_config.specs.declared.config.Config.{Config}
 use Rattle.gateway_run.specs.GatewayRun.{RunsAll, Stops}
-use Rattle.gateway_run.proofs.RunLemmas.{answers}
+use Rattle.gateway_run.proofs.GatewayLemmas.{answers_of}
 use Rattle.gateway_run.proofs.running.run.Goals as goal
 
 pub returns-clause-err : goal.returns-clause-err
@@ -12,7 +12,7 @@ returns-clause-err g c =
     IfErr c.run_one.result
     (Stops k (g.D.Desk.state c.args.desk.now) (g.D.Desk.state c.run_one.new.desk) c.args.out.now c.args.ins.now))
     same
-    ((answers c.events_law.ensures c.units_law.ensures c.front_law.ensures.grow c.last_law.ensures c.ahead_law.ensures
+    ((answers_of c.events_law.ensures c.units_law.ensures c.front_law.ensures.grow c.ahead_law.ensures
     c.in_ok-machine.machine c.run_one.new.machine _ _ c.args.out.now c.args.ins.now c.run_one.result
     (c.requires.count ∙ ap (λ (k : Config). length k.plps) (sym same)) c.run_one.ensures).1)
 
@@ -24,6 +24,6 @@ returns-clause-ok g c =
     (λ ran. RunsAll k (g.D.Desk.state c.args.desk.now) (g.D.Desk.state c.run_one.new.desk) c.args.out.now c.args.ins.now
     ran.frames ran.units))
     same
-    ((answers c.events_law.ensures c.units_law.ensures c.front_law.ensures.grow c.last_law.ensures c.ahead_law.ensures
+    ((answers_of c.events_law.ensures c.units_law.ensures c.front_law.ensures.grow c.ahead_law.ensures
     c.in_ok-machine.machine c.run_one.new.machine _ _ c.args.out.now c.args.ins.now c.run_one.result
     (c.requires.count ∙ ap (λ (k : Config). length k.plps) (sym same)) c.run_one.ensures).0)

@@ -2,16 +2,19 @@ use Rattle.std.proofs.Common.{ap, arith, ℕ, List, [], ◌∷◌, ◌++◌, dro
 use Rattle.std.proofs.lemmas.List.{take-append-le}
 use Rattle.ts_packet.specs.declared.sizes.TheConstants.{SIZE}
 use Rattle.file_run.specs.Events.{Gave}
-use Rattle.gateway_run.specs.AsMachine.{frame_read}
+use Rattle.common_plp.specs.Sharing.{Apart}
+use Rattle.gateway_core.specs.StandsFor.{GatewayStandsFor, wants_of}
+use Rattle.gateway_run.specs.Phases.{frame_read}
 use Rattle.gateway_run.specs.Holds.{Holds}
 use Rattle.gateway_run.specs.declared.place.Phase.{Phase}
 use Rattle.gateway_run.proofs.GiveLemmas.{nothing_gave}
-use Rattle.gateway_run.proofs.MachineLemmas.{giving_at, reach_more}
+use Rattle.gateway_run.proofs.MachineLemmas.{reach_more}
+use Rattle.gateway_run.proofs.PhaseLemmas.{giving_at}
 use Rattle.gateway_run.proofs.machine.GatewayMachineMachine.give.Goals as goal
 
 pub returns-in-Begins-clause-becomes : goal.returns-in-Begins-clause-becomes
 returns-in-Begins-clause-becomes c =
-    λ start events h. (h.0, nothing_gave c.events_law.ensures _ events _ _ _ (c.begin-self.ensures.holds events h.1))
+    λ start events h. (h.0, nothing_gave Apart c.events_law.ensures _ events _ _ _ (c.begin-self.ensures.holds events h.1))
 
 pub returns-in-Begins-clause-reach : goal.returns-in-Begins-clause-reach
 returns-in-Begins-clause-reach c = λ other.
@@ -29,7 +32,7 @@ returns c =
           λ start events h. (
             h.0,
             subst
-                (λ (l : List ℕ). Holds c.args.self.now.plan.now (events ++ Gave l ∷ []) c.give.new.gateway c.give.new.place
+                (λ (l : List ℕ). Holds Apart c.args.self.now.plan.now (events ++ Gave l ∷ []) (GatewayStandsFor c.give.new.gateway) c.give.new.place
                 c.give.new.ran) (sym front) (g.holds events h.1),
           );
       left = g.left;
@@ -39,6 +42,6 @@ returns c =
 pub give-requires : goal.give-requires
 give-requires c = record {
   ready = c.args.self.now.ready;
-  gives = giving_at c.args.self.now.gateway c.args.self.now.place.plp c.args.self.now.place.phase c.requires.gives
+  gives = giving_at (wants_of c.args.self.now.gateway c.args.self.now.place.input) c.args.self.now.place.input c.args.self.now.place.phase c.requires.gives
       c.in_default.not-Begins;
 }

@@ -1,0 +1,4 @@
+pub mod JointLemmas
+pub mod ReadyLemmas
+pub mod RunLemmas
+pub mod WaitingLemmas

@@ -1,0 +1,28 @@
+use Rattle.std.proofs.Common.{ℕ, subst, ap, ◌++◌, ◌∷◌, [], take, arith}
+use Rattle.ts_packet.specs.declared.sizes.TheConstants.{SIZE}
+use Rattle.common_plp.specs.Sharing.{Joint}
+use Rattle.common_plp.specs.Inputs.{place_of}
+use Rattle.file_run.specs.Events.{Fed}
+use Rattle.gateway_run.specs.Holds.{Holds}
+use Rattle.gateway_run.specs.Phases.{frame_read}
+use Rattle.gateway_run.specs.declared.place.Phase.{Phase}
+use Rattle.gateway_run.proofs.MachineLemmas.{reach_more}
+use Rattle.gateway_run.proofs.PhaseLemmas.{suffices_at}
+use Rattle.split_gateway.specs.StandsFor.{SplitGatewayStandsFor}
+use Rattle.common_gateway_run.specs.AsMachine.{wanted_of}
+use Rattle.common_gateway_run.proofs.machine.CommonGatewayMachineMachine.feed.Goals as goal
+
+pub returns-clause-becomes : goal.returns-clause-becomes
+returns-clause-becomes c = λ start events h.
+    let r = suffices_at (wanted_of c.args.self.now) c.args.self.now.place.input c.args.self.now.place.phase _ _ c.requires.wanted in (
+      h.0,
+      subst (λ (k : ℕ). Holds Joint c.args.self.now.plan.now (events ++ Fed k (take SIZE c.args.bytes.now) ∷ []) (SplitGatewayStandsFor c.take_packet-self.new.gateway)
+          c.take_packet-self.result c.args.self.now.ran) r.1 (c.take_packet-self.ensures.holds events h.1),
+    )
+
+pub returns-clause-reach : goal.returns-clause-reach
+returns-clause-reach c = λ other.
+    let r = suffices_at (wanted_of c.args.self.now) c.args.self.now.place.input c.args.self.now.place.phase _ _ c.requires.wanted in
+    let was = ap (λ (p : Phase). frame_read p c.args.self.now.ran.frames) r.0 in
+    let is = c.take_packet-self.ensures.read in
+    reach_more c.args.self.now.plan.now (place_of Joint c.args.self.now.plan.now other) _ _ (omega (arith, was, is))

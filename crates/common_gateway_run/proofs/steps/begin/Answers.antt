@@ -1,0 +1,29 @@
+use Rattle.std.proofs.Common.{refl, ap}
+use Rattle.common_plp.specs.Sharing.{Joint}
+use Rattle.gateway_run.proofs.BeginLemmas.{frame_begun, frames_ended, too_many}
+use Rattle.gateway_run.proofs.StreamLemmas.{length_joint}
+use Rattle.split_gateway.specs.StandsFor.{SplitGatewayStandsFor}
+use Rattle.common_gateway_run.proofs.WaitingLemmas.{ready_for, is_last, not_last}
+use Rattle.common_gateway_run.proofs.steps.begin.Goals as goal
+
+pub returns-then-last-clause-holds : goal.returns-then-last-clause-holds
+returns-then-last-clause-holds c = λ done h.
+    frames_ended Joint c.args.plan.now done (SplitGatewayStandsFor c.args.gateway.now) (SplitGatewayStandsFor c.finish.new.self)
+    c.args.place _ _ (ready_for c.args.gateway.now _ c.args.place c.args.ran.now c.requires.ready c.requires.begins done) refl
+    (is_last _ _ c.args.plan.now c.rules_law.ensures.plan.rules c.last.ensures c.if-last.true)
+    (c.finish.ensures.stands c.args.plan.now) h
+
+pub returns-then-ran-eq-MOST_FRAMES-clause-holds : goal.returns-then-ran-eq-MOST_FRAMES-clause-holds
+returns-then-ran-eq-MOST_FRAMES-clause-holds c = λ done h.
+    too_many Joint c.not_yet_last_law.ensures (length_joint c.split_law.ensures.length) c.args.plan.now done
+    (SplitGatewayStandsFor c.args.gateway.now) c.args.place _ _
+    (ready_for c.args.gateway.now _ c.args.place c.args.ran.now c.requires.ready c.requires.begins done)
+    (ap (λ p. p.phase) c.stopped.ensures) c.if-ran-eq-MOST_FRAMES.true
+    (not_last _ _ c.args.plan.now c.last.ensures c.if-last.false) h
+
+pub returns-clause-holds : goal.returns-clause-holds
+returns-clause-holds c = λ done h.
+    frame_begun Joint c.not_yet_last_law.ensures (length_joint c.split_law.ensures.length) c.front_law.ensures.grow c.args.plan.now
+    done (SplitGatewayStandsFor c.args.gateway.now) (SplitGatewayStandsFor c.begin_frame.new.self) c.args.place _ _ _
+    (ready_for c.args.gateway.now _ c.args.place c.args.ran.now c.requires.ready c.requires.begins done)
+    refl refl refl (not_last _ _ c.args.plan.now c.last.ensures c.if-last.false) (c.begin_frame.ensures.stands c.args.plan.now) h

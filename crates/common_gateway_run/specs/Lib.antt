@@ -1,0 +1,3 @@
+-- inner: no public clause cites these
+pub mod AsMachine
+pub mod Ready
