@@ -1,6 +1,6 @@
 -- A record came that was taken, or one that was refused.
 use Rattle.site_frame.specs.RecordFile.{IsOnGrid}
-use Rattle.std.proofs.Common.{◌≡◌, ℕ, ◌+◌, ◌<◌, List, [], ◌∷◌, ◌++◌, length, map, take, Some, refl, ap, ap₂, sym, subst, ◌∙◌}
+use Rattle.std.proofs.Common.{◌≡◌, ℕ, ◌+◌, ◌<◌, List, [], ◌∷◌, ◌++◌, length, map, take, Option, Some, refl, ap, ap₂, sym, subst, ◌∙◌}
 use Rattle.std.proofs.Common.{arith, append-nil, length-append}
 use Rattle.std.specs.Prelude.{unwrap_or}
 use Rattle.std.specs.List.{concat, range_with_len}
@@ -14,10 +14,10 @@ use Rattle.plp_config.specs.declared.moment.Moment.{Moment}
 use Rattle.site_frame.specs.Placing.{IsFrameOf, IsPlaced}
 use Rattle.site_frame.specs.Whole.{moment_of}
 use Rattle.site_frame.specs.declared.reading.RecordView.{RecordView}
-use Rattle.plp_receiver.specs.Laws.{ReadbackFront}
-use Rattle.plp_receiver.specs.StandsFor.{ReceiverStandsFor, network_of, plp_of, frame_of, due_of}
-use Rattle.plp_receiver.specs.Epochs.{Readback}
-use Rattle.plp_receiver.specs.declared.receiver.Receiver.{Receiver}
+use Rattle.joined_receiver.specs.Laws.{JoinedFront}
+use Rattle.joined_receiver.specs.StandsFor.{JoinedReceiverStandsFor, network_of, plp_of, joins_of, frame_of, due_of}
+use Rattle.joined_receiver.specs.JoinedBack.{MayJoin, JoinedBackWith}
+use Rattle.joined_receiver.specs.declared.receiver.JoinedReceiver.{JoinedReceiver}
 use Rattle.receive_run.specs.Received.{expected_after}
 use Rattle.receive_run.specs.AsMachine.{GavePackets, Given, first_of}
 use Rattle.receive_run.specs.Taking.{expected_by, TakesView, TellsDue}
@@ -48,22 +48,29 @@ successive_more c first views view a f =
 -- ---- what is given
 
 -- the receiver took a record, by what was expected: what it stands for and has given
-pub record CameGiven (c : Config) (plp : ℕ) (v : Receiver) (first : ℕ) (views : List RecordView) (view : RecordView)
+pub record CameGiven (joins : Option ℕ) (c : Config) (plp : ℕ) (v : JoinedReceiver) (first : ℕ) (views : List RecordView) (view : RecordView)
     (released : ℕ) (text : List ℕ) (start : ℕ) : Type 0 where
   pub successive : IsOnGrid c start (views ++ view ∷ [])
-  pub given : GavePackets c plp v start (views ++ view ∷ []) released text
+  pub given : GavePackets joins c plp v start (views ++ view ∷ []) released text
+
+-- what is given back, by the same things under other names
+pub back_as : (i j : Option ℕ) (c d : Config) (p q first : ℕ) (views : List RecordView) (packets : List (List ℕ)) → i ≡ j → c ≡ d
+    → p ≡ q → JoinedBackWith i c p first views packets → JoinedBackWith j d q first views packets
+back_as i j c d p q first views packets o n e b =
+    subst (λ (k : Option ℕ). JoinedBackWith k d q first views packets) o
+    (subst (λ (k : Config). JoinedBackWith i k q first views packets) n
+    (subst (λ (k : ℕ). JoinedBackWith i c k first views packets) e b))
 
 -- the first one
-first_given : (c : Config) (plp : ℕ) (v : Receiver) (view : RecordView) (frame released : ℕ) (text : List ℕ) → network_of v ≡ c
-    → plp_of v ≡ plp → frame_of v ≡ frame + 1 → ReceiverStandsFor v frame (view ∷ []) 0 → TellsDue v → released ≡ 0 → text ≡ []
-    → GavePackets c plp v frame (view ∷ []) released text
-first_given c plp v view frame released text same_c same_p number stands due none empty =
+first_given : (joins : Option ℕ) (c : Config) (plp : ℕ) (v : JoinedReceiver) (view : RecordView) (frame released : ℕ) (text : List ℕ) → network_of v ≡ c
+    → plp_of v ≡ plp → joins_of v ≡ joins → frame_of v ≡ frame + 1 → JoinedReceiverStandsFor v frame (view ∷ []) 0 → TellsDue v → released ≡ 0 → text ≡ []
+    → GavePackets joins c plp v frame (view ∷ []) released text
+first_given joins c plp v view frame released text same_c same_p same_j number stands due none empty =
     let d = due frame (view ∷ []) 0 stands in record {
-      stands = subst (ReceiverStandsFor v frame (view ∷ [])) (sym none) stands;
+      stands = subst (JoinedReceiverStandsFor v frame (view ∷ [])) (sym none) stands;
       frame = number;
       packets = d.0;
-      back = subst (λ (e : Config). Readback e plp frame (view ∷ []) d.0) same_c
-          (subst (λ (p : ℕ). Readback (network_of v) p frame (view ∷ []) d.0) same_p d.1);
+      back = back_as (joins_of v) joins (network_of v) c (plp_of v) plp frame (view ∷ []) d.0 same_j same_c same_p d.1;
       inside = omega (arith, none);
       due = (let e = d.2 in omega (arith, e, none));
       text_is = empty ∙ ap (λ (n : ℕ). concat (take n d.0)) (sym none);
@@ -71,17 +78,16 @@ first_given c plp v view frame released text same_c same_p number stands due non
     }
 
 -- one more
-next_given : ReadbackFront → (c : Config) (plp : ℕ) (old new : Receiver) (first : ℕ) (w : RecordView) (ws : List RecordView)
-    (view : RecordView) (released : ℕ) (text : List ℕ) → IsPlan c → plp < length c.plps → network_of new ≡ c → plp_of new ≡ plp
-    → due_of old ≡ 0 → frame_of new ≡ first + length (w ∷ ws) + 1 → ReceiverStandsFor new first ((w ∷ ws) ++ view ∷ []) released
-    → TellsDue new → GavePackets c plp old first (w ∷ ws) released text
-    → GavePackets c plp new first ((w ∷ ws) ++ view ∷ []) released text
-next_given front c plp old new first w ws view released text plan inside same_c same_p none number stands due g =
+next_given : JoinedFront → (joins : Option ℕ) (c : Config) (plp : ℕ) (old new : JoinedReceiver) (first : ℕ) (w : RecordView) (ws : List RecordView)
+    (view : RecordView) (released : ℕ) (text : List ℕ) → IsPlan c → plp < length c.plps → MayJoin c plp joins
+    → network_of new ≡ c → plp_of new ≡ plp → joins_of new ≡ joins → due_of old ≡ 0 → frame_of new ≡ first + length (w ∷ ws) + 1 → JoinedReceiverStandsFor new first ((w ∷ ws) ++ view ∷ []) released
+    → TellsDue new → GavePackets joins c plp old first (w ∷ ws) released text
+    → GavePackets joins c plp new first ((w ∷ ws) ++ view ∷ []) released text
+next_given front joins c plp old new first w ws view released text plan inside may same_c same_p same_j none number stands due g =
     let d = due first ((w ∷ ws) ++ view ∷ []) released stands in
-    let back : Readback c plp first ((w ∷ ws) ++ view ∷ []) d.0 =
-    subst (λ (e : Config). Readback e plp first ((w ∷ ws) ++ view ∷ []) d.0) same_c
-    (subst (λ (p : ℕ). Readback (network_of new) p first ((w ∷ ws) ++ view ∷ []) d.0) same_p d.1) in
-    let more = front c plp first (w ∷ ws) (view ∷ []) g.packets d.0 plan inside g.back back in
+    let back : JoinedBackWith joins c plp first ((w ∷ ws) ++ view ∷ []) d.0 =
+    back_as (joins_of new) joins (network_of new) c (plp_of new) plp first ((w ∷ ws) ++ view ∷ []) d.0 same_j same_c same_p d.1 in
+    let more = front joins c plp first (w ∷ ws) (view ∷ []) g.packets d.0 plan inside may g.back back in
     let least = g.inside in
     let waits = g.due in
     let all : released ≡ length g.packets = omega (arith, least, waits, none) in
@@ -111,21 +117,22 @@ next_given front c plp old new first w ws view released text plan inside same_c 
       };
     }
 
-pub came_given : ReadbackFront → (c : Config) (plp : ℕ) (old new : Receiver) (first frame : ℕ) (views : List RecordView)
-    (view : RecordView) (released : ℕ) (text : List ℕ) → IsPlan c → plp < length c.plps → network_of new ≡ c → plp_of new ≡ plp
-    → due_of old ≡ 0 → frame_of new ≡ frame + 1 → IsPlaced c (expected_by (first_of first views) (length views))
+pub came_given : JoinedFront → (joins : Option ℕ) (c : Config) (plp : ℕ) (old new : JoinedReceiver) (first frame : ℕ) (views : List RecordView)
+    (view : RecordView) (released : ℕ) (text : List ℕ) → IsPlan c → plp < length c.plps → MayJoin c plp joins
+    → network_of new ≡ c → plp_of new ≡ plp → joins_of new ≡ joins → due_of old ≡ 0 → frame_of new ≡ frame + 1 → IsPlaced c (expected_by (first_of first views) (length views))
     (moment_of view) frame → TakesView (expected_by (first_of first views) (length views)) old new frame view → TellsDue new
-    → IsOnGrid c first views → Given c plp old first views released text
-    → CameGiven c plp new first views view released text (unwrap_or (first_of first views) frame)
-came_given front c plp old new first frame [] view released text plan inside same_c same_p none number placed comes due a g =
+    → IsOnGrid c first views → Given joins c plp old first views released text
+    → CameGiven joins c plp new first views view released text (unwrap_or (first_of first views) frame)
+came_given front joins c plp old new first frame [] view released text plan inside may same_c same_p same_j none number placed comes
+    due a g =
     record {
       successive = successive_one c frame view placed.0;
-      given = first_given c plp new view frame released text same_c same_p number comes due g.2 g.3;
+      given = first_given joins c plp new view frame released text same_c same_p same_j number comes due g.2 g.3;
     }
-came_given front c plp old new first frame (w ∷ ws) view released text plan inside same_c same_p none number placed comes due a
-    g = record {
+came_given front joins c plp old new first frame (w ∷ ws) view released text plan inside may same_c same_p same_j none number placed
+    comes due a g = record {
       successive = successive_more c first (w ∷ ws) view a (subst (IsFrameOf c (moment_of view)) (sym placed.1) placed.0);
-      given = next_given front c plp old new first w ws view released text plan inside same_c same_p none (let e = placed.1 in
+      given = next_given front joins c plp old new first w ws view released text plan inside may same_c same_p same_j none (let e = placed.1 in
           omega (arith, number, e)) (comes first (w ∷ ws) released g.stands) due g;
     }
 

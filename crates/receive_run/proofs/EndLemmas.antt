@@ -18,6 +18,7 @@ use Rattle.bb_frame.specs.declared.header.Header.{Header}
 use Rattle.bit_slice.specs.Crc.{crc8_of}
 use Rattle.plp_config.specs.Emission.{emission}
 use Rattle.plp_config.specs.Plps.{plp_at, spread}
+use Rattle.plp_config.specs.Rules.{AllRules}
 use Rattle.plp_config.specs.declared.config.Config.{Config}
 use Rattle.plp_config.specs.declared.moment.Moment.{Moment}
 use Rattle.plp_config.specs.declared.moment.TheConstants.{MOST_FRAMES}
@@ -30,11 +31,16 @@ use Rattle.site_frame.specs.declared.fault.RecordWhy.TheVariants as why
 use Rattle.site_frame.specs.declared.reading.RecordView.{RecordView}
 use Rattle.packet_slots.specs.Epochs.{Epoch, lost_epoch, epoch_with, readback}
 use Rattle.packet_slots.specs.Strings.{Block}
-use Rattle.plp_receiver.specs.Epochs.{epoch_parts, cells_stand, place_of, Tells, epochs_in, TellAll, slot_rule}
+use Rattle.common_plp.specs.Laws.{InStep}
+use Rattle.common_plp.specs.Split.{joined}
+use Rattle.joined_receiver.specs.JoinedBack.{MayJoin, JoinedBackWith}
+use Rattle.joined_receiver.proofs.LengthLemmas.{same_length}
+use Rattle.plp_receiver.specs.Epochs.{epoch_parts, cells_stand, place_of, Tells, epochs_in, TellAll, slot_rule, Readback}
 use Rattle.plp_receiver.specs.Parts.{Part, count_of}
 use Rattle.plp_receiver.specs.Taken.{IsOfStream, block_read, IsTaken, IsGiven, bytes_at}
-use Rattle.receive_run.specs.Laws.{MustRun, RunEnds}
-use Rattle.receive_run.specs.Received.{GivesBack, Received, ran_of, expected_after, RefusesNext}
+use Rattle.receive_run.specs.JoinedLaws.{MustRun, RunEnds}
+use Rattle.receive_run.specs.JoinedReceived.{GivesBack, Received}
+use Rattle.receive_run.specs.Received.{ran_of, expected_after, RefusesNext}
 use Rattle.receive_run.specs.declared.stop.Ran.{Ran}
 use Rattle.receive_run.specs.declared.stop.ReceiveStop.{ReceiveStop}
 use Rattle.receive_run.specs.declared.stop.ReceiveStop.TheVariants.{RecordRefused}
@@ -135,12 +141,40 @@ told_there decides never counts c plp first views =
 
 -- ---- what they give back
 
-back_there : bb.SpelledOrRefused → bb.NoRefusal → bb.BitCounts → (c : Config) (plp first : ℕ) (views : List RecordView)
-    → (packets : List (List ℕ)) × GivesBack c plp first views packets
-back_there decides never counts c plp first [] = ([], refl)
-back_there decides never counts c plp first (v ∷ views) =
-    let t = told_there decides never counts c plp first (v ∷ views) in
-    (readback (slot_rule c plp) first (length (v ∷ views)) t.0, record { told = t.0; tells = t.1; packets_are = refl })
+read_there : bb.SpelledOrRefused → bb.NoRefusal → bb.BitCounts → (c : Config) (plp first : ℕ) (views : List RecordView)
+    → (packets : List (List ℕ)) × Readback c plp first views packets
+read_there decides never counts c plp first views =
+    let t = told_there decides never counts c plp first views in
+    (readback (slot_rule c plp) first (length views) t.0, record { told = t.0; tells = t.1; packets_are = refl })
+
+-- what a reader of records knows of blocks, and of groups
+record Knows : Type 0 where
+  decides : bb.SpelledOrRefused
+  never : bb.NoRefusal
+  counts : bb.BitCounts
+  step : InStep
+
+joined_there : Knows → (joins : Option ℕ) (c : Config) (plp first : ℕ) (views : List RecordView) → AllRules c → plp < length c.plps
+    → MayJoin c plp joins → (packets : List (List ℕ)) × JoinedBackWith joins c plp first views packets
+joined_there k None c plp first views rules inside may = read_there k.decides k.never k.counts c plp first views
+joined_there k (Some common) c plp first views rules inside may =
+    let shared = read_there k.decides k.never k.counts c common first views in
+    let own = read_there k.decides k.never k.counts c plp first views in (
+      joined shared.0 own.0,
+      record {
+        shared = shared.0;
+        back_shared = shared.1;
+        own = own.0;
+        back_own = own.1;
+        same_slots = same_length k.step c plp common rules inside (may common refl) first views shared.0 own.0 shared.1 own.1;
+        packets_are = refl;
+      },
+    )
+
+back_there : Knows → (joins : Option ℕ) (c : Config) (plp first : ℕ) (views : List RecordView) → AllRules c → plp < length c.plps
+    → MayJoin c plp joins → (packets : List (List ℕ)) × GivesBack joins c plp first views packets
+back_there k joins c plp first [] rules inside may = ([], refl)
+back_there k joins c plp first (v ∷ views) rules inside may = joined_there k joins c plp first (v ∷ views) rules inside may
 
 -- ---- the frame of a moment
 
@@ -238,31 +272,36 @@ tail decides c (suc fuel) n (x ∷ file) few bytes enough = go (tail decides c f
 
 -- ---- endings
 
-abbrev Ends : Config → ℕ → List ℕ → Type 0
-Ends c plp file = (result : Result Ran ReceiveStop) × MustRun c plp file result
+abbrev Ends : Option ℕ → Config → ℕ → List ℕ → Type 0
+Ends joins c plp file = (result : Result Ran ReceiveStop) × MustRun joins c plp file result
 
-received_there : bb.SpelledOrRefused → bb.NoRefusal → bb.BitCounts → (c : Config) (plp first : ℕ) (views : List RecordView)
-    → IsOnGrid c first views → (bytes : List ℕ) × (r : Received c plp views bytes) × (r.first ≡ first)
-received_there decides never counts c plp first views a =
-    let b = back_there decides never counts c plp first views in
+-- a PLP of a network, and what is joined with it
+record IsPlp (joins : Option ℕ) (c : Config) (plp : ℕ) : Type 0 where
+  rules : AllRules c
+  inside : plp < length c.plps
+  may : MayJoin c plp joins
+
+received_there : Knows → (joins : Option ℕ) (c : Config) (plp first : ℕ) (views : List RecordView) → IsPlp joins c plp
+    → IsOnGrid c first views → (bytes : List ℕ) × (r : Received joins c plp views bytes) × (r.first ≡ first)
+received_there k joins c plp first views p a =
+    let b = back_there k joins c plp first views p.rules p.inside p.may in
     (concat b.0, record { first = first; successive = a; packets = b.0; back = b.1; bytes_are = refl }, refl)
 
 -- behind records there is nothing
-ends_well : bb.SpelledOrRefused → bb.NoRefusal → bb.BitCounts
-    → (c : Config) (plp first : ℕ) (file : List ℕ) (views : List RecordView) → AreRecords file views [] → IsOnGrid c first views
-    → Ends c plp file
-ends_well decides never counts c plp first file views records a =
-    let r = received_there decides never counts c plp first views a in (
+ends_well : Knows → (joins : Option ℕ) (c : Config) (plp first : ℕ) (file : List ℕ) (views : List RecordView) → IsPlp joins c plp
+    → AreRecords file views [] → IsOnGrid c first views → Ends joins c plp file
+ends_well k joins c plp first file views p records a =
+    let r = received_there k joins c plp first views p a in (
       Ok (ran_of c plp r.1.first views r.1.packets),
       (r.0, record { views = views; records = records; received = r.1; ran_is = refl }),
     )
 
 -- or what is refused
-ends_refused : bb.SpelledOrRefused → bb.NoRefusal → bb.BitCounts → (c : Config) (plp first : ℕ) (file rest : List ℕ)
-    (views : List RecordView) (why : RecordWhy) → AreRecords file views rest → IsOnGrid c first views
-    → RefusesNext c (expected_after first views) rest why → Ends c plp file
-ends_refused decides never counts c plp first file rest views why records a refused =
-    let r = received_there decides never counts c plp first views a in (
+ends_refused : Knows → (joins : Option ℕ) (c : Config) (plp first : ℕ) (file rest : List ℕ) (views : List RecordView) (why : RecordWhy)
+    → IsPlp joins c plp → AreRecords file views rest → IsOnGrid c first views
+    → RefusesNext c (expected_after first views) rest why → Ends joins c plp file
+ends_refused k joins c plp first file rest views why p records a refused =
+    let r = received_there k joins c plp first views p a in (
       Err (RecordRefused (length views) why),
       (
         r.0,
@@ -277,10 +316,10 @@ ends_refused decides never counts c plp first file rest views why records a refu
       ),
     )
 
-pub run_ends : SpelledOrRefused → bb.SpelledOrRefused → bb.NoRefusal → bb.BitCounts → RunEnds
-run_ends reads decides never counts c plp [] plan inside bytes =
-    ends_well decides never counts c plp 0 [] [] refl (successive_none c 0 (omega arith))
-run_ends reads decides never counts c plp (x ∷ file) plan inside bytes = go (reads (x ∷ file) bytes)
+ends_file : SpelledOrRefused → Knows → (joins : Option ℕ) (c : Config) (plp : ℕ) (file : List ℕ) → IsPlp joins c plp → AreBytes file
+    → Ends joins c plp file
+ends_file reads k joins c plp [] p bytes = ends_well k joins c plp 0 [] [] p refl (successive_none c 0 (omega arith))
+ends_file reads k joins c plp (x ∷ file) p bytes = go (reads (x ∷ file) bytes)
   where
     none : IsOnGrid c 0 []
     none = successive_none c 0 (omega arith)
@@ -288,27 +327,32 @@ run_ends reads decides never counts c plp (x ∷ file) plan inside bytes = go (r
     first_whole : (first : ℕ) (view : RecordView) (len : ℕ) → BeginsWith (x ∷ file) view len → IsFrameOf c (moment_of view) first
         → (t : Tail c (first + 1) (drop len (x ∷ file))) → (t.rest ≡ [])
         ⊎ ((why : RecordWhy) × RefusesNext c (Some (first + 1 + length t.views)) t.rest why)
-        → Ends c plp (x ∷ file)
+        → Ends joins c plp (x ∷ file)
     first_whole first view len b f t (inl empty) =
-        ends_well decides never counts c plp first (x ∷ file) (view ∷ t.views)
+        ends_well k joins c plp first (x ∷ file) (view ∷ t.views) p
         (len, b, subst (λ (l : List ℕ). AreRecords (drop len (x ∷ file)) t.views l) empty t.records)
         (successive_join c first view t.views f t.successive)
     first_whole first view len b f t (inr (w, r)) =
-        ends_refused decides never counts c plp first (x ∷ file) t.rest (view ∷ t.views) w (len, b, t.records)
+        ends_refused k joins c plp first (x ∷ file) t.rest (view ∷ t.views) w p (len, b, t.records)
         (successive_join c first view t.views f t.successive)
         (subst (λ (k : ℕ). RefusesNext c (Some k) t.rest w) (let e : first + 1 + length t.views ≡ first + suc (length t.views) =
         omega arith in e) r)
 
-    found : (view : RecordView) (len : ℕ) → BeginsWith (x ∷ file) view len → ((k : ℕ) × IsFrameOf c (moment_of view) k)
-        ⊎ IsOffGrid c (moment_of view) → Ends c plp (x ∷ file)
+    found : (view : RecordView) (len : ℕ) → BeginsWith (x ∷ file) view len → ((n : ℕ) × IsFrameOf c (moment_of view) n)
+        ⊎ IsOffGrid c (moment_of view) → Ends joins c plp (x ∷ file)
     found view len b (inl f) =
         let small = f.1.small in
         let t = tail reads c (length (drop len (x ∷ file))) (f.0 + 1) (drop len (x ∷ file)) (omega (arith, small))
         (bytes_behind len (x ∷ file) bytes) (omega arith) in
         first_whole f.0 view len b f.1 t t.stuck
-    found view len b (inr off) = ends_refused decides never counts c plp 0 (x ∷ file) (x ∷ file) [] why.OffGrid refl none
+    found view len b (inr off) = ends_refused k joins c plp 0 (x ∷ file) (x ∷ file) [] why.OffGrid p refl none
         (inr (view, len, b, off))
 
-    go : Reads (x ∷ file) → Ends c plp (x ∷ file)
+    go : Reads (x ∷ file) → Ends joins c plp (x ∷ file)
     go (inl (view, (len, b))) = found view len b (frame_there c (moment_of view))
-    go (inr (w, r)) = ends_refused decides never counts c plp 0 (x ∷ file) (x ∷ file) [] w refl none (inl (some_left x file, r))
+    go (inr (w, r)) = ends_refused k joins c plp 0 (x ∷ file) (x ∷ file) [] w p refl none (inl (some_left x file, r))
+
+pub run_ends : SpelledOrRefused → bb.SpelledOrRefused → bb.NoRefusal → bb.BitCounts → InStep → RunEnds
+run_ends reads decides never counts step joins c plp file plan inside may bytes =
+    ends_file reads (record { decides = decides; never = never; counts = counts; step = step }) joins c plp file
+    (record { rules = plan.rules; inside = inside; may = may }) bytes

@@ -1,5 +1,5 @@
 -- A run gives out fewer packets than a number holds.
-use Rattle.std.proofs.Common.{◌≡◌, ℕ, ◌+◌, ◌-◌, ◌*◌, ◌^◌, ◌<◌, ◌≤◌, List, length, ap, ◌∙◌, arith}
+use Rattle.std.proofs.Common.{◌≡◌, ℕ, ◌+◌, ◌-◌, ◌*◌, ◌^◌, ◌<◌, ◌≤◌, List, length, Option, Some, None, ap, ◌∙◌, arith}
 use Rattle.std.specs.Int.{div_ceil}
 use Rattle.std.proofs.Math.Nat.{div-le_of_le-mul, mul-le-mul, mul-le-mul_left}
 use Rattle.plp_config.specs.Laws.{FrameTicks, SoundTimes}
@@ -13,6 +13,8 @@ use Rattle.packet_slots.specs.Times.{due_after}
 use Rattle.packet_slots.specs.declared.slot_rule.SlotRule.{SlotRule}
 use Rattle.packet_slots.proofs.StandsLemmas.{length_readback}
 use Rattle.plp_receiver.specs.Epochs.{slot_rule, Readback}
+use Rattle.common_plp.specs.Laws.{JoinedSlots}
+use Rattle.joined_receiver.specs.JoinedBack.{JoinedBackWith}
 
 -- slots that last a tick or more are no more than ticks
 count_few : (n d t : ℕ) → d ≤ n → div_ceil (t * d) n ≤ t + 1
@@ -22,7 +24,7 @@ count_few n d t l =
     let q = div-le_of_le-mul n {m = t * d} {n = t} wide in
     omega (arith, q)
 
-pub few_packets : FrameTicks → SoundTimes → (c : Config) (plp first : ℕ) (views : List RecordView) (packets : List (List ℕ))
+few_packets : FrameTicks → SoundTimes → (c : Config) (plp first : ℕ) (views : List RecordView) (packets : List (List ℕ))
     → AllRules c → plp < length c.plps → first + length views ≤ MOST_FRAMES → Readback c plp first views packets
     → length packets < 2 ^ 64
 few_packets frame times c plp first views packets rules inside small b =
@@ -37,3 +39,15 @@ few_packets frame times c plp first views packets rules inside small b =
     let span : frames * r.ticks ≤ 2 ^ 31 * 2 ^ 22 = mul-le-mul below short in
     let few = count_few r.times.num r.times.den (frames * r.ticks + 1 - delay_of r.times) sound.long in
     omega (arith, count, few, span)
+
+-- so it is of a PLP with which another is joined
+pub few_joined : JoinedSlots → FrameTicks → SoundTimes → (joins : Option ℕ) (c : Config) (plp first : ℕ) (views : List RecordView)
+    (packets : List (List ℕ)) → AllRules c → plp < length c.plps → first + length views ≤ MOST_FRAMES
+    → JoinedBackWith joins c plp first views packets → length packets < 2 ^ 64
+few_joined slots frame times None c plp first views packets rules inside small b =
+    few_packets frame times c plp first views packets rules inside small b
+few_joined slots frame times (Some common) c plp first views packets rules inside small b =
+    let few = few_packets frame times c plp first views b.own rules inside small b.back_own in
+    let size = ap length b.packets_are in
+    let count = slots.count b.shared b.own in
+    omega (arith, few, size, count)

@@ -1,17 +1,17 @@
 -- Packets that a receiver gives out, one after the other.
-use Rattle.std.proofs.Common.{◌≡◌, ℕ, zero, suc, ◌+◌, ◌-◌, ◌<◌, Bool, true, List, [], ◌∷◌, ◌++◌, take, drop, Some, ap, subst, ◌∙◌}
+use Rattle.std.proofs.Common.{◌≡◌, ℕ, zero, suc, ◌+◌, ◌-◌, ◌<◌, List, [], ◌∷◌, ◌++◌, take, drop, Some, ap, ◌∙◌}
 use Rattle.std.proofs.Common.{arith, append-nil}
-use Rattle.std.specs.Prelude.{slice_get, nat_lt, if◌then◌else◌}
+use Rattle.std.specs.Prelude.{slice_get}
 use Rattle.std.specs.List.{concat}
 use Rattle.std.proofs.Math.Seq.{take-add}
-use Rattle.std.proofs.lemmas.Bool.{lt-ltb}
 use Rattle.std.proofs.lemmas.List.Folds.{concat-append}
 use Rattle.std.proofs.lemmas.Option.{slice_get_within}
 use Rattle.terms.proofs.OptionLemmas.{some_injective, none_some}
 use Rattle.site_frame.specs.declared.reading.RecordView.{RecordView}
-use Rattle.plp_receiver.specs.StandsFor.{ReceiverStandsFor, Status, status_of, network_of, plp_of, due_of}
-use Rattle.plp_receiver.specs.Epochs.{Readback}
-use Rattle.plp_receiver.specs.declared.receiver.Receiver.{Receiver}
+use Rattle.plp_receiver.specs.StandsFor.{Status}
+use Rattle.joined_receiver.specs.JoinedBack.{JoinedBackWith}
+use Rattle.joined_receiver.specs.StandsFor.{JoinedReceiverStandsFor, status_of, network_of, plp_of, joins_of, due_of}
+use Rattle.joined_receiver.specs.declared.receiver.JoinedReceiver.{JoinedReceiver}
 use Rattle.receive_run.specs.Taking.{GivesPacket}
 
 -- ---- lists of packets
@@ -33,25 +33,23 @@ one_more packets k packet e =
 
 -- ---- a receiver
 
-pub gives_one : (old new : Receiver) (packet : List ℕ) (b : Bool) → 0 < due_of old → b ≡ nat_lt 0 (due_of old)
-    → status_of new ≡ record (status_of old) { due = due_of old - 1 }
-    → ((first : ℕ) (views : List RecordView) (released : ℕ) → ReceiverStandsFor old first views released
-    → ReceiverStandsFor new first views (if b then released + 1 else released))
-    → (b ≡ true → (first : ℕ) (views : List RecordView) (released : ℕ) (packets : List (List ℕ))
-    → ReceiverStandsFor old first views released → Readback (network_of old) (plp_of old) first views packets
-    → slice_get packets released ≡ Some packet)
+pub gives_one : (old new : JoinedReceiver) (packet : List ℕ) → 0 < due_of old
+    → status_of new ≡ record (status_of old) { due = due_of old - 1 } → joins_of new ≡ joins_of old
+    → ((first : ℕ) (views : List RecordView) (released : ℕ) → JoinedReceiverStandsFor old first views released
+    → JoinedReceiverStandsFor new first views (released + 1))
+    → ((first : ℕ) (views : List RecordView) (released : ℕ) (packets : List (List ℕ))
+    → JoinedReceiverStandsFor old first views released
+    → JoinedBackWith (joins_of old) (network_of old) (plp_of old) first views packets → slice_get packets released ≡ Some packet)
     → GivesPacket old new packet
-gives_one old new packet b some exact status stands answer =
+gives_one old new packet some status joins stands answer =
     let due = ap (λ (s : Status). s.due) status in
-    let yes : b ≡ true = exact ∙ lt-ltb 0 (due_of old) some in
     record {
-      same = (ap (λ (s : Status). s.network) status, ap (λ (s : Status). s.plp) status);
+      same = (ap (λ (s : Status). s.network) status, ap (λ (s : Status). s.plp) status, joins);
       frame = ap (λ (s : Status). s.frame) status;
       due = omega (arith, some, due);
-      stands = λ first views released s. subst (λ (t : Bool). ReceiverStandsFor new first views (if t then released + 1 else released))
-          yes (stands first views released s);
+      stands = stands;
       packets = λ first views released packets s back inside.
-          let here = answer yes first views released packets s back in
+          let here = answer first views released packets s back in
           let within = slice_get_within packets released packet here in
           (omega (arith, within), one_more packets released packet here);
     }

@@ -130,10 +130,10 @@ nothing_not_refused c expected why (inr p) = begins_nothing p.0 p.1 p.2
 -- ---- two machines to which the same was fed took the same records
 
 -- what a machine has before it does not begin with the record of the next frame
-nothing_comes : OneRecord → NoRefusal → OneFrame → NoneWaits → (c : Config) (plp : ℕ) → AllRules c
-    → (second : ℕ) (m : ReceiverMachine) (events : List Event) (s : Shown c plp m events) (o : RecordView) (os : List RecordView)
+nothing_comes : OneRecord → NoRefusal → OneFrame → NoneWaits → (joins : Option ℕ) (c : Config) (plp : ℕ) → AllRules c
+    → (second : ℕ) (m : ReceiverMachine) (events : List Event) (s : Shown joins c plp m events) (o : RecordView) (os : List RecordView)
     (len : ℕ) → IsOnGrid c second (s.views ++ o ∷ os) → BeginsWith s.feed.rest o len → ⊥
-nothing_comes one never frame waits c plp rules second m events s o os len b begins = go m.misplaced s.judged
+nothing_comes one never frame waits joins c plp rules second m events s o os len b begins = go m.misplaced s.judged
   where
     go : (misplaced : Option RecordWhy)
         → Judged c (expected_after s.first s.views) misplaced (coming_of m.feed) s.feed.rest → ⊥
@@ -142,10 +142,10 @@ nothing_comes one never frame waits c plp rules second m events s o os len b beg
     go (Some why) (whole, place) =
         next_not_refused one never frame c rules s.first second s.views o os s.feed.rest why len b s.successive begins (inr place)
 
-pub same_views : OneRecord → NoRefusal → OneFrame → NoneWaits → (c : Config) (plp : ℕ) → AllRules c
-    → (second : ℕ) (vs : List RecordView) (m : ReceiverMachine) (events : List Event) (s : Shown c plp m events)
+pub same_views : OneRecord → NoRefusal → OneFrame → NoneWaits → (joins : Option ℕ) (c : Config) (plp : ℕ) → AllRules c
+    → (second : ℕ) (vs : List RecordView) (m : ReceiverMachine) (events : List Event) (s : Shown joins c plp m events)
     → AreRecords (fed 0 events) vs [] → IsOnGrid c second vs → s.views ≡ vs
-same_views one never frame waits c plp rules second vs m events s h b =
+same_views one never frame waits joins c plp rules second vs m events s h b =
     go (comparable one (fed 0 events) [] s.feed.rest vs s.views h s.feed.records)
   where
     go : GoesOn vs [] s.views s.feed.rest ⊎ GoesOn s.views s.feed.rest vs [] → s.views ≡ vs
@@ -153,5 +153,5 @@ same_views one never frame waits c plp rules second vs m events s h b =
     go (inl (o ∷ os, is, (len, begins, more))) = absurd (begins_nothing o len begins)
     go (inr ([], is, more)) = sym (is ∙ append-nil s.views)
     go (inr (o ∷ os, is, (len, begins, more))) =
-        absurd (nothing_comes one never frame waits c plp rules second m events s o os len (subst
+        absurd (nothing_comes one never frame waits joins c plp rules second m events s o os len (subst
         (IsOnGrid c second) is b) begins)

@@ -8,8 +8,9 @@ use Rattle.record_feed.specs.Behind.{Behind}
 use Rattle.record_feed.specs.StandsFor.{RecordFeedStandsFor, coming_of, left_of}
 use Rattle.record_feed.specs.declared.coming.Coming.{Coming}
 use Rattle.record_feed.specs.declared.coming.Coming.TheVariants.{Head, Whole}
-use Rattle.plp_receiver.specs.StandsFor.{IsFresh, network_of, plp_of, due_of}
-use Rattle.plp_receiver.specs.declared.receiver.Receiver.{Receiver}
+use Rattle.joined_receiver.specs.JoinedBack.{MayJoin}
+use Rattle.joined_receiver.specs.StandsFor.{IsFresh, network_of, plp_of, joins_of, due_of}
+use Rattle.joined_receiver.specs.declared.receiver.JoinedReceiver.{JoinedReceiver}
 use Rattle.file_run.specs.Events.{Event, fed, has_ended, gave}
 use Rattle.receive_run.specs.Received.{expected_after}
 use Rattle.receive_run.specs.AsMachine.{SameTaken, Judged, Given, first_of, Shown, Becomes}
@@ -17,26 +18,26 @@ use Rattle.receive_run.specs.Taking.{expected_by, SamePlp}
 use Rattle.receive_run.specs.declared.machine.ReceiverMachine.{ReceiverMachine}
 
 -- no record more was taken
-pub same_shown : (c : Config) (plp : ℕ) (m n : ReceiverMachine) (was now : List Event) (s : Shown c plp m was)
+pub same_shown : (joins : Option ℕ) (c : Config) (plp : ℕ) (m n : ReceiverMachine) (was now : List Event) (s : Shown joins c plp m was)
     → due_of m.receiver ≡ 0 → SameTaken m n → gave now ≡ gave was
     → (f : RecordFeedStandsFor n.feed s.views (fed 0 now) (has_ended 0 now))
-    → Judged c (expected_after s.first s.views) n.misplaced (coming_of n.feed) f.rest → Shown c plp n now
-same_shown c plp m n was now s idle same text f judged = record {
+    → Judged c (expected_after s.first s.views) n.misplaced (coming_of n.feed) f.rest → Shown joins c plp n now
+same_shown joins c plp m n was now s idle same text f judged = record {
   first = s.first;
   views = s.views;
   feed = f;
   successive = s.successive;
   first_is = same.first ∙ s.first_is;
   judged = judged;
-  given = subst (λ (l : List ℕ). Given c plp n.receiver s.first s.views n.slots l) (sym text)
-      (subst (λ (k : ℕ). Given c plp n.receiver s.first s.views k (gave was)) (sym same.slots)
-      (subst (λ (v : Receiver). Given c plp v s.first s.views m.slots (gave was)) (sym same.receiver) s.given));
+  given = subst (λ (l : List ℕ). Given joins c plp n.receiver s.first s.views n.slots l) (sym text)
+      (subst (λ (k : ℕ). Given joins c plp n.receiver s.first s.views k (gave was)) (sym same.slots)
+      (subst (λ (v : JoinedReceiver). Given joins c plp v s.first s.views m.slots (gave was)) (sym same.receiver) s.given));
   between = λ some. absurd (let e = ap due_of same.receiver in omega (arith, e, idle, some));
 }
 
 pub same_plp : (start m n : ReceiverMachine) → SameTaken m n → SamePlp start.receiver m.receiver
     → SamePlp start.receiver n.receiver
-same_plp start m n same s = subst (λ (v : Receiver). SamePlp start.receiver v) (sym same.receiver) s
+same_plp start m n same s = subst (λ (v : JoinedReceiver). SamePlp start.receiver v) (sym same.receiver) s
 
 pub then_same : (m k n : ReceiverMachine) → SameTaken m k → SameTaken k n → SameTaken m n
 then_same m k n a b = record {
@@ -46,23 +47,30 @@ then_same m k n a b = record {
 }
 
 -- what a machine knows of its plan
-abbrev pub KnownPlan : Config → ℕ → Type 0
-KnownPlan c plp = IsPlan c × (plp < length c.plps)
+abbrev pub KnownPlan : Option ℕ → Config → ℕ → Type 0
+KnownPlan joins c plp = IsPlan c × (plp < length c.plps) × MayJoin c plp joins
 
-pub known_of : (m : ReceiverMachine) → IsPlan m.plan.now → KnownPlan (network_of m.receiver) (plp_of m.receiver)
-known_of m plan = subst (λ (c : Config). KnownPlan c (plp_of m.receiver)) (sym m.network)
-    (subst (KnownPlan m.plan.now) (sym m.place) (plan, m.inside))
+pub known_plan : (m : ReceiverMachine) → IsPlan m.plan.now → IsPlan (network_of m.receiver)
+known_plan m plan = subst IsPlan (sym m.network) plan
+
+pub known_inside : (m : ReceiverMachine) → plp_of m.receiver < length (network_of m.receiver).plps
+known_inside m = subst (λ (c : Config). plp_of m.receiver < length c.plps) (sym m.network)
+    (subst (λ (p : ℕ). p < length m.plan.now.plps) (sym m.place) m.inside)
+
+pub known_of : (m : ReceiverMachine) → IsPlan m.plan.now → MayJoin (network_of m.receiver) (plp_of m.receiver) (joins_of m.receiver)
+    → KnownPlan (joins_of m.receiver) (network_of m.receiver) (plp_of m.receiver)
+known_of m plan may = (known_plan m plan, known_inside m, may)
 
 -- by the numbers that a machine holds, what is expected
-pub expects : (c : Config) (plp : ℕ) (m : ReceiverMachine) (was : List Event) (s : Shown c plp m was) (count : ℕ)
+pub expects : (joins : Option ℕ) (c : Config) (plp : ℕ) (m : ReceiverMachine) (was : List Event) (s : Shown joins c plp m was) (count : ℕ)
     → count ≡ length s.views → expected_by m.first count ≡ expected_by (first_of s.first s.views) (length s.views)
-expects c plp m was s count number = ap (λ (o : Option ℕ). expected_by o count) s.first_is
+expects joins c plp m was s count number = ap (λ (o : Option ℕ). expected_by o count) s.first_is
     ∙ ap (expected_by (first_of s.first s.views)) number
 
 -- what stands behind the records, by what comes next
-pub behind_at : (c : Config) (plp : ℕ) (m : ReceiverMachine) (events : List Event) (p : Coming) → coming_of m.feed ≡ p
-    → (s : Shown c plp m events) → Behind p m.feed.head m.feed.bytes.items m.feed.left s.feed.rest (has_ended 0 events)
-behind_at c plp m events p is s =
+pub behind_at : (joins : Option ℕ) (c : Config) (plp : ℕ) (m : ReceiverMachine) (events : List Event) (p : Coming) → coming_of m.feed ≡ p
+    → (s : Shown joins c plp m events) → Behind p m.feed.head m.feed.bytes.items m.feed.left s.feed.rest (has_ended 0 events)
+behind_at joins c plp m events p is s =
     subst (λ (q : Coming). Behind q m.feed.head m.feed.bytes.items m.feed.left s.feed.rest (has_ended 0 events)) is s.feed.behind
 
 -- a record that is whole is misplaced, since it was looked at
@@ -74,7 +82,7 @@ judged_none c expected m coming rest none seen =
 pub becomes_first : (m : ReceiverMachine) → RecordFeedStandsFor m.feed [] [] false → coming_of m.feed ≡ Head → left_of m.feed ≡ head_len
     → m.slots ≡ 0 → m.first ≡ None → m.misplaced ≡ None → IsFresh m.receiver → due_of m.receiver ≡ 0 → Becomes m [] m
 becomes_first m feed heads left slots first misplaced fresh due = record {
-  same = (refl, refl);
+  same = (refl, refl, refl);
   shown = record {
     first = 0;
     views = [];

@@ -10,7 +10,7 @@ use Rattle.record_feed.specs.Laws.{TakesOn}
 use Rattle.record_feed.specs.StandsFor.{coming_of, came_of, lacks_at, left_of, lacks_of}
 use Rattle.record_feed.specs.declared.coming.Coming.{Coming}
 use Rattle.record_feed.specs.declared.coming.Coming.TheVariants.{Head, Rest, Whole, Refused, NoRoom, Finished}
-use Rattle.plp_receiver.specs.StandsFor.{network_of, plp_of, due_of}
+use Rattle.joined_receiver.specs.StandsFor.{network_of, plp_of, joins_of, due_of}
 use Rattle.desk_io.specs.Reading.{longest_file}
 use Rattle.file_run.specs.Events.{Event, fed, has_ended, gave}
 use Rattle.file_run.specs.Steps.{Suffices, FallsShort, Needs, CanBeRead, HasRoom}
@@ -107,16 +107,16 @@ fits m input count room one =
     let p = room.came.shown.feed.size in omega (arith, few, p)
 
 -- a machine that wants bytes is ready for a record
-ready_by : (c : Config) (plp : ℕ) (m : ReceiverMachine) (events : List Event) (count : ℕ) → due_of m.receiver ≡ 0
-    → (s : Shown c plp m events) → count ≡ length s.views → IsReady m.receiver m.first count
-ready_by c plp m events count idle s number = record {
+ready_by : (joins : Option ℕ) (c : Config) (plp : ℕ) (m : ReceiverMachine) (events : List Event) (count : ℕ) → due_of m.receiver ≡ 0
+    → (s : Shown joins c plp m events) → count ≡ length s.views → IsReady m.receiver m.first count
+ready_by joins c plp m events count idle s number = record {
   none = idle;
-  awaits = subst (Awaits m.receiver) (sym (expects c plp m events s count number)) (awaits s.views s.given);
+  awaits = subst (Awaits m.receiver) (sym (expects joins c plp m events s count number)) (awaits s.views s.given);
   few = (let a = s.successive.small in omega (arith, number, a));
   fits = λ n is. within s.views s.first_is number s.successive.small n is;
 }
   where
-    awaits : (views : List RecordView) → Given c plp m.receiver s.first views m.slots (gave events)
+    awaits : (views : List RecordView) → Given joins c plp m.receiver s.first views m.slots (gave events)
         → Awaits m.receiver (expected_by (first_of s.first views) (length views))
     awaits [] g = g.0
     awaits (v ∷ vs) g = g.frame
@@ -130,7 +130,7 @@ ready_by c plp m events count idle s number = record {
 pub is_ready : (m : ReceiverMachine) (input given count : ℕ) → HasRoom Becomes m input given → due_of m.receiver ≡ 0
     → count ≡ m.feed.count → IsReady m.receiver m.first count
 is_ready m input given count room idle same =
-    ready_by (network_of room.start.receiver) (plp_of room.start.receiver) m room.events count idle room.came.shown
+    ready_by (joins_of room.start.receiver) (network_of room.start.receiver) (plp_of room.start.receiver) m room.events count idle room.came.shown
     (same ∙ room.came.shown.feed.number)
 
 -- what is wanted can be read

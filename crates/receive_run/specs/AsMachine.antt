@@ -1,4 +1,4 @@
--- The receiver as a machine between files. No public clause cites this module.
+-- A receiver as a machine between files. No public clause cites this module.
 use Rattle.std.specs.Prelude.{◌≡◌, ◌≢◌, ◌⊎◌, ℕ, ◌+◌, ◌-◌, ◌<◌, ◌≤◌, Bool, List, [], ◌∷◌, ◌++◌, length, take, Option, Some}
 use Rattle.std.specs.Prelude.{None, unwrap_or, Result, Ok, Err}
 use Rattle.std.specs.List.{concat}
@@ -12,14 +12,16 @@ use Rattle.site_frame.specs.declared.reading.RecordView.{RecordView}
 use Rattle.record_feed.specs.StandsFor.{RecordFeedStandsFor, coming_of, count_of, came_of, left_of, lacks_of, record_of}
 use Rattle.record_feed.specs.declared.coming.Coming.{Coming}
 use Rattle.record_feed.specs.declared.coming.Coming.TheVariants.{Head, Whole, Refused}
-use Rattle.plp_receiver.specs.StandsFor as stands
-use Rattle.plp_receiver.specs.StandsFor.{IsFresh, network_of, plp_of, frame_of, due_of, slots_over}
-use Rattle.plp_receiver.specs.Epochs.{Readback}
-use Rattle.plp_receiver.specs.declared.receiver.Receiver.{Receiver}
+use Rattle.joined_receiver.specs.StandsFor as stands
+use Rattle.plp_receiver.specs.StandsFor.{slots_over}
+use Rattle.joined_receiver.specs.StandsFor.{IsFresh, network_of, plp_of, joins_of, frame_of, due_of}
+use Rattle.joined_receiver.specs.JoinedBack.{JoinedBackWith}
+use Rattle.joined_receiver.specs.declared.receiver.JoinedReceiver.{JoinedReceiver}
 use Rattle.file_run.specs.Events.{Event, fed, has_ended, gave}
 use Rattle.file_run.specs.declared.machine.Step.{Step}
 use Rattle.receive_run.specs.NextStep.{next_from, left_by}
-use Rattle.receive_run.specs.Received.{GivesBack, expected_after, IsMisplaced}
+use Rattle.receive_run.specs.JoinedReceived.{GivesBack}
+use Rattle.receive_run.specs.Received.{expected_after, IsMisplaced}
 use Rattle.receive_run.specs.Taking.{expected_by, Awaits, SamePlp, TakesRecord, TellsDue}
 use Rattle.receive_run.specs.declared.machine.ReceiverMachine.{ReceiverMachine}
 use Rattle.receive_run.specs.declared.stop.Ran.{Ran}
@@ -37,7 +39,7 @@ reach_of m input = came_of m.feed + left_by (due_of m.receiver) (left_of m.feed)
 -- ---- a step of it
 
 -- The receiver is ready for a record: all that is due was given, and it waits for the frame that is expected.
-pub record IsReady (v : Receiver) (first : Option ℕ) (count : ℕ) : Type 0 where
+pub record IsReady (v : JoinedReceiver) (first : Option ℕ) (count : ℕ) : Type 0 where
   pub none : due_of v ≡ 0
   pub awaits : Awaits v (expected_by first count)
   pub few : count ≤ MOST_FRAMES
@@ -97,51 +99,51 @@ abbrev pub IsBetween : ReceiverMachine → Type 0
 IsBetween m = (coming_of m.feed ≡ Head) × (left_of m.feed ≡ head_len) × (m.misplaced ≡ None)
 
 -- All that the records before the last one give back was given.
-pub record GaveEarly (c : Config) (plp first : ℕ) (views : List RecordView) (text : List ℕ) : Type 0 where
+pub record GaveEarly (joins : Option ℕ) (c : Config) (plp first : ℕ) (views : List RecordView) (text : List ℕ) : Type 0 where
   pub before : List RecordView
   pub last : RecordView
   pub are : views ≡ before ++ last ∷ []
   pub packets : List (List ℕ)
-  pub back : GivesBack c plp first before packets
+  pub back : GivesBack joins c plp first before packets
   pub more : List ℕ
   pub begins : text ≡ concat packets ++ more
 
 -- Of what the records give back so many packets were given, and no other is due but those behind them.
-pub record GavePackets (c : Config) (plp : ℕ) (v : Receiver) (first : ℕ) (views : List RecordView) (released : ℕ)
-    (text : List ℕ) : Type 0 where
-  pub stands : stands.ReceiverStandsFor v first views released
+pub record GavePackets (joins : Option ℕ) (c : Config) (plp : ℕ) (v : JoinedReceiver) (first : ℕ) (views : List RecordView)
+    (released : ℕ) (text : List ℕ) : Type 0 where
+  pub stands : stands.JoinedReceiverStandsFor v first views released
   pub frame : frame_of v ≡ first + length views
   pub packets : List (List ℕ)
-  pub back : Readback c plp first views packets
+  pub back : JoinedBackWith joins c plp first views packets
   pub inside : released ≤ length packets
   pub due : due_of v ≡ length packets - released
   pub text_is : text ≡ concat (take released packets)
-  pub early : GaveEarly c plp first views text
+  pub early : GaveEarly joins c plp first views text
 
-abbrev pub Given : Config → ℕ → Receiver → ℕ → List RecordView → ℕ → List ℕ → Type 0
-Given c plp v first [] released text = IsFresh v × (due_of v ≡ 0) × (released ≡ 0) × (text ≡ [])
-Given c plp v first (view ∷ views) released text = GavePackets c plp v first (view ∷ views) released text
+abbrev pub Given : Option ℕ → Config → ℕ → JoinedReceiver → ℕ → List RecordView → ℕ → List ℕ → Type 0
+Given joins c plp v first [] released text = IsFresh v × (due_of v ≡ 0) × (released ≡ 0) × (text ≡ [])
+Given joins c plp v first (view ∷ views) released text = GavePackets joins c plp v first (view ∷ views) released text
 
 -- the frame of the first record
 abbrev pub first_of : ℕ → List RecordView → Option ℕ
 first_of first [] = None
 first_of first (view ∷ views) = Some first
 
--- To a machine of this PLP this was done: these records were taken, the first of them of this frame.
-pub record Shown (c : Config) (plp : ℕ) (m : ReceiverMachine) (events : List Event) : Type 0 where
+-- To a machine of this PLP, with which this one is joined, this was done: these records were taken, the first of them of this frame.
+pub record Shown (joins : Option ℕ) (c : Config) (plp : ℕ) (m : ReceiverMachine) (events : List Event) : Type 0 where
   pub first : ℕ
   pub views : List RecordView
   pub feed : RecordFeedStandsFor m.feed views (fed 0 events) (has_ended 0 events)
   pub successive : IsOnGrid c first views
   pub first_is : m.first ≡ first_of first views
   pub judged : Judged c (expected_after first views) m.misplaced (coming_of m.feed) feed.rest
-  pub given : Given c plp m.receiver first views m.slots (gave events)
+  pub given : Given joins c plp m.receiver first views m.slots (gave events)
   pub between : 0 < due_of m.receiver → IsBetween m
 
 -- To the first this was done, and then it is the second.
 pub record Becomes (start : ReceiverMachine) (events : List Event) (m : ReceiverMachine) : Type 0 where
   pub same : SamePlp start.receiver m.receiver
-  pub shown : Shown (network_of start.receiver) (plp_of start.receiver) m events
+  pub shown : Shown (joins_of start.receiver) (network_of start.receiver) (plp_of start.receiver) m events
 
 -- ---- how a run ends
 

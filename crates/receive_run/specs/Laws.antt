@@ -1,20 +1,19 @@
--- Laws of runs over a file.
-use Rattle.std.specs.Prelude.{◌≡◌, ℕ, ◌<◌, List, [], length, Result, Ok, Err}
+-- Laws of runs over a file of the receiver of a PLP alone.
+use Rattle.std.specs.Prelude.{◌≡◌, ℕ, ◌<◌, List, [], length, None, Result}
 use Rattle.std.specs.List.{concat}
 use Rattle.plp_config.specs.Capacity.{IsPlan}
 use Rattle.plp_config.specs.declared.config.Config.{Config}
 use Rattle.site_frame.specs.RecordFile.{AreRecords, IsOnGrid, AreBytes}
 use Rattle.site_frame.specs.declared.reading.RecordView.{RecordView}
-use Rattle.receive_run.specs.ReceiveRun.{HasAll, HasBefore}
+use Rattle.receive_run.specs.JoinedLaws as joined
+use Rattle.receive_run.specs.ReceiveRun.{HasAll}
 use Rattle.receive_run.specs.Received.{GivesBack, ran_of}
 use Rattle.receive_run.specs.declared.stop.Ran.{Ran}
 use Rattle.receive_run.specs.declared.stop.ReceiveStop.{ReceiveStop}
-use Rattle.receive_run.specs.declared.stop.ReceiveStop.TheVariants.{RecordRefused}
 
 -- How a run must end over a file that is not too long, if nothing outside fails.
 abbrev pub MustRun : Config → ℕ → List ℕ → Result Ran ReceiveStop → Type 0
-MustRun c plp file (Ok ran) = (bytes : List ℕ) × HasAll c plp ran file bytes
-MustRun c plp file (Err (RecordRefused number why)) = (bytes : List ℕ) × HasBefore c plp number why file bytes
+MustRun c plp file result = joined.MustRun None c plp file result
 
 -- A file decides how a run of a PLP of a plan over it must end.
 abbrev pub OneRun : Type 0

@@ -1,30 +1,24 @@
 -- What stands in the output after the records of a file.
-use Rattle.std.specs.Prelude.{◌≡◌, ◌⊎◌, ℕ, ◌+◌, ◌-◌, List, [], ◌∷◌, length, Option, Some, None}
-use Rattle.std.specs.List.{concat}
+use Rattle.std.specs.Prelude.{◌⊎◌, ℕ, ◌+◌, ◌-◌, List, [], ◌∷◌, length, Option, Some, None}
 use Rattle.plp_config.specs.Plps.{spread}
 use Rattle.plp_config.specs.declared.config.Config.{Config}
 use Rattle.site_frame.specs.Placing.{RefusesPlace}
-use Rattle.site_frame.specs.RecordFile.{IsNoRecord, IsOnGrid}
+use Rattle.site_frame.specs.RecordFile.{IsNoRecord}
 use Rattle.site_frame.specs.Whole.{BeginsWith, moment_of}
 use Rattle.site_frame.specs.declared.fault.RecordWhy.{RecordWhy}
 use Rattle.site_frame.specs.declared.reading.RecordView.{RecordView}
 use Rattle.plp_receiver.specs.StandsFor.{slots_over}
-use Rattle.plp_receiver.specs.Epochs.{Readback}
+use Rattle.receive_run.specs.JoinedReceived as joined
 use Rattle.receive_run.specs.declared.stop.Ran.{Ran}
 
 -- What a PLP is given back of the records of the frames from one on: nothing if there are none.
 abbrev pub GivesBack : Config → ℕ → ℕ → List RecordView → List (List ℕ) → Type 0
-GivesBack c plp first [] packets = packets ≡ []
-GivesBack c plp first (view ∷ views) packets = Readback c plp first (view ∷ views) packets
+GivesBack c plp first views packets = joined.GivesBack None c plp first views packets
 
 -- The bytes are what stands in the output after these records, which are of successive frames: the packets that the PLP is given
 -- back, one behind another.
-pub record Received (c : Config) (plp : ℕ) (views : List RecordView) (bytes : List ℕ) : Type 0 where
-  pub first : ℕ
-  pub successive : IsOnGrid c first views
-  pub packets : List (List ℕ)
-  pub back : GivesBack c plp first views packets
-  pub bytes_are : bytes ≡ concat packets
+abbrev pub Received : Config → ℕ → List RecordView → List ℕ → Type 0
+Received c plp views bytes = joined.Received None c plp views bytes
 
 -- the slot at which the output begins: those before it are over one interleaving frame before the first frame begins; 0 if
 -- there is

@@ -8,5 +8,5 @@ mod running;
 mod stop;
 
 pub use laws::{one_output_law, one_run_law, run_ends_law};
-pub use running::run;
+pub use running::{run, run_joined};
 pub use stop::{Ran, ReceiveStop};

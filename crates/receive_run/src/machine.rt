@@ -4,26 +4,29 @@ ghost use Rattle.plp_config.specs.Laws.{FrameTicks, SoundTimes};
 ghost use Rattle.plp_config.specs.declared.moment.TheConstants.{MOST_FRAMES};
 ghost use Rattle.record_feed.specs.StandsFor.{NeverLacksRoom};
 ghost use Rattle.record_feed.specs.declared.coming.Coming.TheVariants.{Whole};
-ghost use Rattle.plp_receiver.specs.StandsFor.{IsFresh, network_of, plp_of, due_of};
+ghost use Rattle.joined_receiver.specs.JoinedBack.{MayJoin};
+ghost use Rattle.joined_receiver.specs.StandsFor.{IsFresh, network_of, plp_of, joins_of, due_of};
 ghost use Rattle.receive_run.specs.Taking.{TellsDue};
 
 use crate::record::{Look, give_packet, take_record};
 use crate::stop::{Ran, ReceiveStop};
 use bit_slice::OutOfMemory;
+use common_plp::join_law;
 use file_run::{Ending, Machine, Step, events_law};
+use joined_receiver::{JoinedReceiver, joined_law};
 use plp_config::{Plan, length_law};
-use plp_receiver::{Receiver, readback_law};
 use record_feed::{Coming, RecordFeed, stands_law};
 use site_frame::RecordWhy;
 use std::alloc::Global;
 use ts_packet::SIZE;
 
-/// A receiver that is fed with the bytes of records and gives the packets of a PLP.
+/// A receiver that is fed with the bytes of records and gives the packets of a PLP, if so wanted with those that its group has in
+/// common.
 #[derive(Drop)]
 pub struct ReceiverMachine<'p> {
     plan: &'p Plan,
     plp: usize,
-    receiver: Receiver<'p>,
+    receiver: JoinedReceiver<'p>,
     // The records that were taken, and what came behind them.
     feed: RecordFeed,
     // The frame of the first of them.
@@ -47,15 +50,22 @@ fn times_law()
 }
 
 // Nothing is due of a receiver to which nothing came. It does nothing.
-fn fresh_law(receiver: &Receiver<'_>)
+fn fresh_law(receiver: &JoinedReceiver<'_>)
     requires { IsFresh receiver.now }
     ensures { due_of receiver.now ≡ 0 }
 {
     receiver.due();
 }
 
+// What is joined with its PLP is the common one of the group. It does nothing.
+fn joins_law(receiver: &JoinedReceiver<'_>)
+    ensures { MayJoin (network_of receiver.now) (plp_of receiver.now) (joins_of receiver.now) }
+{
+    receiver.due();
+}
+
 // What is due are the packets of a list that its records give back. It does nothing.
-fn due_law(receiver: &Receiver<'_>)
+fn due_law(receiver: &JoinedReceiver<'_>)
     ensures { TellsDue receiver.now }
 {
     receiver.due();
@@ -94,19 +104,22 @@ impl<'p> ReceiverMachine<'p> {
     ghost use Rattle.receive_run.specs.NextStep.{refusal_of};
     ghost use Rattle.receive_run.specs.Taking.{expected_by};
 
-    /// A receiver of the PLP at a place to which nothing was fed, and all its memory.
+    /// A receiver of the PLP at a place to which nothing was fed, and all its memory; with it the PLP that is joined, if one is.
     pub fn open(
         alloc: Global,
         plan: &'p Plan,
         plp: usize,
+        joins: Option<usize>,
     ) -> Result<ReceiverMachine<'p>, OutOfMemory>
         requires inside { plp < length plan.now.plps }
+        requires may { MayJoin plan.now plp joins }
         ensures network { IfOk result (λ m. network_of m.receiver ≡ plan.now) }
         ensures plp { IfOk result (λ m. plp_of m.receiver ≡ plp) }
+        ensures joins { IfOk result (λ m. joins_of m.receiver ≡ joins) }
         ensures becomes { IfOk result (λ m. Becomes m [] m) }
     {
         let feed = RecordFeed::open(alloc)?;
-        let receiver = Receiver::open(alloc, plan, plp)?;
+        let receiver = JoinedReceiver::open(alloc, plan, plp, joins)?;
         fresh_law(&receiver);
         Ok(ReceiverMachine {
             plan,
@@ -178,7 +191,7 @@ impl<'p> ReceiverMachine<'p> {
 impl<'p> Machine for ReceiverMachine<'p> {
     ghost use Rattle.std.specs.Prelude.{◌+◌, ◌++◌, ◌∷◌, List, []};
     ghost use Rattle.file_run.specs.Events.{Event, Fed, Ended, Gave};
-    ghost use Rattle.plp_receiver.specs.StandsFor.{due_of};
+    ghost use Rattle.joined_receiver.specs.StandsFor.{due_of};
     ghost use Rattle.receive_run.specs.AsMachine.{Becomes, next_of, reach_of};
 
     ghost Becomes = { Becomes };
@@ -209,7 +222,8 @@ impl<'p> Machine for ReceiverMachine<'p> {
 
     fn feed(&mut self, _input: usize, bytes: &[u8]) -> usize {
         events_law();
-        readback_law();
+        joined_law();
+        joins_law(&self.receiver);
         self.plan.rules_law();
         let count = self.feed.feed(bytes);
         if self.feed.is_whole() {
@@ -225,6 +239,7 @@ impl<'p> Machine for ReceiverMachine<'p> {
 
     fn give(&mut self, out: &mut [u8]) -> usize {
         events_law();
+        join_law();
         times_law();
         self.plan.rules_law();
         give_packet(&mut self.receiver, out.first_chunk_mut().unwrap());

@@ -4,11 +4,11 @@ ghost use Rattle.site_frame.specs.Placing.{IsPlaced};
 ghost use Rattle.site_frame.specs.Whole.{moment_of as moment_in};
 ghost use Rattle.record_feed.specs.StandsFor.{coming_of, record_of};
 ghost use Rattle.record_feed.specs.declared.coming.Coming.TheVariants.{Whole};
-ghost use Rattle.plp_receiver.specs.StandsFor.{frame_of, due_of, network_of};
+ghost use Rattle.joined_receiver.specs.StandsFor.{frame_of, due_of, network_of};
 ghost use Rattle.receive_run.specs.Taking.{Awaits, SamePlp, TakesView, IsLook, GivesPacket};
 
+use joined_receiver::JoinedReceiver;
 use plp_config::{Moment, Plan};
-use plp_receiver::Receiver;
 use record_feed::RecordFeed;
 use site_frame::{RecordView, RecordWhy, place_record};
 use ts_packet::SIZE;
@@ -24,7 +24,12 @@ fn moment_of(view: &RecordView<'_>) -> Moment
 }
 
 // Takes the record of the frame that was expected; if none was, the receiver begins with it.
-fn take_view(receiver: &mut Receiver<'_>, expected: Option<u64>, frame: u64, view: &RecordView<'_>)
+fn take_view(
+    receiver: &mut JoinedReceiver<'_>,
+    expected: Option<u64>,
+    frame: u64,
+    view: &RecordView<'_>,
+)
     requires given_out { due_of receiver.old ≡ 0 }
     requires awaits { Awaits receiver.old expected }
     requires placed { IsPlaced (network_of receiver.old) expected (moment_in view.now) frame }
@@ -54,7 +59,7 @@ pub fn take_record(
     plan: &Plan,
     expected: Option<u64>,
     feed: &RecordFeed,
-    receiver: &mut Receiver<'_>,
+    receiver: &mut JoinedReceiver<'_>,
 ) -> Look
     requires whole { coming_of feed.now ≡ Whole }
     requires network { network_of receiver.old ≡ plan.now }
@@ -76,7 +81,7 @@ pub fn take_record(
 }
 
 /// Gives out the next packet.
-pub fn give_packet(receiver: &mut Receiver<'_>, packet: &mut [u8; SIZE])
+pub fn give_packet(receiver: &mut JoinedReceiver<'_>, packet: &mut [u8; SIZE])
     requires { 0 < due_of receiver.old }
     ensures gives { GivesPacket receiver.old receiver.new packet.new }
     ensures whole { length packet.new ≡ SIZE }

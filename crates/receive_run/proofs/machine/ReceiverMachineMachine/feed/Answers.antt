@@ -2,7 +2,7 @@ use Rattle.std.proofs.Common.{◌≡◌, ◌∙◌, refl, sym, arith, take}
 use Rattle.std.proofs.lemmas.Bool.{true≢false}
 use Rattle.record_feed.specs.StandsFor.{coming_of, left_of}
 use Rattle.record_feed.specs.declared.coming.Coming.TheVariants.{Whole}
-use Rattle.plp_receiver.specs.StandsFor.{due_of}
+use Rattle.joined_receiver.specs.StandsFor.{due_of}
 use Rattle.receive_run.proofs.FedLemmas.{fed_some, fed_whole}
 use Rattle.receive_run.proofs.StepLemmas.{known_of}
 use Rattle.receive_run.proofs.WantedLemmas.{enough, fits, is_ready, near_left, all_left}
@@ -34,8 +34,8 @@ pub returns-then-is_whole-clause-becomes : goal.returns-then-is_whole-clause-bec
 returns-then-is_whole-clause-becomes c = λ start events came.
     let whole : coming_of c.feed-count.new.self ≡ Whole =
     c.is_whole.ensures.0 c.if-is_whole.true in
-    fed_whole c.events_law.ensures c.readback_law.ensures.front start c.args.self.now _ c.see.new.self events c.args._input _
-    (take c.feed-count.result c.args.bytes.now) (known_of c.args.self.now c.rules_law.ensures.plan) c.requires.wanted
+    fed_whole c.events_law.ensures c.joined_law.ensures.front start c.args.self.now _ c.see.new.self events c.args._input _
+    (take c.feed-count.result c.args.bytes.now) (known_of c.args.self.now c.rules_law.ensures.plan c.joins_law.ensures) c.requires.wanted
     (record { receiver = refl; first = refl; slots = refl }) refl whole
     c.feed-count.ensures.stands c.see.ensures.sees came
 

@@ -1,10 +1,10 @@
 use Rattle.std.proofs.Common.{refl, arith}
 use Rattle.std.proofs.lemmas.List.{take_at}
 use Rattle.ts_packet.specs.declared.sizes.TheConstants.{SIZE}
-use Rattle.plp_receiver.specs.StandsFor.{network_of, plp_of, due_of}
+use Rattle.joined_receiver.specs.StandsFor.{network_of, plp_of, joins_of, due_of}
 use Rattle.record_feed.specs.StandsFor.{came_of, left_of, lacks_of}
-use Rattle.receive_run.proofs.FewLemmas.{few_packets}
-use Rattle.receive_run.proofs.StepLemmas.{known_of}
+use Rattle.receive_run.proofs.FewLemmas.{few_joined}
+use Rattle.receive_run.proofs.StepLemmas.{known_plan, known_inside}
 use Rattle.receive_run.proofs.GivenLemmas.{gave_event}
 use Rattle.receive_run.proofs.WantedLemmas.{some_due, near_given}
 use Rattle.receive_run.proofs.machine.ReceiverMachineMachine.give.Goals as goal
@@ -15,13 +15,13 @@ give_packet-requires c = let m = c.args.self.now in some_due (due_of m.receiver)
 pub returns-clause-becomes : goal.returns-clause-becomes
 returns-clause-becomes c = λ start events came.
     let m = c.args.self.now in
-    let known = known_of m c.rules_law.ensures.plan in
     gave_event c.events_law.ensures start m _ events _ c.give_packet.new.packet
     (some_due (due_of m.receiver) m.misplaced (lacks_of m.feed) c.requires.gives)
     (take_at c.give_packet.new.packet _ SIZE c.give_packet.ensures.whole) c.give_packet.ensures.gives
     c.saturating_add-self.ensures refl refl refl
-    (λ first views packets a back. few_packets c.times_law.ensures.frame c.times_law.ensures.slot (network_of m.receiver)
-    (plp_of m.receiver) first views packets known.0.rules known.1 a.small back) came
+    (λ first views packets a back. few_joined c.join_law.ensures.slots c.times_law.ensures.frame c.times_law.ensures.slot
+    (joins_of m.receiver) (network_of m.receiver) (plp_of m.receiver) first views packets
+    (known_plan m c.rules_law.ensures.plan).rules (known_inside m) a.small back) came
 
 pub returns-clause-left : goal.returns-clause-left
 returns-clause-left c = let sum = c.give_packet.ensures.gives.due in omega (arith, sum)
