@@ -2,7 +2,7 @@
 use Rattle.std.proofs.Common.{◌≡◌, ℕ, ◌+◌, ◌*◌, ◌<◌, ◌≤◌, ◌==◌, ◌&&◌, ◌||◌, Bool, true, false, List, [], ◌∷◌, ◌++◌, length, max}
 use Rattle.std.proofs.Common.{Option, Some, None, refl, ap, ap₂, sym, subst, ◌∙◌, inl, inr, arith, append-nil, eqb-true}
 use Rattle.std.specs.Prelude.{option_to_list, nat_le, nat_lt}
-use Rattle.std.proofs.lemmas.Bool.{true≢false, cases_lt}
+use Rattle.std.proofs.lemmas.Bool.{true≢false, cases_lt, or_parts}
 use Rattle.plp_config.specs.Capacity.{IsPlan}
 use Rattle.plp_config.specs.Laws.{FieldRange}
 use Rattle.plp_config.specs.declared.config.Config.{Config}
@@ -30,11 +30,11 @@ use Rattle.feed_merge.specs.declared.seen.Pick.{Pick}
 use Rattle.feed_merge.specs.Laws.{PicksGrow}
 use Rattle.feed_merge.specs.Picking.{is_at, source_at, pick_at}
 use Rattle.feed_merge.specs.Picks.{Picked, pick_of, picks, above_all, frames_of}
-use Rattle.feed_merge.specs.StandsFor.{MergerStandsFor, frame_of, has_unit, has_finished, is_fed, bytes_left}
+use Rattle.feed_merge.specs.StandsFor.{MergerStandsFor, has_unit, has_finished, is_fed, bytes_left}
 use Rattle.feed_merge.specs.StandsFor as merger
 use Rattle.merge_run.specs.Counted.{counted, added}
 use Rattle.merge_run.specs.Sending.{numbered, frame_at, HoldsFrame, Begins}
-use Rattle.merge_run.specs.Shown.{IsFedWith, IsBehind, NoneComes, Sends, IsReading, IsIn, more_units, frame_bytes}
+use Rattle.merge_run.specs.Shown.{IsFedWith, IsBehind, NoneComes, Sends, IsReading, IsLive, IsIn, more_units, frame_bytes}
 use Rattle.merge_run.specs.Shown.{CountsFrames, Shown}
 use Rattle.merge_run.specs.Steps.{is_idle, left_in, left_of}
 use Rattle.merge_run.specs.Taking.{seen_of, least_of, one_if, AreTaken, TookFrom, IsSameFeed}
@@ -42,6 +42,7 @@ use Rattle.merge_run.specs.declared.merging.Merging.{Merging}
 use Rattle.merge_run.specs.declared.phase.Phase.{Phase}
 use Rattle.merge_run.specs.declared.phase.Phase.TheVariants.{Reads, Gives, Rests}
 use Rattle.merge_run.specs.declared.stop.Ran.{Ran}
+use Rattle.merge_run.proofs.LiveLemmas.{live_taken}
 use Rattle.merge_run.proofs.FeedLemmas.{took_with, took_behind, holds_frame}
 use Rattle.merge_run.proofs.FrameLemmas.{view_is}
 use Rattle.merge_run.proofs.BoundLemmas.{few_bodies}
@@ -50,21 +51,16 @@ use Rattle.merge_run.proofs.PickLemmas.{least_first, least_second, least_most, l
 use Rattle.merge_run.proofs.PickLemmas.{pick_second, pick_none}
 use Rattle.merge_run.proofs.SendLemmas.{frames_append, sends_begun, sends_over, counted_push}
 
--- fewer bytes are at hand than a unit has
-neither : (a b : Bool) → (a || b) ≡ false → a ≡ false
-neither true b e = absurd (true≢false e)
-neither false b e = refl
-
 pub idle_left : (g : Merger) → has_unit g ≡ false → bytes_left g None < 184
 idle_left g idle =
-    let off = neither (nat_le PAYLOAD (at_hand g.flow.outlet)) (is_finished g.flow.outlet.piper && nat_lt 0 (piper_waiting g.flow.outlet.piper))
+    let off = or_parts (nat_le PAYLOAD (at_hand g.flow.outlet)) (is_finished g.flow.outlet.piper && nat_lt 0 (piper_waiting g.flow.outlet.piper))
     idle in
-    less (at_hand g.flow.outlet) off
+    less (at_hand g.flow.outlet) off.0
   where
     less : (n : ℕ) → nat_le PAYLOAD n ≡ false → n + 0 < 184
     less n e = grind (arith)
 
-above_taken : (o : Option Waiting) (n : ℕ) (xs : List FrameRecord) → AreTaken (is_at n (seen_of o)) o xs
+pub above_taken : (o : Option Waiting) (n : ℕ) (xs : List FrameRecord) → AreTaken (is_at n (seen_of o)) o xs
     → (above_all xs ≤ n + 1) × (1 ≤ one_if (is_at n (seen_of o)) → above_all xs ≡ n + 1)
 above_taken None n xs t = (let e = ap above_all t in omega (arith, e), λ l. absurd (omega (arith, l)))
 above_taken (Some w) n xs t = go (w.frame == n) refl t
@@ -178,6 +174,14 @@ module _ (follow : DueFollow) (grow : PicksGrow) (c : Config) (m : Merging) (a b
       grow c s.given_a s.given_b xs ys n (below_of n s.given_a (omega (arith, was, low))) (below_of n s.given_b (omega (arith, was, low)))
       (are_of (waiting_of m.a) n xs ta.takes.are) (are_of (waiting_of m.b) n ys tb.takes.are)
 
+  pub live : m.phase ≡ Reads → IsLive c (fed 0 events) (fed 1 events) now_a now_b (n + 1) m.ran.units
+  live reads =
+      let i : IsReading c m.merger (frames_of (picks c s.given_a s.given_b)) m.ran.units =
+      subst (IsIn c m (frames_of (picks c s.given_a s.given_b))) reads s.is_in in
+      let all = i.complete in
+      live_taken c m.a m.b (fed 0 events) (fed 1 events) _ _ s.given_a s.given_b xs ys m.next n (n + 1) m.ran.units s.of_a s.of_b s.next_is
+      next_low (omega arith) (are_of (waiting_of m.a) n xs ta.takes.are) (are_of (waiting_of m.b) n ys tb.takes.are) (omega (arith, all))
+
   -- ---- none is picked
 
   pub none_picked : p.source ≡ None → picks c now_a now_b ≡ picks c s.given_a s.given_b
@@ -261,8 +265,8 @@ module _ (follow : DueFollow) (grow : PicksGrow) (field : FieldRange) (c : Confi
       → Begins m.merger new.merger n view
       → IsFedWith c new.a (fed 0 events) (has_ended 0 events) given_a → IsFedWith c new.b (fed 1 events) (has_ended 1 events) given_b
       → IsBehind (n + 1) new.a given_a → IsBehind (n + 1) new.b given_b → n + 1 ≡ max (above_all given_a) (above_all given_b)
-      → Shown c events new
-  shown_begun from view picked ran gives spells formed b of_a of_b behind_a behind_b next_is = record {
+      → IsLive c (fed 0 events) (fed 1 events) given_a given_b (n + 1) m.ran.units → Shown c events new
+  shown_begun from view picked ran gives spells formed b of_a of_b behind_a behind_b next_is live = record {
     config = config ∙ s.config;
     plan = s.plan;
     ids = s.ids;
@@ -279,6 +283,8 @@ module _ (follow : DueFollow) (grow : PicksGrow) (field : FieldRange) (c : Confi
         (sends_begun c m.merger new.merger n frames (numbered n view) m.ran.units (gave events) refl reading.is_open b s.sends));
     ran_is = ran_now;
     counts = counts_now;
+    live = subst (λ (k : ℕ). IsLive c (fed 0 events) (fed 1 events) given_a given_b k new.ran.units) (sym next)
+        (subst (IsLive c (fed 0 events) (fed 1 events) given_a given_b (n + 1)) (sym units) live);
     is_in = subst (IsIn c new now) (sym gives) (record {
       is_open = b.finished;
       before = frames;
@@ -339,8 +345,8 @@ module _ (follow : DueFollow) (grow : PicksGrow) (field : FieldRange) (c : Confi
   pub shown_passed : picks c given_a given_b ≡ picks c s.given_a s.given_b → new.ran ≡ m.ran → new.phase ≡ Reads → new.merger ≡ m.merger
       → IsFedWith c new.a (fed 0 events) (has_ended 0 events) given_a → IsFedWith c new.b (fed 1 events) (has_ended 1 events) given_b
       → IsBehind (n + 1) new.a given_a → IsBehind (n + 1) new.b given_b → n + 1 ≡ max (above_all given_a) (above_all given_b)
-      → Shown c events new
-  shown_passed picked ran still same of_a of_b behind_a behind_b next_is = record {
+      → IsLive c (fed 0 events) (fed 1 events) given_a given_b (n + 1) m.ran.units → Shown c events new
+  shown_passed picked ran still same of_a of_b behind_a behind_b next_is live = record {
     config = config ∙ s.config;
     plan = s.plan;
     ids = s.ids;
@@ -371,6 +377,8 @@ module _ (follow : DueFollow) (grow : PicksGrow) (field : FieldRange) (c : Confi
           units = subst (λ (p : Phase). new.ran.units + more_units p new.merger new.«record»
               ≤ new.next * frame_bytes + 184) (sym still) (omega (arith, was_units, units, e, low));
         });
+    live = subst (λ (k : ℕ). IsLive c (fed 0 events) (fed 1 events) given_a given_b k new.ran.units) (sym next)
+        (subst (IsLive c (fed 0 events) (fed 1 events) given_a given_b (n + 1)) (ap (λ (r : Ran). r.units) (sym ran)) live);
     is_in = subst (IsIn c new now) (sym still) (subst (λ (ps : List Picked). IsReading c new.merger (frames_of ps) new.ran.units) (sym picked)
         (subst (λ (g : Merger). IsReading c g frames new.ran.units) (sym same)
         (subst (λ (r : Ran). IsReading c m.merger frames r.units) (sym ran) reading)));
@@ -443,6 +451,7 @@ shown_finished c m g events s reads least busy_a busy_b stands config over all_f
         parts = s.counts.parts;
         units = omega (arith, was_units, left, idle_left m.merger i.idle);
       };
+      live = s.live;
       is_in = record {
         over = over;
         all_fed = all_fed;
@@ -467,7 +476,7 @@ module _ (follow : DueFollow) (grow : PicksGrow) (field : FieldRange) (c : Confi
       (none_picked follow grow c m new.a new.b events n p out t s none) ran still same
       (of_a follow grow c m new.a new.b events n p out t s) (of_b follow grow c m new.a new.b events n p out t s)
       (behind_a follow grow c m new.a new.b events n p out t s) (behind_b follow grow c m new.a new.b events n p out t s)
-      (next_now follow grow c m new.a new.b events n p out t s)
+      (next_now follow grow c m new.a new.b events n p out t s) (live follow grow c m new.a new.b events n p out t s reads)
 
   pub begun : DueSpelled → FramesAreFormed → (from : Feed) → p.source ≡ Some from → new.ran ≡ added m.ran from → new.phase ≡ Gives
       → ((view : RecordView) → Spells view out → Begins m.merger new.merger n view) → Shown c events new
@@ -479,7 +488,7 @@ module _ (follow : DueFollow) (grow : PicksGrow) (field : FieldRange) (c : Confi
       from f.view f.picked ran gives f.spells f.formed (b f.view f.spells)
       (of_a follow grow c m new.a new.b events n p out t s) (of_b follow grow c m new.a new.b events n p out t s)
       (behind_a follow grow c m new.a new.b events n p out t s) (behind_b follow grow c m new.a new.b events n p out t s)
-      (next_now follow grow c m new.a new.b events n p out t s)
+      (next_now follow grow c m new.a new.b events n p out t s) (live follow grow c m new.a new.b events n p out t s reads)
 
 pub begun_left : DueFollow → PicksGrow → FieldRange → DueSpelled → FramesAreFormed → (c : Config) (m : Merging) (a b : FrameFeed)
     (g : Merger) (events : List Event) (n : ℕ) (p : Pick) (out : List ℕ) → Takings m a b n p out → Shown c events m → m.phase ≡ Reads

@@ -9,6 +9,7 @@ use Rattle.std.proofs.Math.Nat.{mul-le-mul}
 use Rattle.std.proofs.lemmas.List.FromFn.{get_or-map-range_with_len}
 use Rattle.std.proofs.lemmas.List.Sums.{sum_by-cons}
 use Rattle.terms.proofs.CaseLemmas.{bool_cases}
+use Rattle.formed_frames.proofs.SizeLemmas.{size_of}
 use Rattle.plp_config.specs.Capacity.{IsPlan, RecordLength, block_bytes, block_room, longest_rest}
 use Rattle.plp_config.specs.InterleavingFrames.{is_first}
 use Rattle.plp_config.specs.Laws.{FieldRange}
@@ -29,9 +30,6 @@ use Rattle.frame_writer.specs.FramePackets.{with_stamp}
 use Rattle.formed_frames.specs.Formed.{IsFormed}
 use Rattle.formed_frames.specs.Remade.{record_bodies, view_bodies, signal_of}
 use Rattle.merge_run.specs.Shown.{frame_bytes}
-
-abbrev size_of : Config → ℕ → BlockSize
-size_of c plp = record { plp_id = (plp_at c.plps plp).id; len = block_bytes c plp }
 
 abbrev sizes_of : Config → List ℕ → ℕ → List BlockSize
 sizes_of c counts plp = replicate (slice_index counts plp) (size_of c plp)
@@ -80,11 +78,11 @@ coming_few c n shape passes plp inside =
     (λ on. let e = ap (λ (b : Bool). cond {A = ℕ} b (slice_index shape.counts plp) 0) on in omega (arith, at, most, e))
     (λ off. let e = ap (λ (b : Bool). cond {A = ℕ} b (slice_index shape.counts plp) 0) off in omega (arith, at, e))
 
-bodies_count : (frame_idx : ℕ) (before : Option ℕ) (blocks : List Block) → length (record_bodies frame_idx before blocks) ≡ length blocks
+pub bodies_count : (frame_idx : ℕ) (before : Option ℕ) (blocks : List Block) → length (record_bodies frame_idx before blocks) ≡ length blocks
 bodies_count frame_idx before [] = refl
 bodies_count frame_idx before (b ∷ blocks) = omega (arith, bodies_count frame_idx (Some b.plp_id) blocks)
 
-stamp_count : (c : Config) (n : ℕ) (bodies : List Body) → length (with_stamp c n bodies) ≤ length bodies + 1
+pub stamp_count : (c : Config) (n : ℕ) (bodies : List Body) → length (with_stamp c n bodies) ≤ length bodies + 1
 stamp_count c n bodies = bool_cases (n % c.frames == 0) (λ e. rw e (omega arith)) (λ e. rw e (omega arith))
 
 pub few_bodies : FieldRange → (c : Config) (n : ℕ) (view : RecordView) → IsPlan c → IsFormed c n view

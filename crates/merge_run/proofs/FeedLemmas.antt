@@ -16,7 +16,7 @@ use Rattle.modulator.specs.Laws.{DueFollow, DueSpelled}
 use Rattle.modulator.specs.StandsFor.{records_due}
 use Rattle.formed_frames.specs.Formed.{IsFormed}
 use Rattle.formed_frames.specs.Laws.{FramesAreFormed, IsFormedRecord}
-use Rattle.frame_feed.specs.StandsFor.{FrameFeedStandsFor, IsFirst, waiting_of}
+use Rattle.frame_feed.specs.StandsFor.{IsFirst, waiting_of}
 use Rattle.frame_feed.specs.StandsFor as feed
 use Rattle.frame_feed.specs.declared.feed.FrameFeed.{FrameFeed}
 use Rattle.feed_merge.specs.declared.seen.Feed.{Feed}
@@ -124,7 +124,7 @@ took_behind follow c n from source f g bytes ended given out busy least end stay
 
 -- ---- the record of a frame that is picked
 
-one_of : {X : Type 0} (P : X → Type 0) (xs : List X) (x : X) (ys : List X) → AllByRecursion P (xs ++ x ∷ ys) → P x
+pub one_of : {X : Type 0} (P : X → Type 0) (xs : List X) (x : X) (ys : List X) → AllByRecursion P (xs ++ x ∷ ys) → P x
 one_of P [] x ys all = all.0
 one_of P (y ∷ xs) x ys all = one_of P xs x ys all.1
 

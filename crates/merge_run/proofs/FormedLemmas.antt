@@ -19,7 +19,7 @@ use Rattle.frame_tests.specs.Readable.{told_dynamic, coming, block_sizes, has_si
 use Rattle.formed_frames.specs.Formed.{Forms, IsFormed}
 use Rattle.merge_run.specs.Sending.{HoldsFrame}
 use Rattle.merge_run.proofs.CameLemmas.{test_of, most_of, less_of, nothing_of, number_of}
-use Rattle.merge_run.proofs.TakeLemmas.{begins_so}
+use Rattle.feed_merge.proofs.RecordLemmas.{begins_so}
 
 pub formed_back : (c : Config) (n : ℕ) (view : RecordView) → ∥ IsFormed c n view ∥₁ → IsFormed c n view
 formed_back c n (Muted moment) h = absurd (nothing_of h (λ x. x))

@@ -2,6 +2,7 @@
 use Rattle.std.proofs.Common.{◌≡◌, ℕ, ◌+◌, ◌^◌, ◌<◌, true, false, List, [], ◌∷◌, ◌++◌, length, Option, Some, None}
 use Rattle.std.proofs.Common.{ap, ap₂, sym, subst, ◌∙◌, arith, append-nil}
 use Rattle.std.specs.Prelude.{slice_get}
+use Rattle.std.proofs.lemmas.Bool.{true≢false}
 use Rattle.plp_config.specs.declared.config.Config.{Config}
 use Rattle.site_frame.specs.declared.reading.RecordView.{RecordView}
 use Rattle.t2mi_stream.specs.Complete.{complete_units}
@@ -13,7 +14,7 @@ use Rattle.file_run.specs.Laws.{EventsTell}
 use Rattle.frame_feed.specs.StandsFor as feed
 use Rattle.feed_merge.specs.declared.merger.Merger.{Merger}
 use Rattle.feed_merge.specs.Picks.{picks, frames_of}
-use Rattle.feed_merge.specs.StandsFor.{MergerStandsFor, frame_of, has_unit, has_finished, is_fed, bytes_left}
+use Rattle.feed_merge.specs.StandsFor.{MergerStandsFor, frame_of, has_finished, is_fed, bytes_left}
 use Rattle.feed_merge.specs.StandsFor as merger
 use Rattle.merge_run.specs.Sending.{numbered, frame_at, HoldsFrame, GivesUnit, GivesNone, Nexts}
 use Rattle.merge_run.specs.Shown.{Sends, IsGiving, IsResting, IsIn, more_units, Shown}
@@ -23,6 +24,7 @@ use Rattle.merge_run.specs.declared.phase.Phase.{Phase}
 use Rattle.merge_run.specs.declared.phase.Phase.TheVariants.{Reads, Gives, Rests, Done}
 use Rattle.merge_run.specs.declared.stop.Ran.{Ran}
 use Rattle.merge_run.proofs.FrameLemmas.{view_is}
+use Rattle.merge_run.proofs.LiveLemmas.{live_given}
 use Rattle.merge_run.proofs.SendLemmas.{sends_next, sends_none}
 use Rattle.merge_run.proofs.ShownLemmas.{gave_there}
 
@@ -108,6 +110,8 @@ module _ (tell : EventsTell) (c : Config) (m : Merging) (g : Merger) (events : L
             (sends_next c m.merger g fs m.ran.units (gave events) unit n.config n.finished
             (λ more over. subst (λ (l : List NumberedView). slice_get (pipe c.pid (remade_packets c l ++ more)) m.ran.units ≡ Some unit)
             (sym i.parts) (so.next c i.before m.ran.units (at_last c m.merger fs _ i m.ran.units s.sends.stands) more over))
+            (λ off. subst (λ (l : List NumberedView). m.ran.units < length (complete_units c.pid (remade_packets c l))) (sym i.parts)
+            (so.complete off c i.before m.ran.units (at_last c m.merger fs _ i m.ran.units s.sends.stands)))
             (from_last c m.merger g fs _ i (m.ran.units + 1)
             (so.stands c i.before m.ran.units (at_last c m.merger fs _ i m.ran.units s.sends.stands))) s.sends);
         ran_is = ap (λ (r : Ran). record r { units = m.ran.units + 1 }) s.ran_is;
@@ -123,6 +127,7 @@ module _ (tell : EventsTell) (c : Config) (m : Merging) (g : Merger) (events : L
               let now = ap (λ (p : Phase). more_units p g (bytes c m events s)) gives in
               omega (arith, was, all, less, is, now));
         };
+        live = live_given tell c events unit s.given_a s.given_b m.next m.ran.units (m.ran.units + 1) (omega arith) s.live;
         is_in = subst (IsIn c (record m { merger = g; ran = record m.ran { units = m.ran.units + 1 } }) fs) (sym gives)
             (gives_still c m.merger g fs (bytes c m events s) n.frame n.finished i);
       }
@@ -166,6 +171,7 @@ module _ (tell : EventsTell) (c : Config) (m : Merging) (g : Merger) (events : L
           parts = s.counts.parts;
           units = (let was = more_is c m events s gives in let all = s.counts.units in omega (arith, was, all));
         };
+        live = live_given tell c events [] s.given_a s.given_b m.next m.ran.units m.ran.units (omega arith) s.live;
         is_in = record {
           is_open = n.finished ∙ i.is_open;
           idle = so.idle;
@@ -213,6 +219,7 @@ module _ (tell : EventsTell) (c : Config) (m : Merging) (g : Merger) (events : L
             (λ more none. subst (λ (l : List (List ℕ)). slice_get (pipe c.pid l) m.ran.units ≡ Some unit)
             (sym (ap (λ (l : List (List ℕ)). remade_packets c fs ++ l) (none j.over) ∙ append-nil (remade_packets c fs)))
             (next c fs m.ran.units s.sends.stands))
+            (λ off. absurd (true≢false (sym j.over ∙ off)))
             (stands c fs m.ran.units s.sends.stands) s.sends);
         ran_is = ap (λ (r : Ran). record r { units = m.ran.units + 1 }) s.ran_is;
         counts = record {
@@ -224,6 +231,7 @@ module _ (tell : EventsTell) (c : Config) (m : Merging) (g : Merger) (events : L
               let is = ap (λ (p : Phase). more_units p g (bytes c m events s)) rests in
               omega (arith, all, was, is, less));
         };
+        live = live_given tell c events unit s.given_a s.given_b m.next m.ran.units (m.ran.units + 1) (omega arith) s.live;
         is_in = subst (IsIn c (record m { merger = g; ran = record m.ran { units = m.ran.units + 1 } }) fs) (sym rests)
             (record { over = finished; all_fed = all_fed; none_a = j.none_a; none_b = j.none_b });
       }
@@ -256,6 +264,7 @@ module _ (tell : EventsTell) (c : Config) (m : Merging) (g : Merger) (events : L
           parts = s.counts.parts;
           units = (let all = s.counts.units in omega (arith, all));
         };
+        live = live_given tell c events [] s.given_a s.given_b m.next m.ran.units m.ran.units (omega arith) s.live;
         is_in = record {
           all = none c fs m.ran.units s.sends.stands;
           none_a = j.none_a;

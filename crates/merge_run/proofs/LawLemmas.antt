@@ -2,16 +2,17 @@
 use Rattle.std.proofs.Common.{◌≡◌, ◌≢◌, ◌⊎◌, ℕ, ◌<◌, List, [], ◌∷◌, length, refl, ap, sym, subst, ◌∙◌, inl, inr, arith}
 use Rattle.std.specs.Prelude.{Result, Ok, Err}
 use Rattle.std.proofs.lemmas.Bool.{cases_lt}
+use Rattle.modulator.specs.StandsFor.{records_of}
 use Rattle.plp_config.specs.declared.config.Config.{Config}
 use Rattle.plp_config.specs.declared.moment.TheConstants.{MOST_FRAMES}
 use Rattle.frame_groups.specs.Modulated.{FrameRecord}
 use Rattle.merge_run.specs.Counted.{counted}
 use Rattle.merge_run.specs.Laws.{MustRun, OneRun, RunEnds}
-use Rattle.merge_run.specs.MergeRun.{records_of, picked_of, units_of, AreEarly}
+use Rattle.merge_run.specs.MergeRun.{picked_of, units_of, AreEarly}
 use Rattle.merge_run.specs.declared.stop.MergeStop.{MergeStop}
 use Rattle.merge_run.specs.declared.stop.MergeStop.TheVariants.{NoSuperframe, TooManyFrames}
 use Rattle.merge_run.specs.declared.stop.Ran.{Ran}
-use Rattle.merge_run.proofs.RunLemmas.{two}
+use Rattle.merge_run.proofs.FilesLemmas.{two}
 
 none_early : (records : List FrameRecord) → records ≡ [] → AreEarly records
 none_early records e = subst AreEarly (sym e) tt
@@ -21,12 +22,12 @@ none_some : (c : Config) (files : ℕ → List ℕ) → ((input : ℕ) → input
 none_some c files none (inl some) = some (none 0 (omega arith))
 none_some c files none (inr some) = some (none 1 (omega arith))
 
-not_late : (c : Config) (files : ℕ → List ℕ) → ((input : ℕ) → input < 2 → AreEarly (records_of c (files input)))
+pub not_late : (c : Config) (files : ℕ → List ℕ) → ((input : ℕ) → input < 2 → AreEarly (records_of c (files input)))
     → (¬ (AreEarly (records_of c (files 0)))) ⊎ (¬ (AreEarly (records_of c (files 1)))) → ⊥
 not_late c files early (inl late) = late (early 0 (omega arith))
 not_late c files early (inr late) = late (early 1 (omega arith))
 
-early_none : (c : Config) (files : ℕ → List ℕ) → ((input : ℕ) → input < 2 → records_of c (files input) ≡ [])
+pub early_none : (c : Config) (files : ℕ → List ℕ) → ((input : ℕ) → input < 2 → records_of c (files input) ≡ [])
     → (input : ℕ) → input < 2 → AreEarly (records_of c (files input))
 early_none c files none input lt = none_early (records_of c (files input)) (none input lt)
 
@@ -41,7 +42,7 @@ one_run c files (Err TooManyFrames) (Ok other) a b = absurd (not_late c files b.
 one_run c files (Err TooManyFrames) (Err NoSuperframe) a b = absurd (not_late c files (early_none c files b) a)
 one_run c files (Err TooManyFrames) (Err TooManyFrames) a b = refl
 
-early_or_late : (xs : List FrameRecord) → AreEarly xs ⊎ (¬ (AreEarly xs))
+pub early_or_late : (xs : List FrameRecord) → AreEarly xs ⊎ (¬ (AreEarly xs))
 early_or_late [] = inl tt
 early_or_late (x ∷ xs) =
     elim (cases_lt x.number MOST_FRAMES) [
@@ -52,7 +53,7 @@ early_or_late (x ∷ xs) =
       | inr more ↦ inr (λ all. let less = all.0 in absurd (omega (arith, less, more)))
     ]
 
-some_is : (x : FrameRecord) (xs : List FrameRecord) → x ∷ xs ≢ []
+pub some_is : (x : FrameRecord) (xs : List FrameRecord) → x ∷ xs ≢ []
 some_is x xs e = absurd (let n = ap length e in omega (arith, n))
 
 pub run_ends : RunEnds

@@ -2,10 +2,12 @@ pub mod BeginLemmas
 pub mod BoundLemmas
 pub mod CameLemmas
 pub mod FeedLemmas
+pub mod FilesLemmas
 pub mod FormedLemmas
 pub mod FrameLemmas
 pub mod GiveLemmas
 pub mod LawLemmas
+pub mod LiveLemmas
 pub mod NumberLemmas
 pub mod PickLemmas
 pub mod RunLemmas

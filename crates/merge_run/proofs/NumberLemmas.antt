@@ -1,6 +1,7 @@
 -- Numbers of records that come one after another.
 use Rattle.std.proofs.Common.{◌≡◌, ℕ, suc, ◌+◌, ◌≤◌, max, List, [], ◌∷◌, ◌++◌, length, refl, subst, arith}
 use Rattle.std.specs.List.{AllByRecursion}
+use Rattle.modulator.proofs.WaitLemmas.{number_at}
 use Rattle.frame_groups.specs.Laws.{AreFrom}
 use Rattle.frame_groups.specs.Modulated.{FrameRecord}
 use Rattle.feed_merge.specs.Laws.{AllBelow}
@@ -26,12 +27,6 @@ below_append n (x ∷ xs) ys a b = (a.0, below_append n xs ys a.1 b)
 pub nothing_above : (records : List FrameRecord) → above_all records ≡ 0 → records ≡ []
 nothing_above [] e = refl
 nothing_above (x ∷ records) e = absurd (omega (arith, e))
-
--- the number behind some
-pub number_at : (m : ℕ) (given : List FrameRecord) (y : FrameRecord) (later : List FrameRecord)
-    → AreFrom m (given ++ y ∷ later) → y.number ≡ m + length given
-number_at m [] y later are = let n = are.0 in omega (arith, n)
-number_at m (x ∷ given) y later are = let n = number_at (m + 1) given y later are.1 in omega (arith, n)
 
 pub above_before : (m : ℕ) (given : List FrameRecord) (y : FrameRecord) (later : List FrameRecord)
     → AreFrom m (given ++ y ∷ later) → above_all given ≤ y.number

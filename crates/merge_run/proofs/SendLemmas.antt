@@ -1,18 +1,20 @@
 -- What the merger sends of the frames that are picked.
-use Rattle.std.proofs.Common.{◌≡◌, ℕ, ◌+◌, true, false, List, [], ◌∷◌, ◌++◌, length, take, Some, None}
+use Rattle.std.proofs.Common.{◌≡◌, ℕ, ◌+◌, ◌<◌, ◌≤◌, true, false, List, [], ◌∷◌, ◌++◌, length, Some}
 use Rattle.std.proofs.Common.{refl, ap, sym, subst, ◌∙◌, arith, append-nil, append_assoc, length-append}
 use Rattle.std.specs.Prelude.{slice_get}
 use Rattle.std.specs.List.{filter}
 use Rattle.std.proofs.lemmas.Bool.{true≢false}
 use Rattle.std.proofs.lemmas.Grind.{flat_map-append}
-use Rattle.std.proofs.lemmas.List.{take_at}
 use Rattle.std.proofs.lemmas.List.Elements.{filter-append}
+use Rattle.terms.proofs.ListLemmas.{next_element, same_front, all_of}
+use Rattle.ts_packet.proofs.JoinedLemmas.{joined_push}
 use Rattle.plp_config.specs.declared.config.Config.{Config}
 use Rattle.ts_packet.specs.TsFile.{joined}
 use Rattle.frame_groups.specs.Laws.{IsPrefix}
 use Rattle.t2mi_stream.specs.Complete.{complete_units}
 use Rattle.t2mi_stream.specs.CompleteLaws.{CompleteLaw}
 use Rattle.t2mi_stream.specs.Pipe.{pipe}
+use Rattle.t2mi_stream.proofs.CompleteLemmas.{shorter_front, complete_law}
 use Rattle.frame_writer.specs.FramePackets.{packets_from}
 use Rattle.frame_writer.proofs.CarriedLemmas.{packets_append}
 use Rattle.formed_frames.specs.Remade.{NumberedView, remade_packets, remade_bodies, frame_pairs}
@@ -25,26 +27,6 @@ use Rattle.merge_run.specs.Counted.{from_first, from_second, counted, added}
 use Rattle.merge_run.specs.Sending.{numbered, Begins}
 use Rattle.merge_run.specs.Shown.{Sends}
 use Rattle.merge_run.specs.declared.stop.Ran.{Ran}
-
--- ---- lists of units
-
-pub joined_push : (units : List (List ℕ)) (u : List ℕ) → joined (units ++ u ∷ []) ≡ joined units ++ u
-joined_push units u = flat_map-append (λ (q : List ℕ). q) units (u ∷ []) ∙ ap (λ (l : List ℕ). joined units ++ l) (append-nil u)
-
-pub joined_append : (units more : List (List ℕ)) → joined (units ++ more) ≡ joined units ++ joined more
-joined_append units more = flat_map-append (λ (q : List ℕ). q) units more
-
-next_element : (xs ys : List (List ℕ)) (x : List ℕ) → slice_get (xs ++ ys) (length xs) ≡ Some x → (more : List (List ℕ)) × (ys ≡ x ∷ more)
-next_element [] [] x e = absurd (let z : None ≡ Some x = e in cc)
-next_element [] (y ∷ ys) x e = (ys, (let z : Some y ≡ Some x = e in let s : y ≡ x = cc in ap (λ (v : List ℕ). v ∷ ys) s))
-next_element (z ∷ xs) ys x e = next_element xs ys x e
-
-same_front : (xs ys vs bs : List (List ℕ)) → xs ++ vs ≡ ys ++ bs → length xs ≡ length ys → xs ≡ ys
-same_front xs ys vs bs e l = sym (take_at xs vs (length xs) refl) ∙ ap (take (length xs)) e ∙ take_at ys bs (length xs) (sym l)
-
-all_of : (xs ys : List (List ℕ)) → length (xs ++ ys) ≡ length xs → ys ≡ []
-all_of xs [] e = refl
-all_of xs (y ∷ ys) e = absurd (omega (arith, e, length-append xs (y ∷ ys)))
 
 -- ---- frames
 
@@ -78,6 +60,12 @@ sends_begun c g h n frames f count gave is going b s =
           subst (λ (l : List (List ℕ)). IsPrefix s.units (pipe c.pid l))
           (sym (append_assoc (remade_packets c frames) more.0 later) ∙ ap (λ (l : List (List ℕ)). l ++ later) (sym more.1))
           (s.front (more.0 ++ later) (λ over. absurd (true≢false (sym over ∙ going))));
+      whole = λ _.
+          let l = complete_law c.pid (remade_packets c frames) more.0 in
+          let size = ap length l.complete in
+          let same = ap (λ (l : List (List ℕ)). length (complete_units c.pid l)) more.1 in
+          let few = s.whole going in
+          omega (arith, size, same, few, length-append (complete_units c.pid (remade_packets c frames)) l.others);
     }
 
 -- ---- a unit is given
@@ -87,8 +75,9 @@ pub sends_next : (c : Config) (g h : Merger) (frames : List NumberedView) (count
     → has_finished h ≡ has_finished g
     → ((more : List (List ℕ)) → (has_finished g ≡ true → more ≡ [])
     → slice_get (pipe c.pid (remade_packets c frames ++ more)) count ≡ Some unit)
+    → (has_finished g ≡ false → count < length (complete_units c.pid (remade_packets c frames)))
     → MergerStandsFor h c frames (count + 1) → Sends c g frames count gave → Sends c h frames (count + 1) (gave ++ unit)
-sends_next c g h frames count gave unit config finished next stands s = record {
+sends_next c g h frames count gave unit config finished next complete stands s = record {
   network = config ∙ s.network;
   stands = stands;
   units = s.units ++ unit ∷ [];
@@ -101,6 +90,7 @@ sends_next c g h frames count gave unit config finished next stands s = record {
       ∙ ap (slice_get (pipe c.pid (remade_packets c frames ++ more))) (sym s.count_is) ∙ next more (λ on. over (finished ∙ on)) in
       let r = next_element s.units p.0 unit at in
       (r.0, p.1 ∙ ap (λ (l : List (List ℕ)). s.units ++ l) r.1 ∙ sym (append_assoc s.units (unit ∷ []) r.0));
+  whole = λ off. let less = complete (sym finished ∙ off) in omega (arith, less);
 }
 
 -- no unit is given
@@ -113,6 +103,7 @@ sends_none c g h frames count gave config finished stands s = record {
   gave_is = append-nil gave ∙ s.gave_is;
   count_is = s.count_is;
   front = λ more over. s.front more (λ on. over (finished ∙ on));
+  whole = λ off. s.whole (sym finished ∙ off);
 }
 
 -- it is finished
@@ -125,6 +116,7 @@ sends_over c g h frames count gave config going stands s = record {
   gave_is = s.gave_is;
   count_is = s.count_is;
   front = λ more _. s.front more (λ on. absurd (true≢false (sym on ∙ going)));
+  whole = λ _. s.whole going;
 }
 
 -- ---- what was given
@@ -137,6 +129,19 @@ gave_complete law c g frames count gave going all s =
     let q = law c.pid (remade_packets c frames) [] in
     s.gave_is ∙ ap joined (same_front s.units (complete_units c.pid (remade_packets c frames)) p.0 q.rest (sym p.1 ∙ q.units)
     (sym s.count_is ∙ all))
+
+-- The complete units of fewer packets are the first that were given, if as many were as more packets have complete ones.
+pub given_front : CompleteLaw → (pid : ℕ) (few more rest units back : List (List ℕ))
+    → length (complete_units pid (few ++ more)) ≤ length units → pipe pid ((few ++ more) ++ rest) ≡ units ++ back
+    → IsPrefix (complete_units pid few) units
+given_front law pid few more rest units back le is =
+    let one = law pid few more in
+    let all = law pid few (more ++ rest) in
+    let size = ap length one.complete in
+    let same : complete_units pid few ++ all.rest ≡ units ++ back =
+    sym all.units ∙ sym (ap (pipe pid) (append_assoc few more rest)) ∙ is in
+    shorter_front (complete_units pid few) units all.rest back same
+    (omega (arith, le, size, length-append (complete_units pid few) one.others))
 
 pub gave_all : (c : Config) (g : Merger) (frames : List NumberedView) (count : ℕ) (gave : List ℕ)
     → length (pipe c.pid (remade_packets c frames)) ≡ count → Sends c g frames count gave

@@ -10,7 +10,7 @@ use Rattle.t2mi_stream.specs.Pipe.{pipe}
 use Rattle.formed_frames.specs.Remade.{NumberedView, remade_packets}
 use Rattle.file_run.specs.Events.{Event, Fed, Ended, Gave, fed, has_ended, gave}
 use Rattle.file_run.specs.Laws.{EventsTell}
-use Rattle.frame_feed.specs.StandsFor.{FrameFeedStandsFor, waiting_of, longest_record}
+use Rattle.frame_feed.specs.StandsFor.{FrameFeedStandsFor, waiting_of}
 use Rattle.frame_feed.specs.StandsFor as feed
 use Rattle.frame_feed.specs.declared.feed.FrameFeed.{FrameFeed}
 use Rattle.feed_merge.specs.Picks.{Picked, picks, frames_of}
@@ -18,11 +18,12 @@ use Rattle.feed_merge.specs.StandsFor.{MergerStandsFor, has_unit, has_finished}
 use Rattle.feed_merge.specs.StandsFor as merger
 use Rattle.feed_merge.specs.declared.merger.Merger.{Merger}
 use Rattle.merge_run.specs.Counted.{counted}
-use Rattle.merge_run.specs.Shown.{IsFedWith, IsBehind, Sends, IsReading, IsIn, Shown}
+use Rattle.merge_run.specs.Shown.{IsFedWith, IsBehind, Sends, IsReading, IsLive, IsIn, Shown}
 use Rattle.merge_run.specs.declared.merging.Merging.{Merging}
 use Rattle.merge_run.specs.declared.phase.Phase.TheVariants.{Reads}
 use Rattle.merge_run.specs.declared.stop.Ran.{Ran}
 use Rattle.merge_run.proofs.FeedLemmas.{behind_more}
+use Rattle.merge_run.proofs.LiveLemmas.{live_all, live_given}
 use Rattle.merge_run.proofs.SplitLemmas.{picks_nothing}
 use Rattle.merge_run.proofs.StepLemmas.{IsIdle}
 
@@ -42,6 +43,7 @@ sends_opened c g config stands =
       gave_is = refl;
       count_is = refl;
       front = λ more _. (pipe c.pid (remade_packets c [] ++ more), refl);
+      whole = λ _. omega arith;
     })
 
 pub reading_opened : (c : Config) (g : Merger) → has_unit g ≡ false → has_finished g ≡ false
@@ -50,12 +52,21 @@ reading_opened c g idle going =
     subst (λ (ps : List Picked). IsReading c g (frames_of ps) 0) (sym (picks_nothing c))
     (record { is_open = going; idle = idle; complete = none_complete c })
 
+pub live_opened : (c : Config) → IsLive c [] [] [] [] 0 0
+live_opened c = record {
+  low = 0;
+  within = omega arith;
+  due_a = λ k lt. absurd (omega (arith, lt));
+  due_b = λ k lt. absurd (omega (arith, lt));
+  done = (let none = none_complete c in omega (arith, none));
+}
+
 pub ran_opened : (c : Config) → (let r : Ran = record { frames = 0; a = 0; b = 0; units = 0 } in r) ≡ counted (picks c [] []) 0
 ran_opened c = sym (ap (λ (ps : List Picked). counted ps 0) (picks_nothing c))
 
 -- ---- by one event more
 
-fed_here : EventsTell → (c : Config) (f : FrameFeed) (events : List Event) (input : ℕ) (bytes : List ℕ) (given : List FrameRecord)
+pub fed_here : EventsTell → (c : Config) (f : FrameFeed) (events : List Event) (input : ℕ) (bytes : List ℕ) (given : List FrameRecord)
     → IsFedWith c f (fed input events ++ bytes) (has_ended input events) given
     → IsFedWith c f (fed input (events ++ Fed input bytes ∷ [])) (has_ended input (events ++ Fed input bytes ∷ [])) given
 fed_here tell c f events input bytes given h =
@@ -63,7 +74,7 @@ fed_here tell c f events input bytes given h =
     subst (λ (e : Bool). IsFedWith c f (fed input (events ++ Fed input bytes ∷ [])) e given) (sym (t.ended input))
     (subst (λ (l : List ℕ). IsFedWith c f l (has_ended input events) given) (sym t.here) h)
 
-fed_there : EventsTell → (c : Config) (f : FrameFeed) (events : List Event) (input other : ℕ) (bytes : List ℕ)
+pub fed_there : EventsTell → (c : Config) (f : FrameFeed) (events : List Event) (input other : ℕ) (bytes : List ℕ)
     (given : List FrameRecord) → other ≢ input → IsFedWith c f (fed other events) (has_ended other events) given
     → IsFedWith c f (fed other (events ++ Fed input bytes ∷ [])) (has_ended other (events ++ Fed input bytes ∷ [])) given
 fed_there tell c f events input other bytes given differ h =
@@ -71,7 +82,7 @@ fed_there tell c f events input other bytes given differ h =
     subst (λ (e : Bool). IsFedWith c f (fed other (events ++ Fed input bytes ∷ [])) e given) (sym (t.ended other))
     (subst (λ (l : List ℕ). IsFedWith c f l (has_ended other events) given) (sym (t.others other differ)) h)
 
-ended_here : EventsTell → (c : Config) (f : FrameFeed) (events : List Event) (input : ℕ) (bytes : List ℕ) (given : List FrameRecord)
+pub ended_here : EventsTell → (c : Config) (f : FrameFeed) (events : List Event) (input : ℕ) (bytes : List ℕ) (given : List FrameRecord)
     → length bytes ≡ 0 → IsFedWith c f (fed input events) true given
     → IsFedWith c f (fed input (events ++ Ended input bytes ∷ [])) (has_ended input (events ++ Ended input bytes ∷ [])) given
 ended_here tell c f events input bytes given none h =
@@ -81,7 +92,7 @@ ended_here tell c f events input bytes given none h =
     subst (λ (e : Bool). IsFedWith c f (fed input (events ++ Ended input bytes ∷ [])) e given) (sym t.ended)
     (subst (λ (l : List ℕ). IsFedWith c f l true given) (sym same) h)
 
-ended_there : EventsTell → (c : Config) (f : FrameFeed) (events : List Event) (input other : ℕ) (bytes : List ℕ)
+pub ended_there : EventsTell → (c : Config) (f : FrameFeed) (events : List Event) (input other : ℕ) (bytes : List ℕ)
     (given : List FrameRecord) → other ≢ input → IsFedWith c f (fed other events) (has_ended other events) given
     → IsFedWith c f (fed other (events ++ Ended input bytes ∷ [])) (has_ended other (events ++ Ended input bytes ∷ [])) given
 ended_there tell c f events input other bytes given differ h =
@@ -100,7 +111,7 @@ gave_there tell c f events input bytes given h =
 -- ---- bytes came
 
 -- of a feed that is idle, by what its call gives
-fed_with : (c : Config) (f g : FrameFeed) (bytes piece : List ℕ) (ended : Bool) (given : List FrameRecord)
+pub fed_with : (c : Config) (f g : FrameFeed) (bytes piece : List ℕ) (ended : Bool) (given : List FrameRecord)
     → IsIdle (waiting_of f) (feed.has_ended f) → feed.config_of g ≡ feed.config_of f
     → ((bytes : List ℕ) (given : List FrameRecord) → FrameFeedStandsFor f bytes false given
     → FrameFeedStandsFor g (bytes ++ piece) false given)
@@ -113,7 +124,7 @@ fed_with c f g bytes piece ended given idle config stands h =
       stands = subst (λ (e : Bool). FrameFeedStandsFor g (bytes ++ piece) e given) (sym off) (stands bytes given was);
     }
 
-ended_with : (c : Config) (f g : FrameFeed) (bytes : List ℕ) (ended : Bool) (given : List FrameRecord)
+pub ended_with : (c : Config) (f g : FrameFeed) (bytes : List ℕ) (ended : Bool) (given : List FrameRecord)
     → IsIdle (waiting_of f) (feed.has_ended f) → feed.config_of g ≡ feed.config_of f
     → ((bytes : List ℕ) (given : List FrameRecord) → FrameFeedStandsFor f bytes false given → FrameFeedStandsFor g bytes true given)
     → IsFedWith c f bytes ended given → IsFedWith c g bytes true given
@@ -149,8 +160,13 @@ shown_read c m g h events more s reads same of_a behind_a of_b behind_b = record
   sends = subst (Sends c m.merger (frames_of (picks c s.given_a s.given_b)) m.ran.units) (sym same) s.sends;
   ran_is = s.ran_is;
   counts = record { frames = s.counts.frames; parts = s.counts.parts; units = s.counts.units };
+  live = live_all c g h (fed 0 more) (fed 1 more) _ _ s.given_a s.given_b m.next m.ran.units of_a of_b s.next_is
+      (let i = reading in let e = i.complete in omega (arith, e));
   is_in = still_reading c m g h (frames_of (picks c s.given_a s.given_b)) reads s.is_in;
 }
+  where
+    reading : IsReading c m.merger (frames_of (picks c s.given_a s.given_b)) m.ran.units
+    reading = subst (IsIn c m (frames_of (picks c s.given_a s.given_b))) reads s.is_in
 
 module _ (tell : EventsTell) (follow : DueFollow) (c : Config) (m : Merging) (events : List Event) (s : Shown c events m)
     (reads : m.phase ≡ Reads) where
@@ -218,5 +234,6 @@ shown_still tell c m events s = record {
       (sym ((tell.given [] events).gave ∙ append-nil (gave events))) s.sends;
   ran_is = s.ran_is;
   counts = s.counts;
+  live = live_given tell c events [] s.given_a s.given_b m.next m.ran.units m.ran.units (omega arith) s.live;
   is_in = s.is_in;
 }

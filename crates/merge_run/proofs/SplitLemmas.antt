@@ -9,6 +9,7 @@ use Rattle.std.proofs.lemmas.Bool.{ne_eqb}
 use Rattle.std.proofs.lemmas.List.Concat.{flat_map-append}
 use Rattle.std.proofs.lemmas.List.Folds.{find-append}
 use Rattle.terms.proofs.RangeLemmas.{range_append, flat_same}
+use Rattle.modulator.proofs.WaitLemmas.{number_at, front_due}
 use Rattle.plp_config.specs.declared.config.Config.{Config}
 use Rattle.plp_config.specs.declared.moment.TheConstants.{MOST_FRAMES}
 use Rattle.frame_groups.specs.Laws.{AreFrom, IsPrefix}
@@ -16,7 +17,7 @@ use Rattle.frame_groups.specs.Modulated.{FrameRecord}
 use Rattle.frame_groups.specs.declared.waiting.Waiting.{Waiting}
 use Rattle.open_group.specs.Written.{content_view}
 use Rattle.modulator.specs.Laws.{DueFront, DueFollow}
-use Rattle.modulator.specs.StandsFor.{records_due}
+use Rattle.modulator.specs.StandsFor.{records_due, records_of}
 use Rattle.file_run.specs.FileRun.{IsFed}
 use Rattle.frame_feed.specs.StandsFor.{IsFirst, waiting_of}
 use Rattle.frame_feed.specs.StandsFor as feed
@@ -25,9 +26,9 @@ use Rattle.feed_merge.specs.declared.seen.Feed.{Feed}
 use Rattle.feed_merge.specs.declared.seen.Feed.TheVariants.{A, B}
 use Rattle.feed_merge.specs.Picks.{Picked, frame_from, picks_below, above_all, picks}
 use Rattle.feed_merge.proofs.GrowLemmas.{test, or_none, pick, all_below}
-use Rattle.merge_run.specs.MergeRun.{records_of, AreEarly}
+use Rattle.merge_run.specs.MergeRun.{AreEarly}
 use Rattle.merge_run.specs.Shown.{IsFedWith, IsBehind, NoneComes}
-use Rattle.merge_run.proofs.NumberLemmas.{AllFrom, below_of, above_before, from_rest, from_more, number_at}
+use Rattle.merge_run.proofs.NumberLemmas.{AllFrom, below_of, above_before, from_rest, from_more}
 use Rattle.merge_run.proofs.FeedLemmas.{IsDue, due_of}
 
 -- ---- which frames are found
@@ -53,27 +54,23 @@ picks_front c ra rb n more = (
       ∙ flat_map-append (pick c ra rb) (range_with_len 0 n) (range_with_len (0 + n) more),
 )
 
+pub below_split : (c : Config) (ga la gb lb : List FrameRecord) (n low : ℕ) → low ≤ n → AllFrom n la → AllFrom n lb
+    → picks_below c (ga ++ la) (gb ++ lb) low ≡ picks_below c ga gb low
+below_split c ga la gb lb n low le x y =
+    flat_same (pick c (ga ++ la) (gb ++ lb)) (pick c ga gb) 0 low
+    (λ k from lt. ap₂ (λ (p q : Option Picked). option_to_list (option_or p q)) (from_front c A n k ga la x (omega (arith, lt, le)))
+    (from_front c B n k gb lb y (omega (arith, lt, le))))
+
 pub picks_split : (c : Config) (ga la gb lb : List FrameRecord) (n : ℕ) → above_all ga ≤ n → above_all gb ≤ n → AllFrom n la
     → AllFrom n lb → picks_below c (ga ++ la) (gb ++ lb) n ≡ picks c ga gb
 picks_split c ga la gb lb n a b x y =
-    flat_same (pick c (ga ++ la) (gb ++ lb)) (pick c ga gb) 0 n
-    (λ k le lt. ap₂ (λ (p q : Option Picked). option_to_list (option_or p q)) (from_front c A n k ga la x (omega (arith, lt)))
-    (from_front c B n k gb lb y (omega (arith, lt))))
-    ∙ sym (all_below c ga gb n (below_of n ga a) (below_of n gb b))
+    below_split c ga la gb lb n n (omega arith) x y ∙ sym (all_below c ga gb n (below_of n ga a) (below_of n gb b))
 
 pub picks_nothing : (c : Config) → picks c [] [] ≡ []
 unfolding picks
 picks_nothing c = refl
 
 -- ---- the records of a file
-
--- what was taken is a front of the file, and all of it if it ended; so what is due by it is a front of the records
-pub due_front : DueFront → (c : Config) (ended : Bool) (file bytes more : List ℕ) → file ≡ bytes ++ more → (ended ≡ true → more ≡ [])
-    → IsPrefix (records_due c ended bytes) (records_of c file)
-due_front law c false file bytes more is end = subst (λ (l : List ℕ). IsPrefix (records_due c false bytes) (records_of c l))
-    (sym is) (law c true bytes more)
-due_front law c true file bytes more is end =
-    ([], ap (records_of c) (is ∙ ap (λ (l : List ℕ). bytes ++ l) (end refl) ∙ append-nil bytes) ∙ sym (append-nil _))
 
 pub record IsSplit (c : Config) (file : List ℕ) (given : List FrameRecord) (n : ℕ) : Type 0 where
   pub after : List FrameRecord
@@ -86,7 +83,7 @@ module _ (law : DueFront) (follow : DueFollow) (c : Config) (f : FrameFeed) (fil
   due = due_of c f bytes ended given h
 
   abbrev pub front : IsPrefix (records_due c ended bytes) (records_of c file)
-  front = due_front law c ended file bytes fed.more fed.parts fed.end
+  front = front_due law c ended file bytes fed.more fed.parts fed.end
 
   pub behind : records_of c file ≡ given ++ (due.later ++ front.0)
   behind = front.1 ∙ ap (λ (l : List FrameRecord). l ++ front.0) due.all ∙ append_assoc given due.later front.0

@@ -1,16 +1,12 @@
 -- A record is taken, or none.
-use Rattle.std.proofs.Common.{◌≡◌, ℕ, ◌<◌, ◌≤◌, Bool, true, false, List, [], ◌∷◌, ◌++◌, length, take, Option, Some, None, is_some, refl, ap, sym, subst, ◌∙◌, arith}
+use Rattle.std.proofs.Common.{◌≡◌, ℕ, ◌<◌, ◌≤◌, Bool, true, false, List, [], ◌∷◌, ◌++◌, length, Option, Some, None, is_some, refl, ap, sym, subst, ◌∙◌, arith}
 use Rattle.std.proofs.Common.{append-nil}
 use Rattle.std.specs.Prelude.{IsSome}
-use Rattle.std.proofs.lemmas.List.{take-append-le, take-take}
 use Rattle.terms.proofs.OptionLemmas.{some_injective}
 use Rattle.plp_config.specs.declared.moment.TheConstants.{MOST_FRAMES}
 use Rattle.frame_groups.specs.Modulated.{FrameRecord}
 use Rattle.frame_groups.specs.declared.waiting.Waiting.{Waiting}
 use Rattle.open_group.specs.Written.{spelled}
-use Rattle.site_frame.specs.Laws.{WrittenIsRead}
-use Rattle.site_frame.specs.Whole.{Spells, BeginsWith}
-use Rattle.site_frame.specs.declared.reading.RecordView.{RecordView}
 use Rattle.frame_feed.specs.StandsFor.{FrameFeedStandsFor, GaveNext, config_of}
 use Rattle.frame_feed.specs.declared.feed.FrameFeed.{FrameFeed}
 use Rattle.feed_merge.specs.declared.seen.Feed.{Feed}
@@ -48,9 +44,6 @@ can_early true None can on w is = absurd can
 can_early true (Some v) can on w is = let e = ap (λ (x : Waiting). x.frame) (some_injective v w is) in omega (arith, can, e)
 can_early false o can on w is = absurd (let z : false ≡ true = on in cc)
 
-pub begins_so : WrittenIsRead → (view : RecordView) (bytes : List ℕ) → Spells view bytes → BeginsWith bytes view (length bytes)
-begins_so law view bytes s = subst (λ (l : List ℕ). BeginsWith l view (length bytes)) (append-nil bytes) (law view bytes [] s)
-
 -- from the source these bytes were taken, and from the other feed some
 pub took_own : (feed : Feed) (source : Option Feed) (taken : Bool) (f g : FrameFeed) (bytes : List ℕ) (ended : Bool)
     (given : List FrameRecord) (out : List ℕ) → Takes taken f g bytes ended given out
@@ -72,8 +65,3 @@ not_first source off is = (let z : true ≡ false = sym (ap is_from_first is) �
 pub none_picked_is : (source : Option Feed) → is_some source ≡ false → source ≡ None
 none_picked_is None off = refl
 none_picked_is (Some feed) off = (let z : true ≡ false = off in absurd cc)
-
--- what stands at the front of bytes that were written back
-pub written_back : (count len : ℕ) (out more : List ℕ) → count ≤ len → count ≤ length out
-    → take count (take len (out ++ more)) ≡ take count out
-written_back count len out more most few = take-take count len (out ++ more) most ∙ take-append-le count out more few

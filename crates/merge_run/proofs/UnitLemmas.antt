@@ -18,6 +18,9 @@ pub gives_so : (old new : Merger) (view : RecordView) (b : Bool) (unit : List �
     → (b ≡ true → (c : Config) (before : List NumberedView) (given : ℕ)
     → MergerStandsFor old c (before ++ numbered (frame_of old) view ∷ []) given
     → MergerStandsFor new c (before ++ numbered (frame_of old) view ∷ []) (given + 1))
+    → (b ≡ true → has_finished old ≡ false → (c : Config) (before : List NumberedView) (given : ℕ)
+    → MergerStandsFor old c (before ++ numbered (frame_of old) view ∷ []) given
+    → given < length (complete_units c.pid (remade_packets c (before ++ numbered (frame_of old) view ∷ []))))
     → (b ≡ true → bytes_left new (Some (numbered (frame_of old) view)) < bytes_left old (Some (numbered (frame_of old) view)))
     → (b ≡ false → (c : Config) (before : List NumberedView) (given : ℕ)
     → MergerStandsFor old c (before ++ numbered (frame_of old) view ∷ []) given
@@ -26,5 +29,6 @@ pub gives_so : (old new : Merger) (view : RecordView) (b : Bool) (unit : List �
     → MergerStandsFor old c (before ++ numbered (frame_of old) view ∷ []) given
     → given ≡ length (complete_units c.pid (remade_packets c (before ++ numbered (frame_of old) view ∷ []))))
     → (b ≡ false → has_unit new ≡ false) → GivesSo old new view b unit
-gives_so old new view true unit next stands less kept all idle = record { next = next refl; stands = stands refl; less = less refl }
-gives_so old new view false unit next stands less kept all idle = record { stands = kept refl; all = all refl; idle = idle refl }
+gives_so old new view true unit next stands complete less kept all idle =
+    record { next = next refl; stands = stands refl; complete = complete refl; less = less refl }
+gives_so old new view false unit next stands complete less kept all idle = record { stands = kept refl; all = all refl; idle = idle refl }

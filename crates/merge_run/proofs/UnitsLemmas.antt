@@ -21,6 +21,7 @@ use Rattle.merge_run.specs.Shown.{Sends, IsFedWith, Shown}
 use Rattle.merge_run.specs.Steps.{left_of}
 use Rattle.merge_run.specs.declared.merging.Merging.{Merging}
 use Rattle.merge_run.specs.declared.phase.Phase.TheVariants.{Gives, Reads}
+use Rattle.merge_run.proofs.LiveLemmas.{live_same}
 use Rattle.merge_run.proofs.FrameLemmas.{view_is}
 use Rattle.merge_run.proofs.GiveLemmas.{giving, few_units, shown_given, left_given, shown_caught}
 use Rattle.merge_run.proofs.ShownLemmas.{shown_still}
@@ -109,8 +110,14 @@ shown_once tell c m events first second s = record {
       ∙ append_assoc (gave events) first second ∙ sym (tell.given (first ++ second) events).gave) s.sends;
   ran_is = s.ran_is;
   counts = s.counts;
+  live = live_same c _ _ _ _ s.given_a s.given_b m.next m.ran.units m.ran.units (fed_twice 0) (fed_twice 1) (omega arith) s.live;
   is_in = s.is_in;
 }
+  where
+    fed_twice : (input : ℕ) → fed input ((events ++ Gave first ∷ []) ++ Gave second ∷ [])
+        ≡ fed input (events ++ Gave (first ++ second) ∷ [])
+    fed_twice input = (tell.given second (events ++ Gave first ∷ [])).fed input ∙ (tell.given first events).fed input
+        ∙ sym ((tell.given (first ++ second) events).fed input)
 
 -- ---- all units of a chain
 

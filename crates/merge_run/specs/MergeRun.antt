@@ -1,5 +1,5 @@
 -- What a run of the merger over two files does, from the opening of its inputs on.
-use Rattle.std.specs.Prelude.{◌≡◌, ◌≢◌, ◌⊎◌, ℕ, ◌+◌, ◌<◌, ◌≤◌, false, true, List, [], ◌∷◌, ◌++◌, length, map, take, slice_index}
+use Rattle.std.specs.Prelude.{◌≡◌, ◌≢◌, ◌⊎◌, ℕ, ◌+◌, ◌<◌, ◌≤◌, false, List, [], ◌∷◌, ◌++◌, length, map, take, slice_index}
 use Rattle.std.specs.Prelude.{slice_index_or, IsSome, IfSome}
 use Rattle.std.specs.FinMap.{get}
 use Rattle.ports.specs.Desk.{State, SameCounts, bytes_of}
@@ -8,8 +8,9 @@ use Rattle.plp_config.specs.declared.moment.TheConstants.{MOST_FRAMES}
 use Rattle.ts_packet.specs.TsFile.{joined}
 use Rattle.t2mi_stream.specs.Complete.{complete_units}
 use Rattle.t2mi_stream.specs.Pipe.{pipe}
+use Rattle.frame_groups.specs.Laws.{IsPrefix}
 use Rattle.frame_groups.specs.Modulated.{FrameRecord}
-use Rattle.modulator.specs.StandsFor.{records_due}
+use Rattle.modulator.specs.StandsFor.{records_due, records_of}
 use Rattle.formed_frames.specs.Remade.{remade_packets}
 use Rattle.feed_merge.specs.Laws.{AllBelow}
 use Rattle.feed_merge.specs.Picks.{Picked, picks, picks_below, above_all, frames_of}
@@ -31,10 +32,6 @@ read_ahead = 65536
 -- the names of the inputs
 abbrev pub names_of : List ℕ → List ℕ → List (List ℕ)
 names_of a b = a ∷ b ∷ []
-
--- the records of a stream
-abbrev pub records_of : Config → List ℕ → List FrameRecord
-records_of c bytes = records_due c true bytes
 
 -- the frames that are picked of the records of two files, those below a number, and all
 abbrev pub picked_below : Config → (ℕ → List ℕ) → ℕ → List Picked
@@ -130,16 +127,29 @@ pub record StopsReading (c : Config) (old new : State) (a b out : List ℕ) (inp
       (λ h bytes. HasWritten c input (slice_index places input) (file_at h (names_of a b)) bytes)
   pub short : AllShort places
 
--- These bytes are the first of all units of the frames that are picked whose numbers one may have, but not all.
-pub record HasSome (c : Config) (files : ℕ → List ℕ) (bytes : List ℕ) : Type 0 where
+-- the complete units of the frames that are picked below the number behind those of all records that are due by so many bytes
+abbrev pub complete_by : Config → (ℕ → List ℕ) → ℕ → ℕ → List ℕ
+complete_by c files input taken = joined (complete_units c.pid (packets_of c (picked_below c files (end_by c (files input) taken))))
+
+-- what may be written: all units, if no record has a number that none may have, and else the complete units of the frames before it
+abbrev pub MayWrite : Config → (ℕ → List ℕ) → List ℕ → Type 0
+MayWrite c files bytes =
+    (((input : ℕ) → input < 2 → AreEarly (records_of c (files input))) × (bytes ≡ joined (units_of c files)))
+    ⊎ AreCompleteBelow c files MOST_FRAMES bytes
+
+-- These bytes are the first of what may be written, but not all; and they have all complete units that follow of fewer bytes of an
+-- input than were read by more than are read ahead.
+pub record HasSome (c : Config) (places : List ℕ) (files : ℕ → List ℕ) (bytes : List ℕ) : Type 0 where
   pub more : List ℕ
   pub some : more ≢ []
-  pub begins : joined (pipe c.pid (packets_of c (picked_below c files MOST_FRAMES))) ≡ bytes ++ more
+  pub begins : MayWrite c files (bytes ++ more)
+  pub since : (input taken : ℕ) → input < 2 → taken + read_ahead < slice_index places input
+      → (end_by c (files input) taken ≤ MOST_FRAMES) × IsPrefix (complete_by c files input taken) bytes
 
 -- The output could not be written on.
 pub record StopsWriting (c : Config) (old new : State) (a b out : List ℕ) : Type 0 where
   pub places : List ℕ
-  pub works : Works old new out (names_of a b) places (λ h bytes. HasSome c (file_at h (names_of a b)) bytes)
+  pub works : Works old new out (names_of a b) places (λ h bytes. HasSome c places (file_at h (names_of a b)) bytes)
   pub short : AllShort places
 
 -- A run that did not come to its end, by its cause. A is input 0, and B input 1.

@@ -51,6 +51,10 @@ pub record GivesUnit (old new : Merger) (view : RecordView) (unit : List ℕ) : 
   pub stands : (c : Config) (before : List NumberedView) (given : ℕ)
       → MergerStandsFor old c (before ++ numbered (frame_of old) view ∷ []) given
       → MergerStandsFor new c (before ++ numbered (frame_of old) view ∷ []) (given + 1)
+  -- before the end only if it is complete
+  pub complete : has_finished old ≡ false → (c : Config) (before : List NumberedView) (given : ℕ)
+      → MergerStandsFor old c (before ++ numbered (frame_of old) view ∷ []) given
+      → given < length (complete_units c.pid (remade_packets c (before ++ numbered (frame_of old) view ∷ [])))
   pub less : bytes_left new (Some (numbered (frame_of old) view)) < bytes_left old (Some (numbered (frame_of old) view))
 
 -- No unit was given: before the end all that are complete were.

@@ -1,5 +1,5 @@
 -- What was done to two feeds and the merger of their frames. No public clause cites this module.
-use Rattle.std.specs.Prelude.{◌≡◌, ℕ, ◌+◌, ◌*◌, ◌^◌, ◌≤◌, max, Bool, true, false, List, [], ◌∷◌, ◌++◌, length, Some, None}
+use Rattle.std.specs.Prelude.{◌≡◌, ℕ, ◌+◌, ◌*◌, ◌^◌, ◌<◌, ◌≤◌, max, Bool, true, false, List, [], ◌∷◌, ◌++◌, length, take, Some, None}
 use Rattle.plp_config.specs.Capacity.{IsPlan}
 use Rattle.plp_config.specs.declared.config.Config.{Config}
 use Rattle.plp_config.specs.declared.moment.TheConstants.{MOST_FRAMES}
@@ -12,13 +12,14 @@ use Rattle.site_frame.specs.Whole.{Spells}
 use Rattle.site_frame.specs.declared.reading.RecordView.{RecordView}
 use Rattle.t2mi_stream.specs.Complete.{complete_units}
 use Rattle.t2mi_stream.specs.Pipe.{pipe}
+use Rattle.modulator.specs.StandsFor.{records_due}
 use Rattle.formed_frames.specs.Formed.{IsFormed}
 use Rattle.formed_frames.specs.Remade.{NumberedView, remade_packets}
 use Rattle.file_run.specs.Events.{Event, fed, has_ended, gave}
 use Rattle.frame_feed.specs.StandsFor.{FrameFeedStandsFor, waiting_of}
 use Rattle.frame_feed.specs.StandsFor as feed
 use Rattle.frame_feed.specs.declared.feed.FrameFeed.{FrameFeed}
-use Rattle.feed_merge.specs.Picks.{picks, above_all, frames_of}
+use Rattle.feed_merge.specs.Picks.{picks, picks_below, above_all, frames_of}
 use Rattle.feed_merge.specs.StandsFor.{MergerStandsFor, frame_of, has_unit, has_finished, is_fed, bytes_left}
 use Rattle.feed_merge.specs.StandsFor as merger
 use Rattle.feed_merge.specs.declared.merger.Merger.{Merger}
@@ -43,7 +44,7 @@ pub record NoneComes (f : FrameFeed) : Type 0 where
   pub none : waiting_of f ≡ None
   pub ended : feed.has_ended f ≡ true
 
--- Of these frames units were given, the first ones whatever packets follow.
+-- Of these frames units were given, the first ones whatever packets follow, and before the end only complete ones.
 pub record Sends (c : Config) (g : Merger) (frames : List NumberedView) (count : ℕ) (gave : List ℕ) : Type 0 where
   pub network : merger.config_of g ≡ c
   pub stands : MergerStandsFor g c frames count
@@ -52,6 +53,7 @@ pub record Sends (c : Config) (g : Merger) (frames : List NumberedView) (count :
   pub count_is : count ≡ length units
   pub front : (more : List (List ℕ)) → (has_finished g ≡ true → more ≡ [])
       → IsPrefix units (pipe c.pid (remade_packets c frames ++ more))
+  pub whole : has_finished g ≡ false → count ≤ length (complete_units c.pid (remade_packets c frames))
 
 -- All complete units were given, and more frames may come.
 pub record IsReading (c : Config) (g : Merger) (frames : List NumberedView) (count : ℕ) : Type 0 where
@@ -104,6 +106,18 @@ pub record CountsFrames (m : Merging) : Type 0 where
   pub parts : m.ran.a + m.ran.b ≡ m.ran.frames
   pub units : m.ran.units + more_units m.phase m.merger m.«record» ≤ m.next * frame_bytes + 184
 
+-- By fewer bytes of an input than were fed of it, no record is due of this number or a higher one.
+abbrev pub IsDueBelow : Config → ℕ → List ℕ → Type 0
+IsDueBelow c low bytes = (k : ℕ) → k < length bytes → above_all (records_due c false (take k bytes)) ≤ low
+
+-- So it is of both inputs for some number, and the complete units of the frames were given that are picked below it.
+pub record IsLive (c : Config) (fed_a fed_b : List ℕ) (given_a given_b : List FrameRecord) (next count : ℕ) : Type 0 where
+  pub low : ℕ
+  pub within : low ≤ next
+  pub due_a : IsDueBelow c low fed_a
+  pub due_b : IsDueBelow c low fed_b
+  pub done : length (complete_units c.pid (remade_packets c (frames_of (picks_below c given_a given_b low)))) ≤ count
+
 -- What was done, and where two feeds of a network and the merger are then.
 pub record Shown (c : Config) (events : List Event) (m : Merging) : Type 0 where
   pub config : m.plan.now ≡ c
@@ -120,6 +134,7 @@ pub record Shown (c : Config) (events : List Event) (m : Merging) : Type 0 where
   pub sends : Sends c m.merger (frames_of (picks c given_a given_b)) m.ran.units (gave events)
   pub ran_is : m.ran ≡ counted (picks c given_a given_b) m.ran.units
   pub counts : CountsFrames m
+  pub live : IsLive c (fed 0 events) (fed 1 events) given_a given_b m.next m.ran.units
   pub is_in : IsIn c m (frames_of (picks c given_a given_b)) m.phase
 
 -- Something was done, and then they are there.

@@ -9,28 +9,25 @@ ghost use Rattle.file_run.specs.declared.machine.TheConstants.{PIECE};
 ghost use Rattle.file_run.specs.declared.machine.Step.TheVariants.{Give};
 ghost use Rattle.frame_feed.specs.StandsFor.{waiting_of, has_ended, fed_of};
 ghost use Rattle.merge_run.specs.Shown.{Shown, HasShown};
-ghost use Rattle.merge_run.specs.Steps.{is_idle, wants_of, step_by, step_of, fed_at, reach_of, left_of};
+ghost use Rattle.merge_run.specs.Steps.{is_idle, step_of, fed_at, reach_of, left_of};
 ghost use Rattle.merge_run.specs.Taking.{least_of};
 ghost use Rattle.merge_run.specs.declared.phase.Phase.TheVariants as phase;
 
-use crate::buffer::RecordBuffer;
 use crate::phase::Phase;
+use crate::reading::{least_number, next_step};
 use crate::sending::{begin_frame, next_units};
 use crate::stop::Ran;
-use crate::taking::{is_picked, least_number, pick_next};
+use crate::taking::{is_picked, pick_next, take_picked};
 use bit_slice::OutOfMemory;
 use feed_merge::{Merger, grow_law};
 use file_run::{Step, events_law};
 use formed_frames::formed_law;
-use frame_feed::FrameFeed;
+use frame_feed::{FrameFeed, RecordBuffer};
 use modulator::due_records_law;
-use plp_config::{MOST_FRAMES, Plan, block_law};
+use plp_config::{Plan, block_law};
 use record_laws::id_law;
 use std::alloc::Global;
 use ts_packet::SIZE;
-
-/// How many bytes are read ahead at most of each input.
-pub const AHEAD: u64 = 65_536;
 
 /// Two feeds of a network, and the merger of their frames.
 #[derive(Drop)]
@@ -45,24 +42,6 @@ pub struct Merging<'p> {
     pub next: u64,
     pub phase: Phase,
     pub ran: Ran,
-}
-
-// It wants bytes of an input.
-fn wants(input: usize) -> Step
-    ensures { result ≡ wants_of input }
-{
-    Step::Read {
-        input,
-        least: 1,
-        most: AHEAD,
-    }
-}
-
-// No record waits, and the stream has not ended.
-fn is_idle(feed: &FrameFeed<'_>) -> bool
-    ensures { result ≡ is_idle (waiting_of feed.now) (has_ended feed.now) }
-{
-    feed.waiting().is_none() && !feed.is_ended()
 }
 
 impl<'p> Merging<'p> {
@@ -93,29 +72,12 @@ impl<'p> Merging<'p> {
         })
     }
 
-    // What it does next, if it is to read.
-    fn reading(&self) -> Step
-        ensures { result ≡ step_by (waiting_of self.now.a) (has_ended self.now.a) (waiting_of self.now.b) (has_ended self.now.b) }
-    {
-        if is_idle(&self.a) {
-            return wants(0);
-        }
-        if is_idle(&self.b) {
-            return wants(1);
-        }
-        match least_number(&self.a, &self.b) {
-            Some(number) if number < MOST_FRAMES => Step::Give,
-            Some(_) => Step::End,
-            None => Step::Give,
-        }
-    }
-
     /// What it does next.
     pub fn step(&self) -> Step
         ensures { result ≡ step_of self.now }
     {
         match self.phase {
-            Phase::Reads => self.reading(),
+            Phase::Reads => next_step(&self.a, &self.b),
             Phase::Gives | Phase::Rests => Step::Give,
             Phase::Done => Step::End,
         }
@@ -171,7 +133,7 @@ impl<'p> Merging<'p> {
         grow_law();
         block_law();
         let pick = pick_next(&self.a, &self.b);
-        self.record.take_from(&mut self.a, &mut self.b, pick);
+        take_picked(&mut self.a, &mut self.b, pick, &mut self.record);
         self.next = number + 1;
         if !is_picked(pick.source) {
             return;

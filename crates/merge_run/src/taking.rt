@@ -1,15 +1,15 @@
 // Taking the records that wait.
-ghost use Rattle.std.specs.Prelude.{◌≡◌, ◌<◌, ◌≤◌, ◌+◌, ℕ, Bool, List, true, false, length, take, is_some};
+ghost use Rattle.std.specs.Prelude.{◌≡◌, ◌<◌, ◌≤◌, ◌+◌, ℕ, Bool, List, true, false, is_some};
 ghost use Rattle.frame_groups.specs.Modulated.{FrameRecord};
 ghost use Rattle.frame_groups.specs.declared.waiting.Waiting.{Waiting};
 ghost use Rattle.plp_config.specs.declared.moment.TheConstants.{MOST_FRAMES};
 ghost use Rattle.feed_merge.specs.Picking.{picked};
 ghost use Rattle.feed_merge.specs.declared.seen.Feed.TheVariants.{A, B};
-ghost use Rattle.frame_feed.specs.StandsFor.{FrameFeedStandsFor, waiting_of, left_of, longest_record};
+ghost use Rattle.frame_feed.specs.StandsFor.{FrameFeedStandsFor, waiting_of, left_of};
 ghost use Rattle.merge_run.specs.Taking.{seen_of, least_of, is_from_first, CanBeTaken, Takes, TakesSome, TookFrom, IsSameFeed, one_if};
 
 use feed_merge::{Feed, Pick, Seen, pick};
-use frame_feed::FrameFeed;
+use frame_feed::{FrameFeed, RecordBuffer};
 use frame_groups::Waiting;
 
 // A record that waits, as it is seen.
@@ -23,25 +23,6 @@ fn seen(waiting: Option<Waiting>) -> Option<Seen>
         }),
         None => None,
     }
-}
-
-// The least number of two that wait.
-fn least(a: Option<Waiting>, b: Option<Waiting>) -> Option<u64>
-    ensures { result ≡ least_of a b }
-{
-    match (a, b) {
-        (None, None) => None,
-        (Some(first), None) => Some(first.frame),
-        (None, Some(second)) => Some(second.frame),
-        (Some(first), Some(second)) => Some(first.frame.min(second.frame)),
-    }
-}
-
-/// The least number of the records that wait.
-pub fn least_number(a: &FrameFeed<'_>, b: &FrameFeed<'_>) -> Option<u64>
-    ensures { result ≡ least_of (waiting_of a.now) (waiting_of b.now) }
-{
-    least(a.waiting(), b.waiting())
 }
 
 /// What becomes of the records that wait.
@@ -58,50 +39,43 @@ pub fn is_picked(source: Option<Feed>) -> bool
     source.is_some()
 }
 
-// Takes the record that waits, if it is left behind: how many bytes it has at the front.
-fn take_left(feed: &mut FrameFeed<'_>, leaves: bool, out: &mut [u8]) -> usize
+/// Takes the record that waits into the buffer, if it is left behind.
+pub fn take_left(feed: &mut FrameFeed<'_>, leaves: bool, buffer: &mut RecordBuffer)
     requires can { CanBeTaken leaves (waiting_of feed.old) }
-    requires room { longest_record ≤ length out.old }
     ensures takes { (bytes : List ℕ) (ended : Bool) (given : List FrameRecord) → FrameFeedStandsFor feed.old bytes ended given
-        → Takes leaves feed.old feed.new bytes ended given (take result out.new) }
+        → Takes leaves feed.old feed.new bytes ended given buffer.new }
     ensures stays { leaves ≡ false → waiting_of feed.new ≡ waiting_of feed.old }
-    ensures inside { result ≤ length out.old }
-    ensures len { length out.new ≡ length out.old }
     ensures left { left_of feed.new + one_if leaves ≤ left_of feed.old }
     ensures same { IsSameFeed feed.old feed.new }
 {
-    if !leaves {
-        return 0;
+    if leaves {
+        buffer.take_from(feed);
     }
-    feed.take(out)
 }
 
-// The same of two feeds, one after the other: how many bytes the record of the second has at the front.
+// The same of two feeds, one after the other: the buffer holds the record of the second.
 fn take_both(
     other: &mut FrameFeed<'_>,
     leaves_other: bool,
     own: &mut FrameFeed<'_>,
     leaves_own: bool,
-    out: &mut [u8],
-) -> usize
+    buffer: &mut RecordBuffer,
+)
     requires can_other { CanBeTaken leaves_other (waiting_of other.old) }
     requires can_own { CanBeTaken leaves_own (waiting_of own.old) }
-    requires room { longest_record ≤ length out.old }
     ensures other { (bytes : List ℕ) (ended : Bool) (given : List FrameRecord) → FrameFeedStandsFor other.old bytes ended given
         → TakesSome leaves_other other.old other.new bytes ended given }
     ensures own { (bytes : List ℕ) (ended : Bool) (given : List FrameRecord) → FrameFeedStandsFor own.old bytes ended given
-        → Takes leaves_own own.old own.new bytes ended given (take result out.new) }
+        → Takes leaves_own own.old own.new bytes ended given buffer.new }
     ensures stays_other { leaves_other ≡ false → waiting_of other.new ≡ waiting_of other.old }
     ensures stays_own { leaves_own ≡ false → waiting_of own.new ≡ waiting_of own.old }
-    ensures inside { result ≤ length out.old }
-    ensures len { length out.new ≡ length out.old }
     ensures left_other { left_of other.new + one_if leaves_other ≤ left_of other.old }
     ensures left_own { left_of own.new + one_if leaves_own ≤ left_of own.old }
     ensures same_other { IsSameFeed other.old other.new }
     ensures same_own { IsSameFeed own.old own.new }
 {
-    let _first = take_left(other, leaves_other, out);
-    take_left(own, leaves_own, out)
+    take_left(other, leaves_other, buffer);
+    take_left(own, leaves_own, buffer);
 }
 
 // Whether a frame comes from the first feed.
@@ -115,31 +89,28 @@ fn is_first(source: Option<Feed>) -> bool
     }
 }
 
-/// Takes the records that are left behind, that of the source last: how many bytes it has at the front.
+/// Takes the records that are left behind into the buffer, that of the source last.
 pub fn take_picked(
     a: &mut FrameFeed<'_>,
     b: &mut FrameFeed<'_>,
     pick: Pick,
-    out: &mut [u8],
-) -> usize
+    buffer: &mut RecordBuffer,
+)
     requires can_a { CanBeTaken pick.leave_a (waiting_of a.old) }
     requires can_b { CanBeTaken pick.leave_b (waiting_of b.old) }
-    requires room { longest_record ≤ length out.old }
     ensures a { (bytes : List ℕ) (ended : Bool) (given : List FrameRecord) → FrameFeedStandsFor a.old bytes ended given
-        → TookFrom A pick.source pick.leave_a a.old a.new bytes ended given (take result out.new) }
+        → TookFrom A pick.source pick.leave_a a.old a.new bytes ended given buffer.new }
     ensures b { (bytes : List ℕ) (ended : Bool) (given : List FrameRecord) → FrameFeedStandsFor b.old bytes ended given
-        → TookFrom B pick.source pick.leave_b b.old b.new bytes ended given (take result out.new) }
+        → TookFrom B pick.source pick.leave_b b.old b.new bytes ended given buffer.new }
     ensures stays_a { pick.leave_a ≡ false → waiting_of a.new ≡ waiting_of a.old }
     ensures stays_b { pick.leave_b ≡ false → waiting_of b.new ≡ waiting_of b.old }
-    ensures inside { result ≤ length out.old }
-    ensures len { length out.new ≡ length out.old }
     ensures left_a { left_of a.new + one_if pick.leave_a ≤ left_of a.old }
     ensures left_b { left_of b.new + one_if pick.leave_b ≤ left_of b.old }
     ensures same_a { IsSameFeed a.old a.new }
     ensures same_b { IsSameFeed b.old b.new }
 {
     if is_first(pick.source) {
-        return take_both(b, pick.leave_b, a, pick.leave_a, out);
+        return take_both(b, pick.leave_b, a, pick.leave_a, buffer);
     }
-    take_both(a, pick.leave_a, b, pick.leave_b, out)
+    take_both(a, pick.leave_a, b, pick.leave_b, buffer)
 }

@@ -1,5 +1,6 @@
 use Rattle.std.proofs.Common.{◌≡◌, ℕ, List, [], ◌∷◌, ◌++◌, ◌-◌, Bool, true, false, length, take, refl, ap, sym, subst, ◌∙◌, rules, arith}
 use Rattle.std.proofs.Common.{length-append}
+use Rattle.ts_packet.proofs.JoinedLemmas.{joined_push}
 use borrow.Rule.Slice.PartMut.{put_mid}
 use Rattle.plp_config.specs.declared.config.Config.{Config}
 use Rattle.ts_packet.specs.declared.sizes.TheConstants.{SIZE}
@@ -9,7 +10,6 @@ use Rattle.feed_merge.specs.StandsFor.{config_of, frame_of}
 use Rattle.frame_feed.proofs.FeedLemmas.{piece_taken}
 use Rattle.merge_run.specs.Sending.{Nexts, NextsAll}
 use Rattle.merge_run.proofs.FormedLemmas.{is_read, view_read, formed_read}
-use Rattle.merge_run.proofs.SendLemmas.{joined_push}
 use Rattle.merge_run.proofs.UnitsLemmas.{gives_push, ends_full, ends_behind}
 use Rattle.merge_run.proofs.sending.next_units.Goals as goal
 

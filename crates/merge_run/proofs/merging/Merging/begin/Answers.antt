@@ -14,7 +14,7 @@ use Rattle.merge_run.proofs.merging.Merging.begin.Goals as goal
 
 pub returns-then-not-is_picked-clause-shown : goal.returns-then-not-is_picked-clause-shown
 returns-then-not-is_picked-clause-shown c = λ k events s.
-    let t = c.take_from.ensures in
+    let t = c.take_picked.ensures in
     passed c.due_records_law.ensures.follow c.grow_law.ensures c.block_law.ensures.field k c.args.self.now _ events c.args.number
     c.pick_next-pick.result
     (record {
@@ -36,10 +36,10 @@ returns-then-not-is_picked-clause-shown c = λ k events s.
 
 pub returns-then-not-is_picked-clause-left : goal.returns-then-not-is_picked-clause-left
 returns-then-not-is_picked-clause-left c =
-    let t = c.take_from.ensures in
-    left_passed c.args.self.now c.take_from.new.a c.take_from.new.b _ _ _ c.requires.reads c.requires.reads
-    (fewer_left c.args.self.now c.take_from.new.a c.take_from.new.b c.args.number c.pick_next-pick.result
-    c.take_from.new.self
+    let t = c.take_picked.ensures in
+    left_passed c.args.self.now c.take_picked.new.a c.take_picked.new.b _ _ _ c.requires.reads c.requires.reads
+    (fewer_left c.args.self.now c.take_picked.new.a c.take_picked.new.b c.args.number c.pick_next-pick.result
+    c.take_picked.new.buffer
     (record {
       is = c.pick_next-pick.ensures ∙ picked_at (waiting_of c.args.self.now.a) (waiting_of c.args.self.now.b) c.args.number c.requires.least;
       least = c.requires.least;
@@ -57,7 +57,7 @@ returns-then-not-is_picked-clause-left c =
 
 pub returns-clause-shown : goal.returns-clause-shown
 returns-clause-shown c = λ k events s.
-    let t = c.take_from.ensures in
+    let t = c.take_picked.ensures in
     begun c.due_records_law.ensures.follow c.grow_law.ensures c.block_law.ensures.field k c.args.self.now _ events c.args.number
     c.pick_next-pick.result
     (record {
@@ -77,15 +77,15 @@ returns-clause-shown c = λ k events s.
     s refl c.requires.reads refl c.requires.early
     c.due_records_law.ensures.spelled c.formed_law.ensures c.unwrap-feed.result c.unwrap-feed.ensures c.add.ensures refl
     (λ view spells. c.begin_frame.ensures.begins view (subst (λ (l : List ℕ). Spells view l)
-    (sym (let e : c.as_bytes.result.now ≡ c.take_from.new.self = c.as_bytes.ensures in e)) spells))
+    (sym (let e : c.as_bytes.result.now ≡ c.take_picked.new.buffer = c.as_bytes.ensures in e)) spells))
 
 pub returns-clause-left : goal.returns-clause-left
 returns-clause-left c =
-    let t = c.take_from.ensures in
+    let t = c.take_picked.ensures in
     less_of _ _ c.requires.came (λ (h : HasShown c.args.self.now).
     begun_left c.due_records_law.ensures.follow c.grow_law.ensures c.block_law.ensures.field c.due_records_law.ensures.spelled
-    c.formed_law.ensures h.network c.args.self.now c.take_from.new.a c.take_from.new.b c.begin_frame.new.merger h.events
-    c.args.number c.pick_next-pick.result c.take_from.new.self
+    c.formed_law.ensures h.network c.args.self.now c.take_picked.new.a c.take_picked.new.b c.begin_frame.new.merger h.events
+    c.args.number c.pick_next-pick.result c.take_picked.new.buffer
     (record {
       is = c.pick_next-pick.ensures ∙ picked_at (waiting_of c.args.self.now.a) (waiting_of c.args.self.now.b) c.args.number c.requires.least;
       least = c.requires.least;
@@ -102,18 +102,18 @@ returns-clause-left c =
     })
     h.shown c.requires.reads c.requires.early c.unwrap-feed.result c.unwrap-feed.ensures
     (λ view spells. c.begin_frame.ensures.begins view (subst (λ (l : List ℕ). Spells view l)
-    (sym (let e : c.as_bytes.result.now ≡ c.take_from.new.self = c.as_bytes.ensures in e)) spells)))
+    (sym (let e : c.as_bytes.result.now ≡ c.take_picked.new.buffer = c.as_bytes.ensures in e)) spells)))
 
 pub begin_frame-requires-clause-holds : goal.begin_frame-requires-clause-holds
 begin_frame-requires-clause-holds c =
-    let t = c.take_from.ensures in
+    let t = c.take_picked.ensures in
     let m = c.args.self.now in
-    let out = c.take_from.new.self in
-    let same : c.as_bytes.result.now ≡ c.take_from.new.self = c.as_bytes.ensures in
+    let out = c.take_picked.new.buffer in
+    let same : c.as_bytes.result.now ≡ c.take_picked.new.buffer = c.as_bytes.ensures in
     subst (λ (l : List ℕ). ∥ HoldsFrame (config_of m.merger) c.args.number l ∥₁) (sym same)
     (∥∥₁_map c.requires.came (λ (h : HasShown m).
     subst (λ (k : Config). HoldsFrame k c.args.number out) (sym h.shown.sends.network)
-    (holds c.due_records_law.ensures.follow c.grow_law.ensures h.network m c.take_from.new.a c.take_from.new.b h.events
+    (holds c.due_records_law.ensures.follow c.grow_law.ensures h.network m c.take_picked.new.a c.take_picked.new.b h.events
     c.args.number c.pick_next-pick.result out
     (record {
       is = c.pick_next-pick.ensures ∙ picked_at (waiting_of c.args.self.now.a) (waiting_of c.args.self.now.b) c.args.number c.requires.least;

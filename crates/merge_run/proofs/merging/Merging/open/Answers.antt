@@ -1,5 +1,5 @@
 use Rattle.std.proofs.Common.{[], refl, arith}
-use Rattle.merge_run.proofs.ShownLemmas.{sends_opened, reading_opened, ran_opened}
+use Rattle.merge_run.proofs.ShownLemmas.{sends_opened, reading_opened, live_opened, ran_opened}
 use Rattle.merge_run.proofs.merging.Merging.open.Goals as goal
 
 pub returns-clause-shown : goal.returns-clause-shown
@@ -23,5 +23,6 @@ returns-clause-shown c =
       sends = sends_opened k c.new.result g.config g.stands;
       ran_is = ran_opened k;
       counts = record { frames = omega arith; parts = refl; units = omega arith };
+      live = live_opened k;
       is_in = reading_opened k c.new.result g.unit g.finished;
     }

@@ -1,0 +1,362 @@
+-- What is known of two files by what was fed of them.
+use Rattle.std.proofs.Common.{◌≡◌, ◌≢◌, ◌⊎◌, ℕ, zero, suc, ◌+◌, ◌-◌, ◌<◌, ◌≤◌, ◌==◌, Bool, true, false, List, [], ◌∷◌, ◌++◌}
+use Rattle.std.proofs.Common.{length, take, Option, Some, None, refl, ap, ap₂, sym, subst, ◌∙◌, inl, inr, arith, append-nil, append_assoc}
+use Rattle.std.proofs.Common.{eqb-true}
+use Rattle.std.specs.Prelude.{slice_index}
+use Rattle.std.proofs.lemmas.Bool.{true≢false, eqb-false}
+use Rattle.std.proofs.lemmas.List.{take_at}
+use Rattle.terms.proofs.CaseLemmas.{bool_cases}
+use Rattle.ts_packet.proofs.JoinedLemmas.{joined_append}
+use Rattle.plp_config.specs.declared.config.Config.{Config}
+use Rattle.plp_config.specs.declared.moment.TheConstants.{MOST_FRAMES}
+use Rattle.ts_packet.specs.TsFile.{joined}
+use Rattle.frame_groups.specs.Modulated.{FrameRecord}
+use Rattle.frame_groups.specs.declared.waiting.Waiting.{Waiting}
+use Rattle.modulator.specs.Laws.{DueFront, DueFollow}
+use Rattle.modulator.specs.StandsFor.{records_due, records_of}
+use Rattle.t2mi_stream.specs.Complete.{complete_units}
+use Rattle.t2mi_stream.specs.CompleteLaws.{CompleteLaw}
+use Rattle.t2mi_stream.specs.Pipe.{pipe, units_in}
+use Rattle.formed_frames.specs.Remade.{NumberedView, remade_packets}
+use Rattle.feed_merge.specs.Picks.{Picked, picks, picks_below, above_all, frames_of}
+use Rattle.feed_merge.specs.StandsFor.{has_finished}
+use Rattle.frame_feed.specs.StandsFor.{IsFirst, waiting_of}
+use Rattle.frame_feed.specs.StandsFor as feed
+use Rattle.frame_feed.specs.declared.feed.FrameFeed.{FrameFeed}
+use Rattle.file_run.specs.Events.{Event, fed, has_ended, gave}
+use Rattle.file_run.specs.FileRun.{AreFed, IsFed}
+use Rattle.merge_run.specs.Counted.{counted}
+use Rattle.merge_run.specs.MergeRun.{complete_by, picked_below, picked_of, packets_of, units_of, AreEarly, MergesAll}
+use Rattle.merge_run.specs.MergeRun.{HasNone, AreCompleteBelow, HasLate, end_by, HasWritten, MayWrite}
+use Rattle.merge_run.specs.Shown.{Shown, IsFedWith, IsBehind, IsDueBelow, NoneComes, IsReading, IsDone, IsIn}
+use Rattle.merge_run.specs.Steps.{is_idle, fed_at}
+use Rattle.merge_run.specs.Taking.{least_of}
+use Rattle.merge_run.specs.declared.merging.Merging.{Merging}
+use Rattle.merge_run.specs.declared.phase.Phase.{Phase}
+use Rattle.merge_run.specs.declared.phase.Phase.TheVariants as phase
+use Rattle.merge_run.proofs.FeedLemmas.{due_of}
+use Rattle.merge_run.proofs.NumberLemmas.{below_of, nothing_above}
+use Rattle.merge_run.proofs.PickLemmas.{least_first, least_second}
+use Rattle.merge_run.proofs.SendLemmas.{frames_append, packets_more, gave_complete, given_front, gave_all}
+use Rattle.merge_run.proofs.SplitLemmas.{IsSplit, picks_front, below_split, picks_split, picks_nothing, all_given, split_at, late_waits}
+use Rattle.merge_run.proofs.StepLemmas.{Wants, First, Second, IsLate}
+use Rattle.frame_groups.specs.Laws.{IsPrefix}
+use Rattle.std.proofs.lemmas.List.{take-append-le}
+use Rattle.feed_merge.proofs.GrowLemmas.{all_below}
+use Rattle.t2mi_stream.proofs.CompleteLemmas.{shorter_front}
+
+pub two : (P : ℕ → Type 0) → P 0 → P 1 → (input : ℕ) → input < 2 → P input
+two P a b zero lt = a
+two P a b (suc zero) lt = b
+two P a b (suc (suc n)) lt = absurd (omega (arith, lt))
+
+nothing_sent : (k : Config) → joined (pipe k.pid (packets_of k [])) ≡ []
+unfolding remade_packets units_in
+nothing_sent k = refl
+
+-- ---- what is known of two files by what was fed of them
+
+module _ (front : DueFront) (follow : DueFollow) (law : CompleteLaw) (c : Config) (m : Merging) (events : List Event)
+    (s : Shown c events m) (files : ℕ → List ℕ) (places : List ℕ) (are : AreFed 2 files places events) where
+  abbrev ga : List FrameRecord
+  ga = s.given_a
+
+  abbrev gb : List FrameRecord
+  gb = s.given_b
+
+  abbrev frames : List NumberedView
+  frames = frames_of (picks c ga gb)
+
+  fed_a : IsFed (files 0) (slice_index places 0) (fed 0 events) (has_ended 0 events)
+  fed_a = are 0 (omega arith)
+
+  fed_b : IsFed (files 1) (slice_index places 1) (fed 1 events) (has_ended 1 events)
+  fed_b = are 1 (omega arith)
+
+  above_a : above_all ga ≤ m.next
+  above_a = let n = s.next_is in omega (arith, n)
+
+  above_b : above_all gb ≤ m.next
+  above_b = let n = s.next_is in omega (arith, n)
+
+  split_a : (n : ℕ) → IsBehind n m.a ga → IsSplit c (files 0) ga n
+  split_a n b = split_at front follow c m.a (files 0) _ _ _ ga fed_a s.of_a n b
+
+  split_b : (n : ℕ) → IsBehind n m.b gb → IsSplit c (files 1) gb n
+  split_b n b = split_at front follow c m.b (files 1) _ _ _ gb fed_b s.of_b n b
+
+  -- the frames that were picked are those below a number that is behind both
+  picked_is : (n : ℕ) → m.next ≤ n → IsBehind n m.a ga → IsBehind n m.b gb → picked_below c files n ≡ picks c ga gb
+  picked_is n le x y =
+      let p = split_a n x in
+      let q = split_b n y in
+      ap₂ (λ (ra rb : List FrameRecord). picks_below c ra rb n) p.all q.all
+      ∙ picks_split c ga p.after gb q.after n (let a = above_a in omega (arith, a, le)) (let b = above_b in omega (arith, b, le))
+      p.from q.from
+
+  -- so the complete units of these were given
+  complete_below : (n : ℕ) → m.next ≤ n → IsBehind n m.a ga → IsBehind n m.b gb → m.phase ≡ phase.Reads
+      → AreCompleteBelow c files n (gave events)
+  complete_below n le x y reads =
+      let i : IsReading c m.merger frames m.ran.units = subst (IsIn c m frames) reads s.is_in in
+      gave_complete law c m.merger frames m.ran.units (gave events) i.is_open i.complete s.sends
+      ∙ ap (λ (ps : List Picked). joined (complete_units c.pid (packets_of c ps))) (sym (picked_is n le x y))
+
+  -- ---- all was given
+
+  none_in : m.phase ≡ phase.Done → IsDone c frames m.ran.units m.a m.b
+  none_in done = subst (IsIn c m frames) done s.is_in
+
+  all_a : NoneComes m.a → records_of c (files 0) ≡ ga
+  all_a none = all_given front follow c m.a (files 0) _ _ _ ga fed_a s.of_a none
+
+  all_b : NoneComes m.b → records_of c (files 1) ≡ gb
+  all_b none = all_given front follow c m.b (files 1) _ _ _ gb fed_b s.of_b none
+
+  early_all : NoneComes m.a → NoneComes m.b → (input : ℕ) → input < 2 → AreEarly (records_of c (files input))
+  early_all none_a none_b =
+      let e = s.early in
+      let x = above_a in
+      let y = above_b in
+      two (λ (input : ℕ). AreEarly (records_of c (files input)))
+      (subst AreEarly (sym (all_a none_a)) (below_of MOST_FRAMES ga (omega (arith, x, e))))
+      (subst AreEarly (sym (all_b none_b)) (below_of MOST_FRAMES gb (omega (arith, y, e))))
+
+  units_all : NoneComes m.a → NoneComes m.b → units_of c files ≡ pipe c.pid (remade_packets c frames)
+  units_all none_a none_b = ap₂ (λ (ra rb : List FrameRecord). pipe c.pid (packets_of c (picks c ra rb))) (all_a none_a) (all_b none_b)
+
+  pub merges_all : m.phase ≡ phase.Done → (m.next == 0) ≡ false → MergesAll c files m.ran (gave events)
+  merges_all done some =
+      let i = none_in done in
+      let a = all_a i.none_a in
+      let b = all_b i.none_b in
+      let picked : picked_of c files ≡ picks c ga gb = ap₂ (λ (ra rb : List FrameRecord). picks c ra rb) a b in
+      let units = units_all i.none_a i.none_b in
+      record {
+        some = there;
+        early = early_all i.none_a i.none_b;
+        output = gave_all c m.merger frames m.ran.units (gave events) i.all s.sends ∙ ap joined (sym units);
+        ran_is = s.ran_is ∙ ap₂ counted (sym picked) (sym i.all ∙ ap length (sym units));
+      }
+    where
+      there : (records_of c (files 0) ≢ []) ⊎ (records_of c (files 1) ≢ [])
+      there = go ga gb refl refl
+        where
+          differ : m.next ≢ 0
+          differ = eqb-false m.next 0 some
+
+          go : (xs ys : List FrameRecord) → ga ≡ xs → gb ≡ ys → (records_of c (files 0) ≢ []) ⊎ (records_of c (files 1) ≢ [])
+          go [] [] x y =
+              let n = s.next_is in
+              let p = ap above_all x in
+              let q = ap above_all y in
+              absurd (differ (omega (arith, n, p, q)))
+          go [] (y ∷ ys) x is = inr (λ none. absurd (let e = ap length (sym (all_b (none_in done).none_b ∙ is) ∙ none) in omega (arith, e)))
+          go (x ∷ xs) ys is y = inl (λ none. absurd (let e = ap length (sym (all_a (none_in done).none_a ∙ is) ∙ none) in omega (arith, e)))
+
+  pub has_none : m.phase ≡ phase.Done → (m.next == 0) ≡ true → HasNone c files (gave events)
+  has_none done first =
+      let i = none_in done in
+      let n = s.next_is in
+      let z = eqb-true m.next 0 first in
+      let a : ga ≡ [] = nothing_above ga (omega (arith, n, z)) in
+      let b : gb ≡ [] = nothing_above gb (omega (arith, n, z)) in
+      let none : picks c ga gb ≡ [] =
+      ap₂ (λ (ra rb : List FrameRecord). picks c ra rb) a b ∙ picks_nothing c in
+      record {
+        none = two (λ (input : ℕ). records_of c (files input) ≡ []) (all_a i.none_a ∙ a) (all_b i.none_b ∙ b);
+        empty = gave_all c m.merger frames m.ran.units (gave events) i.all s.sends
+            ∙ ap (λ (ps : List Picked). joined (pipe c.pid (packets_of c ps))) none ∙ nothing_sent c;
+      }
+
+  -- ---- a late record waits
+
+  pub has_late : m.phase ≡ phase.Reads → IsLate (waiting_of m.a) (feed.has_ended m.a) (waiting_of m.b) (feed.has_ended m.b)
+      → HasLate c files (gave events)
+  has_late reads l = record {
+    late = go (waiting_of m.a) (waiting_of m.b) refl refl;
+    is = complete_below MOST_FRAMES s.early behind_a behind_b reads;
+  }
+    where
+      low_a : (w : Waiting) → waiting_of m.a ≡ Some w → MOST_FRAMES ≤ w.frame
+      low_a w is = let x = least_first (waiting_of m.a) (waiting_of m.b) l.least l.is w is in let y = l.late in omega (arith, x, y)
+
+      low_b : (w : Waiting) → waiting_of m.b ≡ Some w → MOST_FRAMES ≤ w.frame
+      low_b w is = let x = least_second (waiting_of m.a) (waiting_of m.b) l.least l.is w is in let y = l.late in omega (arith, x, y)
+
+      behind_a : IsBehind MOST_FRAMES m.a ga
+      behind_a = record {
+        waits = low_a;
+        idle = λ none going.
+            let i : is_idle (waiting_of m.a) (feed.has_ended m.a) ≡ true = ap₂ is_idle none going in absurd (true≢false (sym i ∙ l.first));
+      }
+
+      behind_b : IsBehind MOST_FRAMES m.b gb
+      behind_b = record {
+        waits = low_b;
+        idle = λ none going.
+            let i : is_idle (waiting_of m.b) (feed.has_ended m.b) ≡ true = ap₂ is_idle none going in absurd (true≢false (sym i ∙ l.second));
+      }
+
+      go : (v w : Option Waiting) → waiting_of m.a ≡ v → waiting_of m.b ≡ w
+          → (¬ (AreEarly (records_of c (files 0)))) ⊎ (¬ (AreEarly (records_of c (files 1))))
+      go (Some v) w x y = inl (late_waits front follow c m.a (files 0) _ _ _ ga fed_a s.of_a v x (low_a v x))
+      go None (Some w) x y = inr (late_waits front follow c m.b (files 1) _ _ _ gb fed_b s.of_b w y (low_b w y))
+      go None None x y =
+          absurd (let z : None ≡ Some l.least = sym (ap₂ least_of x y) ∙ l.is in cc)
+
+  -- ---- an input is wanted
+
+  -- the bytes that were taken of a file
+  abbrev EndsAt : ℕ → Type 0
+  EndsAt input = (taken : ℕ) → taken ≡ length (fed input events) → end_by c (files input) taken ≡ m.next
+
+  -- all that is due was given
+  due_given : (f : FrameFeed) (bytes : List ℕ) (ended : Bool) (given : List FrameRecord) → waiting_of f ≡ None → feed.has_ended f ≡ false
+      → IsFedWith c f bytes ended given → records_due c false bytes ≡ given
+  due_given f bytes ended given none going h =
+      let d = due_of c f bytes ended given h in
+      let later : d.later ≡ [] = subst (λ (o : Option Waiting). IsFirst o d.later) none d.first in
+      ap (λ (e : Bool). records_due c e bytes) (sym going ∙ h.stands.end) ∙ d.all ∙ ap (λ (l : List FrameRecord). given ++ l) later
+      ∙ append-nil given
+
+  ends_at : (input : ℕ) (f : FrameFeed) (given : List FrameRecord) (place : ℕ)
+      → IsFed (files input) place (fed input events) (has_ended input events)
+      → IsFedWith c f (fed input events) (has_ended input events) given → IsBehind m.next f given → above_all given ≤ m.next
+      → waiting_of f ≡ None → feed.has_ended f ≡ false → EndsAt input
+  ends_at input f given place taken h b above none going = λ count is.
+      let low = b.idle none going in
+      let same : above_all given ≡ m.next = omega (arith, low, above) in
+      ap (λ (k : ℕ). above_all (records_due c false (take k (files input)))) is
+      ∙ ap (λ (l : List ℕ). above_all (records_due c false l))
+      (ap (take (length (fed input events))) taken.parts ∙ take_at (fed input events) taken.more (length (fed input events)) refl)
+      ∙ ap above_all (due_given f (fed input events) (has_ended input events) given none going h) ∙ same
+
+  pub has_written : (input taken : ℕ) → Wants (waiting_of m.a) (feed.has_ended m.a) (waiting_of m.b) (feed.has_ended m.b) input
+      → m.phase ≡ phase.Reads → taken ≡ length (fed input events) → HasWritten c input taken files (gave events)
+  has_written input taken wants reads is = by (end input wants taken is)
+    where
+      end : (input : ℕ) → Wants (waiting_of m.a) (feed.has_ended m.a) (waiting_of m.b) (feed.has_ended m.b) input → EndsAt input
+      end input (First at idle) = subst EndsAt at
+          (ends_at 0 m.a ga _ fed_a s.of_a s.behind_a above_a idle.none idle.going)
+      end input (Second at idle) = subst EndsAt at
+          (ends_at 1 m.b gb _ fed_b s.of_b s.behind_b above_b idle.none idle.going)
+
+      by : end_by c (files input) taken ≡ m.next → HasWritten c input taken files (gave events)
+      by same = record {
+        early = (let e = s.early in omega (arith, same, e));
+        is = subst (λ (n : ℕ). AreCompleteBelow c files n (gave events)) (sym same)
+            (complete_below m.next (omega arith) s.behind_a s.behind_b reads);
+      }
+
+  -- ---- some were given
+
+  -- once no more frames come, both files ended
+  over_in : (p : Phase) → IsIn c m frames p → has_finished m.merger ≡ true → NoneComes m.a × NoneComes m.b
+  over_in phase.Reads i over = absurd (true≢false (sym over ∙ i.is_open))
+  over_in phase.Gives i over = absurd (true≢false (sym over ∙ i.is_open))
+  over_in phase.Rests i over = (i.none_a, i.none_b)
+  over_in phase.Done i over = (i.none_a, i.none_b)
+
+  -- what was given is a front of what may be written
+  pub gave_front : (rest : List ℕ) × MayWrite c files (gave events ++ rest)
+  gave_front = bool_cases (has_finished m.merger) ended going
+    where
+      -- some units, and more behind what was given
+      gave_more : (rest : List (List ℕ)) → gave events ++ joined rest ≡ joined (s.sends.units ++ rest)
+      gave_more rest = ap (λ (l : List ℕ). l ++ joined rest) s.sends.gave_is ∙ sym (joined_append s.sends.units rest)
+
+      ended : has_finished m.merger ≡ true → (rest : List ℕ) × MayWrite c files (gave events ++ rest)
+      ended over =
+          let n = over_in m.phase s.is_in over in
+          let p = s.sends.front [] (λ _. refl) in
+          let all : s.sends.units ++ p.0 ≡ units_of c files =
+          sym p.1 ∙ ap (pipe c.pid) (append-nil (remade_packets c frames)) ∙ sym (units_all n.0 n.1) in
+          (joined p.0, inl (early_all n.0 n.1, gave_more p.0 ∙ ap joined all))
+
+      going : has_finished m.merger ≡ false → (rest : List ℕ) × MayWrite c files (gave events ++ rest)
+      going off =
+          let e = s.early in
+          let sum : m.next + (MOST_FRAMES - m.next) ≡ MOST_FRAMES = omega (arith, e) in
+          let more = picks_front c (records_of c (files 0)) (records_of c (files 1)) m.next (MOST_FRAMES - m.next) in
+          let picked : picked_below c files MOST_FRAMES ≡ picks c ga gb ++ more.0 =
+          ap (picked_below c files) (sym sum) ∙ more.1
+          ∙ ap (λ (l : List Picked). l ++ more.0) (picked_is m.next (omega arith) s.behind_a s.behind_b) in
+          let q = packets_more c frames (frames_of more.0) in
+          let packets : packets_of c (picked_below c files MOST_FRAMES) ≡ remade_packets c frames ++ q.0 =
+          ap (packets_of c) picked ∙ ap (remade_packets c) (frames_append (picks c ga gb) more.0) ∙ q.1 in
+          let p = s.sends.front q.0 (λ over. absurd (true≢false (sym over ∙ off))) in
+          let l = law c.pid (remade_packets c frames) q.0 in
+          let count = s.sends.count_is in
+          let few = s.sends.whole off in
+          let f = shorter_front s.sends.units (complete_units c.pid (remade_packets c frames)) p.0 l.rest (sym p.1 ∙ l.units)
+          (omega (arith, count, few)) in
+          let all : s.sends.units ++ (f.0 ++ l.others) ≡ complete_units c.pid (packets_of c (picked_below c files MOST_FRAMES)) =
+          sym (append_assoc s.sends.units f.0 l.others) ∙ ap (λ (x : List (List ℕ)). x ++ l.others) (sym f.1) ∙ sym l.complete
+          ∙ ap (complete_units c.pid) (sym packets) in
+          (joined (f.0 ++ l.others), inr (gave_more (f.0 ++ l.others) ∙ ap joined all))
+
+  -- ---- how far the inputs were read
+
+  -- the frames below a number are those of the records that were given
+  picked_low : picked_below c files s.live.low ≡ picks_below c ga gb s.live.low
+  picked_low =
+      let p = split_a m.next s.behind_a in
+      let q = split_b m.next s.behind_b in
+      ap₂ (λ (ra rb : List FrameRecord). picks_below c ra rb s.live.low) p.all q.all
+      ∙ below_split c ga p.after gb q.after m.next s.live.low s.live.within p.from q.from
+
+  -- the complete units of the frames below a lower number were given
+  given_since : (end : ℕ) → end ≤ s.live.low
+      → (end ≤ MOST_FRAMES) × IsPrefix (joined (complete_units c.pid (packets_of c (picked_below c files end)))) (gave events)
+  given_since end le =
+      let low : ℕ = s.live.low in
+      let within = s.live.within in
+      let early = s.early in
+      let sum : end + (low - end) ≡ low = omega (arith, le) in
+      let u = picks_front c (records_of c (files 0)) (records_of c (files 1)) end (low - end) in
+      let low_is : picks_below c ga gb low ≡ picked_below c files end ++ u.0 =
+      sym picked_low ∙ ap (picked_below c files) (sym sum) ∙ u.1 in
+      let top : low + (m.next - low) ≡ m.next = omega (arith, within) in
+      let v = picks_front c ga gb low (m.next - low) in
+      let all_is : picks c ga gb ≡ picks_below c ga gb low ++ v.0 =
+      all_below c ga gb m.next (below_of m.next ga above_a) (below_of m.next gb above_b)
+      ∙ ap (picks_below c ga gb) (sym top) ∙ v.1 in
+      let few : List (List ℕ) = packets_of c (picked_below c files end) in
+      let more = packets_more c (frames_of (picked_below c files end)) (frames_of u.0) in
+      let low_packets : packets_of c (picks_below c ga gb low) ≡ few ++ more.0 =
+      ap (packets_of c) low_is ∙ ap (remade_packets c) (frames_append (picked_below c files end) u.0) ∙ more.1 in
+      let rest = packets_more c (frames_of (picks_below c ga gb low)) (frames_of v.0) in
+      let packets : remade_packets c frames ≡ (few ++ more.0) ++ rest.0 =
+      ap (packets_of c) all_is ∙ ap (remade_packets c) (frames_append (picks_below c ga gb low) v.0) ∙ rest.1
+      ∙ ap (λ (l : List (List ℕ)). l ++ rest.0) low_packets in
+      let p = s.sends.front [] (λ _. refl) in
+      let count = s.sends.count_is in
+      let done = subst (λ (l : List (List ℕ)). length (complete_units c.pid l) ≤ m.ran.units) low_packets s.live.done in
+      let f = given_front law c.pid few more.0 rest.0 s.sends.units p.0 (omega (arith, done, count))
+      (ap (pipe c.pid) (sym packets ∙ sym (append-nil (remade_packets c frames))) ∙ p.1) in (
+        omega (arith, le, within, early),
+        (joined f.0, s.sends.gave_is ∙ ap joined f.1 ∙ joined_append (complete_units c.pid few) f.0),
+      )
+
+  -- which is behind the records that are due by fewer bytes than were fed
+  ends_before : (input taken : ℕ) → input < 2 → taken < length (fed input events) → end_by c (files input) taken ≤ s.live.low
+  ends_before input taken lt = two (λ (input : ℕ). taken < length (fed input events) → end_by c (files input) taken ≤ s.live.low)
+      (λ less. by (files 0) _ _ _ fed_a s.live.due_a less) (λ less. by (files 1) _ _ _ fed_b s.live.due_b less) input lt
+    where
+      by : (file : List ℕ) (place : ℕ) (bytes : List ℕ) (ended : Bool) → IsFed file place bytes ended → IsDueBelow c s.live.low bytes
+          → taken < length bytes → above_all (records_due c false (take taken file)) ≤ s.live.low
+      by file place bytes ended f due less =
+          let same = ap (λ (l : List ℕ). above_all (records_due c false l))
+          (ap (take taken) f.parts ∙ take-append-le taken bytes f.more (omega (arith, less))) in
+          let d = due taken less in
+          omega (arith, same, d)
+
+  -- so all complete units were given that follow of them
+  pub since : (input taken : ℕ) → input < 2 → taken < length (fed input events)
+      → (end_by c (files input) taken ≤ MOST_FRAMES) × IsPrefix (complete_by c files input taken) (gave events)
+  since input taken lt less = given_since (end_by c (files input) taken) (ends_before input taken lt less)
+
+  pub fed_count : (input : ℕ) → input < 2 → fed_at (feed.fed_of m.a) (feed.fed_of m.b) input ≡ length (fed input events)
+  fed_count input lt = two (λ (input : ℕ). fed_at (feed.fed_of m.a) (feed.fed_of m.b) input ≡ length (fed input events))
+      s.of_a.stands.count s.of_b.stands.count input lt

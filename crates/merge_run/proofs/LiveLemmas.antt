@@ -1,0 +1,84 @@
+-- Of what is read of the inputs no more waits than was looked at last: all complete units that follow of less were given.
+use Rattle.std.proofs.Common.{◌≡◌, ℕ, ◌<◌, ◌≤◌, max, Bool, false, List, [], ◌∷◌, ◌++◌, length, take, ap, sym, subst, ◌∙◌, arith}
+use Rattle.plp_config.specs.declared.config.Config.{Config}
+use Rattle.frame_groups.specs.Modulated.{FrameRecord}
+use Rattle.modulator.specs.StandsFor.{records_due}
+use Rattle.t2mi_stream.specs.Complete.{complete_units}
+use Rattle.formed_frames.specs.Remade.{remade_packets}
+use Rattle.file_run.specs.Events.{Event, Gave, fed}
+use Rattle.file_run.specs.Laws.{EventsTell}
+use Rattle.frame_feed.specs.StandsFor as feed
+use Rattle.frame_feed.specs.declared.feed.FrameFeed.{FrameFeed}
+use Rattle.feed_merge.specs.Laws.{AreOf}
+use Rattle.feed_merge.specs.Picks.{Picked, picks, above_all, frames_of}
+use Rattle.feed_merge.proofs.GrowLemmas.{all_below}
+use Rattle.merge_run.specs.Shown.{IsFedWith, IsDueBelow, IsLive}
+use Rattle.merge_run.proofs.NumberLemmas.{AllFrom, above_append, below_of}
+use Rattle.merge_run.proofs.SplitLemmas.{picks_split}
+
+-- By fewer bytes than were fed, no record is due but those that were given.
+pub due_below : (c : Config) (f : FrameFeed) (bytes : List ℕ) (ended : Bool) (given : List FrameRecord) (low : ℕ) → above_all given ≤ low
+    → IsFedWith c f bytes ended given → IsDueBelow c low bytes
+due_below c f bytes ended given low above h = λ k lt.
+    let p = h.stands.front k lt in
+    let size = ap above_all p.1 in
+    let same = ap (λ (n : Config). above_all (records_due n false (take k bytes))) h.network in
+    omega (arith, above, size, same, above_append (records_due (feed.config_of f) false (take k bytes)) p.0)
+
+-- all complete units of the frames that were picked were given
+pub live_all : (c : Config) (f g : FrameFeed) (fed_a fed_b : List ℕ) (ended_a ended_b : Bool) (ga gb : List FrameRecord) (next count : ℕ)
+    → IsFedWith c f fed_a ended_a ga → IsFedWith c g fed_b ended_b gb → next ≡ max (above_all ga) (above_all gb)
+    → length (complete_units c.pid (remade_packets c (frames_of (picks c ga gb)))) ≤ count → IsLive c fed_a fed_b ga gb next count
+live_all c f g fed_a fed_b ended_a ended_b ga gb next count x y is all =
+    let a : above_all ga ≤ next = omega (arith, is) in
+    let b : above_all gb ≤ next = omega (arith, is) in
+    record {
+      low = next;
+      within = omega arith;
+      due_a = due_below c f fed_a ended_a ga next a x;
+      due_b = due_below c g fed_b ended_b gb next b y;
+      done = subst (λ (ps : List Picked). length (complete_units c.pid (remade_packets c (frames_of ps))) ≤ count)
+          (all_below c ga gb next (below_of next ga a) (below_of next gb b)) all;
+    }
+
+from_of : (n low : ℕ) (xs : List FrameRecord) → low ≤ n → AreOf n xs → AllFrom low xs
+from_of n low [] le h = tt
+from_of n low (x ∷ []) le h = (omega (arith, le, h), tt)
+from_of n low (x ∷ y ∷ xs) le h = absurd h
+
+-- the records of a number were taken, that is no lower than that behind those before
+pub live_taken : (c : Config) (f g : FrameFeed) (fed_a fed_b : List ℕ) (ended_a ended_b : Bool) (ga gb xs ys : List FrameRecord)
+    (low n next count : ℕ) → IsFedWith c f fed_a ended_a ga → IsFedWith c g fed_b ended_b gb → low ≡ max (above_all ga) (above_all gb)
+    → low ≤ n → n ≤ next → AreOf n xs → AreOf n ys → length (complete_units c.pid (remade_packets c (frames_of (picks c ga gb)))) ≤ count
+    → IsLive c fed_a fed_b (ga ++ xs) (gb ++ ys) next count
+live_taken c f g fed_a fed_b ended_a ended_b ga gb xs ys low n next count x y is le more p q all =
+    let a : above_all ga ≤ low = omega (arith, is) in
+    let b : above_all gb ≤ low = omega (arith, is) in
+    record {
+      low = low;
+      within = omega (arith, le, more);
+      due_a = due_below c f fed_a ended_a ga low a x;
+      due_b = due_below c g fed_b ended_b gb low b y;
+      done = subst (λ (ps : List Picked). length (complete_units c.pid (remade_packets c (frames_of ps))) ≤ count)
+          (sym (picks_split c ga xs gb ys low a b (from_of n low xs le p) (from_of n low ys le q))) all;
+    }
+
+-- the same was fed, and no fewer units were given
+pub live_same : (c : Config) (a b x y : List ℕ) (ga gb : List FrameRecord) (next count more : ℕ) → a ≡ x → b ≡ y → count ≤ more
+    → IsLive c a b ga gb next count → IsLive c x y ga gb next more
+live_same c a b x y ga gb next count more p q le l =
+    let most = l.done in
+    record {
+      low = l.low;
+      within = l.within;
+      due_a = subst (IsDueBelow c l.low) p l.due_a;
+      due_b = subst (IsDueBelow c l.low) q l.due_b;
+      done = omega (arith, most, le);
+    }
+
+pub live_given : EventsTell → (c : Config) (events : List Event) (piece : List ℕ) (ga gb : List FrameRecord) (next count more : ℕ)
+    → count ≤ more → IsLive c (fed 0 events) (fed 1 events) ga gb next count
+    → IsLive c (fed 0 (events ++ Gave piece ∷ [])) (fed 1 (events ++ Gave piece ∷ [])) ga gb next more
+live_given tell c events piece ga gb next count more le l =
+    let t = tell.given piece events in
+    live_same c _ _ _ _ ga gb next count more (sym (t.fed 0)) (sym (t.fed 1)) le l
