@@ -1,0 +1,532 @@
+-- How the run of a comparison ended, by its machine.
+use Rattle.std.proofs.Common.{◌≡◌, ◌≢◌, ◌⊎◌, ℕ, ◌+◌, ◌-◌, ◌<◌, ◌≤◌, ◌==◌, Bool, true, false, List, [], ◌∷◌, ◌++◌}
+use Rattle.std.proofs.Common.{length, take, Option, Some, None, refl, ap, ap₂, sym, subst, ◌∙◌, inl, inr, arith, append_assoc, append-nil}
+use Rattle.std.proofs.Common.{eqb-true}
+use Rattle.std.specs.Prelude.{Result, Ok, Err, IfOk, IfErr, slice_index}
+use Rattle.std.proofs.lemmas.Bool.{true≢false, eqb-false}
+use Rattle.std.proofs.lemmas.List.{take_at, take-append-le}
+use Rattle.std.proofs.lemmas.Option.{IfSome_then}
+use Rattle.terms.proofs.CaseLemmas.{bool_cases}
+use Rattle.ports.specs.Desk.{State}
+use Rattle.plp_config.specs.declared.config.Config.{Config}
+use Rattle.plp_config.specs.declared.moment.TheConstants.{MOST_FRAMES}
+use Rattle.frame_groups.specs.Laws.{IsPrefix}
+use Rattle.frame_groups.specs.Modulated.{FrameRecord}
+use Rattle.frame_groups.specs.declared.waiting.Waiting.{Waiting}
+use Rattle.modulator.specs.Laws.{DueFront, DueFollow}
+use Rattle.modulator.specs.StandsFor.{records_due, records_of}
+use Rattle.feed_merge.specs.Picks.{above_all}
+use Rattle.frame_feed.specs.StandsFor.{IsFirst, waiting_of}
+use Rattle.frame_feed.specs.StandsFor as feed
+use Rattle.frame_feed.specs.declared.feed.FrameFeed.{FrameFeed}
+use Rattle.file_run.specs.Events.{Event, fed, has_ended, gave}
+use Rattle.file_run.specs.FileRun.{AreFed, IsFed}
+use Rattle.file_run.specs.Laws.{EventsTell}
+use Rattle.file_run.specs.declared.machine.Step.TheVariants.{End}
+use Rattle.file_run.specs.declared.stop.RunFault.{RunFault}
+use Rattle.file_run.specs.declared.stop.RunFault.TheVariants as fault
+use Rattle.file_run.specs.declared.stop.RunStop.{RunStop}
+use Rattle.file_run.specs.declared.stop.RunStop.TheVariants.{Refused, Files, OutOfMemory}
+use Rattle.file_run.proofs.StandsLemmas.{fed_since, all_read}
+use Rattle.line_run.specs.Speaking as driver
+use Rattle.line_run.specs.Speaking.{SpeaksOnce}
+use Rattle.line_run.proofs.StandsLemmas.{spoke_by}
+use Rattle.merge_run.specs.MergeRun.{names_of, AreEarly, end_by}
+use Rattle.merge_run.specs.Shown.{IsFedWith, IsBehind, NoneComes}
+use Rattle.merge_run.specs.Steps.{is_idle, fed_at}
+use Rattle.merge_run.specs.Taking.{least_of}
+use Rattle.merge_run.proofs.FeedLemmas.{due_of}
+use Rattle.merge_run.proofs.NumberLemmas.{above_append, below_of, nothing_above}
+use Rattle.merge_run.proofs.PickLemmas.{least_first, least_second}
+use Rattle.merge_run.proofs.FilesLemmas.{two}
+use Rattle.merge_run.proofs.SplitLemmas.{IsSplit, all_given, split_at, late_waits}
+use Rattle.merge_run.proofs.StepLemmas.{Wants, First, Second, IsLate}
+use Rattle.frame_compare.specs.Comparing.{Answered, answers, answers_below}
+use Rattle.frame_compare.specs.Laws.{KnownBegins}
+use Rattle.frame_compare.specs.Lines.{known_text, text_of}
+use Rattle.frame_compare.specs.Runs.{counts_of}
+use Rattle.frame_compare.specs.StandsFor.{counts_in}
+use Rattle.frame_compare.specs.declared.counts.Counts.{Counts}
+use Rattle.frame_compare.proofs.GrowLemmas.{answers_nothing}
+use Rattle.frame_compare.proofs.LineLemmas.{nothing_told, known_front}
+use Rattle.compare_run.specs.AsMachine.{Becomes, ending_by, ending_in, ending_of}
+use Rattle.compare_run.specs.CompareRun.{compared_below, compared_of, HaveRecords, AreAlike, AreOther, HasNone, ReadsBoth, FindsAlike}
+use Rattle.compare_run.specs.CompareRun.{IsKnownBelow, HasLate, MeetsLate, HasSaid, GivesTooMuch, StopsReading, MaySay, HasSome, StopsSaying, Stops}
+use Rattle.compare_run.specs.Shown.{Shown, text_in}
+use Rattle.compare_run.specs.Steps.{step_of, reach_of}
+use Rattle.compare_run.specs.declared.comparing.Comparing.{Comparing}
+use Rattle.compare_run.specs.declared.machine.CompareMachine.{CompareMachine}
+use Rattle.compare_run.specs.declared.stop.CompareStop.{CompareStop}
+use Rattle.compare_run.proofs.SplitLemmas.{answers_front, answers_split}
+use Rattle.compare_run.proofs.StepLemmas.{needs_so, short_so, late_so}
+
+-- ---- what is known of two files by what was fed of them
+
+module _ (front : DueFront) (follow : DueFollow) (law : KnownBegins) (c : Config) (m : Comparing) (events : List Event)
+    (s : Shown c events m) (files : ℕ → List ℕ) (places : List ℕ) (are : AreFed 2 files places events) where
+  abbrev ga : List FrameRecord
+  ga = s.given_a
+
+  abbrev gb : List FrameRecord
+  gb = s.given_b
+
+  abbrev told : List Answered
+  told = answers c ga gb
+
+  fed_a : IsFed (files 0) (slice_index places 0) (fed 0 events) (has_ended 0 events)
+  fed_a = are 0 (omega arith)
+
+  fed_b : IsFed (files 1) (slice_index places 1) (fed 1 events) (has_ended 1 events)
+  fed_b = are 1 (omega arith)
+
+  above_a : above_all ga ≤ m.next
+  above_a = let n = s.next_is in omega (arith, n)
+
+  above_b : above_all gb ≤ m.next
+  above_b = let n = s.next_is in omega (arith, n)
+
+  split_a : (n : ℕ) → IsBehind n m.a ga → IsSplit c (files 0) ga n
+  split_a n b = split_at front follow c m.a (files 0) _ _ _ ga fed_a s.of_a n b
+
+  split_b : (n : ℕ) → IsBehind n m.b gb → IsSplit c (files 1) gb n
+  split_b n b = split_at front follow c m.b (files 1) _ _ _ gb fed_b s.of_b n b
+
+  -- the frames that were compared are those below a number that is behind both
+  told_is : (n : ℕ) → m.next ≤ n → IsBehind n m.a ga → IsBehind n m.b gb → compared_below c files n ≡ told
+  told_is n le x y =
+      let p = split_a n x in
+      let q = split_b n y in
+      ap₂ (λ (ra rb : List FrameRecord). answers_below c ra rb n) p.all q.all
+      ∙ answers_split c ga p.after gb q.after n (let a = above_a in omega (arith, a, le)) (let b = above_b in omega (arith, b, le))
+      p.from q.from
+
+  -- so the lines that are known by these were said
+  known_below : (n : ℕ) → m.next ≤ n → IsBehind n m.a ga → IsBehind n m.b gb → m.done ≡ false → IsKnownBelow c files n (gave events)
+  known_below n le x y going =
+      s.said ∙ ap (λ (d : Bool). text_in d told) going ∙ ap known_text (sym (told_is n le x y))
+
+  -- ---- all was given
+
+  all_a : NoneComes m.a → records_of c (files 0) ≡ ga
+  all_a none = all_given front follow c m.a (files 0) _ _ _ ga fed_a s.of_a none
+
+  all_b : NoneComes m.b → records_of c (files 1) ≡ gb
+  all_b none = all_given front follow c m.b (files 1) _ _ _ gb fed_b s.of_b none
+
+  told_all : m.done ≡ true → compared_of c files ≡ told
+  told_all done =
+      let none = s.over done in
+      ap₂ (λ (ra rb : List FrameRecord). answers c ra rb) (all_a none.0) (all_b none.1)
+
+  said_all : m.done ≡ true → gave events ≡ text_of (compared_of c files)
+  said_all done = s.said ∙ ap (λ (d : Bool). text_in d told) done ∙ ap text_of (sym (told_all done))
+
+  early_all : m.done ≡ true → (input : ℕ) → input < 2 → AreEarly (records_of c (files input))
+  early_all done =
+      let none = s.over done in
+      let e = s.early in
+      let x = above_a in
+      let y = above_b in
+      two (λ (input : ℕ). AreEarly (records_of c (files input)))
+      (subst AreEarly (sym (all_a none.0)) (below_of MOST_FRAMES ga (omega (arith, x, e))))
+      (subst AreEarly (sym (all_b none.1)) (below_of MOST_FRAMES gb (omega (arith, y, e))))
+
+  have : m.done ≡ true → (m.next == 0) ≡ false → HaveRecords c files
+  have done some =
+      record { some = there; early = early_all done }
+    where
+      there : (records_of c (files 0) ≢ []) ⊎ (records_of c (files 1) ≢ [])
+      there = go ga gb refl refl
+        where
+          differ : m.next ≢ 0
+          differ = eqb-false m.next 0 some
+
+          go : (xs ys : List FrameRecord) → ga ≡ xs → gb ≡ ys → (records_of c (files 0) ≢ []) ⊎ (records_of c (files 1) ≢ [])
+          go [] [] x y =
+              let n = s.next_is in
+              let p = ap above_all x in
+              let q = ap above_all y in
+              absurd (differ (omega (arith, n, p, q)))
+          go [] (y ∷ ys) x is = inr (λ none. absurd (let e = ap length (sym (all_b (s.over done).1 ∙ is) ∙ none) in omega (arith, e)))
+          go (x ∷ xs) ys is y = inl (λ none. absurd (let e = ap length (sym (all_a (s.over done).0 ∙ is) ∙ none) in omega (arith, e)))
+
+  counts_all : m.done ≡ true → counts_in m.tally ≡ counts_of (compared_of c files)
+  counts_all done = s.tallied.counts ∙ ap counts_of (sym (told_all done))
+
+  are_alike : m.done ≡ true → (m.next == 0) ≡ false → (counts_in m.tally).first ≡ None → AreAlike c files (counts_in m.tally) (gave events)
+  are_alike done some none = record {
+    have = have done some;
+    none = ap (λ (n : Counts). n.first) (sym (counts_all done)) ∙ none;
+    is = said_all done;
+    counts_are = counts_all done;
+  }
+
+  are_other : (frame : ℕ) → m.done ≡ true → (m.next == 0) ≡ false → (counts_in m.tally).first ≡ Some frame
+      → AreOther c files frame (gave events)
+  are_other frame done some first = record {
+    have = have done some;
+    first = ap (λ (n : Counts). n.first) (sym (counts_all done)) ∙ first;
+    is = said_all done;
+  }
+
+  has_none : m.done ≡ true → (m.next == 0) ≡ true → HasNone c files (gave events)
+  has_none done zero =
+      let none = s.over done in
+      let n = s.next_is in
+      let z = eqb-true m.next 0 zero in
+      let a : ga ≡ [] = nothing_above ga (omega (arith, n, z)) in
+      let b : gb ≡ [] = nothing_above gb (omega (arith, n, z)) in
+      let nothing : told ≡ [] =
+      ap₂ (λ (ra rb : List FrameRecord). answers c ra rb) a b ∙ answers_nothing c in
+      record {
+        none = two (λ (input : ℕ). records_of c (files input) ≡ []) (all_a none.0 ∙ a) (all_b none.1 ∙ b);
+        empty = s.said ∙ ap (λ (d : Bool). text_in d told) done ∙ ap text_of nothing ∙ nothing_told;
+      }
+
+  -- ---- a late record waits
+
+  has_late : m.done ≡ false → IsLate (waiting_of m.a) (feed.has_ended m.a) (waiting_of m.b) (feed.has_ended m.b)
+      → HasLate c files (gave events)
+  has_late going l = record {
+    late = go (waiting_of m.a) (waiting_of m.b) refl refl;
+    is = known_below MOST_FRAMES s.early behind_a behind_b going;
+  }
+    where
+      low_a : (w : Waiting) → waiting_of m.a ≡ Some w → MOST_FRAMES ≤ w.frame
+      low_a w is = let x = least_first (waiting_of m.a) (waiting_of m.b) l.least l.is w is in let y = l.late in omega (arith, x, y)
+
+      low_b : (w : Waiting) → waiting_of m.b ≡ Some w → MOST_FRAMES ≤ w.frame
+      low_b w is = let x = least_second (waiting_of m.a) (waiting_of m.b) l.least l.is w is in let y = l.late in omega (arith, x, y)
+
+      behind_a : IsBehind MOST_FRAMES m.a ga
+      behind_a = record {
+        waits = low_a;
+        idle = λ none open_still.
+            let i : is_idle (waiting_of m.a) (feed.has_ended m.a) ≡ true = ap₂ is_idle none open_still in absurd (true≢false (sym i ∙ l.first));
+      }
+
+      behind_b : IsBehind MOST_FRAMES m.b gb
+      behind_b = record {
+        waits = low_b;
+        idle = λ none open_still.
+            let i : is_idle (waiting_of m.b) (feed.has_ended m.b) ≡ true = ap₂ is_idle none open_still in absurd (true≢false (sym i ∙ l.second));
+      }
+
+      go : (v w : Option Waiting) → waiting_of m.a ≡ v → waiting_of m.b ≡ w
+          → (¬ (AreEarly (records_of c (files 0)))) ⊎ (¬ (AreEarly (records_of c (files 1))))
+      go (Some v) w x y = inl (late_waits front follow c m.a (files 0) _ _ _ ga fed_a s.of_a v x (low_a v x))
+      go None (Some w) x y = inr (late_waits front follow c m.b (files 1) _ _ _ gb fed_b s.of_b w y (low_b w y))
+      go None None x y =
+          absurd (let z : None ≡ Some l.least = sym (ap₂ least_of x y) ∙ l.is in cc)
+
+  -- ---- an input is wanted
+
+  -- the bytes that were taken of a file
+  abbrev EndsAt : ℕ → Type 0
+  EndsAt input = (taken : ℕ) → taken ≡ length (fed input events) → end_by c (files input) taken ≡ m.next
+
+  -- all that is due was given
+  due_given : (f : FrameFeed) (bytes : List ℕ) (ended : Bool) (given : List FrameRecord) → waiting_of f ≡ None → feed.has_ended f ≡ false
+      → IsFedWith c f bytes ended given → records_due c false bytes ≡ given
+  due_given f bytes ended given none going h =
+      let d = due_of c f bytes ended given h in
+      let later : d.later ≡ [] = subst (λ (o : Option Waiting). IsFirst o d.later) none d.first in
+      ap (λ (e : Bool). records_due c e bytes) (sym going ∙ h.stands.end) ∙ d.all ∙ ap (λ (l : List FrameRecord). given ++ l) later
+      ∙ append-nil given
+
+  ends_at : (input : ℕ) (f : FrameFeed) (given : List FrameRecord) (place : ℕ)
+      → IsFed (files input) place (fed input events) (has_ended input events)
+      → IsFedWith c f (fed input events) (has_ended input events) given → IsBehind m.next f given → above_all given ≤ m.next
+      → waiting_of f ≡ None → feed.has_ended f ≡ false → EndsAt input
+  ends_at input f given place taken h b above none going = λ count is.
+      let low = b.idle none going in
+      let same : above_all given ≡ m.next = omega (arith, low, above) in
+      ap (λ (k : ℕ). above_all (records_due c false (take k (files input)))) is
+      ∙ ap (λ (l : List ℕ). above_all (records_due c false l))
+      (ap (take (length (fed input events))) taken.parts ∙ take_at (fed input events) taken.more (length (fed input events)) refl)
+      ∙ ap above_all (due_given f (fed input events) (has_ended input events) given none going h) ∙ same
+
+  has_said : (input taken : ℕ) → Wants (waiting_of m.a) (feed.has_ended m.a) (waiting_of m.b) (feed.has_ended m.b) input
+      → m.done ≡ false → taken ≡ length (fed input events) → HasSaid c input taken files (gave events)
+  has_said input taken wants going is = by (end input wants taken is)
+    where
+      end : (input : ℕ) → Wants (waiting_of m.a) (feed.has_ended m.a) (waiting_of m.b) (feed.has_ended m.b) input → EndsAt input
+      end input (First at idle) = subst EndsAt at
+          (ends_at 0 m.a ga _ fed_a s.of_a s.behind_a above_a idle.none idle.going)
+      end input (Second at idle) = subst EndsAt at
+          (ends_at 1 m.b gb _ fed_b s.of_b s.behind_b above_b idle.none idle.going)
+
+      by : end_by c (files input) taken ≡ m.next → HasSaid c input taken files (gave events)
+      by same = record {
+        early = (let e = s.early in omega (arith, same, e));
+        is = subst (λ (n : ℕ). IsKnownBelow c files n (gave events)) (sym same)
+            (known_below m.next (omega arith) s.behind_a s.behind_b going);
+      }
+
+  -- ---- some were said
+
+  -- what was said is the beginning of what may be said
+  gave_front : (rest : List ℕ) × MaySay c files (gave events ++ rest)
+  gave_front = bool_cases m.done ended going
+    where
+      ended : m.done ≡ true → (rest : List ℕ) × MaySay c files (gave events ++ rest)
+      ended done = ([], inl (early_all done, append-nil (gave events) ∙ said_all done))
+
+      going : m.done ≡ false → (rest : List ℕ) × MaySay c files (gave events ++ rest)
+      going off =
+          let e = s.early in
+          let sum : m.next + (MOST_FRAMES - m.next) ≡ MOST_FRAMES = omega (arith, e) in
+          let p = answers_front c (records_of c (files 0)) (records_of c (files 1)) m.next (MOST_FRAMES - m.next) in
+          let all : compared_below c files MOST_FRAMES ≡ told ++ p.0 =
+          ap (compared_below c files) (sym sum) ∙ p.1
+          ∙ ap (λ (l : List Answered). l ++ p.0) (told_is m.next (omega arith) s.behind_a s.behind_b) in
+          let k = known_front told p.0 in (
+            k.0,
+            inr (ap (λ (l : List ℕ). l ++ k.0) (s.said ∙ ap (λ (d : Bool). text_in d told) off) ∙ sym k.1 ∙ ap known_text (sym all)),
+          )
+
+  -- ---- how far the inputs were read
+
+  -- what is known by the frames below a lower number was said
+  said_since : (end : ℕ) → end ≤ m.next → (end ≤ MOST_FRAMES) × IsPrefix (known_text (compared_below c files end)) (gave events)
+  said_since end le =
+      let early = s.early in
+      let sum : end + (m.next - end) ≡ m.next = omega (arith, le) in
+      let p = answers_front c (records_of c (files 0)) (records_of c (files 1)) end (m.next - end) in
+      let all : told ≡ compared_below c files end ++ p.0 =
+      sym (told_is m.next (omega arith) s.behind_a s.behind_b) ∙ ap (compared_below c files) (sym sum) ∙ p.1 in
+      let k = begins m.done (compared_below c files end) p.0 in (
+        omega (arith, le, early),
+        (k.0, s.said ∙ ap (λ (l : List Answered). text_in m.done l) all ∙ k.1),
+      )
+    where
+      begins : (done : Bool) (xs ys : List Answered) → IsPrefix (known_text xs) (text_in done (xs ++ ys))
+      begins true xs ys = law xs ys
+      begins false xs ys = known_front xs ys
+
+  -- the records that are due by fewer bytes than were fed were given
+  ends_before : (input taken : ℕ) → input < 2 → taken < length (fed input events) → end_by c (files input) taken ≤ m.next
+  ends_before input taken lt = two (λ (input : ℕ). taken < length (fed input events) → end_by c (files input) taken ≤ m.next)
+      (λ less. by (files 0) _ m.a _ _ ga fed_a s.of_a above_a less) (λ less. by (files 1) _ m.b _ _ gb fed_b s.of_b above_b less) input lt
+    where
+      by : (file : List ℕ) (place : ℕ) (f : FrameFeed) (bytes : List ℕ) (ended : Bool) (given : List FrameRecord)
+          → IsFed file place bytes ended → IsFedWith c f bytes ended given → above_all given ≤ m.next → taken < length bytes
+          → above_all (records_due c false (take taken file)) ≤ m.next
+      by file place f bytes ended given t h above less =
+          let same = ap (λ (l : List ℕ). above_all (records_due c false l))
+          (ap (take taken) t.parts ∙ take-append-le taken bytes t.more (omega (arith, less))) in
+          let p = subst (λ (k : Config). IsPrefix (records_due k false (take taken bytes)) given) h.network (h.stands.front taken less) in
+          let all = ap above_all p.1 in
+          let sum = above_append (records_due c false (take taken bytes)) p.0 in
+          omega (arith, same, all, sum, above)
+
+  -- so all was said that is known by them
+  since : (input taken : ℕ) → input < 2 → taken < length (fed input events)
+      → (end_by c (files input) taken ≤ MOST_FRAMES)
+      × IsPrefix (known_text (compared_below c files (end_by c (files input) taken))) (gave events)
+  since input taken lt less = said_since (end_by c (files input) taken) (ends_before input taken lt less)
+
+  fed_count : (input : ℕ) → input < 2 → fed_at (feed.fed_of m.a) (feed.fed_of m.b) input ≡ length (fed input events)
+  fed_count input lt = two (λ (input : ℕ). fed_at (feed.fed_of m.a) (feed.fed_of m.b) input ≡ length (fed input events))
+      s.of_a.stands.count s.of_b.stands.count input lt
+
+-- ---- how a machine ended that came to its end
+
+abbrev Runs : CompareMachine → CompareMachine → State → State → List ℕ → List ℕ → Type 0
+Runs start now old new a b =
+    driver.SpeaksAll old new (names_of a b) (reach_of now.comparing) (λ events. Becomes start events now)
+
+module _ (front : DueFront) (follow : DueFollow) (law : KnownBegins) (start now : CompareMachine) (old new : State)
+    (a b : List ℕ) where
+  abbrev k : Config
+  k = start.comparing.plan.now
+
+  ended_all : (events : List Event) (s : Shown k events now.comparing) → now.comparing.done ≡ true → (input : ℕ) → input < 2
+      → has_ended input events ≡ true
+  ended_all events s done =
+      let none = s.over done in
+      two (λ (input : ℕ). has_ended input events ≡ true) (sym s.of_a.stands.end ∙ none.0.ended) (sym s.of_b.stands.end ∙ none.1.ended)
+
+  -- to the ends of both
+  reads_both : (Holds : (ℕ → List ℕ) → List ℕ → Type 0) → now.comparing.done ≡ true
+      → ((events : List Event) (s : Shown k events now.comparing) (files : ℕ → List ℕ) (places : List ℕ) → AreFed 2 files places events
+      → Holds files (gave events))
+      → Runs start now old new a b → ReadsBoth old new a b Holds
+  reads_both Holds done holds r =
+      let s = r.stands in
+      record {
+        places = s.places;
+        speaks = spoke_by Holds s (λ files are text is. subst (Holds files) (sym is) (holds s.events s.came files s.places are));
+        short = r.short;
+        counts = r.counts;
+        present = s.present;
+        ends = IfSome_then old.held s.inputs
+            (λ held are. all_read held (names_of a b) s.places s.events s.speaks.all (ended_all s.events s.came done) are);
+      }
+
+  meets_late : now.comparing.done ≡ false
+      → IsLate (waiting_of now.comparing.a) (feed.has_ended now.comparing.a) (waiting_of now.comparing.b) (feed.has_ended now.comparing.b)
+      → Runs start now old new a b → MeetsLate k old new a b
+  meets_late going late r =
+      let s = r.stands in
+      record {
+        places = s.places;
+        speaks = spoke_by (λ files text. HasLate k files text) s
+            (λ files are text is. subst (HasLate k files) (sym is)
+            (has_late front follow law k now.comparing s.events s.came files s.places are going late));
+        short = r.short;
+        counts = r.counts;
+      }
+
+  -- by whether both have ended
+  ends_in : (done : Bool) → now.comparing.done ≡ done → step_of now.comparing ≡ End → Runs start now old new a b
+      → IfOk (ending_in done now.comparing.next (counts_in now.comparing.tally)) (FindsAlike k old new a b)
+      × IfErr (ending_in done now.comparing.next (counts_in now.comparing.tally)) (λ why. Stops k old new a b (Refused why))
+  ends_in false is end r = (tt, meets_late is (late_so now.comparing.done _ _ _ _ is end) r)
+  ends_in true is end r =
+      bool_cases (now.comparing.next == 0)
+      (λ none. rw none (
+        tt,
+        reads_both (λ files text. HasNone k files text) is
+            (λ events s files places are. has_none front follow law k now.comparing events s files places are is none) r,
+      ))
+      (λ some. rw some (by_first some (counts_in now.comparing.tally).first refl))
+    where
+      by_first : (now.comparing.next == 0) ≡ false → (first : Option ℕ) → (counts_in now.comparing.tally).first ≡ first
+          → IfOk (ending_by first (counts_in now.comparing.tally)) (FindsAlike k old new a b)
+          × IfErr (ending_by first (counts_in now.comparing.tally)) (λ why. Stops k old new a b (Refused why))
+      by_first some None none = (
+        reads_both (λ files text. AreAlike k files (counts_in now.comparing.tally) text) is
+            (λ events s files places are. are_alike front follow law k now.comparing events s files places are is some none) r,
+        tt,
+      )
+      by_first some (Some frame) first = (
+        tt,
+        reads_both (λ files text. AreOther k files frame text) is
+            (λ events s files places are. are_other front follow law k now.comparing events s files places are frame is some first) r,
+      )
+
+  -- ---- how a run ended that its files stopped
+
+  gives_too_much : (input : ℕ)
+      → driver.SpeaksTooMuch old new (names_of a b) (reach_of now.comparing) (step_of now.comparing) (λ events. Becomes start events now) input
+      → GivesTooMuch k old new a b input
+  gives_too_much input g =
+      let s = g.stands in
+      let w = needs_so now.comparing.done (waiting_of now.comparing.a) (feed.has_ended now.comparing.a) (waiting_of now.comparing.b)
+      (feed.has_ended now.comparing.b) input _ g.wants in
+      let few = w.few in
+      let gave_is = g.gave in
+      record {
+        places = s.places;
+        taken = length (fed input s.events);
+        place = g.place;
+        near = omega (arith, few, gave_is);
+        speaks = spoke_by (λ files text. HasSaid k input (length (fed input s.events)) files text) s
+            (λ files are text is. subst (HasSaid k input (length (fed input s.events)) files) (sym is)
+            (has_said front follow law k now.comparing s.events s.came files s.places are input (length (fed input s.events)) w.wants
+            w.going refl));
+        gave = g.gave;
+        long = IfSome_then old.held s.inputs (λ held are. let f = are input g.place in let n = g.gave in let i = f.within in
+            let e = f.ahead in (omega (arith, n, e), omega (arith, n, i)));
+        counts = g.counts;
+      }
+
+  stops_reading : (input : ℕ)
+      → driver.SpeaksUntilFault old new (names_of a b) (reach_of now.comparing) (step_of now.comparing) (λ events. Becomes start events now) input
+      → StopsReading k old new a b input
+  stops_reading input g =
+      let s = g.stands in
+      let w = short_so now.comparing.done (waiting_of now.comparing.a) (feed.has_ended now.comparing.a) (waiting_of now.comparing.b)
+      (feed.has_ended now.comparing.b) input _ g.wants in
+      record {
+        places = s.places;
+        place = g.place;
+        speaks = spoke_by (λ files text. HasSaid k input (slice_index s.places input) files text) s
+            (λ files are text is. subst (HasSaid k input (slice_index s.places input) files) (sym is)
+            (let f = are input g.place in
+            let ahead = f.ahead in
+            let none = w.few in
+            has_said front follow law k now.comparing s.events s.came files s.places are input (slice_index s.places input) w.wants
+            w.going (omega (arith, ahead, none))));
+        short = g.short;
+      }
+
+  stops_saying : EventsTell
+      → driver.StopsSaying old new (names_of a b) (λ m. reach_of m.comparing) (λ m. step_of m.comparing) (Becomes start) now
+      → StopsSaying k old new a b
+  stops_saying tell g =
+      let s = g.stands in
+      let late = tell.late s.events g.late g.only in
+      record {
+        places = s.places;
+        speaks = spoke_by (λ files text. HasSome k s.places files text) s
+            (λ files are text is.
+            let p = gave_front front follow law k now.comparing (s.events ++ g.late) s.came.1 files s.places
+            (fed_since 2 files s.places s.events g.late g.only are) in
+            record {
+              more = g.more ++ p.0;
+              some = λ z. g.some (front_empty g.more p.0 z);
+              begins = subst (MaySay k files)
+                  (ap (λ (l : List ℕ). l ++ p.0) (late.gave ∙ ap (λ (l : List ℕ). gave s.events ++ l) g.parts
+                  ∙ sym (append_assoc (gave s.events) g.front g.more) ∙ ap (λ (l : List ℕ). l ++ g.more) (sym is))
+                  ∙ append_assoc text g.more p.0)
+                  p.1;
+              since = λ input taken lt less.
+                  let within = s.within input lt in
+                  let count = fed_count front follow law k g.mid.comparing s.events s.came.0 files s.places are input lt in
+                  let inside : taken < length (fed input s.events) = omega (arith, less, within, count) in
+                  let d = since front follow law k g.mid.comparing s.events s.came.0 files s.places are input taken lt inside in (
+                    d.0,
+                    (
+                      d.1.0 ++ g.front,
+                      is ∙ ap (λ (l : List ℕ). l ++ g.front) d.1.1 ∙ append_assoc _ d.1.0 g.front,
+                    ),
+                  );
+            });
+        short = g.short;
+      }
+    where
+      front_empty : (xs ys : List ℕ) → xs ++ ys ≡ [] → xs ≡ []
+      front_empty [] ys e = refl
+      front_empty (x ∷ xs) ys e = absurd (let n = ap length e in omega (arith, n))
+
+-- ---- so it is of a run
+
+ends : DueFront → DueFollow → KnownBegins → (start now : CompareMachine) (old new : State) (a b : List ℕ) → step_of now.comparing ≡ End
+    → Runs start now old new a b
+    → IfOk (ending_of now) (FindsAlike start.comparing.plan.now old new a b)
+    × IfErr (ending_of now) (λ why. Stops start.comparing.plan.now old new a b (Refused why))
+ends front follow law start now old new a b end r = ends_in front follow law start now old new a b now.comparing.done refl end r
+
+stops : EventsTell → DueFront → DueFollow → KnownBegins → (start now : CompareMachine) (old new : State) (a b : List ℕ) (why : RunFault)
+    → driver.StopsSpeaking old new (names_of a b) (λ m. reach_of m.comparing) (λ m. step_of m.comparing) (Becomes start) now why
+    → Stops start.comparing.plan.now old new a b (Files why)
+stops tell front follow law start now old new a b (fault.TooLong input) g =
+    gives_too_much front follow law start now old new a b input g
+stops tell front follow law start now old new a b (fault.ReadFault input) (counts, inl o) = (counts, inl o)
+stops tell front follow law start now old new a b (fault.ReadFault input) (counts, inr g) =
+    (counts, inr (stops_reading front follow law start now old new a b input g))
+stops tell front follow law start now old new a b fault.WriteFault (counts, g) =
+    (counts, stops_saying front follow law start now old new a b tell g)
+
+-- ---- a run, by what it answers
+
+pub answers_so : EventsTell → DueFront → DueFollow → KnownBegins → (start now : CompareMachine) (old new : State) (a b : List ℕ)
+    (result : Result Counts (RunStop CompareStop))
+    → SpeaksOnce old new (names_of a b) (λ m. reach_of m.comparing) (λ m. step_of m.comparing) (Becomes start) ending_of now result
+    → IfOk result (FindsAlike start.comparing.plan.now old new a b)
+    × IfErr result (Stops start.comparing.plan.now old new a b)
+answers_so tell front follow law start now old new a b (Ok counts) r = (
+  subst (λ (told : Result Counts CompareStop). IfOk told (FindsAlike start.comparing.plan.now old new a b)) r.told_is
+      (ends front follow law start now old new a b r.end r.runs).0,
+  tt,
+)
+answers_so tell front follow law start now old new a b (Err (Refused why)) r = (
+  tt,
+  subst (λ (told : Result Counts CompareStop). IfErr told (λ x. Stops start.comparing.plan.now old new a b (Refused x))) r.told_is
+      (ends front follow law start now old new a b r.end r.runs).1,
+)
+answers_so tell front follow law start now old new a b (Err (Files why)) r =
+    (tt, stops tell front follow law start now old new a b why r)
+answers_so tell front follow law start now old new a b (Err OutOfMemory) r = (tt, r)

@@ -1,0 +1,43 @@
+-- What was done to two feeds that are compared. No public clause cites this module.
+use Rattle.std.specs.Prelude.{◌≡◌, ℕ, ◌≤◌, max, Bool, true, false, List, length}
+use Rattle.plp_config.specs.Capacity.{IsPlan}
+use Rattle.plp_config.specs.declared.config.Config.{Config}
+use Rattle.plp_config.specs.declared.moment.TheConstants.{MOST_FRAMES}
+use Rattle.frame_groups.specs.Modulated.{FrameRecord}
+use Rattle.record_laws.specs.Frames.{HasByteIds}
+use Rattle.file_run.specs.Events.{Event, fed, has_ended, gave}
+use Rattle.feed_merge.specs.Picks.{above_all}
+use Rattle.merge_run.specs.Shown.{IsFedWith, IsBehind, NoneComes}
+use Rattle.frame_compare.specs.Comparing.{Answered, answers}
+use Rattle.frame_compare.specs.Lines.{known_text, text_of}
+use Rattle.frame_compare.specs.StandsFor.{TallyStandsFor}
+use Rattle.compare_run.specs.declared.comparing.Comparing.{Comparing}
+
+-- the text of some frames: what is known by them, or all
+abbrev pub text_in : Bool → List Answered → List ℕ
+text_in true xs = text_of xs
+text_in false xs = known_text xs
+
+-- What was done, and where two feeds of a network are then.
+pub record Shown (c : Config) (events : List Event) (m : Comparing) : Type 0 where
+  pub config : m.plan.now ≡ c
+  pub plan : IsPlan c
+  pub ids : HasByteIds c
+  pub given_a : List FrameRecord
+  pub given_b : List FrameRecord
+  pub of_a : IsFedWith c m.a (fed 0 events) (has_ended 0 events) given_a
+  pub of_b : IsFedWith c m.b (fed 1 events) (has_ended 1 events) given_b
+  pub behind_a : IsBehind m.next m.a given_a
+  pub behind_b : IsBehind m.next m.b given_b
+  pub next_is : m.next ≡ max (above_all given_a) (above_all given_b)
+  pub early : m.next ≤ MOST_FRAMES
+  pub tallied : TallyStandsFor m.tally (answers c given_a given_b)
+  pub few : length (answers c given_a given_b) ≤ m.next
+  pub said : gave events ≡ text_in m.done (answers c given_a given_b)
+  pub over : m.done ≡ true → NoneComes m.a × NoneComes m.b
+
+-- Something was done, and then they are there.
+pub record HasShown (m : Comparing) : Type 0 where
+  pub network : Config
+  pub events : List Event
+  pub shown : Shown network events m

@@ -1,0 +1,13 @@
+-- What one of the feeds has of a frame, by the record that waits. No public clause cites this module.
+use Rattle.std.specs.Prelude.{ℕ, ◌==◌, is_some, Bool, Option, Some, None, if◌then◌else◌}
+use Rattle.frame_groups.specs.declared.waiting.Waiting.{Waiting}
+use Rattle.frame_compare.specs.declared.answer.Side.{Side}
+use Rattle.frame_compare.specs.declared.answer.Side.TheVariants.{Absent, Muted, Whole}
+
+-- by whether it is muted
+abbrev pub side_by : Bool → Side
+side_by muted = if muted then Muted else Whole
+
+abbrev pub side_at : ℕ → Option Waiting → Side
+side_at n None = Absent
+side_at n (Some w) = if w.frame == n then side_by (is_some w.mute) else Absent

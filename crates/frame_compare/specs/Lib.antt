@@ -1,0 +1,5 @@
+pub mod Comparing
+pub mod Runs
+pub mod Lines
+pub mod StandsFor
+pub mod Laws
