@@ -1,15 +1,14 @@
 -- The packets that are left of a frame of which a PLP is replaced, one by one.
-use Rattle.std.proofs.Common.{◌≡◌, ℕ, zero, suc, ◌+◌, ◌%◌, ◌<◌, ◌≤◌, Bool, true, false, List, [], ◌∷◌, ◌++◌, Option, Some, None}
-use Rattle.std.proofs.Common.{inl, inr, length, map, take, drop, refl, ap, ap₂, sym, subst, ◌∙◌, arith, append_assoc, append-nil}
+use Rattle.std.proofs.Common.{◌≡◌, ℕ, ◌+◌, ◌%◌, ◌<◌, ◌≤◌, Bool, true, false, List, [], ◌∷◌, ◌++◌, Option, Some, None}
+use Rattle.std.proofs.Common.{length, map, take, drop, refl, ap, ap₂, sym, subst, ◌∙◌, arith, append_assoc, append-nil}
 use Rattle.std.specs.Prelude.{slice_get, slice_index_or, ◌==◌, ◌||◌, slice_set, if◌then◌else◌}
-use Rattle.std.specs.List.{AllByRecursion, filter, list_any, range_with_len}
-use Rattle.std.proofs.Math.Bool.{or-true}
+use Rattle.std.specs.List.{filter}
 use Rattle.std.proofs.Math.ListN.{drop_of_length-le}
-use Rattle.std.proofs.lemmas.Bool.{cases_eq}
 use Rattle.std.proofs.lemmas.List.{drop_more, take_at, drop_at, drop-map, length-map, length-take}
-use Rattle.std.proofs.lemmas.Option.{slice_get_within, get_or_from_slice_get, same_Some}
+use Rattle.std.proofs.lemmas.Option.{same_Some}
 use Rattle.terms.specs.Bits.{bits_of, bytes_of, field, part}
 use Rattle.terms.proofs.BitLemmas.{bits_of-bytes_of, length-bits_of}
+use Rattle.terms.proofs.ListLemmas.{drop_some}
 use Rattle.bb_frame.specs.Laws.{BitCounts, ScramblesBack}
 use Rattle.bb_frame.specs.Scrambled.{scrambled}
 use Rattle.bit_slice.specs.Crc.{crc32_of}
@@ -45,10 +44,6 @@ use Rattle.region_swap.specs.declared.place.SwapPlace.{SwapPlace}
 
 -- ---- the first block that passes a test
 
-pub drop_some : {X : Type 0} (xs : List X) (k : ℕ) (x : X) → slice_get xs k ≡ Some x → drop k xs ≡ x ∷ drop (k + 1) xs
-drop_some {X = X} xs k x e = drop_more xs k x (slice_get_within xs k x e)
-    ∙ ap (λ (z : X). z ∷ drop (k + 1) xs) (get_or_from_slice_get xs k x x e)
-
 pub passes : {X : Type 0} (test : X → Bool) (xs : List X) (k : ℕ) (x : X) → slice_get xs k ≡ Some x → test x ≡ true
     → filter test (drop k xs) ≡ x ∷ filter test (drop (k + 1) xs)
 passes test xs k x e t = ap (filter test) (drop_some xs k x e) ∙ rw t refl
@@ -60,28 +55,7 @@ fails test xs k x e t = ap (filter test) (drop_some xs k x e) ∙ rw t refl
 pub none_passes : {X : Type 0} (test : X → Bool) (xs : List X) (k : ℕ) → length xs ≤ k → filter test (drop k xs) ≡ []
 none_passes test xs k le = ap (filter test) (drop_of_length-le xs le)
 
-pub all_get : {X : Type 0} (P : X → Type 0) (xs : List X) (k : ℕ) (x : X) → AllByRecursion P xs → slice_get xs k ≡ Some x → P x
-all_get {X = X} P [] zero x h e = absurd (let z : ◌≡◌ {A = Option X} None (Some x) = e in cc)
-all_get {X = X} P [] (suc k) x h e = absurd (let z : ◌≡◌ {A = Option X} None (Some x) = e in cc)
-all_get P (y ∷ xs) zero x h e = subst P (same_Some y x e) h.0
-all_get P (y ∷ xs) (suc k) x h e = all_get P xs k x h.1 e
-
 -- ---- one of so many PLPs
-
-pub among_at : (test : ℕ → Bool) (from count k : ℕ) → from ≤ k → k < from + count → test k ≡ true
-    → list_any test (range_with_len from count) ≡ true
-among_at test from zero k le lt t = absurd (omega (arith, le, lt))
-among_at test from (suc count) k le lt t = elim (cases_eq k from) [
-  | inl same ↦ rw (ap test (sym same) ∙ t) refl
-  | inr differ ↦ ap (λ (b : Bool). test from || b) (among_at test (from + 1) count k (omega (arith, le, differ)) (omega (arith, lt)) t)
-      ∙ or-true (test from)
-]
-
-pub among_none : (test : ℕ → Bool) (from count : ℕ) → ((k : ℕ) → from ≤ k → k < from + count → test k ≡ false)
-    → list_any test (range_with_len from count) ≡ false
-among_none test from zero h = refl
-among_none test from (suc count) h =
-    rw (h from (omega arith) (omega arith)) (among_none test (from + 1) count (λ k le lt. h k (omega (arith, le)) (omega (arith, lt))))
 
 -- ---- the packet of a block
 
@@ -245,11 +219,11 @@ over_left c p plp own dynamic (Muted moment) e = refl
 -- ---- the first packet on: all that the record of the frame with the PLP replaced has
 
 -- the L1-current
-part_at : (a b rest : List Bool) (m n : ℕ) → length a ≡ m → length b ≡ n → part ((a ++ b) ++ rest) m n ≡ b
+pub part_at : (a b rest : List Bool) (m n : ℕ) → length a ≡ m → length b ≡ n → part ((a ++ b) ++ rest) m n ≡ b
 part_at a b rest m n e f =
     ap (take n) (ap (drop m) (append_assoc a b rest) ∙ drop_at a (b ++ rest) m e) ∙ take_at b rest n f
 
-front_at : (a b rest : List Bool) (m : ℕ) → length a ≡ m → take m ((a ++ b) ++ rest) ≡ a
+pub front_at : (a b rest : List Bool) (m : ℕ) → length a ≡ m → take m ((a ++ b) ++ rest) ≡ a
 front_at a b rest m e = ap (take m) (append_assoc a b rest) ∙ take_at a (b ++ rest) m e
 
 pub signal_made : (c : Config) (n : ℕ) (counts : List ℕ) (pre post : List Bool) → conf_len (length c.plps) ≤ length post

@@ -1,4 +1,3 @@
-pub mod SupplyLemmas
 pub mod RegionLemmas
 pub mod TellLemmas
 pub mod LeftLemmas

@@ -1,11 +1,13 @@
 -- A region takes packets, ends frames and leaves their blocks.
 use Rattle.std.proofs.Common.{◌≡◌, ◌≢◌, ℕ, zero, suc, inl, inr, ◌+◌, ◌-◌, ◌<◌, ◌≤◌, Bool, true, false, cond, List, [], ◌∷◌}
-use Rattle.std.proofs.Common.{length, map, is_some, refl, ap, sym, subst, ◌∙◌, arith, append_assoc}
+use Rattle.std.proofs.Common.{length, map, is_some, refl, ap, sym, subst, ◌∙◌, arith}
 use Rattle.std.proofs.Math.Logic.{∥∥₁_map}
 use Rattle.std.proofs.lemmas.Bool.{cases_eq}
 use Rattle.std.proofs.lemmas.List.{length-map, get_or-set_same, get_or-set_other, length-set}
 use Rattle.std.proofs.lemmas.List.Elements.{All-nil}
 use Rattle.terms.specs.Bits.{bits_of}
+use Rattle.gateway_core.proofs.InputsLemmas.{cont_next}
+use Rattle.gateway_core.proofs.HoldsLemmas.{cont_packet, cont_end}
 use Rattle.plp_config.specs.Capacity.{IsPlan}
 use Rattle.plp_config.specs.InterleavingFrames.{interleaving_frame, is_first}
 use Rattle.plp_config.specs.Laws.{SpreadDividesFrames}
@@ -20,24 +22,11 @@ use Rattle.gateway_core.specs.Lists.{bits_in, AllShort}
 use Rattle.gateway_core.proofs.EpochLemmas.{begins_at_once, same_number}
 use Rattle.gateway_core.proofs.FedLemmas.{wants}
 use Rattle.region_swap.specs.RegionFed.{early_in, Supplies, HasTold, Serves, Gives}
-use Rattle.region_swap.specs.Supplied.{IsFed, IsSupplied, HasCut, most}
-use Rattle.region_swap.specs.declared.input.Input.{Input}
+use Rattle.gateway_core.specs.IsFed.{IsFed, IsSupplied, most}
+use Rattle.gateway_core.specs.InputsStandFor.{HasCut}
+use Rattle.gateway_core.specs.declared.input.Input.{Input}
 
 -- ---- inputs that continue
-
-pub back_offered : (t : Told) (packet : List ℕ) (input : List (List ℕ)) → t.ended ≡ false → Continues (with_packet t packet) input
-    → Continues t input
-back_offered t packet input off h = record {
-  rest = packet ∷ h.rest;
-  front = h.front ∙ append_assoc t.packets (packet ∷ []) h.rest;
-  whole = λ on. absurd (let z : true ≡ false = sym on ∙ off in cc);
-}
-
-pub back_ended : (t : Told) (input : List (List ℕ)) → Continues (at_end t) input → Continues t input
-back_ended t input h = record { rest = h.rest; front = h.front; whole = λ on. h.whole refl }
-
-pub back_next : (t : Told) (input : List (List ℕ)) → Continues (in_next t) input → Continues t input
-back_next t input h = record { rest = h.rest; front = h.front; whole = h.whole }
 
 -- an input that wants a packet has not ended
 pub still : (i : Input) (c : Config) (plp : ℕ) (t : Told) (early : List (List Bool)) → 0 < cond (is_some i.total) 0 (i.due - i.slot)
@@ -98,7 +87,7 @@ supplies_offer i j was is sends next count c plp t packet free some fed s =
     record {
       fed = subst (λ (b : Bool). IsFed j c plp (with_packet t packet) (early_in b is plp)) (sym free) (fed here);
       next_is = s.next_is;
-      stays = λ input more off. s.stays input (back_offered t packet input (still i c plp t (bits_in was plp) some here) more) off;
+      stays = λ input more off. s.stays input (cont_packet t packet input (still i c plp t (bits_in was plp) some here) more) off;
     }
 
 pub supplies_end : (i j : Input) (pool : State) (sends : Bool) (next count : ℕ) (c : Config) (plp : ℕ) (t : Told)
@@ -107,7 +96,7 @@ pub supplies_end : (i j : Input) (pool : State) (sends : Bool) (next count : ℕ
 supplies_end i j pool sends next count c plp t fed s = record {
   fed = fed s.fed;
   next_is = s.next_is;
-  stays = λ input more off. s.stays input (back_ended t input more) off;
+  stays = λ input more off. s.stays input (cont_end t input more) off;
 }
 
 -- ---- the end of a frame
@@ -147,7 +136,7 @@ supplies_cut spreads j pool next count c plp t plan lt on e h = record {
   fed = h.fed;
   next_is = ap (λ (n : ℕ). n + 1) e;
   stays = λ input more off.
-      (gives_cut j pool c plp t count input on h (back_next t input more)).count_is
+      (gives_cut j pool c plp t count input on h (cont_next t input more)).count_is
       ∙ sym (told_same c plp t.frame input (spreads c plp plan.rules lt).0 off);
 }
 
@@ -158,7 +147,7 @@ pub supplies_pass : SpreadDividesFrames → (i j : Input) (pool : State) (sends 
 supplies_pass spreads i j pool sends next count c plp t plan lt off fed s = record {
   fed = fed s.fed;
   next_is = ap (λ (n : ℕ). n + 1) s.next_is;
-  stays = λ input more later. s.stays input (back_next t input more) off
+  stays = λ input more later. s.stays input (cont_next t input more) off
       ∙ sym (told_same c plp t.frame input (spreads c plp plan.rules lt).0 later);
 }
 

@@ -4,6 +4,9 @@ use Rattle.std.proofs.Common.{replicate, refl, ap, sym, subst, ◌∙◌, arith,
 use Rattle.std.specs.List.{last_or}
 use Rattle.std.proofs.lemmas.Grind.{flat_map-append}
 use Rattle.std.proofs.lemmas.List.{map-append}
+use Rattle.terms.proofs.ListLemmas.{last_is}
+use Rattle.gateway_core.proofs.InputsLemmas.{cont_next}
+use Rattle.gateway_core.proofs.HoldsLemmas.{cont_packet, cont_end}
 use Rattle.plp_config.specs.SlotTime.{slots_by}
 use Rattle.plp_config.specs.declared.config.Config.{Config}
 use Rattle.ts_packet.specs.Null.{null_packet}
@@ -23,21 +26,16 @@ use Rattle.region_swap.specs.Left.{own_list, left_of, IsOver, number_of}
 use Rattle.region_swap.specs.Making.{IsMadeFor}
 use Rattle.region_swap.specs.RegionFed.{GivesFrame, RegionStandsFor, region_told, Kept, kept_of}
 use Rattle.region_swap.specs.StandsFor.{wants_by, left_in, Swaps, SwapperStandsFor, wants_of}
-use Rattle.region_swap.specs.Supplied.{IsFed, wanted}
+use Rattle.gateway_core.specs.IsFed.{IsFed, wanted}
 use Rattle.region_swap.specs.Swapped.{swapped, swapped_frame, swapped_view}
 use Rattle.region_swap.specs.declared.dynamic.Dynamic.{Dynamic}
-use Rattle.region_swap.specs.declared.input.Input.{Input}
+use Rattle.gateway_core.specs.declared.input.Input.{Input}
 use Rattle.region_swap.specs.declared.place.Part.TheVariants.{Before}
 use Rattle.region_swap.specs.declared.place.SwapPlace.{SwapPlace}
 use Rattle.region_swap.specs.declared.region.Region.{Region}
 use Rattle.region_swap.specs.declared.swapper.Swapper.{Swapper}
 use Rattle.region_swap.proofs.LeftLemmas.{over_left, first_left, long_of}
-use Rattle.region_swap.proofs.RegionLemmas.{back_offered, back_ended, back_next, still}
-
--- the last of some frames
-pub last_is : {X : Type 0} (o : Option X) (xs : List X) (x : X) → last_or o (xs ++ x ∷ []) ≡ Some x
-last_is o [] x = refl
-last_is o (y ∷ xs) x = last_is (Some y) xs x
+use Rattle.region_swap.proofs.RegionLemmas.{still}
 
 -- ---- frames
 
@@ -122,7 +120,7 @@ swaps_offer c plp r q d flow place number false t packet frames given off some o
   flows = λ input more.
       subst (λ (l : List Body). Flows flow.outlet c (number_of place) l (remade_bodies c (swapped c plp input frames)) given)
       (over_same c plp place r q d d (last_or None frames) over)
-      (h.flows input (back_offered t packet input (still r.input c plp t _ some h.supplied.fed) more));
+      (h.flows input (cont_packet t packet input (still r.input c plp t _ some h.supplied.fed) more));
 }
 
 told_end : (b : Bool) (t : Told) → at_end (region_told b t) ≡ region_told b (at_end t)
@@ -145,7 +143,7 @@ swaps_end c plp r q d flow place number b t frames given kept fed h = record {
   offered = λ on. refl;
   flows = λ input more.
       subst (λ (l : List Body). Flows flow.outlet c (number_of place) l (remade_bodies c (swapped c plp input frames)) given)
-      (same_left c plp place r q d (last_or None frames) kept) (h.flows input (back_ended t input more));
+      (same_left c plp place r q d (last_or None frames) kept) (h.flows input (cont_end t input more));
 }
 
 -- ---- the next frame
@@ -160,7 +158,7 @@ swaps_pass c plp r q d flow place number b t frames given over fed h = record {
   offered = λ on. absurd (let z : false ≡ true = on in cc);
   flows = λ input more.
       subst (λ (l : List Body). Flows flow.outlet c (number_of place) l (remade_bodies c (swapped c plp input frames)) given)
-      (over_same c plp place r q d d (last_or None frames) over) (h.flows input (back_next t input more));
+      (over_same c plp place r q d d (last_or None frames) over) (h.flows input (cont_next t input more));
 }
 
 -- ---- units

@@ -1,7 +1,6 @@
 pub mod Swapped
 pub mod StandsFor
 -- inner: no public clause cites these
-pub mod Supplied
 pub mod RegionFed
 pub mod Telling
 pub mod Making

@@ -8,8 +8,8 @@ use Rattle.linked_pool.specs.Pool.{State, list_at}
 use Rattle.mode_adapt.specs.Blocks.{own_blocks, told_count}
 use Rattle.gateway_core.specs.InputSoFar.{Told, in_next, Continues}
 use Rattle.gateway_core.specs.Lists.{bits_in, AllShort}
-use Rattle.region_swap.specs.Supplied.{IsFed, most}
-use Rattle.region_swap.specs.declared.input.Input.{Input}
+use Rattle.gateway_core.specs.IsFed.{IsFed, most}
+use Rattle.gateway_core.specs.declared.input.Input.{Input}
 use Rattle.region_swap.specs.declared.region.Region.{Region}
 
 -- the blocks that the chain put already of a later interleaving frame: none while the list holds those of the frame before

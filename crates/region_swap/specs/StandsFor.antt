@@ -10,7 +10,7 @@ use Rattle.formed_frames.specs.Remade.{NumberedView, remade_bodies}
 use Rattle.gateway_core.specs.InputSoFar.{Told, Continues}
 use Rattle.region_swap.specs.Left.{left_of, own_list, number_of}
 use Rattle.region_swap.specs.RegionFed.{RegionStandsFor, region_told}
-use Rattle.region_swap.specs.Supplied as supply
+use Rattle.gateway_core.specs.IsFed as supply
 use Rattle.region_swap.specs.Swapped.{swapped}
 use Rattle.region_swap.specs.declared.dynamic.Dynamic.{Dynamic}
 use Rattle.region_swap.specs.declared.place.SwapPlace.{SwapPlace}

@@ -1,8 +1,6 @@
 // The dynamic part of a frame, made anew.
 ghost use Rattle.std.specs.Prelude.{◌≡◌, ◌≤◌, ◌+◌, length, vec_len, Some, None, if◌then◌else◌};
-ghost use Rattle.scheduler.specs.Laws.{CountsFit, FitsL1};
-ghost use Rattle.l1_signal.specs.L1Dynamic.{dyn_bits};
-ghost use Rattle.l1_signal.specs.L1Of.{dyn_of};
+ghost use Rattle.scheduler.specs.Laws.{CountsFit};
 ghost use Rattle.l1_signal.specs.Lengths.{conf_len, dyn_len};
 ghost use Rattle.l1_signal.specs.declared.lengths.TheConstants.{MOST_DYN_BITS};
 ghost use Rattle.frame_tests.specs.Readable.{told_dynamic};
@@ -11,7 +9,8 @@ ghost use Rattle.region_swap.specs.Telling.{TellsCounts};
 
 use bit_slice::{BitSlice, FixedBits, OutOfMemory};
 use frame_tests::{read_dynamic, tell_shape};
-use l1_signal::{L1Dyn, MOST_DYN_BYTES, conf_len, dyn_law, dyn_len, dyn_of, write_dyn};
+use gateway_core::write_dynamic;
+use l1_signal::{L1Dyn, MOST_DYN_BYTES, conf_len, dyn_len};
 use plp_config::Plan;
 use scheduler::{Shape, field_law, shape};
 use std::alloc::Global;
@@ -74,30 +73,6 @@ fn read_counts(
     copy_counts(told, counts);
 }
 
-// Writes the dynamic part of a frame of a shape.
-#[tactic(auto, unfolding(l1_signal::specs::L1Of::dyn_of))]
-fn write_bits(
-    plan: &Plan,
-    frame: u64,
-    shape: &Shape,
-    rows: &mut L1Dyn,
-    bits: &mut FixedBits<MOST_DYN_BYTES>,
-)
-    requires fits { FitsL1 shape.now }
-    requires shape { length shape.now.counts ≡ length plan.now.plps }
-    requires rows { length rows.old.plps ≡ length plan.now.plps }
-    ensures value { bits.new ≡ dyn_bits (dyn_of plan.now frame shape.now) }
-    ensures size { length bits.new ≡ dyn_len (length plan.now.plps) }
-    ensures rows { length rows.new.plps ≡ length plan.now.plps }
-{
-    dyn_law();
-    plan.rules_law();
-    dyn_of(plan, frame, shape, rows);
-    bits.clear();
-    // There is room for it.
-    write_dyn(bits, rows).unwrap();
-}
-
 impl Dynamic {
     ghost use Rattle.std.specs.Prelude.{◌≡◌, ◌<◌, ◌≤◌, ◌+◌, length, IfOk};
     ghost use Rattle.plp_config.specs.Plps.{plp_at};
@@ -140,6 +115,6 @@ impl Dynamic {
         );
         self.counts[plp] = count;
         shape(plan, &self.counts, &mut self.shape);
-        write_bits(plan, frame, &self.shape, &mut self.rows, &mut self.bits);
+        write_dynamic(plan, frame, &self.shape, &mut self.rows, &mut self.bits);
     }
 }

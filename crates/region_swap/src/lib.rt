@@ -2,7 +2,6 @@
 #![tactic(auto)]
 
 mod dynamic;
-mod input;
 mod place;
 mod region;
 mod swapper;

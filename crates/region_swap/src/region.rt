@@ -1,8 +1,8 @@
 // The packets of a region become blocks.
 ghost use Rattle.plp_config.specs.declared.moment.TheConstants.{MOST_FRAMES};
 
-use crate::input::Input;
 use bit_slice::OutOfMemory;
+use gateway_core::Input;
 use linked_pool::{Pool, frame_chunks};
 use plp_config::{Plan, spread_law};
 use std::alloc::Global;
@@ -29,7 +29,7 @@ impl Region {
     ghost use Rattle.plp_config.specs.InterleavingFrames.{is_first};
     ghost use Rattle.plp_config.specs.SlotTime.{slots_by};
     ghost use Rattle.gateway_core.specs.InputSoFar.{Told, with_packet, at_end, in_next, Continues};
-    ghost use Rattle.region_swap.specs.Supplied.{wanted};
+    ghost use Rattle.gateway_core.specs.IsFed.{wanted};
     ghost use Rattle.region_swap.specs.RegionFed.{RegionStandsFor, IsRegionOf, GivesFrame, kept_of};
 
     /// No packets yet, for the PLP at a place of a plan. No later call takes memory.

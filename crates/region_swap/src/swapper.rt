@@ -7,7 +7,7 @@ ghost use Rattle.gateway_core.specs.InputSoFar.{Told, in_next};
 ghost use Rattle.region_swap.specs.Inside.{AreParts};
 ghost use Rattle.region_swap.specs.Making.{IsMadeFor, plps_in};
 ghost use Rattle.region_swap.specs.RegionFed.{RegionStandsFor, IsRegionOf, region_told};
-ghost use Rattle.region_swap.specs.Supplied.{wanted};
+ghost use Rattle.gateway_core.specs.IsFed.{wanted};
 
 use crate::dynamic::Dynamic;
 use crate::place::{SwapPlace, SwappedFrame};

@@ -1,10 +1,11 @@
 -- How many bytes a frame gives with the PLP replaced.
-use Rattle.std.proofs.Common.{◌≡◌, ℕ, ◌+◌, ◌-◌, ◌*◌, ◌%◌, ◌==◌, ◌<◌, ◌≤◌, Bool, true, false, cond, List, [], ◌∷◌, ◌++◌, length, Option, Some, None}
-use Rattle.std.proofs.Common.{refl, arith, length-append}
-use Rattle.std.specs.Prelude.{nat_le, nat_lt, ◌&&◌, ◌||◌}
+use Rattle.std.proofs.Common.{◌≡◌, ℕ, ◌+◌, ◌-◌, ◌*◌, ◌%◌, ◌==◌, ◌<◌, ◌≤◌, Bool, true, false, cond, List, [], ◌∷◌, ◌++◌, length, None}
+use Rattle.std.proofs.Common.{arith, length-append}
+use Rattle.std.specs.Prelude.{nat_le, nat_lt, ◌&&◌}
 use Rattle.std.specs.List.{filter}
 use Rattle.std.proofs.lemmas.List.{length-map}
 use Rattle.terms.proofs.CaseLemmas.{bool_cases}
+use Rattle.std.proofs.lemmas.Bool.{or_parts}
 use Rattle.plp_config.specs.Capacity.{IsPlan}
 use Rattle.plp_config.specs.InterleavingFrames.{interleaving_frame, is_first}
 use Rattle.plp_config.specs.Laws.{FieldRange}
@@ -24,22 +25,18 @@ use Rattle.frame_writer.specs.FramePackets.{with_stamp}
 use Rattle.formed_frames.specs.Formed.{IsFormed}
 use Rattle.formed_frames.specs.Remade.{record_bodies, view_bodies, signal_of}
 use Rattle.frame_laws.proofs.BlockLemmas.{count_at}
-use Rattle.merge_run.proofs.BoundLemmas.{few_bodies}
+use Rattle.merge_run.proofs.BoundLemmas.{few_bodies, bodies_count, stamp_count}
 use Rattle.region_swap.specs.StandsFor.{has_unit, bytes_left}
 use Rattle.region_swap.specs.Swapped.{swapped_view, swapped_counts, post_with_counts, replaced, blocks_among, input_blocks, is_among}
 use Rattle.region_swap.specs.declared.swapper.Swapper.{Swapper}
 use Rattle.swap_run.specs.Shown.{frame_bytes}
 
-neither : (a b : Bool) → (a || b) ≡ false → a ≡ false
-neither false b e = refl
-neither true b e = absurd (let z : true ≡ false = e in cc)
-
 -- if no unit is complete, fewer bytes wait than one has
 pub idle_left : (s : Swapper) → has_unit s ≡ false → bytes_left s None < 184
 idle_left s idle =
-    let off = neither (nat_le PAYLOAD (at_hand s.flow.outlet)) (is_finished s.flow.outlet.piper && nat_lt 0 (piper_waiting s.flow.outlet.piper))
+    let off = or_parts (nat_le PAYLOAD (at_hand s.flow.outlet)) (is_finished s.flow.outlet.piper && nat_lt 0 (piper_waiting s.flow.outlet.piper))
     idle in
-    less (at_hand s.flow.outlet) off
+    less (at_hand s.flow.outlet) off.0
   where
     less : (n : ℕ) → nat_le PAYLOAD n ≡ false → n + 0 < 184
     less n e = grind (arith)
@@ -49,13 +46,6 @@ filter_few test [] = omega arith
 filter_few test (b ∷ blocks) =
     let rest = filter_few test blocks in
     bool_cases (test b) (λ on. rw on (omega (arith, rest))) (λ off. rw off (omega (arith, rest)))
-
-bodies_count : (frame_idx : ℕ) (before : Option ℕ) (blocks : List Block) → length (record_bodies frame_idx before blocks) ≡ length blocks
-bodies_count frame_idx before [] = refl
-bodies_count frame_idx before (b ∷ blocks) = omega (arith, bodies_count frame_idx (Some b.plp_id) blocks)
-
-stamp_most : (c : Config) (n : ℕ) (bodies : List Body) → length (with_stamp c n bodies) ≤ length bodies + 1
-stamp_most c n bodies = bool_cases (n % c.frames == 0) (λ e. rw e (omega arith)) (λ e. rw e (omega arith))
 
 stamp_least : (c : Config) (n : ℕ) (bodies : List Body) → length bodies ≤ length (with_stamp c n bodies)
 stamp_least c n bodies = bool_cases (n % c.frames == 0) (λ e. rw e (omega arith)) (λ e. rw e (omega arith))
@@ -88,7 +78,7 @@ few_swapped field told c plp n input (Frame moment pre post blocks cells) plan l
     let front : List Block = blocks_among c 0 plp blocks in
     let behind : List Block = blocks_among c (plp + 1) (length c.plps - (plp + 1)) blocks in
     let post_now : List _ = post_with_counts c n (swapped_counts c plp input n post) post in
-    let most = stamp_most c n (signal_of c n pre post_now ∷ record_bodies (n % c.frames) None (replaced c plp own blocks)) in
+    let most = stamp_count c n (signal_of c n pre post_now ∷ record_bodies (n % c.frames) None (replaced c plp own blocks)) in
     let now = bodies_count (n % c.frames) None (replaced c plp own blocks) in
     let a = length-append front own in
     let b = length-append (front ++ own) behind in

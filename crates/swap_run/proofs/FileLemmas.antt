@@ -1,24 +1,27 @@
 -- What is known of two files by what was fed of them.
 use Rattle.std.proofs.Common.{◌≡◌, ◌≢◌, ◌⊎◌, ℕ, ◌+◌, ◌-◌, ◌*◌, ◌<◌, ◌≤◌, Bool, true, false, List, [], ◌∷◌, ◌++◌, length, take, Option, Some, None}
-use Rattle.std.proofs.Common.{refl, ap, sym, subst, ◌∙◌, inl, inr, arith, append-nil, length-append}
+use Rattle.std.proofs.Common.{refl, ap, sym, subst, ◌∙◌, inl, inr, arith, append-nil, append_assoc, length-append}
 use Rattle.std.specs.Prelude.{slice_index}
-use Rattle.std.proofs.lemmas.Bool.{true≢false, lt-ltb}
-use Rattle.std.proofs.lemmas.List.{take_at}
+use Rattle.std.proofs.lemmas.Bool.{true≢false}
+use Rattle.std.proofs.lemmas.List.{take_at, take-append-le}
 use Rattle.terms.proofs.CaseLemmas.{bool_cases}
+use Rattle.ts_packet.proofs.JoinedLemmas.{joined_append}
+use Rattle.modulator.proofs.WaitLemmas.{front_due}
 use Rattle.plp_config.specs.Laws.{CountRises, SlotLength}
 use Rattle.plp_config.specs.SlotTime.{slots_by}
 use Rattle.plp_config.specs.declared.config.Config.{Config}
 use Rattle.plp_config.specs.declared.moment.TheConstants.{MOST_FRAMES}
 use Rattle.ts_packet.specs.TsFile.{joined, packets_in}
 use Rattle.ts_packet.specs.declared.sizes.TheConstants.{SIZE}
+use Rattle.frame_groups.specs.Laws.{IsPrefix}
 use Rattle.frame_groups.specs.Modulated.{FrameRecord}
 use Rattle.frame_groups.specs.declared.waiting.Waiting.{Waiting}
 use Rattle.modulator.specs.Laws.{DueFront, DueFollow}
-use Rattle.modulator.specs.StandsFor.{records_due}
+use Rattle.modulator.specs.StandsFor.{records_due, records_of}
+use Rattle.t2mi_stream.specs.Complete.{complete_units}
 use Rattle.t2mi_stream.specs.CompleteLaws.{CompleteLaw}
 use Rattle.t2mi_stream.specs.Pipe.{pipe, units_in}
 use Rattle.formed_frames.specs.Remade.{NumberedView, remade_packets}
-use Rattle.feed_merge.specs.Laws.{AllBelow}
 use Rattle.feed_merge.specs.Picks.{above_all}
 use Rattle.frame_feed.specs.StandsFor.{IsFirst, waiting_of}
 use Rattle.frame_feed.specs.StandsFor as feed
@@ -26,18 +29,19 @@ use Rattle.file_run.specs.Events.{Event, fed, has_ended, gave}
 use Rattle.file_run.specs.FileRun.{AreFed, IsFed}
 use Rattle.gateway_core.specs.InputSoFar.{Continues}
 use Rattle.gateway_run.proofs.FileLemmas.{NextIsBad}
-use Rattle.merge_run.specs.MergeRun.{AreEarly, records_of}
+use Rattle.merge_run.specs.MergeRun.{AreEarly}
 use Rattle.merge_run.specs.Shown.{NoneComes}
 use Rattle.merge_run.proofs.FeedLemmas.{IsDue, due_of, waits_above}
 use Rattle.merge_run.proofs.NumberLemmas.{below_of, above_append, below_append}
-use Rattle.merge_run.proofs.SendLemmas.{joined_append}
+use Rattle.merge_run.proofs.SendLemmas.{given_front}
 use Rattle.merge_run.proofs.SplitLemmas as split
+use Rattle.t2mi_stream.proofs.CompleteLemmas.{shorter_front}
 use Rattle.region_swap.specs.StandsFor.{Status, status_of, wants_of}
 use Rattle.region_swap.specs.Swapped.{swapped}
-use Rattle.swap_run.specs.Shown.{Read, Shown, HasCaughtUp, IsIn, InRecords, InPackets, InDrains, IsDone, IsBehindAll, IsWanted, finished_in}
+use Rattle.swap_run.specs.Shown.{Read, Shown, HasCaughtUp, IsIn, IsDone, IsBehindAll, IsWanted, finished_in}
 use Rattle.swap_run.specs.Shown as shown
-use Rattle.swap_run.specs.SwapRun.{frames_in, packets_of, units_of, complete_of, slots_of, below, counted, WantBad, SwapsAll, HasNone, MeetsBad}
-use Rattle.swap_run.specs.SwapRun.{HasLate, HasSwapped, WantsMore}
+use Rattle.swap_run.specs.SwapRun.{frames_in, packets_of, units_of, complete_of, slots_of, counted, WantBad, SwapsAll, HasNone, MeetsBad}
+use Rattle.swap_run.specs.SwapRun.{HasLate, HasSwapped, WantsMore, AreWritten, MayWrite}
 use Rattle.swap_run.specs.declared.phase.Phase.{Phase}
 use Rattle.swap_run.specs.declared.phase.Phase.TheVariants as phase
 use Rattle.swap_run.specs.declared.stop.Ran.{Ran}
@@ -59,10 +63,6 @@ ran_same r f m u n a b d e =
     (subst (λ (x : ℕ). r ≡ (let y : Ran = record { frames = r.frames; muted = x; unsent = u; units = n } in y)) b
     (subst (λ (x : ℕ). r ≡ (let y : Ran = record { frames = r.frames; muted = r.muted; unsent = x; units = n } in y)) d
     (subst (λ (x : ℕ). r ≡ (let y : Ran = record { frames = r.frames; muted = r.muted; unsent = r.unsent; units = x } in y)) e refl)))
-
-below_both : (n : ℕ) (xs ys : List FrameRecord) → AllBelow n xs → below n (xs ++ ys) ≡ xs ++ below n ys
-below_both n [] ys all = refl
-below_both n (x ∷ xs) ys all = rw (lt-ltb x.number n all.0) (ap (λ (l : List FrameRecord). x ∷ l) (below_both n xs ys all.1))
 
 module _ (front : DueFront) (follow : DueFollow) (law : CompleteLaw) (rises : CountRises) (slot : SlotLength) (c : Config) (plp : ℕ)
     (m : Swapping) (events : List Event) (s : Shown c plp events m) (files : ℕ → List ℕ) (places : List ℕ)
@@ -92,7 +92,7 @@ module _ (front : DueFront) (follow : DueFollow) (law : CompleteLaw) (rises : Co
   d = due_of c m.feed (fed 0 events) (has_ended 0 events) r.given s.of_feed
 
   abbrev more : List FrameRecord
-  more = (split.due_front front c (has_ended 0 events) (files 0) (fed 0 events) fed_t2mi.more fed_t2mi.parts fed_t2mi.end).0
+  more = (front_due front c (has_ended 0 events) (files 0) (fed 0 events) fed_t2mi.more fed_t2mi.parts fed_t2mi.end).0
 
   -- the record that waits is the next
   record Follows (w : Waiting) : Type 0 where
@@ -301,8 +301,17 @@ module _ (front : DueFront) (follow : DueFollow) (law : CompleteLaw) (rises : Co
           ∙ ap (λ (b : Bool). records_due c b (fed 0 events)) (sym going ∙ s.of_feed.stands.end) ∙ d.all
           ∙ ap (λ (l : List FrameRecord). r.given ++ l) later ∙ append-nil r.given
 
-  pub wants_packets : (place : ℕ) → (e : m.phase ≡ phase.Packets) → 0 < wants_of m.swapper → place < SIZE * (m.taken + 1) → WantsMore c plp place files (gave events)
-  wants_packets place e some near =
+  -- the frames of the records that were given want no more than was read
+  had_read : (place : ℕ) → r.told.ended ≡ false → SIZE * m.taken ≤ place → SIZE * slots_of c plp r.given ≤ place
+  had_read place off read =
+      let had = s.had off in
+      let count = s.of_input.count in
+      let sum = length-append r.told.packets r.rest in
+      omega (arith, had, count, sum, read)
+
+  pub wants_packets : (place : ℕ) → (e : m.phase ≡ phase.Packets) → 0 < wants_of m.swapper → SIZE * m.taken ≤ place
+      → place < SIZE * (m.taken + 1) → WantsMore c plp place files (gave events)
+  wants_packets place e some read near =
       let i = in_packets c plp events m s e in
       let w = i.waiting in
       let f = follows w i.waits in
@@ -319,13 +328,15 @@ module _ (front : DueFront) (follow : DueFollow) (law : CompleteLaw) (rises : Co
         parts = f.parts;
         early = early_next w i.waits i.early i.behind;
         some = some_next w i.waits i.early i.behind;
+        had = had_read place h.off read;
         wanted = λ _. omega (arith, near, less, slots, count, sum, none);
         unread = omega (arith, near, most, count);
         output = complete i.caught (finished_is phase.Packets e);
       }
 
-  pub wants_rest : (place : ℕ) → (e : m.phase ≡ phase.Drains) → place < SIZE * (m.taken + 1) → WantsMore c plp place files (gave events)
-  wants_rest place e near =
+  pub wants_rest : (place : ℕ) → (e : m.phase ≡ phase.Drains) → m.ended ≡ false → SIZE * m.taken ≤ place → place < SIZE * (m.taken + 1)
+      → WantsMore c plp place files (gave events)
+  wants_rest place e going read near =
       let i = in_drains c plp events m s e in
       let most = few in
       let count = s.of_input.count in
@@ -335,10 +346,14 @@ module _ (front : DueFront) (follow : DueFollow) (law : CompleteLaw) (rises : Co
         parts = all_given i.behind.none ∙ sym (append-nil r.given);
         early = subst AreEarly (sym (append-nil r.given)) (early_below (behind_above i.behind));
         some = behind_some i.behind;
+        had = had_read place open_still read;
         wanted = λ some. absurd (some refl);
         unread = omega (arith, near, most, count);
         output = complete i.caught (finished_is phase.Drains e);
       }
+    where
+      open_still : r.told.ended ≡ false
+      open_still = bool_cases r.told.ended (λ on. absurd (true≢false (sym (s.of_input.told on).0 ∙ going))) (λ off. off)
 
   -- ---- some were given
 
@@ -363,57 +378,114 @@ module _ (front : DueFront) (follow : DueFollow) (law : CompleteLaw) (rises : Co
               omega (arith, a, e)
           met (inr b) = behind_above b
 
-  -- once no more frames come, the file ended
-  over_in : (p : Phase) → IsIn c plp m r (has_ended 1 events) p → finished_in p ≡ true → NoneComes m.feed
+  -- once no more frames come, both files ended
+  record AreOver : Type 0 where
+    none : NoneComes m.feed
+    over : m.ended ≡ true
+    whole : r.tail ≡ []
+
+  over_in : (p : Phase) → IsIn c plp m r (has_ended 1 events) p → finished_in p ≡ true → AreOver
   over_in phase.Records i over = absurd (true≢false (sym over))
   over_in phase.Packets i over = absurd (true≢false (sym over))
   over_in phase.Units i over = absurd (true≢false (sym over))
   over_in phase.Drains i over = absurd (true≢false (sym over))
-  over_in phase.Rests i over = i.behind.none
-  over_in phase.Done i over = i.behind.none
+  over_in phase.Rests i over = record { none = i.behind.none; over = i.over; whole = i.whole }
+  over_in phase.Done i over = record { none = i.behind.none; over = i.over; whole = i.whole }
   over_in (phase.Stopped why) i over = absurd (true≢false (sym over))
 
-  abbrev after : List FrameRecord
-  after = d.later ++ more
+  abbrev packets : List (List ℕ)
+  packets = packets_of c plp input r.given
 
-  record MayFollow : Type 0 where
-    later : List (List ℕ)
-    packets : packets_of c plp input (below MOST_FRAMES (records_of c (files 0))) ≡ remade_packets c (swapped c plp input frames) ++ later
-    none : (status_of m.swapper).finished ≡ true → later ≡ []
-
-  may_follow : MayFollow
-  may_follow = bool_cases (status_of m.swapper).finished ended going
+  -- what was given is a front of what may be written
+  pub gave_front : (rest : List ℕ) × MayWrite c plp files (gave events ++ rest)
+  gave_front = bool_cases (status_of m.swapper).finished ended going
     where
-      ended : (status_of m.swapper).finished ≡ true → MayFollow
+      -- some units, and more behind what was given
+      gave_more : (rest : List (List ℕ)) → gave events ++ joined rest ≡ joined (s.sends.units ++ rest)
+      gave_more rest = ap (λ (l : List ℕ). l ++ joined rest) s.sends.gave_is ∙ sym (joined_append s.sends.units rest)
+
+      ended : (status_of m.swapper).finished ≡ true → (rest : List ℕ) × MayWrite c plp files (gave events ++ rest)
       ended over =
-          let all = all_given (over_in m.phase s.is_in (sym (finished_is m.phase refl) ∙ over)) in
-          let kept : below MOST_FRAMES r.given ≡ r.given =
-          ap (below MOST_FRAMES) (sym (append-nil r.given)) ∙ below_both MOST_FRAMES r.given [] (early_below above_few) ∙ append-nil r.given in
-          record {
-            later = [];
-            packets = ap (λ (l : List FrameRecord). packets_of c plp input (below MOST_FRAMES l)) all ∙ ap (packets_of c plp input) kept
-                ∙ sym (append-nil (remade_packets c (swapped c plp input frames)));
-            none = λ _. refl;
-          }
+          let o = over_in m.phase s.is_in (sym (finished_is m.phase refl) ∙ over) in
+          let all = all_given o.none in
+          let p = s.sends.front input cont [] (λ _. refl) in
+          let units : s.sends.units ++ p.0 ≡ units_of c plp files =
+          sym p.1 ∙ ap (pipe c.pid) (append-nil packets) ∙ ap (λ (l : List FrameRecord). pipe c.pid (packets_of c plp input l)) (sym all) in (
+            joined p.0,
+            record {
+              before = r.given;
+              after = [];
+              parts = all ∙ sym (append-nil r.given);
+              early = early_below above_few;
+              unwanted = unwanted;
+              output = inr (
+                refl,
+                nothing_bad (files 1) (slice_index places 1) (fed 1 events) (has_ended 1 events) fed_input r.told r.rest r.tail m.taken m.ended
+                    s.of_input o.over o.whole,
+                gave_more p.0 ∙ ap joined units,
+              );
+            },
+          )
 
-      going : (status_of m.swapper).finished ≡ false → MayFollow
+      going : (status_of m.swapper).finished ≡ false → (rest : List ℕ) × MayWrite c plp files (gave events ++ rest)
       going off =
-          let all : records_of c (files 0) ≡ r.given ++ after =
-          split.behind front follow c m.feed (files 0) (slice_index places 0) (fed 0 events) (has_ended 0 events) r.given fed_t2mi s.of_feed in
-          let kept = ap (below MOST_FRAMES) all ∙ below_both MOST_FRAMES r.given after (early_below above_few) in
-          let q = more_packets c plp input frames (frames_in c (below MOST_FRAMES after)) in
-          record {
-            later = q.0;
-            packets = ap (packets_of c plp input) kept
-                ∙ ap (λ (l : List NumberedView). remade_packets c (swapped c plp input l)) (frames_append c r.given (below MOST_FRAMES after)) ∙ q.1;
-            none = λ over. absurd (true≢false (sym over ∙ off));
-          }
+          let p = s.sends.front input cont [] (λ over. absurd (true≢false (sym over ∙ off))) in
+          let l = law c.pid packets [] in
+          let count = s.sends.count_is in
+          let whole = s.sends.whole off input cont in
+          let f = shorter_front s.sends.units (complete_units c.pid packets) p.0 l.rest (sym p.1 ∙ l.units) (omega (arith, count, whole)) in (
+            joined f.0,
+            record {
+              before = r.given;
+              after = d.later ++ more;
+              parts = split.behind front follow c m.feed (files 0) (slice_index places 0) (fed 0 events) (has_ended 0 events) r.given fed_t2mi
+                  s.of_feed;
+              early = early_below above_few;
+              unwanted = unwanted;
+              output = inl (gave_more f.0 ∙ ap joined (sym f.1));
+            },
+          )
 
-  pub gave_front : (rest : List ℕ) × (joined (pipe c.pid (packets_of c plp input (below MOST_FRAMES (records_of c (files 0))))) ≡ gave events ++ rest)
-  gave_front =
-      let f = may_follow in
-      let p = s.sends.front input cont f.later f.none in (
-        joined p.0,
-        ap (λ (l : List (List ℕ)). joined (pipe c.pid l)) f.packets ∙ ap joined p.1 ∙ joined_append s.sends.units p.0
-            ∙ ap (λ (l : List ℕ). l ++ joined p.0) (sym s.sends.gave_is),
-      )
+  -- ---- how far the T2-MI stream was read
+
+  -- of records that are among those whose complete units were given
+  written_front : (records : List FrameRecord) → IsPrefix records s.live.sent → AreWritten c plp files (gave events) records
+  written_front records u =
+      let v = s.live.part in
+      let given_is : r.given ≡ records ++ (u.0 ++ v.0) =
+      v.1 ∙ ap (λ (l : List FrameRecord). l ++ v.0) u.1 ∙ append_assoc records u.0 v.0 in
+      let few : List (List ℕ) = packets_of c plp input records in
+      let more = more_packets c plp input (frames_in c records) (frames_in c u.0) in
+      let sent : packets_of c plp input s.live.sent ≡ few ++ more.0 =
+      ap (packets_of c plp input) u.1
+      ∙ ap (λ (l : List NumberedView). remade_packets c (swapped c plp input l)) (frames_append c records u.0) ∙ more.1 in
+      let rest = more_packets c plp input (frames_in c s.live.sent) (frames_in c v.0) in
+      let packets : packets_of c plp input r.given ≡ (few ++ more.0) ++ rest.0 =
+      ap (packets_of c plp input) v.1
+      ∙ ap (λ (l : List NumberedView). remade_packets c (swapped c plp input l)) (frames_append c s.live.sent v.0) ∙ rest.1
+      ∙ ap (λ (l : List (List ℕ)). l ++ rest.0) sent in
+      let p = s.sends.front input cont [] (λ _. refl) in
+      let count = s.sends.count_is in
+      let done = subst (λ (l : List (List ℕ)). length (complete_units c.pid l) ≤ m.ran.units) sent (s.live.done input cont) in
+      let f = given_front law c.pid few more.0 rest.0 s.sends.units p.0 (omega (arith, done, count))
+      (ap (pipe c.pid) (sym packets ∙ sym (append-nil (packets_of c plp input r.given))) ∙ p.1) in
+      let above = above_append records (u.0 ++ v.0) in
+      let size = ap above_all given_is in
+      let most = above_few in
+      record {
+        early = early_of records (omega (arith, above, size, most));
+        front = (joined f.0, s.sends.gave_is ∙ ap joined f.1 ∙ joined_append (complete_units c.pid few) f.0);
+      }
+    where
+      early_of : (xs : List FrameRecord) → above_all xs ≤ MOST_FRAMES → AreEarly xs
+      early_of xs le = below_of MOST_FRAMES xs le
+
+  pub since : (taken : ℕ) → taken < length (fed 0 events) → AreWritten c plp files (gave events) (records_due c false (take taken (files 0)))
+  since taken lt =
+      let same : take taken (files 0) ≡ take taken (fed 0 events) =
+      ap (take taken) fed_t2mi.parts ∙ take-append-le taken (fed 0 events) fed_t2mi.more (omega (arith, lt)) in
+      subst (λ (l : List ℕ). AreWritten c plp files (gave events) (records_due c false l)) (sym same)
+      (written_front (records_due c false (take taken (fed 0 events))) (s.live.due taken lt))
+
+  pub fed_count : feed.fed_of m.feed ≡ length (fed 0 events)
+  fed_count = s.of_feed.stands.count

@@ -6,6 +6,7 @@ use Rattle.std.specs.List.{AllByRecursion}
 use Rattle.std.proofs.Math.Nat.{mul-le-mul_right}
 use Rattle.std.proofs.lemmas.Bool.{true≢false, lt-ltb}
 use Rattle.terms.proofs.OptionLemmas.{some_injective, none_some}
+use Rattle.gateway_core.proofs.InputsLemmas.{cont_next}
 use Rattle.plp_config.specs.Capacity.{IsPlan}
 use Rattle.plp_config.specs.Laws.{CountRises, SlotLength, FieldRange}
 use Rattle.plp_config.specs.SlotTime.{num, den, slots_by}
@@ -38,7 +39,6 @@ use Rattle.merge_run.proofs.NumberLemmas.{above_append}
 use Rattle.region_swap.specs.StandsFor.{SwapperStandsFor, Status, status_of, wants_of, frame_of, has_unit, is_fed, bytes_left}
 use Rattle.region_swap.specs.declared.swapper.Swapper.{Swapper}
 use Rattle.region_swap.specs.Swapped.{swapped, swapped_view}
-use Rattle.region_swap.proofs.RegionLemmas.{back_next}
 use Rattle.swap_run.specs.Sending.{Begins, GivesUnit, GivesNone}
 use Rattle.swap_run.specs.Shown.{ReadsPackets, Sends, HasCaughtUp, IsHolding, Read, InPackets}
 use Rattle.swap_run.specs.Shown.{IsIn, Shown, more_units, next_in, frame_bytes}
@@ -52,6 +52,7 @@ use Rattle.swap_run.proofs.BoundLemmas.{idle_left, few_swapped}
 use Rattle.swap_run.proofs.PacketLemmas.{reads_same}
 use Rattle.swap_run.proofs.SendLemmas.{frames_push, sends_told, caught_told, sends_begun, sends_next, sends_over}
 use Rattle.swap_run.proofs.ShownLemmas.{Same, status_in, feed_same, sends_same, in_records, in_packets, in_units, in_drains, in_rests, all_there}
+use Rattle.swap_run.proofs.LiveLemmas.{live_on, live_push}
 
 -- as many slots are over at a later frame
 pub slots_rise : CountRises → SlotLength → (c : Config) (plp a b : ℕ) → IsPlan c → plp < length c.plps → a ≤ b
@@ -95,6 +96,7 @@ module _ (c : Config) (plp : ℕ) (events : List Event) (m : Swapping) (s : Show
         joined = s.counts.joined;
         units = units;
       };
+      live = s.live;
       is_in = is;
     }
 
@@ -189,7 +191,7 @@ module _ (c : Config) (plp : ℕ) (events : List Event) (m : Swapping) (s : Show
   read_next o = record { parts = o.parts; each = o.each; count = o.count; end = o.end; told = o.told }
 
   back : (input : List (List ℕ)) → Continues (in_next r.told) input → Continues r.told input
-  back input cont = back_next r.told input cont
+  back input cont = cont_next r.told input cont
 
   -- one that has no record
   pub shown_pass : CountRises → SlotLength → (q : Swapper) (w : Waiting) → m.phase ≡ phase.Packets → waiting_of m.feed ≡ Some w → m.number < w.frame
@@ -234,6 +236,7 @@ module _ (c : Config) (plp : ℕ) (events : List Event) (m : Swapping) (s : Show
               (let u = subst (λ (p : Phase). m.ran.units + more_units p m.swapper m.«record» ≤ next_in p m.number * frame_bytes + 184) e
               s.counts.units in omega (arith, u));
         };
+        live = live_on c plp _ _ r.told (in_next r.told) r.given m.ran.units m.ran.units refl back (omega arith) s.live;
         is_in = subst (IsIn c plp now read (has_ended 1 events)) (sym e) (record {
           caught = caught_told c plp m.swapper q r.told (in_next r.told) (frames_in c r.given) m.ran.units back unit i.caught;
           waiting = w;
@@ -331,6 +334,8 @@ module _ (c : Config) (plp : ℕ) (events : List Event) (m : Swapping) (s : Show
           units = (let u = subst (λ (p : Phase). m.ran.units + more_units p m.swapper m.«record» ≤ next_in p m.number * frame_bytes + 184) e
               s.counts.units in omega (arith, u));
         };
+        live = live_on c plp _ _ r.told (in_next r.told) (r.given ++ x ∷ []) m.ran.units m.ran.units refl back (omega arith)
+            (live_push c plp (fed 0 events) r.told r.given x m.ran.units s.live);
         is_in = record {
           caught = subst (λ (l : List NumberedView). HasCaughtUp c plp q (in_next r.told) l m.ran.units) (sym frames) caught;
           next = sym above;
@@ -473,6 +478,7 @@ module _ (c : Config) (plp : ℕ) (events : List Event) (m : Swapping) (s : Show
           units = (let u = subst (λ (p : Phase). m.ran.units + more_units p m.swapper m.«record» ≤ next_in p m.number * frame_bytes + 184) e
               s.counts.units in omega (arith, u, held, number_same, bound, bodies, body_same, idle));
         };
+        live = live_push c plp (fed 0 events) r.told r.given x m.ran.units s.live;
         is_in = record {
           holds = record {
             before = frames_in c r.given;
@@ -586,6 +592,10 @@ module _ (c : Config) (plp : ℕ) (events : List Event) (m : Swapping) (s : Show
             (sym parts)
             (g.next c plp r.told h.before m.ran.units
             (subst (λ (l : List NumberedView). SwapperStandsFor m.swapper c plp r.told l m.ran.units) parts s.sends.stands) input cont later over))
+            (λ off input cont.
+            subst (λ (l : List NumberedView). m.ran.units < length (complete_units c.pid (remade_packets c (swapped c plp input l)))) (sym parts)
+            (g.complete off c plp r.told h.before m.ran.units
+            (subst (λ (l : List NumberedView). SwapperStandsFor m.swapper c plp r.told l m.ran.units) parts s.sends.stands) input cont))
             stands s.sends);
         status = status ∙ s.status;
         counts = record {
@@ -599,6 +609,7 @@ module _ (c : Config) (plp : ℕ) (events : List Event) (m : Swapping) (s : Show
               (let u = subst (λ (p : Phase). m.ran.units + more_units p m.swapper m.«record» ≤ next_in p m.number * frame_bytes + 184) e
               s.counts.units in omega (arith, u, less, more_old, more_new));
         };
+        live = live_on c plp _ _ r.told r.told r.given m.ran.units (m.ran.units + 1) zero.fed_is (λ _ cont. cont) (omega arith) s.live;
         is_in = subst (IsIn c plp (record m { swapper = q; ran = record m.ran { units = m.ran.units + 1 } }) r (has_ended 1 more)) (sym e) (record {
           holds = record {
             before = h.before;
@@ -662,6 +673,7 @@ module _ (c : Config) (plp : ℕ) (events : List Event) (m : Swapping) (s : Show
           units = (let u = subst (λ (x : Phase). m.ran.units + more_units x m.swapper m.«record» ≤ next_in x m.number * frame_bytes + 184) e
               s.counts.units in omega (arith, u));
         };
+        live = live_on c plp _ _ r.told (in_next r.told) r.given m.ran.units m.ran.units zero.fed_is back (omega arith) s.live;
         is_in = record {
           caught = record {
             idle = unit ∙ g.idle;
@@ -711,6 +723,7 @@ module _ (c : Config) (plp : ℕ) (events : List Event) (m : Swapping) (s : Show
           units = (let u = subst (λ (x : Phase). m.ran.units + more_units x m.swapper m.«record» ≤ next_in x m.number * frame_bytes + 184) e
               s.counts.units in omega (arith, u, left, idle));
         };
+        live = s.live;
         is_in = record {
           all_fed = all_fed;
           behind = record { none = i.behind.none; some = i.behind.some; next = i.behind.next; few = i.behind.few };
@@ -748,6 +761,7 @@ module _ (c : Config) (plp : ℕ) (events : List Event) (m : Swapping) (s : Show
             ∙ ap (λ (l : List (List ℕ)). slice_get (pipe c.pid l) m.ran.units)
             (append-nil (remade_packets c (swapped c plp input (frames_in c r.given))))
             ∙ next c plp r.told (frames_in c r.given) m.ran.units s.sends.stands input cont)
+            (λ off. absurd (true≢false (sym over_is ∙ off)))
             (stands c plp r.told (frames_in c r.given) m.ran.units s.sends.stands) s.sends);
         status = status ∙ s.status;
         counts = record {
@@ -761,6 +775,7 @@ module _ (c : Config) (plp : ℕ) (events : List Event) (m : Swapping) (s : Show
               (let u = subst (λ (p : Phase). m.ran.units + more_units p m.swapper m.«record» ≤ next_in p m.number * frame_bytes + 184) e
               s.counts.units in omega (arith, u, less));
         };
+        live = live_on c plp _ _ r.told r.told r.given m.ran.units (m.ran.units + 1) zero.fed_is (λ _ cont. cont) (omega arith) s.live;
         is_in = subst (IsIn c plp (record m { swapper = q; ran = record m.ran { units = m.ran.units + 1 } }) r (has_ended 1 more)) (sym e) (record {
           all_fed = all_fed;
           behind = record { none = i.behind.none; some = i.behind.some; next = i.behind.next; few = i.behind.few };
@@ -805,6 +820,7 @@ module _ (c : Config) (plp : ℕ) (events : List Event) (m : Swapping) (s : Show
           units = (let u = subst (λ (x : Phase). m.ran.units + more_units x m.swapper m.«record» ≤ next_in x m.number * frame_bytes + 184) e
               s.counts.units in omega (arith, u));
         };
+        live = live_on c plp _ _ r.told r.told r.given m.ran.units m.ran.units zero.fed_is (λ _ cont. cont) (omega arith) s.live;
         is_in = record {
           all = λ input cont. all c plp r.told (frames_in c r.given) m.ran.units s.sends.stands input cont;
           behind = record { none = i.behind.none; some = i.behind.some; next = i.behind.next; few = i.behind.few };

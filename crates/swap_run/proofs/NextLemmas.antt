@@ -5,10 +5,8 @@ use Rattle.plp_config.specs.Laws.{CountRises, SlotLength}
 use Rattle.plp_config.specs.SlotTime.{slots_by}
 use Rattle.plp_config.specs.declared.config.Config.{Config}
 use Rattle.plp_config.specs.declared.moment.TheConstants.{MOST_FRAMES}
-use Rattle.ts_packet.specs.TsFile.{begins_with_packet}
-use Rattle.ts_packet.specs.declared.sizes.TheConstants.{SIZE, SYNC}
-use Rattle.std.specs.Prelude.{IsSome, is_some, slice_index, ◌&&◌, ◌==◌}
-use Rattle.std.proofs.lemmas.Bool.{lt-leb, true≢false}
+use Rattle.std.specs.Prelude.{IsSome, is_some, ◌==◌}
+use Rattle.std.proofs.lemmas.Bool.{true≢false}
 use Rattle.frame_groups.specs.declared.cause.MuteCause.{MuteCause}
 use Rattle.frame_groups.specs.declared.waiting.Waiting.{Waiting}
 use Rattle.file_run.specs.Events.{Event, Fed, Ended, Gave, fed, has_ended, gave}
@@ -33,6 +31,7 @@ use Rattle.swap_run.specs.declared.phase.Phase.TheVariants as phase
 use Rattle.swap_run.specs.declared.swapping.Swapping.{Swapping}
 use Rattle.swap_run.proofs.GoLemmas.{slots_rise}
 use Rattle.swap_run.proofs.ShownLemmas.{Same, feed_same, sends_same, status_in, in_packets, in_units, in_drains, in_rests}
+use Rattle.swap_run.proofs.LiveLemmas.{live_on}
 
 -- ---- events
 
@@ -207,9 +206,6 @@ module _ (m : Swapping) (came : ∥ HasShown m ∥₁) where
 pub some_length : (bytes : List ℕ) → 0 < length bytes → bytes ≢ []
 some_length bytes lt e = let n = ap (λ (l : List ℕ). length l) e in absurd (omega (arith, lt, n))
 
-pub too_few : (bytes : List ℕ) → length bytes < SIZE → begins_with_packet bytes ≡ false
-too_few bytes lt = ap (λ (b : Bool). b && (slice_index bytes 0 == SYNC)) (lt-leb SIZE (length bytes) lt)
-
 pub nothing_more : (front bytes : List ℕ) → length bytes ≡ 0 → front ++ bytes ≡ front
 nothing_more front [] e = append-nil front
 nothing_more front (x ∷ bytes) e = absurd (omega (arith, e))
@@ -249,6 +245,7 @@ shown_still tell c plp m events s =
           ((tell.given [] events).gave ∙ append-nil (gave events)) s.sends;
       status = s.status;
       counts = s.counts;
+      live = live_on c plp _ _ r.told r.told r.given m.ran.units m.ran.units zero.fed_is (λ _ cont. cont) (omega arith) s.live;
       is_in = subst (λ (b : Bool). IsIn c plp m r b m.phase) (sym one.ended_is) s.is_in;
     }
 

@@ -1,5 +1,5 @@
 -- How the run of a swapper ended, by its machine.
-use Rattle.std.proofs.Common.{◌≡◌, ◌⊎◌, ℕ, ◌+◌, ◌-◌, ◌*◌, ◌<◌, ◌==◌, min, Bool, true, false, cond, List, [], ◌∷◌, ◌++◌}
+use Rattle.std.proofs.Common.{◌≡◌, ◌⊎◌, ℕ, ◌+◌, ◌-◌, ◌*◌, ◌<◌, ◌≤◌, ◌==◌, min, Bool, true, false, cond, List, [], ◌∷◌, ◌++◌}
 use Rattle.std.proofs.Common.{length, refl, ap, sym, subst, ◌∙◌, inl, inr, arith, append_assoc, length-append}
 use Rattle.std.specs.Prelude.{Result, Ok, Err, IfOk, IfErr, slice_index}
 use Rattle.std.proofs.lemmas.Option.{IfSome_then}
@@ -14,7 +14,7 @@ use Rattle.frame_feed.specs.StandsFor.{waiting_of}
 use Rattle.frame_feed.specs.StandsFor as feed
 use Rattle.file_run.specs.Events.{Event, fed, has_ended, gave}
 use Rattle.file_run.specs.FileRun as driver
-use Rattle.file_run.specs.FileRun.{AreFed, IsFed, Works}
+use Rattle.file_run.specs.FileRun.{AreFed}
 use Rattle.file_run.specs.Laws.{EventsTell}
 use Rattle.file_run.specs.OneRun.{RunsOnce}
 use Rattle.file_run.specs.declared.machine.Step.TheVariants.{Give, End, Read}
@@ -24,14 +24,14 @@ use Rattle.file_run.specs.declared.stop.RunStop.{RunStop}
 use Rattle.file_run.specs.declared.stop.RunStop.TheVariants.{Refused, Files, OutOfMemory}
 use Rattle.file_run.proofs.StandsLemmas.{works_by, fed_since, all_read}
 use Rattle.merge_run.specs.Steps.{is_idle}
-use Rattle.merge_run.proofs.RunLemmas.{two}
+use Rattle.merge_run.proofs.FilesLemmas.{two}
 use Rattle.region_swap.specs.StandsFor.{status_of, wants_of}
 use Rattle.swap_run.specs.AsMachine.{Becomes, ending_in, ending_of}
 use Rattle.swap_run.specs.Shown.{Shown, IsIn, IsDone}
 use Rattle.swap_run.specs.Shown as shown
 use Rattle.swap_run.specs.Steps.{step_in, step_of, reach_of, drained, record_step, packet_step, drain_step, most_packets}
 use Rattle.swap_run.specs.SwapRun.{read_ahead, names_of, SwapsAll, RunsAll, HasNone, FindsNone, MeetsBad, StopsAtBad, HasLate, MeetsLate, HasWritten}
-use Rattle.swap_run.specs.SwapRun.{GivesTooMuch, StopsReading, HasSome, StopsWriting, Stops}
+use Rattle.swap_run.specs.SwapRun.{GivesTooMuch, StopsReading, MayWrite, HasSome, StopsWriting, Stops}
 use Rattle.swap_run.specs.declared.machine.SwapMachine.{SwapMachine}
 use Rattle.swap_run.specs.declared.phase.Phase.{Phase}
 use Rattle.swap_run.specs.declared.phase.Phase.TheVariants as phase
@@ -39,7 +39,7 @@ use Rattle.swap_run.specs.declared.stop.Ran.{Ran}
 use Rattle.swap_run.specs.declared.stop.SwapStop.{SwapStop}
 use Rattle.swap_run.specs.declared.stop.SwapStop.TheVariants.{NoSuperframe, InputRefused, TooManyFrames}
 use Rattle.swap_run.specs.declared.swapping.Swapping.{Swapping}
-use Rattle.swap_run.proofs.FileLemmas.{swaps_all, has_none, has_late, meets_bad, has_swapped, wants_packets, wants_rest, gave_front}
+use Rattle.swap_run.proofs.FileLemmas.{swaps_all, has_none, has_late, meets_bad, has_swapped, wants_packets, wants_rest, gave_front, since, fed_count}
 use Rattle.swap_run.proofs.ShownLemmas.{in_packets, in_drains}
 use Rattle.swap_run.proofs.StepLemmas.{needs_read, short_read, HowRead, OfRecords, OfPackets, OfRest}
 use Rattle.swap_run.proofs.WantLemmas.{slots_is, taken_length}
@@ -180,7 +180,7 @@ module _ (law : Laws) (start now : SwapMachine) (old new : State) (t2mi input ou
   -- what is written when an input is to be read on
   written : (events : List Event) (s : Shown k plp events m) (files : ℕ → List ℕ) (places : List ℕ) → AreFed 2 files places events
       → (place taken at : ℕ) → HowRead m place → (0 ≡ place → taken ≡ length (fed 0 events))
-      → (1 ≡ place → at < length (fed 1 events) + SIZE) → HasWritten k plp place taken at files (gave events)
+      → (1 ≡ place → (length (fed 1 events) ≤ at) × (at < length (fed 1 events) + SIZE)) → HasWritten k plp place taken at files (gave events)
   written events s files places are place taken at how first second = go how
     where
       bytes : m.phase ≡ phase.Packets ⊎ (m.phase ≡ phase.Drains) → length (fed 1 events) ≡ SIZE * m.taken
@@ -198,10 +198,12 @@ module _ (law : Laws) (start now : SwapMachine) (old new : State) (t2mi input ou
           (has_swapped law.front law.follow law.complete law.rises law.slot k plp m events s files places are taken e w.none w.going (first w.at))
       go (OfPackets e w) = subst (λ (p : ℕ). HasWritten k plp p taken at files (gave events)) w.at
           (wants_packets law.front law.follow law.complete law.rises law.slot k plp m events s files places are at e w.some
-          (let n = second w.at in let b = bytes (inl e) in omega (arith, n, b)))
+          (let n = (second w.at).0 in let b = bytes (inl e) in omega (arith, n, b))
+          (let n = (second w.at).1 in let b = bytes (inl e) in omega (arith, n, b)))
       go (OfRest e w) = subst (λ (p : ℕ). HasWritten k plp p taken at files (gave events)) w.at
-          (wants_rest law.front law.follow law.complete law.rises law.slot k plp m events s files places are at e
-          (let n = second w.at in let b = bytes (inr e) in omega (arith, n, b)))
+          (wants_rest law.front law.follow law.complete law.rises law.slot k plp m events s files places are at e w.going
+          (let n = (second w.at).0 in let b = bytes (inr e) in omega (arith, n, b))
+          (let n = (second w.at).1 in let b = bytes (inr e) in omega (arith, n, b)))
 
   gives_too_much : (place : ℕ)
       → driver.GivesTooMuch old new out (names_of t2mi input) (reach_of m) (step_of m) (λ events. Becomes start events now) place
@@ -220,7 +222,7 @@ module _ (law : Laws) (start now : SwapMachine) (old new : State) (t2mi input ou
             (λ files are bytes is. subst (HasWritten k plp place (length (fed place s.events)) (length (fed place s.events)) files) (sym is)
             (written s.events s.came files s.places are place (length (fed place s.events)) (length (fed place s.events)) w.0
             (λ e. ap (λ (n : ℕ). length (fed n s.events)) (sym e))
-            (λ e. let n = ap (λ (n : ℕ). length (fed n s.events)) e in omega (arith, n))));
+            (λ e. let n = ap (λ (n : ℕ). length (fed n s.events)) e in (omega (arith, n), omega (arith, n)))));
         gave = g.gave;
         long = IfSome_then old.held s.inputs (λ held are. let f = are place g.place in let n = g.gave in let i = f.within in
             let e = f.ahead in (omega (arith, n, e), omega (arith, n, i)));
@@ -241,7 +243,10 @@ module _ (law : Laws) (start now : SwapMachine) (old new : State) (t2mi input ou
             (written s.events s.came files s.places are place (slice_index s.places place) (slice_index s.places place) w.0
             (λ e. let n = ap (λ (n : ℕ). length (fed n s.events)) e in let f = are place g.place in let ahead = f.ahead in
             let few = w.1 e in omega (arith, n, ahead, few))
-            (λ e. let n = ap (λ (n : ℕ). length (fed n s.events)) e in let few = w.2 in omega (arith, n, few))));
+            (λ e. let n = ap (λ (n : ℕ). length (fed n s.events)) e in let few = w.2 in let ahead = (are place g.place).ahead in (
+              omega (arith, n, ahead),
+              omega (arith, n, few),
+            ))));
         short = g.short;
       }
 
@@ -253,17 +258,30 @@ module _ (law : Laws) (start now : SwapMachine) (old new : State) (t2mi input ou
       let late = law.tell.late s.events g.late g.only in
       record {
         places = s.places;
-        works = works_by (λ files bytes. HasSome k plp files bytes) s
+        works = works_by (λ files bytes. HasSome k plp s.places files bytes) s
             (λ files are bytes is.
             let p = gave_front law.front law.follow law.complete law.rises law.slot k plp m (s.events ++ g.late) s.came.1 files s.places
             (fed_since 2 files s.places s.events g.late g.only are) in
             record {
               more = g.more ++ p.0;
               some = λ z. g.some (front_empty g.more p.0 z);
-              begins = p.1
-                  ∙ ap (λ (l : List ℕ). l ++ p.0) (late.gave ∙ ap (λ (l : List ℕ). gave s.events ++ l) g.parts
+              begins = subst (MayWrite k plp files)
+                  (ap (λ (l : List ℕ). l ++ p.0) (late.gave ∙ ap (λ (l : List ℕ). gave s.events ++ l) g.parts
                   ∙ sym (append_assoc (gave s.events) g.front g.more) ∙ ap (λ (l : List ℕ). l ++ g.more) (sym is))
-                  ∙ append_assoc bytes g.more p.0;
+                  ∙ append_assoc bytes g.more p.0)
+                  p.1;
+              since = λ taken less.
+                  let within = s.within 0 (omega arith) in
+                  let count = fed_count law.front law.follow law.complete law.rises law.slot k plp g.mid.swapping s.events s.came.0 files s.places are in
+                  let inside : taken < length (fed 0 s.events) = omega (arith, less, within, count) in
+                  let d = since law.front law.follow law.complete law.rises law.slot k plp g.mid.swapping s.events s.came.0 files s.places are taken inside in
+                  record {
+                    early = d.early;
+                    front = (
+                      d.front.0 ++ g.front,
+                      is ∙ ap (λ (l : List ℕ). l ++ g.front) d.front.1 ∙ append_assoc _ d.front.0 g.front,
+                    );
+                  };
             });
         short = g.short;
       }

@@ -1,10 +1,12 @@
 -- What a swapper sends, from call to call.
-use Rattle.std.proofs.Common.{◌≡◌, ℕ, ◌+◌, true, false, List, [], ◌∷◌, ◌++◌, length, take, Some, None, refl, ap, sym, subst, ◌∙◌, arith}
+use Rattle.std.proofs.Common.{◌≡◌, ℕ, ◌+◌, ◌<◌, true, false, List, [], ◌∷◌, ◌++◌, length, Some, refl, ap, sym, subst, ◌∙◌, arith}
 use Rattle.std.proofs.Common.{append-nil, append_assoc, length-append}
 use Rattle.std.specs.Prelude.{slice_get}
 use Rattle.std.proofs.lemmas.Bool.{true≢false}
 use Rattle.std.proofs.lemmas.Grind.{flat_map-append}
-use Rattle.std.proofs.lemmas.List.{take_at, map-append}
+use Rattle.std.proofs.lemmas.List.{map-append}
+use Rattle.terms.proofs.ListLemmas.{next_element, same_front, all_of}
+use Rattle.ts_packet.proofs.JoinedLemmas.{joined_push}
 use Rattle.plp_config.specs.declared.config.Config.{Config}
 use Rattle.ts_packet.specs.TsFile.{joined}
 use Rattle.frame_groups.specs.Laws.{IsPrefix}
@@ -12,9 +14,10 @@ use Rattle.frame_groups.specs.Modulated.{FrameRecord}
 use Rattle.t2mi_stream.specs.Complete.{complete_units}
 use Rattle.t2mi_stream.specs.CompleteLaws.{CompleteLaw}
 use Rattle.t2mi_stream.specs.Pipe.{pipe}
+use Rattle.t2mi_stream.proofs.CompleteLemmas.{complete_law}
 use Rattle.formed_frames.specs.Remade.{NumberedView, remade_packets}
 use Rattle.gateway_core.specs.InputSoFar.{Told, Continues}
-use Rattle.merge_run.proofs.SendLemmas.{joined_push, packets_more}
+use Rattle.merge_run.proofs.SendLemmas.{packets_more}
 use Rattle.region_swap.specs.StandsFor.{SwapperStandsFor, status_of, has_unit}
 use Rattle.region_swap.specs.Swapped.{swapped, swapped_frame}
 use Rattle.region_swap.specs.declared.swapper.Swapper.{Swapper}
@@ -49,6 +52,7 @@ sends_told c plp s q t u frames count gave back finished stands h = record {
   gave_is = h.gave_is;
   count_is = h.count_is;
   front = λ input cont more over. h.front input (back input cont) more (λ on. over (finished ∙ on));
+  whole = λ off input cont. h.whole (sym finished ∙ off) input (back input cont);
 }
 
 pub caught_told : (c : Config) (plp : ℕ) (s q : Swapper) (t u : Told) (frames : List NumberedView) (count : ℕ)
@@ -74,29 +78,26 @@ sends_begun c plp s q t frames f count gave going stands h = record {
       subst (λ (l : List (List ℕ)). IsPrefix h.units (pipe c.pid l))
       (sym (append_assoc (remade_packets c (swapped c plp input frames)) more.0 later) ∙ ap (λ (l : List (List ℕ)). l ++ later) (sym more.1))
       (h.front input cont (more.0 ++ later) (λ over. absurd (true≢false (sym over ∙ going))));
+  whole = λ _ input cont.
+      let more = more_packets c plp input frames (f ∷ []) in
+      let l = complete_law c.pid (remade_packets c (swapped c plp input frames)) more.0 in
+      let size = ap length l.complete in
+      let same = ap (λ (l : List (List ℕ)). length (complete_units c.pid l)) more.1 in
+      let few = h.whole going input cont in
+      omega (arith, size, same, few, length-append (complete_units c.pid (remade_packets c (swapped c plp input frames))) l.others);
 }
 
 -- ---- units
-
-next_element : (xs ys : List (List ℕ)) (x : List ℕ) → slice_get (xs ++ ys) (length xs) ≡ Some x → (more : List (List ℕ)) × (ys ≡ x ∷ more)
-next_element [] [] x e = absurd (let z : None ≡ Some x = e in cc)
-next_element [] (y ∷ ys) x e = (ys, (let z : Some y ≡ Some x = e in let s : y ≡ x = cc in ap (λ (v : List ℕ). v ∷ ys) s))
-next_element (z ∷ xs) ys x e = next_element xs ys x e
-
-same_front : (xs ys vs bs : List (List ℕ)) → xs ++ vs ≡ ys ++ bs → length xs ≡ length ys → xs ≡ ys
-same_front xs ys vs bs e l = sym (take_at xs vs (length xs) refl) ∙ ap (take (length xs)) e ∙ take_at ys bs (length xs) (sym l)
-
-all_of : (xs ys : List (List ℕ)) → length (xs ++ ys) ≡ length xs → ys ≡ []
-all_of xs [] e = refl
-all_of xs (y ∷ ys) e = absurd (omega (arith, e, length-append xs (y ∷ ys)))
 
 pub sends_next : (c : Config) (plp : ℕ) (s q : Swapper) (t : Told) (frames : List NumberedView) (count : ℕ) (gave unit : List ℕ)
     → (status_of q).finished ≡ (status_of s).finished
     → ((input : List (List ℕ)) → Continues t input → (more : List (List ℕ)) → ((status_of s).finished ≡ true → more ≡ [])
     → slice_get (pipe c.pid (remade_packets c (swapped c plp input frames) ++ more)) count ≡ Some unit)
+    → ((status_of s).finished ≡ false → (input : List (List ℕ)) → Continues t input
+    → count < length (complete_units c.pid (remade_packets c (swapped c plp input frames))))
     → SwapperStandsFor q c plp t frames (count + 1) → Sends c plp s t frames count gave
     → Sends c plp q t frames (count + 1) (gave ++ unit)
-sends_next c plp s q t frames count gave unit finished next stands h = record {
+sends_next c plp s q t frames count gave unit finished next complete stands h = record {
   stands = stands;
   units = h.units ++ unit ∷ [];
   gave_is = ap (λ (l : List ℕ). l ++ unit) h.gave_is ∙ sym (joined_push h.units unit);
@@ -109,6 +110,7 @@ sends_next c plp s q t frames count gave unit finished next stands h = record {
       ∙ next input cont more (λ on. over (finished ∙ on)) in
       let r = next_element h.units p.0 unit at in
       (r.0, p.1 ∙ ap (λ (l : List (List ℕ)). h.units ++ l) r.1 ∙ sym (append_assoc h.units (unit ∷ []) r.0));
+  whole = λ off input cont. let less = complete (sym finished ∙ off) input cont in omega (arith, less);
 }
 
 -- all complete units, as bytes
@@ -142,4 +144,5 @@ sends_over c plp s q t frames count gave going stands h = record {
   gave_is = h.gave_is;
   count_is = h.count_is;
   front = λ input cont more _. h.front input cont more (λ on. absurd (true≢false (sym on ∙ going)));
+  whole = λ _. h.whole going;
 }

@@ -3,6 +3,7 @@ use Rattle.std.proofs.Common.{◌≡◌, ◌≢◌, ◌⊎◌, ℕ, ◌+◌, ◌
 use Rattle.std.proofs.Common.{refl, ap, sym, subst, ◌∙◌, arith, length-append, inl, inr}
 use Rattle.std.specs.Prelude.{slice_index}
 use Rattle.std.proofs.lemmas.Bool.{true≢false}
+use Rattle.gateway_core.proofs.HoldsLemmas.{cont_packet, cont_end}
 use Rattle.plp_config.specs.SlotTime.{slots_by}
 use Rattle.plp_config.specs.declared.config.Config.{Config}
 use Rattle.ts_packet.specs.TsFile.{begins_with_packet}
@@ -15,7 +16,6 @@ use Rattle.gateway_core.specs.InputSoFar.{Told, with_packet, at_end, Continues}
 use Rattle.merge_run.specs.Shown.{IsFedWith}
 use Rattle.region_swap.specs.StandsFor.{SwapperStandsFor, Status, status_of, wants_of, wants_by, has_unit}
 use Rattle.region_swap.specs.declared.swapper.Swapper.{Swapper}
-use Rattle.region_swap.proofs.RegionLemmas.{back_offered, back_ended}
 use Rattle.region_swap.proofs.SwapLemmas.{wants_told}
 use Rattle.swap_run.specs.Shown.{ReadsPackets, Sends, HasCaughtUp, Read, InRecords, InPackets, InUnits, InDrains, InRests}
 use Rattle.swap_run.specs.Shown.{IsBehindAll, IsWanted, IsIn, Shown, more_units, begun_in, finished_in, next_in, frame_bytes}
@@ -26,6 +26,7 @@ use Rattle.swap_run.specs.declared.stop.SwapStop.TheVariants.{InputRefused}
 use Rattle.swap_run.specs.declared.swapping.Swapping.{Swapping}
 use Rattle.swap_run.proofs.PacketLemmas.{reads_offer, reads_drain, reads_tail, reads_end, reads_over, reads_same}
 use Rattle.swap_run.proofs.SendLemmas.{sends_told, caught_told}
+use Rattle.swap_run.proofs.LiveLemmas.{live_caught, live_on}
 
 -- ---- by one event more
 
@@ -128,6 +129,7 @@ module _ (c : Config) (plp : ℕ) (events : List Event) (m : Swapping) (s : Show
           joined = s.counts.joined;
           units = s.counts.units;
         };
+        live = live_caught c plp g (fed 0 more) (has_ended 0 more) r.given m.swapper r.told m.ran.units fed_is i.caught;
         is_in = subst (IsIn c plp (record m { feed = g }) r (has_ended 1 more)) (sym e) (record {
           caught = i.caught;
           next = i.next;
@@ -149,7 +151,7 @@ module _ (c : Config) (plp : ℕ) (events : List Event) (m : Swapping) (s : Show
       let i = in_packets e in
       let w = has_wanted some in
       let t : Told = with_packet r.told p in
-      let back : (input : List (List ℕ)) → Continues t input → Continues r.told input = λ input cont. back_offered r.told p input w.off cont in
+      let back : (input : List (List ℕ)) → Continues t input → Continues r.told input = λ input cont. cont_packet r.told p input w.off cont in
       let longer = length-append r.told.packets (p ∷ []) in
       let less = w.less in
       record {
@@ -175,6 +177,7 @@ module _ (c : Config) (plp : ℕ) (events : List Event) (m : Swapping) (s : Show
           joined = s.counts.joined;
           units = units_packets m q _ e s.counts.units;
         };
+        live = live_on c plp _ _ r.told t r.given m.ran.units m.ran.units zero.fed_is back (omega arith) s.live;
         is_in = subst (IsIn c plp (record m { swapper = q; taken = m.taken + 1 }) (record { given = r.given; told = t; rest = r.rest; tail = r.tail })
             (has_ended 1 more)) (sym e) (record {
               caught = caught_told c plp m.swapper q r.told t (frames_in c r.given) m.ran.units back unit i.caught;
@@ -199,7 +202,7 @@ module _ (c : Config) (plp : ℕ) (events : List Event) (m : Swapping) (s : Show
   shown_end q more e zero here ended gave_is stands unit status =
       let i = in_packets e in
       let t : Told = at_end r.told in
-      let back : (input : List (List ℕ)) → Continues t input → Continues r.told input = λ input cont. back_ended r.told input cont in
+      let back : (input : List (List ℕ)) → Continues t input → Continues r.told input = λ input cont. cont_end r.told input cont in
       record {
         config = s.config;
         plan = s.plan;
@@ -224,6 +227,7 @@ module _ (c : Config) (plp : ℕ) (events : List Event) (m : Swapping) (s : Show
           joined = s.counts.joined;
           units = units_packets m q _ e s.counts.units;
         };
+        live = live_on c plp _ _ r.told t r.given m.ran.units m.ran.units zero.fed_is back (omega arith) s.live;
         is_in = subst (IsIn c plp (record m { swapper = q; ended = true }) (record { given = r.given; told = t; rest = r.rest; tail = r.tail })
             (has_ended 1 more)) (sym e) (record {
               caught = caught_told c plp m.swapper q r.told t (frames_in c r.given) m.ran.units back unit i.caught;
@@ -278,6 +282,7 @@ module _ (c : Config) (plp : ℕ) (events : List Event) (m : Swapping) (s : Show
           joined = s.counts.joined;
           units = s.counts.units;
         };
+        live = live_on c plp _ _ r.told r.told r.given m.ran.units m.ran.units zero.fed_is (λ _ cont. cont) (omega arith) s.live;
         is_in = subst (IsIn c plp now (record { given = r.given; told = r.told; rest = r.rest ++ p ∷ []; tail = r.tail })
             (has_ended 1 more)) (sym e) (record {
               caught = i.caught;
@@ -314,6 +319,7 @@ module _ (c : Config) (plp : ℕ) (events : List Event) (m : Swapping) (s : Show
           joined = s.counts.joined;
           units = s.counts.units;
         };
+        live = live_on c plp _ _ r.told r.told r.given m.ran.units m.ran.units zero.fed_is (λ _ cont. cont) (omega arith) s.live;
         is_in = subst (IsIn c plp now r (has_ended 1 more)) (sym e) (record {
           caught = i.caught;
           behind = behind_same now r.rest r.tail refl refl i.behind;
@@ -395,6 +401,7 @@ module _ (c : Config) (plp : ℕ) (events : List Event) (m : Swapping) (s : Show
           joined = s.counts.joined;
           units = few_units begun units;
         };
+        live = live_on c plp _ _ r.told r.told r.given m.ran.units m.ran.units zero.fed_is (λ _ cont. cont) (omega arith) s.live;
         is_in = record {
           caught = can.caught;
           number = s.of_input.count;

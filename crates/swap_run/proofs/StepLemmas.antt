@@ -11,7 +11,7 @@ use Rattle.merge_run.specs.Steps.{is_idle}
 use Rattle.merge_run.proofs.StepLemmas.{idle_is}
 use Rattle.region_swap.specs.StandsFor.{wants_of}
 use Rattle.swap_run.specs.Steps.{record_step, packet_step, drain_step, step_in, step_of, most_packets}
-use Rattle.swap_run.specs.SwapRun.{read_ahead}
+use Rattle.swap_run.specs.SwapRun.{read_ahead, least_of}
 use Rattle.swap_run.specs.declared.phase.Phase.{Phase}
 use Rattle.swap_run.specs.declared.phase.Phase.TheVariants as phase
 use Rattle.swap_run.specs.declared.swapping.Swapping.{Swapping}
@@ -194,22 +194,22 @@ pub data HowRead (m : Swapping) (input : ℕ) : Type 0 where
   OfPackets : m.phase ≡ phase.Packets → ReadsPacket (wants_of m.swapper) input → HowRead m input
   OfRest : m.phase ≡ phase.Drains → ReadsRest m.ended input → HowRead m input
 
-pub needs_read : (m : Swapping) (input count : ℕ) → Needs (step_of m) input count → HowRead m input × (count ≤ SIZE)
+pub needs_read : (m : Swapping) (input count : ℕ) → Needs (step_of m) input count → HowRead m input × (count ≤ least_of input)
 needs_read m input count h = go m.phase refl h
   where
     go : (p : Phase) → m.phase ≡ p
         → Needs (step_in p (is_idle (waiting_of m.feed) (has_ended m.feed)) (wants_of m.swapper) m.ended) input count
-        → HowRead m input × (count ≤ SIZE)
+        → HowRead m input × (count ≤ least_of input)
     go phase.Records is h =
         let a = asks_record Needs (λ i k n. n) (λ i k n. n) (waiting_of m.feed) (has_ended m.feed) input count h in
-        (OfRecords is (record_read _ _ input a.0 a.1.0), (let l = a.1.1 in omega (arith, l)))
+        (OfRecords is (record_read _ _ input a.0 a.1.0), subst (λ (n : ℕ). count ≤ least_of n) a.1.0 a.1.1)
     go phase.Packets is h =
         let a = asks_packet Needs (λ i k n. n) (λ i k n. n) (wants_of m.swapper) input count h in
-        (OfPackets is (record { some = a.0; at = a.1.0 }), a.1.1)
+        (OfPackets is (record { some = a.0; at = a.1.0 }), subst (λ (n : ℕ). count ≤ least_of n) a.1.0 a.1.1)
     go phase.Units is h = absurd h
     go phase.Drains is h =
         let a = asks_rest Needs (λ i k n. n) (λ i k n. n) m.ended input count h in
-        (OfRest is (record { going = a.0; at = a.1.0 }), a.1.1)
+        (OfRest is (record { going = a.0; at = a.1.0 }), subst (λ (n : ℕ). count ≤ least_of n) a.1.0 a.1.1)
     go phase.Rests is h = absurd h
     go phase.Done is h = absurd h
     go (phase.Stopped why) is h = absurd h

@@ -22,6 +22,10 @@ pub gives_so : (old new : Swapper) (view : RecordView) (b : Bool) (unit : List �
     → (b ≡ true → (c : Config) (plp : ℕ) (t : Told) (before : List NumberedView) (given : ℕ)
     → SwapperStandsFor old c plp t (before ++ numbered (frame_of old) view ∷ []) given
     → SwapperStandsFor new c plp t (before ++ numbered (frame_of old) view ∷ []) (given + 1))
+    → (b ≡ true → (status_of old).finished ≡ false → (c : Config) (plp : ℕ) (t : Told) (before : List NumberedView) (given : ℕ)
+    → SwapperStandsFor old c plp t (before ++ numbered (frame_of old) view ∷ []) given
+    → (input : List (List ℕ)) → Continues t input
+    → given < length (complete_units c.pid (remade_packets c (swapped c plp input (before ++ numbered (frame_of old) view ∷ [])))))
     → (b ≡ true → bytes_left new (Some (numbered (frame_of old) view)) < bytes_left old (Some (numbered (frame_of old) view)))
     → (b ≡ false → (c : Config) (plp : ℕ) (t : Told) (before : List NumberedView) (given : ℕ)
     → SwapperStandsFor old c plp t (before ++ numbered (frame_of old) view ∷ []) given
@@ -31,5 +35,6 @@ pub gives_so : (old new : Swapper) (view : RecordView) (b : Bool) (unit : List �
     → (input : List (List ℕ)) → Continues t input
     → given ≡ length (complete_units c.pid (remade_packets c (swapped c plp input (before ++ numbered (frame_of old) view ∷ [])))))
     → (b ≡ false → has_unit new ≡ false) → GivesSo old new view b unit
-gives_so old new view true unit next stands less kept all idle = record { next = next refl; stands = stands refl; less = less refl }
-gives_so old new view false unit next stands less kept all idle = record { stands = kept refl; all = all refl; idle = idle refl }
+gives_so old new view true unit next stands complete less kept all idle =
+    record { next = next refl; stands = stands refl; complete = complete refl; less = less refl }
+gives_so old new view false unit next stands complete less kept all idle = record { stands = kept refl; all = all refl; idle = idle refl }

@@ -174,4 +174,5 @@ sends_opened c plp q stands = record {
   gave_is = refl;
   count_is = refl;
   front = λ input cont more over. (pipe c.pid (remade_packets c (swapped c plp input []) ++ more), refl);
+  whole = λ _ input cont. omega arith;
 }

@@ -1,3 +1,4 @@
+pub mod Laws
 pub mod SwapRun
 -- inner: no public clause cites these
 pub mod AsMachine

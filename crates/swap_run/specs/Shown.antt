@@ -1,5 +1,5 @@
 -- What was done to a feed and the swapper of its frames. No public clause cites this module.
-use Rattle.std.specs.Prelude.{◌≡◌, ◌≢◌, ◌⊎◌, ℕ, ◌+◌, ◌*◌, ◌^◌, ◌<◌, ◌≤◌, nat_lt, Bool, true, false, List, [], ◌∷◌, ◌++◌, length, Some, None}
+use Rattle.std.specs.Prelude.{◌≡◌, ◌≢◌, ◌⊎◌, ℕ, ◌+◌, ◌*◌, ◌^◌, ◌<◌, ◌≤◌, nat_lt, Bool, true, false, List, [], ◌∷◌, ◌++◌, length, take, Some, None}
 use Rattle.std.specs.Prelude.{slice_index, if◌then◌else◌}
 use Rattle.plp_config.specs.Capacity.{IsPlan}
 use Rattle.plp_config.specs.SlotTime.{slots_by}
@@ -15,6 +15,7 @@ use Rattle.site_frame.specs.Whole.{Spells}
 use Rattle.site_frame.specs.declared.reading.RecordView.{RecordView}
 use Rattle.t2mi_stream.specs.Complete.{complete_units}
 use Rattle.t2mi_stream.specs.Pipe.{pipe}
+use Rattle.modulator.specs.StandsFor.{records_due}
 use Rattle.formed_frames.specs.Formed.{IsFormed}
 use Rattle.formed_frames.specs.Remade.{NumberedView, remade_packets}
 use Rattle.file_run.specs.Events.{Event, fed, has_ended, gave}
@@ -44,7 +45,8 @@ pub record ReadsPackets (bytes : List ℕ) (ended : Bool) (t : Told) (rest : Lis
   pub end : tail ≡ [] → ended ≡ over
   pub told : t.ended ≡ true → (over ≡ true) × (rest ≡ []) × (tail ≡ [])
 
--- Of these frames, with the PLP replaced, units were given, the first ones whatever packets follow.
+-- Of these frames, with the PLP replaced, units were given, the first ones whatever packets follow, and before the end only complete
+-- ones.
 pub record Sends (c : Config) (plp : ℕ) (s : Swapper) (t : Told) (frames : List NumberedView) (count : ℕ) (gave : List ℕ) : Type 0 where
   pub stands : SwapperStandsFor s c plp t frames count
   pub units : List (List ℕ)
@@ -52,12 +54,23 @@ pub record Sends (c : Config) (plp : ℕ) (s : Swapper) (t : Told) (frames : Lis
   pub count_is : count ≡ length units
   pub front : (input : List (List ℕ)) → Continues t input → (more : List (List ℕ)) → ((status_of s).finished ≡ true → more ≡ [])
       → IsPrefix units (pipe c.pid (remade_packets c (swapped c plp input frames) ++ more))
+  pub whole : (status_of s).finished ≡ false → (input : List (List ℕ)) → Continues t input
+      → count ≤ length (complete_units c.pid (remade_packets c (swapped c plp input frames)))
 
 -- All complete units were given.
 pub record HasCaughtUp (c : Config) (plp : ℕ) (s : Swapper) (t : Told) (frames : List NumberedView) (count : ℕ) : Type 0 where
   pub idle : has_unit s ≡ false
   pub complete : (input : List (List ℕ)) → Continues t input
       → count ≡ length (complete_units c.pid (remade_packets c (swapped c plp input frames)))
+
+-- These are the first of the records that were given: all that are due by fewer bytes than were fed. Of their frames, with the PLP
+-- replaced, all complete units were given.
+pub record IsLive (c : Config) (plp : ℕ) (bytes : List ℕ) (t : Told) (given : List FrameRecord) (count : ℕ) : Type 0 where
+  pub sent : List FrameRecord
+  pub part : IsPrefix sent given
+  pub due : (k : ℕ) → k < length bytes → IsPrefix (records_due c false (take k bytes)) sent
+  pub done : (input : List (List ℕ)) → Continues t input
+      → length (complete_units c.pid (remade_packets c (swapped c plp input (frames_in c sent)))) ≤ count
 
 -- The last of these frames is the one under way, whose record is held.
 pub record IsHolding (c : Config) (s : Swapper) (frames : List NumberedView) (bytes : List ℕ) : Type 0 where
@@ -253,6 +266,7 @@ pub record Shown (c : Config) (plp : ℕ) (events : List Event) (m : Swapping) :
     finished = finished_in m.phase;
   }
   pub counts : Counts m read (frames_in c read.given)
+  pub live : IsLive c plp (fed 0 events) read.told read.given m.ran.units
   pub is_in : IsIn c plp m read (has_ended 1 events) m.phase
 
 -- Something was done, and then they are there.

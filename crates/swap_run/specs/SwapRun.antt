@@ -1,8 +1,9 @@
 -- What a run of the swapper over two files does, from the opening of its inputs on.
-use Rattle.std.specs.Prelude.{◌≡◌, ◌≢◌, ◌⊎◌, ℕ, zero, suc, ◌+◌, ◌-◌, ◌*◌, ◌<◌, ◌≤◌, nat_lt, false, List, [], ◌∷◌, ◌++◌, length}
+use Rattle.std.specs.Prelude.{◌≡◌, ◌≢◌, ◌⊎◌, ℕ, zero, suc, ◌+◌, ◌-◌, ◌*◌, ◌<◌, ◌≤◌, false, List, [], ◌∷◌, ◌++◌, length}
 use Rattle.std.specs.Prelude.{map, take, slice_index, slice_index_or, IsSome, IfSome}
 use Rattle.std.specs.FinMap.{get}
-use Rattle.std.specs.List.{filter, flat_map}
+use Rattle.std.specs.List.{flat_map}
+use Rattle.gateway_run.specs.GatewayRun.{ReadsNoBad}
 use Rattle.ports.specs.Desk.{State, SameCounts, bytes_of}
 use Rattle.plp_config.specs.SlotTime.{slots_by}
 use Rattle.plp_config.specs.declared.config.Config.{Config}
@@ -11,13 +12,14 @@ use Rattle.ts_packet.specs.TsFile.{packets_in, HasBad, joined}
 use Rattle.ts_packet.specs.declared.sizes.TheConstants.{SIZE}
 use Rattle.t2mi_stream.specs.Complete.{complete_units}
 use Rattle.t2mi_stream.specs.Pipe.{pipe}
+use Rattle.frame_groups.specs.Laws.{IsPrefix}
 use Rattle.frame_groups.specs.Modulated.{Content, FrameRecord}
 use Rattle.frame_groups.specs.Modulated.Content.{Whole, Muted}
 use Rattle.open_group.specs.Written.{content_view}
-use Rattle.modulator.specs.StandsFor.{records_due}
+use Rattle.modulator.specs.StandsFor.{records_due, records_of}
 use Rattle.formed_frames.specs.Remade.{NumberedView, remade_packets}
 use Rattle.feed_merge.specs.Picks.{above_all}
-use Rattle.merge_run.specs.MergeRun.{AreEarly, records_of}
+use Rattle.merge_run.specs.MergeRun.{AreEarly}
 use Rattle.region_swap.specs.Swapped.{swapped}
 use Rattle.desk_io.specs.Faults.{ReadsFail, WritesFail}
 use Rattle.desk_io.specs.Reading.{longest_file}
@@ -38,10 +40,6 @@ abbrev pub names_of : List ℕ → List ℕ → List (List ℕ)
 names_of t2mi input = t2mi ∷ input ∷ []
 
 -- ---- what comes out
-
--- those whose number is below one
-abbrev pub below : ℕ → List FrameRecord → List FrameRecord
-below end records = filter (λ x. nat_lt x.number end) records
 
 -- the frame of a record, if it is not muted
 abbrev pub frame_in : Config → ℕ → Content → List NumberedView
@@ -154,10 +152,6 @@ pub record MeetsLate (c : Config) (plp : ℕ) (old new : State) (t2mi input out 
   pub short : AllShort places
   pub counts : SameCounts old new
 
--- Behind the packets of a file, up to its first bad one, fewer bytes were read than a packet has: so no bad packet was read whole.
-abbrev pub ReadsNoBad : List ℕ → ℕ → Type 0
-ReadsNoBad file place = place < SIZE * (length (packets_in file) + 1)
-
 -- These are the records that are due by so many bytes of the first file. All may have their numbers, none wants a bad packet, and the
 -- output is the complete units of their frames.
 pub record HasSwapped (c : Config) (plp taken : ℕ) (files : ℕ → List ℕ) (bytes : List ℕ) : Type 0 where
@@ -165,14 +159,15 @@ pub record HasSwapped (c : Config) (plp taken : ℕ) (files : ℕ → List ℕ) 
   pub unwanted : ¬ (WantBad c plp (files 1) (records_due c false (take taken (files 0))))
   pub output : bytes ≡ joined (complete_of c plp files (records_due c false (take taken (files 0))))
 
--- A frame wants more of the second file than so many bytes, or all frames were sent; in these bytes no bad packet is whole. The output
--- is the complete units of the frames before.
+-- The next frame is the first that wants more of the second file than so many bytes, or all frames were sent; in these bytes no bad
+-- packet is whole. The output is the complete units of the frames before.
 pub record WantsMore (c : Config) (plp place : ℕ) (files : ℕ → List ℕ) (bytes : List ℕ) : Type 0 where
   pub before : List FrameRecord
   pub after : List FrameRecord
   pub parts : records_of c (files 0) ≡ before ++ after
   pub early : AreEarly (before ++ take 1 after)
   pub some : records_of c (files 0) ≢ []
+  pub had : SIZE * slots_of c plp before ≤ place
   pub wanted : after ≢ [] → place < SIZE * slots_of c plp (before ++ take 1 after)
   pub unread : ReadsNoBad (files 1) place
   pub output : bytes ≡ joined (complete_of c plp files before)
@@ -182,12 +177,17 @@ abbrev pub HasWritten : Config → ℕ → ℕ → ℕ → ℕ → (ℕ → List
 HasWritten c plp zero taken place files bytes = HasSwapped c plp taken files bytes
 HasWritten c plp (suc input) taken place files bytes = WantsMore c plp place files bytes
 
--- An input gave as many bytes as no file may have. Of these all but a packet were taken, at least: no step wants more than one.
+-- what a step wants at least: a byte of the T2-MI stream, or a packet of the input
+abbrev pub least_of : ℕ → ℕ
+least_of zero = 1
+least_of (suc input) = SIZE
+
+-- An input gave as many bytes as no file may have. Of these all but what a step wants were taken, at least.
 pub record GivesTooMuch (c : Config) (plp : ℕ) (old new : State) (t2mi input out : List ℕ) (place : ℕ) : Type 0 where
   pub places : List ℕ
   pub taken : ℕ
   pub inside : place < 2
-  pub near : longest_file ≤ taken + SIZE
+  pub near : longest_file ≤ taken + least_of place
   pub works : Works old new out (names_of t2mi input) places
       (λ h bytes. HasWritten c plp place taken taken (file_at h (names_of t2mi input)) bytes)
   pub gave : slice_index places place ≡ longest_file
@@ -202,16 +202,35 @@ pub record StopsReading (c : Config) (plp : ℕ) (old new : State) (t2mi input o
       (slice_index places place) (file_at h (names_of t2mi input)) bytes)
   pub short : AllShort places
 
--- These bytes are the first of all units of the frames whose numbers one may have, but not all.
-pub record HasSome (c : Config) (plp : ℕ) (files : ℕ → List ℕ) (bytes : List ℕ) : Type 0 where
+-- These records may have their numbers, and of their frames all complete units are written.
+pub record AreWritten (c : Config) (plp : ℕ) (files : ℕ → List ℕ) (bytes : List ℕ) (records : List FrameRecord) : Type 0 where
+  pub early : AreEarly records
+  pub front : IsPrefix (joined (complete_of c plp files records)) bytes
+
+-- What may be written: the complete units of the frames of the first records, none of which wants a bad packet; and if they are all, and
+-- the second file has no bad packet, all units.
+pub record MayWrite (c : Config) (plp : ℕ) (files : ℕ → List ℕ) (bytes : List ℕ) : Type 0 where
+  pub before : List FrameRecord
+  pub after : List FrameRecord
+  pub parts : records_of c (files 0) ≡ before ++ after
+  pub early : AreEarly before
+  pub unwanted : ¬ (WantBad c plp (files 1) before)
+  pub output : (bytes ≡ joined (complete_of c plp files before))
+      ⊎ ((after ≡ []) × (¬ (HasBad (files 1))) × (bytes ≡ joined (units_of c plp files)))
+
+-- These bytes are the first of what may be written, but not all; and so the records are written that are due by fewer bytes of the T2-MI
+-- stream than were read by more than are read ahead.
+pub record HasSome (c : Config) (plp : ℕ) (places : List ℕ) (files : ℕ → List ℕ) (bytes : List ℕ) : Type 0 where
   pub more : List ℕ
   pub some : more ≢ []
-  pub begins : joined (pipe c.pid (packets_of c plp (packets_in (files 1)) (below MOST_FRAMES (records_of c (files 0))))) ≡ bytes ++ more
+  pub begins : MayWrite c plp files (bytes ++ more)
+  pub since : (taken : ℕ) → taken + read_ahead < slice_index places 0
+      → AreWritten c plp files bytes (records_due c false (take taken (files 0)))
 
 -- The output could not be written on.
 pub record StopsWriting (c : Config) (plp : ℕ) (old new : State) (t2mi input out : List ℕ) : Type 0 where
   pub places : List ℕ
-  pub works : Works old new out (names_of t2mi input) places (λ h bytes. HasSome c plp (file_at h (names_of t2mi input)) bytes)
+  pub works : Works old new out (names_of t2mi input) places (λ h bytes. HasSome c plp places (file_at h (names_of t2mi input)) bytes)
   pub short : AllShort places
 
 -- A run that did not come to its end, by its cause.

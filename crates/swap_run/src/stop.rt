@@ -1,4 +1,6 @@
 // What comes of a run.
+ghost use Rattle.std.specs.Prelude.{◌≡◌, ◌<◌, ◌+◌, ◌^◌};
+
 use thiserror::Error;
 
 /// A run to its end.
@@ -12,6 +14,16 @@ pub struct Ran {
     pub unsent: u64,
     /// How many units were written.
     pub units: u64,
+}
+
+impl Ran {
+    // Counts units.
+    pub(crate) fn add_units(&mut self, count: usize)
+        requires few { self.old.units + count < 2 ^ 64 }
+        ensures { self.new ≡ record self.old { units = self.old.units + count } }
+    {
+        self.units += count as u64;
+    }
 }
 
 /// Why a swapper has nothing to give, or refuses what it was fed.

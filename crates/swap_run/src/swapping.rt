@@ -15,21 +15,22 @@ ghost use Rattle.swap_run.specs.Shown.{Shown, HasShown};
 ghost use Rattle.swap_run.specs.Steps.{record_step, packet_step, drain_step, step_of, reach_of, left_of};
 ghost use Rattle.swap_run.specs.declared.phase.Phase.TheVariants as phase;
 
-use crate::buffer::RecordBuffer;
 use crate::phase::Phase;
-use crate::sending::{begin_frame, next_unit};
+use crate::sending::{begin_frame, next_units};
 use crate::stop::{Ran, SwapStop};
 use bit_slice::OutOfMemory;
 use file_run::{Step, events_law};
 use formed_frames::formed_law;
-use frame_feed::FrameFeed;
+use frame_feed::{FrameFeed, RecordBuffer};
 use frame_groups::Waiting;
+use gateway_run::front_packet;
+use merge_run::is_idle;
 use modulator::due_records_law;
 use plp_config::{MOST_FRAMES, Plan, block_law, length_law, slot_time_law};
 use record_laws::{fit_law, id_law};
 use region_swap::Swapper;
 use std::alloc::Global;
-use ts_packet::{SIZE, SYNC, TsPacket};
+use ts_packet::{SIZE, SYNC};
 
 /// How many bytes are read ahead at most of the T2-MI stream, and of the rest of the input.
 pub const AHEAD: u64 = 65_536;
@@ -60,23 +61,6 @@ pub struct Swapping<'p> {
     pub draining: bool,
     pub phase: Phase,
     pub ran: Ran,
-}
-
-// The packet at the front of some bytes.
-fn front_packet(bytes: &[u8]) -> TsPacket
-    requires { SIZE ≤ length bytes.now }
-    ensures { result ≡ take SIZE bytes.now }
-{
-    let mut packet = [0; SIZE];
-    packet.copy_from_slice(&bytes[..SIZE]);
-    TsPacket::from_array(packet)
-}
-
-// No record waits, and the stream has not ended.
-fn is_idle(feed: &FrameFeed<'_>) -> bool
-    ensures { result ≡ is_idle (waiting_of feed.now) (has_ended feed.now) }
-{
-    feed.waiting().is_none() && !feed.is_ended()
 }
 
 // It wants bytes of the T2-MI stream until a record waits or it ends.
@@ -412,28 +396,29 @@ impl<'p> Swapping<'p> {
         self.phase = Phase::Units;
     }
 
-    // Gives the next unit of the frame under way, or goes on behind it: how many bytes.
-    fn give_unit(&mut self, unit: &mut [u8; SIZE]) -> usize
+    // Gives units of the frame under way, to the front of these bytes, and goes on behind the last: how many bytes.
+    fn give_units(&mut self, out: &mut [u8]) -> usize
         requires came { ∥ HasShown self.old ∥₁ }
         requires units { self.old.phase ≡ phase.Units }
-        ensures count { result ≤ length unit.new }
-        ensures whole { length unit.new ≡ SIZE }
+        requires room { PIECE ≤ length out.old }
+        ensures count { result ≤ length out.old }
         ensures shown { (c : Config) (plp : ℕ) (events : List Event) → Shown c plp events self.old
-            → Shown c plp (events ++ Gave (take result unit.new) ∷ []) self.new }
+            → Shown c plp (events ++ Gave (take result out.new) ∷ []) self.new }
         ensures left { left_of self.new < left_of self.old }
         ensures reach { (other : ℕ) → reach_of self.old other ≤ reach_of self.new other }
     {
         events_law();
         slot_time_law();
         length_law();
-        if next_unit(&mut self.swapper, self.record.as_bytes(), unit) {
-            self.ran.units += 1;
-            return SIZE;
+        let (len, full) = next_units(&mut self.swapper, self.record.as_bytes(), out);
+        self.ran.add_units(len / SIZE);
+        if full {
+            return len;
         }
         self.swapper.pass();
         self.number += 1;
         self.phase = Phase::Records;
-        0
+        len
     }
 
     // No more frames come.
@@ -494,7 +479,7 @@ impl<'p> Swapping<'p> {
                 self.finish();
                 0
             }
-            Phase::Units => self.give_unit(out.first_chunk_mut().unwrap()),
+            Phase::Units => self.give_units(out),
             _ => self.give_rest(out.first_chunk_mut().unwrap()),
         }
     }

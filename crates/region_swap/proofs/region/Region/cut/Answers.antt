@@ -4,7 +4,7 @@ use Rattle.plp_config.specs.InterleavingFrames.{is_first}
 use Rattle.plp_config.specs.SlotTime.{slots_by}
 use Rattle.gateway_core.specs.InputSoFar.{in_next}
 use Rattle.region_swap.specs.RegionFed.{HasTold, early_in}
-use Rattle.region_swap.specs.Supplied.{Bounds, IsFed}
+use Rattle.gateway_core.specs.IsFed.{Bounds, IsFed}
 use Rattle.region_swap.proofs.RegionLemmas.{has_place, serves_on, supplied, supplies_cut, gives_cut}
 use Rattle.region_swap.proofs.region.Region.cut.Goals as goal
 

@@ -2,7 +2,7 @@ use Rattle.std.proofs.Common.{ap}
 use Rattle.std.proofs.Math.Logic.{∥∥₁_map}
 use Rattle.gateway_core.specs.InputSoFar.{at_end}
 use Rattle.region_swap.specs.RegionFed.{HasTold, early_in}
-use Rattle.region_swap.specs.Supplied.{Bounds}
+use Rattle.gateway_core.specs.IsFed.{Bounds}
 use Rattle.region_swap.proofs.RegionLemmas.{serves_on, supplies_end, same_lists}
 use Rattle.region_swap.proofs.region.Region.end.Goals as goal
 

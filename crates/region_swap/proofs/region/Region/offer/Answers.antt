@@ -2,7 +2,7 @@ use Rattle.std.proofs.Common.{ap}
 use Rattle.std.proofs.Math.Logic.{∥∥₁_map}
 use Rattle.gateway_core.specs.InputSoFar.{with_packet}
 use Rattle.region_swap.specs.RegionFed.{HasTold}
-use Rattle.region_swap.specs.Supplied.{Bounds}
+use Rattle.gateway_core.specs.IsFed.{Bounds}
 use Rattle.region_swap.proofs.RegionLemmas.{has_place, serves_on, supplied, supplies_offer}
 use Rattle.region_swap.proofs.region.Region.offer.Goals as goal
 

@@ -4,7 +4,7 @@ use Rattle.plp_config.specs.InterleavingFrames.{is_first}
 use Rattle.plp_config.specs.SlotTime.{slots_by}
 use Rattle.gateway_core.specs.InputSoFar.{in_next}
 use Rattle.region_swap.specs.RegionFed.{HasTold, Supplies, Gives, early_in}
-use Rattle.region_swap.specs.Supplied.{Bounds}
+use Rattle.gateway_core.specs.IsFed.{Bounds}
 use Rattle.region_swap.proofs.RegionLemmas.{serves_on, same_lists, supplies_pass, gives_pass}
 use Rattle.region_swap.proofs.region.Region.pass.Goals as goal
 

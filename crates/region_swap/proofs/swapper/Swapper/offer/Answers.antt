@@ -1,5 +1,5 @@
 use Rattle.region_swap.specs.StandsFor.{SwapperStandsFor}
-use Rattle.region_swap.specs.Supplied.{wanted}
+use Rattle.gateway_core.specs.IsFed.{wanted}
 use Rattle.region_swap.proofs.SwapLemmas.{not_begun, swaps_offer}
 use Rattle.region_swap.proofs.swapper.Swapper.offer.Goals as goal
 

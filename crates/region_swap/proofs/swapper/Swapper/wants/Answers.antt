@@ -1,7 +1,7 @@
 use Rattle.std.proofs.Common.{◌≡◌, ℕ, Bool, cond, ap, sym, ◌∙◌}
 use Rattle.plp_config.specs.declared.config.Config.{Config}
 use Rattle.region_swap.specs.StandsFor.{SwapperStandsFor, wants_by}
-use Rattle.region_swap.specs.Supplied.{wanted}
+use Rattle.gateway_core.specs.IsFed.{wanted}
 use Rattle.region_swap.proofs.SwapLemmas.{wants_is, to_told}
 use Rattle.region_swap.proofs.swapper.Swapper.wants.Goals as goal
 

@@ -1,8 +1,9 @@
 use Rattle.std.proofs.Common.{[], ◌∷◌, ◌++◌, inr, true, ap, ◌∙◌, arith}
+use Rattle.gateway_run.proofs.FileLemmas.{no_short}
 use Rattle.file_run.specs.Events.{Ended, fed}
 use Rattle.region_swap.specs.StandsFor.{Status}
 use Rattle.swap_run.proofs.ShownLemmas.{shown_end, shown_refuse, can_packets}
-use Rattle.swap_run.proofs.NextLemmas.{ended_same, zero_one, reach_on, slots_status, too_few, some_length, nothing_more}
+use Rattle.swap_run.proofs.NextLemmas.{ended_same, zero_one, reach_on, slots_status, some_length, nothing_more}
 use Rattle.swap_run.proofs.swapping.Swapping.end_packets.Goals as goal
 
 pub returns-then-rest-gt0-clause-shown : goal.returns-then-rest-gt0-clause-shown
@@ -13,7 +14,7 @@ returns-then-rest-gt0-clause-shown c = λ k plp events s.
     rw c.refuse.ensures (shown_refuse k plp events m s p (events ++ Ended 1 p ∷ []) (can_packets k plp events m s c.requires.packets c.requires.wanted)
     (ended_same tell 1 0 p events zero_one) (tell.ended 1 p events).here (tell.ended 1 p events).gave
     (some_length p (let l = c.if-rest-gt0.true in omega (arith, l)))
-    (too_few p c.requires.short) (inr (tell.ended 1 p events).ended))
+    (no_short p c.requires.short) (inr (tell.ended 1 p events).ended))
 
 pub returns-then-rest-gt0-clause-reach : goal.returns-then-rest-gt0-clause-reach
 returns-then-rest-gt0-clause-reach c = λ other. rw c.refuse.ensures (reach_on c.args.self.now c.args.self.now (omega arith) (omega arith) (omega arith) other)

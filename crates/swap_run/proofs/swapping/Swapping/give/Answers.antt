@@ -19,13 +19,6 @@ pub returns-in-Drains-clause-shown : goal.returns-in-Drains-clause-shown
 returns-in-Drains-clause-shown c = λ k plp events s.
     shown_still c.events_law.ensures k plp _ events (c.finish.ensures.shown k plp events s)
 
-pub returns-in-Units-clause-shown : goal.returns-in-Units-clause-shown
-returns-in-Units-clause-shown c = λ k plp events s.
-    let n = c.give_unit.ensures.count in
-    subst (λ (l : List ℕ). Shown k plp (events ++ Gave l ∷ []) c.give_unit.new.self)
-    (sym (take-append-le c.give_unit.result c.give_unit.new.unit (drop SIZE c.args.out.now) n))
-    (c.give_unit.ensures.shown k plp events s)
-
 pub returns-in_default-clause-shown : goal.returns-in_default-clause-shown
 returns-in_default-clause-shown c = λ k plp events s.
     let n = c.give_rest.ensures.count in

@@ -1,6 +1,7 @@
-use Rattle.std.proofs.Common.{◌≡◌, true, false, refl, arith, ◌<◌}
+use Rattle.std.proofs.Common.{◌≡◌, true, false, [], refl, arith, ◌<◌}
 use Rattle.plp_config.specs.SlotTime.{num}
 use Rattle.swap_run.proofs.WantLemmas.{none_complete, none_over, none_read, sends_opened}
+use Rattle.swap_run.proofs.LiveLemmas.{live_caught}
 use Rattle.swap_run.proofs.swapping.Swapping.open.Goals as goal
 
 pub returns-clause-shown : goal.returns-clause-shown
@@ -33,6 +34,8 @@ returns-clause-shown c =
         joined = refl;
         units = omega arith;
       };
+      live = live_caught k c.args.plp c.in_ok-feed.feed [] false [] c.in_ok-swapper.swapper none_read.told 0
+          (record { network = f.config; stands = f.stands }) (record { idle = w.unit; complete = λ input cont. none_complete k c.args.plp input });
       is_in = record {
         caught = record { idle = w.unit; complete = λ input cont. none_complete k c.args.plp input };
         next = refl;

@@ -1,0 +1,5 @@
+mod BlockLemmas
+mod FrameLemmas
+mod RunLemmas
+mod WholeLemmas
+mod ComeLemmas

@@ -1,0 +1,20 @@
+use Rattle.std.proofs.Common.{◌≡◌, ◌*◌, ◌≤◌, ◌-◌, ℕ, List, length, take}
+use Rattle.ts_packet.specs.TsFile.{joined}
+use Rattle.ts_packet.specs.declared.sizes.TheConstants.{SIZE}
+use Rattle.region_swap.specs.StandsFor.{status_of}
+use Rattle.swap_run.specs.Sending.{GivesAll}
+use Rattle.swap_run.proofs.sending.next_units.Given as goal
+
+abbrev pub invariant-loop-out : goal.invariant-loop-out
+invariant-loop-out l = record {
+  inside : l.len ≤ length l.out;
+  size : length l.out ≡ length l.initial.out;
+  units : List (List ℕ);
+  bytes : take l.len l.out ≡ joined units;
+  count : l.len ≡ SIZE * length units;
+  gives : GivesAll l.view l.initial.swapper units l.swapper;
+  status : status_of l.swapper ≡ status_of l.initial.swapper;
+}
+
+abbrev pub decreases-loop-out : goal.decreases-loop-out
+decreases-loop-out l = length l.initial.out - l.len
