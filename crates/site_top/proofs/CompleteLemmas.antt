@@ -8,6 +8,7 @@ use Rattle.std.proofs.lemmas.Bool.{ltb-true}
 use Rattle.std.proofs.lemmas.List.Folds.{list_all-append}
 use Rattle.terms.proofs.CaseLemmas.{both}
 use Rattle.terms.proofs.OptionLemmas.{if_any, if_both}
+use Rattle.modulator.specs.StandsFor.{records_of}
 use Rattle.frame_groups.specs.Modulated.{FrameRecord}
 use Rattle.ports.specs.Counts.{Rose}
 use Rattle.ports.specs.Desk.{State, Held, SameCounts, with_name, bytes_of}
@@ -15,7 +16,7 @@ use Rattle.plp_config.specs.Capacity.{IsPlan}
 use Rattle.plp_config.specs.Places.{IsPlace}
 use Rattle.plp_config.specs.declared.config.Config.{Config}
 use Rattle.plp_config.specs.declared.moment.TheConstants.{MOST_FRAMES}
-use Rattle.config_file.specs.ConfigFile.{Gives, GivesNone, GivesNoPlan}
+use Rattle.config_file.specs.ConfigFile.{GivesNone, GivesNoPlan}
 use Rattle.config_file.specs.Laws.{GivesConfig, GivesPlan, OnePlan}
 use Rattle.config_file.specs.declared.stop.ConfigStop.{ConfigStop}
 use Rattle.config_file.specs.declared.stop.ConfigStop.TheVariants as config
@@ -23,18 +24,20 @@ use Rattle.file_run.specs.FileRun.{file_at}
 use Rattle.file_run.specs.declared.stop.RunFault.TheVariants as run_fault
 use Rattle.file_run.specs.declared.stop.RunStop.{RunStop}
 use Rattle.file_run.specs.declared.stop.RunStop.TheVariants as run
-use Rattle.gateway_run.specs.GatewayRun.{frames_of, units_of}
+use Rattle.gateway_run.specs.SharedRun.{frames_of, units_of}
 use Rattle.gateway_run.specs.Laws.{MustRun, OneRun}
 use Rattle.gateway_run.specs.declared.stop.Ran.{Ran}
 use Rattle.gateway_run.specs.declared.stop.GatewayStop.{GatewayStop}
 use Rattle.gateway_run.specs.declared.stop.GatewayStop.TheVariants as gateway
 use Rattle.modulate_run.specs.Counted.{counted}
 use Rattle.modulate_run.specs.Laws.{OneRun as OneModulation}
-use Rattle.modulate_run.specs.ModulateRun.{records_of, AreEarly, HasEarly}
+use Rattle.modulate_run.specs.ModulateRun.{AreEarly, HasEarly}
 use Rattle.modulate_run.specs.declared.stop.Ran.{Ran as Modulated}
 use Rattle.modulate_run.specs.declared.stop.ModulateStop.{ModulateStop}
 use Rattle.modulate_run.specs.declared.stop.ModulateStop.TheVariants as modulate
-use Rattle.receive_run.specs.Laws.{OneRun as OneReception}
+use Rattle.common_plp.specs.Inputs.{input_count}
+use Rattle.common_plp.specs.Sharing.{Sharing, joined_with, IsPlaceBy}
+use Rattle.receive_run.specs.JoinedLaws.{OneRun as OneReception}
 use Rattle.receive_run.specs.declared.stop.Ran.{Ran as Received}
 use Rattle.receive_run.specs.declared.stop.ReceiveStop.{ReceiveStop}
 use Rattle.receive_run.specs.declared.stop.ReceiveStop.TheVariants as receive
@@ -43,6 +46,14 @@ use Rattle.merge_run.specs.MergeRun.{names_of}
 use Rattle.merge_run.specs.declared.stop.Ran.{Ran as Merged}
 use Rattle.merge_run.specs.declared.stop.MergeStop.{MergeStop}
 use Rattle.merge_run.specs.declared.stop.MergeStop.TheVariants as merge
+use Rattle.swap_run.specs.Laws.{OneRun as OneSwapping}
+use Rattle.swap_run.specs.declared.stop.Ran.{Ran as Swapped}
+use Rattle.swap_run.specs.declared.stop.SwapStop.{SwapStop}
+use Rattle.swap_run.specs.declared.stop.SwapStop.TheVariants as swap
+use Rattle.compare_run.specs.Laws.{OneRun as OneComparison}
+use Rattle.compare_run.specs.declared.stop.CompareStop.{CompareStop}
+use Rattle.compare_run.specs.declared.stop.CompareStop.TheVariants as compare
+use Rattle.frame_compare.specs.declared.counts.Counts.{Counts as Compared}
 use Rattle.show_run.specs.PacketText.{IsPacketText}
 use Rattle.show_run.specs.RecordText.{IsRecordText}
 use Rattle.show_run.specs.Shows.{Counted}
@@ -53,7 +64,12 @@ use Rattle.ts_packet.specs.TsFile.{HasBad}
 use Rattle.site_top.specs.declared.outcome.Outcome.{Outcome}
 use Rattle.site_top.specs.declared.outcome.Outcome.TheVariants.{Done, ReadFault, WriteFault, OutOfMemory}
 use Rattle.site_top.specs.Commands.{Command, ShowPackets, ShowT2mi, ShowFrames, ShowConfig, Plan, Gateway, Modulate, Receive}
-use Rattle.site_top.specs.Commands.{Merge, Trial}
+use Rattle.site_top.specs.Commands.{Merge, Swap, Trial}
+use Rattle.site_top.specs.Commands.{Compare}
+use Rattle.site_top.specs.CompareCommand as compares
+use Rattle.site_top.specs.Outcomes.{compare_cause}
+use Rattle.site_top.specs.Runs.{CompareMustEnd}
+use Rattle.site_top.proofs.CompareLemmas.{ComparesIfShort, compare_one}
 use Rattle.site_top.specs.ConfigCommands.{ShowsConfig, Plans}
 use Rattle.trial_run.specs.declared.stop.TrialStop.TheVariants as trial
 use Rattle.site_top.specs.GatewayCommand as gateways
@@ -61,14 +77,17 @@ use Rattle.site_top.specs.Laws.{OneEnding, Completeness}
 use Rattle.site_top.specs.MergeCommand as merges
 use Rattle.site_top.specs.ModulateCommand as modulates
 use Rattle.site_top.specs.Outcomes.{run_outcome, stop_outcome, config_outcome, gateway_cause, modulate_cause, receive_cause}
-use Rattle.site_top.specs.Outcomes.{merge_cause, show_cause}
+use Rattle.site_top.specs.Outcomes.{merge_cause, swap_cause, show_cause}
 use Rattle.site_top.specs.PlanCommand.{RunsAndTells, ByPlan}
-use Rattle.site_top.specs.ReceiveCommand as receives
+use Rattle.site_top.specs.ReceiveCommand.{receive_line}
+use Rattle.site_top.specs.Reception as receives
 use Rattle.site_top.specs.Runs.{PlanMustEnd, ModulateMustEnd, ReceiveMustEnd, MergeMustEnd, OverPlan, MustEnd, IsComplete}
+use Rattle.site_top.specs.Runs.{SwapMustEnd}
 use Rattle.site_top.specs.Saying.{Tells}
+use Rattle.site_top.specs.SwapCommand as swaps
 use Rattle.site_top.specs.TrialCommand.{Tries}
 use Rattle.site_top.proofs.EndingLemmas.{GatewayIfShort, gateway_one, ModulatesIfShort, modulate_one, ReceivesIfShort, receive_one}
-use Rattle.site_top.proofs.EndingLemmas.{MergesIfShort, merge_one, over_one, unplanned_so}
+use Rattle.site_top.proofs.EndingLemmas.{MergesIfShort, merge_one, SwapsIfShort, swap_one, over_one, unplanned_so}
 
 -- How a run came to its outcome: by its files, if something is so of what must be; or by a fault, or want of memory.
 abbrev By : (State → State → Outcome → Type 0)
@@ -209,22 +228,22 @@ before_named config None mid P e p = tt
 before_named config (Some h) mid P e p = subst (λ (o : Option Held). IfSome o P) e p
 
 -- what a run to its end shows of its inputs
-record Ended (c : Config) (files : ℕ → List ℕ) (count frames units : ℕ) : Type 0 where
+record Ended (sharing : Sharing) (c : Config) (files : ℕ → List ℕ) (count frames units : ℕ) : Type 0 where
   pub whole : (plp : ℕ) → plp < count → ¬ (HasBad (files plp))
-  pub frames_are : frames ≡ frames_of c files
-  pub units_are : units ≡ length (units_of c files)
+  pub frames_are : frames ≡ frames_of sharing c files
+  pub units_are : units ≡ length (units_of sharing c files)
 
-ended : (o : Option Held) (ins : List (List ℕ)) (c : Config) (frames units : ℕ)
+ended : (sharing : Sharing) (o : Option Held) (ins : List (List ℕ)) (c : Config) (frames units : ℕ)
     → IfSome o (λ h. (plp : ℕ) → plp < length ins → ¬ (HasBad (file_at h ins plp)))
-    → IfSome o (λ h. frames ≡ frames_of c (file_at h ins)) →
-    IfSome o (λ h. units ≡ length (units_of c (file_at h ins)))
-    → IfSome o (λ h. Ended c (file_at h ins) (length ins) frames units)
-ended None ins c frames units w f u = tt
-ended (Some h) ins c frames units w f u = record { whole = w; frames_are = f; units_are = u }
+    → IfSome o (λ h. frames ≡ frames_of sharing c (file_at h ins)) →
+    IfSome o (λ h. units ≡ length (units_of sharing c (file_at h ins)))
+    → IfSome o (λ h. Ended sharing c (file_at h ins) (length ins) frames units)
+ended sharing None ins c frames units w f u = tt
+ended sharing (Some h) ins c frames units w f u = record { whole = w; frames_are = f; units_are = u }
 
-must_all : (c : Config) (files : ℕ → List ℕ) (count frames units : ℕ) → count ≡ length c.plps → frames ≤ MOST_FRAMES
-    → Ended c files count frames units → MustRun c files (Ok (record { frames = frames; units = units }))
-must_all c files count frames units same early e = (
+must_all : (sharing : Sharing) (c : Config) (files : ℕ → List ℕ) (count frames units : ℕ) → count ≡ input_count sharing c → frames ≤ MOST_FRAMES
+    → Ended sharing c files count frames units → MustRun sharing c files (Ok (record { frames = frames; units = units }))
+must_all sharing c files count frames units same early e = (
   (λ plp inside. e.whole plp (subst (λ (n : ℕ). plp < n) (sym same) inside)),
   e.frames_are,
   e.units_are,
@@ -285,53 +304,53 @@ by_plan one command config Follows Mine Must must named so follows old new resul
 
 -- ---- `gateway`
 
-abbrev GatewayMust : List (List ℕ) → Config → State → Outcome → Type 0
-GatewayMust ins c mid outcome = IfSome mid.held (λ h. GatewayIfShort h ins c outcome)
+abbrev GatewayMust : Sharing → List (List ℕ) → Config → State → Outcome → Type 0
+GatewayMust sharing ins c mid outcome = IfSome mid.held (λ h. GatewayIfShort sharing h ins c outcome)
 
-gateway_stops : (out : List ℕ) (ins : List (List ℕ)) (c : Config) → length ins ≡ length c.plps
-    → (mid new : State) (stop : RunStop GatewayStop) → gateways.StopsSo out ins c mid new stop
-    → GatewayMust ins c mid (stop_outcome gateway_cause stop) ⊎ By mid new (stop_outcome gateway_cause stop)
-gateway_stops out ins c count mid new (run.Refused (gateway.Bad input packet)) s =
+gateway_stops : (sharing : Sharing) (out : List ℕ) (ins : List (List ℕ)) (c : Config) → length ins ≡ input_count sharing c
+    → (mid new : State) (stop : RunStop GatewayStop) → gateways.StopsSo sharing out ins c mid new stop
+    → GatewayMust sharing ins c mid (stop_outcome gateway_cause stop) ⊎ By mid new (stop_outcome gateway_cause stop)
+gateway_stops sharing out ins c count mid new (run.Refused (gateway.Bad input packet)) s =
     inl (IfSome_then mid.held s.meets
     (λ h m. inr (count, λ short. (Err (gateway.Bad input packet), (s.frame, m, s.early), refl))))
-gateway_stops out ins c count mid new (run.Refused gateway.TooManyFrames) s =
+gateway_stops sharing out ins c count mid new (run.Refused gateway.TooManyFrames) s =
     inl (IfSome_then mid.held s.has (λ h m. inr (count, λ short. (Err gateway.TooManyFrames, m, refl))))
-gateway_stops out ins c count mid new (run.Files (run_fault.TooLong input)) s =
+gateway_stops sharing out ins c count mid new (run.Files (run_fault.TooLong input)) s =
     inl (IfSome_then mid.held s.long
     (λ h most. inr (count, λ short. let few = short input s.place in absurd (omega (arith, most, few)))))
-gateway_stops out ins c count mid new (run.Files (run_fault.ReadFault input)) s = inr (inl s.0.rose)
-gateway_stops out ins c count mid new (run.Files run_fault.WriteFault) s = inr (inr (inl s.0.rose))
-gateway_stops out ins c count mid new run.OutOfMemory s = inr (inr (inr refl))
+gateway_stops sharing out ins c count mid new (run.Files (run_fault.ReadFault input)) s = inr (inl s.0.rose)
+gateway_stops sharing out ins c count mid new (run.Files run_fault.WriteFault) s = inr (inr (inl s.0.rose))
+gateway_stops sharing out ins c count mid new run.OutOfMemory s = inr (inr (inr refl))
 
-gateway_ends : (out : List ℕ) (ins : List (List ℕ)) (c : Config) → length ins ≡ length c.plps → (mid after : State) (ran : Ran)
-    → gateways.Ends out ins c mid after ran → GatewayMust ins c mid Done × SameCounts mid after
-gateway_ends out ins c count mid after ran r = (
-  IfSome_then mid.held (ended mid.held ins c ran.frames ran.units r.whole r.frames_are r.units_are)
+gateway_ends : (sharing : Sharing) (out : List ℕ) (ins : List (List ℕ)) (c : Config) → length ins ≡ input_count sharing c → (mid after : State) (ran : Ran)
+    → gateways.Ends sharing out ins c mid after ran → GatewayMust sharing ins c mid Done × SameCounts mid after
+gateway_ends sharing out ins c count mid after ran r = (
+  IfSome_then mid.held (ended sharing mid.held ins c ran.frames ran.units r.whole r.frames_are r.units_are)
       (λ h e. inr (
         count,
         λ short. (
           Ok (record { frames = ran.frames; units = ran.units }),
-          must_all c (file_at h ins) (length ins) ran.frames ran.units count r.early e,
+          must_all sharing c (file_at h ins) (length ins) ran.frames ran.units count r.early e,
           refl,
         ),
       )),
   r.counts,
 )
 
-gateway_follows : (out : List ℕ) (ins : List (List ℕ)) (c : Config) (old mid new : State) (result : Outcome) → SameCounts old mid
-    → gateways.Follows out ins c mid new result → GatewayMust ins c mid result ⊎ By old new result
-gateway_follows out ins c old mid new result same (inl (stays, other)) = inl (if_any mid.held _ (λ h. inl other))
-gateway_follows out ins c old mid new result same (inr (count, runs)) =
-    ways (gateways.Ends out ins c) (gateways.StopsSo out ins c) gateways.gateway_line gateway_cause (GatewayMust ins c)
-    (gateway_stops out ins c count) (gateway_ends out ins c count) old mid new result same runs
+gateway_follows : (sharing : Sharing) (out : List ℕ) (ins : List (List ℕ)) (c : Config) (old mid new : State) (result : Outcome) → SameCounts old mid
+    → gateways.Follows sharing out ins c mid new result → GatewayMust sharing ins c mid result ⊎ By old new result
+gateway_follows sharing out ins c old mid new result same (inl (stays, other)) = inl (if_any mid.held _ (λ h. inl other))
+gateway_follows sharing out ins c old mid new result same (inr (count, runs)) =
+    ways (gateways.Ends sharing out ins c) (gateways.StopsSo sharing out ins c) gateways.gateway_line gateway_cause (GatewayMust sharing ins c)
+    (gateway_stops sharing out ins c count) (gateway_ends sharing out ins c count) old mid new result same runs
 
-gateway_so : OnePlan → OneRun → (old new : State) (config out : List ℕ) (ins : List (List ℕ)) (result : Outcome)
-    → gateways.Gateways old new config out ins result → IsComplete (Gateway config out ins) old new result
-gateway_so one run old new config out ins result does =
-    by_plan one (Gateway config out ins) config (gateways.Follows out ins) (λ held. GatewayIfShort held ins)
-    (λ held. PlanMustEnd held ins) (λ held outcome m. m) (λ held c outcome m. m)
-    (λ held c mine outcome plan. gateway_one run held ins c mine outcome)
-    (gateway_follows out ins) old new result does
+gateway_so : OnePlan → OneRun → (sharing : Sharing) (old new : State) (config out : List ℕ) (ins : List (List ℕ)) (result : Outcome)
+    → gateways.Gateways sharing old new config out ins result → IsComplete (Gateway sharing config out ins) old new result
+gateway_so one run sharing old new config out ins result does =
+    by_plan one (Gateway sharing config out ins) config (gateways.Follows sharing out ins) (λ held. GatewayIfShort sharing held ins)
+    (λ held. PlanMustEnd sharing held ins) (λ held outcome m. m) (λ held c outcome m. m)
+    (λ held c mine outcome plan. gateway_one run sharing held ins c mine outcome)
+    (gateway_follows sharing out ins) old new result does
 
 -- ---- `modulate`
 
@@ -387,41 +406,45 @@ modulate_so one run old new config file out result does =
 
 -- ---- `receive`
 
-abbrev ReceptionMust : ℕ → List ℕ → Config → State → Outcome → Type 0
-ReceptionMust id file c mid outcome = IfSome mid.held (λ h. ReceivesIfShort (bytes_of h.files file) id c outcome)
+abbrev ReceptionMust : Sharing → ℕ → List ℕ → Config → State → Outcome → Type 0
+ReceptionMust sharing id file c mid outcome = IfSome mid.held (λ h. ReceivesIfShort sharing (bytes_of h.files file) id c outcome)
 
-receive_stops : (id : ℕ) (file out : List ℕ) (c : Config) (plp : ℕ) → IsPlace c id plp → (mid new : State)
-    (stop : RunStop ReceiveStop) → receives.StopsSo file out c plp mid new stop
-    → ReceptionMust id file c mid (stop_outcome receive_cause stop) ⊎ By mid new (stop_outcome receive_cause stop)
-receive_stops id file out c plp at mid new (run.Refused (receive.RecordRefused number why)) s =
+receive_stops : (sharing : Sharing) (id : ℕ) (file out : List ℕ) (c : Config) (plp : ℕ) → IsPlaceBy sharing c id plp
+    → (mid new : State) (stop : RunStop ReceiveStop) → receives.StopsSo sharing file out c plp mid new stop
+    → ReceptionMust sharing id file c mid (stop_outcome receive_cause stop) ⊎ By mid new (stop_outcome receive_cause stop)
+receive_stops sharing id file out c plp at mid new (run.Refused (receive.RecordRefused number why)) s =
     inl (IfSome_then mid.held s.works.holds
     (λ h w. inr (plp, at, λ short. (Err (receive.RecordRefused number why), (w.2.0, w.2.2.before), refl))))
-receive_stops id file out c plp at mid new (run.Files (run_fault.TooLong input)) s =
+receive_stops sharing id file out c plp at mid new (run.Files (run_fault.TooLong input)) s =
     inl (IfSome_then mid.held s.1.long (λ h long. inr (plp, at, λ short. absurd (omega (arith, long, short)))))
-receive_stops id file out c plp at mid new (run.Files (run_fault.ReadFault input)) s = inr (inl s.1.rose)
-receive_stops id file out c plp at mid new (run.Files run_fault.WriteFault) s = inr (inr (inl s.0.rose))
-receive_stops id file out c plp at mid new run.OutOfMemory s = inr (inr (inr refl))
+receive_stops sharing id file out c plp at mid new (run.Files (run_fault.ReadFault input)) s = inr (inl s.1.rose)
+receive_stops sharing id file out c plp at mid new (run.Files run_fault.WriteFault) s = inr (inr (inl s.0.rose))
+receive_stops sharing id file out c plp at mid new run.OutOfMemory s = inr (inr (inr refl))
 
-receive_ends : (id : ℕ) (file out : List ℕ) (c : Config) (plp : ℕ) → IsPlace c id plp → (mid after : State) (ran : Received)
-    → receives.Ends file out c plp mid after ran → ReceptionMust id file c mid Done × SameCounts mid after
-receive_ends id file out c plp at mid after ran (r, holds) =
+receive_ends : (sharing : Sharing) (id : ℕ) (file out : List ℕ) (c : Config) (plp : ℕ) → IsPlaceBy sharing c id plp
+    → (mid after : State) (ran : Received) → receives.Ends sharing file out c plp mid after ran
+    → ReceptionMust sharing id file c mid Done × SameCounts mid after
+receive_ends sharing id file out c plp at mid after ran (r, holds) =
     (IfSome_then mid.held r.works.holds (λ h w. inr (plp, at, λ short. (Ok ran, (w.2.0, w.2.2), refl))), r.counts)
 
-receive_follows : (id : ℕ) (file out : List ℕ) (c : Config) (old mid new : State) (result : Outcome) → SameCounts old mid
-    → receives.Follows id file out c mid new result → ReceptionMust id file c mid result ⊎ By old new result
-receive_follows id file out c old mid new result same (inl (none, stay, is)) = inl (if_any mid.held _ (λ h. inl (none, is)))
-receive_follows id file out c old mid new result same (inr (plp, at, runs)) =
-    ways (receives.Ends file out c plp) (receives.StopsSo file out c plp) receives.receive_line receive_cause
-    (ReceptionMust id file c) (receive_stops id file out c plp at) (receive_ends id file out c plp at) old mid new result same runs
+receive_follows : (sharing : Sharing) (id : ℕ) (file out : List ℕ) (c : Config) (old mid new : State) (result : Outcome)
+    → SameCounts old mid → receives.Follows sharing id file out c mid new result
+    → ReceptionMust sharing id file c mid result ⊎ By old new result
+receive_follows sharing id file out c old mid new result same (inl (none, stay, is)) = inl (if_any mid.held _ (λ h. inl (none, is)))
+receive_follows sharing id file out c old mid new result same (inr (plp, at, runs)) =
+    ways (receives.Ends sharing file out c plp) (receives.StopsSo sharing file out c plp) receive_line receive_cause
+    (ReceptionMust sharing id file c) (receive_stops sharing id file out c plp at) (receive_ends sharing id file out c plp at)
+    old mid new result same runs
 
-receive_so : OnePlan → OneReception → (old new : State) (config : List ℕ) (id : ℕ) (file out : List ℕ) (result : Outcome)
-    → receives.Receives old new config id file out result → IsComplete (Receive config id file out) old new result
-receive_so one run old new config id file out result does =
-    by_plan one (Receive config id file out) config (receives.Follows id file out)
-    (λ held. ReceivesIfShort (bytes_of held.files file) id) (λ held. ReceiveMustEnd (bytes_of held.files file) id)
+receive_so : OnePlan → OneReception → (sharing : Sharing) (old new : State) (config : List ℕ) (id : ℕ) (file out : List ℕ)
+    (result : Outcome) → receives.Receives sharing old new config id file out result
+    → IsComplete (Receive sharing config id file out) old new result
+receive_so one run sharing old new config id file out result does =
+    by_plan one (Receive sharing config id file out) config (receives.Follows sharing id file out)
+    (λ held. ReceivesIfShort sharing (bytes_of held.files file) id) (λ held. ReceiveMustEnd sharing (bytes_of held.files file) id)
     (λ held outcome m. m) (λ held c outcome m. m)
-    (λ held c mine outcome plan. receive_one run (bytes_of held.files file) id c mine outcome plan)
-    (receive_follows id file out) old new result does
+    (λ held c mine outcome plan. receive_one run sharing (bytes_of held.files file) id c mine outcome plan)
+    (receive_follows sharing id file out) old new result does
 
 -- ---- `merge`
 
@@ -458,6 +481,93 @@ merge_so one run old new config a b out result does =
     (MergingMust (names_of a b) c) (merge_stops a b out c) (merge_ends a b out c) old mid new result same runs)
     old new result does
 
+-- ---- `swap`
+
+abbrev SwappingMust : List (List ℕ) → ℕ → Config → State → Outcome → Type 0
+SwappingMust ins id c mid outcome = IfSome mid.held (λ h. SwapsIfShort h ins id c outcome)
+
+swap_stops : (id : ℕ) (t2mi file out : List ℕ) (c : Config) (plp : ℕ) → IsPlace c id plp → (mid new : State) (stop : RunStop SwapStop)
+    → swaps.StopsSo t2mi file out c plp mid new stop → SwappingMust (names_of t2mi file) id c mid (stop_outcome swap_cause stop)
+    ⊎ By mid new (stop_outcome swap_cause stop)
+swap_stops id t2mi file out c plp at mid new (run.Refused swap.NoSuperframe) s =
+    inl (IfSome_then mid.held s.works.holds (λ h w. inr (plp, at, λ short. (Err swap.NoSuperframe, (w.2.0, w.2.2), refl))))
+swap_stops id t2mi file out c plp at mid new (run.Refused (swap.InputRefused packet)) s =
+    inl (IfSome_then mid.held s.works.holds (λ h w. inr (plp, at, λ short. (Err (swap.InputRefused packet), (w.2.0, w.2.2), refl))))
+swap_stops id t2mi file out c plp at mid new (run.Refused swap.TooManyFrames) s =
+    inl (IfSome_then mid.held s.works.holds (λ h w. inr (plp, at, λ short. (Err swap.TooManyFrames, (w.2.0, w.2.2), refl))))
+swap_stops id t2mi file out c plp at mid new (run.Files (run_fault.TooLong input)) s =
+    inl (IfSome_then mid.held s.long (λ h long. inr (
+      plp,
+      at,
+      λ short.
+          let most = long.1 in let few = short input s.inside in absurd (omega (arith, most, few)),
+    )))
+swap_stops id t2mi file out c plp at mid new (run.Files (run_fault.ReadFault input)) s = inr (inl s.0.rose)
+swap_stops id t2mi file out c plp at mid new (run.Files run_fault.WriteFault) s = inr (inr (inl s.0.rose))
+swap_stops id t2mi file out c plp at mid new run.OutOfMemory s = inr (inr (inr refl))
+
+swap_ends : (id : ℕ) (t2mi file out : List ℕ) (c : Config) (plp : ℕ) → IsPlace c id plp → (mid after : State) (ran : Swapped)
+    → swaps.Ends t2mi file out c plp mid after ran → SwappingMust (names_of t2mi file) id c mid Done × SameCounts mid after
+swap_ends id t2mi file out c plp at mid after ran (r, holds) =
+    (IfSome_then mid.held r.works.holds (λ h w. inr (plp, at, λ short. (Ok ran, (w.2.0, w.2.2), refl))), r.counts)
+
+swap_follows : (id : ℕ) (t2mi file out : List ℕ) (c : Config) (old mid new : State) (result : Outcome) → SameCounts old mid
+    → swaps.Follows id t2mi file out c mid new result → SwappingMust (names_of t2mi file) id c mid result ⊎ By old new result
+swap_follows id t2mi file out c old mid new result same (inl (none, stay, is)) = inl (if_any mid.held _ (λ h. inl (none, is)))
+swap_follows id t2mi file out c old mid new result same (inr (plp, at, runs)) =
+    ways (swaps.Ends t2mi file out c plp) (swaps.StopsSo t2mi file out c plp) swaps.swap_line swap_cause
+    (SwappingMust (names_of t2mi file) id c) (swap_stops id t2mi file out c plp at) (swap_ends id t2mi file out c plp at)
+    old mid new result same runs
+
+swap_so : OnePlan → OneSwapping → (old new : State) (config : List ℕ) (id : ℕ) (t2mi file out : List ℕ) (result : Outcome)
+    → swaps.Swaps old new config id t2mi file out result → IsComplete (Swap config id t2mi file out) old new result
+swap_so one run old new config id t2mi file out result does =
+    by_plan one (Swap config id t2mi file out) config (swaps.Follows id t2mi file out)
+    (λ held. SwapsIfShort held (names_of t2mi file) id) (λ held. SwapMustEnd held (names_of t2mi file) id)
+    (λ held outcome m. m) (λ held c outcome m. m)
+    (λ held c mine outcome plan. swap_one run held (names_of t2mi file) id c mine outcome plan)
+    (swap_follows id t2mi file out) old new result does
+
+-- ---- `compare`
+
+abbrev ComparisonMust : List (List ℕ) → Config → State → Outcome → Type 0
+ComparisonMust ins c mid outcome = IfSome mid.held (λ h. ComparesIfShort h ins c outcome)
+
+compare_ways : (a b : List ℕ) (c : Config) (mid new : State) (result : Result Compared (RunStop CompareStop))
+    → compares.Runs c mid new a b result
+    → ComparisonMust (names_of a b) c mid (run_outcome (stop_outcome compare_cause) result)
+    ⊎ By mid new (run_outcome (stop_outcome compare_cause) result)
+compare_ways a b c mid new (Ok counts) r =
+    inl (IfSome_then mid.held r.speaks.holds (λ h w. λ short. (Ok counts, (w.have, w.none, w.counts_are), refl)))
+compare_ways a b c mid new (Err (run.Refused compare.NoSuperframe)) s =
+    inl (IfSome_then mid.held s.speaks.holds (λ h w. λ short. (Err compare.NoSuperframe, w.none, refl)))
+compare_ways a b c mid new (Err (run.Refused compare.TooManyFrames)) s =
+    inl (IfSome_then mid.held s.speaks.holds (λ h w. λ short. (Err compare.TooManyFrames, w.late, refl)))
+compare_ways a b c mid new (Err (run.Refused (compare.Differs frame))) s =
+    inl (IfSome_then mid.held s.speaks.holds (λ h w. λ short. (Err (compare.Differs frame), (w.have, w.first), refl)))
+compare_ways a b c mid new (Err (run.Files (run_fault.TooLong input))) s =
+    inl (IfSome_then mid.held s.long
+    (λ h long. λ short. let most = long.1 in let few = short input s.place in absurd (omega (arith, most, few))))
+compare_ways a b c mid new (Err (run.Files (run_fault.ReadFault input))) s = inr (inl s.0.rose)
+compare_ways a b c mid new (Err (run.Files run_fault.WriteFault)) s = inr (inr (inl s.0.rose))
+compare_ways a b c mid new (Err run.OutOfMemory) s = inr (inr (inr refl))
+
+compare_follows : (a b : List ℕ) (c : Config) (old mid new : State) (result : Outcome) → SameCounts old mid
+    → compares.Follows a b c mid new result → ComparisonMust (names_of a b) c mid result ⊎ By old new result
+compare_follows a b c old mid new result same (told, runs, is, never) =
+    ⊎_elim (λ m. inl (subst (ComparisonMust (names_of a b) c mid) (sym is) m))
+    (λ by. inr (by_before old mid new result same (subst (By mid new) (sym is) by)))
+    (compare_ways a b c mid new told runs)
+
+compare_so : OnePlan → OneComparison → (old new : State) (config a b : List ℕ) (result : Outcome)
+    → compares.Compares old new config a b result → IsComplete (Compare config a b) old new result
+compare_so one law old new config a b result does =
+    by_plan one (Compare config a b) config (compares.Follows a b) (λ held. ComparesIfShort held (names_of a b))
+    (λ held. CompareMustEnd held (names_of a b)) (λ held outcome m. m) (λ held c outcome m. m)
+    (λ held c mine outcome plan. compare_one law held (names_of a b) c mine outcome)
+    (λ c old mid new result same f. compare_follows a b c old mid new result same f)
+    old new result does
+
 -- ---- `trial`
 
 trial_so : (old new : State) (seed frames : ℕ) (result : Outcome) → Tries old new seed frames result
@@ -473,23 +583,27 @@ trial_so old new seed frames result (inr (text, lines, tells)) =
     (failed (Trial seed frames) old new result)
     (told old old new text result refl tells)
 
-pub is_complete : OneEnding → OnePlan → OneRun → OneModulation → OneReception → OneMerging → Completeness
-is_complete law one run modulation reception merging (ShowPackets file) old new result s =
+pub is_complete : OneEnding → OnePlan → OneRun → OneModulation → OneReception → OneMerging → OneSwapping → OneComparison → Completeness
+is_complete law one run modulation reception merging swapping comparison (ShowPackets file) old new result s =
     subst (IsComplete (ShowPackets file) old new) (sym s.2)
     (packets_so law file old new s.1.given s.1.text s.0 s.1.lines s.1.counts)
-is_complete law one run modulation reception merging (ShowT2mi file) old new result s =
+is_complete law one run modulation reception merging swapping comparison (ShowT2mi file) old new result s =
     subst (IsComplete (ShowT2mi file) old new) (sym s.2) (t2mi_so file old new s.1.given s.1.text s.0 s.1.lines s.1.counts)
-is_complete law one run modulation reception merging (ShowFrames file) old new result s =
+is_complete law one run modulation reception merging swapping comparison (ShowFrames file) old new result s =
     subst (IsComplete (ShowFrames file) old new) (sym s.2)
     (records_so law file old new s.1.given s.1.text s.0 s.1.lines s.1.counts)
-is_complete law one run modulation reception merging (ShowConfig file) old new result s = config_so law old new file result s
-is_complete law one run modulation reception merging (Plan config) old new result s = plan_so law old new config result s
-is_complete law one run modulation reception merging (Gateway config out ins) old new result s =
-    gateway_so one run old new config out ins result s
-is_complete law one run modulation reception merging (Modulate config file out) old new result s =
+is_complete law one run modulation reception merging swapping comparison (ShowConfig file) old new result s = config_so law old new file result s
+is_complete law one run modulation reception merging swapping comparison (Plan config) old new result s = plan_so law old new config result s
+is_complete law one run modulation reception merging swapping comparison (Gateway sharing config out ins) old new result s =
+    gateway_so one run sharing old new config out ins result s
+is_complete law one run modulation reception merging swapping comparison (Modulate config file out) old new result s =
     modulate_so one modulation old new config file out result s
-is_complete law one run modulation reception merging (Receive config id file out) old new result s =
-    receive_so one reception old new config id file out result s
-is_complete law one run modulation reception merging (Merge config a b out) old new result s =
+is_complete law one run modulation reception merging swapping comparison (Receive sharing config id file out) old new result s =
+    receive_so one reception sharing old new config id file out result s
+is_complete law one run modulation reception merging swapping comparison (Merge config a b out) old new result s =
     merge_so one merging old new config a b out result s
-is_complete law one run modulation reception merging (Trial seed frames) old new result s = trial_so old new seed frames result s
+is_complete law one run modulation reception merging swapping comparison (Swap config id t2mi file out) old new result s =
+    swap_so one swapping old new config id t2mi file out result s
+is_complete law one run modulation reception merging swapping comparison (Compare config a b) old new result s =
+    compare_so one comparison old new config a b result s
+is_complete law one run modulation reception merging swapping comparison (Trial seed frames) old new result s = trial_so old new seed frames result s

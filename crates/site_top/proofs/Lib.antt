@@ -1,3 +1,4 @@
+pub mod CompareLemmas
 pub mod CompleteLemmas
 pub mod EndingLemmas
 pub mod GatewayLemmas
@@ -6,7 +7,9 @@ pub mod RunLemmas
 pub mod HaveEndingLemmas
 mod MergeLemmas
 mod SurvivorLemmas
+mod SwapLemmas
 pub mod PlaceLemmas
 pub mod PlanCommandLemmas
 mod RecoverLemmas
+mod JoinedLemmas
 pub mod TouchLemmas

@@ -9,6 +9,7 @@ use Rattle.std.proofs.lemmas.List.Concat.{flat_map-append}
 use Rattle.std.proofs.lemmas.Option.{same_Some}
 use Rattle.terms.proofs.OptionLemmas.{none_some, some_injective}
 use Rattle.terms.proofs.RangeLemmas.{range_append}
+use Rattle.merge_run.specs.Sending.{numbered}
 use Rattle.ports.specs.Desk.{State, Held, bytes_of}
 use Rattle.plp_config.specs.Capacity.{IsPlan}
 use Rattle.plp_config.specs.declared.config.Config.{Config}
@@ -18,7 +19,6 @@ use Rattle.t2mi_stream.specs.Pipe.{pipe}
 use Rattle.frame_groups.specs.Modulated.{FrameRecord}
 use Rattle.record_laws.specs.Frames.{frame_of}
 use Rattle.open_group.specs.Written.{content_view}
-use Rattle.site_frame.specs.declared.reading.RecordView.{RecordView}
 use Rattle.modulator.specs.StandsFor.{records_due}
 use Rattle.formed_frames.specs.Remade.{NumberedView, remade_packets}
 use Rattle.frame_laws.specs.SentFrames.{run_length}
@@ -36,9 +36,6 @@ use Rattle.file_run.specs.FileRun.{file_at}
 use Rattle.site_top.specs.MergeCommand.{picked_at, AreDamaged, ComesOfMerged, HoldsMerged, UnitsAreMerged}
 
 -- ---- the frame that is picked of a number
-
-abbrev numbered : ℕ → RecordView → NumberedView
-numbered n view = record { number = n; view = view }
 
 from_number : (c : Config) (feed : Feed) (n : ℕ) (records : List FrameRecord) (p : Picked) → frame_from c feed n records ≡ Some p
     → p.frame.number ≡ n

@@ -31,8 +31,11 @@ use Rattle.record_laws.specs.Recover.{recover}
 use Rattle.frame_laws.specs.SentFrames.{run_length}
 use Rattle.frame_laws.specs.Types.{TypesFit}
 use Rattle.plp_receiver.specs.Epochs.{Readback}
-use Rattle.receive_run.specs.ReceiveRun.{HasAll, RunsAll}
-use Rattle.receive_run.specs.Received.{GivesBack, Received}
+use Rattle.joined_receiver.specs.JoinedBack.{JoinedBackWith}
+use Rattle.receive_run.specs.JoinedReceived as joined
+use Rattle.receive_run.specs.JoinedRun as run
+use Rattle.receive_run.specs.ReceiveRun.{RunsAll}
+use Rattle.receive_run.specs.Received.{Received}
 use Rattle.receive_run.specs.declared.stop.Ran.{Ran}
 use Rattle.recover_laws.specs.Laws.{RunRecovers, RunComesBack, IsCanonical}
 use Rattle.recover_laws.specs.ToldEpochs.{IsPacket}
@@ -86,25 +89,26 @@ module _ (laws : FileLaws) (c : Config) (plan : IsPlan c) (types : TypesFit c) (
       laws.frame c (emission c n) n first plan.rules (record { small = omega (arith, few); emission-is = refl })
       (record { small = omega (arith, small); emission-is = sym told ∙ own })
 
-  given_back : (first : ℕ) (w : RecordView) (ws views : List RecordView) (packets : List (List ℕ)) → views ≡ w ∷ ws
-      → GivesBack c plp first views packets → Readback c plp first (w ∷ ws) packets
-  given_back first w ws views packets is back = subst (λ (vs : List RecordView). GivesBack c plp first vs packets) is back
+  given_back : (joins : Option ℕ) (first : ℕ) (w : RecordView) (ws views : List RecordView) (packets : List (List ℕ))
+      → views ≡ w ∷ ws → joined.GivesBack joins c plp first views packets → JoinedBackWith joins c plp first (w ∷ ws) packets
+  given_back joins first w ws views packets is back =
+      subst (λ (vs : List RecordView). joined.GivesBack joins c plp first vs packets) is back
 
   -- so they are given back from that frame on
-  packets_back : (file bytes : List ℕ) (views : List RecordView) → AreRecords file views [] → (r : Received c plp views bytes)
-      → (inputs : ℕ → List (List ℕ)) (whole : ℕ → Bool) (first count : ℕ)
+  pub packets_back : (joins : Option ℕ) (file bytes : List ℕ) (views : List RecordView) → AreRecords file views []
+      → (r : joined.Received joins c plp views bytes) → (inputs : ℕ → List (List ℕ)) (whole : ℕ → Bool) (first count : ℕ)
       → 1 ≤ count → first + count ≤ MOST_FRAMES → file ≡ file_bytes (map (record_of c inputs whole) (range_with_len first count))
-      → Readback c plp first (map (record_of c inputs whole) (range_with_len first count)) r.packets
-  packets_back file bytes views records r inputs whole first zero some small is = absurd (omega (arith, some))
-  packets_back file bytes views records r inputs whole first (suc count) some small is =
+      → JoinedBackWith joins c plp first (map (record_of c inputs whole) (range_with_len first count)) r.packets
+  packets_back joins file bytes views records r inputs whole first zero some small is = absurd (omega (arith, some))
+  packets_back joins file bytes views records r inputs whole first (suc count) some small is =
       let ws : List RecordView = map (record_of c inputs whole) (range_with_len first (suc count)) in
       let same : views ≡ ws =
       same_views file views ws records (laws.fits c inputs whole first (suc count) plan types.ids small) is in
       let at : r.first ≡ first = first_is inputs whole first count r.first small (subst (IsOnGrid c r.first) same r.successive) in
-      let back : Readback c plp r.first ws r.packets =
-      given_back r.first (record_of c inputs whole first) (map (record_of c inputs whole) (range_with_len (first + 1) count))
+      let back : JoinedBackWith joins c plp r.first ws r.packets =
+      given_back joins r.first (record_of c inputs whole first) (map (record_of c inputs whole) (range_with_len (first + 1) count))
       views r.packets same r.back in
-      subst (λ (n : ℕ). Readback c plp n ws r.packets) at back
+      subst (λ (n : ℕ). JoinedBackWith joins c plp n ws r.packets) at back
 
   -- of frames in a row
   frames_back : (file bytes : List ℕ) (views : List RecordView) → AreRecords file views [] → Received c plp views bytes
@@ -114,7 +118,7 @@ module _ (laws : FileLaws) (c : Config) (plan : IsPlan c) (types : TypesFit c) (
   frames_back file bytes views records r inputs whole first count all some small is =
       r.bytes_are
       ∙ ap concat (laws.recovers c plp inputs whole first count r.packets plan types inside all
-      (packets_back file bytes views records r inputs whole first count some small is))
+      (packets_back None file bytes views records r inputs whole first count some small is))
 
   -- a run has a frame
   some_ticks : (count least : ℕ) → 1 ≤ least → least ≤ count * c.ticks → 1 ≤ count
@@ -134,7 +138,7 @@ module _ (laws : FileLaws) (c : Config) (plan : IsPlan c) (types : TypesFit c) (
       → run_length c inputs ≤ MOST_FRAMES → file ≡ file_bytes (run_frames c inputs) → (nulls : ℕ)
       × (bytes ≡ concat (inputs plp ++ replicate nulls null_packet))
   run_back file bytes views records r inputs all canonical small is =
-      let back : Readback c plp 0 (run_frames c inputs) r.packets = packets_back file bytes views records r inputs (λ n. true) 0
+      let back : Readback c plp 0 (run_frames c inputs) r.packets = packets_back None file bytes views records r inputs (λ n. true) 0
       (run_length c inputs) (some_frames inputs) (omega (arith, small)) is in
       let b = laws.back c plp inputs r.packets plan types inside all canonical back in
       (b.0, r.bytes_are ∙ ap concat b.1)
@@ -145,19 +149,28 @@ comes_back laws c plan types plp file bytes views inside records r = record {
   run = run_back laws c plan types plp inside file bytes views records r;
 }
 
-pub holds_back : (c : Config) (plp : ℕ) (old new : State) (file out : List ℕ) (ran : Ran) → ReceivedComesBack c
-    → plp < length c.plps → RunsAll c plp old new file out ran → HoldsWhatComesBack c plp old new file out
-holds_back c plp old new file out ran law inside r = go old.held new.held r.works.holds
+-- what is so of each file of records and what it gives back is so of IN and OUT
+pub holds_with : (P : List ℕ → List ℕ → Type 0) (joins : Option ℕ) (c : Config) (plp : ℕ) (old new : State) (file out : List ℕ)
+    (ran : Ran) → ((from bytes : List ℕ) (views : List RecordView) → AreRecords from views []
+    → joined.Received joins c plp views bytes → P from bytes)
+    → run.RunsAll joins c plp old new file out ran
+    → IfSome old.held (λ h. IfSome new.held (λ k. P (bytes_of h.files file) (bytes_of k.files out)))
+holds_with P joins c plp old new file out ran law r = go old.held new.held r.works.holds
   where
     go : (h k : Option Held)
         → IfSome h (λ x. (y : Held) × (k ≡ Some y)
-        × ((bytes : List ℕ) × (get y.files out ≡ Some bytes) × HasAll c plp ran (bytes_of x.files file) bytes))
-        → IfSome h (λ x. IfSome k (λ y. ComesBack c plp (bytes_of x.files file) (bytes_of y.files out)))
+        × ((bytes : List ℕ) × (get y.files out ≡ Some bytes) × run.HasAll joins c plp ran (bytes_of x.files file) bytes))
+        → IfSome h (λ x. IfSome k (λ y. P (bytes_of x.files file) (bytes_of y.files out)))
     go None k w = tt
     go (Some x) None w = tt
     go (Some x) (Some y) w =
         let here : w.2.0 ≡ bytes_of y.files out =
         sym (ap (λ (z : Held). bytes_of z.files out) (same_Some y w.0 w.1)
         ∙ ap (λ (o : Option (List ℕ)). unwrap_or o []) w.2.1) in
-        subst (ComesBack c plp (bytes_of x.files file)) here
-        (law plp (bytes_of x.files file) w.2.0 w.2.2.views inside w.2.2.records w.2.2.received)
+        subst (P (bytes_of x.files file)) here (law (bytes_of x.files file) w.2.0 w.2.2.views w.2.2.records w.2.2.received)
+
+pub holds_back : (c : Config) (plp : ℕ) (old new : State) (file out : List ℕ) (ran : Ran) → ReceivedComesBack c
+    → plp < length c.plps → RunsAll c plp old new file out ran → HoldsWhatComesBack c plp old new file out
+holds_back c plp old new file out ran law inside r =
+    holds_with (ComesBack c plp) None c plp old new file out ran
+    (λ from bytes views records given. law plp from bytes views inside records given) r

@@ -6,11 +6,11 @@ use Rattle.std.specs.FinMap.{get}
 use Rattle.ports.specs.Desk.{State, Held, bytes_of}
 use Rattle.plp_config.specs.declared.config.Config.{Config}
 use Rattle.open_group.specs.Written.{spelled}
-use Rattle.modulator.specs.StandsFor.{bytes_due}
+use Rattle.modulator.specs.StandsFor.{bytes_due, records_of}
 use Rattle.file_run.specs.FileRun.{Writes}
 use Rattle.file_run.specs.declared.stop.RunStop.{RunStop}
 use Rattle.file_run.specs.declared.stop.RunStop.TheVariants.{Refused, Files, OutOfMemory}
-use Rattle.modulate_run.specs.ModulateRun.{records_of, RunsAll, FindsNone, Stops}
+use Rattle.modulate_run.specs.ModulateRun.{RunsAll, FindsNone, Stops}
 use Rattle.modulate_run.specs.declared.stop.Ran.{Ran}
 use Rattle.modulate_run.specs.declared.stop.ModulateStop.{ModulateStop}
 use Rattle.modulate_run.specs.declared.stop.ModulateStop.TheVariants.{NoSuperframe, TooManyFrames}

@@ -16,36 +16,48 @@ use Rattle.file_run.specs.FileRun.{SameFiles, OpensInputs, FailsToCreateOutput, 
 use Rattle.file_run.specs.declared.stop.RunFault.TheVariants as run_fault
 use Rattle.file_run.specs.declared.stop.RunStop.{RunStop}
 use Rattle.file_run.specs.declared.stop.RunStop.TheVariants as run
-use Rattle.gateway_run.specs.GatewayRun as gateway
+use Rattle.gateway_run.specs.SharedRun as gateway
 use Rattle.gateway_run.specs.declared.stop.GatewayStop.{GatewayStop}
 use Rattle.gateway_run.specs.declared.stop.GatewayStop.TheVariants as gateway_stop
 use Rattle.modulate_run.specs.ModulateRun as modulating
 use Rattle.modulate_run.specs.declared.stop.ModulateStop.{ModulateStop}
 use Rattle.modulate_run.specs.declared.stop.ModulateStop.TheVariants as modulate
-use Rattle.receive_run.specs.ReceiveRun as receiving
+use Rattle.common_plp.specs.Sharing.{Sharing, joined_with}
+use Rattle.receive_run.specs.JoinedRun as receiving
 use Rattle.receive_run.specs.declared.stop.ReceiveStop.{ReceiveStop}
 use Rattle.receive_run.specs.declared.stop.ReceiveStop.TheVariants as receive
 use Rattle.merge_run.specs.MergeRun as merging
 use Rattle.merge_run.specs.MergeRun.{names_of}
 use Rattle.merge_run.specs.declared.stop.MergeStop.{MergeStop}
 use Rattle.merge_run.specs.declared.stop.MergeStop.TheVariants as merge
+use Rattle.swap_run.specs.SwapRun as swapping
+use Rattle.swap_run.specs.declared.stop.SwapStop.{SwapStop}
+use Rattle.swap_run.specs.declared.stop.SwapStop.TheVariants as swap
+use Rattle.line_run.specs.Speaking.{Speaks}
+use Rattle.compare_run.specs.declared.stop.CompareStop.{CompareStop}
+use Rattle.compare_run.specs.declared.stop.CompareStop.TheVariants as compare
+use Rattle.frame_compare.specs.declared.counts.Counts.{Counts as Compared}
 use Rattle.show_run.specs.Shows.{Shows, ReadsFile}
 use Rattle.show_run.specs.declared.stop.ShowStop.{ShowStop}
 use Rattle.site_top.specs.declared.outcome.Outcome.{Outcome}
 use Rattle.site_top.specs.declared.outcome.Outcome.TheVariants as outcome
 use Rattle.site_top.specs.Commands.{Command, ShowPackets, ShowT2mi, ShowFrames, ShowConfig, Plan, Gateway, Modulate, Receive}
-use Rattle.site_top.specs.Commands.{Merge, Trial}
+use Rattle.site_top.specs.Commands.{Merge, Swap, Trial}
+use Rattle.site_top.specs.Commands.{Compare}
+use Rattle.site_top.specs.CompareCommand as compares
 use Rattle.site_top.specs.ConfigCommands.{ShowsConfig, Plans}
 use Rattle.site_top.specs.GatewayCommand as gateways
 use Rattle.site_top.specs.MergeCommand as merges
 use Rattle.site_top.specs.ModulateCommand as modulates
-use Rattle.site_top.specs.ReceiveCommand as receives
+use Rattle.site_top.specs.ReceiveCommand.{receive_line}
+use Rattle.site_top.specs.Reception as receives
 use Rattle.site_top.specs.Endings.{Ends}
 use Rattle.site_top.specs.Laws.{OnlyOutChanges}
-use Rattle.site_top.specs.Outcomes.{gateway_cause, modulate_cause, receive_cause, merge_cause}
+use Rattle.site_top.specs.Outcomes.{gateway_cause, modulate_cause, receive_cause, merge_cause, swap_cause}
 use Rattle.site_top.specs.PlanCommand.{RunsAndTells, ByPlan}
 use Rattle.site_top.specs.Runs.{Does}
 use Rattle.site_top.specs.Saying.{Tells}
+use Rattle.site_top.specs.SwapCommand as swaps
 use Rattle.site_top.specs.TrialCommand.{Tries}
 use Rattle.site_top.specs.Touches.{OthersStay, Touches, outs, out_of, ins_of}
 
@@ -243,23 +255,23 @@ plan_then Follows out reads follows old new config result b = ⊎_elim
     (λ p. behind out reads old p.1 new config p.0 p.2 (follows p.0 p.1 new result p.4)) b
 
 -- that of a gateway
-gateway_stops : (c : Config) (old new : State) (out : List ℕ) (ins : List (List ℕ)) (stop : RunStop GatewayStop)
-    → gateway.Stops c old new out ins stop → Touches (Some out) (length ins) old new
-gateway_stops c old new out ins (run.Refused (gateway_stop.Bad plp packet)) s = run_works old new out ins s.places _ s.works
-gateway_stops c old new out ins (run.Refused gateway_stop.TooManyFrames) s = run_works old new out ins s.places _ s.works
-gateway_stops c old new out ins (run.Files (run_fault.TooLong input)) s = run_works old new out ins s.places _ s.works
-gateway_stops c old new out ins (run.Files (run_fault.ReadFault input)) s =
+gateway_stops : (sharing : Sharing) (c : Config) (old new : State) (out : List ℕ) (ins : List (List ℕ)) (stop : RunStop GatewayStop)
+    → gateway.Stops sharing c old new out ins stop → Touches (Some out) (length ins) old new
+gateway_stops sharing c old new out ins (run.Refused (gateway_stop.Bad plp packet)) s = run_works old new out ins s.places _ s.works
+gateway_stops sharing c old new out ins (run.Refused gateway_stop.TooManyFrames) s = run_works old new out ins s.places _ s.works
+gateway_stops sharing c old new out ins (run.Files (run_fault.TooLong input)) s = run_works old new out ins s.places _ s.works
+gateway_stops sharing c old new out ins (run.Files (run_fault.ReadFault input)) s =
     ⊎_elim (λ o. run_opens old new out ins input o) (λ w. run_works old new out ins w.places _ w.works) s.1
-gateway_stops c old new out ins (run.Files run_fault.WriteFault) s =
+gateway_stops sharing c old new out ins (run.Files run_fault.WriteFault) s =
     ⊎_elim (λ f. run_creates old new out ins f) (λ w. run_works old new out ins w.places _ w.works) s.1
-gateway_stops c old new out ins run.OutOfMemory s = untouched (Some out) (length ins) old new s
+gateway_stops sharing c old new out ins run.OutOfMemory s = untouched (Some out) (length ins) old new s
 
-gateway_follows : (out : List ℕ) (ins : List (List ℕ)) (c : Config) (mid new : State) (result : Outcome)
-    → gateways.Follows out ins c mid new result → Touches (Some out) (length ins) mid new
-gateway_follows out ins c mid new result f = ⊎_elim
+gateway_follows : (sharing : Sharing) (out : List ℕ) (ins : List (List ℕ)) (c : Config) (mid new : State) (result : Outcome)
+    → gateways.Follows sharing out ins c mid new result → Touches (Some out) (length ins) mid new
+gateway_follows sharing out ins c mid new result f = ⊎_elim
     (λ none. untouched (Some out) (length ins) mid new none.0)
-    (λ all. runs_touch (gateways.Ends out ins c) (gateways.StopsSo out ins c) gateways.gateway_line gateway_cause (Some out)
-    (length ins) (λ a b stop s. gateway_stops c a b out ins stop s) (λ a b ran r. run_works a b out ins r.places _ r.works)
+    (λ all. runs_touch (gateways.Ends sharing out ins c) (gateways.StopsSo sharing out ins c) gateways.gateway_line gateway_cause (Some out)
+    (length ins) (λ a b stop s. gateway_stops sharing c a b out ins stop s) (λ a b ran r. run_works a b out ins r.places _ r.works)
     mid new result all.1) f
 
 -- that of a modulator
@@ -282,22 +294,22 @@ modulate_follows file out c mid new result f =
     f
 
 -- that of a receiver
-receive_stops : (c : Config) (plp : ℕ) (old new : State) (name out : List ℕ) (stop : RunStop ReceiveStop)
-    → receiving.Stops c plp old new name out stop → Touches (Some out) 1 old new
-receive_stops c plp old new name out (run.Refused (receive.RecordRefused number why)) s = run_works old new out (name ∷ []) _ _ s.works
-receive_stops c plp old new name out (run.Files (run_fault.TooLong input)) s = run_works old new out (name ∷ []) _ _ s.1.works
-receive_stops c plp old new name out (run.Files (run_fault.ReadFault input)) s =
+receive_stops : (joins : Option ℕ) (c : Config) (plp : ℕ) (old new : State) (name out : List ℕ) (stop : RunStop ReceiveStop)
+    → receiving.Stops joins c plp old new name out stop → Touches (Some out) 1 old new
+receive_stops joins c plp old new name out (run.Refused (receive.RecordRefused number why)) s = run_works old new out (name ∷ []) _ _ s.works
+receive_stops joins c plp old new name out (run.Files (run_fault.TooLong input)) s = run_works old new out (name ∷ []) _ _ s.1.works
+receive_stops joins c plp old new name out (run.Files (run_fault.ReadFault input)) s =
     ⊎_elim (λ o. run_opens old new out (name ∷ []) 0 o) (λ w. run_works old new out (name ∷ []) _ _ w.works) s.2
-receive_stops c plp old new name out (run.Files run_fault.WriteFault) s =
+receive_stops joins c plp old new name out (run.Files run_fault.WriteFault) s =
     ⊎_elim (λ f. run_creates old new out (name ∷ []) f) (λ w. run_works old new out (name ∷ []) _ _ w.works) s.1
-receive_stops c plp old new name out run.OutOfMemory s = untouched (Some out) 1 old new s
+receive_stops joins c plp old new name out run.OutOfMemory s = untouched (Some out) 1 old new s
 
-receive_follows : (id : ℕ) (file out : List ℕ) (c : Config) (mid new : State) (result : Outcome)
-    → receives.Follows id file out c mid new result → Touches (Some out) 1 mid new
-receive_follows id file out c mid new result f = ⊎_elim
+receive_follows : (sharing : Sharing) (id : ℕ) (file out : List ℕ) (c : Config) (mid new : State) (result : Outcome)
+    → receives.Follows sharing id file out c mid new result → Touches (Some out) 1 mid new
+receive_follows sharing id file out c mid new result f = ⊎_elim
     (λ none. untouched (Some out) 1 mid new none.1)
-    (λ all. runs_touch (receives.Ends file out c all.0) (receives.StopsSo file out c all.0) receives.receive_line receive_cause
-    (Some out) 1 (λ a b stop s. receive_stops c all.0 a b file out stop s)
+    (λ all. runs_touch (receives.Ends sharing file out c all.0) (receives.StopsSo sharing file out c all.0) receive_line receive_cause
+    (Some out) 1 (λ a b stop s. receive_stops (joined_with sharing c all.0) c all.0 a b file out stop s)
     (λ a b ran r. run_works a b out (file ∷ []) _ _ r.0.works) mid new result all.2) f
 
 -- that of a merger
@@ -318,6 +330,72 @@ merge_follows a b out c mid new result f =
     runs_touch (merges.Ends a b out c) (merges.StopsSo a b out c) merges.merge_line merge_cause (Some out) 2
     (λ x y stop s. merge_stops c x y a b out stop s) (λ x y ran r. run_works x y out (names_of a b) r.0.places _ r.0.works)
     mid new result f
+
+-- that of a swapper
+swap_stops : (c : Config) (plp : ℕ) (old new : State) (t2mi file out : List ℕ) (stop : RunStop SwapStop)
+    → swapping.Stops c plp old new t2mi file out stop → Touches (Some out) 2 old new
+swap_stops c plp old new t2mi file out (run.Refused swap.NoSuperframe) s = run_works old new out (names_of t2mi file) s.places _ s.works
+swap_stops c plp old new t2mi file out (run.Refused (swap.InputRefused packet)) s =
+    run_works old new out (names_of t2mi file) s.places _ s.works
+swap_stops c plp old new t2mi file out (run.Refused swap.TooManyFrames) s = run_works old new out (names_of t2mi file) s.places _ s.works
+swap_stops c plp old new t2mi file out (run.Files (run_fault.TooLong input)) s =
+    run_works old new out (names_of t2mi file) s.places _ s.works
+swap_stops c plp old new t2mi file out (run.Files (run_fault.ReadFault input)) s =
+    ⊎_elim (λ o. run_opens old new out (names_of t2mi file) input o)
+    (λ w. run_works old new out (names_of t2mi file) w.places _ w.works) s.1
+swap_stops c plp old new t2mi file out (run.Files run_fault.WriteFault) s =
+    ⊎_elim (λ f. run_creates old new out (names_of t2mi file) f)
+    (λ w. run_works old new out (names_of t2mi file) w.places _ w.works) s.1
+swap_stops c plp old new t2mi file out run.OutOfMemory s = untouched (Some out) 2 old new s
+
+swap_follows : (id : ℕ) (t2mi file out : List ℕ) (c : Config) (mid new : State) (result : Outcome)
+    → swaps.Follows id t2mi file out c mid new result → Touches (Some out) 2 mid new
+swap_follows id t2mi file out c mid new result f = ⊎_elim
+    (λ none. untouched (Some out) 2 mid new none.1)
+    (λ all. runs_touch (swaps.Ends t2mi file out c all.0) (swaps.StopsSo t2mi file out c all.0) swaps.swap_line swap_cause
+    (Some out) 2 (λ a b stop s. swap_stops c all.0 a b t2mi file out stop s)
+    (λ a b ran r. run_works a b out (names_of t2mi file) r.0.places _ r.0.works) mid new result all.2) f
+
+-- a run over files that says what comes of them
+says_opens : (old new : State) (ins : List (List ℕ)) (count : ℕ) → OpensInputs old new ins count → Touches None (length ins) old new
+says_opens old new ins count o = record {
+  files = nothing_files None old.held new.held o.files;
+  created = subst (λ (n : ℕ). n ≤ old.created + 0) (sym o.created) (omega arith);
+  places = o.places;
+  opened = o.opened;
+  few = omega (arith, o.some, o.few);
+  text = [];
+  said = o.said ∙ append-none old.said;
+}
+
+says_touches : (old new : State) (ins : List (List ℕ)) (places : List ℕ) (Holds : Held → List ℕ → Type 0)
+    → Speaks old new ins places Holds → Touches None (length ins) old new
+says_touches old new ins places Holds s = record {
+  files = nothing_files None old.held new.held s.files;
+  created = subst (λ (n : ℕ). n ≤ old.created + 0) (sym s.created) (omega arith);
+  places = places;
+  opened = s.opened;
+  few = omega (arith, s.all);
+  text = s.text;
+  said = s.said;
+}
+
+-- that of a comparison
+compare_runs : (c : Config) (old new : State) (a b : List ℕ) (result : Result Compared (RunStop CompareStop))
+    → compares.Runs c old new a b result → Touches None 2 old new
+compare_runs c old new a b (Ok counts) r = says_touches old new (names_of a b) r.places _ r.speaks
+compare_runs c old new a b (Err (run.Refused compare.NoSuperframe)) s = says_touches old new (names_of a b) s.places _ s.speaks
+compare_runs c old new a b (Err (run.Refused compare.TooManyFrames)) s = says_touches old new (names_of a b) s.places _ s.speaks
+compare_runs c old new a b (Err (run.Refused (compare.Differs frame))) s = says_touches old new (names_of a b) s.places _ s.speaks
+compare_runs c old new a b (Err (run.Files (run_fault.TooLong input))) s = says_touches old new (names_of a b) s.places _ s.speaks
+compare_runs c old new a b (Err (run.Files (run_fault.ReadFault input))) s =
+    ⊎_elim (λ o. says_opens old new (names_of a b) input o) (λ w. says_touches old new (names_of a b) w.places _ w.speaks) s.1
+compare_runs c old new a b (Err (run.Files run_fault.WriteFault)) s = says_touches old new (names_of a b) s.1.places _ s.1.speaks
+compare_runs c old new a b (Err run.OutOfMemory) s = untouched None 2 old new s
+
+compare_follows : (a b : List ℕ) (c : Config) (mid new : State) (result : Outcome) → compares.Follows a b c mid new result
+    → Touches None 2 mid new
+compare_follows a b c mid new result f = compare_runs c mid new a b f.0 f.1
 
 -- a file that is shown
 file_read : (old new : State) (name : List ℕ) (given : ℕ) (text : List ℕ) (result : Result ℕ (RunStop ShowStop))
@@ -360,16 +438,20 @@ only_out_changes (ShowT2mi file) old new result does = shown_touches old new fil
 only_out_changes (ShowFrames file) old new result does = shown_touches old new file does.0 does.1
 only_out_changes (ShowConfig file) old new result does = config_touches old new file result does
 only_out_changes (Plan config) old new result does = plan_touches old new config result does
-only_out_changes (Gateway config out ins) old new result does =
+only_out_changes (Gateway sharing config out ins) old new result does =
     let more : 1 + length ins ≡ suc (length ins) = omega arith in
     subst (λ (n : ℕ). Touches (Some out) n old new) more
-    (plan_then (gateways.Follows out ins) (Some out) (length ins) (gateway_follows out ins) old new config result does)
+    (plan_then (gateways.Follows sharing out ins) (Some out) (length ins) (gateway_follows sharing out ins) old new config result does)
 only_out_changes (Modulate config file out) old new result does =
     plan_then (modulates.Follows file out) (Some out) 1 (modulate_follows file out) old new config result does
-only_out_changes (Receive config id file out) old new result does =
-    plan_then (receives.Follows id file out) (Some out) 1 (receive_follows id file out) old new config result does
+only_out_changes (Receive sharing config id file out) old new result does =
+    plan_then (receives.Follows sharing id file out) (Some out) 1 (receive_follows sharing id file out) old new config result does
 only_out_changes (Merge config a b out) old new result does =
     plan_then (merges.Follows a b out) (Some out) 2 (merge_follows a b out) old new config result does
+only_out_changes (Swap config id t2mi file out) old new result does =
+    plan_then (swaps.Follows id t2mi file out) (Some out) 2 (swap_follows id t2mi file out) old new config result does
+only_out_changes (Compare config a b) old new result does =
+    plan_then (compares.Follows a b) None 2 (compare_follows a b) old new config result does
 only_out_changes (Trial seed frames) old new result does = trial_touches old new seed frames result does
 
 -- its last line changes nothing of that

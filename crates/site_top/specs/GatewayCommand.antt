@@ -1,10 +1,12 @@
--- What `gateway CONFIG OUT IN..` does, up to its last line.
+-- What `gateway CONFIG OUT IN..` and `common gateway CONFIG OUT IN..` do, up to their last line.
 use Rattle.std.specs.Prelude.{◌≡◌, ◌⊎◌, ℕ, List, ◌++◌, length, codes}
 use Rattle.std.specs.Fmt.{decimal}
 use Rattle.ports.specs.Desk.{State}
 use Rattle.plp_config.specs.declared.config.Config.{Config}
+use Rattle.common_plp.specs.Inputs.{input_count}
+use Rattle.common_plp.specs.Sharing.{Sharing}
 use Rattle.file_run.specs.declared.stop.RunStop.{RunStop}
-use Rattle.gateway_run.specs.GatewayRun.{RunsAll, Stops}
+use Rattle.gateway_run.specs.SharedRun.{RunsAll, Stops}
 use Rattle.gateway_run.specs.declared.stop.GatewayStop.{GatewayStop}
 use Rattle.gateway_run.specs.declared.stop.Ran.{Ran}
 use Rattle.site_top.specs.declared.outcome.Outcome.{Outcome}
@@ -16,18 +18,19 @@ abbrev pub gateway_line : Ran → List ℕ
 gateway_line ran = codes "frames=" ++ decimal ran.frames ++ codes " units=" ++ decimal ran.units ++ codes "\n"
 
 -- a run to its end, and one that stops
-abbrev pub Ends : List ℕ → List (List ℕ) → Config → State → State → Ran → Type 0
-Ends out ins c mid after ran = RunsAll c mid after out ins ran.frames ran.units
+abbrev pub Ends : Sharing → List ℕ → List (List ℕ) → Config → State → State → Ran → Type 0
+Ends sharing out ins c mid after ran = RunsAll sharing c mid after out ins ran.frames ran.units
 
-abbrev pub StopsSo : List ℕ → List (List ℕ) → Config → State → State → RunStop GatewayStop → Type 0
-StopsSo out ins c mid new stop = Stops c mid new out ins stop
+abbrev pub StopsSo : Sharing → List ℕ → List (List ℕ) → Config → State → State → RunStop GatewayStop → Type 0
+StopsSo sharing out ins c mid new stop = Stops sharing c mid new out ins stop
 
--- There is not one input for each PLP, and nothing is done; or the run follows.
-abbrev pub Follows : List ℕ → List (List ℕ) → Config → State → State → Outcome → Type 0
-Follows out ins c mid new outcome = ((new ≡ mid) × Miscounts c ins outcome)
-    ⊎ ((length ins ≡ length c.plps)
-    × RunsAndTells (Ends out ins c) (StopsSo out ins c) gateway_line gateway_cause mid new outcome)
+-- There is not one input for each PLP that has one, and nothing is done; or the run follows.
+abbrev pub Follows : Sharing → List ℕ → List (List ℕ) → Config → State → State → Outcome → Type 0
+Follows sharing out ins c mid new outcome = ((new ≡ mid) × Miscounts sharing c ins outcome)
+    ⊎ ((length ins ≡ input_count sharing c)
+    × RunsAndTells (Ends sharing out ins c) (StopsSo sharing out ins c) gateway_line gateway_cause mid new outcome)
 
--- `gateway CONFIG OUT IN..`: the file gives no plan, and nothing else is done; or what follows of the plan.
-abbrev pub Gateways : State → State → List ℕ → List ℕ → List (List ℕ) → Outcome → Type 0
-Gateways old new config out ins outcome = ByPlan old new config (Follows out ins) outcome
+-- The file gives no plan, and nothing else is done; or what follows of the plan. With `common gateway` a common PLP has no input: it
+-- carries what the inputs of its group share.
+abbrev pub Gateways : Sharing → State → State → List ℕ → List ℕ → List (List ℕ) → Outcome → Type 0
+Gateways sharing old new config out ins outcome = ByPlan old new config (Follows sharing out ins) outcome

@@ -1,4 +1,6 @@
 pub mod Commands
+pub mod CompareCommand
+pub mod CommonReceiveCommand
 pub mod ConfigCommands
 pub mod Endings
 pub mod GatewayCommand
@@ -6,10 +8,12 @@ pub mod Laws
 pub mod MergeCommand
 pub mod ModulateCommand
 pub mod ReceiveCommand
+pub mod Reception
 pub mod Outcomes
 pub mod PlanCommand
 pub mod PlanLines
 pub mod Runs
 pub mod Saying
+pub mod SwapCommand
 pub mod Touches
 pub mod TrialCommand

@@ -2,6 +2,8 @@
 use Rattle.std.specs.Prelude.{◌≡◌, ◌≢◌, ℕ, List, [], ◌++◌, length, codes, Some, None, Result, Ok, Err}
 use Rattle.std.specs.declared.option.Option.{Option}
 use Rattle.std.specs.Fmt.{decimal}
+use Rattle.common_plp.specs.Inputs.{input_count}
+use Rattle.common_plp.specs.Sharing.{Sharing}
 use Rattle.plp_config.specs.declared.config.Config.{Config}
 use Rattle.t2mi_packet.specs.declared.fault.PacketWhy.{PacketWhy}
 use Rattle.t2mi_packet.specs.declared.fault.PacketWhy.TheVariants.{Short, Crc, PadBits, PayloadShape}
@@ -27,6 +29,10 @@ use Rattle.receive_run.specs.declared.stop.ReceiveStop.{ReceiveStop}
 use Rattle.receive_run.specs.declared.stop.ReceiveStop.TheVariants as receive
 use Rattle.merge_run.specs.declared.stop.MergeStop.{MergeStop}
 use Rattle.merge_run.specs.declared.stop.MergeStop.TheVariants as merge
+use Rattle.swap_run.specs.declared.stop.SwapStop.{SwapStop}
+use Rattle.swap_run.specs.declared.stop.SwapStop.TheVariants as swap
+use Rattle.compare_run.specs.declared.stop.CompareStop.{CompareStop}
+use Rattle.compare_run.specs.declared.stop.CompareStop.TheVariants as compare
 use Rattle.show_run.specs.declared.stop.ShowStop.{ShowStop}
 use Rattle.show_run.specs.declared.stop.ShowStop.TheVariants as show
 use Rattle.trial_run.specs.declared.stop.TrialStop.{TrialStop}
@@ -36,6 +42,7 @@ use Rattle.site_top.specs.declared.outcome.Outcome.TheVariants.{Done, Usage, Wro
 use Rattle.site_top.specs.declared.outcome.Outcome.TheVariants.{InputRefused, NoSuperframe, RecordRefused, UnknownPlp, TooLong}
 use Rattle.site_top.specs.declared.outcome.Outcome.TheVariants.{PacketRefused, ReadFault, WriteFault, OutOfMemory}
 use Rattle.site_top.specs.declared.outcome.Outcome.TheVariants.{TrialFault}
+use Rattle.site_top.specs.declared.outcome.Outcome.TheVariants.{Differs}
 
 -- the status that the program ends with
 abbrev pub status_of : Outcome → ℕ
@@ -50,6 +57,7 @@ status_of (RecordRefused number why) = 7
 status_of (UnknownPlp plp_id) = 8
 status_of (TooLong count) = 9
 status_of (PacketRefused at why) = 10
+status_of (Differs frame) = 12
 status_of ReadFault = 70
 status_of WriteFault = 71
 status_of OutOfMemory = 72
@@ -106,6 +114,7 @@ last_line (UnknownPlp plp_id) = codes "refused: plp " ++ decimal plp_id ++ codes
 last_line (TooLong count) = codes "refused: too long " ++ decimal count ++ codes "\n"
 last_line (PacketRefused at why) = codes "refused: packet at " ++ decimal at ++ codes " why " ++ decimal (why_number why)
     ++ codes "\n"
+last_line (Differs frame) = codes "refused: frame " ++ decimal frame ++ codes " differs\n"
 last_line ReadFault = codes "fault: read\n"
 last_line WriteFault = codes "fault: write\n"
 last_line OutOfMemory = codes "fault: memory\n"
@@ -145,6 +154,17 @@ abbrev pub merge_cause : MergeStop → Outcome
 merge_cause merge.NoSuperframe = NoSuperframe
 merge_cause merge.TooManyFrames = TooLong MOST_FRAMES
 
+-- Of a swap the transport stream is the only input that has bad packets.
+abbrev pub swap_cause : SwapStop → Outcome
+swap_cause swap.NoSuperframe = NoSuperframe
+swap_cause (swap.InputRefused packet) = InputRefused 0 packet
+swap_cause swap.TooManyFrames = TooLong MOST_FRAMES
+
+abbrev pub compare_cause : CompareStop → Outcome
+compare_cause compare.NoSuperframe = NoSuperframe
+compare_cause compare.TooManyFrames = TooLong MOST_FRAMES
+compare_cause (compare.Differs frame) = Differs frame
+
 abbrev pub show_cause : ShowStop → Outcome
 show_cause (show.PacketRefused at why) = PacketRefused at why
 show_cause (show.RecordRefused number why) = RecordRefused number why
@@ -159,9 +179,10 @@ config_outcome (config.Lacks fault) = CapacityRefused fault.test fault.plp fault
 config_outcome config.ReadFault = ReadFault
 config_outcome config.OutOfMemory = OutOfMemory
 
--- of one that does not have one input for each PLP
-abbrev pub Miscounts : Config → List (List ℕ) → Outcome → Type 0
-Miscounts c ins outcome = (length ins ≢ length c.plps) × (outcome ≡ WrongInputs (length c.plps) (length ins))
+-- of one that does not have one input for each PLP that has one
+abbrev pub Miscounts : Sharing → Config → List (List ℕ) → Outcome → Type 0
+Miscounts sharing c ins outcome =
+    (length ins ≢ input_count sharing c) × (outcome ≡ WrongInputs (input_count sharing c) (length ins))
 
 -- of a trial
 abbrev pub trial_outcome : TrialStop → Outcome

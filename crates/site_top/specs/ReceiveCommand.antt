@@ -1,9 +1,8 @@
--- What `receive CONFIG PLP IN OUT` does, up to its last line.
-use Rattle.std.specs.Prelude.{◌≡◌, ◌⊎◌, ◌+◌, ◌<◌, ◌≤◌, ℕ, Bool, not, List, [], ◌++◌, map, length, replicate, codes, IfSome}
+-- What `receive CONFIG PLP IN OUT` gives back, and its line.
+use Rattle.std.specs.Prelude.{◌≡◌, ◌+◌, ◌<◌, ◌≤◌, ℕ, Bool, not, List, [], ◌++◌, map, length, replicate, codes, IfSome}
 use Rattle.std.specs.Fmt.{decimal}
 use Rattle.std.specs.List.{AllByRecursion, concat, range_with_len}
 use Rattle.ports.specs.Desk.{State, bytes_of}
-use Rattle.plp_config.specs.Places.{IsPlace, HasNoPlace}
 use Rattle.plp_config.specs.Plps.{plp_at}
 use Rattle.plp_config.specs.declared.config.Config.{Config}
 use Rattle.plp_config.specs.declared.moment.TheConstants.{MOST_FRAMES}
@@ -17,15 +16,8 @@ use Rattle.record_laws.specs.Recover.{recover}
 use Rattle.frame_laws.specs.SentFrames.{run_length}
 use Rattle.recover_laws.specs.Laws.{IsCanonical}
 use Rattle.recover_laws.specs.ToldEpochs.{IsPacket}
-use Rattle.file_run.specs.declared.stop.RunStop.{RunStop}
-use Rattle.receive_run.specs.ReceiveRun.{RunsAll, Stops}
 use Rattle.receive_run.specs.Received.{Received}
 use Rattle.receive_run.specs.declared.stop.Ran.{Ran}
-use Rattle.receive_run.specs.declared.stop.ReceiveStop.{ReceiveStop}
-use Rattle.site_top.specs.declared.outcome.Outcome.{Outcome}
-use Rattle.site_top.specs.declared.outcome.Outcome.TheVariants.{UnknownPlp}
-use Rattle.site_top.specs.Outcomes.{receive_cause}
-use Rattle.site_top.specs.PlanCommand.{RunsAndTells, ByPlan}
 
 -- the line of a run to its end
 abbrev pub receive_line : Ran → List ℕ
@@ -56,21 +48,3 @@ HoldsWhatComesBack c plp old new file out =
 abbrev pub ReceivedComesBack : Config → Type 0
 ReceivedComesBack c = (plp : ℕ) (file bytes : List ℕ) (views : List RecordView) → plp < length c.plps → AreRecords file views []
     → Received c plp views bytes → ComesBack c plp file bytes
-
--- a run to its end, and one that stops
-abbrev pub Ends : List ℕ → List ℕ → Config → ℕ → State → State → Ran → Type 0
-Ends file out c plp mid after ran = RunsAll c plp mid after file out ran × HoldsWhatComesBack c plp mid after file out
-
-abbrev pub StopsSo : List ℕ → List ℕ → Config → ℕ → State → State → RunStop ReceiveStop → Type 0
-StopsSo file out c plp mid new stop = Stops c plp mid new file out stop
-
--- No PLP has the identifier, and nothing else is done; or the run follows.
-abbrev pub Follows : ℕ → List ℕ → List ℕ → Config → State → State → Outcome → Type 0
-Follows id file out c mid new outcome =
-    (HasNoPlace c id × (new ≡ mid) × (outcome ≡ UnknownPlp id))
-    ⊎ ((plp : ℕ) × IsPlace c id plp
-    × RunsAndTells (Ends file out c plp) (StopsSo file out c plp) receive_line receive_cause mid new outcome)
-
--- `receive CONFIG PLP IN OUT`: CONFIG gives no plan, and nothing else is done; or what follows does.
-abbrev pub Receives : State → State → List ℕ → ℕ → List ℕ → List ℕ → Outcome → Type 0
-Receives old new config id file out outcome = ByPlan old new config (Follows id file out) outcome

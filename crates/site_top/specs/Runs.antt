@@ -2,8 +2,10 @@
 use Rattle.std.specs.Prelude.{◌≡◌, ◌⊎◌, ℕ, ◌<◌, List, length, Result, Ok, Err, IfSome}
 use Rattle.ports.specs.Counts.{Rose}
 use Rattle.ports.specs.Desk.{State, Held, bytes_of}
-use Rattle.plp_config.specs.Places.{IsPlace, HasNoPlace}
+use Rattle.common_plp.specs.Inputs.{input_count}
+use Rattle.common_plp.specs.Sharing.{Sharing, joined_with, IsPlaceBy, HasNoPlaceBy}
 use Rattle.plp_config.specs.declared.config.Config.{Config}
+use Rattle.plp_config.specs.Places.{IsPlace, HasNoPlace}
 use Rattle.config_file.specs.Laws.{GivesConfig, GivesPlan}
 use Rattle.config_file.specs.declared.stop.ConfigStop.{ConfigStop}
 use Rattle.desk_io.specs.Reading.{longest_file}
@@ -15,13 +17,19 @@ use Rattle.gateway_run.specs.declared.stop.GatewayStop.{GatewayStop}
 use Rattle.modulate_run.specs.Laws.{MustRun as ModulateMust}
 use Rattle.modulate_run.specs.declared.stop.Ran.{Ran as Modulated}
 use Rattle.modulate_run.specs.declared.stop.ModulateStop.{ModulateStop}
-use Rattle.receive_run.specs.Laws.{MustRun as ReceiveMust}
+use Rattle.receive_run.specs.JoinedLaws.{MustRun as ReceiveMust}
 use Rattle.receive_run.specs.declared.stop.Ran.{Ran as Received}
 use Rattle.receive_run.specs.declared.stop.ReceiveStop.{ReceiveStop}
 use Rattle.merge_run.specs.Laws.{MustRun as MergeMust}
 use Rattle.merge_run.specs.MergeRun.{names_of}
 use Rattle.merge_run.specs.declared.stop.Ran.{Ran as Merged}
 use Rattle.merge_run.specs.declared.stop.MergeStop.{MergeStop}
+use Rattle.swap_run.specs.Laws.{MustRun as SwapMust}
+use Rattle.swap_run.specs.declared.stop.Ran.{Ran as Swapped}
+use Rattle.swap_run.specs.declared.stop.SwapStop.{SwapStop}
+use Rattle.compare_run.specs.Laws.{MustRun as CompareMust}
+use Rattle.compare_run.specs.declared.stop.CompareStop.{CompareStop}
+use Rattle.frame_compare.specs.declared.counts.Counts.{Counts as Compared}
 use Rattle.show_run.specs.Laws.{PacketsEnd, RecordsEnd}
 use Rattle.show_run.specs.PacketText.{IsPacketText}
 use Rattle.show_run.specs.RecordText.{IsRecordText}
@@ -32,15 +40,19 @@ use Rattle.site_frame.specs.RecordFile.{AreBytes}
 use Rattle.site_top.specs.declared.outcome.Outcome.{Outcome}
 use Rattle.site_top.specs.declared.outcome.Outcome.TheVariants.{Done, UnknownPlp, OutOfMemory, TrialFault}
 use Rattle.site_top.specs.Commands.{Command, ShowPackets, ShowT2mi, ShowFrames, ShowConfig, Plan, Gateway, Modulate, Receive}
-use Rattle.site_top.specs.Commands.{Merge, Trial}
+use Rattle.site_top.specs.Commands.{Merge, Swap, Trial}
+use Rattle.site_top.specs.Commands.{Compare}
+use Rattle.site_top.specs.CompareCommand.{Compares}
+use Rattle.site_top.specs.Outcomes.{compare_cause}
 use Rattle.site_top.specs.ConfigCommands.{ShowsConfig, Plans}
 use Rattle.site_top.specs.GatewayCommand.{Gateways}
 use Rattle.site_top.specs.MergeCommand.{Merges}
 use Rattle.site_top.specs.ModulateCommand.{Modulates}
-use Rattle.site_top.specs.ReceiveCommand.{Receives}
+use Rattle.site_top.specs.Reception.{Receives}
+use Rattle.site_top.specs.SwapCommand.{Swaps}
 use Rattle.site_top.specs.TrialCommand.{Tries}
 use Rattle.site_top.specs.Outcomes.{run_outcome, stop_outcome, gateway_cause, modulate_cause, receive_cause, merge_cause}
-use Rattle.site_top.specs.Outcomes.{show_cause, config_outcome, Miscounts}
+use Rattle.site_top.specs.Outcomes.{swap_cause, show_cause, config_outcome, Miscounts}
 
 -- A file is shown by the text that a definition asks for.
 abbrev pub Shows : (List ℕ → ℕ → Result ℕ (RunStop ShowStop) → List ℕ → Type 0) → State → State → List ℕ → Outcome → Type 0
@@ -53,10 +65,12 @@ Does (ShowT2mi file) old new outcome = Shows IsT2miText old new file outcome
 Does (ShowFrames file) old new outcome = Shows IsRecordText old new file outcome
 Does (ShowConfig file) old new outcome = ShowsConfig old new file outcome
 Does (Plan config) old new outcome = Plans old new config outcome
-Does (Gateway config out ins) old new outcome = Gateways old new config out ins outcome
+Does (Gateway sharing config out ins) old new outcome = Gateways sharing old new config out ins outcome
 Does (Modulate config file out) old new outcome = Modulates old new config file out outcome
-Does (Receive config id file out) old new outcome = Receives old new config id file out outcome
+Does (Receive sharing config id file out) old new outcome = Receives sharing old new config id file out outcome
 Does (Merge config a b out) old new outcome = Merges old new config a b out outcome
+Does (Swap config id t2mi file out) old new outcome = Swaps old new config id t2mi file out outcome
+Does (Compare config a b) old new outcome = Compares old new config a b outcome
 Does (Trial seed frames) old new outcome = Tries old new seed frames outcome
 
 -- No input is too long.
@@ -70,36 +84,50 @@ AreShortFor (ShowT2mi file) held = length (bytes_of held.files file) < longest_f
 AreShortFor (ShowFrames file) held = (length (bytes_of held.files file) < longest_file) × AreBytes (bytes_of held.files file)
 AreShortFor (ShowConfig file) held = Unit {0}
 AreShortFor (Plan config) held = Unit {0}
-AreShortFor (Gateway config out ins) held = AreShort held ins
+AreShortFor (Gateway sharing config out ins) held = AreShort held ins
 AreShortFor (Modulate config file out) held = length (bytes_of held.files file) < longest_file
-AreShortFor (Receive config id file out) held = (length (bytes_of held.files file) < longest_file)
+AreShortFor (Receive sharing config id file out) held = (length (bytes_of held.files file) < longest_file)
     × AreBytes (bytes_of held.files file)
 AreShortFor (Merge config a b out) held = AreShort held (names_of a b)
+AreShortFor (Swap config id t2mi file out) held = AreShort held (names_of t2mi file)
+AreShortFor (Compare config a b) held = AreShort held (names_of a b)
 AreShortFor (Trial seed frames) held = Unit {0}
 
--- How `gateway` must end over a plan: with the numbers if there is not one input for each PLP, else as the run does over inputs
--- that are not too long.
-abbrev pub PlanMustEnd : Held → List (List ℕ) → Config → Outcome → Type 0
-PlanMustEnd held ins c outcome = Miscounts c ins outcome
-    ⊎ ((length ins ≡ length c.plps) × AreShort held ins × ((result : Result Ran GatewayStop) × MustRun c (file_at held ins) result
-    × (outcome ≡ run_outcome gateway_cause result)))
+-- How `gateway` and `common gateway` must end over a plan: with the numbers if there is not one input for each PLP that has one,
+-- else as the run does over inputs that are not too long.
+abbrev pub PlanMustEnd : Sharing → Held → List (List ℕ) → Config → Outcome → Type 0
+PlanMustEnd sharing held ins c outcome = Miscounts sharing c ins outcome
+    ⊎ ((length ins ≡ input_count sharing c) × AreShort held ins × ((result : Result Ran GatewayStop)
+    × MustRun sharing c (file_at held ins) result × (outcome ≡ run_outcome gateway_cause result)))
 
 -- How `modulate` must end over a plan: as the run does over an input that is not too long.
 abbrev pub ModulateMustEnd : List ℕ → Config → Outcome → Type 0
 ModulateMustEnd bytes c outcome = (length bytes < longest_file)
     × ((result : Result Modulated ModulateStop) × ModulateMust c bytes result × (outcome ≡ run_outcome modulate_cause result))
 
--- How `receive` must end over a plan: with the identifier if no PLP has it, else as the run does over records that are not too
--- long.
-abbrev pub ReceiveMustEnd : List ℕ → ℕ → Config → Outcome → Type 0
-ReceiveMustEnd bytes id c outcome = (HasNoPlace c id × (outcome ≡ UnknownPlp id))
-    ⊎ ((plp : ℕ) × IsPlace c id plp × (length bytes < longest_file)
-    × ((result : Result Received ReceiveStop) × ReceiveMust c plp bytes result × (outcome ≡ run_outcome receive_cause result)))
+-- How `receive` and `common receive` must end over a plan: with the identifier if no PLP that can be asked for has it, else as the
+-- run does over records that are not too long.
+abbrev pub ReceiveMustEnd : Sharing → List ℕ → ℕ → Config → Outcome → Type 0
+ReceiveMustEnd sharing bytes id c outcome = (HasNoPlaceBy sharing c id × (outcome ≡ UnknownPlp id))
+    ⊎ ((plp : ℕ) × IsPlaceBy sharing c id plp × (length bytes < longest_file)
+    × ((result : Result Received ReceiveStop) × ReceiveMust (joined_with sharing c plp) c plp bytes result
+    × (outcome ≡ run_outcome receive_cause result)))
 
 -- How `merge` must end over a plan: as the run does over two inputs that are not too long.
 abbrev pub MergeMustEnd : Held → List (List ℕ) → Config → Outcome → Type 0
 MergeMustEnd held ins c outcome = AreShort held ins
     × ((result : Result Merged MergeStop) × MergeMust c (file_at held ins) result × (outcome ≡ run_outcome merge_cause result))
+
+-- How `swap` must end over a plan: with the identifier if no PLP has it, else as the run does over two inputs that are not too long.
+abbrev pub SwapMustEnd : Held → List (List ℕ) → ℕ → Config → Outcome → Type 0
+SwapMustEnd held ins id c outcome = (HasNoPlace c id × (outcome ≡ UnknownPlp id))
+    ⊎ ((plp : ℕ) × IsPlace c id plp × AreShort held ins
+    × ((result : Result Swapped SwapStop) × SwapMust c plp (file_at held ins) result × (outcome ≡ run_outcome swap_cause result)))
+
+-- How `compare` must end over a plan: as the run does over two inputs that are not too long.
+abbrev pub CompareMustEnd : Held → List (List ℕ) → Config → Outcome → Type 0
+CompareMustEnd held ins c outcome = AreShort held ins
+    × ((result : Result Compared CompareStop) × CompareMust c (file_at held ins) result × (outcome ≡ run_outcome compare_cause result))
 
 -- How a command must end whose CONFIG has this text: with its refusal, or as it must over the plan that it gives.
 abbrev pub OverPlan : List ℕ → (Config → Outcome → Type 0) → Outcome → Type 0
@@ -119,12 +147,16 @@ MustEnd (ShowConfig file) held outcome = (result : Result Config ConfigStop) × 
     × (outcome ≡ run_outcome config_outcome result)
 MustEnd (Plan config) held outcome = (result : Result Config ConfigStop) × GivesPlan (bytes_of held.files config) result
     × (outcome ≡ run_outcome config_outcome result)
-MustEnd (Gateway config out ins) held outcome = OverPlan (bytes_of held.files config) (PlanMustEnd held ins) outcome
+MustEnd (Gateway sharing config out ins) held outcome =
+    OverPlan (bytes_of held.files config) (PlanMustEnd sharing held ins) outcome
 MustEnd (Modulate config file out) held outcome =
     OverPlan (bytes_of held.files config) (ModulateMustEnd (bytes_of held.files file)) outcome
-MustEnd (Receive config id file out) held outcome =
-    OverPlan (bytes_of held.files config) (ReceiveMustEnd (bytes_of held.files file) id) outcome
+MustEnd (Receive sharing config id file out) held outcome =
+    OverPlan (bytes_of held.files config) (ReceiveMustEnd sharing (bytes_of held.files file) id) outcome
 MustEnd (Merge config a b out) held outcome = OverPlan (bytes_of held.files config) (MergeMustEnd held (names_of a b)) outcome
+MustEnd (Swap config id t2mi file out) held outcome =
+    OverPlan (bytes_of held.files config) (SwapMustEnd held (names_of t2mi file) id) outcome
+MustEnd (Compare config a b) held outcome = OverPlan (bytes_of held.files config) (CompareMustEnd held (names_of a b)) outcome
 MustEnd (Trial seed frames) held outcome = outcome ≡ Done
 
 -- A trial can show a defect of its own.

@@ -3,7 +3,8 @@ use Rattle.std.specs.Prelude.{◌≡◌, ◌≢◌, ℕ, ◌+◌, ◌≤◌, Lis
 use Rattle.std.specs.FinMap.{get}
 use Rattle.ports.specs.Desk.{State, Held}
 use Rattle.site_top.specs.Commands.{Command, ShowPackets, ShowT2mi, ShowFrames, ShowConfig, Plan, Gateway, Modulate, Receive}
-use Rattle.site_top.specs.Commands.{Merge, Trial}
+use Rattle.site_top.specs.Commands.{Merge, Swap, Trial}
+use Rattle.site_top.specs.Commands.{Compare}
 
 -- the file that a command writes, if it writes one
 abbrev pub out_of : Command → Option (List ℕ)
@@ -12,10 +13,12 @@ out_of (ShowT2mi file) = None
 out_of (ShowFrames file) = None
 out_of (ShowConfig file) = None
 out_of (Plan config) = None
-out_of (Gateway config out ins) = Some out
+out_of (Gateway sharing config out ins) = Some out
 out_of (Modulate config file out) = Some out
-out_of (Receive config id file out) = Some out
+out_of (Receive sharing config id file out) = Some out
 out_of (Merge config a b out) = Some out
+out_of (Swap config id t2mi file out) = Some out
+out_of (Compare config a b) = None
 out_of (Trial seed frames) = None
 
 -- the files that it reads
@@ -25,10 +28,12 @@ ins_of (ShowT2mi file) = file ∷ []
 ins_of (ShowFrames file) = file ∷ []
 ins_of (ShowConfig file) = file ∷ []
 ins_of (Plan config) = config ∷ []
-ins_of (Gateway config out ins) = config ∷ ins
+ins_of (Gateway sharing config out ins) = config ∷ ins
 ins_of (Modulate config file out) = config ∷ file ∷ []
-ins_of (Receive config id file out) = config ∷ file ∷ []
+ins_of (Receive sharing config id file out) = config ∷ file ∷ []
 ins_of (Merge config a b out) = config ∷ a ∷ b ∷ []
+ins_of (Swap config id t2mi file out) = config ∷ t2mi ∷ file ∷ []
+ins_of (Compare config a b) = config ∷ a ∷ b ∷ []
 ins_of (Trial seed frames) = []
 
 -- how many files it writes

@@ -1,5 +1,6 @@
 // `gateway CONFIG OUT IN..`.
 ghost use Rattle.std.specs.Prelude.{◌≡◌, true};
+ghost use Rattle.common_plp.specs.Sharing.{Apart};
 ghost use Rattle.site_top.specs.Commands.{are_inputs};
 ghost use Rattle.site_top.specs.GatewayCommand.{Gateways};
 
@@ -20,7 +21,7 @@ pub fn gateway<D: Desk>(
     desk: &mut D,
 ) -> Outcome
     requires { are_inputs out.now ins.now ≡ true }
-    ensures { Gateways (D.state desk.old) (D.state desk.new) config.now out.now ins.now result }
+    ensures { Gateways Apart (D.state desk.old) (D.state desk.new) config.now out.now ins.now result }
 {
     let plan = match read_plan(alloc, config, desk) {
         Ok(plan) => plan,

@@ -53,6 +53,16 @@ fn packet_refused_line(at: u64, why: PacketWhy) -> Line
     line
 }
 
+#[tactic(auto, unfolding(crate::specs::Outcomes::last_line))]
+fn differs_line(frame: u64) -> Line
+    ensures { result ≡ line_of_outcome (Outcome.Differs frame) }
+{
+    let mut line = Line::new();
+    line.push_field(b"refused: frame ", frame);
+    line.push(b" differs\n");
+    line
+}
+
 fn record_why_number(why: RecordWhy) -> u8
     ensures { result ≡ number_of_record_why why }
 {
@@ -172,6 +182,7 @@ pub fn last_line(outcome: Outcome) -> Line
         Outcome::UnknownPlp { plp_id } => unknown_plp_line(plp_id),
         Outcome::TooLong { count } => too_long_line(count),
         Outcome::PacketRefused { at, why } => packet_refused_line(at, why),
+        Outcome::Differs { frame } => differs_line(frame),
         Outcome::ReadFault => line_with(b"fault: read\n"),
         Outcome::WriteFault => line_with(b"fault: write\n"),
         Outcome::OutOfMemory => line_with(b"fault: memory\n"),

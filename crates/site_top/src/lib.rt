@@ -1,6 +1,9 @@
 //! The commands of the program, over any desk.
 #![tactic(auto)]
 
+mod common_gateway;
+mod common_receive;
+mod compare;
 mod config_commands;
 mod gateway;
 mod last_lines;
@@ -13,6 +16,7 @@ mod receive;
 mod request;
 mod run_end;
 mod running;
+mod swap;
 mod trial;
 
 pub use config_file::ConfigCause;

@@ -33,7 +33,8 @@ pub enum Outcome {
         have: u64,
     },
     /// This packet of this input, both counted from 0, does not begin with the sync byte, or the input ends inside it. No bad
-    /// packet is met in an earlier frame, or in the same frame in an earlier input.
+    /// packet is met in an earlier frame, or in the same frame in an earlier input; of `common gateway`, in the same frame in an earlier
+    /// group, or in the same group in an earlier slot, or in the same slot in an earlier input.
     InputRefused {
         input: u8,
         packet: u64,
@@ -45,7 +46,7 @@ pub enum Outcome {
         number: u64,
         why: RecordWhy,
     },
-    /// No PLP of the configuration has this identifier.
+    /// No PLP of the configuration has this identifier, or of `common receive` a common one has it.
     UnknownPlp {
         plp_id: u8,
     },
@@ -57,6 +58,10 @@ pub enum Outcome {
     PacketRefused {
         at: u64,
         why: PacketWhy,
+    },
+    /// This frame is the first that two streams both send and that is not the same in both.
+    Differs {
+        frame: u64,
     },
     /// A file could not be opened or read.
     ReadFault,
@@ -84,6 +89,7 @@ impl Outcome {
             Outcome::UnknownPlp { .. } => 8,
             Outcome::TooLong { .. } => 9,
             Outcome::PacketRefused { .. } => 10,
+            Outcome::Differs { .. } => 12,
             Outcome::ReadFault => 70,
             Outcome::WriteFault => 71,
             Outcome::OutOfMemory => 72,

@@ -1,7 +1,9 @@
 // `receive CONFIG PLP IN OUT`.
 ghost use Rattle.std.specs.Prelude.{◌≡◌, true};
 ghost use Rattle.site_top.specs.Commands.{is_input};
-ghost use Rattle.site_top.specs.ReceiveCommand.{ReceivedComesBack, Receives};
+ghost use Rattle.common_plp.specs.Sharing.{Apart};
+ghost use Rattle.site_top.specs.ReceiveCommand.{ReceivedComesBack};
+ghost use Rattle.site_top.specs.Reception.{Receives};
 
 use crate::config_commands::outcome_of;
 use crate::outcome::Outcome;
@@ -15,8 +17,8 @@ use recover_laws::{recover_law, whole_law};
 use site_frame::{place_law, reading_law, refusal_law, writing_law};
 use std::alloc::Global;
 
-// What records of a run's frames give back of a PLP of the plan. It does nothing.
-fn back_law(plan: &Plan)
+/// What records of a run's frames give back of a PLP of the plan. It does nothing.
+pub fn back_law(plan: &Plan)
     ensures { ReceivedComesBack plan.now }
 {
     plan.rules_law();
@@ -42,7 +44,7 @@ pub fn receive<D: Desk>(
     desk: &mut D,
 ) -> Outcome
     requires { is_input out.now input.now ≡ true }
-    ensures { Receives (D.state desk.old) (D.state desk.new) config.now id input.now out.now result }
+    ensures { Receives Apart (D.state desk.old) (D.state desk.new) config.now id input.now out.now result }
 {
     let plan = match read_plan(alloc, config, desk) {
         Ok(plan) => plan,

@@ -1,9 +1,14 @@
 // What the words of the command line ask for.
-ghost use Rattle.std.specs.Prelude.{◌≡◌, ◌≤◌, IfSome};
+ghost use Rattle.std.specs.Prelude.{◌≡◌, ◌≤◌, ◌∷◌, [], IfSome};
 ghost use Rattle.std.specs.Option.{option_map};
 ghost use Rattle.site_top.specs.Commands.{command_of, shown as shown_by, show_of as show_by, is_input, are_inputs};
+ghost use Rattle.common_plp.specs.Sharing.{Apart, Joint};
 ghost use Rattle.site_top.specs.Commands.{gateway_of as gateway_by, modulate_of as modulate_by, number_named as number_by};
+ghost use Rattle.site_top.specs.Commands.{common_of as common_by, common_receive_of as common_receive_by};
+ghost use Rattle.site_top.specs.Commands.{common_counted_of as common_counted_by, counted_of as counted_by};
 ghost use Rattle.site_top.specs.Commands.{receive_of as receive_by, merge_of as merge_by, trial_of as trial_by, meant, IsApart};
+ghost use Rattle.site_top.specs.Commands.{swap_of as swap_by};
+ghost use Rattle.site_top.specs.Commands.{compare_of as compare_by};
 
 use config_text::number_within;
 use ports::Word;
@@ -42,6 +47,13 @@ pub enum Request<'a> {
         out: &'a str,
         ins: &'a [Word],
     },
+    /// Makes the T2-MI stream of a network with common PLPs: its configuration, the stream, and one transport stream for each PLP that
+    /// is not common.
+    CommonGateway {
+        config: &'a str,
+        out: &'a str,
+        ins: &'a [Word],
+    },
     /// Makes the records of the frames of a network: its configuration, its T2-MI stream, and the records.
     Modulate {
         config: &'a str,
@@ -56,12 +68,35 @@ pub enum Request<'a> {
         input: &'a str,
         out: &'a str,
     },
+    /// Gives back the packets of the PLP with an identifier, and what goes in the common PLP of its group: the configuration of the
+    /// network, the records of its frames, and the transport stream.
+    CommonReceive {
+        config: &'a str,
+        plp_id: u8,
+        input: &'a str,
+        out: &'a str,
+    },
     /// Makes one T2-MI stream of two of a network: its configuration, both streams, which may be one file, and the stream.
     Merge {
         config: &'a str,
         a: &'a str,
         b: &'a str,
         out: &'a str,
+    },
+    /// Replaces the packets of the PLP with an identifier: the configuration of the network, its T2-MI stream and the transport stream
+    /// of the region, which may be one file, and the stream that is made of them.
+    Swap {
+        config: &'a str,
+        plp_id: u8,
+        t2mi: &'a str,
+        input: &'a str,
+        out: &'a str,
+    },
+    /// Compares two T2-MI streams of a network: its configuration, and both streams, which may be one file.
+    Compare {
+        config: &'a str,
+        a: &'a str,
+        b: &'a str,
     },
     /// Tries a whole network, for so many frames, with inputs that are drawn from a number.
     Trial {
@@ -102,13 +137,24 @@ fn are_inputs(out: &str, ins: &[Word]) -> bool
 
 // The command `gateway CONFIG OUT IN..`, if the output is none of the files that are read.
 fn gateway_of<'a>(config: &'a str, out: &'a str, ins: &'a [Word]) -> Option<Request<'a>>
-    ensures named { option_map meant result ≡ gateway_by config.now out.now ins.now }
+    ensures named { option_map meant result ≡ gateway_by Apart config.now out.now ins.now }
     ensures apart { IfSome result IsApart }
 {
     if out.is_empty() || config.is_empty() || config == out || !are_inputs(out, ins) {
         return None;
     }
     Some(Request::Gateway { config, out, ins })
+}
+
+// The command `common gateway CONFIG OUT IN..`, if the output is none of the files that are read.
+fn common_gateway_of<'a>(config: &'a str, out: &'a str, ins: &'a [Word]) -> Option<Request<'a>>
+    ensures named { option_map meant result ≡ gateway_by Joint config.now out.now ins.now }
+    ensures apart { IfSome result IsApart }
+{
+    if out.is_empty() || config.is_empty() || config == out || !are_inputs(out, ins) {
+        return None;
+    }
+    Some(Request::CommonGateway { config, out, ins })
 }
 
 // Whether this is the name of an input: not empty, and not that of the output.
@@ -165,6 +211,58 @@ fn receive_of<'a>(
     })
 }
 
+// The command `common receive CONFIG PLP IN OUT`, if the output is none of the files that are read.
+fn common_receive_of<'a>(
+    config: &'a str,
+    plp: &str,
+    input: &'a str,
+    out: &'a str,
+) -> Option<Request<'a>>
+    ensures named { option_map meant result ≡ common_receive_by config.now plp.now input.now out.now }
+    ensures apart { IfSome result IsApart }
+{
+    if out.is_empty() || !is_input(out, config) || !is_input(out, input) {
+        return None;
+    }
+    let plp_id = number_named(plp, 0, 255)?;
+    Some(Request::CommonReceive {
+        config,
+        plp_id: plp_id as u8,
+        input,
+        out,
+    })
+}
+
+// The command `common WHAT CONFIG ..` that has a number of words.
+fn common_counted_of<'a>(
+    what: &str,
+    config: &'a str,
+    plp: &str,
+    words: &'a [Word],
+) -> Option<Request<'a>>
+    ensures named { option_map meant result ≡ common_counted_by what.now config.now plp.now words.now }
+    ensures apart { IfSome result IsApart }
+{
+    match words {
+        [input, out] if what == "receive" => {
+            common_receive_of(config, plp, input.as_str(), out.as_str())
+        }
+        _ => None,
+    }
+}
+
+// The command `common WHAT CONFIG ..`.
+fn common_of<'a>(what: &str, config: &'a str, words: &'a [Word]) -> Option<Request<'a>>
+    ensures named { option_map meant result ≡ common_by what.now config.now words.now }
+    ensures apart { IfSome result IsApart }
+{
+    match words {
+        [out, ins @ ..] if what == "gateway" => common_gateway_of(config, out.as_str(), ins),
+        [plp, more @ ..] => common_counted_of(what, config, plp.as_str(), more),
+        _ => None,
+    }
+}
+
 // The command `merge CONFIG A B OUT`, if the output is none of the files that are read.
 fn merge_of<'a>(config: &'a str, a: &'a str, b: &'a str, out: &'a str) -> Option<Request<'a>>
     ensures named { option_map meant result ≡ merge_by config.now a.now b.now out.now }
@@ -172,6 +270,45 @@ fn merge_of<'a>(config: &'a str, a: &'a str, b: &'a str, out: &'a str) -> Option
 {
     if !out.is_empty() && is_input(out, config) && is_input(out, a) && is_input(out, b) {
         return Some(Request::Merge { config, a, b, out });
+    }
+    None
+}
+
+// The command `swap CONFIG PLP T2MI IN OUT`, if the output is none of the files that are read.
+fn swap_of<'a>(
+    swap: &str,
+    config: &'a str,
+    plp: &str,
+    t2mi: &'a str,
+    input: &'a str,
+    out: &'a str,
+) -> Option<Request<'a>>
+    ensures named { option_map meant result ≡ swap_by swap.now config.now plp.now t2mi.now input.now out.now }
+    ensures apart { IfSome result IsApart }
+{
+    if swap != "swap" || out.is_empty() || !is_input(out, config) {
+        return None;
+    }
+    if !is_input(out, t2mi) || !is_input(out, input) {
+        return None;
+    }
+    let plp_id = number_named(plp, 0, 255)?;
+    Some(Request::Swap {
+        config,
+        plp_id: plp_id as u8,
+        t2mi,
+        input,
+        out,
+    })
+}
+
+// The command `compare CONFIG A B`.
+fn compare_of<'a>(config: &'a str, a: &'a str, b: &'a str) -> Option<Request<'a>>
+    ensures named { option_map meant result ≡ compare_by config.now a.now b.now }
+    ensures apart { IfSome result IsApart }
+{
+    if !config.is_empty() && !a.is_empty() && !b.is_empty() {
+        return Some(Request::Compare { config, a, b });
     }
     None
 }
@@ -201,6 +338,79 @@ fn show_of<'a>(show: &str, what: &str, file: &'a str) -> Option<Request<'a>>
     }
 }
 
+// The command of three words.
+fn three_words<'a>(first: &str, second: &'a str, third: &'a str) -> Option<Request<'a>>
+    ensures named { option_map meant result ≡ counted_by first.now second.now third.now [] }
+    ensures apart { IfSome result IsApart }
+{
+    if first == "trial" {
+        trial_of(second, third)
+    } else {
+        show_of(first, second, third)
+    }
+}
+
+// The command of four.
+fn four_words<'a>(
+    first: &str,
+    second: &'a str,
+    third: &'a str,
+    fourth: &'a str,
+) -> Option<Request<'a>>
+    ensures named { option_map meant result ≡ counted_by first.now second.now third.now (fourth.now ∷ []) }
+    ensures apart { IfSome result IsApart }
+{
+    if first == "compare" {
+        compare_of(second, third, fourth)
+    } else {
+        modulate_of(first, second, third, fourth)
+    }
+}
+
+// The command of five.
+fn five_words<'a>(
+    first: &str,
+    second: &'a str,
+    third: &'a str,
+    fourth: &'a str,
+    fifth: &'a str,
+) -> Option<Request<'a>>
+    ensures named { option_map meant result ≡ counted_by first.now second.now third.now (fourth.now ∷ fifth.now ∷ []) }
+    ensures apart { IfSome result IsApart }
+{
+    if first == "merge" {
+        merge_of(second, third, fourth, fifth)
+    } else {
+        receive_of(first, second, third, fourth, fifth)
+    }
+}
+
+// The command of three words or more that has a number of words.
+fn counted_of<'a>(
+    first: &str,
+    second: &'a str,
+    third: &'a str,
+    more: &'a [Word],
+) -> Option<Request<'a>>
+    ensures named { option_map meant result ≡ counted_by first.now second.now third.now more.now }
+    ensures apart { IfSome result IsApart }
+{
+    match more {
+        [] => three_words(first, second, third),
+        [fourth] => four_words(first, second, third, fourth.as_str()),
+        [fourth, fifth] => five_words(first, second, third, fourth.as_str(), fifth.as_str()),
+        [t2mi, input, out] => swap_of(
+            first,
+            second,
+            third,
+            t2mi.as_str(),
+            input.as_str(),
+            out.as_str(),
+        ),
+        _ => None,
+    }
+}
+
 /// The command that words name, `None` if they name none.
 pub fn request_of<'a>(words: &'a [Word]) -> Option<Request<'a>>
     ensures named { option_map meant result ≡ command_of words.now }
@@ -219,26 +429,15 @@ pub fn request_of<'a>(words: &'a [Word]) -> Option<Request<'a>>
         [gateway, config, out, ins @ ..] if gateway.as_str() == "gateway" => {
             gateway_of(config.as_str(), out.as_str(), ins)
         }
-        [modulate, config, input, out] => modulate_of(
-            modulate.as_str(),
-            config.as_str(),
-            input.as_str(),
-            out.as_str(),
-        ),
-        [merge, config, a, b, out] if merge.as_str() == "merge" => {
-            merge_of(config.as_str(), a.as_str(), b.as_str(), out.as_str())
+        [common, what, config, words @ ..] if common.as_str() == "common" => {
+            common_of(what.as_str(), config.as_str(), words)
         }
-        [receive, config, plp, input, out] => receive_of(
-            receive.as_str(),
-            config.as_str(),
-            plp.as_str(),
-            input.as_str(),
-            out.as_str(),
+        [first, second, third, more @ ..] => counted_of(
+            first.as_str(),
+            second.as_str(),
+            third.as_str(),
+            more,
         ),
-        [trial, seed, frames] if trial.as_str() == "trial" => {
-            trial_of(seed.as_str(), frames.as_str())
-        }
-        [show, what, file] => show_of(show.as_str(), what.as_str(), file.as_str()),
         _ => None,
     }
 }

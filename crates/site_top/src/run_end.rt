@@ -5,6 +5,7 @@ ghost use Rattle.site_top.specs.Saying.{Tells};
 
 use crate::config_commands::tell;
 use crate::outcome::{Outcome, file_outcome};
+use compare_run::CompareStop;
 use desk_io::Line;
 use file_run::RunStop;
 use gateway_run::GatewayStop;
@@ -14,6 +15,7 @@ use plp_config::MOST_FRAMES;
 use ports::Desk;
 use receive_run::ReceiveStop;
 use show_run::ShowStop;
+use swap_run::SwapStop;
 
 /// A machine's own cause why its run is no success.
 pub trait Cause: Copy {
@@ -74,6 +76,34 @@ impl Cause for MergeStop {
         match self {
             MergeStop::NoSuperframe => Outcome::NoSuperframe,
             MergeStop::TooManyFrames => Outcome::TooLong { count: MOST_FRAMES },
+        }
+    }
+}
+
+impl Cause for SwapStop {
+    ghost use Rattle.site_top.specs.Outcomes.{swap_cause};
+
+    ghost outcome = { swap_cause };
+
+    fn outcome(self) -> Outcome {
+        match self {
+            SwapStop::NoSuperframe => Outcome::NoSuperframe,
+            SwapStop::InputRefused { packet } => Outcome::InputRefused { input: 0, packet },
+            SwapStop::TooManyFrames => Outcome::TooLong { count: MOST_FRAMES },
+        }
+    }
+}
+
+impl Cause for CompareStop {
+    ghost use Rattle.site_top.specs.Outcomes.{compare_cause};
+
+    ghost outcome = { compare_cause };
+
+    fn outcome(self) -> Outcome {
+        match self {
+            CompareStop::NoSuperframe => Outcome::NoSuperframe,
+            CompareStop::TooManyFrames => Outcome::TooLong { count: MOST_FRAMES },
+            CompareStop::Differs { frame } => Outcome::Differs { frame },
         }
     }
 }
@@ -178,6 +208,22 @@ impl Ran for merge_run::Ran {
         line.push_field(b"merged frames=", self.frames);
         line.push_field(b" a=", self.a);
         line.push_field(b" b=", self.b);
+        line.push_field(b" units=", self.units);
+        line.push(b"\n");
+        line
+    }
+}
+
+impl Ran for swap_run::Ran {
+    ghost use Rattle.site_top.specs.SwapCommand.{swap_line};
+
+    ghost line = { swap_line };
+
+    fn line(self) -> Line {
+        let mut line = Line::new();
+        line.push_field(b"swapped frames=", self.frames);
+        line.push_field(b" muted=", self.muted);
+        line.push_field(b" unsent=", self.unsent);
         line.push_field(b" units=", self.units);
         line.push(b"\n");
         line

@@ -6,6 +6,9 @@ ghost use Rattle.site_top.specs.Endings.{Ends};
 ghost use Rattle.site_top.specs.Runs.{Does, IsComplete};
 ghost use Rattle.site_top.specs.Touches.{Touches, out_of, ins_of};
 
+use crate::common_gateway::common_gateway;
+use crate::common_receive::common_receive;
+use crate::compare::compare;
 use crate::config_commands::{plan, show_config};
 use crate::gateway::gateway;
 use crate::last_lines::last_line;
@@ -16,6 +19,7 @@ use crate::outcome::Outcome;
 use crate::receive::receive;
 use crate::request::{Request, request_of};
 use crate::run_end::outcome_of;
+use crate::swap::swap;
 use crate::trial::trial;
 use ports::{Desk, Word};
 use show_run::{show_frames, show_packets, show_t2mi};
@@ -33,6 +37,9 @@ fn command<D: Desk>(alloc: Global, words: &[Word], desk: &mut D) -> Outcome
         Some(Request::ShowConfig { file }) => show_config(alloc, file, desk),
         Some(Request::Plan { config }) => plan(alloc, config, desk),
         Some(Request::Gateway { config, out, ins }) => gateway(alloc, config, out, ins, desk),
+        Some(Request::CommonGateway { config, out, ins }) => {
+            common_gateway(alloc, config, out, ins, desk)
+        }
         Some(Request::Modulate { config, input, out }) => modulate(alloc, config, input, out, desk),
         Some(
             Request::Receive {
@@ -42,7 +49,25 @@ fn command<D: Desk>(alloc: Global, words: &[Word], desk: &mut D) -> Outcome
                 out,
             },
         ) => receive(alloc, config, plp_id, input, out, desk),
+        Some(
+            Request::CommonReceive {
+                config,
+                plp_id,
+                input,
+                out,
+            },
+        ) => common_receive(alloc, config, plp_id, input, out, desk),
         Some(Request::Merge { config, a, b, out }) => merge(alloc, config, a, b, out, desk),
+        Some(
+            Request::Swap {
+                config,
+                plp_id,
+                t2mi,
+                input,
+                out,
+            },
+        ) => swap(alloc, config, plp_id, t2mi, input, out, desk),
+        Some(Request::Compare { config, a, b }) => compare(alloc, config, a, b, desk),
         Some(Request::Trial { seed, frames }) => trial(alloc, seed, frames, desk),
         None => Outcome::Usage,
     }

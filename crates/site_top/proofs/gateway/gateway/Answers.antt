@@ -1,4 +1,5 @@
 use Rattle.std.proofs.Common.{inr, rules}
+use Rattle.common_plp.specs.Sharing.{Apart}
 use Rattle.site_top.specs.GatewayCommand.{Ends, StopsSo, gateway_line}
 use Rattle.site_top.specs.Outcomes.{gateway_cause}
 use Rattle.site_top.proofs.GatewayLemmas.{apart}
@@ -18,7 +19,7 @@ returns g c =
       c.in-Ok.ensures.ok.1,
       inr (
         search rules,
-        run_told (Ends c.args.out.now c.args.ins.now plan) (StopsSo c.args.out.now c.args.ins.now plan) gateway_line gateway_cause _ _ _
+        run_told (Ends Apart c.args.out.now c.args.ins.now plan) (StopsSo Apart c.args.out.now c.args.ins.now plan) gateway_line gateway_cause _ _ _
             _ _ c.run-end.ensures.ok c.run-end.ensures.err c.tell_run.ensures.ok c.tell_run.ensures.err,
       ),
     )

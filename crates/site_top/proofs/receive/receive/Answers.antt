@@ -1,6 +1,8 @@
 use Rattle.std.proofs.Common.{inr}
 use Rattle.site_top.specs.Outcomes.{receive_cause}
-use Rattle.site_top.specs.ReceiveCommand.{Ends, StopsSo, receive_line}
+use Rattle.common_plp.specs.Sharing.{Apart}
+use Rattle.site_top.specs.ReceiveCommand.{receive_line}
+use Rattle.site_top.specs.Reception.{Ends, StopsSo}
 use Rattle.site_top.proofs.GatewayLemmas.{other_name}
 use Rattle.site_top.proofs.PlanCommandLemmas.{run_told, if_ok}
 use Rattle.site_top.proofs.RecoverLemmas.{holds_back}
@@ -23,8 +25,8 @@ returns g c =
       inr (
         _,
         at,
-        run_told (Ends file out plan _) (StopsSo file out plan _) receive_line receive_cause _ _ _ _ _
-            (if_ok _ _ (Ends file out plan _ _ _) (λ ran r. (r, holds_back plan _ _ _ file out ran c.back_law.ensures at.inside r)) c.run-end.ensures.ok)
+        run_told (Ends Apart file out plan _) (StopsSo Apart file out plan _) receive_line receive_cause _ _ _ _ _
+            (if_ok _ _ (Ends Apart file out plan _ _ _) (λ ran r. (r, holds_back plan _ _ _ file out ran c.back_law.ensures at.inside r)) c.run-end.ensures.ok)
             c.run-end.ensures.err c.tell_run.ensures.ok c.tell_run.ensures.err,
       ),
     )

@@ -1,0 +1,90 @@
+-- What holds of two streams that were compared, how the command must end, and that it changes nothing but standard output.
+use Rattle.std.proofs.Common.{◌≡◌, ◌≢◌, ℕ, ◌<◌, ◌≤◌, ⊎_elim, List, [], length, Option, Some, None, refl, ap, sym, subst, ◌∙◌, inl, inr, arith}
+use Rattle.std.specs.Prelude.{◌⊎◌, Result, Ok, Err, IfSome, IfOk, IfErr}
+use Rattle.std.proofs.lemmas.Option.{IfSome_then}
+use Rattle.terms.proofs.OptionLemmas.{none_some}
+use Rattle.ports.specs.Counts.{Rose}
+use Rattle.ports.specs.Desk.{State, Held, bytes_of}
+use Rattle.plp_config.specs.Capacity.{IsPlan}
+use Rattle.plp_config.specs.declared.config.Config.{Config}
+use Rattle.plp_config.specs.declared.moment.TheConstants.{MOST_FRAMES}
+use Rattle.modulator.specs.StandsFor.{records_of}
+use Rattle.frame_laws.specs.SentFrames.{run_length, run_stream, stream_bytes}
+use Rattle.frame_laws.specs.Types.{TypesFit}
+use Rattle.file_run.specs.FileRun.{file_at}
+use Rattle.file_run.specs.declared.stop.RunFault.TheVariants as run_fault
+use Rattle.file_run.specs.declared.stop.RunStop.{RunStop}
+use Rattle.file_run.specs.declared.stop.RunStop.TheVariants as run
+use Rattle.merge_run.specs.MergeRun.{names_of}
+use Rattle.frame_compare.specs.Comparing.{answers}
+use Rattle.frame_compare.specs.Laws.{NoneDiffers}
+use Rattle.frame_compare.specs.Runs.{first_differing}
+use Rattle.frame_compare.specs.declared.counts.Counts.{Counts}
+use Rattle.compare_run.specs.Laws.{MustRun as CompareMust, OneRun as OneComparison, RunEnds as ComparisonEnds}
+use Rattle.compare_run.specs.declared.stop.CompareStop.{CompareStop}
+use Rattle.compare_run.specs.declared.stop.CompareStop.TheVariants as stop
+use Rattle.site_top.specs.declared.outcome.Outcome.{Outcome}
+use Rattle.site_top.specs.declared.outcome.Outcome.TheVariants.{Done, Differs, NoSuperframe, TooLong, ReadFault, WriteFault, OutOfMemory}
+use Rattle.site_top.specs.CompareCommand.{DamageIsAlike, Runs, NeverDiffers, Follows}
+use Rattle.site_top.specs.MergeCommand.{AreDamaged}
+use Rattle.site_top.specs.Outcomes.{run_outcome, stop_outcome, compare_cause}
+use Rattle.site_top.specs.Runs.{AreShort, CompareMustEnd}
+
+-- ---- damage
+
+pub damage_is_alike : (c : Config) → IsPlan c → TypesFit c → NoneDiffers → DamageIsAlike c
+damage_is_alike c plan types law inputs a b few d =
+    ap (λ (l : List ℕ). first_differing (answers c (records_of c l) (records_of c b))) d.is_a
+    ∙ ap (λ (l : List ℕ). first_differing (answers c (records_of c (stream_bytes (run_stream c inputs) d.from_a d.fates_a)) (records_of c l))) d.is_b
+    ∙ law c inputs (run_length c inputs) d.from_a d.from_b d.fates_a d.fates_b plan types few d.honest_a d.honest_b
+
+-- what the outcome is if a frame differs
+pub never_differs : (c : Config) (mid new : State) (a b : List ℕ) (result : Result Counts (RunStop CompareStop)) (outcome : Outcome)
+    → DamageIsAlike c → Runs c mid new a b result → outcome ≡ run_outcome (stop_outcome compare_cause) result
+    → NeverDiffers c mid a b outcome
+never_differs c mid new a b result outcome law r is = go result r is
+  where
+    not_so : (o : Outcome) → outcome ≡ o → ((frame : ℕ) → o ≢ Differs frame) → NeverDiffers c mid a b outcome
+    not_so o e differ = all mid.held (λ h inputs few d frame f. differ frame (sym e ∙ f))
+      where
+        all : (o : Option Held) → ((h : Held) (inputs : ℕ → List (List ℕ)) → run_length c inputs ≤ MOST_FRAMES
+            → AreDamaged c inputs (bytes_of h.files a) (bytes_of h.files b) → (frame : ℕ) → outcome ≢ Differs frame)
+            → IfSome o (λ h. (inputs : ℕ → List (List ℕ)) → run_length c inputs ≤ MOST_FRAMES
+            → AreDamaged c inputs (bytes_of h.files a) (bytes_of h.files b) → (frame : ℕ) → outcome ≢ Differs frame)
+        all None f = tt
+        all (Some h) f = f h
+
+    go : (result : Result Counts (RunStop CompareStop)) → Runs c mid new a b result
+        → outcome ≡ run_outcome (stop_outcome compare_cause) result → NeverDiffers c mid a b outcome
+    go (Ok counts) r is = not_so Done is (λ frame e. let z : Done ≡ Differs frame = e in absurd cc)
+    go (Err (run.Refused stop.NoSuperframe)) r is = not_so NoSuperframe is (λ frame e. let z : NoSuperframe ≡ Differs frame = e in absurd cc)
+    go (Err (run.Refused stop.TooManyFrames)) r is =
+        not_so (TooLong MOST_FRAMES) is (λ frame e. let z : TooLong MOST_FRAMES ≡ Differs frame = e in absurd cc)
+    go (Err (run.Refused (stop.Differs n))) r is =
+        IfSome_then mid.held r.speaks.holds (λ h w. λ inputs few d frame f.
+        none_some n (sym (law inputs (bytes_of h.files a) (bytes_of h.files b) few d) ∙ w.first))
+    go (Err (run.Files (run_fault.TooLong input))) r is =
+        not_so (stop_outcome compare_cause (run.Files (run_fault.TooLong input))) is
+        (λ frame e. let z : stop_outcome compare_cause (run.Files (run_fault.TooLong input)) ≡ Differs frame = e in absurd cc)
+    go (Err (run.Files (run_fault.ReadFault input))) r is = not_so ReadFault is (λ frame e. let z : ReadFault ≡ Differs frame = e in absurd cc)
+    go (Err (run.Files run_fault.WriteFault)) r is = not_so WriteFault is (λ frame e. let z : WriteFault ≡ Differs frame = e in absurd cc)
+    go (Err run.OutOfMemory) r is = not_so OutOfMemory is (λ frame e. let z : OutOfMemory ≡ Differs frame = e in absurd cc)
+
+pub runs_so : (c : Config) (mid new : State) (a b : List ℕ) (result : Result Counts (RunStop CompareStop))
+    → IfOk result (λ counts. Runs c mid new a b (Ok counts)) → IfErr result (λ why. Runs c mid new a b (Err why))
+    → Runs c mid new a b result
+runs_so c mid new a b (Ok counts) ok err = ok
+runs_so c mid new a b (Err why) ok err = err
+
+-- ---- how it must end
+
+-- How it must end over a plan, if its inputs are not too long.
+abbrev pub ComparesIfShort : Held → List (List ℕ) → Config → Outcome → Type 0
+ComparesIfShort held ins c outcome = AreShort held ins → (result : Result Counts CompareStop) × CompareMust c (file_at held ins) result
+    × (outcome ≡ run_outcome compare_cause result)
+
+pub compare_one : OneComparison → (held : Held) (ins : List (List ℕ)) (c : Config) (result outcome : Outcome)
+    → ComparesIfShort held ins c result → CompareMustEnd held ins c outcome → result ≡ outcome
+compare_one law held ins c result outcome mine must =
+    let r = mine must.0 in
+    r.2 ∙ ap (run_outcome compare_cause) (law c (file_at held ins) r.0 must.1.0 r.1 must.1.1) ∙ sym must.1.2

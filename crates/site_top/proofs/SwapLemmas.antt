@@ -1,0 +1,52 @@
+-- What holds of a stream of which a PLP was replaced.
+use Rattle.std.proofs.Common.{◌≡◌, ℕ, ◌<◌, true, List, [], map, length, Option, Some, None, ap, ◌∙◌}
+use Rattle.std.specs.Prelude.{IfSome, unwrap_or}
+use Rattle.std.specs.FinMap.{get}
+use Rattle.std.proofs.lemmas.Option.{same_Some}
+use Rattle.ports.specs.Desk.{State, Held, bytes_of}
+use Rattle.plp_config.specs.Capacity.{IsPlan}
+use Rattle.plp_config.specs.declared.config.Config.{Config}
+use Rattle.ts_packet.specs.TsFile.{packets_in, joined}
+use Rattle.t2mi_stream.specs.Pipe.{pipe}
+use Rattle.frame_groups.specs.Modulated.{FrameRecord}
+use Rattle.open_group.specs.Written.{content_view}
+use Rattle.modulator.specs.StandsFor.{records_due}
+use Rattle.formed_frames.specs.Remade.{NumberedView, remade_packets}
+use Rattle.frame_laws.specs.Types.{TypesFit}
+use Rattle.file_run.specs.FileRun.{file_at}
+use Rattle.merge_run.specs.MergeRun.{names_of}
+use Rattle.swap_laws.specs.Region.{region_frames, RegionIsOfRun, RegionComesBack, WholeIsReplaced}
+use Rattle.swap_run.specs.SwapRun.{SwapsAll, RunsAll}
+use Rattle.swap_run.specs.declared.stop.Ran.{Ran}
+use Rattle.site_top.specs.SwapCommand.{ComesOfSwapped, HoldsSwapped, UnitsAreSwapped}
+
+pub are_swapped : (c : Config) → IsPlan c → TypesFit c → RegionIsOfRun → RegionComesBack → WholeIsReplaced → UnitsAreSwapped c
+are_swapped c plan fit region back whole plp t2mi file bytes inside is = record {
+  comes = λ inputs from fates short honest came spaced.
+      ap (λ (l : List ℕ). map (λ (x : FrameRecord). content_view c x.number x.content) (records_due c true l))
+      (is ∙ ap (λ (frames : List NumberedView). joined (pipe c.pid (remade_packets c frames)))
+      (ap (region_frames c plp (packets_in file)) came
+      ∙ region c plp inputs (packets_in file) from fates plan fit inside short honest))
+      ∙ back c plp inputs (packets_in file) from fates plan fit inside short honest spaced;
+  whole = λ inputs short came same. is
+      ∙ ap (λ (l : List ℕ). joined (pipe c.pid (remade_packets c (region_frames c plp (packets_in file) l)))) came
+      ∙ ap (λ (packets : List (List ℕ)). joined (pipe c.pid packets))
+      (whole c plp inputs (packets_in file) plan fit inside short same);
+}
+
+-- OUT is all units of the frames of T2MI, with the PLP replaced by the packets of IN.
+pub holds_swapped : (c : Config) (plp : ℕ) (old new : State) (t2mi file out : List ℕ) (ran : Ran) → plp < length c.plps
+    → UnitsAreSwapped c → RunsAll c plp old new t2mi file out ran → HoldsSwapped c plp old new t2mi file out
+holds_swapped c plp old new t2mi file out ran inside law r = go old.held new.held r.works.holds
+  where
+    go : (h k : Option Held)
+        → IfSome h (λ x. (y : Held) × (k ≡ Some y)
+        × ((bytes : List ℕ) × (get y.files out ≡ Some bytes) × SwapsAll c plp (file_at x (names_of t2mi file)) ran bytes))
+        → IfSome h (λ x. IfSome k
+        (λ y. ComesOfSwapped c plp (bytes_of x.files t2mi) (bytes_of x.files file) (bytes_of y.files out)))
+    go None k w = tt
+    go (Some x) None w = tt
+    go (Some x) (Some y) w =
+        law plp (bytes_of x.files t2mi) (bytes_of x.files file) (bytes_of y.files out) inside
+        (ap (λ (z : Held). bytes_of z.files out) (same_Some y w.0 w.1) ∙ ap (λ (o : Option (List ℕ)). unwrap_or o []) w.2.1
+        ∙ w.2.2.output)

@@ -1,0 +1,65 @@
+// `common receive CONFIG PLP IN OUT`.
+ghost use Rattle.std.specs.Prelude.{◌≡◌, true};
+ghost use Rattle.common_plp.specs.Sharing.{Joint};
+ghost use Rattle.site_top.specs.Commands.{is_input};
+ghost use Rattle.site_top.specs.CommonReceiveCommand.{ReceivedIsJoined};
+ghost use Rattle.site_top.specs.Reception.{Receives};
+
+use crate::config_commands::outcome_of;
+use crate::outcome::Outcome;
+use crate::receive::back_law;
+use crate::run_end::tell_run;
+use common_laws::common_law;
+use common_plp::own_place_of;
+use config_file::read_plan;
+use frame_laws::type_law;
+use plp_config::{Plan, run_length_law};
+use ports::Desk;
+use record_laws::fit_law;
+use recover_laws::{recover_law, whole_law};
+use site_frame::{place_law, reading_law, refusal_law, writing_law};
+use std::alloc::Global;
+
+// What records of a run's frames give back of a PLP of the plan and of the common one of its group. It does nothing.
+fn joined_law(plan: &Plan)
+    ensures { ReceivedIsJoined plan.now }
+{
+    plan.rules_law();
+    type_law(plan);
+    reading_law();
+    writing_law();
+    refusal_law();
+    place_law();
+    fit_law();
+    run_length_law();
+    recover_law();
+    whole_law();
+    back_law(plan);
+    common_law();
+}
+
+/// Gives back the packets of the PLP with an identifier, which is not common, and in its free slots those of the common PLP of its
+/// group, by the named configuration, from the named records of a network's frames, and says the slot at which they begin and how
+/// many there are.
+pub fn common_receive<D: Desk>(
+    alloc: Global,
+    config: &str,
+    id: u8,
+    input: &str,
+    out: &str,
+    desk: &mut D,
+) -> Outcome
+    requires { is_input out.now input.now ≡ true }
+    ensures { Receives Joint (D.state desk.old) (D.state desk.new) config.now id input.now out.now result }
+{
+    let plan = match read_plan(alloc, config, desk) {
+        Ok(plan) => plan,
+        Err(stop) => return outcome_of(stop),
+    };
+    let Some(plp) = own_place_of(&plan, id) else {
+        return Outcome::UnknownPlp { plp_id: id };
+    };
+    joined_law(&plan);
+    let end = receive_run::run_joined(alloc, &plan, plp, input, out, desk);
+    tell_run(desk, end)
+}
