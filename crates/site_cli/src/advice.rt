@@ -1,10 +1,10 @@
 // What is said for people, on standard error: what was wrong, where, and what to do.
-use crate::config_place::{is_data, plp_line, text_of};
-use crate::help::{COMMANDS, meant_by, rule_of};
+use crate::config_place::{config_again, is_data, plp_line, text_of};
+use crate::help::{COMMANDS, may_mean, meant_by, why_no_command};
 use crate::pids::say_pids;
 use crate::shown::{Shown, Told};
 use config_text::{TextFault, TextWhy};
-use plp_config::{CapacityFault, ConfigFault, MOST_FRAMES};
+use plp_config::{CapacityFault, Config, ConfigFault, MOST_FRAMES, PlpType};
 use ports::HostFault;
 use site_frame::RecordWhy;
 use site_top::{ConfigCause, Outcome, Request, Word, request_of};
@@ -13,10 +13,15 @@ use std::fs::Files;
 use std::io::{self, Eprint};
 
 // Says which words are commands: those of the command that was meant, or all.
-fn say_commands(rt: &impl Eprint, program: &str, meant: Option<&str>) -> io::Result<()> {
+fn say_commands(
+    rt: &impl Eprint,
+    program: &str,
+    words: &[Word],
+    meant: Option<&str>,
+) -> io::Result<()> {
     eprintln!(rt; "usage:")?;
     for command in &COMMANDS {
-        if meant.map_or(true, |name| name == command.name) {
+        if meant.map_or(true, |name| may_mean(command, name, words)) {
             eprintln!(rt; "  {program} {}\n      {}", command.words, command.what)?;
         }
     }
@@ -32,19 +37,19 @@ pub fn warn(rt: &impl Eprint, words: &[Word]) {
     }
 }
 
-// Why words are no command.
-fn why_no_command(words: &[Word]) -> &'static str {
+// Why words are refused.
+fn why_refused(words: &[Word]) -> &'static str {
     if words.iter().any(|word| word.as_str().is_empty()) {
         "a word is empty or not UTF-8"
     } else {
-        rule_of(words).unwrap_or("these words are no command")
+        why_no_command(words)
     }
 }
 
 fn say_usage(rt: &impl Eprint, program: &str, words: &[Word]) -> io::Result<()> {
     let meant = meant_by(words);
-    eprintln!(rt; "{}", why_no_command(words))?;
-    say_commands(rt, program, meant)?;
+    eprintln!(rt; "{}", why_refused(words))?;
+    say_commands(rt, program, words, meant)?;
     match meant {
         Some(_) => eprintln!(rt; "all commands: {program} --help"),
         None => Ok(()),
@@ -126,8 +131,11 @@ fn say_too_many_frames(
         Some(Request::Modulate { .. }) => eprintln!(rt;
             "{file}: frame {MOST_FRAMES} of CONFIG comes in it; the records before it were written; what is behind it wants a CONFIG that starts later"
         ),
-        Some(Request::Merge { .. }) => eprintln!(rt;
+        Some(Request::Merge { .. } | Request::Swap { .. }) => eprintln!(rt;
             "{file}: frame {MOST_FRAMES} of CONFIG comes in it; the frames before it were written; what is behind it wants a CONFIG that starts later"
+        ),
+        Some(Request::Compare { .. }) => eprintln!(rt;
+            "{file}: frame {MOST_FRAMES} of CONFIG comes in it; what was known of the frames before it was said; what is behind it wants a CONFIG that starts later"
         ),
         _ => eprintln!(rt;
             "the inputs go on for more than {MOST_FRAMES} frames; what was written stays, give the rest to another run"
@@ -142,7 +150,7 @@ fn say_no_superframe(
     file: Shown<'_>,
 ) -> io::Result<()> {
     match request {
-        Some(Request::Merge { a, b, .. }) => eprintln!(rt;
+        Some(Request::Merge { a, b, .. } | Request::Compare { a, b, .. }) => eprintln!(rt;
             "{} and {}: no superframe begins in either with a frame that passes the tests; see that both are T2-MI streams of the network of CONFIG, on its PID",
             Shown(a),
             Shown(b)
@@ -150,6 +158,18 @@ fn say_no_superframe(
         _ => eprintln!(rt;
             "{file}: no superframe begins in it with a frame that passes the tests; see that it is the T2-MI stream of the network of CONFIG, on its PID"
         ),
+    }
+}
+
+// Says which frame differs.
+fn say_differs(rt: &impl Eprint, request: Option<Request<'_>>, frame: u64) -> io::Result<()> {
+    match request {
+        Some(Request::Compare { a, b, .. }) => eprintln!(rt;
+            "{} and {}: both send frame {frame}, and not the same, first of the frames that differ; transmitters fed with them jam each other there; see that one gateway made both, by one CONFIG",
+            Shown(a),
+            Shown(b)
+        ),
+        _ => Ok(()),
     }
 }
 
@@ -179,11 +199,80 @@ fn say_record(
 ) -> io::Result<()> {
     let why = WhyNoRecord(why);
     match request {
-        Some(Request::Receive { .. }) => eprintln!(rt;
+        Some(Request::Receive { .. } | Request::CommonReceive { .. }) => eprintln!(rt;
             "{file}: record {number}, counted from 0: {why}; OUT holds what the records before it give back; see that the file holds the records of successive frames of CONFIG and nothing else"
         ),
         _ => eprintln!(rt;
             "{file}: record {number}, counted from 0: {why}; the records before it were shown; see that the file holds whole records and nothing else"
+        ),
+    }
+}
+
+// The identifiers of the PLPs of a configuration, or of those that are not common.
+#[derive(Clone, Copy)]
+struct Identifiers<'a> {
+    config: &'a Config,
+    with_common: bool,
+}
+
+impl Display for Identifiers<'_> {
+    fn fmt<W: Write>(&self, f: &mut Formatter<W>) -> fmt::Result {
+        let mut before = "";
+        for place in 0..self.config.plps.len() {
+            if let Some(plp) = self.config.plps.get(place)
+                && (self.with_common || plp.plp_type != PlpType::Common)
+            {
+                write!(f, "{before}{}", plp.id)?;
+                before = ", ";
+            }
+        }
+        Ok(())
+    }
+}
+
+// Says that no PLP has an identifier, and which ones there are.
+fn say_unknown_plp(
+    rt: &(impl Eprint + Files + AllocGlobal),
+    request: Option<Request<'_>>,
+    name: &str,
+    plp_id: u8,
+) -> io::Result<()> {
+    let file = Shown(name);
+    let with_common = !matches!(request, Some(Request::CommonReceive { .. }));
+    let which = if with_common {
+        "PLP"
+    } else {
+        "PLP that is not common"
+    };
+    eprintln!(rt;
+        "{file}: no {which} has the identifier {plp_id}; it is the first number behind the word plp"
+    )?;
+    match config_again(rt, name) {
+        Some(config) => eprintln!(rt;
+            "{file}: the identifiers are {}",
+            Identifiers {
+                config: &config,
+                with_common,
+            }
+        ),
+        None => Ok(()),
+    }
+}
+
+// Says that there is not one input for each PLP that has one.
+fn say_wrong_inputs(
+    rt: &impl Eprint,
+    request: Option<Request<'_>>,
+    file: Shown<'_>,
+    plps: usize,
+    inputs: usize,
+) -> io::Result<()> {
+    match request {
+        Some(Request::CommonGateway { .. }) => eprintln!(rt;
+            "{file} wants one IN for each PLP that is not common, in its order: {plps}, and {inputs} were given"
+        ),
+        _ => eprintln!(rt;
+            "{file} wants one IN for each PLP, in its order: {plps}, and {inputs} were given"
         ),
     }
 }
@@ -206,9 +295,7 @@ fn say(
             _ => Ok(()),
         },
         Outcome::Usage => say_usage(rt, program, words),
-        Outcome::WrongInputs { plps, inputs } => eprintln!(rt;
-            "{file} wants one IN for each PLP, in its order: {plps}, and {inputs} were given"
-        ),
+        Outcome::WrongInputs { plps, inputs } => say_wrong_inputs(rt, request, file, plps, inputs),
         Outcome::ConfigRefused { cause } => say_cause(rt, name, cause),
         Outcome::CapacityRefused {
             test,
@@ -236,9 +323,8 @@ fn say(
         Outcome::PacketRefused { at, why } => eprintln!(rt;
             "{file}: no T2-MI packet begins at byte {at}: {why}; the packets before it were shown; see that the file holds whole packets and nothing else"
         ),
-        Outcome::UnknownPlp { plp_id } => eprintln!(rt;
-            "{file}: no PLP has the identifier {plp_id}; it is the first number behind the word plp"
-        ),
+        Outcome::UnknownPlp { plp_id } => say_unknown_plp(rt, request, name, plp_id),
+        Outcome::Differs { frame } => say_differs(rt, request, frame),
         Outcome::RecordRefused { number, why } => say_record(rt, request, file, number, why),
         Outcome::ReadFault | Outcome::WriteFault => say_fault(rt, fault),
         Outcome::OutOfMemory => eprintln!(rt; "out of memory; the command did not come to its end"),
@@ -251,24 +337,38 @@ fn say(
 // The file that an outcome of a request speaks of.
 fn file_of(request: Option<Request<'_>>, outcome: Outcome) -> &str {
     match (request, outcome) {
-        (Some(Request::Gateway { ins, .. }), Outcome::InputRefused { input, .. }) => {
-            ins.get(usize::from(input))
-                .map_or("an IN", |word| word.as_str())
-        }
-        (Some(Request::Gateway { .. }), Outcome::TooLong { .. }) => "an IN",
+        (
+            Some(Request::Gateway { ins, .. } | Request::CommonGateway { ins, .. }),
+            Outcome::InputRefused { input, .. },
+        ) => ins
+            .get(usize::from(input))
+            .map_or("an IN", |word| word.as_str()),
+        (Some(Request::Gateway { .. } | Request::CommonGateway { .. }), Outcome::TooLong { .. }) =>
+            "an IN",
         (Some(Request::Modulate { input, .. }), Outcome::TooLong { .. } | Outcome::NoSuperframe) =>
             input,
         (
-            Some(Request::Receive { input, .. }),
+            Some(Request::Receive { input, .. } | Request::CommonReceive { input, .. }),
             Outcome::TooLong { .. } | Outcome::RecordRefused { .. },
         ) => input,
-        (Some(Request::Merge { .. }), Outcome::TooLong { .. }) => "A or B",
+        (Some(Request::Merge { .. } | Request::Compare { .. }), Outcome::TooLong { .. }) =>
+            "A or B",
+        (Some(Request::Swap { input, .. }), Outcome::InputRefused { .. }) => input,
+        (
+            Some(Request::Swap { t2mi, .. }),
+            Outcome::NoSuperframe | Outcome::TooLong { count: MOST_FRAMES },
+        ) => t2mi,
+        (Some(Request::Swap { .. }), Outcome::TooLong { .. }) => "T2MI or IN",
         (
             Some(
                 Request::Gateway { config, .. }
+                | Request::CommonGateway { config, .. }
                 | Request::Modulate { config, .. }
                 | Request::Receive { config, .. }
+                | Request::CommonReceive { config, .. }
                 | Request::Merge { config, .. }
+                | Request::Swap { config, .. }
+                | Request::Compare { config, .. }
                 | Request::Plan { config },
             ),
             _,

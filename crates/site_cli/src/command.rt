@@ -3,8 +3,9 @@ use crate::advice::{advise, warn};
 use crate::damage::Damage;
 use crate::help;
 use crate::progress::Watched;
+use crate::shown::Told;
 use crate::stream_time::StreamTime;
-use ports::{Desk, HostDesk};
+use ports::{Desk, HostDesk, HostFault, Reason};
 use site_top::{Outcome, Word, request_of, run};
 use std::alloc::Global;
 use std::fs::{File, Files};
@@ -37,7 +38,11 @@ pub fn carry_out<R: Files + Print + Eprint + Clock + AllocGlobal>(
     if let Some(asked) = help::asked_of(words) {
         return match help::say(rt, program, asked) {
             Ok(()) => Outcome::Done,
-            Err(_) => Outcome::WriteFault,
+            Err(why) => {
+                let why = Reason::from(why);
+                let _ = eprintln!(rt; "{}", Told(&HostFault::Said { why }));
+                Outcome::WriteFault
+            }
         };
     }
     warn(rt, words);

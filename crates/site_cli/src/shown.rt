@@ -1,6 +1,7 @@
 // How names and faults are shown to people.
-use ports::HostFault;
+use ports::{HostFault, Reason};
 use std::fmt::{self, Display, Formatter, Write};
+use std::io;
 
 /// A name, its control characters escaped: none may steer a terminal.
 #[derive(Clone, Copy)]
@@ -19,6 +20,32 @@ impl Display for Shown<'_> {
     }
 }
 
+// Reasons of the system that have no kind, by their numbers.
+#[rattlefmt::skip]
+const REASONS: [(i32, &str); 6] = [
+    (5, "input/output error"),
+    (6, "no such device or address"),
+    (9, "it is closed, or not open for that"),
+    (19, "no such device"),
+    (23, "too many files are open in the system"),
+    (24, "too many files are open"),
+];
+
+// Why a call failed, in words.
+#[derive(Clone, Copy)]
+struct Why<'a>(&'a Reason);
+
+impl Display for Why<'_> {
+    fn fmt<W: Write>(&self, f: &mut Formatter<W>) -> fmt::Result {
+        for (number, words) in &REASONS {
+            if *self.0 == Reason::from(io::Error::from_raw_os_error(*number)) {
+                return write!(f, "{words} (os error {number})");
+            }
+        }
+        write!(f, "{}", self.0)
+    }
+}
+
 /// What failed first, and why.
 #[derive(Clone, Copy)]
 pub struct Told<'a>(pub &'a HostFault);
@@ -33,15 +60,16 @@ impl Display for Told<'_> {
         match self.0 {
             HostFault::Read { name, why } | HostFault::Write { name, why } => write!(
                 f,
-                "{}: {why}",
-                file(name)
+                "{}: {}",
+                file(name),
+                Why(why)
             ),
             HostFault::IsRead { name } => write!(
                 f,
                 "OUT is the same file as {}, which is read",
                 file(name)
             ),
-            HostFault::Said { why } => write!(f, "standard output: {why}"),
+            HostFault::Said { why } => write!(f, "standard output: {}", Why(why)),
         }
     }
 }

@@ -1,7 +1,7 @@
 // How much stream time the bytes of a run are, by its configuration.
 use crate::config_place::config_again;
 use crate::frame_count::FrameCount;
-use plp_config::Config;
+use plp_config::{Config, PlpType};
 use record_feed::RecordCount;
 use site_top::Request;
 use std::fmt::{self, Display, Formatter, Write};
@@ -42,12 +42,14 @@ fn by_rate(bytes: u64, bits_per_second: u64) -> u64 {
     bytes.saturating_mul(8) / bits_per_second.max(1)
 }
 
-// The bits a second of all PLPs together.
-fn rate_of(config: &Config) -> u64 {
+// The bits a second of all PLPs, or of those that are not common.
+fn rate_of(config: &Config, with_common: bool) -> u64 {
     let mut sum: u64 = 0;
     for place in 0..config.plps.len() {
         if let Some(plp) = config.plps.get(place) {
-            sum = sum.saturating_add(u64::from(plp.bits_per_second));
+            if with_common || plp.plp_type != PlpType::Common {
+                sum = sum.saturating_add(u64::from(plp.bits_per_second));
+            }
         }
     }
     sum
@@ -78,21 +80,26 @@ fn by_frames(count: u64, frame: u64, second: u64) -> u64 {
 fn told_by(request: Request<'_>, config: &Config) -> Option<Told> {
     match request {
         Request::Gateway { .. } => Some(Told::Read {
-            bits_per_second: rate_of(config),
+            bits_per_second: rate_of(config, true),
+        }),
+        Request::CommonGateway { .. } => Some(Told::Read {
+            bits_per_second: rate_of(config, false),
         }),
         Request::Modulate { .. } => Some(Told::Records {
             records: RecordCount::new(),
             frame: frame_of(config),
             second: u64::from(config.band.subseconds_per_second()),
         }),
-        Request::Merge { .. } => Some(Told::Frames {
+        Request::Merge { .. } | Request::Swap { .. } => Some(Told::Frames {
             frames: FrameCount::new(),
             frame: frame_of(config),
             second: u64::from(config.band.subseconds_per_second()),
         }),
-        Request::Receive { plp_id, .. } => Some(Told::Written {
-            bits_per_second: rate_with_id(config, plp_id)?,
-        }),
+        Request::Receive { plp_id, .. } | Request::CommonReceive { plp_id, .. } => {
+            Some(Told::Written {
+                bits_per_second: rate_with_id(config, plp_id)?,
+            })
+        }
         _ => None,
     }
 }
@@ -101,9 +108,12 @@ fn told_by(request: Request<'_>, config: &Config) -> Option<Told> {
 fn config_of(request: Request<'_>) -> Option<&str> {
     match request {
         Request::Gateway { config, .. }
+        | Request::CommonGateway { config, .. }
         | Request::Modulate { config, .. }
         | Request::Receive { config, .. }
-        | Request::Merge { config, .. } => Some(config),
+        | Request::Merge { config, .. }
+        | Request::Swap { config, .. }
+        | Request::CommonReceive { config, .. } => Some(config),
         _ => None,
     }
 }

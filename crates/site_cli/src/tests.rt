@@ -238,7 +238,7 @@ struct Ending {
 }
 
 #[rattlefmt::skip]
-static ENDINGS: [Ending; 34] = [
+static ENDINGS: [Ending; 39] = [
     Ending { words: &["--version"], takes: true, status: 0 },
     Ending { words: &["show", "frames", "--help"], takes: true, status: 0 },
     Ending { words: &["gateway", "cli.txt", "cli.out", "cli.ts"], takes: true, status: 0 },
@@ -250,14 +250,19 @@ static ENDINGS: [Ending; 34] = [
     Ending { words: &["gateway", "cli.txt", "cli.ts", "cli.ts"], takes: true, status: 2 },
     Ending { words: &["gateway", "cli.txt", "cli.out", "cli.ts", "cli.ts"], takes: true, status: 2 },
     Ending { words: &["merge", "cli.txt", "cli.ts", "cli.none", "cli.ts"], takes: true, status: 2 },
+    Ending { words: &["swap", "cli.txt", "0", "cli.ts", "cli.none", "cli.none"], takes: true, status: 2 },
     Ending { words: &["plan", "cli.zeros"], takes: true, status: 3 },
     Ending { words: &["plan", "cli.full"], takes: true, status: 4 },
     Ending { words: &["gateway", "cli.txt", "cli.out", "cli.zeros"], takes: true, status: 5 },
     Ending { words: &["modulate", "cli.txt", "cli.ts", "cli.out"], takes: true, status: 6 },
     Ending { words: &["merge", "cli.txt", "cli.ts", "cli.none", "cli.out"], takes: true, status: 6 },
+    Ending { words: &["swap", "cli.txt", "0", "cli.none", "cli.zeros", "cli.out"], takes: true, status: 6 },
+    Ending { words: &["compare", "cli.txt", "cli.ts", "cli.none"], takes: true, status: 6 },
     Ending { words: &["receive", "cli.txt", "0", "cli.ts", "cli.out"], takes: true, status: 7 },
     Ending { words: &["show", "frames", "cli.ts"], takes: true, status: 7 },
     Ending { words: &["receive", "cli.txt", "9", "cli.ts", "cli.out"], takes: true, status: 8 },
+    Ending { words: &["swap", "cli.txt", "9", "cli.ts", "cli.none", "cli.out"], takes: true, status: 8 },
+    Ending { words: &["common", "receive", "cli.txt", "9", "cli.ts", "cli.out"], takes: true, status: 8 },
     Ending { words: &["show", "packets", "cli.ts"], takes: true, status: 10 },
     Ending { words: &["plan", "cli.spread"], takes: true, status: 0 },
     Ending { words: &["gateway", "cli.spread", "cli.out", "cli.ts"], takes: true, status: 0 },
@@ -301,26 +306,51 @@ struct Told {
 }
 
 #[rattlefmt::skip]
-static TOLD: [Told; 21] = [
+static TOLD: [Told; 40] = [
     Told { words: &["plan", "c"], outcome: Outcome::Done, begins: "" },
-    Told { words: &["plan"], outcome: Outcome::Usage, begins: "these words are no command\nusage:\n  site_cli plan CONFIG\n" },
+    Told { words: &[], outcome: Outcome::Usage, begins: "these words are no command\nusage:\n  site_cli gateway CONFIG OUT IN..\n" },
+    Told { words: &["plan"], outcome: Outcome::Usage, begins: "these are too few words\nusage:\n  site_cli plan CONFIG\n" },
+    Told { words: &["compare", "c", "a", "b", "o"], outcome: Outcome::Usage,
+        begins: "these are too many words\nusage:\n  site_cli compare CONFIG A B\n" },
+    Told { words: &["common"], outcome: Outcome::Usage,
+        begins: "these are too few words\nusage:\n  site_cli common gateway CONFIG OUT IN..\n" },
+    Told { words: &["common", "receive", "c", "1", "i"], outcome: Outcome::Usage,
+        begins: "these are too few words\nusage:\n  site_cli common receive CONFIG PLP IN OUT\n" },
+    Told { words: &["common", "send", "c", "1", "i"], outcome: Outcome::Usage,
+        begins: "these words are no command\nusage:\n  site_cli common gateway CONFIG OUT IN..\n" },
+    Told { words: &["common", "receive", "c", "01", "i", "o"], outcome: Outcome::Usage, begins: "PLP must be a decimal number from 0 to 255, " },
+    Told { words: &["receive", "c", "-1", "i", "o"], outcome: Outcome::Usage, begins: "PLP must be a decimal number from 0 to 255, " },
+    Told { words: &["common", "receive", "c", "1", "i", "i"], outcome: Outcome::Usage, begins: "OUT must be neither CONFIG nor IN\n" },
+    Told { words: &["swap", "c", "255", "t", "i", "t"], outcome: Outcome::Usage, begins: "OUT must be neither CONFIG nor T2MI nor IN\n" },
+    Told { words: &["trial", "1", "5"], outcome: Outcome::Usage, begins: "SEED must be a decimal number below 2^64 " },
     Told { words: &["recieve", "c"], outcome: Outcome::Usage,
         begins: "these words are no command\nusage:\n  site_cli receive CONFIG PLP IN OUT\n" },
     Told { words: &["gatway"], outcome: Outcome::Usage, begins: "these words are no command\nusage:\n  site_cli gateway CONFIG OUT IN..\n" },
     Told { words: &["show", "t2m", "f"], outcome: Outcome::Usage,
         begins: "these words are no command\nusage:\n  site_cli show config FILE\n" },
     Told { words: &["marge"], outcome: Outcome::Usage, begins: "these words are no command\nusage:\n  site_cli merge CONFIG A B OUT\n" },
+    Told { words: &["mod"], outcome: Outcome::Usage, begins: "these words are no command\nusage:\n  site_cli modulate CONFIG IN OUT\n" },
     Told { words: &["zzz"], outcome: Outcome::Usage, begins: "these words are no command\nusage:\n  site_cli gateway CONFIG OUT IN..\n" },
     Told { words: &["gateway", "c", "a", "a"], outcome: Outcome::Usage, begins: "OUT must be neither CONFIG nor an IN\n" },
     Told { words: &["merge", "c", "a", "b", "b"], outcome: Outcome::Usage, begins: "OUT must be neither CONFIG nor A nor B\n" },
+    Told { words: &["swap", "c", "256", "t", "i", "o"], outcome: Outcome::Usage, begins: "PLP must be a decimal number from 0 to 255, " },
     Told { words: &["gateway", "c", "o", "a", "b"], outcome: Outcome::WrongInputs { plps: 3, inputs: 2 },
         begins: "c wants one IN for each PLP, in its order: 3, and 2 were given\n" },
+    Told { words: &["common", "gateway", "c", "o", "a"], outcome: Outcome::WrongInputs { plps: 2, inputs: 1 },
+        begins: "c wants one IN for each PLP that is not common, in its order: 2, and 1 were given\n" },
     Told { words: &["gateway", "c", "o", "a", "b"], outcome: Outcome::InputRefused { input: 1, packet: 7 },
         begins: "b: packet 7, " },
     Told { words: &["modulate", "c", "i", "o"], outcome: Outcome::NoSuperframe, begins: "i: no superframe begins in it " },
     Told { words: &["merge", "c", "a", "b", "o"], outcome: Outcome::NoSuperframe, begins: "a and b: no superframe begins in either " },
+    Told { words: &["swap", "c", "0", "t", "i", "o"], outcome: Outcome::NoSuperframe, begins: "t: no superframe begins in it " },
+    Told { words: &["swap", "c", "0", "t", "i", "o"], outcome: Outcome::InputRefused { input: 0, packet: 7 }, begins: "i: packet 7, " },
+    Told { words: &["compare", "c", "a", "b"], outcome: Outcome::NoSuperframe, begins: "a and b: no superframe begins in either " },
+    Told { words: &["compare", "c", "a", "b"], outcome: Outcome::Differs { frame: 4 },
+        begins: "a and b: both send frame 4, and not the same, " },
     Told { words: &["receive", "c", "9", "i", "o"], outcome: Outcome::UnknownPlp { plp_id: 9 },
         begins: "c: no PLP has the identifier 9; " },
+    Told { words: &["common", "receive", "c", "9", "i", "o"], outcome: Outcome::UnknownPlp { plp_id: 9 },
+        begins: "c: no PLP that is not common has the identifier 9; " },
     Told { words: &["receive", "c", "0", "i", "o"], outcome: Outcome::RecordRefused { number: 4, why: RecordWhy::Order },
         begins: "i: record 4, counted from 0: " },
     Told { words: &["show", "frames", "f"], outcome: Outcome::RecordRefused { number: 4, why: RecordWhy::Order },
@@ -331,6 +361,8 @@ static TOLD: [Told; 21] = [
         begins: "i: frame 2147483648 of CONFIG " },
     Told { words: &["merge", "c", "a", "b", "o"], outcome: Outcome::TooLong { count: 1 << 31 },
         begins: "A or B: frame 2147483648 of CONFIG " },
+    Told { words: &["swap", "c", "0", "t", "i", "o"], outcome: Outcome::TooLong { count: 1 << 31 },
+        begins: "t: frame 2147483648 of CONFIG " },
     Told { words: &["plan", "c"], outcome: Outcome::OutOfMemory, begins: "out of memory; " },
     Told { words: &["trial", "1", "6"], outcome: Outcome::TrialFault, begins: "a run inside the trial ended " },
 ];
@@ -384,11 +416,13 @@ struct Time {
 
 // At 2 Mbit/s a second has 250,000 bytes.
 #[rattlefmt::skip]
-static TIMES: [Time; 4] = [
+static TIMES: [Time; 6] = [
     Time { words: &["gateway", "time.txt", "o", "i"], read: 931_250_000, written: 1, time: "1:02:05" },
     Time { words: &["receive", "time.txt", "0", "i", "o"], read: 1, written: 15_000_000, time: "0:01:00" },
+    Time { words: &["common", "receive", "time.txt", "0", "i", "o"], read: 1, written: 15_000_000, time: "0:01:00" },
     Time { words: &["modulate", "time.txt", "i", "o"], read: 1, written: 1, time: "0:00:00" },
     Time { words: &["merge", "time.txt", "a", "b", "o"], read: 1, written: 1, time: "0:00:00" },
+    Time { words: &["swap", "time.txt", "0", "t", "i", "o"], read: 1, written: 1, time: "0:00:00" },
 ];
 
 // That of the command that words name.
@@ -452,20 +486,62 @@ fn frames_by(bytes: &[u8], size: usize) -> u64 {
     frames.count()
 }
 
+// What a run over the files of `make_streams` is told as.
+struct Heard {
+    words: &'static [&'static str],
+    told: &'static str,
+}
+
+#[rattlefmt::skip]
+static HEARD: [Heard; 9] = [
+    Heard { words: &["gateway", "two.txt", "two.out", "two.none"], told: "two.none: it has no packet; null packets stand for it\n" },
+    Heard { words: &["gateway", "two.txt", "two.out", "two.null"], told: "" },
+    Heard { words: &["common", "gateway", "two.txt", "two.out", "two.none"], told: "two.none: it has no packet; null packets stand for it\n" },
+    Heard { words: &["swap", "two.txt", "0", "two.ts", "two.none", "two.out"], told: "two.none: it has no packet; null packets stand for it\n" },
+    Heard { words: &["compare", "two.txt", "two.ts", "two.ts"], told: "" },
+    Heard { words: &["compare", "two.txt", "two.none", "two.ts"], told: "two.none: no frame came from it: it has no unit of 188 bytes\n" },
+    Heard { words: &["compare", "two.txt", "two.ts", "two.none"], told: "two.none: no frame came from it: it has no unit of 188 bytes\n" },
+    Heard { words: &["merge", "two.txt", "two.ts", "two.ts", "two.out"],
+        told: "two.ts: no frame came from it: each that it has is in two.ts too, or it has none\n" },
+    Heard { words: &["merge", "two.txt", "two.ts", "two.none", "two.out"], told: "two.none: no frame came from it: it has no unit of 188 bytes\n" },
+];
+
+// A configuration, an empty file, a null packet, and the stream of the empty file.
+fn make_streams<R: Files + AllocGlobal + Drop>(rt: R) -> Result<bool, Fail> {
+    let mut null = [0xFF; SIZE];
+    for (place, byte) in null.iter_mut().zip([0x47, 0x1F, 0xFF, 0x10]) {
+        *place = byte;
+    }
+    fs::write(&rt, "two.txt", CONFIG.as_bytes())?;
+    fs::write(&rt, "two.none", b"")?;
+    fs::write(&rt, "two.null", &null)?;
+    let make = ["gateway", "two.txt", "two.ts", "two.null"];
+    Ok(tells(rt, &make, "")?)
+}
+
+#[test]
+fn it_is_told_which_files_gave_nothing(rt: HostRuntime) -> Result<(), Fail> {
+    assert!(rt; make_streams(&rt)?);
+    for (at, heard) in HEARD.iter().enumerate() {
+        assert!(rt; tells(&rt, heard.words, heard.told)?, "words {at}");
+    }
+    for name in ["two.txt", "two.none", "two.null", "two.ts", "two.out"] {
+        fs::remove_file(&rt, name)?;
+    }
+    Ok(())
+}
+
 // The stream of an empty input has four frames, in two units.
 #[test]
 fn it_is_told_from_which_stream_no_frame_came(rt: HostRuntime) -> Result<(), Fail> {
     fs::write(&rt, "merge.txt", CONFIG.as_bytes())?;
     fs::write(&rt, "merge.none", b"")?;
     let make = ["gateway", "merge.txt", "merge.ts", "merge.none"];
-    assert!(rt; tells(&rt, &make, "")?);
+    let why = "merge.none: it has no packet; null packets stand for it\n";
+    assert!(rt; tells(&rt, &make, why)?);
     let behind = ["merge", "merge.txt", "merge.none", "merge.ts", "merge.out"];
     let why = "merge.none: no frame came from it: it has no unit of 188 bytes\n";
     assert!(rt; tells(&rt, &behind, why)?);
-    let before = ["merge", "merge.txt", "merge.ts", "merge.none", "merge.out"];
-    let why =
-        "merge.none: no frame came from it: each that it has is in merge.ts too, or it has none\n";
-    assert!(rt; tells(&rt, &before, why)?);
     let bytes = front_of(&rt, "merge.out", 3 * SIZE)?;
     for size in [1, 187, 189, 3 * SIZE] {
         assert!(rt; frames_by(&bytes, size) == 4, "frames by {size}");

@@ -187,6 +187,11 @@ impl UnitCounts {
             .saturating_sub(self.other_pid.count)
     }
 
+    /// Whether none of them can carry T2-MI, by their first bytes.
+    pub fn has_none(&self) -> bool {
+        self.unread.count >= self.on_pid()
+    }
+
     /// Whether all came whole, on the PID none was passed over, and no counter jumps. A stream may have other PIDs besides.
     pub fn is_clean(&self) -> bool {
         self.came == 0 && self.no_sync.count == 0 && self.unread.count == 0 && self.jumps.count == 0
@@ -226,7 +231,7 @@ impl Display for Slip {
     fn fmt<W: Write>(&self, f: &mut Formatter<W>) -> fmt::Result {
         write!(
             f,
-            "at byte {} no unit begins, and one does {} bytes on: bytes were lost or added before",
+            "at byte {} no unit begins, and one does {} bytes on: bytes were lost or added before; units are counted from the front, so give what begins there to another run",
             self.place, self.distance
         )
     }

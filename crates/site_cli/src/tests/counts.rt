@@ -80,7 +80,7 @@ fn a_lost_byte_is_told(rt: HostRuntime) -> Result<(), Fail> {
     let told = format!(in rt.alloc(); "{units}")?;
     assert!(rt;
         told.as_str()
-            == "7 units; the last one is cut off behind 187 bytes; not beginning with 0x47: 5, first at byte 376; at byte 376 no unit begins, and one does 187 bytes on: bytes were lost or added before",
+            == "7 units; the last one is cut off behind 187 bytes; not beginning with 0x47: 5, first at byte 376; at byte 376 no unit begins, and one does 187 bytes on: bytes were lost or added before; units are counted from the front, so give what begins there to another run",
         "{told}"
     );
     Ok(())
