@@ -20,8 +20,6 @@ mod sink;
 mod slice;
 mod source;
 mod tables;
-#[cfg(test)]
-mod tests;
 mod written;
 
 pub use buf::BitBuf;

@@ -17,6 +17,3 @@ pub use laws::{interleaver_law, map_law, shape_law};
 pub use places::{Cell, address, at};
 pub use reading::Cells;
 pub use strips::{Stretch, Strip};
-
-#[cfg(test)]
-mod tests;

@@ -8,6 +8,3 @@ mod line;
 
 pub use agreeing::agree;
 pub use filling::fill_words;
-
-#[cfg(test)]
-mod tests;

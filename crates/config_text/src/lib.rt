@@ -20,6 +20,3 @@ pub use fault::{TextFault, TextWhy};
 pub use laws::{decided_law, not_refused_law, refused_once_law, spelled_once_law};
 pub use reading::{LONGEST_TEXT, read};
 pub use writing::{band_word, write};
-
-#[cfg(test)]
-mod tests;

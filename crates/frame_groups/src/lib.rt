@@ -16,6 +16,3 @@ pub use laws::{due_law, front_law, groups_law, next_law, numbers_law};
 pub use number::next_number;
 pub use sequence::Sequence;
 pub use waiting::{Progress, Waiting};
-
-#[cfg(test)]
-mod tests;

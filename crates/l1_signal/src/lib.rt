@@ -31,6 +31,3 @@ pub use lengths::{
 pub use pre::{L1Pre, read_pre, write_pre};
 pub use rows::{PlpRows, ReadPlp, WritePlp};
 pub use values::{conf_of, dyn_of, pre_of, shape_of};
-
-#[cfg(test)]
-mod tests;

@@ -9,8 +9,6 @@ mod pieces;
 mod pool;
 mod sizes;
 mod tables;
-#[cfg(test)]
-mod tests;
 
 pub use block::BlockRef;
 pub use chunk::{CHUNK, CHUNKS_OF_CELLS, FEWEST_CELLS};

@@ -11,6 +11,3 @@ pub use laws::{
     decided_by_the_past_law, dnp_fits_law, first_kept_law, next_kept_law, run_law,
     slots_restored_law, without_deletion_law,
 };
-
-#[cfg(test)]
-mod tests;

@@ -8,8 +8,6 @@ mod laws;
 mod mark;
 mod slot_rule;
 mod slots;
-#[cfg(test)]
-mod tests;
 mod times;
 mod window;
 

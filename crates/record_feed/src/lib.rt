@@ -13,6 +13,3 @@ pub use coming::Coming;
 pub use count::RecordCount;
 pub use feed::RecordFeed;
 pub use laws::stands_law;
-
-#[cfg(test)]
-mod tests;

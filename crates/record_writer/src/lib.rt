@@ -12,6 +12,3 @@ pub use laws::{short_law, written_law};
 pub use signalling::Signalling;
 pub use sizes::{block_count, rest_len};
 pub use writer::Writer;
-
-#[cfg(test)]
-mod tests;

@@ -8,6 +8,3 @@ mod numbers;
 pub use frame::shape;
 pub use laws::{field_law, order_law};
 pub use numbers::Shape;
-
-#[cfg(test)]
-mod tests;

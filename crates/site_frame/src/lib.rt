@@ -21,6 +21,3 @@ pub use parts::FrameParts;
 pub use placing::place_record;
 pub use reading::{RecordView, front_head, read_record, rest_len};
 pub use writing::{write_head, write_muted};
-
-#[cfg(test)]
-mod tests;

@@ -21,6 +21,3 @@ pub use piper::Piper;
 pub use skipping::{few_packets_law, packet_places_law, skip_law};
 pub use survivor_laws::{rise_law, stand_law, survivor_law, undamaged_law};
 pub use unpiper::Unpiper;
-
-#[cfg(test)]
-mod tests;
