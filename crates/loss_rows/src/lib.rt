@@ -2,6 +2,10 @@
 #![tactic(auto)]
 
 #[cfg(test)]
+mod common;
+#[cfg(test)]
+mod compared;
+#[cfg(test)]
 mod damaged;
 #[cfg(test)]
 mod hostile_records;
@@ -13,3 +17,5 @@ mod merged;
 mod random_networks;
 #[cfg(test)]
 mod returned;
+#[cfg(test)]
+mod swapped;

@@ -79,8 +79,8 @@ static ROWS: [Row; 8] = [
     },
 ];
 
-// What is said and given back of a PLP from a stream.
-fn received(
+/// What is said and given back of a PLP from a stream.
+pub(crate) fn received(
     rt: &(impl AllocGlobal + Abort),
     why: &str,
     config: &[u8],
@@ -155,15 +155,15 @@ plp 3 type2 2 3/5 64qam short 0 2 1 delete 1600000
     ..ONCE
 };
 
-// A network of several PLPs, its texts and the identifiers of its PLPs.
-struct Network {
-    why: &'static str,
-    config: File,
-    plps: &'static [&'static str],
+/// A network of several PLPs, its texts and the identifiers of its PLPs.
+pub(crate) struct Network {
+    pub(crate) why: &'static str,
+    pub(crate) config: File,
+    pub(crate) plps: &'static [&'static str],
 }
 
 #[rattlefmt::skip]
-static NETWORKS: [Network; 2] = [
+pub(crate) static NETWORKS: [Network; 2] = [
     Network { why: "both types", config: MIXED, plps: &["1", "2", "3"] },
     Network { why: "spreads of 1, 2 and 4, and a common PLP", config: VARIED, plps: &["7", "3", "9", "5"] },
 ];

@@ -22,13 +22,13 @@ struct Kind {
     other: (u64, u64),
 }
 
-// A run opens CONFIG, and its inputs if it writes a file, one or two, and reads each to its end; it creates that file once, and writes
-// it by more than one call; and it says its text at once.
+// A run opens CONFIG, and its inputs if it writes a file or compares, one or two, and reads each to its end; it creates that file
+// once, and writes it by more than one call; and it says its text at once.
 #[rattlefmt::skip]
 static KINDS: [Kind; 5] = [
     Kind {
         why: "open", kind: CallKind::Open, outcome: Outcome::ReadFault, status: 70, line: "fault: read\n",
-        writing: (2, 3), other: (1, 1),
+        writing: (2, 3), other: (1, 3),
     },
     Kind {
         why: "read", kind: CallKind::Read, outcome: Outcome::ReadFault, status: 70, line: "fault: read\n",
@@ -63,11 +63,13 @@ struct Command {
 
 // Each command, over a configuration `c`, an input `i`, its stream `s`, the records `r` of that, and packets `p`.
 #[rattlefmt::skip]
-static COMMANDS: [Command; 9] = [
+static COMMANDS: [Command; 11] = [
     Command { why: "gateway", words: &["gateway", "c", "o", "i"], writes: true },
     Command { why: "modulate", words: &["modulate", "c", "s", "o"], writes: true },
     Command { why: "receive", words: &["receive", "c", "0", "r", "o"], writes: true },
     Command { why: "merge", words: &["merge", "c", "s", "s", "o"], writes: true },
+    Command { why: "swap", words: &["swap", "c", "0", "s", "i", "o"], writes: true },
+    Command { why: "compare", words: &["compare", "c", "s", "s"], writes: false },
     Command { why: "plan", words: &["plan", "c"], writes: false },
     Command { why: "show config", words: &["show", "config", "c"], writes: false },
     Command { why: "show packets", words: &["show", "packets", "p"], writes: false },

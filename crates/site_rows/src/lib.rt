@@ -2,6 +2,12 @@
 #![tactic(auto)]
 
 #[cfg(test)]
+mod common_gateway;
+#[cfg(test)]
+mod common_receive;
+#[cfg(test)]
+mod compare;
+#[cfg(test)]
 mod configuration;
 #[cfg(test)]
 mod draws;
@@ -29,5 +35,7 @@ mod show_many;
 mod show_packets;
 #[cfg(test)]
 mod show_t2mi;
+#[cfg(test)]
+mod swap;
 #[cfg(test)]
 mod trial;
