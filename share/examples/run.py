@@ -3,8 +3,8 @@
 
     run.py PROGRAM [FOLDER]     PROGRAM is site_cli; FOLDER is a new one in which all files stay
 
-A comment behind a command that begins as `first=0` or `merged frames=4` must be a line on standard output, in its order. Lines that want a screen (ffplay, less) or a
-program that is not there (ffmpeg, tshark) are left out, and told.
+A comment behind a command that begins as `first=0` or `merged frames=4` must be a line on standard output, in its order. Lines that want a screen (ffplay, less) or
+what is not there (ffmpeg, tshark, Pillow) are left out, and told.
 """
 import os
 import re
@@ -36,7 +36,14 @@ def left_out(line):
     for word, program in WANTED.items():
         if word in line and shutil.which(program) is None:
             return f"there is no {program}"
+    if "picture.py" in line and not has_pillow():
+        return "there is no Pillow"
     return None
+
+
+def has_pillow():
+    """Whether the Python that the programs of share/ are run by has Pillow."""
+    return subprocess.run(["python3", "-c", "import PIL"], stderr=subprocess.DEVNULL, check=False).returncode == 0
 
 
 def wanted_of(lines):
@@ -53,7 +60,7 @@ def run_block(number, block, folder):
             print(f"block {number}: left out, {why}: {line.strip()[:80]}")
         else:
             lines.append(line)
-    done = subprocess.run(["sh", "-ec", "\n".join(lines)], cwd=folder, stdout=subprocess.PIPE, timeout=SECONDS, check=False)
+    done = subprocess.run(["sh", "-ec", "\n".join(lines)], cwd=folder, stdin=subprocess.DEVNULL, stdout=subprocess.PIPE, timeout=SECONDS, check=False)
     if done.returncode != 0:
         return f"ends with {done.returncode}"
     said = iter(done.stdout.decode(errors="replace").splitlines())

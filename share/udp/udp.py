@@ -1,9 +1,10 @@
 #!/usr/bin/env python3
 """Transport packets between UDP and a pipe, seven in a datagram.
 
-    udp.py in [GROUP:]PORT > OUT    writes what comes on a port, of a multicast group if one is named
+    udp.py in [ADDRESS:]PORT > OUT  writes what comes on a port, to an address of this machine or a multicast group if one is named
     udp.py out HOST:PORT < IN       sends what comes, as fast as it comes
 """
+import ipaddress
 import socket
 import sys
 
@@ -19,8 +20,9 @@ def main(way, place):
         return
     bridge.setsockopt(socket.SOL_SOCKET, socket.SO_RCVBUF, 1 << 22)
     bridge.bind((host, int(port)))
-    if host:
-        bridge.setsockopt(socket.IPPROTO_IP, socket.IP_ADD_MEMBERSHIP, socket.inet_aton(host) + bytes(4))
+    address = socket.gethostbyname(host)
+    if ipaddress.ip_address(address).is_multicast:
+        bridge.setsockopt(socket.IPPROTO_IP, socket.IP_ADD_MEMBERSHIP, socket.inet_aton(address) + bytes(4))
     while True:
         sys.stdout.buffer.write(bridge.recv(65536))
         sys.stdout.buffer.flush()
