@@ -112,6 +112,17 @@ register-word low s bytes small fits size =
     let e : number_of (bits_of bytes) * 2 ^ (32 - 32) ≡ number_of (bits_of bytes) = omega arith in
     rw (wide, e) at (register_is_zeros 32 low small (bits_of bytes) s fits few)
 
+-- Four bytes are 32 zero bits of the sum of the register and their word.
+pub register-four : (low s : ℕ) (bytes : List ℕ) → low < 2 ^ 32 → s < 2 ^ 32 → length bytes ≡ 4 → ((i : ℕ) → get_or bytes i 0 < 256)
+    →
+    zeros 32 low 32
+    (bit_xor s (get_or bytes 0 0 * 2 ^ 24 + get_or bytes 1 0 * 2 ^ 16 + get_or bytes 2 0 * 2 ^ 8 + get_or bytes 3 0))
+    ≡ register 32 low s (bits_of bytes)
+register-four low s (a ∷ b ∷ c ∷ d ∷ []) small fits size each =
+    sym (register-word low s (a ∷ b ∷ c ∷ d ∷ []) small fits refl
+    ∙ ap (λ (n : ℕ). zeros 32 low 32 (bit_xor s n)) (four_bytes a b c d (each 0) (each 1) (each 2) (each 3)))
+register-four low s bytes small fits size each = absurd (omega arith)
+
 -- eight bytes are 32 zero bits of the last four and 64 of the sum of the register and the first four.
 register-eight : (low s : ℕ) (bytes : List ℕ) → low < 2 ^ 32 → s < 2 ^ 32 → length bytes ≡ 8 → ((i : ℕ) → get_or bytes i 0 < 256)
     →

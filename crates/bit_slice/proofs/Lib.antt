@@ -4,6 +4,7 @@ pub mod CrcLemmas
 pub mod ZerosLemmas
 pub mod ByteLemmas
 pub mod TableLemmas
+pub mod WindowLemmas
 pub mod RunLemmas
 pub mod SliceLemmas
 pub mod PrbsLemmas

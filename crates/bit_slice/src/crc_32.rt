@@ -7,9 +7,13 @@ ghost use Rattle.bit_slice.specs.Register.{step as step_of, register as register
 
 use crate::BitSlice;
 use crate::tables::TABLES;
+use crate::window::{BLOCK, Window};
 
 // The generator without its highest term.
 const LOW: u32 = 0x04C1_1DB7;
+
+// From so many bytes on the way by sums is the shorter one.
+const MANY: usize = 640;
 
 /// The CRC-32 of the bits, any number of them: generator 04C11DB7, all ones at the start and no inversion at the end
 /// (EN 302 755, annex F; TS 102 773, annex A).
@@ -69,11 +73,33 @@ fn after_bit(register: u32, bit: bool) -> u32
     }
 }
 
+// Many bytes go by way of sums.
 fn after_bytes(register: u32, bytes: &[u8]) -> u32
     ensures { result ≡ register_of 32 LOW register (bits_of bytes.now) }
 {
-    let (chunks, rest) = bytes.as_chunks::<16>();
-    let mut register = after_chunks(register, chunks);
+    if bytes.len() < MANY {
+        return after_few(register, bytes);
+    }
+    let (blocks, rest) = bytes.as_chunks::<BLOCK>();
+    after_few(after_blocks(register, blocks), rest)
+}
+
+fn after_blocks(register: u32, blocks: &[[u8; BLOCK]]) -> u32
+    ensures { result ≡ register_of 32 LOW register (flat_map bits_of blocks.now) }
+{
+    let mut window = Window::begin(register);
+    for block in blocks {
+        window.pass(block);
+    }
+    window.register()
+}
+
+pub(crate) fn after_few(register: u32, bytes: &[u8]) -> u32
+    ensures { result ≡ register_of 32 LOW register (bits_of bytes.now) }
+{
+    let (chunks, behind) = bytes.as_chunks::<16>();
+    let (words, rest) = behind.as_chunks::<4>();
+    let mut register = after_words(after_chunks(register, chunks), words);
     for byte in rest {
         register = after_byte(register, *byte);
     }
@@ -106,6 +132,21 @@ fn after_chunk(register: u32, chunk: &[u8; 16]) -> u32
     let fourth = u32::from_be_bytes([m, n, o, p]);
     // The back comes first: its entries are read while the register is still under way.
     after_zeros(fourth, 0) ^ after_zeros(third, 4) ^ after_zeros(second, 8) ^ after_zeros(first, 12)
+}
+
+fn after_words(mut register: u32, words: &[[u8; 4]]) -> u32
+    ensures { result ≡ register_of 32 LOW register (flat_map bits_of words.now) }
+{
+    for word in words {
+        register = after_word(register, word);
+    }
+    register
+}
+
+fn after_word(register: u32, word: &[u8; 4]) -> u32
+    ensures { result ≡ register_of 32 LOW register (bits_of word.now) }
+{
+    after_zeros(register ^ u32::from_be_bytes(*word), 0)
 }
 
 // After the zero bits of four tables, from the first one on.

@@ -20,6 +20,7 @@ mod sink;
 mod slice;
 mod source;
 mod tables;
+mod window;
 mod written;
 
 pub use buf::BitBuf;
