@@ -7,16 +7,9 @@ use Rattle.std.proofs.lemmas.Nat.{shr-shr}
 use Rattle.std.proofs.lemmas.Nat.Bits.{bit_at-zero}
 use Rattle.std.proofs.lemmas.List.{replicate-append-replicate}
 use Rattle.terms.specs.Bits.{field}
-use Rattle.terms.proofs.BitLemmas.{field-add, field-low, field-byte}
+use Rattle.terms.proofs.BitLemmas.{field-add, field-low, field-byte, field-two-bytes}
 use Rattle.bb_frame.specs.declared.header.Header.{Header}
 use Rattle.bb_frame.specs.BasebandFrame.{fields_bits}
-
--- two bytes
-two_bytes : (n : ℕ) → field 8 (byte_at 1 n) ++ field 8 (byte_at 0 n) ≡ field 16 n
-two_bytes n =
-    ap (λ (xs : List Bool). xs ++ field 8 (byte_at 0 n)) (field-byte 1 n) ∙ ap (λ (xs : List Bool). field 8 (n / 2 ^ 8) ++ xs)
-    (field-low 8 n)
-    ∙ sym (field-add 8 8 n)
 
 -- the two upper bytes of three
 upper_bytes : (n : ℕ) → field 8 (byte_at 2 n) ++ field 8 (byte_at 1 n) ≡ field 16 (n / 2 ^ 8)
@@ -40,7 +33,7 @@ fields_written h =
     ++ (field 8 (byte_at 1 h.dfl) ++ field 8 (byte_at 0 h.dfl))
     ++ field 8 (byte_at 0 h.issy) ++ (field 8 (byte_at 1 h.syncd) ++ field 8 (byte_at 0 h.syncd)) =
     simp (append_assoc, append-nil) in
-    pairs ∙ rw (upper_bytes h.issy, two_bytes h.dfl, lower, two_bytes h.syncd) refl
+    pairs ∙ rw (upper_bytes h.issy, field-two-bytes h.dfl, lower, field-two-bytes h.syncd) refl
 
 -- a field of zeros
 pub field-zero : (w : ℕ) → field w 0 ≡ replicate w false

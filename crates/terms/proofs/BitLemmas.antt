@@ -307,6 +307,13 @@ pub field-byte : (k n : ℕ) → field 8 (number_byte k n) ≡ field 8 (n / 2 ^ 
 field-byte zero n = let e : n ≡ n / 2 ^ (8 * 0) = omega arith in field-low 8 n ∙ ap (field 8) e
 field-byte (suc k) n = field-low 8 (n / 256 ^ suc k) ∙ ap (λ (x : ℕ). field 8 (n / x)) (bytes_pow (suc k))
 
+-- two bytes of a number, the higher one first
+pub field-two-bytes : (n : ℕ) → field 8 (number_byte 1 n) ++ field 8 (number_byte 0 n) ≡ field 16 n
+field-two-bytes n =
+    ap (λ (xs : List Bool). xs ++ field 8 (number_byte 0 n)) (field-byte 1 n) ∙ ap (λ (xs : List Bool). field 8 (n / 2 ^ 8) ++ xs)
+    (field-low 8 n)
+    ∙ sym (field-add 8 8 n)
+
 field-none : (n : ℕ) → field (8 * 0) n ≡ []
 unfolding field
 field-none n = refl
