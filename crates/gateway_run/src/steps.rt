@@ -21,9 +21,7 @@ pub fn front_packet(bytes: &[u8]) -> TsPacket
     requires { SIZE ≤ length bytes.now }
     ensures { result ≡ take SIZE bytes.now }
 {
-    let mut packet = [0; SIZE];
-    packet.copy_from_slice(&bytes[..SIZE]);
-    TsPacket::from_array(packet)
+    TsPacket::from_array(*bytes.first_chunk().unwrap())
 }
 
 // The first input from this one on of which packets are wanted.
