@@ -492,9 +492,9 @@ swap_stops : (id : ℕ) (t2mi file out : List ℕ) (c : Config) (plp : ℕ) → 
 swap_stops id t2mi file out c plp at mid new (run.Refused swap.NoSuperframe) s =
     inl (IfSome_then mid.held s.works.holds (λ h w. inr (plp, at, λ short. (Err swap.NoSuperframe, (w.2.0, w.2.2), refl))))
 swap_stops id t2mi file out c plp at mid new (run.Refused (swap.InputRefused packet)) s =
-    inl (IfSome_then mid.held s.works.holds (λ h w. inr (plp, at, λ short. (Err (swap.InputRefused packet), (w.2.0, w.2.2), refl))))
+    inl (IfSome_then mid.held s.works.holds (λ h w. inr (plp, at, λ short. (Err (swap.InputRefused packet), (w.2.0, w.2.2.0), refl))))
 swap_stops id t2mi file out c plp at mid new (run.Refused swap.TooManyFrames) s =
-    inl (IfSome_then mid.held s.works.holds (λ h w. inr (plp, at, λ short. (Err swap.TooManyFrames, (w.2.0, w.2.2), refl))))
+    inl (IfSome_then mid.held s.works.holds (λ h w. inr (plp, at, λ short. (Err swap.TooManyFrames, (w.2.0, w.2.2.0), refl))))
 swap_stops id t2mi file out c plp at mid new (run.Files (run_fault.TooLong input)) s =
     inl (IfSome_then mid.held s.long (λ h long. inr (
       plp,

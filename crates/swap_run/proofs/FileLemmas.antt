@@ -27,10 +27,12 @@ use Rattle.frame_feed.specs.StandsFor.{IsFirst, waiting_of}
 use Rattle.frame_feed.specs.StandsFor as feed
 use Rattle.file_run.specs.Events.{Event, fed, has_ended, gave}
 use Rattle.file_run.specs.FileRun.{AreFed, IsFed}
+use Rattle.file_run.specs.declared.machine.Step.TheVariants.{Give, End}
 use Rattle.gateway_core.specs.InputSoFar.{Continues}
 use Rattle.gateway_run.proofs.FileLemmas.{NextIsBad}
 use Rattle.merge_run.specs.MergeRun.{AreEarly}
 use Rattle.merge_run.specs.Shown.{NoneComes}
+use Rattle.merge_run.specs.Steps.{is_idle}
 use Rattle.merge_run.proofs.FeedLemmas.{IsDue, due_of, waits_above}
 use Rattle.merge_run.proofs.NumberLemmas.{below_of, above_append, below_append}
 use Rattle.merge_run.proofs.SendLemmas.{given_front}
@@ -38,19 +40,21 @@ use Rattle.merge_run.proofs.SplitLemmas as split
 use Rattle.t2mi_stream.proofs.CompleteLemmas.{shorter_front}
 use Rattle.region_swap.specs.StandsFor.{Status, status_of, wants_of}
 use Rattle.region_swap.specs.Swapped.{swapped}
-use Rattle.swap_run.specs.Shown.{Read, Shown, HasCaughtUp, IsIn, IsDone, IsBehindAll, IsWanted, finished_in}
+use Rattle.swap_run.specs.Shown.{Read, Shown, HasCaughtUp, WereGiven, IsIn, IsDone, IsBehindAll, IsWanted, finished_in}
 use Rattle.swap_run.specs.Shown as shown
 use Rattle.swap_run.specs.SwapRun.{frames_in, packets_of, units_of, complete_of, slots_of, counted, WantBad, SwapsAll, HasNone, MeetsBad}
-use Rattle.swap_run.specs.SwapRun.{HasLate, HasSwapped, WantsMore, AreWritten, MayWrite}
+use Rattle.swap_run.specs.SwapRun.{ReadsNoFurther, HasLate, HasSwapped, WantsMore, AreWritten, MayWrite, ReadsAhead}
+use Rattle.swap_run.specs.Steps.{step_in, step_of, wanted_in, input_reach, drained}
 use Rattle.swap_run.specs.declared.phase.Phase.{Phase}
 use Rattle.swap_run.specs.declared.phase.Phase.TheVariants as phase
 use Rattle.swap_run.specs.declared.stop.Ran.{Ran}
 use Rattle.swap_run.specs.declared.stop.SwapStop.TheVariants.{NoSuperframe, InputRefused, TooManyFrames}
 use Rattle.swap_run.specs.declared.swapping.Swapping.{Swapping}
 use Rattle.swap_run.proofs.GoLemmas.{slots_rise}
+use Rattle.swap_run.proofs.NextLemmas.{slots_in, slots_is}
 use Rattle.swap_run.proofs.PacketLemmas.{file_continues, none_wanted, few_taken, all_taken, nothing_bad, bad_next}
 use Rattle.swap_run.proofs.SendLemmas.{frames_append, more_packets, gave_complete, gave_all}
-use Rattle.swap_run.proofs.ShownLemmas.{in_records, in_packets, in_drains, has_wanted}
+use Rattle.swap_run.proofs.ShownLemmas.{in_records, in_packets, in_units, in_drains, in_rests, has_wanted}
 
 nothing_piped : (c : Config) (plp : ℕ) (input : List (List ℕ)) → pipe c.pid (remade_packets c (swapped c plp input []) ++ []) ≡ []
 unfolding remade_packets units_in
@@ -124,6 +128,14 @@ module _ (front : DueFront) (follow : DueFollow) (law : CompleteLaw) (rises : Co
   finished_is : (p : Phase) → m.phase ≡ p → (status_of m.swapper).finished ≡ finished_in p
   finished_is p e = ap (λ (x : Status). x.finished) s.status ∙ ap finished_in e
 
+  -- of the second no more was read than was wanted last
+  read_to : slice_index places 1 ≤ input_reach m → m.draining ≡ false → (p : Phase) → m.phase ≡ p
+      → slice_index places 1 ≤ SIZE * slots_by c plp (wanted_in p m.number * c.ticks)
+  read_to near calm p e =
+      let slots = slots_in m p e ∙ slots_is c plp events m s (wanted_in p m.number) in
+      let none = ap (λ (b : Bool). drained b m.ran.unsent) calm in
+      omega (arith, near, slots, none)
+
   -- ---- all was given
 
   slots_told : IsBehindAll c plp m r → m.ended ≡ true → r.tail ≡ [] → m.ran.unsent ≡ length input - slots_of c plp r.given
@@ -195,24 +207,29 @@ module _ (front : DueFront) (follow : DueFollow) (law : CompleteLaw) (rises : Co
       none_of [] ys is = refl
       none_of (x ∷ xs) ys is = absurd (let n = ap length is in omega (arith, n))
 
-  pub has_late : m.phase ≡ phase.Stopped TooManyFrames → HasLate c plp files (gave events)
-  has_late e =
+  pub has_late : slice_index places 1 ≤ input_reach m → m.phase ≡ phase.Stopped TooManyFrames
+      → (has : HasLate c plp files (gave events)) × (slice_index places 1 ≤ SIZE * slots_of c plp has.before)
+  has_late near e =
       let i : shown.StopsAtLate c plp m r = subst (IsIn c plp m r (has_ended 1 events)) e s.is_in in
       let f = follows i.waiting i.waits in
       let late = i.late in
       let number = f.number in
       let next = i.next in
       let early = s.counts.early in
-      record {
-        before = r.given;
-        late = f.next;
-        after = f.later;
-        parts = f.parts;
-        early = early_below (omega (arith, next, early));
-        number = omega (arith, late, number);
-        unwanted = unwanted;
-        output = complete i.caught (finished_is (phase.Stopped TooManyFrames) e);
-      }
+      let read = read_to near i.quiet.calm (phase.Stopped TooManyFrames) e in
+      let slots = ap (λ (n : ℕ). slots_by c plp ((n - 1) * c.ticks)) next in (
+        record {
+          before = r.given;
+          late = f.next;
+          after = f.later;
+          parts = f.parts;
+          early = early_below (omega (arith, next, early));
+          number = omega (arith, late, number);
+          unwanted = unwanted;
+          output = complete i.caught (finished_is (phase.Stopped TooManyFrames) e);
+        },
+        omega (arith, read, slots),
+      )
 
   -- the next frame wants so many packets
   module _ (w : Waiting) (waits : waiting_of m.feed ≡ Some w) (early : w.frame < MOST_FRAMES) (behind : m.number ≤ w.frame) where
@@ -236,8 +253,9 @@ module _ (front : DueFront) (follow : DueFollow) (law : CompleteLaw) (rises : Co
         let above = above_append r.given (f.next ∷ []) in
         slots_rise rises slot c plp m.number (above_all (r.given ++ f.next ∷ []) - 1) s.plan s.place (omega (arith, above, number, behind))
 
-  pub meets_bad : (n : ℕ) → m.phase ≡ phase.Stopped (InputRefused n) → MeetsBad c plp files n (gave events)
-  meets_bad n e = go i.met
+  pub meets_bad : slice_index places 1 ≤ input_reach m → (n : ℕ) → m.phase ≡ phase.Stopped (InputRefused n)
+      → (meets : MeetsBad c plp files n (gave events)) × ReadsNoFurther c plp places meets.before meets.after
+  meets_bad near n e = go i.met
     where
       i : shown.StopsAtBad c plp m r (has_ended 1 events) n
       i = subst (IsIn c plp m r (has_ended 1 events)) e s.is_in
@@ -246,7 +264,8 @@ module _ (front : DueFront) (follow : DueFollow) (law : CompleteLaw) (rises : Co
       next = bad_next (files 1) (slice_index places 1) (fed 1 events) (has_ended 1 events) fed_input r.told r.rest r.tail m.taken m.ended s.of_input
           i.some i.bad i.cut
 
-      go : IsWanted c plp m r ⊎ IsBehindAll c plp m r → MeetsBad c plp files n (gave events)
+      go : IsWanted c plp m r ⊎ IsBehindAll c plp m r
+          → (meets : MeetsBad c plp files n (gave events)) × ReadsNoFurther c plp places meets.before meets.after
       go (inl w) =
           let f = follows w.waiting w.waits in
           let number = next.number in
@@ -254,42 +273,51 @@ module _ (front : DueFront) (follow : DueFollow) (law : CompleteLaw) (rises : Co
           let none = ap length w.offered in
           let less = w.wanted in
           let slots = slots_next w.waiting w.waits w.early w.behind in
-          record {
-            some = some_next w.waiting w.waits w.early w.behind;
-            bad = next.bad;
-            number = i.number ∙ sym next.number;
-            before = r.given;
-            after = f.next ∷ f.later;
-            parts = f.parts;
-            early = early_next w.waiting w.waits w.early w.behind;
-            unwanted = unwanted;
-            wanted = λ _. (next.bad, omega (arith, number, sum, none, less, slots));
-            output = complete i.caught (finished_is (phase.Stopped (InputRefused n)) e);
-          }
-      go (inr b) = record {
-        some = behind_some b;
-        bad = next.bad;
-        number = i.number ∙ sym next.number;
-        before = r.given;
-        after = [];
-        parts = all_given b.none ∙ sym (append-nil r.given);
-        early = subst AreEarly (sym (append-nil r.given)) (early_below (behind_above b));
-        unwanted = unwanted;
-        wanted = λ some. absurd (some refl);
-        output = complete i.caught (finished_is (phase.Stopped (InputRefused n)) e);
-      }
+          let read = read_to near w.calm (phase.Stopped (InputRefused n)) e in (
+            record {
+              some = some_next w.waiting w.waits w.early w.behind;
+              bad = next.bad;
+              number = i.number ∙ sym next.number;
+              before = r.given;
+              after = f.next ∷ f.later;
+              parts = f.parts;
+              early = early_next w.waiting w.waits w.early w.behind;
+              unwanted = unwanted;
+              wanted = λ _. (next.bad, omega (arith, number, sum, none, less, slots));
+              output = complete i.caught (finished_is (phase.Stopped (InputRefused n)) e);
+            },
+            λ _. omega (arith, read, slots),
+          )
+      go (inr b) = (
+        record {
+          some = behind_some b;
+          bad = next.bad;
+          number = i.number ∙ sym next.number;
+          before = r.given;
+          after = [];
+          parts = all_given b.none ∙ sym (append-nil r.given);
+          early = subst AreEarly (sym (append-nil r.given)) (early_below (behind_above b));
+          unwanted = unwanted;
+          wanted = λ some. absurd (some refl);
+          output = complete i.caught (finished_is (phase.Stopped (InputRefused n)) e);
+        },
+        λ some. absurd (some refl),
+      )
 
   -- ---- an input is to be read on
 
-  pub has_swapped : (taken : ℕ) → m.phase ≡ phase.Records → waiting_of m.feed ≡ None → feed.has_ended m.feed ≡ false
-      → taken ≡ length (fed 0 events) → HasSwapped c plp taken files (gave events)
-  has_swapped taken e none going is =
+  pub has_swapped : slice_index places 1 ≤ input_reach m → (taken : ℕ) → m.phase ≡ phase.Records → waiting_of m.feed ≡ None
+      → feed.has_ended m.feed ≡ false → taken ≡ length (fed 0 events) → HasSwapped c plp places taken files (gave events)
+  has_swapped near taken e none going is =
       let i = in_records c plp events m s e in
       let next = i.next in
       let early = s.counts.early in
+      let read = read_to near i.quiet.calm phase.Records e in
+      let slots = ap (λ (n : ℕ). slots_by c plp ((n - 1) * c.ticks)) next in
       record {
         early = subst AreEarly (sym due_is) (early_below (omega (arith, next, early)));
         unwanted = subst (λ (l : List FrameRecord). ¬ (WantBad c plp (files 1) l)) (sym due_is) unwanted;
+        no_further = subst (λ (l : List FrameRecord). slice_index places 1 ≤ SIZE * slots_of c plp l) (sym due_is) (omega (arith, read, slots));
         output = complete i.caught (finished_is phase.Records e) ∙ ap (λ (l : List FrameRecord). joined (complete_of c plp files l)) (sym due_is);
       }
     where
@@ -309,9 +337,9 @@ module _ (front : DueFront) (follow : DueFollow) (law : CompleteLaw) (rises : Co
       let sum = length-append r.told.packets r.rest in
       omega (arith, had, count, sum, read)
 
-  pub wants_packets : (place : ℕ) → (e : m.phase ≡ phase.Packets) → 0 < wants_of m.swapper → SIZE * m.taken ≤ place
-      → place < SIZE * (m.taken + 1) → WantsMore c plp place files (gave events)
-  wants_packets place e some read near =
+  pub wants_packets : slice_index places 1 ≤ input_reach m → (place : ℕ) → (e : m.phase ≡ phase.Packets) → 0 < wants_of m.swapper
+      → SIZE * m.taken ≤ place → place < SIZE * (m.taken + 1) → WantsMore c plp places place files (gave events)
+  wants_packets reach place e some read near =
       let i = in_packets c plp events m s e in
       let w = i.waiting in
       let f = follows w i.waits in
@@ -322,6 +350,7 @@ module _ (front : DueFront) (follow : DueFollow) (law : CompleteLaw) (rises : Co
       let sum = length-append r.told.packets r.rest in
       let none = ap length i.quiet.rest_is in
       let most = few in
+      let to = read_to reach i.quiet.calm phase.Packets e in
       record {
         before = r.given;
         after = f.next ∷ f.later;
@@ -330,12 +359,13 @@ module _ (front : DueFront) (follow : DueFollow) (law : CompleteLaw) (rises : Co
         some = some_next w i.waits i.early i.behind;
         had = had_read place h.off read;
         wanted = λ _. omega (arith, near, less, slots, count, sum, none);
+        no_further = λ _. omega (arith, to, slots);
         unread = omega (arith, near, most, count);
         output = complete i.caught (finished_is phase.Packets e);
       }
 
   pub wants_rest : (place : ℕ) → (e : m.phase ≡ phase.Drains) → m.ended ≡ false → SIZE * m.taken ≤ place → place < SIZE * (m.taken + 1)
-      → WantsMore c plp place files (gave events)
+      → WantsMore c plp places place files (gave events)
   wants_rest place e going read near =
       let i = in_drains c plp events m s e in
       let most = few in
@@ -348,6 +378,7 @@ module _ (front : DueFront) (follow : DueFollow) (law : CompleteLaw) (rises : Co
         some = behind_some i.behind;
         had = had_read place open_still read;
         wanted = λ some. absurd (some refl);
+        no_further = λ some. absurd (some refl);
         unread = omega (arith, near, most, count);
         output = complete i.caught (finished_is phase.Drains e);
       }
@@ -449,27 +480,27 @@ module _ (front : DueFront) (follow : DueFollow) (law : CompleteLaw) (rises : Co
   -- ---- how far the T2-MI stream was read
 
   -- of records that are among those whose complete units were given
-  written_front : (records : List FrameRecord) → IsPrefix records s.live.sent → AreWritten c plp files (gave events) records
-  written_front records u =
-      let v = s.live.part in
-      let given_is : r.given ≡ records ++ (u.0 ++ v.0) =
-      v.1 ∙ ap (λ (l : List FrameRecord). l ++ v.0) u.1 ∙ append_assoc records u.0 v.0 in
+  written_front : (sent rest : List FrameRecord) → r.given ≡ sent ++ rest → WereGiven c plp r.told sent m.ran.units
+      → (records : List FrameRecord) → IsPrefix records sent → AreWritten c plp files (gave events) records
+  written_front sent rest given_as given_all records u =
+      let given_is : r.given ≡ records ++ (u.0 ++ rest) =
+      given_as ∙ ap (λ (l : List FrameRecord). l ++ rest) u.1 ∙ append_assoc records u.0 rest in
       let few : List (List ℕ) = packets_of c plp input records in
       let more = more_packets c plp input (frames_in c records) (frames_in c u.0) in
-      let sent : packets_of c plp input s.live.sent ≡ few ++ more.0 =
+      let sent_as : packets_of c plp input sent ≡ few ++ more.0 =
       ap (packets_of c plp input) u.1
       ∙ ap (λ (l : List NumberedView). remade_packets c (swapped c plp input l)) (frames_append c records u.0) ∙ more.1 in
-      let rest = more_packets c plp input (frames_in c s.live.sent) (frames_in c v.0) in
-      let packets : packets_of c plp input r.given ≡ (few ++ more.0) ++ rest.0 =
-      ap (packets_of c plp input) v.1
-      ∙ ap (λ (l : List NumberedView). remade_packets c (swapped c plp input l)) (frames_append c s.live.sent v.0) ∙ rest.1
-      ∙ ap (λ (l : List (List ℕ)). l ++ rest.0) sent in
+      let behind = more_packets c plp input (frames_in c sent) (frames_in c rest) in
+      let packets : packets_of c plp input r.given ≡ (few ++ more.0) ++ behind.0 =
+      ap (packets_of c plp input) given_as
+      ∙ ap (λ (l : List NumberedView). remade_packets c (swapped c plp input l)) (frames_append c sent rest) ∙ behind.1
+      ∙ ap (λ (l : List (List ℕ)). l ++ behind.0) sent_as in
       let p = s.sends.front input cont [] (λ _. refl) in
       let count = s.sends.count_is in
-      let done = subst (λ (l : List (List ℕ)). length (complete_units c.pid l) ≤ m.ran.units) sent (s.live.done input cont) in
-      let f = given_front law c.pid few more.0 rest.0 s.sends.units p.0 (omega (arith, done, count))
+      let done = subst (λ (l : List (List ℕ)). length (complete_units c.pid l) ≤ m.ran.units) sent_as (given_all input cont) in
+      let f = given_front law c.pid few more.0 behind.0 s.sends.units p.0 (omega (arith, done, count))
       (ap (pipe c.pid) (sym packets ∙ sym (append-nil (packets_of c plp input r.given))) ∙ p.1) in
-      let above = above_append records (u.0 ++ v.0) in
+      let above = above_append records (u.0 ++ rest) in
       let size = ap above_all given_is in
       let most = above_few in
       record {
@@ -485,7 +516,88 @@ module _ (front : DueFront) (follow : DueFollow) (law : CompleteLaw) (rises : Co
       let same : take taken (files 0) ≡ take taken (fed 0 events) =
       ap (take taken) fed_t2mi.parts ∙ take-append-le taken (fed 0 events) fed_t2mi.more (omega (arith, lt)) in
       subst (λ (l : List ℕ). AreWritten c plp files (gave events) (records_due c false l)) (sym same)
-      (written_front (records_due c false (take taken (fed 0 events))) (s.live.due taken lt))
+      (written_front s.live.sent s.live.part.0 s.live.part.1 s.live.done (records_due c false (take taken (fed 0 events))) (s.live.due taken lt))
+
+  -- ---- and how far the other
+
+  behind_given : records_of c (files 0) ≡ r.given ++ (d.later ++ more)
+  behind_given = split.behind front follow c m.feed (files 0) (slice_index places 0) (fed 0 events) (has_ended 0 events) r.given fed_t2mi s.of_feed
+
+  -- these are all before the one whose frame is under way
+  written_before : (before rest : List FrameRecord) → r.given ≡ before ++ rest → WereGiven c plp r.told before m.ran.units
+      → AreWritten c plp files (gave events) before
+  written_before before rest parts done = written_front before rest parts done before ([], sym (append-nil before))
+
+  written_all : WereGiven c plp r.told r.given m.ran.units → AreWritten c plp files (gave events) r.given
+  written_all = written_before r.given [] (sym (append-nil r.given))
+
+  caught_up : HasCaughtUp c plp m.swapper r.told frames m.ran.units → WereGiven c plp r.told r.given m.ran.units
+  caught_up caught goes cont = let all = caught.complete goes cont in omega (arith, all)
+
+  -- no more is wanted of fewer records
+  slots_more : (xs ys : List FrameRecord) → slots_of c plp xs ≤ slots_of c plp (xs ++ ys)
+  slots_more xs ys =
+      let above = above_append xs ys in
+      slots_rise rises slot c plp (above_all xs - 1) (above_all (xs ++ ys) - 1) s.plan s.place (omega (arith, above))
+
+  pub ahead : slice_index places 1 ≤ input_reach m → step_of m ≡ Give → ReadsAhead c plp places files (gave events)
+  ahead near gives = by m.phase refl gives
+    where
+      behind_all : IsBehindAll c plp m r → WereGiven c plp r.told r.given m.ran.units → ReadsAhead c plp places files (gave events)
+      behind_all b done = record {
+        before = r.given;
+        after = [];
+        parts = all_given b.none ∙ sym (append-nil r.given);
+        written = written_all done;
+        no_further = λ some. absurd (some refl);
+      }
+
+      by : (p : Phase) → m.phase ≡ p
+          → step_in p (is_idle (waiting_of m.feed) (feed.has_ended m.feed)) (wants_of m.swapper) m.ended ≡ Give
+          → ReadsAhead c plp places files (gave events)
+      by phase.Records e is =
+          let i = in_records c plp events m s e in
+          let read = read_to near i.quiet.calm phase.Records e in
+          let slots = ap (λ (n : ℕ). slots_by c plp ((n - 1) * c.ticks)) i.next in
+          let rise = slots_more r.given (take 1 (d.later ++ more)) in
+          record {
+            before = r.given;
+            after = d.later ++ more;
+            parts = behind_given;
+            written = written_all (caught_up i.caught);
+            no_further = λ _. omega (arith, read, slots, rise);
+          }
+      by phase.Packets e is =
+          let i = in_packets c plp events m s e in
+          let w = i.waiting in
+          let f = follows w i.waits in
+          let read = read_to near i.quiet.calm phase.Packets e in
+          let slots = slots_next w i.waits i.early i.behind in
+          record {
+            before = r.given;
+            after = f.next ∷ f.later;
+            parts = f.parts;
+            written = written_all (caught_up i.caught);
+            no_further = λ _. omega (arith, read, slots);
+          }
+      by phase.Units e is =
+          let i = in_units c plp events m s e in
+          let read = read_to near i.quiet.calm phase.Units e in
+          let next = i.next in
+          let slots = slots_rise rises slot c plp m.number (above_all r.given - 1) s.plan s.place (omega (arith, next)) in
+          let same = ap (slots_of c plp) i.parts in
+          record {
+            before = i.before;
+            after = i.last ∷ (d.later ++ more);
+            parts = behind_given ∙ ap (λ (l : List FrameRecord). l ++ (d.later ++ more)) i.parts
+                ∙ append_assoc i.before (i.last ∷ []) (d.later ++ more);
+            written = written_before i.before (i.last ∷ []) i.parts i.done;
+            no_further = λ _. omega (arith, read, slots, same);
+          }
+      by phase.Drains e is = let i = in_drains c plp events m s e in behind_all i.behind (caught_up i.caught)
+      by phase.Rests e is = let i = in_rests c plp events m s e in behind_all i.behind i.done
+      by phase.Done e is = absurd (let z : End ≡ Give = is in cc)
+      by (phase.Stopped why) e is = absurd (let z : End ≡ Give = is in cc)
 
   pub fed_count : feed.fed_of m.feed ≡ length (fed 0 events)
   fed_count = s.of_feed.stands.count

@@ -480,6 +480,10 @@ module _ (c : Config) (plp : ℕ) (events : List Event) (m : Swapping) (s : Show
         };
         live = live_push c plp (fed 0 events) r.told r.given x m.ran.units s.live;
         is_in = record {
+          before = r.given;
+          last = x;
+          parts = refl;
+          done = λ input cont. let all = i.caught.complete input cont in omega (arith, all);
           holds = record {
             before = frames_in c r.given;
             view = f.view;
@@ -611,6 +615,10 @@ module _ (c : Config) (plp : ℕ) (events : List Event) (m : Swapping) (s : Show
         };
         live = live_on c plp _ _ r.told r.told r.given m.ran.units (m.ran.units + 1) zero.fed_is (λ _ cont. cont) (omega arith) s.live;
         is_in = subst (IsIn c plp (record m { swapper = q; ran = record m.ran { units = m.ran.units + 1 } }) r (has_ended 1 more)) (sym e) (record {
+          before = i.before;
+          last = i.last;
+          parts = i.parts;
+          done = λ input cont. let d = i.done input cont in omega (arith, d);
           holds = record {
             before = h.before;
             view = h.view;
@@ -726,6 +734,7 @@ module _ (c : Config) (plp : ℕ) (events : List Event) (m : Swapping) (s : Show
         live = s.live;
         is_in = record {
           all_fed = all_fed;
+          done = λ input cont. let all = i.caught.complete input cont in omega (arith, all);
           behind = record { none = i.behind.none; some = i.behind.some; next = i.behind.next; few = i.behind.few };
           whole = i.whole;
           over = over;
@@ -778,6 +787,7 @@ module _ (c : Config) (plp : ℕ) (events : List Event) (m : Swapping) (s : Show
         live = live_on c plp _ _ r.told r.told r.given m.ran.units (m.ran.units + 1) zero.fed_is (λ _ cont. cont) (omega arith) s.live;
         is_in = subst (IsIn c plp (record m { swapper = q; ran = record m.ran { units = m.ran.units + 1 } }) r (has_ended 1 more)) (sym e) (record {
           all_fed = all_fed;
+          done = λ input cont. let d = i.done input cont in omega (arith, d);
           behind = record { none = i.behind.none; some = i.behind.some; next = i.behind.next; few = i.behind.few };
           whole = i.whole;
           over = i.over;

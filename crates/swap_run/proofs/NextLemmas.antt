@@ -1,5 +1,5 @@
 -- What is left to give, how far an input may be read, and what is known of a machine that came.
-use Rattle.std.proofs.Common.{◌≡◌, ◌≢◌, ℕ, ◌+◌, ◌*◌, ◌<◌, ◌≤◌, Bool, true, false, List, [], ◌∷◌, ◌++◌, length, Option, Some, None}
+use Rattle.std.proofs.Common.{◌≡◌, ◌≢◌, ℕ, ◌+◌, ◌-◌, ◌*◌, ◌<◌, ◌≤◌, Bool, true, false, List, [], ◌∷◌, ◌++◌, length, Option, Some, None}
 use Rattle.std.proofs.Common.{refl, ap, sym, subst, ◌∙◌, arith, length-append, append-nil}
 use Rattle.plp_config.specs.Laws.{CountRises, SlotLength}
 use Rattle.plp_config.specs.SlotTime.{slots_by}
@@ -25,9 +25,10 @@ use Rattle.region_swap.specs.declared.swapper.Swapper.{Swapper}
 use Rattle.swap_run.specs.SwapRun.{frames_in}
 use Rattle.swap_run.proofs.PacketLemmas.{reads_same}
 use Rattle.swap_run.specs.Shown.{IsIn, Shown, HasShown, next_in}
-use Rattle.swap_run.specs.Steps.{left_in, left_of, reach_of, input_reach, drained}
+use Rattle.swap_run.specs.Steps.{left_in, left_of, wanted_in, reach_of, input_reach, drained}
 use Rattle.swap_run.specs.declared.phase.Phase.{Phase}
 use Rattle.swap_run.specs.declared.phase.Phase.TheVariants as phase
+use Rattle.swap_run.specs.declared.stop.SwapStop.TheVariants.{InputRefused}
 use Rattle.swap_run.specs.declared.swapping.Swapping.{Swapping}
 use Rattle.swap_run.proofs.GoLemmas.{slots_rise}
 use Rattle.swap_run.proofs.ShownLemmas.{Same, feed_same, sends_same, status_in, in_packets, in_units, in_drains, in_rests}
@@ -62,13 +63,34 @@ one_zero e = absurd (omega (arith, e))
 pub reach_by : (m n : Swapping) → fed_of m.feed ≤ fed_of n.feed → input_reach m ≤ input_reach n → (other : ℕ) → reach_of m other ≤ reach_of n other
 reach_by m n a b other = bool_cases (other == 0) (λ e. rw e (omega (arith, a))) (λ e. rw e b)
 
--- the slots that are over when the frame under way begins
+-- the slots that are over when a frame begins
+abbrev pub slots_before : Swapping → ℕ → ℕ
+slots_before m frame = slots_by m.plan.now (status_of m.swapper).plp (frame * m.plan.now.ticks)
+
+-- and those whose packets were wanted
 abbrev pub slots_at : Swapping → ℕ
-slots_at m = slots_by m.plan.now (status_of m.swapper).plp (m.number * m.plan.now.ticks)
+slots_at m = slots_before m (wanted_in m.phase m.number)
+
+pub slots_in : (m : Swapping) (p : Phase) → m.phase ≡ p → slots_at m ≡ slots_before m (wanted_in p m.number)
+slots_in m p e = ap (λ (x : Phase). slots_before m (wanted_in x m.number)) e
 
 pub reach_on : (m n : Swapping) → fed_of m.feed ≤ fed_of n.feed → slots_at m ≤ slots_at n
     → drained m.draining m.ran.unsent ≤ drained n.draining n.ran.unsent → (other : ℕ) → reach_of m other ≤ reach_of n other
 reach_on m n f s d = reach_by m n f (omega (arith, s, d))
+
+-- what the configuration counts of them
+pub slots_is : (c : Config) (plp : ℕ) (events : List Event) (m : Swapping) → Shown c plp events m → (frame : ℕ)
+    → slots_before m frame ≡ slots_by c plp (frame * c.ticks)
+slots_is c plp events m s frame =
+    ap (λ (k : Config). slots_by k (status_of m.swapper).plp (frame * k.ticks)) s.config
+    ∙ ap (λ (p : ℕ). slots_by c p (frame * c.ticks)) (ap (λ (x : Status). x.plp) s.status)
+
+-- a bad packet was met
+pub reach_refused : (m : Swapping) (p : Phase) → m.phase ≡ p → wanted_in p m.number ≡ m.number → (other : ℕ)
+    → reach_of m other ≤ reach_of (record m { phase = phase.Stopped (InputRefused m.taken) }) other
+reach_refused m p e same =
+    let was = slots_in m p e ∙ ap (slots_before m) same in
+    reach_on m (record m { phase = phase.Stopped (InputRefused m.taken) }) (omega arith) (omega (arith, was)) (omega arith)
 
 pub drained_more : (b : Bool) (n : ℕ) → drained b n ≤ drained true n
 drained_more true n = omega arith
@@ -78,26 +100,36 @@ pub drained_on : (b : Bool) (m n : ℕ) → m ≤ n → drained b m ≤ drained 
 drained_on true m n le = omega (arith, le)
 drained_on false m n le = omega arith
 
-pub slots_status : (m : Swapping) (q : Swapper) → (status_of q).plp ≡ (status_of m.swapper).plp
-    → slots_at m ≤ slots_by m.plan.now (status_of q).plp (m.number * m.plan.now.ticks)
-slots_status m q e =
-    let s = ap (λ (p : ℕ). slots_by m.plan.now p (m.number * m.plan.now.ticks)) e in
+pub slots_status : (m : Swapping) (q : Swapper) (frame : ℕ) → (status_of q).plp ≡ (status_of m.swapper).plp
+    → slots_before m frame ≤ slots_by m.plan.now (status_of q).plp (frame * m.plan.now.ticks)
+slots_status m q frame e =
+    let s = ap (λ (p : ℕ). slots_by m.plan.now p (frame * m.plan.now.ticks)) e in
     omega (arith, s)
 
-pub slots_next : CountRises → SlotLength → (m : Swapping) (q : Swapper) → ∥ HasShown m ∥₁ → (status_of q).plp ≡ (status_of m.swapper).plp
-    → slots_at m ≤ slots_by m.plan.now (status_of q).plp ((m.number + 1) * m.plan.now.ticks)
-slots_next rises slot m q came e = most_of _ _ came (λ (h : HasShown m). go h)
+pub slots_next : CountRises → SlotLength → (m : Swapping) (q : Swapper) (a b : ℕ) → ∥ HasShown m ∥₁ → a ≤ b
+    → (status_of q).plp ≡ (status_of m.swapper).plp → slots_before m a ≤ slots_by m.plan.now (status_of q).plp (b * m.plan.now.ticks)
+slots_next rises slot m q a b came le e = most_of _ _ came (λ (h : HasShown m). go h)
   where
-    go : HasShown m → slots_at m ≤ slots_by m.plan.now (status_of q).plp ((m.number + 1) * m.plan.now.ticks)
+    go : HasShown m → slots_before m a ≤ slots_by m.plan.now (status_of q).plp (b * m.plan.now.ticks)
     go h =
         let s = h.shown in
         let c = h.network in
         let plp : (status_of m.swapper).plp ≡ h.plp = ap (λ (x : Status). x.plp) s.status in
-        let a = ap (λ (p : ℕ). slots_by c p (m.number * c.ticks)) plp in
-        let b = ap (λ (p : ℕ). slots_by c p ((m.number + 1) * c.ticks)) (e ∙ plp) in
-        let up = slots_rise rises slot c h.plp m.number (m.number + 1) s.plan s.place (omega arith) in
-        subst (λ (k : Config). slots_by k (status_of m.swapper).plp (m.number * k.ticks) ≤ slots_by k (status_of q).plp ((m.number + 1) * k.ticks))
-        (sym s.config) (omega (arith, up, a, b))
+        let here = ap (λ (p : ℕ). slots_by c p (a * c.ticks)) plp in
+        let there = ap (λ (p : ℕ). slots_by c p (b * c.ticks)) (e ∙ plp) in
+        let up = slots_rise rises slot c h.plp a b s.plan s.place le in
+        subst (λ (k : Config). slots_by k (status_of m.swapper).plp (a * k.ticks) ≤ slots_by k (status_of q).plp (b * k.ticks))
+        (sym s.config) (omega (arith, up, here, there))
+
+-- behind a frame its own packets are those that were wanted last
+pub slots_behind : (m : Swapping) (q : Swapper) (p : Phase) → m.phase ≡ p → wanted_in p m.number ≡ m.number
+    → (status_of q).plp ≡ (status_of m.swapper).plp
+    → slots_at m ≤ slots_by m.plan.now (status_of q).plp ((m.number + 1 - 1) * m.plan.now.ticks)
+slots_behind m q p e here plp =
+    let back : m.number ≡ m.number + 1 - 1 = omega arith in
+    let was = slots_in m p e ∙ ap (slots_before m) (here ∙ back) in
+    let same = slots_status m q (m.number + 1 - 1) plp in
+    omega (arith, was, same)
 
 -- ---- what is left to give
 

@@ -10,6 +10,7 @@ use Rattle.plp_config.specs.declared.config.Config.{Config}
 use Rattle.ts_packet.specs.declared.sizes.TheConstants.{SIZE}
 use Rattle.modulator.specs.Laws.{DueFront, DueFollow}
 use Rattle.t2mi_stream.specs.CompleteLaws.{CompleteLaw}
+use Rattle.frame_groups.specs.Modulated.{FrameRecord}
 use Rattle.frame_feed.specs.StandsFor.{waiting_of}
 use Rattle.frame_feed.specs.StandsFor as feed
 use Rattle.file_run.specs.Events.{Event, fed, has_ended, gave}
@@ -29,9 +30,9 @@ use Rattle.region_swap.specs.StandsFor.{status_of, wants_of}
 use Rattle.swap_run.specs.AsMachine.{Becomes, ending_in, ending_of}
 use Rattle.swap_run.specs.Shown.{Shown, IsIn, IsDone}
 use Rattle.swap_run.specs.Shown as shown
-use Rattle.swap_run.specs.Steps.{step_in, step_of, reach_of, drained, record_step, packet_step, drain_step, most_packets}
+use Rattle.swap_run.specs.Steps.{step_in, step_of, reach_of, input_reach, drained, record_step, packet_step, drain_step, most_packets}
 use Rattle.swap_run.specs.SwapRun.{read_ahead, names_of, SwapsAll, RunsAll, HasNone, FindsNone, MeetsBad, StopsAtBad, HasLate, MeetsLate, HasWritten}
-use Rattle.swap_run.specs.SwapRun.{GivesTooMuch, StopsReading, MayWrite, HasSome, StopsWriting, Stops}
+use Rattle.swap_run.specs.SwapRun.{slots_of, ReadsNoFurther, GivesTooMuch, StopsReading, AreWritten, MayWrite, HasSome, StopsWriting, Stops}
 use Rattle.swap_run.specs.declared.machine.SwapMachine.{SwapMachine}
 use Rattle.swap_run.specs.declared.phase.Phase.{Phase}
 use Rattle.swap_run.specs.declared.phase.Phase.TheVariants as phase
@@ -39,10 +40,11 @@ use Rattle.swap_run.specs.declared.stop.Ran.{Ran}
 use Rattle.swap_run.specs.declared.stop.SwapStop.{SwapStop}
 use Rattle.swap_run.specs.declared.stop.SwapStop.TheVariants.{NoSuperframe, InputRefused, TooManyFrames}
 use Rattle.swap_run.specs.declared.swapping.Swapping.{Swapping}
-use Rattle.swap_run.proofs.FileLemmas.{swaps_all, has_none, has_late, meets_bad, has_swapped, wants_packets, wants_rest, gave_front, since, fed_count}
+use Rattle.swap_run.proofs.FileLemmas.{swaps_all, has_none, has_late, meets_bad, has_swapped, wants_packets, wants_rest, gave_front, since, fed_count, ahead}
 use Rattle.swap_run.proofs.ShownLemmas.{in_packets, in_drains}
 use Rattle.swap_run.proofs.StepLemmas.{needs_read, short_read, HowRead, OfRecords, OfPackets, OfRest}
-use Rattle.swap_run.proofs.WantLemmas.{slots_is, taken_length}
+use Rattle.swap_run.proofs.NextLemmas.{slots_in, slots_is}
+use Rattle.swap_run.proofs.WantLemmas.{taken_length}
 
 abbrev Runs : SwapMachine → SwapMachine → State → State → List ℕ → List ℕ → List ℕ → Type 0
 Runs start now old new t2mi input out =
@@ -113,8 +115,9 @@ module _ (law : Laws) (start now : SwapMachine) (old new : State) (t2mi input ou
             let slot = law.slot k plp h.plan.rules h.place in
             let lt : 0 < num k = (let a = slot.0 in let b = slot.2 in omega (arith, a, b)) in
             let none = law.none (num k) (den k plp) lt in
-            let zero : m.number * k.ticks ≡ 0 = ap (λ (n : ℕ). n * k.ticks) i.first ∙ omega arith in
-            let slots = slots_is law.rises law.slot k plp s.events m h ∙ ap (λ (n : ℕ). slots_by k plp n) zero in
+            let zero : (m.number - 1) * k.ticks ≡ 0 = ap (λ (n : ℕ). (n - 1) * k.ticks) i.first ∙ omega arith in
+            let slots = slots_in m (phase.Stopped NoSuperframe) e ∙ slots_is k plp s.events m h (m.number - 1)
+            ∙ ap (λ (n : ℕ). slots_by k plp n) zero in
             let calm = ap (λ (b : Bool). drained b m.ran.unsent) i.quiet.calm in
             omega (arith, near, none, slots, calm));
       }
@@ -125,9 +128,10 @@ module _ (law : Laws) (start now : SwapMachine) (old new : State) (t2mi input ou
       let s = r.stands in
       record {
         places = s.places;
-        works = works_by (λ files bytes. MeetsBad k plp files n bytes) s
-            (λ files are bytes is. subst (MeetsBad k plp files n) (sym is)
-            (meets_bad law.front law.follow law.complete law.rises law.slot k plp m s.events s.came files s.places are n e));
+        works = works_by (λ files bytes. (meets : MeetsBad k plp files n bytes) × ReadsNoFurther k plp s.places meets.before meets.after) s
+            (λ files are bytes is.
+            subst (λ (l : List ℕ). (meets : MeetsBad k plp files n l) × ReadsNoFurther k plp s.places meets.before meets.after) (sym is)
+            (meets_bad law.front law.follow law.complete law.rises law.slot k plp m s.events s.came files s.places are (s.within 1 (omega arith)) n e));
         short = r.short;
         counts = r.counts;
       }
@@ -137,9 +141,10 @@ module _ (law : Laws) (start now : SwapMachine) (old new : State) (t2mi input ou
       let s = r.stands in
       record {
         places = s.places;
-        works = works_by (λ files bytes. HasLate k plp files bytes) s
-            (λ files are bytes is. subst (HasLate k plp files) (sym is)
-            (has_late law.front law.follow law.complete law.rises law.slot k plp m s.events s.came files s.places are e));
+        works = works_by (λ files bytes. (has : HasLate k plp files bytes) × (slice_index s.places 1 ≤ SIZE * slots_of k plp has.before)) s
+            (λ files are bytes is.
+            subst (λ (l : List ℕ). (has : HasLate k plp files l) × (slice_index s.places 1 ≤ SIZE * slots_of k plp has.before)) (sym is)
+            (has_late law.front law.follow law.complete law.rises law.slot k plp m s.events s.came files s.places are (s.within 1 (omega arith)) e));
         short = r.short;
         counts = r.counts;
       }
@@ -179,9 +184,9 @@ module _ (law : Laws) (start now : SwapMachine) (old new : State) (t2mi input ou
 
   -- what is written when an input is to be read on
   written : (events : List Event) (s : Shown k plp events m) (files : ℕ → List ℕ) (places : List ℕ) → AreFed 2 files places events
-      → (place taken at : ℕ) → HowRead m place → (0 ≡ place → taken ≡ length (fed 0 events))
-      → (1 ≡ place → (length (fed 1 events) ≤ at) × (at < length (fed 1 events) + SIZE)) → HasWritten k plp place taken at files (gave events)
-  written events s files places are place taken at how first second = go how
+      → slice_index places 1 ≤ input_reach m → (place taken at : ℕ) → HowRead m place → (0 ≡ place → taken ≡ length (fed 0 events))
+      → (1 ≡ place → (length (fed 1 events) ≤ at) × (at < length (fed 1 events) + SIZE)) → HasWritten k plp places place taken at files (gave events)
+  written events s files places are near place taken at how first second = go how
     where
       bytes : m.phase ≡ phase.Packets ⊎ (m.phase ≡ phase.Drains) → length (fed 1 events) ≡ SIZE * m.taken
       bytes (inl e) =
@@ -193,14 +198,15 @@ module _ (law : Laws) (start now : SwapMachine) (old new : State) (t2mi input ou
           let tail = ap length (in_drains k plp events m s e).whole in
           omega (arith, n, tail)
 
-      go : HowRead m place → HasWritten k plp place taken at files (gave events)
-      go (OfRecords e w) = subst (λ (p : ℕ). HasWritten k plp p taken at files (gave events)) w.at
-          (has_swapped law.front law.follow law.complete law.rises law.slot k plp m events s files places are taken e w.none w.going (first w.at))
-      go (OfPackets e w) = subst (λ (p : ℕ). HasWritten k plp p taken at files (gave events)) w.at
-          (wants_packets law.front law.follow law.complete law.rises law.slot k plp m events s files places are at e w.some
+      go : HowRead m place → HasWritten k plp places place taken at files (gave events)
+      go (OfRecords e w) = subst (λ (p : ℕ). HasWritten k plp places p taken at files (gave events)) w.at
+          (has_swapped law.front law.follow law.complete law.rises law.slot k plp m events s files places are near taken e w.none w.going
+          (first w.at))
+      go (OfPackets e w) = subst (λ (p : ℕ). HasWritten k plp places p taken at files (gave events)) w.at
+          (wants_packets law.front law.follow law.complete law.rises law.slot k plp m events s files places are near at e w.some
           (let n = (second w.at).0 in let b = bytes (inl e) in omega (arith, n, b))
           (let n = (second w.at).1 in let b = bytes (inl e) in omega (arith, n, b)))
-      go (OfRest e w) = subst (λ (p : ℕ). HasWritten k plp p taken at files (gave events)) w.at
+      go (OfRest e w) = subst (λ (p : ℕ). HasWritten k plp places p taken at files (gave events)) w.at
           (wants_rest law.front law.follow law.complete law.rises law.slot k plp m events s files places are at e w.going
           (let n = (second w.at).0 in let b = bytes (inr e) in omega (arith, n, b))
           (let n = (second w.at).1 in let b = bytes (inr e) in omega (arith, n, b)))
@@ -218,9 +224,9 @@ module _ (law : Laws) (start now : SwapMachine) (old new : State) (t2mi input ou
         taken = length (fed place s.events);
         inside = g.place;
         near = omega (arith, few, gave_is);
-        works = works_by (λ files bytes. HasWritten k plp place (length (fed place s.events)) (length (fed place s.events)) files bytes) s
-            (λ files are bytes is. subst (HasWritten k plp place (length (fed place s.events)) (length (fed place s.events)) files) (sym is)
-            (written s.events s.came files s.places are place (length (fed place s.events)) (length (fed place s.events)) w.0
+        works = works_by (λ files bytes. HasWritten k plp s.places place (length (fed place s.events)) (length (fed place s.events)) files bytes) s
+            (λ files are bytes is. subst (HasWritten k plp s.places place (length (fed place s.events)) (length (fed place s.events)) files) (sym is)
+            (written s.events s.came files s.places are (s.within 1 (omega arith)) place (length (fed place s.events)) (length (fed place s.events)) w.0
             (λ e. ap (λ (n : ℕ). length (fed n s.events)) (sym e))
             (λ e. let n = ap (λ (n : ℕ). length (fed n s.events)) e in (omega (arith, n), omega (arith, n)))));
         gave = g.gave;
@@ -238,9 +244,9 @@ module _ (law : Laws) (start now : SwapMachine) (old new : State) (t2mi input ou
       record {
         places = s.places;
         inside = g.place;
-        works = works_by (λ files bytes. HasWritten k plp place (slice_index s.places place) (slice_index s.places place) files bytes) s
-            (λ files are bytes is. subst (HasWritten k plp place (slice_index s.places place) (slice_index s.places place) files) (sym is)
-            (written s.events s.came files s.places are place (slice_index s.places place) (slice_index s.places place) w.0
+        works = works_by (λ files bytes. HasWritten k plp s.places place (slice_index s.places place) (slice_index s.places place) files bytes) s
+            (λ files are bytes is. subst (HasWritten k plp s.places place (slice_index s.places place) (slice_index s.places place) files) (sym is)
+            (written s.events s.came files s.places are (s.within 1 (omega arith)) place (slice_index s.places place) (slice_index s.places place) w.0
             (λ e. let n = ap (λ (n : ℕ). length (fed n s.events)) e in let f = are place g.place in let ahead = f.ahead in
             let few = w.1 e in omega (arith, n, ahead, few))
             (λ e. let n = ap (λ (n : ℕ). length (fed n s.events)) e in let few = w.2 in let ahead = (are place g.place).ahead in (
@@ -274,18 +280,33 @@ module _ (law : Laws) (start now : SwapMachine) (old new : State) (t2mi input ou
                   let within = s.within 0 (omega arith) in
                   let count = fed_count law.front law.follow law.complete law.rises law.slot k plp g.mid.swapping s.events s.came.0 files s.places are in
                   let inside : taken < length (fed 0 s.events) = omega (arith, less, within, count) in
-                  let d = since law.front law.follow law.complete law.rises law.slot k plp g.mid.swapping s.events s.came.0 files s.places are taken inside in
+                  more_written files bytes is
+                  (since law.front law.follow law.complete law.rises law.slot k plp g.mid.swapping s.events s.came.0 files s.places are taken inside);
+              ahead = (
+                  let a = ahead law.front law.follow law.complete law.rises law.slot k plp g.mid.swapping s.events s.came.0 files s.places are
+                  (s.within 1 (omega arith)) g.gives in
                   record {
-                    early = d.early;
-                    front = (
-                      d.front.0 ++ g.front,
-                      is ∙ ap (λ (l : List ℕ). l ++ g.front) d.front.1 ∙ append_assoc _ d.front.0 g.front,
-                    );
-                  };
+                    before = a.before;
+                    after = a.after;
+                    parts = a.parts;
+                    written = more_written files bytes is a.written;
+                    no_further = a.no_further;
+                  });
             });
         short = g.short;
       }
     where
+      -- so it is with a front of more
+      more_written : {records : List FrameRecord} (files : ℕ → List ℕ) (bytes : List ℕ) → bytes ≡ gave g.stands.events ++ g.front
+          → AreWritten k plp files (gave g.stands.events) records → AreWritten k plp files bytes records
+      more_written files bytes is w = record {
+        early = w.early;
+        front = (
+          w.front.0 ++ g.front,
+          is ∙ ap (λ (l : List ℕ). l ++ g.front) w.front.1 ∙ append_assoc _ w.front.0 g.front,
+        );
+      }
+
       front_empty : (xs ys : List ℕ) → xs ++ ys ≡ [] → xs ≡ []
       front_empty [] ys e = refl
       front_empty (x ∷ xs) ys e = absurd (let n = ap length e in omega (arith, n))

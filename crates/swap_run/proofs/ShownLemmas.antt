@@ -354,6 +354,7 @@ module _ (c : Config) (plp : ℕ) (events : List Event) (m : Swapping) (s : Show
           behind = i.behind;
           wanted = w.less;
           offered = i.quiet.rest_is;
+          calm = i.quiet.calm;
         });
         begun = ap (λ (p : Phase). next_in p m.number) e;
         status = s.status ∙ ap (status_in c plp m.number) e;
@@ -430,5 +431,6 @@ module _ (c : Config) (plp : ℕ) (events : List Event) (m : Swapping) (s : Show
         behind = w.behind;
         wanted = w.wanted;
         offered = w.offered;
+        calm = w.calm;
       })
       still (inr b) = inr (record { none = b.none; some = b.some; next = b.next; few = b.few })

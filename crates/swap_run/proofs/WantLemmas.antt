@@ -34,7 +34,7 @@ use Rattle.swap_run.specs.declared.phase.Phase.{Phase}
 use Rattle.swap_run.specs.declared.phase.Phase.TheVariants as phase
 use Rattle.swap_run.specs.declared.swapping.Swapping.{Swapping}
 use Rattle.swap_run.proofs.GoLemmas.{slots_rise}
-use Rattle.swap_run.proofs.NextLemmas.{slots_at}
+use Rattle.swap_run.proofs.NextLemmas.{slots_in, slots_is}
 use Rattle.swap_run.proofs.ShownLemmas.{in_packets, in_drains, has_wanted, wants_is}
 use Rattle.swap_run.proofs.StepLemmas.{enough_records, enough_one}
 
@@ -52,11 +52,6 @@ wants_open true x e = absurd (let z : true ≡ false = e in cc)
 wants_open false x e = refl
 
 module _ (rises : CountRises) (slot : SlotLength) (c : Config) (plp : ℕ) (events : List Event) (m : Swapping) (s : Shown c plp events m) where
-  pub slots_is : slots_at m ≡ slots_by c plp (m.number * c.ticks)
-  slots_is =
-      ap (λ (k : Config). slots_by k (status_of m.swapper).plp (m.number * k.ticks)) s.config
-      ∙ ap (λ (p : ℕ). slots_by c p (m.number * c.ticks)) (ap (λ (x : Status). x.plp) s.status)
-
   records : (b : Bool) → is_idle (waiting_of m.feed) (feed.has_ended m.feed) ≡ b → IsWanted 2 events (reach_of m) (record_step b)
   records true on = record {
     place = omega arith;
@@ -88,7 +83,7 @@ module _ (rises : CountRises) (slot : SlotLength) (c : Config) (plp : ℕ) (even
       let longer = length-append s.read.told.packets s.read.rest in
       let rest = ap length i.quiet.rest_is in
       let tail = ap length i.quiet.tail_is in
-      let slots = slots_is in
+      let slots = slots_in m phase.Packets e ∙ slots_is c plp events m s m.number in
       record {
         place = omega arith;
         is_open = s.of_input.end i.quiet.tail_is ∙ i.quiet.ends ∙ w.off;
@@ -110,7 +105,7 @@ module _ (rises : CountRises) (slot : SlotLength) (c : Config) (plp : ℕ) (even
       let few = i.behind.few in
       let next = i.behind.next in
       let up = slots_rise rises slot c plp (above_all s.read.given - 1) m.number s.plan s.place (omega (arith, next)) in
-      let slots = slots_is in
+      let slots = slots_in m phase.Drains e ∙ slots_is c plp events m s m.number in
       let drains = ap (λ (b : Bool). drained b m.ran.unsent) i.drains in
       record {
         place = omega arith;

@@ -63,14 +63,18 @@ pub record HasCaughtUp (c : Config) (plp : ℕ) (s : Swapper) (t : Told) (frames
   pub complete : (input : List (List ℕ)) → Continues t input
       → count ≡ length (complete_units c.pid (remade_packets c (swapped c plp input frames)))
 
+-- Of the frames of these records, with the PLP replaced, all complete units were given.
+abbrev pub WereGiven : Config → ℕ → Told → List FrameRecord → ℕ → Type 0
+WereGiven c plp t records count = (input : List (List ℕ)) → Continues t input
+    → length (complete_units c.pid (remade_packets c (swapped c plp input (frames_in c records)))) ≤ count
+
 -- These are the first of the records that were given: all that are due by fewer bytes than were fed. Of their frames, with the PLP
 -- replaced, all complete units were given.
 pub record IsLive (c : Config) (plp : ℕ) (bytes : List ℕ) (t : Told) (given : List FrameRecord) (count : ℕ) : Type 0 where
   pub sent : List FrameRecord
   pub part : IsPrefix sent given
   pub due : (k : ℕ) → k < length bytes → IsPrefix (records_due c false (take k bytes)) sent
-  pub done : (input : List (List ℕ)) → Continues t input
-      → length (complete_units c.pid (remade_packets c (swapped c plp input (frames_in c sent)))) ≤ count
+  pub done : WereGiven c plp t sent count
 
 -- The last of these frames is the one under way, whose record is held.
 pub record IsHolding (c : Config) (s : Swapper) (frames : List NumberedView) (bytes : List ℕ) : Type 0 where
@@ -114,8 +118,12 @@ pub record InPackets (c : Config) (plp : ℕ) (m : Swapping) (r : Read) : Type 0
   pub few : length r.told.packets ≤ slots_by c plp (m.number * c.ticks)
   pub quiet : IsQuiet m r
 
--- Units of the frame under way are given.
+-- Units of the frame under way are given, behind those of the frames before.
 pub record InUnits (c : Config) (plp : ℕ) (m : Swapping) (r : Read) : Type 0 where
+  pub before : List FrameRecord
+  pub last : FrameRecord
+  pub parts : r.given ≡ before ++ last ∷ []
+  pub done : WereGiven c plp r.told before m.ran.units
   pub holds : IsHolding c m.swapper (frames_in c r.given) m.«record»
   pub next : m.number + 1 ≡ above_all r.given
   pub early : m.number < MOST_FRAMES
@@ -137,6 +145,7 @@ pub record InDrains (c : Config) (plp : ℕ) (m : Swapping) (r : Read) : Type 0 
 
 pub record InRests (c : Config) (plp : ℕ) (m : Swapping) (r : Read) : Type 0 where
   pub all_fed : is_fed m.swapper ≡ true
+  pub done : WereGiven c plp r.told r.given m.ran.units
   pub behind : IsBehindAll c plp m r
   pub whole : r.tail ≡ []
   pub over : m.ended ≡ true
@@ -172,6 +181,7 @@ pub record IsWanted (c : Config) (plp : ℕ) (m : Swapping) (r : Read) : Type 0 
   pub behind : m.number ≤ waiting.frame
   pub wanted : length r.told.packets < slots_by c plp (m.number * c.ticks)
   pub offered : r.rest ≡ []
+  pub calm : m.draining ≡ false
 
 -- The next packet is bad, and wanted or of the rest.
 pub record StopsAtBad (c : Config) (plp : ℕ) (m : Swapping) (r : Read) (over : Bool) (packet : ℕ) : Type 0 where

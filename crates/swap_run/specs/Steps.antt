@@ -14,6 +14,7 @@ use Rattle.swap_run.specs.Shown.{more_units, frame_bytes}
 use Rattle.swap_run.specs.SwapRun.{read_ahead}
 use Rattle.swap_run.specs.declared.phase.Phase.{Phase}
 use Rattle.swap_run.specs.declared.phase.Phase.TheVariants.{Records, Packets, Units, Drains, Rests, Done, Stopped}
+use Rattle.swap_run.specs.declared.stop.SwapStop.TheVariants.{NoSuperframe, InputRefused, TooManyFrames}
 use Rattle.swap_run.specs.declared.swapping.Swapping.{Swapping}
 
 -- no more packets than these are to wait
@@ -42,14 +43,27 @@ step_in (Stopped why) idle wants ended = End
 abbrev pub step_of : Swapping → Step
 step_of m = step_in m.phase (is_idle (waiting_of m.feed) (has_ended m.feed)) (wants_of m.swapper) m.ended
 
+-- the frame whose packets were wanted last: the one under way, or the one before the next
+abbrev pub wanted_in : Phase → ℕ → ℕ
+wanted_in Records number = number - 1
+wanted_in Packets number = number
+wanted_in Units number = number
+wanted_in Drains number = number
+wanted_in Rests number = number
+wanted_in Done number = number
+wanted_in (Stopped NoSuperframe) number = number - 1
+wanted_in (Stopped (InputRefused packet)) number = number
+wanted_in (Stopped TooManyFrames) number = number - 1
+
 -- how far an input may have been read: the T2-MI stream some bytes further than was fed; the other no further than the packets of the
--- frame under way, and once all frames were sent some bytes further than was taken
+-- frame that wanted some last, and once all frames were sent some bytes further than was taken
 abbrev pub drained : Bool → ℕ → ℕ
 drained draining unsent = if draining then SIZE * unsent + read_ahead else 0
 
 abbrev pub input_reach : Swapping → ℕ
 input_reach m =
-    SIZE * slots_by m.plan.now (status_of m.swapper).plp (m.number * m.plan.now.ticks) + drained m.draining m.ran.unsent
+    SIZE * slots_by m.plan.now (status_of m.swapper).plp (wanted_in m.phase m.number * m.plan.now.ticks)
+    + drained m.draining m.ran.unsent
 
 abbrev pub reach_of : Swapping → ℕ → ℕ
 reach_of m input = if input == 0 then fed_of m.feed + read_ahead else input_reach m

@@ -112,6 +112,10 @@ pub record FindsNone (c : Config) (old new : State) (t2mi input out : List ℕ) 
   pub end : IfSome old.held (λ h. slice_index places 0 ≡ length (file_at h (names_of t2mi input) 0))
   pub unread : slice_index places 1 ≡ 0
 
+-- Of the second file no more was read than the first of some records wants, behind others; if there is none, the rest may be read.
+abbrev pub ReadsNoFurther : Config → ℕ → List ℕ → List FrameRecord → List FrameRecord → Type 0
+ReadsNoFurther c plp places before after = after ≢ [] → slice_index places 1 ≤ SIZE * slots_of c plp (before ++ take 1 after)
+
 -- The first file has a record, and the first bad packet of the second is this: the first of some records wants it, whose frame may have
 -- its number, or all were sent and the rest has it. The output is the complete units of the frames before.
 pub record MeetsBad (c : Config) (plp : ℕ) (files : ℕ → List ℕ) (packet : ℕ) (bytes : List ℕ) : Type 0 where
@@ -129,7 +133,8 @@ pub record MeetsBad (c : Config) (plp : ℕ) (files : ℕ → List ℕ) (packet 
 -- A bad packet was met.
 pub record StopsAtBad (c : Config) (plp : ℕ) (old new : State) (t2mi input out : List ℕ) (packet : ℕ) : Type 0 where
   pub places : List ℕ
-  pub works : Works old new out (names_of t2mi input) places (λ h bytes. MeetsBad c plp (file_at h (names_of t2mi input)) packet bytes)
+  pub works : Works old new out (names_of t2mi input) places
+      (λ h bytes. (meets : MeetsBad c plp (file_at h (names_of t2mi input)) packet bytes) × ReadsNoFurther c plp places meets.before meets.after)
   pub short : AllShort places
   pub counts : SameCounts old new
 
@@ -145,23 +150,25 @@ pub record HasLate (c : Config) (plp : ℕ) (files : ℕ → List ℕ) (bytes : 
   pub unwanted : ¬ (WantBad c plp (files 1) before)
   pub output : bytes ≡ joined (complete_of c plp files before)
 
--- The record of frame 2^31 waits.
+-- The record of frame 2^31 waits, and of the second input no more was read than the records before it want.
 pub record MeetsLate (c : Config) (plp : ℕ) (old new : State) (t2mi input out : List ℕ) : Type 0 where
   pub places : List ℕ
-  pub works : Works old new out (names_of t2mi input) places (λ h bytes. HasLate c plp (file_at h (names_of t2mi input)) bytes)
+  pub works : Works old new out (names_of t2mi input) places
+      (λ h bytes. (has : HasLate c plp (file_at h (names_of t2mi input)) bytes) × (slice_index places 1 ≤ SIZE * slots_of c plp has.before))
   pub short : AllShort places
   pub counts : SameCounts old new
 
--- These are the records that are due by so many bytes of the first file. All may have their numbers, none wants a bad packet, and the
--- output is the complete units of their frames.
-pub record HasSwapped (c : Config) (plp taken : ℕ) (files : ℕ → List ℕ) (bytes : List ℕ) : Type 0 where
+-- These are the records that are due by so many bytes of the first file. All may have their numbers, none wants a bad packet, of the
+-- second file no more was read than they want, and the output is the complete units of their frames.
+pub record HasSwapped (c : Config) (plp : ℕ) (places : List ℕ) (taken : ℕ) (files : ℕ → List ℕ) (bytes : List ℕ) : Type 0 where
   pub early : AreEarly (records_due c false (take taken (files 0)))
   pub unwanted : ¬ (WantBad c plp (files 1) (records_due c false (take taken (files 0))))
+  pub no_further : slice_index places 1 ≤ SIZE * slots_of c plp (records_due c false (take taken (files 0)))
   pub output : bytes ≡ joined (complete_of c plp files (records_due c false (take taken (files 0))))
 
--- The next frame is the first that wants more of the second file than so many bytes, or all frames were sent; in these bytes no bad
--- packet is whole. The output is the complete units of the frames before.
-pub record WantsMore (c : Config) (plp place : ℕ) (files : ℕ → List ℕ) (bytes : List ℕ) : Type 0 where
+-- The next frame is the first that wants more of the second file than so many bytes, and no more was read than it wants, or all frames
+-- were sent; in these bytes no bad packet is whole. The output is the complete units of the frames before.
+pub record WantsMore (c : Config) (plp : ℕ) (places : List ℕ) (place : ℕ) (files : ℕ → List ℕ) (bytes : List ℕ) : Type 0 where
   pub before : List FrameRecord
   pub after : List FrameRecord
   pub parts : records_of c (files 0) ≡ before ++ after
@@ -169,13 +176,15 @@ pub record WantsMore (c : Config) (plp place : ℕ) (files : ℕ → List ℕ) (
   pub some : records_of c (files 0) ≢ []
   pub had : SIZE * slots_of c plp before ≤ place
   pub wanted : after ≢ [] → place < SIZE * slots_of c plp (before ++ take 1 after)
+  pub no_further : ReadsNoFurther c plp places before after
   pub unread : ReadsNoBad (files 1) place
   pub output : bytes ≡ joined (complete_of c plp files before)
 
--- what is written when an input is to be read on: of the first so many bytes were taken, and of the second so many read
-abbrev pub HasWritten : Config → ℕ → ℕ → ℕ → ℕ → (ℕ → List ℕ) → List ℕ → Type 0
-HasWritten c plp zero taken place files bytes = HasSwapped c plp taken files bytes
-HasWritten c plp (suc input) taken place files bytes = WantsMore c plp place files bytes
+-- what is written when an input is to be read on: they were read to these places, of the first so many bytes were taken, and of the
+-- second so many are looked at
+abbrev pub HasWritten : Config → ℕ → List ℕ → ℕ → ℕ → ℕ → (ℕ → List ℕ) → List ℕ → Type 0
+HasWritten c plp places zero taken place files bytes = HasSwapped c plp places taken files bytes
+HasWritten c plp places (suc input) taken place files bytes = WantsMore c plp places place files bytes
 
 -- what a step wants at least: a byte of the T2-MI stream, or a packet of the input
 abbrev pub least_of : ℕ → ℕ
@@ -189,7 +198,7 @@ pub record GivesTooMuch (c : Config) (plp : ℕ) (old new : State) (t2mi input o
   pub inside : place < 2
   pub near : longest_file ≤ taken + least_of place
   pub works : Works old new out (names_of t2mi input) places
-      (λ h bytes. HasWritten c plp place taken taken (file_at h (names_of t2mi input)) bytes)
+      (λ h bytes. HasWritten c plp places place taken taken (file_at h (names_of t2mi input)) bytes)
   pub gave : slice_index places place ≡ longest_file
   pub long : IfSome old.held (λ h. (taken ≤ longest_file) × (longest_file ≤ length (file_at h (names_of t2mi input) place)))
   pub counts : SameCounts old new
@@ -198,7 +207,7 @@ pub record GivesTooMuch (c : Config) (plp : ℕ) (old new : State) (t2mi input o
 pub record StopsReading (c : Config) (plp : ℕ) (old new : State) (t2mi input out : List ℕ) (place : ℕ) : Type 0 where
   pub places : List ℕ
   pub inside : place < 2
-  pub works : Works old new out (names_of t2mi input) places (λ h bytes. HasWritten c plp place (slice_index places place)
+  pub works : Works old new out (names_of t2mi input) places (λ h bytes. HasWritten c plp places place (slice_index places place)
       (slice_index places place) (file_at h (names_of t2mi input)) bytes)
   pub short : AllShort places
 
@@ -218,14 +227,24 @@ pub record MayWrite (c : Config) (plp : ℕ) (files : ℕ → List ℕ) (bytes :
   pub output : (bytes ≡ joined (complete_of c plp files before))
       ⊎ ((after ≡ []) × (¬ (HasBad (files 1))) × (bytes ≡ joined (units_of c plp files)))
 
+-- Of the frames of some first records all complete units are written, and no more of the second file was read than that of the next
+-- wants.
+pub record ReadsAhead (c : Config) (plp : ℕ) (places : List ℕ) (files : ℕ → List ℕ) (bytes : List ℕ) : Type 0 where
+  pub before : List FrameRecord
+  pub after : List FrameRecord
+  pub parts : records_of c (files 0) ≡ before ++ after
+  pub written : AreWritten c plp files bytes before
+  pub no_further : ReadsNoFurther c plp places before after
+
 -- These bytes are the first of what may be written, but not all; and so the records are written that are due by fewer bytes of the T2-MI
--- stream than were read by more than are read ahead.
+-- stream than were read by more than are read ahead, and those before the one whose frame wants what was read of the second file.
 pub record HasSome (c : Config) (plp : ℕ) (places : List ℕ) (files : ℕ → List ℕ) (bytes : List ℕ) : Type 0 where
   pub more : List ℕ
   pub some : more ≢ []
   pub begins : MayWrite c plp files (bytes ++ more)
   pub since : (taken : ℕ) → taken + read_ahead < slice_index places 0
       → AreWritten c plp files bytes (records_due c false (take taken (files 0)))
+  pub ahead : ReadsAhead c plp places files bytes
 
 -- The output could not be written on.
 pub record StopsWriting (c : Config) (plp : ℕ) (old new : State) (t2mi input out : List ℕ) : Type 0 where

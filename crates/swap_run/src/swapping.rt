@@ -288,8 +288,6 @@ impl<'p> Swapping<'p> {
         ensures left { left_of self.new < left_of self.old }
         ensures reach { (other : ℕ) → reach_of self.old other ≤ reach_of self.new other }
     {
-        slot_time_law();
-        length_law();
         match self.feed.waiting() {
             Some(waiting) => self.meet(waiting),
             None => self.part(),
@@ -298,6 +296,7 @@ impl<'p> Swapping<'p> {
 
     // A record waits.
     fn meet(&mut self, waiting: Waiting)
+        requires came { ∥ HasShown self.old ∥₁ }
         requires records { self.old.phase ≡ phase.Records }
         requires waits { waiting_of self.old.feed ≡ Some waiting }
         ensures shown { (c : Config) (plp : ℕ) (events : List Event) → Shown c plp events self.old → Shown c plp events self.new }
@@ -316,6 +315,7 @@ impl<'p> Swapping<'p> {
 
     // No record comes.
     fn part(&mut self)
+        requires came { ∥ HasShown self.old ∥₁ }
         requires records { self.old.phase ≡ phase.Records }
         requires none { waiting_of self.old.feed ≡ None }
         requires over { has_ended self.old.feed ≡ true }
@@ -323,6 +323,8 @@ impl<'p> Swapping<'p> {
         ensures left { left_of self.new < left_of self.old }
         ensures reach { (other : ℕ) → reach_of self.old other ≤ reach_of self.new other }
     {
+        slot_time_law();
+        length_law();
         if !self.joined {
             self.phase = Phase::Stopped(SwapStop::NoSuperframe);
             return;
@@ -380,8 +382,6 @@ impl<'p> Swapping<'p> {
         formed_law();
         block_law();
         fit_law();
-        slot_time_law();
-        length_law();
         self.record.take_from(&mut self.feed);
         self.joined = true;
         if waiting.mute.is_some() {
@@ -408,8 +408,6 @@ impl<'p> Swapping<'p> {
         ensures reach { (other : ℕ) → reach_of self.old other ≤ reach_of self.new other }
     {
         events_law();
-        slot_time_law();
-        length_law();
         let (len, full) = next_units(&mut self.swapper, self.record.as_bytes(), out);
         self.ran.add_units(len / SIZE);
         if full {

@@ -1,11 +1,12 @@
-use Rattle.std.proofs.Common.{ℕ, ◌+◌, List, [], ◌∷◌, ◌++◌, take, slice_index_or, inl, ap, sym, ◌∙◌, arith}
+use Rattle.std.proofs.Common.{ℕ, ◌+◌, List, [], ◌∷◌, ◌++◌, take, slice_index_or, inl, refl, ap, sym, ◌∙◌, arith}
 use Rattle.std.proofs.lemmas.List.{length-take-le}
 use Rattle.ts_packet.specs.declared.sizes.TheConstants.{SIZE}
 use Rattle.file_run.specs.Events.{Fed}
 use Rattle.gateway_run.proofs.FileLemmas.{no_sync}
 use Rattle.gateway_run.proofs.TakeLemmas.{some_taken}
+use Rattle.swap_run.specs.declared.phase.Phase.TheVariants as phase
 use Rattle.swap_run.proofs.ShownLemmas.{shown_drain, shown_refuse, can_drains}
-use Rattle.swap_run.proofs.NextLemmas.{fed_same, zero_one, reach_on, drained_on, few_unsent}
+use Rattle.swap_run.proofs.NextLemmas.{fed_same, zero_one, reach_on, drained_on, few_unsent, reach_refused}
 use Rattle.swap_run.proofs.swapping.Swapping.drain_packet.Goals as goal
 
 pub returns-then-as_array-ne-SYNC-clause-shown : goal.returns-then-as_array-ne-SYNC-clause-shown
@@ -19,7 +20,9 @@ returns-then-as_array-ne-SYNC-clause-shown c = λ k plp events s.
     (no_sync p (λ e. c.if-as_array-ne-SYNC.true (first ∙ e))) (inl (λ e. c.if-as_array-ne-SYNC.true (first ∙ e))))
 
 pub returns-then-as_array-ne-SYNC-clause-reach : goal.returns-then-as_array-ne-SYNC-clause-reach
-returns-then-as_array-ne-SYNC-clause-reach c = λ other. rw c.refuse.ensures (reach_on c.args.self.now c.args.self.now (omega arith) (omega arith) (omega arith) other)
+returns-then-as_array-ne-SYNC-clause-reach c = λ other.
+    let m = c.args.self.now in
+    rw c.refuse.ensures (reach_refused m phase.Drains c.requires.drains refl other)
 
 pub returns-clause-shown : goal.returns-clause-shown
 returns-clause-shown c = λ k plp events s.

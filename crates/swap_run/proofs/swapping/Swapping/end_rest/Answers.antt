@@ -1,8 +1,9 @@
-use Rattle.std.proofs.Common.{[], ◌∷◌, ◌++◌, inr, true, ◌∙◌, arith}
+use Rattle.std.proofs.Common.{[], ◌∷◌, ◌++◌, inr, true, ◌∙◌, arith, refl}
 use Rattle.gateway_run.proofs.FileLemmas.{no_short}
 use Rattle.file_run.specs.Events.{Ended, fed}
+use Rattle.swap_run.specs.declared.phase.Phase.TheVariants as phase
 use Rattle.swap_run.proofs.ShownLemmas.{shown_over, shown_refuse, can_drains}
-use Rattle.swap_run.proofs.NextLemmas.{ended_same, zero_one, reach_on, some_length, nothing_more}
+use Rattle.swap_run.proofs.NextLemmas.{ended_same, zero_one, reach_on, some_length, nothing_more, reach_refused}
 use Rattle.swap_run.proofs.swapping.Swapping.end_rest.Goals as goal
 
 pub returns-then-rest-gt0-clause-shown : goal.returns-then-rest-gt0-clause-shown
@@ -16,7 +17,9 @@ returns-then-rest-gt0-clause-shown c = λ k plp events s.
     (no_short p c.requires.short) (inr (tell.ended 1 p events).ended))
 
 pub returns-then-rest-gt0-clause-reach : goal.returns-then-rest-gt0-clause-reach
-returns-then-rest-gt0-clause-reach c = λ other. rw c.refuse.ensures (reach_on c.args.self.now c.args.self.now (omega arith) (omega arith) (omega arith) other)
+returns-then-rest-gt0-clause-reach c = λ other.
+    let m = c.args.self.now in
+    rw c.refuse.ensures (reach_refused m phase.Drains c.requires.drains refl other)
 
 pub returns-clause-shown : goal.returns-clause-shown
 returns-clause-shown c = λ k plp events s.

@@ -3,7 +3,7 @@ use Rattle.region_swap.specs.StandsFor.{Status}
 use Rattle.swap_run.specs.declared.phase.Phase.TheVariants as phase
 use Rattle.swap_run.proofs.BoundLemmas.{idle_left}
 use Rattle.swap_run.proofs.GoLemmas.{shown_finish}
-use Rattle.swap_run.proofs.NextLemmas.{left_at, reach_on, slots_status, drains_idle, drains_open}
+use Rattle.swap_run.proofs.NextLemmas.{left_at, reach_on, slots_in, slots_status, drains_idle, drains_open}
 use Rattle.swap_run.proofs.swapping.Swapping.finish.Goals as goal
 
 pub returns-clause-shown : goal.returns-clause-shown
@@ -22,8 +22,9 @@ returns-clause-left c =
 pub returns-clause-reach : goal.returns-clause-reach
 returns-clause-reach c =
     let m = c.args.self.now in
-    reach_on m (record m { swapper = c.finish.new.self; phase = phase.Rests }) (omega arith)
-    (slots_status m c.finish.new.self (ap (λ (x : Status). x.plp) c.finish.ensures.status)) (omega arith)
+    let was = slots_in m phase.Drains c.requires.drains in
+    let same = slots_status m c.finish.new.self m.number (ap (λ (x : Status). x.plp) c.finish.ensures.status) in
+    reach_on m (record m { swapper = c.finish.new.self; phase = phase.Rests }) (omega arith) (omega (arith, was, same)) (omega arith)
 
 pub finish-requires-clause-given : goal.finish-requires-clause-given
 finish-requires-clause-given c = drains_idle c.args.self.now c.requires.came c.requires.drains

@@ -5,9 +5,10 @@ use Rattle.file_run.specs.Events.{Gave, gave}
 use Rattle.merge_run.proofs.CameLemmas.{less_of}
 use Rattle.region_swap.specs.StandsFor.{Status}
 use Rattle.swap_run.specs.Shown.{Shown, HasShown}
+use Rattle.swap_run.specs.Steps.{wanted_in}
 use Rattle.swap_run.specs.declared.phase.Phase.TheVariants as phase
 use Rattle.swap_run.proofs.GoLemmas.{shown_rest, shown_done, few_units}
-use Rattle.swap_run.proofs.NextLemmas.{left_at, reach_on, slots_status, rests_over, rests_fed, gave_same}
+use Rattle.swap_run.proofs.NextLemmas.{left_at, reach_on, slots_in, slots_status, rests_over, rests_fed, gave_same}
 use Rattle.swap_run.proofs.swapping.Swapping.give_rest.Goals as goal
 
 pub returns-then-rest-clause-shown : goal.returns-then-rest-clause-shown
@@ -35,7 +36,7 @@ pub returns-then-rest-clause-reach : goal.returns-then-rest-clause-reach
 returns-then-rest-clause-reach c =
     let m = c.args.self.now in
     reach_on m (record m { swapper = c.rest.new.self; ran = record m.ran { units = m.ran.units + 1 } }) (omega arith)
-    (slots_status m c.rest.new.self (ap (λ (x : Status). x.plp) c.rest.ensures.status)) (omega arith)
+    (slots_status m c.rest.new.self (wanted_in m.phase m.number) (ap (λ (x : Status). x.plp) c.rest.ensures.status)) (omega arith)
 
 pub returns-clause-shown : goal.returns-clause-shown
 returns-clause-shown c = λ k plp events s.
@@ -53,8 +54,9 @@ returns-clause-left c =
 pub returns-clause-reach : goal.returns-clause-reach
 returns-clause-reach c =
     let m = c.args.self.now in
-    reach_on m (record m { swapper = c.rest.new.self; phase = phase.Done }) (omega arith)
-    (slots_status m c.rest.new.self (ap (λ (x : Status). x.plp) c.rest.ensures.status)) (omega arith)
+    let was = slots_in m phase.Rests c.requires.rests in
+    let same = slots_status m c.rest.new.self m.number (ap (λ (x : Status). x.plp) c.rest.ensures.status) in
+    reach_on m (record m { swapper = c.rest.new.self; phase = phase.Done }) (omega arith) (omega (arith, was, same)) (omega arith)
 
 pub rest-requires-clause-finished : goal.rest-requires-clause-finished
 rest-requires-clause-finished c = rests_over c.args.self.now c.requires.came c.requires.rests

@@ -1,4 +1,4 @@
-use Rattle.std.proofs.Common.{◌≡◌, ℕ, ◌+◌, List, [], ◌∷◌, ◌++◌, take, ap, sym, subst, ◌∙◌, arith}
+use Rattle.std.proofs.Common.{◌≡◌, ℕ, ◌+◌, List, [], ◌∷◌, ◌++◌, take, refl, ap, sym, subst, ◌∙◌, arith}
 use Rattle.std.proofs.Math.Logic.{∥∥₁_map}
 use Rattle.site_frame.specs.Whole.{Spells}
 use Rattle.file_run.specs.Events.{Gave}
@@ -8,8 +8,9 @@ use Rattle.region_swap.specs.StandsFor.{Status, status_of, frame_of}
 use Rattle.swap_run.specs.Shown.{Shown, HasShown}
 use Rattle.swap_run.specs.declared.phase.Phase.TheVariants as phase
 use Rattle.swap_run.specs.declared.stop.Ran.{Ran}
+use Rattle.swap_run.specs.Steps.{wanted_in}
 use Rattle.swap_run.proofs.GoLemmas.{holding, held}
-use Rattle.swap_run.proofs.NextLemmas.{left_at, number_most, reach_on, drained_on, slots_next, slots_status, frame_is, units_begun}
+use Rattle.swap_run.proofs.NextLemmas.{left_at, number_most, reach_on, drained_on, slots_behind, slots_status, frame_is, units_begun}
 use Rattle.swap_run.proofs.NextLemmas.{units_early}
 use Rattle.swap_run.proofs.UnitsLemmas.{few_more, shown_full, left_full, shown_behind, counted_units}
 use Rattle.swap_run.proofs.swapping.Swapping.give_units.Goals as goal
@@ -83,7 +84,7 @@ returns-then-full-clause-reach c =
     let m = c.args.self.now in
     let q = c.next_units-len.new.swapper in
     reach_on m (record m { swapper = q; ran = c.add_units.new.self }) (omega arith)
-    (slots_status m q (ap (λ (x : Status). x.plp) c.next_units-len.ensures.status))
+    (slots_status m q (wanted_in m.phase m.number) (ap (λ (x : Status). x.plp) c.next_units-len.ensures.status))
     (drained_on m.draining m.ran.unsent c.add_units.new.self.unsent (let e = ap (λ (r : Ran). r.unsent) c.add_units.ensures in omega (arith, e)))
 
 pub returns-clause-shown : goal.returns-clause-shown
@@ -111,6 +112,6 @@ returns-clause-reach c =
     let m = c.args.self.now in
     let q = c.pass.new.self in
     reach_on m (record m { swapper = q; number = m.number + 1; phase = phase.Records; ran = c.add_units.new.self }) (omega arith)
-    (slots_next c.slot_time_law.ensures.count_rises c.length_law.ensures.slot m q c.requires.came
+    (slots_behind m q phase.Units c.requires.units refl
     (ap (λ (x : Status). x.plp) c.pass.ensures.status ∙ ap (λ (x : Status). x.plp) c.next_units-len.ensures.status))
     (drained_on m.draining m.ran.unsent c.add_units.new.self.unsent (let e = ap (λ (r : Ran). r.unsent) c.add_units.ensures in omega (arith, e)))

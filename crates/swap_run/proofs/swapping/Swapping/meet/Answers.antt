@@ -1,8 +1,8 @@
-use Rattle.std.proofs.Common.{arith}
+use Rattle.std.proofs.Common.{◌-◌, refl, arith}
 use Rattle.swap_run.specs.declared.phase.Phase.TheVariants as phase
 use Rattle.swap_run.specs.declared.stop.SwapStop.TheVariants.{TooManyFrames}
 use Rattle.swap_run.proofs.GoLemmas.{shown_met, shown_late}
-use Rattle.swap_run.proofs.NextLemmas.{left_at, reach_on}
+use Rattle.swap_run.proofs.NextLemmas.{left_at, reach_on, slots_in, slots_next}
 use Rattle.swap_run.proofs.swapping.Swapping.meet.Goals as goal
 
 pub returns-then-waiting-ge-MOST_FRAMES-clause-shown : goal.returns-then-waiting-ge-MOST_FRAMES-clause-shown
@@ -17,7 +17,8 @@ returns-then-waiting-ge-MOST_FRAMES-clause-left c =
 pub returns-then-waiting-ge-MOST_FRAMES-clause-reach : goal.returns-then-waiting-ge-MOST_FRAMES-clause-reach
 returns-then-waiting-ge-MOST_FRAMES-clause-reach c =
     let m = c.args.self.now in
-    reach_on m (record m { phase = phase.Stopped TooManyFrames }) (omega arith) (omega arith) (omega arith)
+    let was = slots_in m phase.Records c.requires.records in
+    reach_on m (record m { phase = phase.Stopped TooManyFrames }) (omega arith) (omega (arith, was)) (omega arith)
 
 pub returns-clause-shown : goal.returns-clause-shown
 returns-clause-shown c = λ k plp events s.
@@ -32,4 +33,7 @@ returns-clause-left c =
 pub returns-clause-reach : goal.returns-clause-reach
 returns-clause-reach c =
     let m = c.args.self.now in
-    reach_on m (record m { phase = phase.Packets }) (omega arith) (omega arith) (omega arith)
+    let was = slots_in m phase.Records c.requires.records in
+    let up = slots_next c.slot_time_law.ensures.count_rises c.length_law.ensures.slot m m.swapper (m.number - 1) m.number c.requires.came
+    (omega arith) refl in
+    reach_on m (record m { phase = phase.Packets }) (omega arith) (omega (arith, was, up)) (omega arith)

@@ -2,7 +2,7 @@ use Rattle.std.proofs.Common.{◌+◌, ap, arith}
 use Rattle.region_swap.specs.StandsFor.{Status}
 use Rattle.swap_run.specs.declared.phase.Phase.TheVariants as phase
 use Rattle.swap_run.proofs.GoLemmas.{shown_pass}
-use Rattle.swap_run.proofs.NextLemmas.{left_at, number_most, reach_on, slots_next, frame_is, packets_early, packets_idle}
+use Rattle.swap_run.proofs.NextLemmas.{left_at, number_most, reach_on, slots_in, slots_next, frame_is, packets_early, packets_idle}
 use Rattle.swap_run.proofs.swapping.Swapping.pass_frame.Goals as goal
 
 pub returns-clause-shown : goal.returns-clause-shown
@@ -22,10 +22,12 @@ returns-clause-left c =
 pub returns-clause-reach : goal.returns-clause-reach
 returns-clause-reach c =
     let m = c.args.self.now in
-    reach_on m (record m { swapper = c.pass.new.self; number = m.number + 1 }) (omega arith)
-    (slots_next c.slot_time_law.ensures.count_rises c.length_law.ensures.slot m c.pass.new.self c.requires.came
-    (ap (λ (x : Status). x.plp) c.pass.ensures.status))
-    (omega arith)
+    let n = record m { swapper = c.pass.new.self; number = m.number + 1 } in
+    let was = slots_in m phase.Packets c.requires.packets in
+    let now = slots_in n phase.Packets c.requires.packets in
+    let up = slots_next c.slot_time_law.ensures.count_rises c.length_law.ensures.slot m c.pass.new.self m.number (m.number + 1) c.requires.came
+    (omega arith) (ap (λ (x : Status). x.plp) c.pass.ensures.status) in
+    reach_on m n (omega arith) (omega (arith, was, now, up)) (omega arith)
 
 pub pass-requires-clause-early : goal.pass-requires-clause-early
 pass-requires-clause-early c =

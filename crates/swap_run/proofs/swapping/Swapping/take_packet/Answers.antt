@@ -1,4 +1,4 @@
-use Rattle.std.proofs.Common.{ℕ, ◌+◌, List, [], ◌∷◌, ◌++◌, take, slice_index_or, inl, ap, sym, subst, ◌∙◌, arith}
+use Rattle.std.proofs.Common.{ℕ, ◌+◌, List, [], ◌∷◌, ◌++◌, take, slice_index_or, inl, refl, ap, sym, subst, ◌∙◌, arith}
 use Rattle.std.proofs.lemmas.List.{length-take-le}
 use Rattle.ts_packet.specs.declared.sizes.TheConstants.{SIZE}
 use Rattle.file_run.specs.Events.{Fed}
@@ -6,8 +6,10 @@ use Rattle.gateway_run.proofs.FileLemmas.{no_sync}
 use Rattle.gateway_run.proofs.TakeLemmas.{some_taken}
 use Rattle.gateway_core.specs.InputSoFar.{with_packet}
 use Rattle.region_swap.specs.StandsFor.{SwapperStandsFor, Status}
+use Rattle.swap_run.specs.Steps.{wanted_in}
+use Rattle.swap_run.specs.declared.phase.Phase.TheVariants as phase
 use Rattle.swap_run.proofs.ShownLemmas.{shown_offer, shown_refuse, can_packets}
-use Rattle.swap_run.proofs.NextLemmas.{fed_same, zero_one, reach_on, slots_status}
+use Rattle.swap_run.proofs.NextLemmas.{fed_same, zero_one, reach_on, slots_status, reach_refused}
 use Rattle.swap_run.proofs.swapping.Swapping.take_packet.Goals as goal
 
 pub returns-then-as_array-ne-SYNC-clause-shown : goal.returns-then-as_array-ne-SYNC-clause-shown
@@ -21,7 +23,9 @@ returns-then-as_array-ne-SYNC-clause-shown c = λ k plp events s.
     (no_sync p (λ e. c.if-as_array-ne-SYNC.true (first ∙ e))) (inl (λ e. c.if-as_array-ne-SYNC.true (first ∙ e))))
 
 pub returns-then-as_array-ne-SYNC-clause-reach : goal.returns-then-as_array-ne-SYNC-clause-reach
-returns-then-as_array-ne-SYNC-clause-reach c = λ other. rw c.refuse.ensures (reach_on c.args.self.now c.args.self.now (omega arith) (omega arith) (omega arith) other)
+returns-then-as_array-ne-SYNC-clause-reach c = λ other.
+    let m = c.args.self.now in
+    rw c.refuse.ensures (reach_refused m phase.Packets c.requires.packets refl other)
 
 pub returns-clause-shown : goal.returns-clause-shown
 returns-clause-shown c = λ k plp events s.
@@ -41,4 +45,4 @@ pub returns-clause-reach : goal.returns-clause-reach
 returns-clause-reach c =
     let m = c.args.self.now in
     reach_on m (record m { swapper = c.offer.new.self; taken = m.taken + 1 }) (omega arith)
-    (slots_status m c.offer.new.self (ap (λ (x : Status). x.plp) c.offer.ensures.status)) (omega arith)
+    (slots_status m c.offer.new.self (wanted_in m.phase m.number) (ap (λ (x : Status). x.plp) c.offer.ensures.status)) (omega arith)

@@ -10,7 +10,7 @@ use Rattle.region_swap.specs.StandsFor.{Status, status_of, frame_of}
 use Rattle.swap_run.specs.Shown.{HasShown, more_units, frame_bytes}
 use Rattle.swap_run.specs.declared.phase.Phase.TheVariants as phase
 use Rattle.swap_run.proofs.GoLemmas.{shown_skip, shown_begin, is_frame, begun_few}
-use Rattle.swap_run.proofs.NextLemmas.{left_at, number_most, few_counted, reach_on, slots_next, slots_status, frame_is, packets_early, packets_behind}
+use Rattle.swap_run.proofs.NextLemmas.{left_at, number_most, few_counted, reach_on, slots_in, slots_behind, slots_status, frame_is, packets_early, packets_behind}
 use Rattle.swap_run.proofs.NextLemmas.{packets_idle, packets_free, packets_open, is_muted, not_muted}
 use Rattle.swap_run.proofs.swapping.Swapping.take_record.Goals as goal
 
@@ -90,8 +90,7 @@ returns-then-is_some-clause-reach c =
       phase = phase.Records;
       ran = record m.ran { muted = m.ran.muted + 1 };
     }) (omega (arith, f))
-    (slots_next c.slot_time_law.ensures.count_rises c.length_law.ensures.slot m c.pass.new.self c.requires.came
-    (ap (λ (x : Status). x.plp) c.pass.ensures.status))
+    (slots_behind m c.pass.new.self phase.Packets c.requires.packets refl (ap (λ (x : Status). x.plp) c.pass.ensures.status))
     (omega arith)
 
 pub returns-clause-shown : goal.returns-clause-shown
@@ -128,6 +127,8 @@ pub returns-clause-reach : goal.returns-clause-reach
 returns-clause-reach c =
     let m = c.args.self.now in
     let f = c.take_from.ensures.fed in
+    let was = slots_in m phase.Packets c.requires.packets in
+    let same = slots_status m c.begin_frame.new.swapper m.number (ap (λ (x : Status). x.plp) c.begin_frame.ensures.status) in
     reach_on m (record m {
       feed = c.take_from.new.feed;
       swapper = c.begin_frame.new.swapper;
@@ -136,5 +137,4 @@ returns-clause-reach c =
       phase = phase.Units;
       ran = record m.ran { frames = m.ran.frames + 1 };
     }) (omega (arith, f))
-    (slots_status m c.begin_frame.new.swapper (ap (λ (x : Status). x.plp) c.begin_frame.ensures.status))
-    (omega arith)
+    (omega (arith, was, same)) (omega arith)
