@@ -87,36 +87,34 @@ impl<'p> Run<'p> {
     }
 }
 
+// Whether the record of this frame waits, whole.
+fn waits(run: &Run<'_>, frame: u64) -> bool {
+    run.waiting() == Some(Waiting { frame, mute: None })
+}
+
+// Behind the last byte frame 0 waits, since a packet of frame 1 came.
+#[test]
+fn a_record_waits_behind_the_last_byte_of_its_frame(rt: HostRuntime) -> Result<(), Fail> {
+    let plan = small_plan(rt.alloc())?;
+    let mut run = Run::open(rt.alloc(), &plan)?;
+    let before = FIRST.len() - 1;
+    run.feed(&FIRST[..before]);
+    assert!(rt; run.is_open() && run.fed == before);
+    run.feed(&FIRST[before..]);
+    assert!(rt; waits(&run, 0) && run.fed == FIRST.len());
+    Ok(())
+}
+
+// The group of frame 1 is open until the stream ends.
 #[test]
 fn records_are_given_one_by_one(rt: HostRuntime) -> Result<(), Fail> {
     let plan = small_plan(rt.alloc())?;
     let mut out = vec![in rt.alloc(); 0; LONGEST_RECORD]?;
     let mut run = Run::open(rt.alloc(), &plan)?;
-    let before = FIRST.len() - 1;
-    run.feed(&FIRST[..before]);
-    assert!(rt; run.is_open() && run.fed == before);
-    // Behind its last byte frame 0 waits, since a packet of frame 1 came.
-    run.feed(&FIRST[before..]);
-    assert!(rt;
-        run.waiting()
-            == Some(Waiting {
-                frame: 0,
-                mute: None
-            })
-    );
-    assert!(rt; run.fed == FIRST.len());
-    assert_eq!(rt; run.take(&mut out), RECORD);
-    // The group of frame 1 is open until the stream ends.
-    assert!(rt; run.is_open());
+    run.feed(&FIRST);
+    assert!(rt; run.take(&mut out) == RECORD && run.is_open());
     run.finish();
-    assert!(rt;
-        run.waiting()
-            == Some(Waiting {
-                frame: 1,
-                mute: None
-            })
-    );
-    assert_eq!(rt; run.take(&mut out), RECORD);
+    assert!(rt; waits(&run, 1) && run.take(&mut out) == RECORD);
     assert!(rt; run.waiting().is_none() && !run.is_open());
     Ok(())
 }

@@ -76,9 +76,9 @@ fn a_timestamp_has_the_key_before_it(rt: HostRuntime) {
         (Some(key(2, 1)), 3, key(3, 0)),
     ] {
         assert!(rt; superframe < 16);
-        assert_eq!(rt; key_behind(before, &timestamp(superframe)), wanted);
+        assert!(rt; key_behind(before, &timestamp(superframe)) == wanted);
     }
-    assert_eq!(rt; key_behind(Some(key(3, 1)), &block(4, 0)), key(4, 0));
+    assert!(rt; key_behind(Some(key(3, 1)), &block(4, 0)) == key(4, 0));
     assert!(rt; goes_on(key(3, 1), &timestamp(3)) && goes_on(key(3, 1), &block(3, 1)));
     assert!(rt; !goes_on(key(3, 1), &timestamp(4)) && !goes_on(key(3, 1), &block(3, 0)));
     // frame_idx 1 is the last one of two frames.
@@ -86,18 +86,22 @@ fn a_timestamp_has_the_key_before_it(rt: HostRuntime) {
     assert!(rt; !is_counted(2, &block(3, 2)) && !is_counted(2, &other(3)));
 }
 
+// Frames of a superframe, the number of a frame, superframe_idx and frame_idx behind it, and the number of the frame that has them.
+const NEXT: [(u8, u64, u8, u8, u64); 6] = [
+    (2, 30, 15, 1, 31),
+    (2, 31, 0, 0, 32),
+    (2, 31, 15, 0, 62),
+    // The same key: all 16 superframes later.
+    (2, 31, 15, 1, 63),
+    (255, 4_079, 0, 0, 4_080),
+    (255, 4_079, 15, 254, 8_159),
+];
+
 #[test]
 fn superframe_idx_comes_again(rt: HostRuntime) {
-    for (frames, number, after, wanted) in [
-        (2, 30, key(15, 1), 31),
-        (2, 31, key(0, 0), 32),
-        (2, 31, key(15, 0), 62),
-        // The same key: all 16 superframes later.
-        (2, 31, key(15, 1), 63),
-        (255, 4_079, key(0, 0), 4_080),
-        (255, 4_079, key(15, 254), 8_159),
-    ] {
-        assert_eq!(rt; next_number(frames, number, after), wanted);
+    for (frames, number, superframe, frame, wanted) in NEXT {
+        assert!(rt; frames > 0 && number < 10_000);
+        assert!(rt; next_number(frames, number, key(superframe, frame)) == wanted);
     }
     next_law();
 }
@@ -178,7 +182,7 @@ fn add(rt: &impl Abort, sequence: &mut Sequence<Held<'_>>, packet: &Packet<'_>)
     requires { Fits packet.now }
 {
     assert!(rt; work(rt, sequence, packet));
-    assert_eq!(rt; sequence.progress.waiting(), None);
+    assert!(rt; sequence.progress.waiting() == None);
 }
 
 // The record that waits is given.
@@ -194,39 +198,47 @@ fn record(frame: u64, mute: Option<MuteCause>) -> Option<Waiting> {
     Some(Waiting { frame, mute })
 }
 
+// A group that begins no superframe is no join, and one of two packets that does is frame 30.
+fn join(rt: &impl Abort, sequence: &mut Sequence<Held<'_>>) {
+    add(rt, sequence, &block(14, 1));
+    add(rt, sequence, &timestamp(14));
+    add(rt, sequence, &block(15, 0));
+    add(rt, sequence, &timestamp(15));
+    add(rt, sequence, &other(15));
+}
+
+// Frame 33 closes it, and its packet comes again.
+fn leave_a_gap(rt: &impl Abort, sequence: &mut Sequence<Held<'_>>) {
+    assert!(rt; !work(rt, sequence, &block(0, 1)));
+    assert!(rt; give(sequence) == record(30, None) && give(sequence) == None);
+    assert!(rt; work(rt, sequence, &block(0, 1)));
+}
+
 #[test]
 fn a_gap_over_the_end_of_a_superframe(rt: HostRuntime) -> Result<(), Fail> {
-    groups_law();
-    numbers_law();
-    front_law();
-    due_law();
     let network = small_network(rt.alloc())?;
     let mut sequence = Sequence::new(Held {
         network: &network,
         key: None,
         more: false,
     });
-    // A group that begins no superframe is no join, and one of two packets that does is frame 30.
-    add(&rt, &mut sequence, &block(14, 1));
-    add(&rt, &mut sequence, &timestamp(14));
-    add(&rt, &mut sequence, &block(15, 0));
-    add(&rt, &mut sequence, &timestamp(15));
-    add(&rt, &mut sequence, &other(15));
-    // Frame 33 closes it, and its packet comes again.
-    assert!(rt; !work(&rt, &mut sequence, &block(0, 1)));
-    assert_eq!(rt; give(&mut sequence), record(30, None));
-    assert_eq!(rt; give(&mut sequence), None);
-    assert!(rt; work(&rt, &mut sequence, &block(0, 1)));
-    assert_eq!(rt; give(&mut sequence), record(31, Some(MuteCause::Gap)));
-    assert_eq!(rt; give(&mut sequence), record(32, Some(MuteCause::Gap)));
-    assert_eq!(rt; give(&mut sequence), None);
+    join(&rt, &mut sequence);
+    leave_a_gap(&rt, &mut sequence);
+    assert!(rt; give(&mut sequence) == record(31, Some(MuteCause::Gap)));
+    assert!(rt; give(&mut sequence) == record(32, Some(MuteCause::Gap)));
+    assert!(rt; give(&mut sequence) == None);
     // No more comes: it has one packet.
     assert!(rt; !sequence.progress.closing && sequence.group.key().is_some());
     sequence.close();
-    assert_eq!(rt;
-        give(&mut sequence),
-        record(33, Some(MuteCause::PacketMissing))
-    );
-    assert_eq!(rt; give(&mut sequence), None);
+    assert!(rt; give(&mut sequence) == record(33, Some(MuteCause::PacketMissing)));
+    assert!(rt; give(&mut sequence) == None);
     Ok(())
+}
+
+#[test]
+fn the_laws_hold() {
+    groups_law();
+    numbers_law();
+    front_law();
+    due_law();
 }

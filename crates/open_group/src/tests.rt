@@ -167,55 +167,71 @@ const MISSING: Option<MuteCause> = Some(MuteCause::PacketMissing);
 
 const REFUSED: Option<MuteCause> = Some(MuteCause::L1Refused);
 
+// The timestamp of frame 0 comes one subsecond late.
+const LATE: Option<MuteCause> = Some(MuteCause::TimeDisagrees {
+    stamp: Stamp {
+        bw: 4,
+        seconds: 700_000_000,
+        subseconds: 1,
+        utco: 5,
+    },
+    counted: Moment {
+        seconds: 700_000_000,
+        subseconds: 0,
+    },
+});
+
+const L1: Part = Part::L1(NONE, NONE);
+
+const STAMP: Part = Part::Stamp(0);
+
+const FOUR: Part = Part::Blocks(0, 4);
+
+// The parts of frame 0, why they are not that frame, and the frame that their first timestamp names.
+#[rattlefmt::skip]
+static CAUSES: [(&[Part], Option<MuteCause>, Option<u64>); 17] = [
+    (&ALL, None, Some(0)),
+    (&[FOUR, L1, L1, STAMP], None, Some(0)),
+    // The last bit of the configurable part is RESERVED: it decides nothing, but two L1-current packets differ by it.
+    (&[STAMP, Part::L1(190, NONE), FOUR], None, Some(0)),
+    (&[STAMP, L1, Part::L1(190, NONE), FOUR], REFUSED, Some(0)),
+    (&[L1, FOUR], MISSING, None),
+    (&[STAMP, FOUR], MISSING, Some(0)),
+    // A bit of FREQUENCY, and one of FRAME_IDX.
+    (&[STAMP, Part::L1(50, NONE), FOUR], REFUSED, Some(0)),
+    (&[STAMP, Part::L1(NONE, 7), FOUR], REFUSED, Some(0)),
+    (&[Part::Stamp(1), L1, FOUR], LATE, None),
+    (&[STAMP, Part::Stamp(1), L1, FOUR], LATE, Some(0)),
+    (&[STAMP, L1, Part::Blocks(0, 3)], MISSING, Some(0)),
+    (&[STAMP, L1, FOUR, Part::Blocks(7, 1)], MISSING, Some(0)),
+    // PLP_START is 8,192: four blocks of 8,100 cells end behind the frame.
+    (&[STAMP, Part::L1(NONE, 87), FOUR], Some(MuteCause::MapRefused), Some(0)),
+    (&[Part::Stamp(1), Part::Blocks(0, 35)], FULL, None),
+    // Two causes: the earlier test tells its own.
+    (&[Part::Stamp(1), Part::L1(50, NONE), FOUR], REFUSED, None),
+    (&[Part::Stamp(1), L1, Part::Blocks(0, 3)], LATE, None),
+    (&[STAMP, Part::L1(NONE, 87), Part::Blocks(0, 3)], MISSING, Some(0)),
+];
+
 #[test]
 fn causes_in_their_order(rt: HostRuntime) -> Result<(), Fail> {
-    use Part::{Blocks, L1, Stamp};
     let plan = small_plan(rt.alloc())?;
     let mut group = PooledGroup::open(rt.alloc(), &plan)?;
-    let l1 = L1(NONE, NONE);
-    let rows: [(&[Part], Option<MuteCause>, Option<u64>); 17] = [
-        (&ALL, None, Some(0)),
-        (&[Blocks(0, 4), l1, l1, Stamp(0)], None, Some(0)),
-        // The last bit of the configurable part is RESERVED: it decides nothing, but two L1-current packets differ by it.
-        (&[Stamp(0), L1(190, NONE), Blocks(0, 4)], None, Some(0)),
-        (
-            &[Stamp(0), l1, L1(190, NONE), Blocks(0, 4)],
-            REFUSED,
-            Some(0),
-        ),
-        (&[l1, Blocks(0, 4)], MISSING, None),
-        (&[Stamp(0), Blocks(0, 4)], MISSING, Some(0)),
-        // A bit of FREQUENCY, and one of FRAME_IDX.
-        (&[Stamp(0), L1(50, NONE), Blocks(0, 4)], REFUSED, Some(0)),
-        (&[Stamp(0), L1(NONE, 7), Blocks(0, 4)], REFUSED, Some(0)),
-        (&[Stamp(1), l1, Blocks(0, 4)], late(1, 0), None),
-        (&[Stamp(0), Stamp(1), l1, Blocks(0, 4)], late(1, 0), Some(0)),
-        (&[Stamp(0), l1, Blocks(0, 3)], MISSING, Some(0)),
-        (
-            &[Stamp(0), l1, Blocks(0, 4), Blocks(7, 1)],
-            MISSING,
-            Some(0),
-        ),
-        // PLP_START is 8,192: four blocks of 8,100 cells end behind the frame.
-        (
-            &[Stamp(0), L1(NONE, 87), Blocks(0, 4)],
-            Some(MuteCause::MapRefused),
-            Some(0),
-        ),
-        (&[Stamp(1), Blocks(0, 35)], FULL, None),
-        // Two causes: the earlier test tells its own.
-        (&[Stamp(1), L1(50, NONE), Blocks(0, 4)], REFUSED, None),
-        (&[Stamp(1), l1, Blocks(0, 3)], late(1, 0), None),
-        (&[Stamp(0), L1(NONE, 87), Blocks(0, 3)], MISSING, Some(0)),
-    ];
-    for (row, (parts, cause, number)) in rows.iter().enumerate() {
+    for (row, (parts, cause, number)) in CAUSES.iter().enumerate() {
         assert!(rt;
             told(&mut group, *parts, 0) == (*cause, *number),
             "row {row}"
         );
     }
+    Ok(())
+}
+
+// Two frames of 100,000 ticks, of 7 subseconds each.
+#[test]
+fn another_frame_has_another_moment(rt: HostRuntime) -> Result<(), Fail> {
+    let plan = small_plan(rt.alloc())?;
+    let mut group = PooledGroup::open(rt.alloc(), &plan)?;
     assert!(rt; told(&mut group, &ALL, 1).0 == REFUSED);
-    // Two frames of 100,000 ticks, of 7 subseconds each.
     assert!(rt; told(&mut group, &ALL, 2).0 == late(0, 1_400_000));
     Ok(())
 }

@@ -41,7 +41,7 @@ fn expect_words(
         fill_words(plan, shape, frame_idx, address, count, &mut words);
         for i in 0..count {
             let word = BigEndian::read_u32(&words[4 * i as usize..]);
-            assert_eq!(rt; word, word_of(at(plan, shape, frame_idx, address + i)));
+            assert!(rt; word == word_of(at(plan, shape, frame_idx, address + i)));
         }
     }
     Ok(())

@@ -69,12 +69,12 @@ fn expect_shape(
         panic!(rt; "no such frame");
     }
     shape(plan, counts, &mut out);
-    assert_eq!(rt; out.interval(), interval);
-    assert_eq!(rt; out.type2_start(), type2_start);
-    assert_eq!(rt; out.len(), starts.len());
+    assert!(rt; out.interval() == interval);
+    assert!(rt; out.type2_start() == type2_start);
+    assert!(rt; out.len() == starts.len());
     for plp in 0..out.len() {
-        assert_eq!(rt; Some(&out.count(plp)), counts.get(plp));
-        assert_eq!(rt; Some(&out.start(plp)), starts.get(plp));
+        assert!(rt; Some(&out.count(plp)) == counts.get(plp));
+        assert!(rt; Some(&out.start(plp)) == starts.get(plp));
     }
     Ok(())
 }
@@ -148,13 +148,13 @@ fn half_of_each_block_stands_in_a_frame(rt: HostRuntime) -> Result<(), Fail> {
 fn numbers_are_set(rt: HostRuntime) -> Result<(), Fail> {
     let plan = plan_of(network(rt.alloc(), &[(TYPE_2, QAM256), (TYPE_2, QAM16)], 5)?)?;
     let mut read = Shape::open(rt.alloc(), &plan)?;
-    assert_eq!(rt; read.len(), 2);
+    assert!(rt; read.len() == 2);
     read.set(0, 7, 65_536);
     read.set_type2(4_000_000_000, 9);
-    assert_eq!(rt; read.count(0), 7);
-    assert_eq!(rt; read.start(0), 65_536);
-    assert_eq!(rt; read.interval(), 4_000_000_000);
-    assert_eq!(rt; read.type2_start(), 9);
+    assert!(rt; read.count(0) == 7);
+    assert!(rt; read.start(0) == 65_536);
+    assert!(rt; read.interval() == 4_000_000_000);
+    assert!(rt; read.type2_start() == 9);
     field_law();
     Ok(())
 }

@@ -3,7 +3,8 @@ use cell_map::Cell;
 use plp_config::Moment;
 use sample_networks::small_plan;
 use site_frame::{
-    RecordView, RecordWhy, place_record, read_record, rest_len, write_head, write_muted,
+    Blocks, Cells, RecordView, RecordWhy, place_record, read_record, rest_len, write_head,
+    write_muted,
 };
 use std::alloc::{AllocError, Global};
 use std::process::Abort;
@@ -48,7 +49,33 @@ fn why(bytes: &[u8]) -> Option<RecordWhy> {
     }
 }
 
-fn assert_frame(rt: &impl Abort, view: &RecordView<'_>) {
+// Whether a block of a record is the one that it has.
+fn is_block(block: Option<(u8, &[u8])>) -> bool {
+    matches!(block, Some((7, [0xDE, 0xAD])))
+}
+
+fn has_blocks(blocks: &Blocks<'_>) -> bool {
+    let mut each = blocks.iter();
+    blocks.len() == 1
+        && is_block(blocks.get(0))
+        && blocks.get(1).is_none()
+        && is_block(each.next())
+        && each.next().is_none()
+}
+
+fn has_cells(cells: &Cells<'_>) -> bool {
+    let mut each = cells.iter();
+    cells.len() == 2
+        && cells.get(0) == Some(None)
+        && cells.get(1) == Some(Some(CELL))
+        && cells.get(2) == None
+        && each.next() == Some(None)
+        && each.next() == Some(Some(CELL))
+        && each.next() == None
+}
+
+// Whether it has the parts that were spelled.
+fn has_parts(view: &RecordView<'_>) -> bool {
     match view {
         RecordView::Frame {
             moment,
@@ -57,80 +84,69 @@ fn assert_frame(rt: &impl Abort, view: &RecordView<'_>) {
             blocks,
             cells,
         } => {
-            assert!(rt; *moment == MOMENT);
-            assert!(rt; pre.len() == 200 && pre.field(0, 16) == 0x0102);
-            assert!(rt; post.len() == 9 && post.field(0, 9) == 0x157);
-            assert!(rt; blocks.len() == 1 && blocks.get(1).is_none());
-            match blocks.get(0) {
-                Some((plp_id, block)) => assert!(rt;
-                    plp_id == 7 && block == [0xDE, 0xAD].as_slice()
-                ),
-                None => panic!(rt; "no block"),
-            }
-            assert!(rt; cells.len() == 2 && cells.get(2) == None);
-            assert!(rt; cells.get(0) == Some(None) && cells.get(1) == Some(Some(CELL)));
-            let mut each = blocks.iter();
-            match each.next() {
-                Some((plp_id, block)) => assert!(rt;
-                    plp_id == 7 && block == [0xDE, 0xAD].as_slice()
-                ),
-                None => panic!(rt; "no block"),
-            }
-            assert!(rt; each.next().is_none());
-            let mut each = cells.iter();
-            assert!(rt; each.next() == Some(None) && each.next() == Some(Some(CELL)));
-            assert!(rt; each.next() == None);
+            *moment == MOMENT
+                && pre.len() == 200
+                && pre.field(0, 16) == 0x0102
+                && post.len() == 9
+                && post.field(0, 9) == 0x157
+                && has_blocks(blocks)
+                && has_cells(cells)
         }
-        RecordView::Muted { .. } => panic!(rt; "it is a frame"),
+        RecordView::Muted { .. } => false,
     }
 }
 
 #[test]
 fn a_frame_is_read_whatever_follows(rt: HostRuntime) {
     match read_record(&record_of(&REST)) {
-        Ok((view, len)) => {
-            assert!(rt; len == 75);
-            assert_frame(&rt, &view);
-        }
+        Ok((view, len)) => assert!(rt; len == 75 && has_parts(&view)),
         Err(why) => panic!(rt; "{why}"),
     }
 }
 
+// Records cut to a length: one byte short; a head alone; less than a head.
+const CUTS: [(usize, RecordWhy); 4] = [
+    (74, RecordWhy::Length),
+    (24, RecordWhy::Length),
+    (23, RecordWhy::Head),
+    (0, RecordWhy::Head),
+];
+
+#[test]
+fn a_record_may_not_be_cut(rt: HostRuntime) {
+    let good = record_of(&REST);
+    assert!(rt; why(&good) == None);
+    for (len, wanted) in CUTS {
+        assert!(rt; why(good.get(..len).unwrap_or(&[])) == Some(wanted));
+    }
+}
+
+// The place of a byte, its value, and the refusal.
+const EDITS: [(usize, u8, Option<RecordWhy>); 11] = [
+    (0, 0x55, Some(RecordWhy::Head)),
+    (3, 0x53, Some(RecordWhy::Head)),
+    (7, 1, Some(RecordWhy::Head)),
+    (4, 0, Some(RecordWhy::Kind)),
+    (4, 3, Some(RecordWhy::Kind)),
+    // A muted head with a rest.
+    (4, 2, Some(RecordWhy::Length)),
+    // The parts end a byte late, or early.
+    (23, 50, Some(RecordWhy::Length)),
+    (23, 52, Some(RecordWhy::Length)),
+    (20, 2, Some(RecordWhy::Length)),
+    // What fills up L1-post, and the zero byte of a block, decide nothing.
+    (54, 0, None),
+    (58, 0, None),
+];
+
 #[test]
 fn refusals_come_in_order(rt: HostRuntime) {
-    let good = record_of(&REST);
-    assert_eq!(rt; why(&good), None);
-    // One byte short; a head alone; less than a head.
-    for (len, wanted) in [
-        (74, RecordWhy::Length),
-        (24, RecordWhy::Length),
-        (23, RecordWhy::Head),
-        (0, RecordWhy::Head),
-    ] {
-        assert!(rt; len <= 77);
-        assert_eq!(rt; why(&good[..len]), Some(wanted));
-    }
-    // The place of a byte, its value, and the refusal.
-    for (place, byte, wanted) in [
-        (0, 0x55, Some(RecordWhy::Head)),
-        (3, 0x53, Some(RecordWhy::Head)),
-        (7, 1, Some(RecordWhy::Head)),
-        (4, 0, Some(RecordWhy::Kind)),
-        (4, 3, Some(RecordWhy::Kind)),
-        // A muted head with a rest.
-        (4, 2, Some(RecordWhy::Length)),
-        // The parts end a byte late, or early.
-        (23, 50, Some(RecordWhy::Length)),
-        (23, 52, Some(RecordWhy::Length)),
-        (20, 2, Some(RecordWhy::Length)),
-        // What fills up L1-post, and the zero byte of a block, decide nothing.
-        (54, 0, None),
-        (58, 0, None),
-    ] {
-        assert!(rt; place < 77);
-        let mut bytes = good;
-        bytes[place] = byte;
-        assert_eq!(rt; why(&bytes), wanted);
+    for (place, byte, wanted) in EDITS {
+        let mut bytes = record_of(&REST);
+        if let Some(old) = bytes.get_mut(place) {
+            *old = byte;
+        }
+        assert!(rt; why(&bytes) == wanted, "byte {place}");
     }
 }
 
@@ -140,8 +156,8 @@ fn a_muted_record_is_its_head(rt: HostRuntime) {
     write_muted(&MOMENT, &mut head);
     match read_record(&head) {
         Ok((RecordView::Muted { moment }, len)) => {
-            assert_eq!(rt; len, 24);
-            assert_eq!(rt; moment, MOMENT);
+            assert!(rt; len == 24);
+            assert!(rt; moment == MOMENT);
         }
         _ => panic!(rt; "not muted"),
     }
@@ -159,21 +175,26 @@ fn the_head_tells_what_follows(rt: HostRuntime) {
     assert!(rt; rest_len(&head) == Err(RecordWhy::Length));
     write_muted(&MOMENT, &mut head);
     assert!(rt; rest_len(&head) == Ok(0));
-    write_head(&MOMENT, 0x0100_0000, &mut head);
-    // The place of a byte, its value, and the refusal.
-    for (place, byte, wanted) in [
-        (1, 0x33, RecordWhy::Head),
-        (6, 1, RecordWhy::Head),
-        (4, 0x54, RecordWhy::Kind),
-        // One byte too many, and a muted head with a rest.
-        (20, 2, RecordWhy::Length),
-        (4, 2, RecordWhy::Length),
-    ] {
-        assert!(rt; place < 24);
-        let mut bytes = head;
-        bytes[place] = byte;
-        bytes[23] = 1;
-        assert!(rt; rest_len(&bytes) == Err(wanted));
+}
+
+// The place of a byte of a head, its value, and the refusal. The last two have one byte too many, and are muted with a rest.
+const HEADS: [(usize, u8, RecordWhy); 5] = [
+    (1, 0x33, RecordWhy::Head),
+    (6, 1, RecordWhy::Head),
+    (4, 0x54, RecordWhy::Kind),
+    (20, 2, RecordWhy::Length),
+    (4, 2, RecordWhy::Length),
+];
+
+#[test]
+fn a_head_may_be_refused(rt: HostRuntime) {
+    for (place, byte, wanted) in HEADS {
+        let mut head = [0; 24];
+        write_head(&MOMENT, 0x0100_0001, &mut head);
+        if let Some(old) = head.get_mut(place) {
+            *old = byte;
+        }
+        assert!(rt; rest_len(&head) == Err(wanted), "byte {place}");
     }
 }
 
@@ -242,10 +263,10 @@ fn assert_sizes(rt: &impl Abort, view: &RecordView<'_>, sizes: &Sizes) {
 fn the_sections_fill_the_length(rt: HostRuntime) -> Result<(), Fail> {
     for sizes in &SIZES {
         let record = record_with(rt.alloc(), sizes)?;
-        assert_eq!(rt; record.len(), sizes.whole);
+        assert!(rt; record.len() == sizes.whole);
         match read_record(&record) {
             Ok((view, len)) => {
-                assert_eq!(rt; len, sizes.whole);
+                assert!(rt; len == sizes.whole);
                 assert_sizes(&rt, &view, sizes);
             }
             Err(why) => panic!(rt; "{why}"),
@@ -266,27 +287,30 @@ fn a_longer_rest_is_refused(rt: HostRuntime) -> Result<(), Fail> {
         whole: 33_554_457,
     };
     let record = record_with(rt.alloc(), &sizes)?;
-    assert_eq!(rt; record.len(), sizes.whole);
-    assert_eq!(rt; why(&record), Some(RecordWhy::Length));
+    assert!(rt; record.len() == sizes.whole);
+    assert!(rt; why(&record) == Some(RecordWhy::Length));
     Ok(())
 }
 
+// Seconds and subseconds, the frame that is expected, and what is told. By 8 MHz frames of 100,000 ticks have 700,000 subseconds.
+#[rattlefmt::skip]
+const MOMENTS: [(u64, u32, Option<u64>, Result<u64, RecordWhy>); 8] = [
+    (700_000_000, 0, None, Ok(0)),
+    (700_000_000, 1_400_000, Some(2), Ok(2)),
+    // Frame 2 behind frame 0.
+    (700_000_000, 1_400_000, Some(1), Err(RecordWhy::Order)),
+    (700_000_001, 400_000, Some(92), Ok(92)),
+    (700_000_001, 400_000, Some(91), Err(RecordWhy::Order)),
+    (700_000_001, 400_001, Some(92), Err(RecordWhy::OffGrid)),
+    (699_999_999, 0, None, Err(RecordWhy::OffGrid)),
+    // Not carried into seconds.
+    (700_000_000, 64_400_000, None, Err(RecordWhy::OffGrid)),
+];
+
 #[test]
 fn a_record_is_placed_by_its_moment(rt: HostRuntime) -> Result<(), Fail> {
-    // 8 MHz, frames of 100,000 ticks, so of 700,000 subseconds.
     let plan = small_plan(rt.alloc())?;
-    for (seconds, subseconds, expected, wanted) in [
-        (700_000_000, 0, None, Ok(0)),
-        (700_000_000, 1_400_000, Some(2), Ok(2)),
-        // Frame 2 behind frame 0.
-        (700_000_000, 1_400_000, Some(1), Err(RecordWhy::Order)),
-        (700_000_001, 400_000, Some(92), Ok(92)),
-        (700_000_001, 400_000, Some(91), Err(RecordWhy::Order)),
-        (700_000_001, 400_001, Some(92), Err(RecordWhy::OffGrid)),
-        (699_999_999, 0, None, Err(RecordWhy::OffGrid)),
-        // Not carried into seconds.
-        (700_000_000, 64_400_000, None, Err(RecordWhy::OffGrid)),
-    ] {
+    for (seconds, subseconds, expected, wanted) in MOMENTS {
         let moment = Moment {
             seconds,
             subseconds,

@@ -22,24 +22,26 @@ const LAST: Header = Header {
     syncd: 0xFFFF,
 };
 
-// The headers are those of worked examples, and the sequence begins with 03 F6.
+// The headers are those of worked examples.
 #[test]
 fn a_full_frame(rt: HostRuntime) {
     let data = [0x47; 869];
     let mut sink = FixedBits::<879>::new();
     assert!(rt; write_frame(&mut sink, &FULL, BitSlice::whole(&data), KBCH) == Ok(()));
-    let bits = sink.as_slice();
-    assert!(rt; bits.len() == 7032);
-    let mut bytes = [0; 879];
-    bits.copy_bytes(&mut bytes);
-    assert!(rt; &bytes[..10] == &[0xFC, 0x00, 0x80, 0x00, 0x1B, 0x28, 0x00, 0x00, 0x00, 0xFA][..]);
-    assert!(rt; &bytes[10..] == &data[..]);
+    let bytes = sink.as_bytes();
+    assert!(rt; bytes.starts_with(&[0xFC, 0x00, 0x80, 0x00, 0x1B, 0x28, 0x00, 0x00, 0x00, 0xFA]));
+    assert!(rt; bytes.len() == 879 && bytes.ends_with(&data));
+}
 
+// The sequence begins with 03 F6, and has CA and 55 at these places.
+#[test]
+fn a_frame_is_scrambled_and_back(rt: HostRuntime) {
+    let mut bytes = [0x47; 879];
     scramble(&mut bytes);
-    assert!(rt; bytes[0] == 0xFF && bytes[1] == 0xF6);
+    assert!(rt; bytes[..2] == [0x47 ^ 0x03, 0x47 ^ 0xF6]);
     assert!(rt; bytes[120] == 0x47 ^ 0xCA && bytes[878] == 0x47 ^ 0x55);
     scramble(&mut bytes);
-    assert!(rt; bytes[0] == 0xFC && bytes[878] == 0x47);
+    assert!(rt; bytes == [0x47; 879]);
 }
 
 #[test]
@@ -47,17 +49,13 @@ fn a_frame_that_is_not_full_is_read_back(rt: HostRuntime) {
     let data = [0x47; 25];
     let mut sink = FixedBits::<900>::new();
     assert!(rt; write_frame(&mut sink, &LAST, BitSlice::whole(&data), KBCH) == Ok(()));
+    let bytes = sink.as_bytes();
+    assert!(rt; bytes.starts_with(&[0xFC, 0x00, 0x80, 0x00, 0x00, 0xC8, 0x00, 0xFF, 0xFF, 0x19]));
+    assert!(rt; bytes.len() == 879 && bytes[10..].starts_with(&data) && bytes.ends_with(&[0; 844]));
     let bits = sink.as_slice();
     assert!(rt; bits.len() == 7032);
-    let mut bytes = [0; 879];
-    bits.copy_bytes(&mut bytes);
-    assert!(rt; &bytes[..10] == &[0xFC, 0x00, 0x80, 0x00, 0x00, 0xC8, 0x00, 0xFF, 0xFF, 0x19][..]);
-    assert!(rt; bytes[34] == 0x47 && bytes[35] == 0 && bytes[878] == 0);
     match read_frame(bits) {
-        Ok(view) => {
-            assert!(rt; view.header == LAST);
-            assert!(rt; view.field.len() == 200);
-        }
+        Ok(view) => assert!(rt; view.header == LAST && view.field.len() == 200),
         Err(_) => assert!(rt; false),
     }
 }
@@ -105,51 +103,24 @@ fn fault_of(header: [u8; 10]) -> Option<BbFault> {
     read_frame(BitSlice::whole(&bytes)).err()
 }
 
-// The last bytes of the headers come from long division by another program.
+// Headers, and what is wrong with each; their last bytes come from long division by another program.
+#[rattlefmt::skip]
+const HEADERS: [([u8; 10], Option<BbFault>); 10] = [
+    ([0xFC, 0x00, 0x80, 0x00, 0x00, 0xC8, 0x00, 0xFF, 0xFF, 0x19], None),
+    ([0xFC, 0x00, 0x80, 0x00, 0x00, 0xC8, 0x00, 0xFF, 0xFF, 0x18], Some(BbFault::Mode)),
+    ([0xFC, 0x00, 0x80, 0x00, 0x00, 0xC8, 0x00, 0xFF, 0xFF, 0x1A], Some(BbFault::Crc)),
+    ([0xFC, 0x00, 0x80, 0x00, 0x00, 0xC8, 0x00, 0x00, 0xC0, 0xEA], None),
+    ([0xFC, 0x00, 0x80, 0x00, 0x00, 0xCC, 0x00, 0xFF, 0xFF, 0xD8], Some(BbFault::Length)),
+    ([0xFC, 0x00, 0x80, 0x00, 0x00, 0xD0, 0x00, 0xFF, 0xFF, 0xE0], Some(BbFault::Length)),
+    ([0xFC, 0x00, 0x80, 0x00, 0x00, 0xCC, 0x00, 0x00, 0x04, 0xA7], Some(BbFault::Length)),
+    ([0xFC, 0x00, 0x80, 0x00, 0x00, 0xC8, 0x00, 0x00, 0xC8, 0xC3], Some(BbFault::Sync)),
+    ([0xFC, 0x00, 0x80, 0x00, 0x00, 0xC8, 0x00, 0x00, 0x04, 0x66], Some(BbFault::Sync)),
+    ([0xFC, 0x00, 0x80, 0x00, 0x00, 0x00, 0x00, 0x00, 0x00, 0x53], Some(BbFault::Sync)),
+];
+
 #[test]
 fn refuses_by_the_first_cause(rt: HostRuntime) {
-    for (header, want) in [
-        (
-            [0xFC, 0x00, 0x80, 0x00, 0x00, 0xC8, 0x00, 0xFF, 0xFF, 0x19],
-            None,
-        ),
-        (
-            [0xFC, 0x00, 0x80, 0x00, 0x00, 0xC8, 0x00, 0xFF, 0xFF, 0x18],
-            Some(BbFault::Mode),
-        ),
-        (
-            [0xFC, 0x00, 0x80, 0x00, 0x00, 0xC8, 0x00, 0xFF, 0xFF, 0x1A],
-            Some(BbFault::Crc),
-        ),
-        (
-            [0xFC, 0x00, 0x80, 0x00, 0x00, 0xC8, 0x00, 0x00, 0xC0, 0xEA],
-            None,
-        ),
-        (
-            [0xFC, 0x00, 0x80, 0x00, 0x00, 0xCC, 0x00, 0xFF, 0xFF, 0xD8],
-            Some(BbFault::Length),
-        ),
-        (
-            [0xFC, 0x00, 0x80, 0x00, 0x00, 0xD0, 0x00, 0xFF, 0xFF, 0xE0],
-            Some(BbFault::Length),
-        ),
-        (
-            [0xFC, 0x00, 0x80, 0x00, 0x00, 0xCC, 0x00, 0x00, 0x04, 0xA7],
-            Some(BbFault::Length),
-        ),
-        (
-            [0xFC, 0x00, 0x80, 0x00, 0x00, 0xC8, 0x00, 0x00, 0xC8, 0xC3],
-            Some(BbFault::Sync),
-        ),
-        (
-            [0xFC, 0x00, 0x80, 0x00, 0x00, 0xC8, 0x00, 0x00, 0x04, 0x66],
-            Some(BbFault::Sync),
-        ),
-        (
-            [0xFC, 0x00, 0x80, 0x00, 0x00, 0x00, 0x00, 0x00, 0x00, 0x53],
-            Some(BbFault::Sync),
-        ),
-    ] {
+    for (header, want) in HEADERS {
         assert!(rt; fault_of(header) == want);
     }
 }

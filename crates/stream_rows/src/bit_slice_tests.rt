@@ -11,58 +11,65 @@ const DATA: [u8; 24] = [
 
 #[test]
 fn crc_of_the_standard_text(rt: HostRuntime) {
-    assert_eq!(rt; crc32(BitSlice::whole(b"123456789")), 0x0376_E6E7);
+    assert!(rt; crc32(BitSlice::whole(b"123456789")) == 0x0376_E6E7);
 }
 
-// By first bit and length.
+// CRC-32 by first bit and length.
+const CRC_32: [(usize, usize, u32); 10] = [
+    (0, 0, 0xFFFF_FFFF),
+    (0, 1, 0xFFFF_FFFE),
+    (0, 13, 0x8A77_B5F5),
+    (0, 64, 0x046A_3ADB),
+    (0, 69, 0x97C1_16D2),
+    (0, 192, 0xE79F_C99C),
+    (8, 120, 0x8F12_F09C),
+    (3, 64, 0x2E73_4A1D),
+    (5, 101, 0x0F3B_DE97),
+    (11, 181, 0x6B97_843E),
+];
+
+// Some bits of the data, if it has them.
+fn part(first: usize, len: usize) -> Option<BitSlice<'static>> {
+    let whole = BitSlice::whole(&DATA);
+    if whole.len() < first || whole.len() - first < len {
+        return None;
+    }
+    Some(whole.sub(first, len))
+}
+
 #[test]
 fn crc_at_any_place_and_length(rt: HostRuntime) {
-    for (first, len, want) in [
-        (0, 0, 0xFFFF_FFFF),
-        (0, 1, 0xFFFF_FFFE),
-        (0, 13, 0x8A77_B5F5),
-        (0, 64, 0x046A_3ADB),
-        (0, 69, 0x97C1_16D2),
-        (0, 192, 0xE79F_C99C),
-        (8, 120, 0x8F12_F09C),
-        (3, 64, 0x2E73_4A1D),
-        (5, 101, 0x0F3B_DE97),
-        (11, 181, 0x6B97_843E),
-    ] {
-        let whole = BitSlice::whole(&DATA);
-        assert!(rt; first <= whole.len() && len <= whole.len() - first);
-        assert_eq!(rt;
-            crc32(whole.sub(first, len)),
-            want,
-            "{len} bits from {first}"
-        );
+    for (first, len, want) in CRC_32 {
+        match part(first, len) {
+            Some(bits) => assert!(rt; crc32(bits) == want, "{len} bits from {first}"),
+            None => assert!(rt; false),
+        }
     }
 }
 
 #[test]
 fn crc8_of_the_standard_text(rt: HostRuntime) {
-    assert_eq!(rt; crc8(BitSlice::whole(b"123456789")), 0xBC);
+    assert!(rt; crc8(BitSlice::whole(b"123456789")) == 0xBC);
 }
 
-// By first bit and length.
+// CRC-8 by first bit and length.
+const CRC_8: [(usize, usize, u8); 7] = [
+    (0, 0, 0x00),
+    (0, 1, 0xD5),
+    (0, 13, 0x7D),
+    (0, 72, 0xA6),
+    (8, 120, 0x17),
+    (3, 64, 0xBF),
+    (5, 101, 0xB6),
+];
+
 #[test]
 fn crc8_at_any_place_and_length(rt: HostRuntime) {
-    for (first, len, want) in [
-        (0, 0, 0x00),
-        (0, 1, 0xD5),
-        (0, 13, 0x7D),
-        (0, 72, 0xA6),
-        (8, 120, 0x17),
-        (3, 64, 0xBF),
-        (5, 101, 0xB6),
-    ] {
-        let whole = BitSlice::whole(&DATA);
-        assert!(rt; first <= whole.len() && len <= whole.len() - first);
-        assert_eq!(rt;
-            crc8(whole.sub(first, len)),
-            want,
-            "{len} bits from {first}"
-        );
+    for (first, len, want) in CRC_8 {
+        match part(first, len) {
+            Some(bits) => assert!(rt; crc8(bits) == want, "{len} bits from {first}"),
+            None => assert!(rt; false),
+        }
     }
 }
 
@@ -71,7 +78,7 @@ fn crc8_at_any_place_and_length(rt: HostRuntime) {
 fn the_sequence_begins(rt: HostRuntime) {
     let mut sequence = Prbs::new();
     for want in [0x03, 0xF6, 0x08, 0x34, 0x30, 0xB8, 0xA3, 0x93, 0xC9, 0x68] {
-        assert_eq!(rt; sequence.next_byte(), want);
+        assert!(rt; sequence.next_byte() == want);
     }
 }
 
@@ -87,32 +94,34 @@ fn the_sequence_in_blocks(rt: HostRuntime) {
     assert!(rt; blocks.bytes()[0] == 0xFD && blocks.bytes()[119] == 0x6E);
 }
 
-// By place and width: each place within a byte, each number of bytes touched.
+// Fields by place and width: each place within a byte, each number of bytes touched.
+const FIELDS: [(usize, u32, u64); 18] = [
+    (60, 0, 0x0),
+    (192, 0, 0x0),
+    (0, 1, 0x1),
+    (1, 7, 0x43),
+    (10, 8, 0x94),
+    (19, 9, 0x197),
+    (28, 13, 0x1C05),
+    (37, 16, 0x5E1A),
+    (46, 24, 0x35_22CD),
+    (55, 31, 0x22CD_9743),
+    (56, 32, 0x8B36_5D0E),
+    (9, 33, 0x9465_F80B),
+    (27, 56, 0xF0_1786_A459_B2E8),
+    (36, 57, 0x5E_1A91_66CB_A1D2),
+    (45, 63, 0xD48B_365D_0E91_AB7),
+    (8, 64, 0xA519_7E02_F0D4_8B36),
+    (127, 64, 0x8C10_4ABD_6F59_A366),
+    (128, 64, 0x1820_957A_DEB3_46CD),
+];
+
 #[test]
 fn fields_at_any_place(rt: HostRuntime) {
-    for (at, width, want) in [
-        (60, 0, 0x0),
-        (192, 0, 0x0),
-        (0, 1, 0x1),
-        (1, 7, 0x43),
-        (10, 8, 0x94),
-        (19, 9, 0x197),
-        (28, 13, 0x1C05),
-        (37, 16, 0x5E1A),
-        (46, 24, 0x35_22CD),
-        (55, 31, 0x22CD_9743),
-        (56, 32, 0x8B36_5D0E),
-        (9, 33, 0x9465_F80B),
-        (27, 56, 0xF0_1786_A459_B2E8),
-        (36, 57, 0x5E_1A91_66CB_A1D2),
-        (45, 63, 0xD48B_365D_0E91_AB7),
-        (8, 64, 0xA519_7E02_F0D4_8B36),
-        (127, 64, 0x8C10_4ABD_6F59_A366),
-        (128, 64, 0x1820_957A_DEB3_46CD),
-    ] {
-        let bits = BitSlice::whole(&DATA);
+    let bits = BitSlice::whole(&DATA);
+    for (at, width, want) in FIELDS {
         assert!(rt; at <= bits.len() && width as usize <= bits.len() - at && width <= 64);
-        assert_eq!(rt; bits.field(at, width), want, "{width} bits from {at}");
+        assert!(rt; bits.field(at, width) == want, "{width} bits from {at}");
     }
 }
 
@@ -121,9 +130,9 @@ fn bytes_of_bits_at_any_place(rt: HostRuntime) {
     let whole = BitSlice::whole(&DATA);
     let mut out = [0; 9];
     whole.sub(16, 72).copy_bytes(&mut out);
-    assert_eq!(rt; out, [0x19, 0x7E, 0x02, 0xF0, 0xD4, 0x8B, 0x36, 0x5D, 0x0E]);
+    assert!(rt; out == [0x19, 0x7E, 0x02, 0xF0, 0xD4, 0x8B, 0x36, 0x5D, 0x0E]);
     whole.sub(3, 72).copy_bytes(&mut out);
-    assert_eq!(rt; out, [0x1D, 0x28, 0xCB, 0xF0, 0x17, 0x86, 0xA4, 0x59, 0xB2]);
+    assert!(rt; out == [0x1D, 0x28, 0xCB, 0xF0, 0x17, 0x86, 0xA4, 0x59, 0xB2]);
 }
 
 #[test]
@@ -152,26 +161,26 @@ fn put_row<S: BitSink>(sink: &mut S) -> Result<(), SinkFault> {
 #[test]
 fn a_sink_that_grows(rt: HostRuntime) {
     let mut sink = BitBuf::new(rt.alloc());
-    assert_eq!(rt; put_row(&mut sink), Ok(()));
-    assert_eq!(rt; sink.as_slice().len(), 362);
+    assert!(rt; put_row(&mut sink) == Ok(()));
+    assert!(rt; sink.as_slice().len() == 362);
     assert!(rt; sink.into_bytes().as_slice() == ROW.as_slice());
 }
 
 #[test]
 fn a_sink_that_fills_up(rt: HostRuntime) {
     let mut sink = FixedBits::<46>::new();
-    assert_eq!(rt; put_row(&mut sink), Ok(()));
-    assert_eq!(rt; sink.put(0, 7), Err(SinkFault::Full { need: 7, room: 6 }));
-    assert_eq!(rt;
-        sink.put_slice(BitSlice::whole(&[0xFF])),
-        Err(SinkFault::Full { need: 8, room: 6 })
-    );
-    assert_eq!(rt; sink.put(0, 6), Ok(()));
-    let bits = sink.as_slice();
-    assert!(rt; bits.len() == 368);
-    let mut out = [0; 46];
-    bits.copy_bytes(&mut out);
-    assert!(rt; out == ROW);
+    assert!(rt; put_row(&mut sink) == Ok(()));
+    assert!(rt; sink.put(0, 7) == Err(SinkFault::Full { need: 7, room: 6 }));
+    assert!(rt; sink.put(0, 6) == Ok(()));
+    assert!(rt; sink.as_bytes() == ROW.as_slice());
+}
+
+#[test]
+fn a_sink_without_room_for_a_slice(rt: HostRuntime) {
+    let mut sink = FixedBits::<46>::new();
+    assert!(rt; put_row(&mut sink) == Ok(()));
+    let full = SinkFault::Full { need: 8, room: 6 };
+    assert!(rt; sink.put_slice(BitSlice::whole(&[0xFF])) == Err(full));
 }
 
 #[test]
@@ -193,13 +202,9 @@ fn room_for_a_hundred_and_twenty_seven_bits(rt: HostRuntime) {
 fn crc_of_what_goes_through(rt: HostRuntime) {
     let mut sink = CrcSink::new(BitBuf::new(rt.alloc()));
     assert!(rt; put_row(&mut sink) == Ok(()) && sink.put(0x3F, 6) == Ok(()));
-    assert_eq!(rt; sink.crc(), 0x4F1C_0C17);
+    assert!(rt; sink.crc() == 0x4F1C_0C17);
     match sink.finish() {
-        Ok(inner) => {
-            let bits = inner.as_slice();
-            assert!(rt; bits.len() == 400);
-            assert_eq!(rt; bits.field(368, 32), 0x4F1C_0C17);
-        }
+        Ok(inner) => assert!(rt; inner.into_bytes().ends_with(&[0x4F, 0x1C, 0x0C, 0x17])),
         Err(_) => assert!(rt; false),
     }
 }
@@ -210,13 +215,12 @@ fn a_crc_without_room(rt: HostRuntime) {
     let mut sink = CrcSink::new(FixedBits::<9>::new());
     assert!(rt; sink.put_slice(whole.sub(3, 7)) == Ok(()) && sink.put(1, 1) == Ok(()));
     assert!(rt; sink.put_slice(whole.sub(20, 48)) == Ok(()));
-    assert_eq!(rt; sink.crc(), 0x4460_98C5);
+    assert!(rt; sink.crc() == 0x4460_98C5);
     match sink.finish() {
         Ok(_) => assert!(rt; false),
-        Err((inner, fault)) => {
-            assert_eq!(rt; fault, SinkFault::Full { need: 32, room: 16 });
-            assert!(rt; inner.as_slice().len() == 56);
-        }
+        Err((inner, fault)) => assert!(rt;
+            fault == SinkFault::Full { need: 32, room: 16 } && inner.as_slice().len() == 56
+        ),
     }
 }
 
@@ -227,10 +231,7 @@ fn takes_from_a_slice(rt: HostRuntime) {
     assert!(rt; source.take(3) == Ok(0b101));
     assert!(rt; source.take(6) == Err(Short { left: 5 }));
     match source.take_slice(5) {
-        Ok(bits) => {
-            assert!(rt; bits.len() == 5);
-            assert_eq!(rt; bits.field(0, 5), 0b10011);
-        }
+        Ok(bits) => assert!(rt; bits.len() == 5 && bits.field(0, 5) == 0b10011),
         Err(_) => assert!(rt; false),
     }
     assert!(rt; source.take(1) == Err(Short { left: 0 }));
@@ -244,11 +245,22 @@ fn two_runs_of_bits(rt: HostRuntime) {
     assert!(rt; joined.len() == 16 && !joined.is_empty());
     assert!(rt; joined.field(0, 16) == 0xF11A && joined.field(4, 4) == 1);
     assert!(rt; joined.field(1, 5) == 0b11100 && joined.field(7, 3) == 0b100);
+}
+
+#[test]
+fn two_runs_of_bits_in_a_sink(rt: HostRuntime) {
+    let whole = BitSlice::whole(&DATA);
+    let joined = Joined::new(whole.sub(40, 6), whole.sub(90, 10));
     let mut sink = FixedBits::<2>::new();
     assert!(rt; put_joined(&mut sink, joined.sub(0, 16)) == Ok(()));
-    assert!(rt; same_bits(&sink.as_slice(), &BitSlice::whole(&[0xF1, 0x1A])));
-    assert_eq!(rt; sink.as_bytes(), [0xF1, 0x1A].as_slice());
-    assert!(rt; !same_bits(&sink.as_slice(), &BitSlice::whole(&[0xF1, 0x1B])));
+    assert!(rt; sink.as_bytes() == [0xF1, 0x1A].as_slice());
+}
+
+#[test]
+fn bits_are_the_same_or_not(rt: HostRuntime) {
+    let bits = BitSlice::whole(&[0xF1, 0x1A]);
+    assert!(rt; same_bits(&bits, &BitSlice::whole(&[0xF1, 0x1A])));
+    assert!(rt; !same_bits(&bits, &BitSlice::whole(&[0xF1, 0x1B])));
 }
 
 #[test]
@@ -257,7 +269,7 @@ fn takes_from_two_runs(rt: HostRuntime) {
     let mut source = JoinedReader::new(Joined::new(whole.sub(40, 6), whole.sub(90, 10)));
     assert!(rt; source.take(4) == Ok(0xF));
     match source.take_slice(8) {
-        Ok(bits) => assert_eq!(rt; bits.field(0, 8), 0x11),
+        Ok(bits) => assert!(rt; bits.field(0, 8) == 0x11),
         Err(_) => assert!(rt; false),
     }
     assert!(rt; source.take(5) == Err(Short { left: 4 }) && source.take(4) == Ok(0xA));

@@ -1,5 +1,6 @@
 // Expected values come from a Python program that applies the rule to the whole list of packets.
 use null_delete::{Deleter, Inserter};
+use std::alloc::Global;
 use std::test::Fail;
 use ts_packet::TsPacket;
 
@@ -28,15 +29,21 @@ fn the_256th_null_packet_is_kept(rt: HostRuntime) {
     assert!(rt; deleter.push(&other()) == Some(0));
 }
 
-#[test]
-fn keeps_by_the_runs_of_null_packets(rt: HostRuntime) -> Result<(), Fail> {
-    let mut packets = Vec::new(rt.alloc());
+// The packets of the runs.
+fn packets(alloc: Global) -> Result<Vec<TsPacket>, Fail> {
+    let mut packets = Vec::new(alloc);
     for nulls in RUNS {
         for _ in 0..nulls {
             packets.push(TsPacket::canonical())?;
         }
         packets.push(other())?;
     }
+    Ok(packets)
+}
+
+#[test]
+fn keeps_by_the_runs_of_null_packets(rt: HostRuntime) -> Result<(), Fail> {
+    let packets = packets(rt.alloc())?;
     let mut deleter = Deleter::new(true);
     let mut kept = Vec::new(rt.alloc());
     for (slot, packet) in packets.iter().enumerate() {

@@ -58,16 +58,19 @@ fn a_timestamp_both_ways(rt: HostRuntime) {
         body: Body::Timestamp(MOMENT),
     };
     writes(&rt, &packet, &STAMP);
-    for bytes in [&STAMP, &STAMP_BITS_SET] {
-        match read(bytes) {
-            Ok((packet, 21)) => {
-                assert!(rt;
-                    packet.packet_count == 3 && packet.superframe == 1 && packet.stream == 0
-                );
-                assert!(rt; matches!(packet.body, Body::Timestamp(MOMENT)));
-            }
-            _ => assert!(rt; false),
+    assert!(rt; is_moment(&STAMP) && is_moment(&STAMP_BITS_SET));
+}
+
+// Whether the bytes are packet 3 of superframe 1, with the timestamp.
+fn is_moment(bytes: &[u8; 21]) -> bool {
+    match read(bytes) {
+        Ok((packet, 21)) => {
+            packet.packet_count == 3
+                && packet.superframe == 1
+                && packet.stream == 0
+                && matches!(packet.body, Body::Timestamp(MOMENT))
         }
+        _ => false,
     }
 }
 
@@ -220,25 +223,35 @@ fn length_of(bytes: &[u8]) -> Result<usize, PacketFault>
 fn refuses_by_the_first_cause(rt: HostRuntime) {
     let mut wrong_crc = BLOCK_23_PAD;
     wrong_crc[12] = 0;
-    let refusals: [(&[u8], usize, PacketWhy); 13] = [
-        (&[], 0, PacketWhy::Short),
-        (&STAMP[..5], 5, PacketWhy::Short),
-        (&STAMP[..20], 20, PacketWhy::Short),
-        (&wrong_crc, 9, PacketWhy::Crc),
-        (&BLOCK_23_PAD, 8, PacketWhy::PadBits),
-        (&BLOCK_23, 6, PacketWhy::PayloadShape),
-        (&BLOCK_16, 6, PacketWhy::PayloadShape),
-        (&STAMP_80, 6, PacketWhy::PayloadShape),
-        (&STAMP_96, 6, PacketWhy::PayloadShape),
-        (&PART_TOO_LONG, 6, PacketWhy::PayloadShape),
-        (&PART_TOO_SHORT, 6, PacketWhy::PayloadShape),
-        (&NO_EXTENSION, 6, PacketWhy::PayloadShape),
-        (&A_BYTE_MORE, 6, PacketWhy::PayloadShape),
-    ];
-    for (bytes, at, why) in refusals {
-        assert!(rt; length_of(bytes) == Err(PacketFault { at, why }));
-    }
+    let short = PacketWhy::Short;
+    assert!(rt; length_of(&[]) == Err(PacketFault { at: 0, why: short }));
+    assert!(rt; length_of(&STAMP[..5]) == Err(PacketFault { at: 5, why: short }));
+    assert!(rt; length_of(&STAMP[..20]) == Err(PacketFault { at: 20, why: short }));
+    let crc = PacketWhy::Crc;
+    assert!(rt; length_of(&wrong_crc) == Err(PacketFault { at: 9, why: crc }));
+    let pad = PacketWhy::PadBits;
+    assert!(rt; length_of(&BLOCK_23_PAD) == Err(PacketFault { at: 8, why: pad }));
     assert!(rt; length_of(&BLOCK_24) == Ok(13));
+}
+
+// Packets whose payload has a length that its type may not have.
+static SHAPES: [&[u8]; 8] = [
+    &BLOCK_23,
+    &BLOCK_16,
+    &STAMP_80,
+    &STAMP_96,
+    &PART_TOO_LONG,
+    &PART_TOO_SHORT,
+    &NO_EXTENSION,
+    &A_BYTE_MORE,
+];
+
+#[test]
+fn refuses_a_payload_of_another_shape(rt: HostRuntime) {
+    let why = PacketWhy::PayloadShape;
+    for bytes in SHAPES {
+        assert!(rt; bytes.len() < 50 && length_of(bytes) == Err(PacketFault { at: 6, why }));
+    }
 }
 
 #[test]

@@ -194,26 +194,43 @@ fn release(unpiper: &mut Unpiper, places: &mut Vec<u64>) -> Result<(), AllocErro
     Ok(())
 }
 
+// The units, after some operations.
+fn operated(units: &Vec<u8>, ops: &[Op]) -> Result<Vec<u8>, Fail> {
+    let mut left = units.clone()?;
+    for op in ops {
+        operate(&mut left, *op);
+    }
+    Ok(left)
+}
+
+// Whether these are the places, which zeros follow.
+fn are(found: &[u64], want: &[u64]) -> bool {
+    want.starts_with(found)
+        && want[found.len().min(want.len())..]
+            .iter()
+            .all(|place| *place == 0)
+}
+
 #[test]
 fn hostile_units(rt: HostRuntime) -> Result<(), Fail> {
     let sent = stream(rt.alloc())?;
-    assert!(rt; sent.len() == 32 * 188);
     for (row, (ops, want)) in ROWS.iter().enumerate() {
-        let mut units = sent.clone()?;
-        for op in ops {
-            operate(&mut units, *op);
-        }
-        let count = want.iter().filter(|place| **place > 0).count();
+        let units = operated(&sent, ops)?;
         for step in [1, 7, 188, 4000] {
             let found = places(rt.alloc(), &units, step)?;
             assert!(rt;
-                found.as_slice() == &want[..count],
+                are(&found, want),
                 "row {row} in steps of {step}: {found:?}"
             );
         }
     }
     Ok(())
 }
+
+// The head of a unit with 175 bytes behind it, in which a packet begins behind 17 bytes.
+const HEAD: [u8; 13] = [
+    0x47, 0x41, 0x00, 0x31, 7, 0, 0xFF, 0xFF, 0xFF, 0xFF, 0xFF, 0xFF, 0x11,
+];
 
 #[test]
 fn two_units_of_six_packets(rt: HostRuntime) -> Result<(), Fail> {
@@ -225,27 +242,29 @@ fn two_units_of_six_packets(rt: HostRuntime) -> Result<(), Fail> {
     }
     finish(&mut piper, &mut units)?;
     assert!(rt; units.len() == 2 * 188);
-    assert!(rt; units[..6] == [0x47, 0x41, 0x00, 0x10, 0x00, 0xA5]);
-    let (head, payload) = units[188..].split_at(13);
-    assert!(rt;
-        head == [
-            0x47, 0x41, 0x00, 0x31, 7, 0, 0xFF, 0xFF, 0xFF, 0xFF, 0xFF, 0xFF, 0x11
-        ]
-        .as_slice()
-    );
-    assert!(rt; payload == [0xA5; 175].as_slice());
+    assert!(rt; units.starts_with(&[0x47, 0x41, 0x00, 0x10, 0x00, 0xA5]));
+    assert!(rt; units[188..].starts_with(&HEAD) && units.ends_with(&[0xA5; 175]));
     Ok(())
 }
+
+// How units begin: without a start, then one at 183, and with one at 182.
+const STARTS: [(usize, &[u8]); 4] = [
+    (1, &[0x47, 0x01, 0x00, 0x11]),
+    (3, &[0x47, 0x01, 0x00, 0x33, 0, 0]),
+    (4, &[0x47, 0x41, 0x00, 0x14, 0, 0x33]),
+    (5, &[0x47, 0x41, 0x00, 0x15, 182]),
+];
 
 #[test]
 fn a_start_at_183_is_left_for_the_next_unit(rt: HostRuntime) -> Result<(), Fail> {
     let units = stream(rt.alloc())?;
     assert!(rt; units.len() == 32 * 188);
-    // Without a start, then one at 183, and with one at 182.
-    assert!(rt; units[188..192] == [0x47, 0x01, 0x00, 0x11]);
-    assert!(rt; units[3 * 188..3 * 188 + 6] == [0x47, 0x01, 0x00, 0x33, 0, 0]);
-    assert!(rt; units[4 * 188..4 * 188 + 6] == [0x47, 0x41, 0x00, 0x14, 0, 0x33]);
-    assert!(rt; units[5 * 188..5 * 188 + 5] == [0x47, 0x41, 0x00, 0x15, 182]);
+    for (unit, head) in STARTS {
+        assert!(rt;
+            unit < 32 && units[unit * 188..].starts_with(head),
+            "unit {unit}"
+        );
+    }
     Ok(())
 }
 
@@ -298,49 +317,61 @@ const LOADED: [usize; 30] = [
 #[test]
 fn a_packet_at_byte_15801(rt: HostRuntime) -> Result<(), Fail> {
     let units = counted_units(rt.alloc(), &LOADED)?;
-    assert!(rt;
-        carries(
-            rt.alloc(),
-            &units,
-            85,
-            &[0x47, 0x01, 0x00, 0x35, 0x00],
-            15_618
-        )?
-    );
-    assert!(rt;
-        carries(
-            rt.alloc(),
-            &units,
-            86,
-            &[0x47, 0x41, 0x00, 0x16, 0x00],
-            15_801
-        )?
-    );
+    for (unit, head, from) in [
+        (85, [0x47, 0x01, 0x00, 0x35, 0x00], 15_618),
+        (86, [0x47, 0x41, 0x00, 0x16, 0x00], 15_801),
+    ] {
+        assert!(rt;
+            carries(rt.alloc(), &units, unit, &head, from)?,
+            "unit {unit}"
+        );
+    }
     Ok(())
 }
 
-// Starts at 0, at 183 and behind 184 bytes, and a rest of 5.
+// The first units of three packets, of 366, 367 and 5 bytes: the front of each, and the place of the first byte behind it. Packets begin
+// at 0, at 183 and behind 184 bytes.
+const UNITS: [(&[u8], usize); 4] = [
+    (&[0x47, 0x41, 0x00, 0x10, 0x00], 0),
+    (&[0x47, 0x01, 0x00, 0x31, 0x00], 183),
+    (&[0x47, 0x41, 0x00, 0x12, 0x00], 366),
+    (&[0x47, 0x01, 0x00, 0x13], 549),
+];
+
+// The front of the last one: a pointer_field of 0 behind stuffing, since five bytes are left.
+fn last_front() -> [u8; 183] {
+    let mut front = [0xFF; 183];
+    front[..6].copy_from_slice(&[0x47, 0x41, 0x00, 0x34, 0xB1, 0x00]);
+    front[182] = 0;
+    front
+}
+
 #[test]
 fn three_packets_in_five_units(rt: HostRuntime) -> Result<(), Fail> {
     let units = counted_units(rt.alloc(), &[366, 367, 5])?;
     assert!(rt; units.len() == 5 * 188);
-    assert!(rt; carries(rt.alloc(), &units, 0, &[0x47, 0x41, 0x00, 0x10, 0x00], 0)?);
-    assert!(rt; carries(rt.alloc(), &units, 1, &[0x47, 0x01, 0x00, 0x31, 0x00], 183)?);
-    assert!(rt; carries(rt.alloc(), &units, 2, &[0x47, 0x41, 0x00, 0x12, 0x00], 366)?);
-    assert!(rt; carries(rt.alloc(), &units, 3, &[0x47, 0x01, 0x00, 0x13], 549)?);
-    let mut last = [0xFF; 183];
-    last[..6].copy_from_slice(&[0x47, 0x41, 0x00, 0x34, 0xB1, 0x00]);
-    last[182] = 0;
-    assert!(rt; carries(rt.alloc(), &units, 4, &last, 733)?);
+    for (unit, (head, from)) in UNITS.iter().enumerate() {
+        assert!(rt;
+            carries(rt.alloc(), &units, unit, head, *from)?,
+            "unit {unit}"
+        );
+    }
+    assert!(rt; carries(rt.alloc(), &units, 4, &last_front(), 733)?);
     Ok(())
+}
+
+// The one unit of a timestamp.
+fn unit_of(alloc: Global) -> Result<Vec<u8>, AllocError> {
+    let mut piper = Piper::new(PID);
+    let mut units = Vec::new(alloc);
+    pipe(&mut piper, &TIMESTAMP, &mut units)?;
+    finish(&mut piper, &mut units)?;
+    Ok(units)
 }
 
 #[test]
 fn the_packet_that_waits(rt: HostRuntime) -> Result<(), Fail> {
-    let mut piper = Piper::new(PID);
-    let mut units = Vec::new(rt.alloc());
-    pipe(&mut piper, &TIMESTAMP, &mut units)?;
-    finish(&mut piper, &mut units)?;
+    let units = unit_of(rt.alloc())?;
     assert!(rt; units.len() == 188);
     let mut unpiper = Unpiper::open(rt.alloc(), PID)?;
     assert!(rt; unpiper.ready().is_none());
