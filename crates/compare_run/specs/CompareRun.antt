@@ -8,13 +8,13 @@ use Rattle.plp_config.specs.declared.moment.TheConstants.{MOST_FRAMES}
 use Rattle.frame_groups.specs.Laws.{IsPrefix}
 use Rattle.desk_io.specs.Faults.{ReadsFail, WritesFail}
 use Rattle.desk_io.specs.Reading.{longest_file}
-use Rattle.file_run.specs.FileRun.{file_at, OpensInputs, AllShort}
+use Rattle.file_run.specs.FileRun.{file_at, OpensInputs, AllShort, read_ahead}
 use Rattle.line_run.specs.Speaking.{Speaks}
 use Rattle.file_run.specs.declared.stop.RunFault.TheVariants.{TooLong, ReadFault, WriteFault}
 use Rattle.file_run.specs.declared.stop.RunStop.{RunStop}
 use Rattle.file_run.specs.declared.stop.RunStop.TheVariants.{Refused, Files, OutOfMemory}
 use Rattle.modulator.specs.StandsFor.{records_of}
-use Rattle.merge_run.specs.MergeRun.{names_of, AreEarly, end_by, read_ahead}
+use Rattle.merge_run.specs.MergeRun.{names_of, AreEarly, end_by}
 use Rattle.frame_compare.specs.Comparing.{Answered, answers, answers_below}
 use Rattle.frame_compare.specs.Lines.{known_text, text_of}
 use Rattle.frame_compare.specs.Runs.{counts_of, first_differing}

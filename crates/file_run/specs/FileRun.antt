@@ -12,6 +12,10 @@ use Rattle.file_run.specs.declared.machine.Step.TheVariants.{Give}
 use Rattle.file_run.specs.declared.stop.RunFault.{RunFault}
 use Rattle.file_run.specs.declared.stop.RunFault.TheVariants.{TooLong, ReadFault, WriteFault}
 
+-- how many bytes of an input wait at most, of a command that looks at each as it comes
+abbrev pub read_ahead : ℕ
+read_ahead = 65536
+
 -- No input is the output.
 abbrev pub AreApart : List ℕ → List (List ℕ) → Type 0
 AreApart out ins = (input : ℕ) → input < length ins → slice_index_or ins input [] ≢ out

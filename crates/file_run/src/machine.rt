@@ -7,6 +7,9 @@ ghost use Rattle.file_run.specs.declared.machine.Step.TheVariants.{Give};
 /// There is room for so many bytes whenever a machine gives.
 pub const PIECE: usize = 4_096;
 
+/// How many bytes of an input wait at most, of a command that looks at each as it comes.
+pub const AHEAD: u64 = 65_536;
+
 /// What a machine does next.
 #[derive(Clone, Copy, Debug, PartialEq, Eq)]
 pub enum Step {

@@ -63,3 +63,23 @@ pub fn run_over<M: Ending, D: Desk>(
     let ins = [Word::new(alloc, input)?];
     run_one(alloc, machine, out, &ins, desk)
 }
+
+/// The same for a machine of two inputs, which are named.
+pub fn run_over_two<M: Ending, D: Desk>(
+    alloc: Global,
+    machine: &mut M,
+    first: &str,
+    second: &str,
+    out: &str,
+    desk: &mut D,
+) -> Result<M::Ran, RunStop<M::Stop>>
+    requires inputs { M.inputs machine.old ≡ 2 }
+    requires start { M.Becomes machine.old [] machine.old }
+    requires apart_first { first.now ≢ out.now }
+    requires apart_second { second.now ≢ out.now }
+    ensures { RunsOnce (D.state desk.old) (D.state desk.new) out.now (first.now ∷ second.now ∷ []) M.reach M.next
+        (M.Becomes machine.old) M.ending machine.new result }
+{
+    let ins = [Word::new(alloc, first)?, Word::new(alloc, second)?];
+    run_one(alloc, machine, out, &ins, desk)
+}

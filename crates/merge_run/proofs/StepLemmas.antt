@@ -11,7 +11,7 @@ use Rattle.file_run.specs.Steps.{Needs, Suffices, FallsShort}
 use Rattle.file_run.specs.declared.machine.Step.{Step}
 use Rattle.file_run.specs.declared.machine.Step.TheVariants.{Read, Give, End}
 use Rattle.frame_feed.specs.StandsFor.{waiting_of, has_ended}
-use Rattle.merge_run.specs.MergeRun.{read_ahead}
+use Rattle.file_run.specs.FileRun.{read_ahead}
 use Rattle.merge_run.specs.Steps.{is_idle, wants_of, step_at, step_by, step_in, step_of, fed_at}
 use Rattle.merge_run.specs.Taking.{least_of}
 use Rattle.merge_run.specs.declared.merging.Merging.{Merging}

@@ -16,7 +16,7 @@ use Rattle.feed_merge.specs.Laws.{AllBelow}
 use Rattle.feed_merge.specs.Picks.{Picked, picks, picks_below, above_all, frames_of}
 use Rattle.desk_io.specs.Faults.{ReadsFail, WritesFail}
 use Rattle.desk_io.specs.Reading.{longest_file}
-use Rattle.file_run.specs.FileRun.{file_at, OpensInputs, FailsToCreateOutput, Works, AllShort}
+use Rattle.file_run.specs.FileRun.{file_at, OpensInputs, FailsToCreateOutput, Works, AllShort, read_ahead}
 use Rattle.file_run.specs.declared.stop.RunFault.TheVariants.{TooLong, ReadFault, WriteFault}
 use Rattle.file_run.specs.declared.stop.RunStop.{RunStop}
 use Rattle.file_run.specs.declared.stop.RunStop.TheVariants.{Refused, Files, OutOfMemory}
@@ -24,10 +24,6 @@ use Rattle.merge_run.specs.Counted.{counted}
 use Rattle.merge_run.specs.declared.stop.Ran.{Ran}
 use Rattle.merge_run.specs.declared.stop.MergeStop.{MergeStop}
 use Rattle.merge_run.specs.declared.stop.MergeStop.TheVariants.{NoSuperframe, TooManyFrames}
-
--- how many bytes of an input are read ahead at most
-abbrev pub read_ahead : ℕ
-read_ahead = 65536
 
 -- the names of the inputs
 abbrev pub names_of : List ℕ → List ℕ → List (List ℕ)

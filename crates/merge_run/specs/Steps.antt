@@ -1,4 +1,4 @@
--- What two feeds and a merger do next. No public clause cites this module.
+-- What two feeds and a merger do next. The steps for another driver cite it, and no clause of a run.
 use Rattle.std.specs.Prelude.{ℕ, ◌+◌, ◌*◌, ◌==◌, nat_lt, Bool, true, false, List, Option, Some, None}
 use Rattle.std.specs.Prelude.{if◌then◌else◌}
 use Rattle.plp_config.specs.declared.moment.TheConstants.{MOST_FRAMES}
@@ -8,7 +8,7 @@ use Rattle.file_run.specs.declared.machine.Step.TheVariants.{Read, Give, End}
 use Rattle.frame_feed.specs.StandsFor.{waiting_of, has_ended, fed_of}
 use Rattle.frame_feed.specs.StandsFor as feed
 use Rattle.feed_merge.specs.declared.merger.Merger.{Merger}
-use Rattle.merge_run.specs.MergeRun.{read_ahead}
+use Rattle.file_run.specs.FileRun.{read_ahead}
 use Rattle.merge_run.specs.Shown.{more_units, frame_bytes}
 use Rattle.merge_run.specs.Taking.{least_of}
 use Rattle.merge_run.specs.declared.merging.Merging.{Merging}

@@ -4,13 +4,10 @@ ghost use Rattle.frame_feed.specs.StandsFor.{waiting_of, has_ended};
 ghost use Rattle.merge_run.specs.Steps.{is_idle, wants_of, step_by};
 ghost use Rattle.merge_run.specs.Taking.{least_of};
 
-use file_run::Step;
+use file_run::{AHEAD, Step};
 use frame_feed::FrameFeed;
 use frame_groups::Waiting;
 use plp_config::MOST_FRAMES;
-
-/// How many bytes are read ahead at most of each input.
-pub const AHEAD: u64 = 65_536;
 
 // The least number of two that wait.
 fn least(a: Option<Waiting>, b: Option<Waiting>) -> Option<u64>

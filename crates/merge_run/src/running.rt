@@ -1,38 +1,15 @@
 // A run of the merger of a plan.
-ghost use Rattle.std.specs.Prelude.{◌≡◌, ◌≢◌, [], ◌∷◌, IfOk, IfErr};
-ghost use Rattle.file_run.specs.OneRun.{RunsOnce};
+ghost use Rattle.std.specs.Prelude.{◌≢◌, IfOk, IfErr};
 ghost use Rattle.merge_run.specs.MergeRun.{RunsAll, Stops};
 
 use crate::machine::MergeMachine;
 use crate::stop::{MergeStop, Ran};
-use file_run::{Ending, RunStop, events_law, run_one};
+use file_run::{RunStop, events_law, run_over_two};
 use modulator::due_records_law;
 use plp_config::Plan;
 use ports::{Desk, Word};
 use std::alloc::Global;
 use t2mi_stream::complete_law;
-
-// Runs a machine of two inputs, which are named.
-fn run_two<M: Ending, D: Desk>(
-    alloc: Global,
-    machine: &mut M,
-    a: &str,
-    b: &str,
-    out: &str,
-    desk: &mut D,
-) -> Result<M::Ran, RunStop<M::Stop>>
-    requires inputs { M.inputs machine.old ≡ 2 }
-    requires start { M.Becomes machine.old [] machine.old }
-    requires apart_a { a.now ≢ out.now }
-    requires apart_b { b.now ≢ out.now }
-    ensures { RunsOnce (D.state desk.old) (D.state desk.new) out.now (a.now ∷ b.now ∷ []) M.reach M.next (M.Becomes machine.old) M.ending
-        machine.new result }
-{
-    let first = Word::new(alloc, a)?;
-    let second = Word::new(alloc, b)?;
-    let ins = [first, second];
-    run_one(alloc, machine, out, &ins, desk)
-}
 
 /// Runs the merger of a plan: opens both inputs, which may be one file, creates the output, and writes the units of each frame as
 /// soon as both feeds have told of it, before it reads on. It reads 65,536 bytes of each ahead at most. All memory is taken before
@@ -54,5 +31,5 @@ pub fn run<D: Desk>(
     due_records_law();
     complete_law();
     let mut machine = MergeMachine::open(alloc, plan)?;
-    run_two(alloc, &mut machine, a, b, out, desk)
+    run_over_two(alloc, &mut machine, a, b, out, desk)
 }

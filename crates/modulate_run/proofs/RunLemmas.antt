@@ -20,7 +20,7 @@ use Rattle.modulator.specs.StandsFor.{records_due, bytes_due, config_of, fed_of,
 use Rattle.desk_io.specs.Reading.{longest_file}
 use Rattle.file_run.specs.Events.{Event, fed, has_ended, gave}
 use Rattle.file_run.specs.FileRun as driver
-use Rattle.file_run.specs.FileRun.{IsFed, OpensInputs, Writes, ReadsAll}
+use Rattle.file_run.specs.FileRun.{IsFed, OpensInputs, Writes, ReadsAll, read_ahead}
 use Rattle.file_run.specs.Laws.{EventsTell}
 use Rattle.file_run.specs.OneRun.{RunsOnce}
 use Rattle.file_run.specs.Steps.{Needs}
@@ -31,7 +31,7 @@ use Rattle.file_run.specs.declared.stop.RunStop.{RunStop}
 use Rattle.file_run.specs.declared.stop.RunStop.TheVariants.{Refused, Files, OutOfMemory}
 use Rattle.modulate_run.specs.AsMachine.{step_of, Behind, IsNext, IsAll, Becomes, ending_of}
 use Rattle.modulate_run.specs.Counted.{counted}
-use Rattle.modulate_run.specs.ModulateRun.{read_ahead, output_of, AreEarly, RunsAll, FindsNone, HasWritten}
+use Rattle.modulate_run.specs.ModulateRun.{output_of, AreEarly, RunsAll, FindsNone, HasWritten}
 use Rattle.modulate_run.specs.ModulateRun.{GivesTooMuch, HasEarly, MeetsLate, StopsReading, HasSome, StopsWriting, Stops}
 use Rattle.modulate_run.specs.declared.machine.ModulatorMachine.{ModulatorMachine}
 use Rattle.modulate_run.specs.declared.stop.Ran.{Ran}

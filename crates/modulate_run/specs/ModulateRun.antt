@@ -11,7 +11,7 @@ use Rattle.open_group.specs.Written.{spelled}
 use Rattle.modulator.specs.StandsFor.{records_due, bytes_due, records_of}
 use Rattle.desk_io.specs.Faults.{ReadsFail, WritesFail}
 use Rattle.desk_io.specs.Reading.{longest_file}
-use Rattle.file_run.specs.FileRun.{OpensInputs, FailsToCreateOutput, Writes, ReadsAll}
+use Rattle.file_run.specs.FileRun.{OpensInputs, FailsToCreateOutput, Writes, ReadsAll, read_ahead}
 use Rattle.file_run.specs.declared.stop.RunFault.TheVariants.{TooLong, ReadFault, WriteFault}
 use Rattle.file_run.specs.declared.stop.RunStop.{RunStop}
 use Rattle.file_run.specs.declared.stop.RunStop.TheVariants.{Refused, Files, OutOfMemory}
@@ -19,10 +19,6 @@ use Rattle.modulate_run.specs.Counted.{counted}
 use Rattle.modulate_run.specs.declared.stop.Ran.{Ran}
 use Rattle.modulate_run.specs.declared.stop.ModulateStop.{ModulateStop}
 use Rattle.modulate_run.specs.declared.stop.ModulateStop.TheVariants.{NoSuperframe, TooManyFrames}
-
--- how many bytes are read ahead at most
-abbrev pub read_ahead : ℕ
-read_ahead = 65536
 
 -- the bytes of the records of a stream
 abbrev pub output_of : Config → List ℕ → List ℕ

@@ -7,14 +7,11 @@ ghost use Rattle.modulator.specs.StandsFor.{next_of, is_waiting, is_finished};
 use crate::causes::Causes;
 use crate::stop::{ModulateStop, Ran};
 use bit_slice::OutOfMemory;
-use file_run::{Ending, Machine, Step, events_law};
+use file_run::{AHEAD, Ending, Machine, Step, events_law};
 use frame_groups::Waiting;
 use modulator::{Modulator, due_records_law, is_of};
 use plp_config::{MOST_FRAMES, Plan};
 use std::alloc::Global;
-
-/// How many bytes are read ahead at most.
-pub const AHEAD: u64 = 65_536;
 
 /// A modulator that is fed with the bytes of its input and gives the bytes of the records.
 #[derive(Drop)]
@@ -36,7 +33,7 @@ pub struct ModulatorMachine<'p> {
 impl<'p> Machine for ModulatorMachine<'p> {
     ghost use Rattle.modulator.specs.StandsFor.{left_of, fed_of};
     ghost use Rattle.modulate_run.specs.AsMachine.{Becomes, step_of};
-    ghost use Rattle.modulate_run.specs.ModulateRun.{read_ahead};
+    ghost use Rattle.file_run.specs.FileRun.{read_ahead};
     ghost use Rattle.std.specs.Prelude.{◌+◌};
 
     ghost Becomes = { Becomes };

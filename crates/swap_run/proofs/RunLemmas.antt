@@ -15,7 +15,7 @@ use Rattle.frame_feed.specs.StandsFor.{waiting_of}
 use Rattle.frame_feed.specs.StandsFor as feed
 use Rattle.file_run.specs.Events.{Event, fed, has_ended, gave}
 use Rattle.file_run.specs.FileRun as driver
-use Rattle.file_run.specs.FileRun.{AreFed}
+use Rattle.file_run.specs.FileRun.{AreFed, read_ahead}
 use Rattle.file_run.specs.Laws.{EventsTell}
 use Rattle.file_run.specs.OneRun.{RunsOnce}
 use Rattle.file_run.specs.declared.machine.Step.TheVariants.{Give, End, Read}
@@ -31,7 +31,7 @@ use Rattle.swap_run.specs.AsMachine.{Becomes, ending_in, ending_of}
 use Rattle.swap_run.specs.Shown.{Shown, IsIn, IsDone}
 use Rattle.swap_run.specs.Shown as shown
 use Rattle.swap_run.specs.Steps.{step_in, step_of, reach_of, input_reach, drained, record_step, packet_step, drain_step, most_packets}
-use Rattle.swap_run.specs.SwapRun.{read_ahead, names_of, SwapsAll, RunsAll, HasNone, FindsNone, MeetsBad, StopsAtBad, HasLate, MeetsLate, HasWritten}
+use Rattle.swap_run.specs.SwapRun.{names_of, SwapsAll, RunsAll, HasNone, FindsNone, MeetsBad, StopsAtBad, HasLate, MeetsLate, HasWritten}
 use Rattle.swap_run.specs.SwapRun.{slots_of, ReadsNoFurther, GivesTooMuch, StopsReading, AreWritten, MayWrite, HasSome, StopsWriting, Stops}
 use Rattle.swap_run.specs.declared.machine.SwapMachine.{SwapMachine}
 use Rattle.swap_run.specs.declared.phase.Phase.{Phase}

@@ -11,7 +11,8 @@ use Rattle.merge_run.specs.Steps.{is_idle}
 use Rattle.merge_run.proofs.StepLemmas.{idle_is}
 use Rattle.region_swap.specs.StandsFor.{wants_of}
 use Rattle.swap_run.specs.Steps.{record_step, packet_step, drain_step, step_in, step_of, most_packets}
-use Rattle.swap_run.specs.SwapRun.{read_ahead, least_of}
+use Rattle.file_run.specs.FileRun.{read_ahead}
+use Rattle.swap_run.specs.SwapRun.{least_of}
 use Rattle.swap_run.specs.declared.phase.Phase.{Phase}
 use Rattle.swap_run.specs.declared.phase.Phase.TheVariants as phase
 use Rattle.swap_run.specs.declared.swapping.Swapping.{Swapping}

@@ -11,7 +11,7 @@ use Rattle.merge_run.specs.Steps.{is_idle}
 use Rattle.region_swap.specs.StandsFor.{status_of, wants_of}
 use Rattle.region_swap.specs.declared.swapper.Swapper.{Swapper}
 use Rattle.swap_run.specs.Shown.{more_units, frame_bytes}
-use Rattle.swap_run.specs.SwapRun.{read_ahead}
+use Rattle.file_run.specs.FileRun.{read_ahead}
 use Rattle.swap_run.specs.declared.phase.Phase.{Phase}
 use Rattle.swap_run.specs.declared.phase.Phase.TheVariants.{Records, Packets, Units, Drains, Rests, Done, Stopped}
 use Rattle.swap_run.specs.declared.stop.SwapStop.TheVariants.{NoSuperframe, InputRefused, TooManyFrames}

@@ -23,17 +23,13 @@ use Rattle.merge_run.specs.MergeRun.{AreEarly}
 use Rattle.region_swap.specs.Swapped.{swapped}
 use Rattle.desk_io.specs.Faults.{ReadsFail, WritesFail}
 use Rattle.desk_io.specs.Reading.{longest_file}
-use Rattle.file_run.specs.FileRun.{file_at, OpensInputs, FailsToCreateOutput, Works, AllShort}
+use Rattle.file_run.specs.FileRun.{file_at, OpensInputs, FailsToCreateOutput, Works, AllShort, read_ahead}
 use Rattle.file_run.specs.declared.stop.RunFault.TheVariants.{TooLong, ReadFault, WriteFault}
 use Rattle.file_run.specs.declared.stop.RunStop.{RunStop}
 use Rattle.file_run.specs.declared.stop.RunStop.TheVariants.{Refused, Files, OutOfMemory}
 use Rattle.swap_run.specs.declared.stop.Ran.{Ran}
 use Rattle.swap_run.specs.declared.stop.SwapStop.{SwapStop}
 use Rattle.swap_run.specs.declared.stop.SwapStop.TheVariants.{NoSuperframe, InputRefused, TooManyFrames}
-
--- how many bytes of the T2-MI stream, and of the rest of the input, are read ahead at most
-abbrev pub read_ahead : ℕ
-read_ahead = 65536
 
 -- the names of the inputs: the T2-MI stream is input 0, and the transport stream of the region input 1
 abbrev pub names_of : List ℕ → List ℕ → List (List ℕ)

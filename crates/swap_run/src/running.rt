@@ -1,38 +1,15 @@
 // A run of the swapper of a plan.
-ghost use Rattle.std.specs.Prelude.{◌≡◌, ◌≢◌, ◌<◌, [], ◌∷◌, length, IfOk, IfErr};
-ghost use Rattle.file_run.specs.OneRun.{RunsOnce};
+ghost use Rattle.std.specs.Prelude.{◌≢◌, ◌<◌, length, IfOk, IfErr};
 ghost use Rattle.swap_run.specs.SwapRun.{RunsAll, Stops};
 
 use crate::machine::SwapMachine;
 use crate::stop::{Ran, SwapStop};
-use file_run::{Ending, RunStop, events_law, run_one};
+use file_run::{RunStop, events_law, run_over_two};
 use modulator::due_records_law;
 use plp_config::{Plan, length_law, slot_time_law};
 use ports::{Desk, Word};
 use std::alloc::Global;
 use t2mi_stream::complete_law;
-
-// Runs a machine of two inputs, which are named.
-fn run_two<M: Ending, D: Desk>(
-    alloc: Global,
-    machine: &mut M,
-    first: &str,
-    second: &str,
-    out: &str,
-    desk: &mut D,
-) -> Result<M::Ran, RunStop<M::Stop>>
-    requires inputs { M.inputs machine.old ≡ 2 }
-    requires start { M.Becomes machine.old [] machine.old }
-    requires apart_first { first.now ≢ out.now }
-    requires apart_second { second.now ≢ out.now }
-    ensures { RunsOnce (D.state desk.old) (D.state desk.new) out.now (first.now ∷ second.now ∷ []) M.reach M.next
-        (M.Becomes machine.old) M.ending machine.new result }
-{
-    let one = Word::new(alloc, first)?;
-    let other = Word::new(alloc, second)?;
-    let ins = [one, other];
-    run_one(alloc, machine, out, &ins, desk)
-}
 
 /// Runs the swapper of a plan for the PLP at a place: opens the T2-MI stream and the transport stream that replaces it, which may be
 /// one file, creates the output, and goes record by record through the stream; of the input it reads the packets of the slots that are
@@ -59,5 +36,5 @@ pub fn run<D: Desk>(
     slot_time_law();
     length_law();
     let mut machine = SwapMachine::open(alloc, plan, plp)?;
-    run_two(alloc, &mut machine, t2mi, input, out, desk)
+    run_over_two(alloc, &mut machine, t2mi, input, out, desk)
 }

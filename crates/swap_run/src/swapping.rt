@@ -19,7 +19,7 @@ use crate::phase::Phase;
 use crate::sending::{begin_frame, next_units};
 use crate::stop::{Ran, SwapStop};
 use bit_slice::OutOfMemory;
-use file_run::{Step, events_law};
+use file_run::{AHEAD, Step, events_law};
 use formed_frames::formed_law;
 use frame_feed::{FrameFeed, RecordBuffer};
 use frame_groups::Waiting;
@@ -31,9 +31,6 @@ use record_laws::{fit_law, id_law};
 use region_swap::Swapper;
 use std::alloc::Global;
 use ts_packet::{SIZE, SYNC};
-
-/// How many bytes are read ahead at most of the T2-MI stream, and of the rest of the input.
-pub const AHEAD: u64 = 65_536;
 
 // No more packets than these are to wait.
 const PACKETS: u64 = 1 << 30;

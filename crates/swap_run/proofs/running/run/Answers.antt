@@ -9,7 +9,7 @@ use Rattle.swap_run.proofs.running.run.Goals as goal
 pub returns-clause-ok : goal.returns-clause-ok
 returns-clause-ok g c =
     let old = g.D.Desk.state c.args.desk.now in
-    let new = g.D.Desk.state c.run_two.new.desk in
+    let new = g.D.Desk.state c.run_over_two.new.desk in
     let law : Laws = record {
       tell = c.events_law.ensures;
       front = c.due_records_law.ensures.front;
@@ -20,16 +20,16 @@ returns-clause-ok g c =
       slot = c.length_law.ensures.slot;
     } in
     let machine = c.in_ok-machine.machine in
-    subst (λ (p : ℕ). IfOk c.run_two.result (RunsAll c.args.plan.now p old new c.args.t2mi.now c.args.input.now c.args.out.now))
+    subst (λ (p : ℕ). IfOk c.run_over_two.result (RunsAll c.args.plan.now p old new c.args.t2mi.now c.args.input.now c.args.out.now))
     c.in_ok-machine.ensures.place
-    (subst (λ (k : Config). IfOk c.run_two.result (RunsAll k (status_of machine.swapping.swapper).plp old new c.args.t2mi.now c.args.input.now c.args.out.now))
+    (subst (λ (k : Config). IfOk c.run_over_two.result (RunsAll k (status_of machine.swapping.swapper).plp old new c.args.t2mi.now c.args.input.now c.args.out.now))
     c.in_ok-machine.ensures.plan
-    ((answers law machine c.run_two.new.machine old new c.args.t2mi.now c.args.input.now c.args.out.now c.run_two.result c.run_two.ensures).0))
+    ((answers law machine c.run_over_two.new.machine old new c.args.t2mi.now c.args.input.now c.args.out.now c.run_over_two.result c.run_over_two.ensures).0))
 
 pub returns-clause-err : goal.returns-clause-err
 returns-clause-err g c =
     let old = g.D.Desk.state c.args.desk.now in
-    let new = g.D.Desk.state c.run_two.new.desk in
+    let new = g.D.Desk.state c.run_over_two.new.desk in
     let law : Laws = record {
       tell = c.events_law.ensures;
       front = c.due_records_law.ensures.front;
@@ -40,8 +40,8 @@ returns-clause-err g c =
       slot = c.length_law.ensures.slot;
     } in
     let machine = c.in_ok-machine.machine in
-    subst (λ (p : ℕ). IfErr c.run_two.result (Stops c.args.plan.now p old new c.args.t2mi.now c.args.input.now c.args.out.now))
+    subst (λ (p : ℕ). IfErr c.run_over_two.result (Stops c.args.plan.now p old new c.args.t2mi.now c.args.input.now c.args.out.now))
     c.in_ok-machine.ensures.place
-    (subst (λ (k : Config). IfErr c.run_two.result (Stops k (status_of machine.swapping.swapper).plp old new c.args.t2mi.now c.args.input.now c.args.out.now))
+    (subst (λ (k : Config). IfErr c.run_over_two.result (Stops k (status_of machine.swapping.swapper).plp old new c.args.t2mi.now c.args.input.now c.args.out.now))
     c.in_ok-machine.ensures.plan
-    ((answers law machine c.run_two.new.machine old new c.args.t2mi.now c.args.input.now c.args.out.now c.run_two.result c.run_two.ensures).1))
+    ((answers law machine c.run_over_two.new.machine old new c.args.t2mi.now c.args.input.now c.args.out.now c.run_over_two.result c.run_over_two.ensures).1))
