@@ -26,7 +26,7 @@ pub fn single(frame: u64, answer: Answer) -> Run
 }
 
 impl Run {
-    // Whether it goes on with a frame.
+    /// Whether it goes on with a frame.
     pub fn goes_on(self, frame: u64, answer: Answer) -> bool
         requires { self.last < 2 ^ 63 }
         ensures { result ≡ goes_on_by self (answered frame answer) }

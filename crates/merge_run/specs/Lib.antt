@@ -1,9 +1,10 @@
 pub mod Counted
 pub mod Laws
 pub mod MergeRun
+-- of the steps for another driver
+pub mod Steps
+pub mod Taking
 -- inner: no public clause cites these
 pub mod AsMachine
 pub mod Sending
 pub mod Shown
-pub mod Steps
-pub mod Taking

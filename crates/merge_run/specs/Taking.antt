@@ -1,4 +1,4 @@
--- What is taken of two feeds. No public clause cites this module.
+-- What is taken of two feeds. The steps for another driver cite it, and no clause of a run.
 use Rattle.std.specs.Prelude.{◌≡◌, ℕ, ◌<◌, min, Bool, true, false, not, is_some, List, [], ◌∷◌, ◌++◌, Option, Some, None}
 use Rattle.plp_config.specs.declared.moment.TheConstants.{MOST_FRAMES}
 use Rattle.frame_groups.specs.Modulated.{FrameRecord}

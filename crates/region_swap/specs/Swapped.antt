@@ -13,13 +13,9 @@ use Rattle.site_frame.specs.Record.{Block}
 use Rattle.site_frame.specs.declared.reading.RecordView.{RecordView}
 use Rattle.site_frame.specs.declared.reading.RecordView.TheVariants.{Frame, Muted}
 use Rattle.frame_tests.specs.Readable.{told_dynamic}
-use Rattle.record_laws.specs.Frames.{sent_block, frame_cells, frame_of}
+use Rattle.record_laws.specs.Frames.{sent_block, frame_cells}
 use Rattle.gateway_core.specs.Signalling.{dyn_part}
 use Rattle.formed_frames.specs.Remade.{NumberedView}
-
--- frame n of a run with these inputs, for any n
-abbrev pub frame_at : Config → (ℕ → List (List ℕ)) → ℕ → RecordView
-frame_at c inputs n = frame_of c inputs n
 
 -- one of so many PLPs, from a place on, has this identifier (PLP_ID)
 abbrev pub is_among : Config → ℕ → ℕ → ℕ → Bool

@@ -1,8 +1,8 @@
 -- In which order the inputs are looked at: group by group, slot by slot, input by input.
-use Rattle.std.specs.Prelude.{◌≡◌, ◌⊎◌, ℕ, ◌*◌, ◌<◌, ◌==◌, Bool, false, List, [], ◌∷◌, length, unwrap_or, if◌then◌else◌}
+use Rattle.std.specs.Prelude.{◌≡◌, ◌⊎◌, ℕ, ◌*◌, ◌<◌, ◌==◌, Bool, false, List, length, unwrap_or, if◌then◌else◌}
 use Rattle.plp_config.specs.SlotTime.{slots_by}
 use Rattle.plp_config.specs.declared.config.Config.{Config}
-use Rattle.common_plp.specs.Groups.{is_common, common_of, group_of, is_own_in, own_places}
+use Rattle.common_plp.specs.Groups.{is_common, common_of, group_of, is_own_in}
 use Rattle.gateway_core.specs.Events.{Event, offered, has_ended, begun}
 
 -- A PLP has an input: it is not common.
@@ -13,12 +13,9 @@ IsInput c plp = (plp < length c.plps) × (is_common c plp ≡ false)
 abbrev pub turn_of : Config → ℕ → ℕ
 turn_of c plp = unwrap_or (common_of c plp) plp
 
--- whether a PLP has an input in the group whose first PLP is this one, and all that have
+-- whether a PLP has an input in the group whose first PLP is this one
 abbrev pub is_member : Config → ℕ → ℕ → Bool
 is_member c turn plp = if is_common c turn then is_own_in c (group_of c turn) plp else plp == turn
-
-abbrev pub members : Config → ℕ → List ℕ
-members c turn = if is_common c turn then own_places c (group_of c turn) else turn ∷ []
 
 -- A slot of a PLP is looked at before one of another: that of an earlier group, or of the same group an earlier slot, or the same
 -- slot of an earlier PLP.
