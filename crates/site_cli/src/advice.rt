@@ -2,8 +2,8 @@
 use crate::config_place::{config_again, is_data, plp_line, text_of};
 use crate::help::{COMMANDS, may_mean, meant_by, why_no_command};
 use crate::pids::say_pids;
-use crate::shown::{Shown, Told};
 use config_text::{TextFault, TextWhy};
+use desk_watch::{Shown, Told};
 use plp_config::{CapacityFault, Config, ConfigFault, MOST_FRAMES, PlpType};
 use ports::HostFault;
 use site_frame::RecordWhy;

@@ -1,10 +1,9 @@
 // What the program does with its words.
 use crate::advice::{advise, warn};
-use crate::damage::Damage;
-use crate::help;
-use crate::progress::Watched;
-use crate::shown::Told;
-use crate::stream_time::StreamTime;
+use crate::counts::{counts_of, plan_of};
+use crate::help::{self, Asked};
+use desk_watch::{RunCounts, Told, Watched};
+use plp_config::Plan;
 use ports::{Desk, HostDesk, HostFault, Reason};
 use site_top::{Outcome, Word, request_of, run};
 use std::alloc::Global;
@@ -23,6 +22,50 @@ fn run_watched<D: Desk, R: Clock + Eprint>(
     outcome
 }
 
+// Says what was counted of a run that ended so, as far as standard error takes it.
+fn say_counts(rt: &impl Eprint, counts: &RunCounts<'_>, outcome: Outcome) {
+    let _ = match outcome {
+        Outcome::Done => counts.say_done(rt),
+        Outcome::NoSuperframe => counts.say_none(rt),
+        _ => Ok(()),
+    };
+}
+
+// Carries a command out, and tells people what came of it, with what is counted by a plan of its configuration.
+fn follow<R: Files + Print + Eprint + Clock + AllocGlobal>(
+    rt: &R,
+    program: &str,
+    words: &[Word],
+    wanted: bool,
+    plan: Option<&Plan>,
+) -> Outcome {
+    let counts = counts_of(rt.alloc(), request_of(words), plan);
+    let mut desk = Watched::new(HostDesk::new(rt, rt.alloc()), rt, wanted, counts);
+    let outcome = run_watched(rt.alloc(), words, &mut desk);
+    advise(
+        rt,
+        program,
+        words,
+        outcome,
+        desk.desk.first_fault(),
+        desk.lines == 1,
+    );
+    say_counts(rt, &desk.counts, outcome);
+    outcome
+}
+
+// Answers what is asked for.
+fn answer(rt: &(impl Print + Eprint), program: &str, asked: Asked<'_>) -> Outcome {
+    match help::say(rt, program, asked) {
+        Ok(()) => Outcome::Done,
+        Err(why) => {
+            let why = Reason::from(why);
+            let _ = eprintln!(rt; "{}", Told(&HostFault::Said { why }));
+            Outcome::WriteFault
+        }
+    }
+}
+
 /// Answers what the words ask for, or carries out the command that they name, over the files of the system, and tells people, who
 /// know the program by this name, why it is not done: how it ended. If it is wanted, a line tells how far it is.
 pub fn carry_out<R: Files + Print + Eprint + Clock + AllocGlobal>(
@@ -36,32 +79,9 @@ pub fn carry_out<R: Files + Print + Eprint + Clock + AllocGlobal>(
     let _second = File::open(rt, "/dev/null");
     let _third = File::open(rt, "/dev/null");
     if let Some(asked) = help::asked_of(words) {
-        return match help::say(rt, program, asked) {
-            Ok(()) => Outcome::Done,
-            Err(why) => {
-                let why = Reason::from(why);
-                let _ = eprintln!(rt; "{}", Told(&HostFault::Said { why }));
-                Outcome::WriteFault
-            }
-        };
+        return answer(rt, program, asked);
     }
     warn(rt, words);
-    let request = request_of(words);
-    let stream = match request {
-        Some(request) if wanted => StreamTime::of(rt, request),
-        _ => None,
-    };
-    let damage = Damage::of(rt, request);
-    let mut desk = Watched::new(HostDesk::new(rt, rt.alloc()), rt, wanted, stream, damage);
-    let outcome = run_watched(rt.alloc(), words, &mut desk);
-    advise(
-        rt,
-        program,
-        words,
-        outcome,
-        desk.desk.first_fault(),
-        desk.lines == 1,
-    );
-    desk.damage.say(rt, outcome);
-    outcome
+    let plan = plan_of(rt, request_of(words));
+    follow(rt, program, words, wanted, plan.as_ref())
 }

@@ -1,7 +1,7 @@
 // Where in the text of CONFIG a refusal is, looked at again for people.
 use crate::front::front_of;
 use config_text::LONGEST_TEXT;
-use plp_config::Config;
+use plp_config::{Config, Plan, fits, validate};
 use std::fs::{self, Files};
 use std::io::{self, ErrorKind};
 use std::str;
@@ -18,6 +18,12 @@ pub fn text_of(rt: &(impl Files + AllocGlobal), name: &str) -> io::Result<Vec<u8
 /// The configuration of a named file, if it can be read again.
 pub fn config_again(rt: &(impl Files + AllocGlobal), name: &str) -> Option<Config> {
     config_text::read(rt.alloc(), &text_of(rt, name).ok()?).ok()
+}
+
+/// The plan of a named file, if it can be read again.
+pub fn plan_again(rt: &(impl Files + AllocGlobal), name: &str) -> Option<Plan> {
+    let valid = validate(config_again(rt, name)?).ok()?;
+    fits(valid).ok()
 }
 
 /// Whether it begins as a transport stream or as other data that is no text.

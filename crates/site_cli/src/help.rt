@@ -3,7 +3,7 @@ use site_top::Word;
 use std::io::{self, Print};
 
 // The version of the program, and the toolchain that it is written for.
-const VERSION: &str = "0.2.0";
+const VERSION: &str = "0.3.0";
 
 const KIT: &str = "rattle-kit-13f";
 

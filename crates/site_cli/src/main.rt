@@ -8,18 +8,12 @@ ghost use Rattle.site_top.specs.Outcomes.{status_of};
 mod advice;
 mod command;
 mod config_place;
-mod damage;
-mod frame_count;
+mod counts;
 mod front;
 mod help;
-mod muted;
 mod pids;
-mod progress;
-mod shown;
-mod stream_time;
 #[cfg(test)]
 mod tests;
-mod units;
 mod words;
 
 use advice::advise;

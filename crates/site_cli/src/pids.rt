@@ -1,6 +1,6 @@
 // On which PID `show t2mi` looked, and which others the file has.
 use crate::front::front_of;
-use crate::shown::Shown;
+use desk_watch::Shown;
 use std::fmt::{self, Display, Formatter, Write};
 use std::fs::{self, Files};
 use std::io::{self, Eprint};

@@ -22,13 +22,24 @@ impl Display for Shown<'_> {
 
 // Reasons of the system that have no kind, by their numbers.
 #[rattlefmt::skip]
-const REASONS: [(i32, &str); 6] = [
+const REASONS: [(i32, &str); 17] = [
     (5, "input/output error"),
     (6, "no such device or address"),
     (9, "it is closed, or not open for that"),
     (19, "no such device"),
     (23, "too many files are open in the system"),
     (24, "too many files are open"),
+    (61, "no data available"),
+    (67, "link has been severed"),
+    (70, "communication error on send"),
+    (71, "protocol error"),
+    (74, "bad message"),
+    (75, "value too large"),
+    (105, "no buffer space available"),
+    (112, "host is down"),
+    (117, "structure needs cleaning"),
+    (121, "remote input/output error"),
+    (123, "no medium found"),
 ];
 
 // Why a call failed, in words.

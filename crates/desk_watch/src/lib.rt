@@ -1,0 +1,26 @@
+//! A run as people follow it: a desk that is watched, how far the run is, and what of it was sent, passed over or damaged, counted from
+//! the bytes that pass. Words for people, on standard error: no clause tells them.
+#![tactic(auto)]
+
+mod counts;
+mod input;
+mod l1_test;
+mod notes;
+mod packets;
+mod progress;
+mod records;
+mod runs;
+mod said;
+mod shown;
+mod stream_time;
+mod t2mi;
+mod telling;
+#[cfg(test)]
+mod tests;
+mod units;
+mod watched;
+
+pub use counts::RunCounts;
+pub use shown::{Shown, Told};
+pub use stream_time::Seconds;
+pub use watched::Watched;

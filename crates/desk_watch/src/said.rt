@@ -1,0 +1,70 @@
+// What the lines of a run tell of its inputs.
+
+// How the line of `merge` begins, and how it tells that no frame came from A, and from B.
+const MERGED: &[u8] = b"merged ";
+
+const NONE_FROM_A: &[u8] = b" a=0 ";
+
+const NONE_FROM_B: &[u8] = b" b=0 ";
+
+// How the line of `swap` tells that no packet of IN was left at the end.
+const NONE_LEFT: &[u8] = b" unsent=0 ";
+
+// How a line of `compare` tells that frames are in A or in B alone, or in both.
+const ONLY_A: &[u8] = b" is=only-a";
+
+const ONLY_B: &[u8] = b" is=only-b";
+
+const IN_BOTH: [&[u8]; 3] = [b" is=same", b" is=muted-", b" is=differs"];
+
+/// What the lines of `merge`, `swap` and `compare` tell of their inputs.
+#[derive(Clone, Copy)]
+pub struct Said {
+    /// Frames came from the first of two streams.
+    pub some_of_first: bool,
+    /// Frames came from the second one.
+    pub some_of_second: bool,
+    /// Those of the first were taken before those of the second.
+    pub first_is_taken: bool,
+    /// No packet of IN was left at the end.
+    pub none_left: bool,
+}
+
+// Whether a text has a part.
+fn has(text: &[u8], part: &[u8]) -> bool {
+    text.windows(part.len().max(1)).any(|bytes| bytes == part)
+}
+
+impl Said {
+    /// Nothing was said.
+    pub fn new() -> Said {
+        Said {
+            some_of_first: false,
+            some_of_second: false,
+            first_is_taken: false,
+            none_left: false,
+        }
+    }
+
+    fn take_merged(&mut self, text: &[u8]) {
+        self.first_is_taken = true;
+        self.some_of_first = !has(text, NONE_FROM_A);
+        self.some_of_second = !has(text, NONE_FROM_B);
+    }
+
+    fn take_compared(&mut self, text: &[u8]) {
+        let in_both = IN_BOTH.iter().any(|part| has(text, part));
+        self.some_of_first = self.some_of_first || in_both || has(text, ONLY_A);
+        self.some_of_second = self.some_of_second || in_both || has(text, ONLY_B);
+    }
+
+    /// A text was said.
+    pub fn take(&mut self, text: &[u8]) {
+        self.none_left = self.none_left || has(text, NONE_LEFT);
+        if text.starts_with(MERGED) {
+            self.take_merged(text);
+        } else {
+            self.take_compared(text);
+        }
+    }
+}

@@ -1,0 +1,120 @@
+// What is told of the files of a run that is done.
+use super::{CONFIG, Outside, words_from};
+use crate::command::carry_out;
+use crate::front::front_of;
+use bit_slice::OutOfMemory;
+use site_top::Outcome;
+use std::fs::{self, Files};
+use std::io;
+use std::test::Fail;
+use ts_packet::SIZE;
+
+// Whether a command is done, and people are told this of it.
+fn tells<R: Files + AllocGlobal + Drop>(
+    rt: R,
+    words: &[&str],
+    told: &str,
+) -> Result<bool, OutOfMemory> {
+    let words = words_from(rt.alloc(), words)?;
+    let outside = Outside::new(rt, true);
+    let outcome = carry_out(&outside, "site_cli", &words, false);
+    Ok(outcome == Outcome::Done && outside.has_heard(told))
+}
+
+// What a run over the files of `make_files` is told as.
+struct Heard {
+    words: &'static [&'static str],
+    told: &'static str,
+}
+
+// The stream of no packet, and of one, has four frames, each with room for four blocks. A frame wants 14 packets.
+#[rattlefmt::skip]
+static HEARD: [Heard; 12] = [
+    Heard { words: &["gateway", "two.txt", "two.out", "two.none"],
+        told: "two.none: it has no packet; null packets stand for it\nPLP 0: blocks sent: 0, of 16 that 4 frames have room for\n" },
+    Heard { words: &["gateway", "two.txt", "two.out", "two.null"],
+        told: "two.null: packets: 1, null packets among them: 1; these are deleted\nPLP 0: blocks sent: 0, of 16 that 4 frames have room for\n" },
+    Heard { words: &["common", "gateway", "two.txt", "two.ts", "two.packet"],
+        told: "two.packet: packets: 1, null packets among them: 0\nPLP 0: blocks sent: 1, of 16 that 4 frames have room for\n" },
+    Heard { words: &["swap", "two.txt", "0", "two.ts", "two.none", "two.out"], told: "two.none: it has no packet; null packets stand for it\n" },
+    Heard { words: &["swap", "two.txt", "0", "two.ts", "two.null", "two.out"],
+        told: "two.null: its packets end before frame 1 of CONFIG; null packets stand for it from there on, if OUT goes on so far\n" },
+    Heard { words: &["compare", "two.txt", "two.ts", "two.ts"], told: "" },
+    Heard { words: &["compare", "two.txt", "two.none", "two.ts"], told: "two.none: no frame came from it: it has no unit of 188 bytes\n" },
+    Heard { words: &["compare", "two.txt", "two.ts", "two.none"], told: "two.none: no frame came from it: it has no unit of 188 bytes\n" },
+    Heard { words: &["merge", "two.txt", "two.ts", "two.ts", "two.out"],
+        told: "two.ts: no frame came from it: each that it has is in two.ts too, or it has none\n" },
+    Heard { words: &["merge", "two.txt", "two.ts", "two.none", "two.out"], told: "two.none: no frame came from it: it has no unit of 188 bytes\n" },
+    Heard { words: &["modulate", "two.txt", "two.out", "two.records"], told: "" },
+    Heard { words: &["receive", "two.txt", "0", "two.records", "two.out"], told: "" },
+];
+
+#[rattlefmt::skip]
+const NAMES: [&str; 8] = ["two.txt", "two.none", "two.null", "two.packet", "two.ts", "two.records", "two.damaged", "two.out"];
+
+// A bit that is changed in the last records of `HEARD`, by the place of its byte, and what `receive` tells of them then: in the L1-pre of
+// record 0, and in the header of the one block, which record 1 has.
+struct Damaged {
+    place: usize,
+    told: &'static str,
+}
+
+#[rattlefmt::skip]
+static DAMAGED: [Damaged; 2] = [
+    Damaged { place: 24,
+        told: "two.damaged: frames whose L1 is not that of CONFIG: 1 of 4, records 0, counted from 0; null packets stand in OUT for what they carried\n" },
+    Damaged { place: 160_103 + 24 + 25 + 4 + 44 + 2 + 4,
+        told: "two.damaged: blocks whose header is damaged: 1, in records 1, counted from 0; null packets stand in OUT for what they carried\n" },
+];
+
+// More bytes than the records of `HEARD` have.
+const RECORDS: usize = 1 << 20;
+
+// Makes the damaged records.
+fn damage(rt: &(impl Files + AllocGlobal), place: usize) -> io::Result<()> {
+    let mut records = front_of(rt, "two.records", RECORDS)?;
+    if let Some(byte) = records.get_mut(place) {
+        *byte ^= 1;
+    }
+    fs::write(rt, "two.damaged", &records)
+}
+
+// A packet of a PID.
+fn packet_of(pid: u16) -> [u8; SIZE] {
+    let mut packet = [0xFF; SIZE];
+    let [high, low] = pid.to_be_bytes();
+    for (place, byte) in packet.iter_mut().zip([0x47, high, low, 0x10]) {
+        *place = byte;
+    }
+    packet
+}
+
+// A configuration, an empty file, a null packet, and another one.
+fn make_files(rt: &impl Files) -> io::Result<()> {
+    fs::write(rt, "two.txt", CONFIG.as_bytes())?;
+    fs::write(rt, "two.none", b"")?;
+    fs::write(rt, "two.null", &packet_of(0x1FFF))?;
+    fs::write(rt, "two.packet", &packet_of(256))
+}
+
+fn remove_files(rt: &impl Files) -> io::Result<()> {
+    for name in NAMES {
+        fs::remove_file(rt, name)?;
+    }
+    Ok(())
+}
+
+#[test]
+fn it_is_told_what_came_of_each_file(rt: HostRuntime) -> Result<(), Fail> {
+    make_files(&rt)?;
+    for (at, heard) in HEARD.iter().enumerate() {
+        assert!(rt; tells(&rt, heard.words, heard.told)?, "words {at}");
+    }
+    for (at, damaged) in DAMAGED.iter().enumerate() {
+        damage(&rt, damaged.place)?;
+        let words = ["receive", "two.txt", "0", "two.damaged", "two.out"];
+        assert!(rt; tells(&rt, &words, damaged.told)?, "damage {at}");
+    }
+    remove_files(&rt)?;
+    Ok(())
+}
