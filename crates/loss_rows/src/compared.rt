@@ -1,11 +1,10 @@
 // Two streams of one run, each of which lost units, compared. Of the loaded network unit 0 has all of frame 0, the units 15 (n - 1) to
 // 15 n have frame n, for n from 1 to 8, and the last two the frames 9 to 11.
 
-use crate::damaged::{Damage, damaged};
-use row_bench::{LOADED, LOADED_INPUT, bytes_of, done};
+use crate::damaged::{Damage, make_stream, put_damaged};
+use row_bench::Bench;
+use std::process::Abort;
 use std::test::Fail;
-
-const COMPARE: [&str; 4] = ["compare", "c", "a", "b"];
 
 // Units that are lost of either stream, and what is said.
 struct Row {
@@ -31,19 +30,29 @@ static ROWS: [Row; 3] = [
     },
 ];
 
-#[test]
-fn of_damaged_copies_no_frame_differs(rt: HostRuntime) -> Result<(), Fail> {
-    let alloc = rt.alloc();
-    let config = bytes_of(alloc, &LOADED)?;
-    let input = bytes_of(alloc, &LOADED_INPUT)?;
-    let words = ["gateway", "c", "o", "0"];
-    let (_, stream) = done(&rt, "the stream", &config, &[("0", &input)], &words)?;
+// Two copies of the stream are compared. No file is written.
+fn row_holds(rt: &impl Abort, bench: &mut Bench, row: &Row) -> Result<(), Fail> {
+    put_damaged(bench, "t", "a", row.a, Damage::Lost)?;
+    put_damaged(bench, "t", "b", row.b, Damage::Lost)?;
+    bench.done(row.why, &["compare", "c", "a", "b"])?;
+    assert!(rt;
+        bench.answer() == row.said.as_bytes() && bench.file("o").is_none(),
+        "{}",
+        row.why
+    );
+    Ok(())
+}
+
+fn all_rows_hold(rt: &impl Abort, bench: &mut Bench) -> Result<(), Fail> {
     for row in &ROWS {
-        let a = damaged(alloc, &stream, row.a, Damage::Lost)?;
-        let b = damaged(alloc, &stream, row.b, Damage::Lost)?;
-        let (said, out) = done(&rt, row.why, &config, &[("a", &a), ("b", &b)], &COMPARE)?;
-        assert!(rt; said.as_slice() == row.said.as_bytes(), "{}", row.why);
-        assert!(rt; out.is_empty(), "{}", row.why);
+        row_holds(rt, bench, row)?;
     }
     Ok(())
+}
+
+#[test]
+fn of_damaged_copies_no_frame_differs(rt: HostRuntime) -> Result<(), Fail> {
+    let mut bench = Bench::new(rt.alloc());
+    make_stream(&mut bench)?;
+    all_rows_hold(&rt, &mut bench)
 }

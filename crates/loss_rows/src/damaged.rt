@@ -1,10 +1,9 @@
 // A stream of 123 units for twelve frames of a loaded network, in which units are lost or altered. Which records must come was
 // counted by another program, from the lengths of the packets and the units that carry them.
 
-use row_bench::{
-    EMPTY_RECORD, LOADED, LOADED_INPUT, MUTED_HEAD, SUBSECONDS, THREE_BLOCKS, bytes_of, done,
-};
-use std::alloc::Global;
+use row_bench::{Bench, EMPTY_RECORD, LOADED, LOADED_INPUT, THREE_BLOCKS, muted_record};
+use std::alloc::{AllocError, Global};
+use std::process::Abort;
 use std::test::Fail;
 use ts_packet::SIZE;
 
@@ -95,24 +94,21 @@ static TABLES: [Table; 4] = [
     ] },
 ];
 
-/// A stream with damage to this unit.
-pub(crate) fn damaged(
-    alloc: Global,
-    stream: &[u8],
-    unit: usize,
-    damage: Damage,
-) -> Result<Vec<u8>, Fail> {
+// A stream with damage to this unit.
+fn damaged(alloc: Global, stream: &[u8], unit: usize, damage: Damage) -> Result<Vec<u8>, Fail> {
     let place = unit.wrapping_mul(SIZE).min(stream.len());
     let (before, rest) = stream.split_at(place);
-    let mut bytes = match damage {
-        Damage::Late => Vec::new(alloc),
-        _ => before.to_vec(alloc)?,
+    let front = match damage {
+        Damage::Late => &[],
+        _ => before,
     };
-    match damage {
-        Damage::Early => {}
-        Damage::Lost => bytes.extend_from_slice(rest.get(SIZE..).unwrap_or(&[]))?,
-        _ => bytes.extend_from_slice(rest)?,
-    }
+    let back = match damage {
+        Damage::Early => &[],
+        Damage::Lost => rest.get(SIZE..).unwrap_or(&[]),
+        _ => rest,
+    };
+    let mut bytes = front.to_vec(alloc)?;
+    bytes.extend_from_slice(back)?;
     if let Damage::Altered(byte) = damage
         && let Some(byte) = bytes.get_mut(place.wrapping_add(byte))
     {
@@ -121,62 +117,138 @@ pub(crate) fn damaged(
     Ok(bytes)
 }
 
+/// Sets the file `to`: the stream `from` with damage to this unit.
+pub(crate) fn put_damaged(
+    bench: &mut Bench,
+    from: &str,
+    to: &str,
+    unit: usize,
+    damage: Damage,
+) -> Result<(), Fail> {
+    let bytes = damaged(bench.alloc(), bench.bytes(from), unit, damage)?;
+    bench.put(to, &bytes)
+}
+
+/// Makes the stream `t` of the loaded network `c`.
+pub(crate) fn make_stream(bench: &mut Bench) -> Result<(), Fail> {
+    bench.put_file("c", &LOADED)?;
+    bench.put_file("i", &LOADED_INPUT)?;
+    bench.done("the stream", &["gateway", "c", "t", "i"])
+}
+
+// How many bytes the record of a frame has.
+fn record_len(frame: usize) -> usize {
+    if FIRST_FULL <= frame && frame < BEHIND_FULL {
+        EMPTY_RECORD + THREE_BLOCKS
+    } else {
+        EMPTY_RECORD
+    }
+}
+
+// Appends what is left of the record of a frame.
+fn add_left(bytes: &mut Vec<u8>, frame: usize, record: &[u8], row: &Row) -> Result<(), AllocError> {
+    if row.muted <= frame && frame < row.back {
+        bytes.extend_from_slice(&muted_record(frame))
+    } else if row.first <= frame && frame < row.end {
+        bytes.extend_from_slice(record)
+    } else {
+        Ok(())
+    }
+}
+
 /// The records that are left of all.
 pub(crate) fn left_of(alloc: Global, whole: &[u8], row: &Row) -> Result<Vec<u8>, Fail> {
     let mut bytes = Vec::new(alloc);
     let mut left = whole;
-    for (frame, subseconds) in SUBSECONDS.iter().enumerate() {
-        let full = FIRST_FULL <= frame && frame < BEHIND_FULL;
-        let blocks = if full { THREE_BLOCKS } else { 0 };
-        let (record, behind) = left.split_at((EMPTY_RECORD + blocks).min(left.len()));
+    for frame in 0..FRAMES {
+        let (record, behind) = left.split_at(record_len(frame).min(left.len()));
+        add_left(&mut bytes, frame, record, row)?;
         left = behind;
-        if row.muted <= frame && frame < row.back {
-            bytes.extend_from_slice(&MUTED_HEAD)?;
-            bytes.extend_from_slice(subseconds)?;
-            bytes.extend_from_slice(&[0; 4])?;
-        } else if row.first <= frame && frame < row.end {
-            bytes.extend_from_slice(record)?;
-        }
     }
     Ok(bytes)
 }
 
-#[test]
-fn damaged_units_mute_the_frames_that_they_carry(rt: HostRuntime) -> Result<(), Fail> {
-    let alloc = rt.alloc();
-    let words = ["modulate", "c", "t", "o"];
-    let config = bytes_of(alloc, &LOADED)?;
-    let input = bytes_of(alloc, &LOADED_INPUT)?;
-    let (_, stream) = done(
-        &rt,
-        "the stream",
-        &config,
-        &[("0", &input)],
-        &["gateway", "c", "o", "0"],
-    )?;
-    assert!(rt; stream.len() == 123 * SIZE);
-    let (said, whole) = done(&rt, "all records", &config, &[("t", &stream)], &words)?;
-    assert!(rt; said.as_slice() == b"first=0 records=12 muted=0\n".as_slice());
-    assert!(rt; whole.len() == FRAMES * EMPTY_RECORD + 8 * THREE_BLOCKS);
-    for table in &TABLES {
-        let mut unit = table.unit;
-        for row in table.rows {
-            let records = row.end.wrapping_sub(row.first);
-            let muted = row.back.wrapping_sub(row.muted);
-            let line = format!(in alloc; "first={} records={records} muted={muted}\n", row.first)?;
-            let expected = left_of(alloc, &whole, row)?;
-            for _ in 0..row.units {
-                let bytes = damaged(alloc, &stream, unit, table.damage)?;
-                let (said, records) = done(&rt, row.why, &config, &[("t", &bytes)], &words)?;
-                assert!(rt;
-                    said.as_slice() == line.as_bytes() && records == expected,
-                    "{}: unit {unit}",
-                    row.why
-                );
-                unit = unit.wrapping_add(1);
-            }
-        }
-        assert!(rt; unit == table.behind);
+// Makes all records, `w`.
+fn make_records(rt: &impl Abort, bench: &mut Bench) -> Result<(), Fail> {
+    bench.done("all records", &["modulate", "c", "t", "w"])?;
+    assert!(rt;
+        bench.bytes("t").len() == 123 * SIZE
+            && bench.answer() == b"first=0 records=12 muted=0\n".as_slice()
+            && bench.bytes("w").len() == FRAMES * EMPTY_RECORD + 8 * THREE_BLOCKS,
+        "all records of all units"
+    );
+    Ok(())
+}
+
+// The line of the command if these records are left.
+fn line_of(alloc: Global, row: &Row) -> Result<String, Fail> {
+    let records = row.end.wrapping_sub(row.first);
+    let muted = row.back.wrapping_sub(row.muted);
+    Ok(format!(in alloc; "first={} records={records} muted={muted}\n", row.first)?)
+}
+
+// Sets what must come of each unit of a row: the line `l` and the records `r`.
+fn put_expected(bench: &mut Bench, row: &Row) -> Result<(), Fail> {
+    let line = line_of(bench.alloc(), row)?;
+    bench.put("l", line.as_bytes())?;
+    let records = left_of(bench.alloc(), bench.bytes("w"), row)?;
+    bench.put("r", &records)
+}
+
+// What is left if a unit is damaged.
+fn unit_holds(
+    rt: &impl Abort,
+    bench: &mut Bench,
+    damage: Damage,
+    unit: usize,
+    row: &Row,
+) -> Result<(), Fail> {
+    put_damaged(bench, "t", "d", unit, damage)?;
+    bench.done(row.why, &["modulate", "c", "d", "o"])?;
+    assert!(rt;
+        bench.answer() == bench.bytes("l") && bench.bytes("o") == bench.bytes("r"),
+        "{}: unit {unit}",
+        row.why
+    );
+    Ok(())
+}
+
+// The units of a row, from one on, are damaged in turn.
+fn row_holds(
+    rt: &impl Abort,
+    bench: &mut Bench,
+    damage: Damage,
+    first: usize,
+    row: &Row,
+) -> Result<(), Fail> {
+    put_expected(bench, row)?;
+    for unit in first..first.saturating_add(row.units) {
+        unit_holds(rt, bench, damage, unit, row)?;
     }
     Ok(())
+}
+
+fn table_holds(rt: &impl Abort, bench: &mut Bench, table: &Table) -> Result<(), Fail> {
+    let mut unit = table.unit;
+    for row in table.rows {
+        row_holds(rt, bench, table.damage, unit, row)?;
+        unit = unit.saturating_add(row.units);
+    }
+    assert!(rt; unit == table.behind, "{unit} is no end of a table");
+    Ok(())
+}
+
+fn all_tables_hold(rt: &impl Abort, bench: &mut Bench) -> Result<(), Fail> {
+    for table in &TABLES {
+        table_holds(rt, bench, table)?;
+    }
+    Ok(())
+}
+
+#[test]
+fn damaged_units_mute_the_frames_that_they_carry(rt: HostRuntime) -> Result<(), Fail> {
+    let mut bench = Bench::new(rt.alloc());
+    make_stream(&mut bench)?;
+    make_records(&rt, &mut bench)?;
+    all_tables_hold(&rt, &mut bench)
 }

@@ -2,10 +2,12 @@
 
 use crate::hostile_rows::{POSTS, PRE, ROWS, Row};
 use bb_frame::scramble;
-use row_bench::{Bench, SMALL, bytes_of, is_outcome};
+use network_rows::null_packet;
+use row_bench::{Bench, SMALL};
 use site_frame::RecordWhy;
 use site_top::Outcome;
-use std::alloc::Global;
+use std::alloc::{AllocError, Global};
+use std::process::Abort;
 use std::test::Fail;
 use ts_packet::SIZE;
 
@@ -34,26 +36,24 @@ const CELLS: u32 = 40_000;
 
 const CELLS_OF_TWO: u32 = 16_200;
 
-// Appends the head of a record: "T2FR", its kind, the seconds of 700,000,000, subseconds, and the length of the rest.
-fn push_head(bytes: &mut Vec<u8>, kind: u8, subseconds: u32, rest: u32) -> Result<(), Fail> {
-    bytes.extend_from_slice(&[0x54, 0x32, 0x46, 0x52, kind, 0, 0, 0])?;
-    bytes.extend_from_slice(&[0, 0, 0, 0, 0x29, 0xB9, 0x27, 0x00])?;
-    bytes.extend_from_slice(&subseconds.to_be_bytes())?;
-    bytes.extend_from_slice(&rest.to_be_bytes())?;
-    Ok(())
+// The head of a record: "T2FR", its kind, the seconds of 700,000,000, subseconds, and the length of the rest.
+fn head_of(kind: u8, subseconds: u32, rest: u32) -> [u8; 24] {
+    let mut head = [0; 24];
+    head[..8].copy_from_slice(&[0x54, 0x32, 0x46, 0x52, kind, 0, 0, 0]);
+    head[12..16].copy_from_slice(&[0x29, 0xB9, 0x27, 0x00]);
+    head[16..20].copy_from_slice(&subseconds.to_be_bytes());
+    head[20..].copy_from_slice(&rest.to_be_bytes());
+    head
 }
 
-// Appends a packet that repeats a byte behind its sync byte, or a null packet if that byte is 0.
-fn push_packet(bytes: &mut Vec<u8>, byte: u8) -> Result<(), Fail> {
-    let mut packet = [byte; SIZE];
+// A packet that repeats a byte behind its sync byte, or a null packet if that byte is 0.
+fn packet_of(byte: u8) -> [u8; SIZE] {
     if byte == 0 {
-        packet = [0xFF; SIZE];
-        packet[1] = 0x1F;
-        packet[3] = 0x10;
+        return null_packet();
     }
+    let mut packet = [byte; SIZE];
     packet[0] = 0x47;
-    bytes.extend_from_slice(&packet)?;
-    Ok(())
+    packet
 }
 
 // The byte of the user packets of a row that stands so far behind the front of its first one.
@@ -68,17 +68,23 @@ fn byte_at(row: &Row, at: usize) -> u8 {
     }
 }
 
-// Appends the first or the second block of a row.
-fn push_block(bytes: &mut Vec<u8>, row: &Row, header: &[u8; 10], place: u8) -> Result<(), Fail> {
+// The first or the second block of a row.
+fn block_of(row: &Row, header: &[u8; 10], place: u8) -> [u8; BLOCK] {
     let mut block = [0; BLOCK];
     block[..10].copy_from_slice(header);
     for k in 0..FIELD {
         block[10 + k] = byte_at(row, usize::from(row.front) + usize::from(place) * FIELD + k);
     }
     scramble(&mut block);
+    block
+}
+
+// Appends both blocks of a row.
+fn push_blocks(bytes: &mut Vec<u8>, row: &Row, headers: &[[u8; 10]; 2]) -> Result<(), AllocError> {
     bytes.extend_from_slice(&BLOCK_HEAD)?;
-    bytes.extend_from_slice(&block)?;
-    Ok(())
+    bytes.extend_from_slice(&block_of(row, &headers[0], 0))?;
+    bytes.extend_from_slice(&BLOCK_HEAD)?;
+    bytes.extend_from_slice(&block_of(row, &headers[1], 1))
 }
 
 // The word of an address: of so many cells of two blocks, five columns of each in a row, or of a dummy cell.
@@ -90,7 +96,7 @@ fn word_at(address: u32, count: u32) -> u32 {
     column / 5 * 32_768 + column % 5 * 1_620 + address / 10
 }
 
-fn push_cells(bytes: &mut Vec<u8>, count: u32) -> Result<(), Fail> {
+fn push_cells(bytes: &mut Vec<u8>, count: u32) -> Result<(), AllocError> {
     bytes.extend_from_slice(&CELLS.to_be_bytes())?;
     for address in 0..CELLS {
         bytes.extend_from_slice(&word_at(address, count).to_be_bytes())?;
@@ -107,38 +113,63 @@ fn turn(bytes: &mut [u8], turned: &[(usize, u8)]) {
     }
 }
 
+// Appends the record of a row without blocks: its L1-post is that of a frame of its number.
+fn push_empty(bytes: &mut Vec<u8>, frame: u32) -> Result<(), AllocError> {
+    bytes.extend_from_slice(&head_of(FRAMED, frame % 64 * FRAME, REST))?;
+    bytes.extend_from_slice(&PRE)?;
+    bytes.extend_from_slice(&POSTS[(frame % 2) as usize])?;
+    bytes.extend_from_slice(&[0, 0])?;
+    push_cells(bytes, 0)
+}
+
+// Appends that of a row with two blocks.
+fn push_full(
+    bytes: &mut Vec<u8>,
+    frame: u32,
+    row: &Row,
+    headers: &[[u8; 10]; 2],
+) -> Result<(), AllocError> {
+    bytes.extend_from_slice(&head_of(FRAMED, frame % 64 * FRAME, REST_OF_TWO))?;
+    bytes.extend_from_slice(&PRE)?;
+    bytes.extend_from_slice(&POSTS[2 + (frame % 2) as usize])?;
+    bytes.extend_from_slice(&[0, 2])?;
+    push_blocks(bytes, row, headers)?;
+    push_cells(bytes, CELLS_OF_TWO)
+}
+
 // The record of a row.
-fn record_of(alloc: Global, frame: u32, row: &Row) -> Result<Vec<u8>, Fail> {
-    let (blocks, rest, cells) = match row.headers {
-        Some(_) => (2, REST_OF_TWO, CELLS_OF_TWO),
-        None => (0, REST, 0),
-    };
+fn record_of(alloc: Global, frame: u32, row: &Row) -> Result<Vec<u8>, AllocError> {
     let mut record = Vec::new(alloc);
-    push_head(&mut record, FRAMED, frame % 64 * FRAME, rest)?;
-    record.extend_from_slice(&PRE)?;
-    record.extend_from_slice(&POSTS[blocks + (frame % 2) as usize])?;
-    record.extend_from_slice(&[0, blocks as u8])?;
-    if let Some([first, second]) = &row.headers {
-        push_block(&mut record, row, first, 0)?;
-        push_block(&mut record, row, second, 1)?;
+    match &row.headers {
+        Some(headers) => push_full(&mut record, frame, row, headers)?,
+        None => push_empty(&mut record, frame)?,
     }
-    push_cells(&mut record, cells)?;
     turn(&mut record, row.turned);
     Ok(record)
 }
 
-// The records of the rows, two that are muted, and the head of a muted record that tells a rest.
-fn file_of(alloc: Global) -> Result<Vec<u8>, Fail> {
-    let mut bytes = Vec::new(alloc);
+// Appends the records of the rows.
+fn push_rows(alloc: Global, bytes: &mut Vec<u8>) -> Result<(), AllocError> {
     let mut frame: u32 = 0;
     for row in &ROWS {
         frame = frame.wrapping_add(1);
         bytes.extend_from_slice(&record_of(alloc, frame, row)?)?;
     }
-    push_head(&mut bytes, MUTED, 20 * FRAME, 0)?;
-    push_head(&mut bytes, MUTED, 21 * FRAME, 0)?;
-    push_head(&mut bytes, MUTED, 22 * FRAME, 1)?;
-    bytes.push(0)?;
+    Ok(())
+}
+
+// Appends two records that are muted, and the head of a muted record that tells a rest.
+fn push_muted(bytes: &mut Vec<u8>) -> Result<(), AllocError> {
+    bytes.extend_from_slice(&head_of(MUTED, 20 * FRAME, 0))?;
+    bytes.extend_from_slice(&head_of(MUTED, 21 * FRAME, 0))?;
+    bytes.extend_from_slice(&head_of(MUTED, 22 * FRAME, 1))?;
+    bytes.extend_from_slice(&[0])
+}
+
+fn file_of(alloc: Global) -> Result<Vec<u8>, Fail> {
+    let mut bytes = Vec::new(alloc);
+    push_rows(alloc, &mut bytes)?;
+    push_muted(&mut bytes)?;
     Ok(bytes)
 }
 
@@ -146,30 +177,51 @@ fn file_of(alloc: Global) -> Result<Vec<u8>, Fail> {
 fn given(alloc: Global, row: &Row) -> Result<Vec<u8>, Fail> {
     let mut bytes = Vec::new(alloc);
     for slot in 0..row.slots {
-        push_packet(&mut bytes, *row.given.get(slot).unwrap_or(&0))?;
+        bytes.extend_from_slice(&packet_of(*row.given.get(slot).unwrap_or(&0)))?;
     }
     Ok(bytes)
+}
+
+// What stands behind the packets of a row.
+fn behind<'b>(
+    rt: &(impl AllocGlobal + Abort),
+    bytes: &'b [u8],
+    row: &Row,
+) -> Result<&'b [u8], Fail> {
+    let packets = given(rt.alloc(), row)?;
+    match bytes.strip_prefix(packets.as_slice()) {
+        Some(rest) => Ok(rest),
+        None => panic!(rt; "{}", row.why),
+    }
+}
+
+// Bytes are the packets of all rows.
+fn are_given(rt: &(impl AllocGlobal + Abort), bytes: &[u8]) -> Result<(), Fail> {
+    let mut left = bytes;
+    for row in &ROWS {
+        left = behind(rt, left, row)?;
+    }
+    assert!(rt; left.is_empty(), "there are more packets");
+    Ok(())
+}
+
+// Receives the file. The last record is refused.
+fn receive(bench: &mut Bench) -> Result<(), Fail> {
+    bench.put_file("c", &SMALL)?;
+    let file = file_of(bench.alloc())?;
+    bench.put("r", &file)?;
+    let refused = Outcome::RecordRefused {
+        number: 21,
+        why: RecordWhy::Length,
+    };
+    let words = ["receive", "c", "0", "r", "o"];
+    bench.ends("a muted record tells a rest", &words, refused, 7)
 }
 
 // All slots of the rows are due behind the muted records.
 #[test]
 fn a_hostile_file_gives_the_packets_of_its_rows(rt: HostRuntime) -> Result<(), Fail> {
     let mut bench = Bench::new(rt.alloc());
-    bench.put("c", &bytes_of(rt.alloc(), &SMALL)?)?;
-    bench.put("r", &file_of(rt.alloc())?)?;
-    let outcome = bench.run(&["receive", "c", "0", "r", "o"])?;
-    let refused = Outcome::RecordRefused {
-        number: 21,
-        why: RecordWhy::Length,
-    };
-    is_outcome("a muted record tells a rest", outcome, refused, 7)?;
-    let mut left = bench.file("o").ok_or("there is no output")?;
-    for row in &ROWS {
-        match left.strip_prefix(given(rt.alloc(), row)?.as_slice()) {
-            Some(rest) => left = rest,
-            None => panic!(rt; "{}", row.why),
-        }
-    }
-    assert!(rt; left.is_empty(), "there are more packets");
-    Ok(())
+    receive(&mut bench)?;
+    are_given(&rt, bench.bytes("o"))
 }

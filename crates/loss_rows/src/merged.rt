@@ -2,8 +2,8 @@
 // 15 n have frame n, for n from 1 to 8, and the last two the frames 9 to 11. How many units the others have if a frame lacks was
 // counted by another program, from the lengths of their packets.
 
-use crate::damaged::{Damage, Row as Left, damaged, left_of};
-use row_bench::{LOADED, LOADED_INPUT, bytes_of, done};
+use crate::damaged::{Damage, Row as Left, left_of, make_stream, put_damaged};
+use row_bench::Bench;
 use std::process::Abort;
 use std::test::Fail;
 
@@ -50,30 +50,31 @@ static ROWS: [Row; 4] = [
     },
 ];
 
-// The stream of a loaded network.
-fn stream_of(rt: &(impl AllocGlobal + Abort), config: &[u8]) -> Result<Vec<u8>, Fail> {
-    let input = bytes_of(rt.alloc(), &LOADED_INPUT)?;
-    let words = ["gateway", "c", "o", "0"];
-    let (_, stream) = done(rt, "the stream", config, &[("0", &input)], &words)?;
-    Ok(stream)
+// Merged, two copies of the stream are the whole one.
+fn row_holds(rt: &impl Abort, bench: &mut Bench, row: &Row) -> Result<(), Fail> {
+    put_damaged(bench, "t", "a", row.a.unit, row.a.damage)?;
+    put_damaged(bench, "t", "b", row.b.unit, row.b.damage)?;
+    bench.done(row.why, &MERGE)?;
+    assert!(rt;
+        bench.answer() == row.line.as_bytes() && bench.bytes("o") == bench.bytes("t"),
+        "{}",
+        row.why
+    );
+    Ok(())
+}
+
+fn all_rows_hold(rt: &impl Abort, bench: &mut Bench) -> Result<(), Fail> {
+    for row in &ROWS {
+        row_holds(rt, bench, row)?;
+    }
+    Ok(())
 }
 
 #[test]
 fn streams_that_lack_other_frames_are_whole_together(rt: HostRuntime) -> Result<(), Fail> {
-    let alloc = rt.alloc();
-    let config = bytes_of(alloc, &LOADED)?;
-    let stream = stream_of(&rt, &config)?;
-    for row in &ROWS {
-        let a = damaged(alloc, &stream, row.a.unit, row.a.damage)?;
-        let b = damaged(alloc, &stream, row.b.unit, row.b.damage)?;
-        let (said, merged) = done(&rt, row.why, &config, &[("a", &a), ("b", &b)], &MERGE)?;
-        assert!(rt;
-            said.as_slice() == row.line.as_bytes() && merged == stream,
-            "{}",
-            row.why
-        );
-    }
-    Ok(())
+    let mut bench = Bench::new(rt.alloc());
+    make_stream(&mut bench)?;
+    all_rows_hold(&rt, &mut bench)
 }
 
 // Of frame 4, which both lack, nothing is sent.
@@ -86,19 +87,37 @@ static LEFT: Left = Left {
     back: 5,
 };
 
+// Two copies of the stream that both lack it are merged.
+fn merge_without(rt: &impl Abort, bench: &mut Bench) -> Result<(), Fail> {
+    put_damaged(bench, "t", "a", 45, Damage::Lost)?;
+    put_damaged(bench, "t", "b", 50, Damage::Lost)?;
+    bench.done(LEFT.why, &MERGE)?;
+    assert!(rt;
+        bench.answer() == b"merged frames=11 a=10 b=1 units=108\n".as_slice(),
+        "{}: the line",
+        LEFT.why
+    );
+    Ok(())
+}
+
+// The records of what was merged are those of the whole stream, but that of the frame is muted.
+fn is_muted(rt: &impl Abort, bench: &mut Bench) -> Result<(), Fail> {
+    bench.done("all records", &["modulate", "c", "t", "w"])?;
+    bench.done(LEFT.why, &["modulate", "c", "o", "r"])?;
+    let left = left_of(bench.alloc(), bench.bytes("w"), &LEFT)?;
+    assert!(rt;
+        bench.answer() == b"first=0 records=12 muted=1\n".as_slice()
+            && bench.bytes("r") == left.as_slice(),
+        "{}: the records",
+        LEFT.why
+    );
+    Ok(())
+}
+
 #[test]
 fn a_frame_that_both_lack_is_muted(rt: HostRuntime) -> Result<(), Fail> {
-    let alloc = rt.alloc();
-    let words = ["modulate", "c", "t", "o"];
-    let config = bytes_of(alloc, &LOADED)?;
-    let stream = stream_of(&rt, &config)?;
-    let (_, whole) = done(&rt, "all records", &config, &[("t", &stream)], &words)?;
-    let a = damaged(alloc, &stream, 45, Damage::Lost)?;
-    let b = damaged(alloc, &stream, 50, Damage::Lost)?;
-    let (said, merged) = done(&rt, LEFT.why, &config, &[("a", &a), ("b", &b)], &MERGE)?;
-    assert!(rt; said.as_slice() == b"merged frames=11 a=10 b=1 units=108\n".as_slice());
-    let (said, records) = done(&rt, LEFT.why, &config, &[("t", &merged)], &words)?;
-    assert!(rt; said.as_slice() == b"first=0 records=12 muted=1\n".as_slice());
-    assert!(rt; records == left_of(alloc, &whole, &LEFT)?);
-    Ok(())
+    let mut bench = Bench::new(rt.alloc());
+    make_stream(&mut bench)?;
+    merge_without(&rt, &mut bench)?;
+    is_muted(&rt, &mut bench)
 }

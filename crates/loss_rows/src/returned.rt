@@ -1,11 +1,10 @@
 // What `receive` gives back of packets, over what `modulate` wrote of what `gateway` wrote. Expected values come from worked
 // examples.
 
-use crate::damaged::{Damage, damaged};
+use crate::damaged::{Damage, put_damaged};
 use network_rows::{Slots, null_packet, numbered, packets_of};
-use row_bench::{File, KEPT, LOADED, NULL, ONCE, SMALL, SPREAD, bytes_of, done};
+use row_bench::{Bench, File, KEPT, LOADED, NULL, ONCE, SMALL, SPREAD};
 use sample_networks::{REALISTIC_TEXT, VARIED_TEXT};
-use std::alloc::Global;
 use std::process::Abort;
 use std::test::Fail;
 
@@ -79,60 +78,63 @@ static ROWS: [Row; 8] = [
     },
 ];
 
-/// What is said and given back of a PLP from a stream.
-pub(crate) fn received(
-    rt: &(impl AllocGlobal + Abort),
+/// Sets a file: so many packets, each with its number.
+pub(crate) fn put_numbered(bench: &mut Bench, name: &str, count: u16) -> Result<(), Fail> {
+    let packets = numbered(bench.alloc(), count)?;
+    bench.put(name, &packets)
+}
+
+/// Makes the file `out`: what comes back of a PLP from a stream.
+pub(crate) fn receive(
+    bench: &mut Bench,
     why: &str,
-    config: &[u8],
     plp: &str,
-    stream: &[u8],
-) -> Result<(Vec<u8>, Vec<u8>), Fail> {
-    let (_, records) = done(
-        rt,
-        why,
-        config,
-        &[("t", stream)],
-        &["modulate", "c", "t", "o"],
-    )?;
-    done(
-        rt,
-        why,
-        config,
-        &[("r", &records)],
-        &["receive", "c", plp, "r", "o"],
-    )
+    stream: &str,
+    out: &str,
+) -> Result<(), Fail> {
+    bench.done(why, &["modulate", "c", stream, "r"])?;
+    bench.done(why, &["receive", "c", plp, "r", out])
+}
+
+// Sets the input `i`.
+fn put_input(bench: &mut Bench, input: &Input) -> Result<(), Fail> {
+    match input {
+        Input::Packets(packets) => bench.put_file("i", packets),
+        Input::Numbered(count) => put_numbered(bench, "i", *count),
+    }
+}
+
+// Makes the stream of a row, and damages it: the file `d`.
+fn send(bench: &mut Bench, row: &Row) -> Result<(), Fail> {
+    bench.put_file("c", &row.config)?;
+    put_input(bench, &row.input)?;
+    bench.done(row.why, &["gateway", "c", "t", "i"])?;
+    put_damaged(bench, "t", "d", row.unit, row.damage)
+}
+
+fn row_holds(rt: &impl Abort, bench: &mut Bench, row: &Row) -> Result<(), Fail> {
+    send(bench, row)?;
+    receive(bench, row.why, "0", "d", "o")?;
+    let packets = packets_of(bench.alloc(), bench.bytes("i"), row.slots)?;
+    assert!(rt;
+        bench.answer() == row.line.as_bytes() && bench.bytes("o") == packets.as_slice(),
+        "{}",
+        row.why
+    );
+    Ok(())
+}
+
+fn all_rows_hold(rt: &impl Abort, bench: &mut Bench) -> Result<(), Fail> {
+    for row in &ROWS {
+        row_holds(rt, bench, row)?;
+    }
+    Ok(())
 }
 
 #[test]
 fn packets_come_back_in_their_slots(rt: HostRuntime) -> Result<(), Fail> {
-    let alloc = rt.alloc();
-    for row in &ROWS {
-        let config = bytes_of(alloc, &row.config)?;
-        let sent = match &row.input {
-            Input::Packets(packets) => bytes_of(alloc, packets)?,
-            Input::Numbered(count) => numbered(alloc, *count)?,
-        };
-        let (_, stream) = done(
-            &rt,
-            row.why,
-            &config,
-            &[("0", &sent)],
-            &["gateway", "c", "o", "0"],
-        )?;
-        let stream = damaged(alloc, &stream, row.unit, row.damage)?;
-        let (said, given) = received(&rt, row.why, &config, "0", &stream)?;
-        assert!(rt;
-            said.as_slice() == row.line.as_bytes(),
-            "{}: the line",
-            row.why
-        );
-        assert!(rt;
-            given == packets_of(alloc, &sent, row.slots)?,
-            "{}: the slots",
-            row.why
-        );
-    }
-    Ok(())
+    let mut bench = Bench::new(rt.alloc());
+    all_rows_hold(&rt, &mut bench)
 }
 
 // Two PLPs of type 1 and one of type 2, whose blocks are sent in sub-slices.
@@ -155,17 +157,23 @@ plp 3 type2 2 3/5 64qam short 0 2 1 delete 1600000
     ..ONCE
 };
 
-/// A network of several PLPs, its texts and the identifiers of its PLPs.
+/// A network of several PLPs, the identifiers of these, and the command that makes the stream `t` of inputs with these names.
 pub(crate) struct Network {
     pub(crate) why: &'static str,
     pub(crate) config: File,
     pub(crate) plps: &'static [&'static str],
+    pub(crate) gateway: &'static [&'static str],
 }
 
 #[rattlefmt::skip]
 pub(crate) static NETWORKS: [Network; 2] = [
-    Network { why: "both types", config: MIXED, plps: &["1", "2", "3"] },
-    Network { why: "spreads of 1, 2 and 4, and a common PLP", config: VARIED, plps: &["7", "3", "9", "5"] },
+    Network {
+        why: "both types", config: MIXED, plps: &["1", "2", "3"], gateway: &["gateway", "c", "t", "1", "2", "3"],
+    },
+    Network {
+        why: "spreads of 1, 2 and 4, and a common PLP",
+        config: VARIED, plps: &["7", "3", "9", "5"], gateway: &["gateway", "c", "t", "7", "3", "9", "5"],
+    },
 ];
 
 const VARIED: File = File {
@@ -173,51 +181,105 @@ const VARIED: File = File {
     ..ONCE
 };
 
-// What comes back of each PLP: every packet, and null packets behind; from the second superframe on the same; and without a unit
-// each packet in its slot, or a null packet.
-fn each_plp_comes_back(rt: &(impl AllocGlobal + Abort), network: &Network) -> Result<(), Fail> {
-    let alloc = rt.alloc();
-    let why = network.why;
-    let null = null_packet();
-    let config = bytes_of(alloc, &network.config)?;
-    let sent = numbered(alloc, 80)?;
-    let mut inputs = Vec::new(alloc);
-    let mut words = Vec::new(alloc);
-    words.extend_from_slice(&["gateway", "c", "o"])?;
+/// Makes the stream `t` of a network, each PLP of which sends so many packets.
+pub(crate) fn make_stream(bench: &mut Bench, network: &Network, count: u16) -> Result<(), Fail> {
+    bench.put_file("c", &network.config)?;
     for plp in network.plps {
-        inputs.push((*plp, sent.as_slice()))?;
-        words.push(*plp)?;
+        put_numbered(bench, plp, count)?;
     }
-    let (_, stream) = done(rt, why, &config, &inputs, &words)?;
-    let late = damaged(alloc, &stream, 20, Damage::Late)?;
-    let lossy = damaged(alloc, &stream, 60, Damage::Lost)?;
+    bench.done(network.why, network.gateway)
+}
+
+/// Whether packets are these, and null packets behind.
+pub(crate) fn are_followed(packets: &[u8], front: &[u8]) -> bool {
+    match packets.strip_prefix(front) {
+        Some(behind) => are_null(behind),
+        None => false,
+    }
+}
+
+fn are_null(packets: &[u8]) -> bool {
+    let null = null_packet();
+    for packet in packets.chunks_exact(188) {
+        if packet != null.as_slice() {
+            return false;
+        }
+    }
+    packets.len() % 188 == 0
+}
+
+// Whether each packet is that of its slot, or a null packet.
+fn are_own_or_null(packets: &[u8], all: &[u8]) -> bool {
+    let null = null_packet();
+    for (packet, own) in packets.chunks_exact(188).zip(all.chunks_exact(188)) {
+        if packet != own && packet != null.as_slice() {
+            return false;
+        }
+    }
+    packets.len() == all.len()
+}
+
+// Every packet of a PLP comes back, the file `a`, and null packets behind.
+fn all_come_back(rt: &impl Abort, bench: &mut Bench, why: &str, plp: &str) -> Result<(), Fail> {
+    receive(bench, why, plp, "t", "a")?;
+    assert!(rt;
+        are_followed(bench.bytes("a"), bench.bytes(plp)),
+        "{why}, PLP {plp}: all that was sent"
+    );
+    Ok(())
+}
+
+// From the second superframe on the same comes back.
+fn the_same_comes_late(
+    rt: &impl Abort,
+    bench: &mut Bench,
+    why: &str,
+    plp: &str,
+) -> Result<(), Fail> {
+    receive(bench, why, plp, "l", "o")?;
+    assert!(rt;
+        bench.bytes("a").ends_with(bench.bytes("o")),
+        "{why}, PLP {plp} of a late stream"
+    );
+    Ok(())
+}
+
+// Without a unit, each packet comes back in its slot, or a null packet.
+fn some_come_back(rt: &impl Abort, bench: &mut Bench, why: &str, plp: &str) -> Result<(), Fail> {
+    receive(bench, why, plp, "d", "o")?;
+    assert!(rt;
+        are_own_or_null(bench.bytes("o"), bench.bytes("a")),
+        "{why}, PLP {plp} without a unit"
+    );
+    Ok(())
+}
+
+// What comes back of each PLP of the stream `t`, of its end `l`, and of `d`, which lost a unit.
+fn each_plp_comes_back(rt: &impl Abort, bench: &mut Bench, network: &Network) -> Result<(), Fail> {
     for plp in network.plps {
-        let (_, all) = received(rt, why, &config, plp, &stream)?;
-        assert!(rt; all.starts_with(&sent), "{why}, PLP {plp}");
-        for packet in all.chunks_exact(188).skip(80) {
-            assert!(rt;
-                packet == null.as_slice(),
-                "{why}, PLP {plp} behind what was sent"
-            );
-        }
-        let (_, end) = received(rt, why, &config, plp, &late)?;
-        assert!(rt; all.ends_with(&end), "{why}, PLP {plp} of a late stream");
-        let (_, some) = received(rt, why, &config, plp, &lossy)?;
-        assert!(rt; some.len() == all.len(), "{why}, PLP {plp} without a unit");
-        for (packet, own) in some.chunks_exact(188).zip(all.chunks_exact(188)) {
-            assert!(rt;
-                packet == own || packet == null.as_slice(),
-                "{why}, PLP {plp} without a unit"
-            );
-        }
+        all_come_back(rt, bench, network.why, plp)?;
+        the_same_comes_late(rt, bench, network.why, plp)?;
+        some_come_back(rt, bench, network.why, plp)?;
+    }
+    Ok(())
+}
+
+fn network_holds(rt: &impl Abort, bench: &mut Bench, network: &Network) -> Result<(), Fail> {
+    make_stream(bench, network, 80)?;
+    put_damaged(bench, "t", "l", 20, Damage::Late)?;
+    put_damaged(bench, "t", "d", 60, Damage::Lost)?;
+    each_plp_comes_back(rt, bench, network)
+}
+
+fn all_networks_hold(rt: &impl Abort, bench: &mut Bench) -> Result<(), Fail> {
+    for network in &NETWORKS {
+        network_holds(rt, bench, network)?;
     }
     Ok(())
 }
 
 #[test]
 fn each_plp_of_a_network_of_several(rt: HostRuntime) -> Result<(), Fail> {
-    for network in &NETWORKS {
-        each_plp_comes_back(&rt, network)?;
-    }
-    Ok(())
+    let mut bench = Bench::new(rt.alloc());
+    all_networks_hold(&rt, &mut bench)
 }

@@ -2,10 +2,10 @@
 // loaded network the units 15 (n - 1) to 15 n have frame n, for n from 1 to 8. How many units the frames have that are left was counted
 // by another program, from the lengths of their packets.
 
-use crate::damaged::{Damage, Row as Left, damaged, left_of};
-use crate::returned::{NETWORKS, Network, received};
+use crate::damaged::{Damage, Row as Left, left_of, put_damaged};
+use crate::returned::{NETWORKS, Network, make_stream, put_numbered, receive};
 use network_rows::{Slots, numbered, packets_of};
-use row_bench::{LOADED, bytes_of, done};
+use row_bench::{Bench, LOADED};
 use std::alloc::Global;
 use std::process::Abort;
 use std::test::Fail;
@@ -14,71 +14,94 @@ use ts_packet::SIZE;
 // How many packets each input has.
 const COUNT: u16 = 40;
 
-// As many packets, with other numbers.
+// So many packets, with other numbers than those that are sent else.
 fn others(alloc: Global, count: u16) -> Result<Vec<u8>, Fail> {
     let all = numbered(alloc, count.wrapping_mul(2))?;
     let (_, behind) = all.split_at(usize::from(count).wrapping_mul(SIZE).min(all.len()));
     Ok(behind.to_vec(alloc)?)
 }
 
-// The stream of a network if each PLP sends some packets, but one sends others.
-fn stream_of(
-    rt: &(impl AllocGlobal + Abort),
-    network: &Network,
-    config: &[u8],
-    sent: &[u8],
-    other: (&str, &[u8]),
-) -> Result<Vec<u8>, Fail> {
-    let alloc = rt.alloc();
-    let mut inputs = Vec::new(alloc);
-    let mut words = Vec::new(alloc);
-    words.extend_from_slice(&["gateway", "c", "o"])?;
-    for plp in network.plps {
-        let input = if *plp == other.0 { other.1 } else { sent };
-        inputs.push((*plp, input))?;
-        words.push(*plp)?;
-    }
-    let (_, stream) = done(rt, network.why, config, &inputs, &words)?;
-    Ok(stream)
+// Sets a file: so many other packets.
+fn put_others(bench: &mut Bench, name: &str, count: u16) -> Result<(), Fail> {
+    let packets = others(bench.alloc(), count)?;
+    bench.put(name, &packets)
 }
 
-// Each PLP in turn is replaced: OUT is the stream of the gateway that has the other input, and from it the other packets of that PLP
-// come back, and those of each other one.
-fn each_plp_is_replaced(rt: &(impl AllocGlobal + Abort), network: &Network) -> Result<(), Fail> {
-    let alloc = rt.alloc();
-    let why = network.why;
-    let config = bytes_of(alloc, &network.config)?;
-    let sent = numbered(alloc, COUNT)?;
-    let other = others(alloc, COUNT)?;
-    let stream = stream_of(rt, network, &config, &sent, ("", &[]))?;
+// A PLP is replaced, which makes `o`.
+fn replace(bench: &mut Bench, network: &Network, plp: &str) -> Result<(), Fail> {
+    make_stream(bench, network, COUNT)?;
+    put_others(bench, "i", COUNT)?;
+    bench.done(network.why, &["swap", "c", plp, "t", "i", "o"])
+}
+
+// OUT is the stream of the gateway that has the other input.
+fn is_replaced(
+    rt: &impl Abort,
+    bench: &mut Bench,
+    network: &Network,
+    plp: &str,
+) -> Result<(), Fail> {
+    replace(bench, network, plp)?;
+    put_others(bench, plp, COUNT)?;
+    bench.done(network.why, network.gateway)?;
+    assert!(rt;
+        bench.bytes("o") == bench.bytes("t"),
+        "{}, PLP {plp}",
+        network.why
+    );
+    Ok(())
+}
+
+// From it what a PLP sends comes back.
+fn comes_back(
+    rt: &impl Abort,
+    bench: &mut Bench,
+    why: &str,
+    plp: &str,
+    back: &str,
+) -> Result<(), Fail> {
+    bench.done(why, &["receive", "c", back, "r", "g"])?;
+    assert!(rt;
+        bench.bytes("g").starts_with(bench.bytes(back)),
+        "{why}, PLP {back} beside {plp}"
+    );
+    Ok(())
+}
+
+// The other packets come back of the PLP that is replaced, and those of each other one.
+fn all_come_back(
+    rt: &impl Abort,
+    bench: &mut Bench,
+    network: &Network,
+    plp: &str,
+) -> Result<(), Fail> {
+    bench.done(network.why, &["modulate", "c", "o", "r"])?;
+    for back in network.plps {
+        comes_back(rt, bench, network.why, plp, back)?;
+    }
+    Ok(())
+}
+
+// Each PLP in turn is replaced.
+fn each_plp_is_replaced(rt: &impl Abort, bench: &mut Bench, network: &Network) -> Result<(), Fail> {
     for plp in network.plps {
-        let files = [("t", stream.as_slice()), ("i", other.as_slice())];
-        let (_, out) = done(rt, why, &config, &files, &["swap", "c", plp, "t", "i", "o"])?;
-        let expected = stream_of(rt, network, &config, &sent, (plp, &other))?;
-        assert!(rt; out == expected, "{why}, PLP {plp}");
-        let (_, records) = done(
-            rt,
-            why,
-            &config,
-            &[("t", &out)],
-            &["modulate", "c", "t", "o"],
-        )?;
-        for back in network.plps {
-            let own = if back == plp { &other } else { &sent };
-            let words = ["receive", "c", back, "r", "o"];
-            let (_, given) = done(rt, why, &config, &[("r", &records)], &words)?;
-            assert!(rt; given.starts_with(own), "{why}, PLP {back} beside {plp}");
-        }
+        is_replaced(rt, bench, network, plp)?;
+        all_come_back(rt, bench, network, plp)?;
+    }
+    Ok(())
+}
+
+fn all_networks_hold(rt: &impl Abort, bench: &mut Bench) -> Result<(), Fail> {
+    for network in &NETWORKS {
+        each_plp_is_replaced(rt, bench, network)?;
     }
     Ok(())
 }
 
 #[test]
 fn each_plp_of_a_network_of_several_is_replaced_alone(rt: HostRuntime) -> Result<(), Fail> {
-    for network in &NETWORKS {
-        each_plp_is_replaced(&rt, network)?;
-    }
-    Ok(())
+    let mut bench = Bench::new(rt.alloc());
+    all_networks_hold(&rt, &mut bench)
 }
 
 // What happens to the stream, the line of the command, and what is left of the records: none of another frame.
@@ -106,39 +129,55 @@ static ROWS: [Row; 2] = [
     },
 ];
 
-#[test]
-fn of_a_stream_that_lost_frames_each_other_one_is_sent(rt: HostRuntime) -> Result<(), Fail> {
-    let alloc = rt.alloc();
-    let config = bytes_of(alloc, &LOADED)?;
-    let gateway = ["gateway", "c", "o", "0"];
-    let modulate = ["modulate", "c", "t", "o"];
-    let sent = numbered(alloc, 110)?;
-    let other = others(alloc, 110)?;
-    let (_, stream) = done(&rt, "the stream", &config, &[("0", &sent)], &gateway)?;
-    let (_, expected) = done(&rt, "the other", &config, &[("0", &other)], &gateway)?;
-    let (_, whole) = done(&rt, "its records", &config, &[("t", &expected)], &modulate)?;
+// Makes the stream `t` of the loaded network, and the records `w` of that of the other input `i`.
+fn make_both(bench: &mut Bench) -> Result<(), Fail> {
+    bench.put_file("c", &LOADED)?;
+    put_numbered(bench, "0", 110)?;
+    put_others(bench, "i", 110)?;
+    bench.done("the stream", &["gateway", "c", "t", "0"])?;
+    bench.done("the other", &["gateway", "c", "e", "i"])?;
+    bench.done("its records", &["modulate", "c", "e", "w"])
+}
+
+// The line of the command, which makes `o` of a damaged stream.
+fn line_holds(rt: &impl Abort, bench: &mut Bench, row: &Row) -> Result<(), Fail> {
+    let why = row.left.why;
+    put_damaged(bench, "t", "d", row.unit, row.damage)?;
+    bench.done(why, &["swap", "c", "0", "d", "i", "o"])?;
+    assert!(rt; bench.answer() == row.line.as_bytes(), "{why}: the line");
+    Ok(())
+}
+
+// The records of that.
+fn records_hold(rt: &impl Abort, bench: &mut Bench, row: &Row) -> Result<(), Fail> {
+    let why = row.left.why;
+    bench.done(why, &["modulate", "c", "o", "r"])?;
+    let left = left_of(bench.alloc(), bench.bytes("w"), &row.left)?;
+    assert!(rt; bench.bytes("r") == left.as_slice(), "{why}: the records");
+    Ok(())
+}
+
+// What comes back of it.
+fn slots_hold(rt: &impl Abort, bench: &mut Bench, row: &Row) -> Result<(), Fail> {
+    let why = row.left.why;
+    receive(bench, why, "0", "o", "g")?;
+    let packets = packets_of(bench.alloc(), bench.bytes("i"), row.slots)?;
+    assert!(rt; bench.bytes("g") == packets.as_slice(), "{why}: the slots");
+    Ok(())
+}
+
+fn all_rows_hold(rt: &impl Abort, bench: &mut Bench) -> Result<(), Fail> {
     for row in &ROWS {
-        let why = row.left.why;
-        let lossy = damaged(alloc, &stream, row.unit, row.damage)?;
-        let files = [("t", lossy.as_slice()), ("i", other.as_slice())];
-        let (said, out) = done(
-            &rt,
-            why,
-            &config,
-            &files,
-            &["swap", "c", "0", "t", "i", "o"],
-        )?;
-        assert!(rt; said.as_slice() == row.line.as_bytes(), "{why}: the line");
-        let (_, records) = done(&rt, why, &config, &[("t", &out)], &modulate)?;
-        assert!(rt;
-            records == left_of(alloc, &whole, &row.left)?,
-            "{why}: the records"
-        );
-        let (_, given) = received(&rt, why, &config, "0", &out)?;
-        assert!(rt;
-            given == packets_of(alloc, &other, row.slots)?,
-            "{why}: the slots"
-        );
+        line_holds(rt, bench, row)?;
+        records_hold(rt, bench, row)?;
+        slots_hold(rt, bench, row)?;
     }
     Ok(())
+}
+
+#[test]
+fn of_a_stream_that_lost_frames_each_other_one_is_sent(rt: HostRuntime) -> Result<(), Fail> {
+    let mut bench = Bench::new(rt.alloc());
+    make_both(&mut bench)?;
+    all_rows_hold(&rt, &mut bench)
 }

@@ -1,6 +1,7 @@
 // Runs over a desk in memory.
 ghost use Rattle.std.specs.Prelude.{◌<◌};
 
+use crate::files::{File, bytes_of};
 use ports::{CallKind, MemoryDesk};
 use site_top::{Outcome, Word, run};
 use std::alloc::Global;
@@ -10,11 +11,14 @@ use std::test::Fail;
 /// A desk in memory, on which commands are run.
 ///
 /// The contracts of the desk and of a command are large, and what calls them has all that they say in its own proof. So the tests
-/// call the methods of a bench, which have no `ensures`, and its model tells nothing: their proofs are short.
+/// call the methods of a bench, which have no `ensures`, and its model tells nothing: their proofs are short. And what a test makes
+/// stands in files of its bench: a function that owns nothing else has a short proof too.
 #[derive(Drop)]
 pub struct Bench {
     alloc: Global,
     desk: MemoryDesk,
+    // How much was said before the last command.
+    before: usize,
 }
 
 impl Model for Bench {
@@ -23,18 +27,53 @@ impl Model for Bench {
     ghost view = { λ _. tt };
 }
 
+// The words of a command.
+fn words_of(alloc: Global, words: &[&str]) -> Result<Vec<Word>, Fail> {
+    let mut list = Vec::new(alloc);
+    for word in words {
+        list.push(Word::new(alloc, word)?)?;
+    }
+    Ok(list)
+}
+
 impl Bench {
     /// A bench with no file.
     pub fn new(alloc: Global) -> Bench {
         Bench {
             alloc,
             desk: MemoryDesk::new(alloc),
+            before: 0,
         }
+    }
+
+    /// Where its memory is from.
+    pub fn alloc(&self) -> Global {
+        self.alloc
     }
 
     /// Sets a file.
     pub fn put(&mut self, name: &str, bytes: &[u8]) -> Result<(), Fail> {
         Ok(self.desk.put_file(name, bytes)?)
+    }
+
+    /// Sets a file of a table.
+    pub fn put_file(&mut self, name: &str, file: &File) -> Result<(), Fail> {
+        let bytes = bytes_of(self.alloc, file)?;
+        self.put(name, &bytes)
+    }
+
+    /// Sets files of a table.
+    pub fn put_files(&mut self, files: &[(&str, File)]) -> Result<(), Fail> {
+        for (name, file) in files {
+            self.put_file(name, file)?;
+        }
+        Ok(())
+    }
+
+    /// Sets a file: what the last command said.
+    pub fn put_answer(&mut self, name: &str) -> Result<(), Fail> {
+        let answer = self.answer().to_vec(self.alloc)?;
+        self.put(name, &answer)
     }
 
     /// Makes each read and write from now on move at most so many bytes.
@@ -51,16 +90,35 @@ impl Bench {
 
     /// Runs the command that these words name.
     pub fn run(&mut self, words: &[&str]) -> Result<Outcome, Fail> {
-        let mut list = Vec::new(self.alloc);
-        for word in words {
-            list.push(Word::new(self.alloc, word)?)?;
-        }
+        let list = words_of(self.alloc, words)?;
+        self.before = self.desk.said().len();
         Ok(run(self.alloc, list.as_slice(), &mut self.desk))
+    }
+
+    /// Runs a command, which must end so, with this status.
+    pub fn ends(
+        &mut self,
+        why: &str,
+        words: &[&str],
+        outcome: Outcome,
+        status: u8,
+    ) -> Result<(), Fail> {
+        is_outcome(why, self.run(words)?, outcome, status)
+    }
+
+    /// Runs a command, which must be done.
+    pub fn done(&mut self, why: &str, words: &[&str]) -> Result<(), Fail> {
+        self.ends(why, words, Outcome::Done, 0)
     }
 
     /// What was said.
     pub fn said(&self) -> &[u8] {
         self.desk.said()
+    }
+
+    /// What the last command said.
+    pub fn answer(&self) -> &[u8] {
+        self.desk.said().get(self.before..).unwrap_or(&[])
     }
 
     /// How many bytes of a file were given.
@@ -72,54 +130,10 @@ impl Bench {
     pub fn file(&self, name: &str) -> Option<&[u8]> {
         self.desk.file(name)
     }
-}
 
-/// How a run ended, what was said, and what the file `o` holds if it is there.
-#[derive(Drop)]
-pub struct Ended {
-    pub outcome: Outcome,
-    pub said: Vec<u8>,
-    pub out: Option<Vec<u8>>,
-}
-
-/// How a command ends on a bench with the file `c` and others, if one call fails: the nth of a kind.
-pub fn end_of(
-    alloc: Global,
-    config: &[u8],
-    others: &[(&str, &[u8])],
-    fault: Option<(CallKind, u64)>,
-    words: &[&str],
-) -> Result<Ended, Fail> {
-    let mut bench = Bench::new(alloc);
-    bench.put("c", config)?;
-    for (name, bytes) in others {
-        bench.put(name, bytes)?;
-    }
-    if let Some((kind, nth)) = fault {
-        bench.fail(kind, nth)?;
-    }
-    let outcome = bench.run(words)?;
-    let said = bench.said().to_vec(alloc)?;
-    let out = match bench.file("o") {
-        Some(bytes) => Some(bytes.to_vec(alloc)?),
-        None => None,
-    };
-    Ok(Ended { outcome, said, out })
-}
-
-/// What a command says on a bench with the file `c` and others, and what the file `o` holds then. The run is done.
-pub fn done(
-    rt: &impl AllocGlobal,
-    why: &str,
-    config: &[u8],
-    others: &[(&str, &[u8])],
-    words: &[&str],
-) -> Result<(Vec<u8>, Vec<u8>), Fail> {
-    let Ended { outcome, said, out } = end_of(rt.alloc(), config, others, None, words)?;
-    is_outcome(why, outcome, Outcome::Done, 0)?;
-    match out {
-        Some(out) => Ok((said, out)),
-        None => Ok((said, Vec::new(rt.alloc()))),
+    /// The bytes of a file, none if it is not there.
+    pub fn bytes(&self, name: &str) -> &[u8] {
+        self.desk.file(name).unwrap_or(&[])
     }
 }
 

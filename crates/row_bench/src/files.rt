@@ -21,22 +21,33 @@ pub const ONCE: File = File {
     set: &[],
 };
 
-/// The bytes of a file.
-pub fn bytes_of(alloc: Global, file: &File) -> Result<Vec<u8>, Fail> {
-    let mut bytes = Vec::new(alloc);
-    for _ in 0..file.times {
-        for line in file.text {
-            bytes.extend_from_slice(line.as_bytes())?;
-        }
-        for piece in file.pieces {
-            bytes.extend_from_slice(piece)?;
-        }
+// Appends a text and the pieces behind it.
+fn add_once(bytes: &mut Vec<u8>, file: &File) -> Result<(), Fail> {
+    for line in file.text {
+        bytes.extend_from_slice(line.as_bytes())?;
     }
-    bytes.truncate(file.len);
-    for (place, byte) in file.set {
+    for piece in file.pieces {
+        bytes.extend_from_slice(piece)?;
+    }
+    Ok(())
+}
+
+// Sets the bytes at some places.
+fn set(bytes: &mut [u8], others: &[(usize, u8)]) {
+    for (place, byte) in others {
         if let Some(old) = bytes.get_mut(*place) {
             *old = *byte;
         }
     }
+}
+
+/// The bytes of a file.
+pub fn bytes_of(alloc: Global, file: &File) -> Result<Vec<u8>, Fail> {
+    let mut bytes = Vec::new(alloc);
+    for _ in 0..file.times {
+        add_once(&mut bytes, file)?;
+    }
+    bytes.truncate(file.len);
+    set(&mut bytes, file.set);
     Ok(bytes)
 }

@@ -5,9 +5,9 @@ mod bench;
 mod files;
 mod samples;
 
-pub use bench::{Bench, Differs, Ended, done, end_of, is_outcome};
+pub use bench::{Bench, Differs, is_outcome};
 pub use files::{File, ONCE, bytes_of};
 pub use samples::{
     BOTH_UNITS, EMPTY_RECORD, FIRST, KEPT, LOADED, LOADED_INPUT, MUTED_HEAD, NULL, PACKET, SECOND,
-    SMALL, SPREAD, SUBSECONDS, THREE_BLOCKS,
+    SMALL, SPREAD, SUBSECONDS, THREE_BLOCKS, muted_record,
 };

@@ -1,11 +1,8 @@
 // `common gateway CONFIG OUT IN..`. Expected values come from a worked example: a group of two PLPs that share the packets A and B.
 
-use crate::common_receive::{
-    BEHIND, COMMON, GROUP, INPUT_X, INPUT_Y, OWN_X, OWN_Y, SLOTS_LINE, VARIED,
-};
+use crate::common_receive::{COMMON, GROUP, INPUT_X, INPUT_Y, OWN_X, OWN_Y, VARIED, both_receive};
 use crate::rows::{Out, ROW, Row, all_hold};
-use network_rows::add_nulls;
-use row_bench::{File, ONCE, PACKET, bytes_of, done};
+use row_bench::{Bench, File, NULL, ONCE, PACKET};
 use site_top::Outcome;
 use std::process::Abort;
 use std::test::Fail;
@@ -16,51 +13,50 @@ const OTHER: File = File {
     ..ONCE
 };
 
+// The inputs of both PLPs of the group, and what they are if they are split by hand.
+const INPUTS: [(&str, File); 3] = [("c", GROUP), ("x", INPUT_X), ("y", INPUT_Y)];
+
+const SPLIT: [(&str, File); 4] = [("c", GROUP), ("0", COMMON), ("1", OWN_X), ("2", OWN_Y)];
+
+// The command over both inputs makes the stream `t`.
+fn make_stream(bench: &mut Bench) -> Result<(), Fail> {
+    bench.put_files(&INPUTS)?;
+    bench.done("the command", &["common", "gateway", "c", "t", "x", "y"])
+}
+
+// What is said and written is what it is if the inputs are split by hand.
 #[test]
 fn what_all_inputs_of_a_group_have_goes_once(rt: HostRuntime) -> Result<(), Fail> {
-    let alloc = rt.alloc();
-    let config = bytes_of(alloc, &GROUP)?;
-    let common = bytes_of(alloc, &COMMON)?;
-    let own_x = bytes_of(alloc, &OWN_X)?;
-    let own_y = bytes_of(alloc, &OWN_Y)?;
-    let split: [(&str, &[u8]); 3] = [("0", &common), ("1", &own_x), ("2", &own_y)];
-    let words = ["gateway", "c", "o", "0", "1", "2"];
-    let (line, stream) = done(&rt, "split by hand", &config, &split, &words)?;
-    let x = bytes_of(alloc, &INPUT_X)?;
-    let y = bytes_of(alloc, &INPUT_Y)?;
-    let inputs: [(&str, &[u8]); 2] = [("x", &x), ("y", &y)];
-    let words = ["common", "gateway", "c", "o", "x", "y"];
-    let (said, joint) = done(&rt, "split by the command", &config, &inputs, &words)?;
-    assert!(rt; said == line && joint == stream);
+    let mut bench = Bench::new(rt.alloc());
+    make_stream(&mut bench)?;
+    bench.put_answer("said")?;
+    bench.put_files(&SPLIT)?;
+    bench.done("split by hand", &["gateway", "c", "o", "0", "1", "2"])?;
+    assert!(rt; bench.answer() == bench.bytes("said") && bench.file("o") == bench.file("t"));
     Ok(())
 }
 
 #[test]
 fn each_receiver_of_a_group_has_its_input(rt: HostRuntime) -> Result<(), Fail> {
-    let alloc = rt.alloc();
-    let config = bytes_of(alloc, &GROUP)?;
-    let x = bytes_of(alloc, &INPUT_X)?;
-    let y = bytes_of(alloc, &INPUT_Y)?;
-    let inputs: [(&str, &[u8]); 2] = [("x", &x), ("y", &y)];
-    let words = ["common", "gateway", "c", "o", "x", "y"];
-    let (_, stream) = done(&rt, "the stream", &config, &inputs, &words)?;
-    let words = ["modulate", "c", "t", "o"];
-    let (_, records) = done(&rt, "the records", &config, &[("t", &stream)], &words)?;
-    for (plp, input) in [("1", &x), ("2", &y)] {
-        let mut expected = input.to_vec(alloc)?;
-        add_nulls(&mut expected, BEHIND)?;
-        let words = ["common", "receive", "c", plp, "r", "o"];
-        let (said, back) = done(&rt, plp, &config, &[("r", &records)], &words)?;
-        assert!(rt;
-            said.as_slice() == SLOTS_LINE && back == expected,
-            "PLP {plp}"
-        );
-    }
-    Ok(())
+    let mut bench = Bench::new(rt.alloc());
+    make_stream(&mut bench)?;
+    bench.done("the records", &["modulate", "c", "t", "r"])?;
+    both_receive(&rt, &mut bench)
 }
 
-// More slots than any receiver here has.
-const MOST_SLOTS: u16 = 1000;
+// Inputs of different length, and more null packets than any receiver here has slots.
+#[rattlefmt::skip]
+const LONG_AND_SHORT: [(&str, File); 5] = [
+    ("c", VARIED), ("0", File { times: 90, ..PACKET }), ("1", File { times: 7, ..OTHER }), ("2", ONCE), ("n", File { times: 1_000, ..NULL }),
+];
+
+// Makes the records `r` of these inputs.
+fn make_records(bench: &mut Bench) -> Result<(), Fail> {
+    bench.put_files(&LONG_AND_SHORT)?;
+    let words = ["common", "gateway", "c", "t", "0", "1", "2"];
+    bench.done("the stream", &words)?;
+    bench.done("the records", &["modulate", "c", "t", "r"])
+}
 
 // Whether these bytes are an input, and behind it null packets.
 fn is_followed(bytes: &[u8], input: &[u8], nulls: &[u8]) -> bool {
@@ -70,32 +66,24 @@ fn is_followed(bytes: &[u8], input: &[u8], nulls: &[u8]) -> bool {
     }
 }
 
-// Three groups, of which one has a common PLP, with inputs of different length.
+// An input comes back of a PLP.
+fn comes_back(rt: &impl Abort, bench: &mut Bench, plp: &str, input: &str) -> Result<(), Fail> {
+    bench.done(plp, &["common", "receive", "c", plp, "r", "o"])?;
+    assert!(rt;
+        is_followed(bench.bytes("o"), bench.bytes(input), bench.bytes("n")),
+        "PLP {plp}"
+    );
+    Ok(())
+}
+
+// Three groups, of which one has a common PLP.
 #[test]
 fn inputs_of_different_length_come_back(rt: HostRuntime) -> Result<(), Fail> {
-    let alloc = rt.alloc();
-    let config = bytes_of(alloc, &VARIED)?;
-    let long = bytes_of(
-        alloc,
-        &File {
-            times: 90,
-            ..PACKET
-        },
-    )?;
-    let short = bytes_of(alloc, &File { times: 7, ..OTHER })?;
-    let mut nulls = Vec::new(alloc);
-    add_nulls(&mut nulls, MOST_SLOTS)?;
-    let inputs: [(&str, &[u8]); 3] = [("0", &long), ("1", &short), ("2", &[])];
-    let words = ["common", "gateway", "c", "o", "0", "1", "2"];
-    let (_, stream) = done(&rt, "the stream", &config, &inputs, &words)?;
-    let words = ["modulate", "c", "t", "o"];
-    let (_, records) = done(&rt, "the records", &config, &[("t", &stream)], &words)?;
-    for (plp, input) in [("3", long.as_slice()), ("9", short.as_slice()), ("5", &[])] {
-        let words = ["common", "receive", "c", plp, "r", "o"];
-        let (_, back) = done(&rt, plp, &config, &[("r", &records)], &words)?;
-        assert!(rt; is_followed(&back, input, &nulls), "PLP {plp}");
-    }
-    Ok(())
+    let mut bench = Bench::new(rt.alloc());
+    make_records(&mut bench)?;
+    comes_back(&rt, &mut bench, "3", "0")?;
+    comes_back(&rt, &mut bench, "9", "1")?;
+    comes_back(&rt, &mut bench, "5", "2")
 }
 
 // The first frame that wants packets wants 3 of each input of the group, and no fewer of the others.

@@ -2,9 +2,10 @@
 
 use crate::rows::{Out, ROW, Row, all_hold};
 use network_rows::add_nulls;
-use row_bench::{File, ONCE, PACKET, bytes_of, done};
+use row_bench::{Bench, File, ONCE, PACKET};
 use sample_networks::{SMALL_HEAD, VARIED_TEXT};
 use site_top::Outcome;
+use std::alloc::Global;
 use std::process::Abort;
 use std::test::Fail;
 
@@ -61,62 +62,77 @@ pub(crate) const INPUT_Y: File = File {
 };
 
 // Behind six frames 10 slots are due: null packets stand behind those of an input.
-pub(crate) const BEHIND: u16 = 7;
+const BEHIND: u16 = 7;
 
-pub(crate) const SLOTS_LINE: &[u8] = b"first=0 slots=10\n";
+const SLOTS_LINE: &[u8] = b"first=0 slots=10\n";
 
-// The records of the frames of the group.
-fn records_of(rt: &(impl AllocGlobal + Abort), config: &[u8]) -> Result<Vec<u8>, Fail> {
-    let alloc = rt.alloc();
-    let common = bytes_of(alloc, &COMMON)?;
-    let x = bytes_of(alloc, &OWN_X)?;
-    let y = bytes_of(alloc, &OWN_Y)?;
-    let inputs: [(&str, &[u8]); 3] = [("0", &common), ("1", &x), ("2", &y)];
-    let words = ["gateway", "c", "o", "0", "1", "2"];
-    let (said, stream) = done(rt, "the stream", config, &inputs, &words)?;
-    assert!(rt; said.starts_with(b"frames=6 "), "another number of frames");
-    let words = ["modulate", "c", "t", "o"];
-    let (_, records) = done(rt, "the records", config, &[("t", &stream)], &words)?;
-    Ok(records)
+// What the PLPs of the group are sent.
+const SPLIT: [(&str, File); 4] = [("c", GROUP), ("0", COMMON), ("1", OWN_X), ("2", OWN_Y)];
+
+// Makes the records `r` of the frames of the group.
+fn make_records(rt: &impl Abort, bench: &mut Bench) -> Result<(), Fail> {
+    bench.put_files(&SPLIT)?;
+    bench.done("the stream", &["gateway", "c", "t", "0", "1", "2"])?;
+    assert!(rt;
+        bench.answer().starts_with(b"frames=6 "),
+        "another number of frames"
+    );
+    bench.done("the records", &["modulate", "c", "t", "r"])
 }
 
-// A PLP of the group, and its input.
+// An input, and the null packets that stand behind it.
+fn followed(alloc: Global, input: &[u8]) -> Result<Vec<u8>, Fail> {
+    let mut packets = input.to_vec(alloc)?;
+    add_nulls(&mut packets, BEHIND)?;
+    Ok(packets)
+}
+
+// A PLP of the group, and the file that is its input.
 struct Own {
     why: &'static str,
     plp: &'static str,
-    input: File,
+    input: &'static str,
 }
 
 const OWN: [Own; 2] = [
     Own {
         why: "shared packets come back in the slots of PLP 1",
         plp: "1",
-        input: INPUT_X,
+        input: "x",
     },
     Own {
         why: "shared packets come back in the slots of PLP 2",
         plp: "2",
-        input: INPUT_Y,
+        input: "y",
     },
 ];
 
-#[test]
-fn shared_packets_come_back_with_those_of_each_plp(rt: HostRuntime) -> Result<(), Fail> {
-    let alloc = rt.alloc();
-    let config = bytes_of(alloc, &GROUP)?;
-    let records = records_of(&rt, &config)?;
+// A PLP of the group receives its input from the records `r`.
+fn receives(rt: &impl Abort, bench: &mut Bench, own: &Own) -> Result<(), Fail> {
+    bench.done(own.why, &["common", "receive", "c", own.plp, "r", "o"])?;
+    let packets = followed(bench.alloc(), bench.bytes(own.input))?;
+    assert!(rt;
+        bench.answer() == SLOTS_LINE && bench.bytes("o") == packets.as_slice(),
+        "{}",
+        own.why
+    );
+    Ok(())
+}
+
+/// Each PLP of the group receives its input, `x` or `y`, from the records `r`.
+pub(crate) fn both_receive(rt: &impl Abort, bench: &mut Bench) -> Result<(), Fail> {
     for own in &OWN {
-        let mut expected = bytes_of(alloc, &own.input)?;
-        add_nulls(&mut expected, BEHIND)?;
-        let words = ["common", "receive", "c", own.plp, "r", "o"];
-        let (said, back) = done(&rt, own.why, &config, &[("r", &records)], &words)?;
-        assert!(rt;
-            said.as_slice() == SLOTS_LINE && back == expected,
-            "{}",
-            own.why
-        );
+        receives(rt, bench, own)?;
     }
     Ok(())
+}
+
+#[test]
+fn shared_packets_come_back_with_those_of_each_plp(rt: HostRuntime) -> Result<(), Fail> {
+    let mut bench = Bench::new(rt.alloc());
+    make_records(&rt, &mut bench)?;
+    bench.put_files(&[("x", INPUT_X), ("y", INPUT_Y)])?;
+    both_receive(&rt, &mut bench)
 }
 
 // Three groups: PLP 7 is the common one of the group of PLP 3, and the PLPs 9 and 5 have groups of their own.
@@ -125,24 +141,35 @@ pub(crate) const VARIED: File = File {
     ..ONCE
 };
 
+// Makes the records `r` of nine packets, which go to each PLP.
+fn make_varied(bench: &mut Bench) -> Result<(), Fail> {
+    bench.put_file("c", &VARIED)?;
+    bench.put_file("0", &NINE)?;
+    let words = ["gateway", "c", "t", "0", "0", "0", "0"];
+    bench.done("the stream", &words)?;
+    bench.done("the records", &["modulate", "c", "t", "r"])
+}
+
+const NINE: File = File { times: 9, ..PACKET };
+
+// `common receive` says and writes for a PLP what `receive` does.
+fn is_as_with_receive(rt: &impl Abort, bench: &mut Bench, plp: &str) -> Result<(), Fail> {
+    bench.done(plp, &["receive", "c", plp, "r", "a"])?;
+    bench.put_answer("said")?;
+    bench.done(plp, &["common", "receive", "c", plp, "r", "o"])?;
+    assert!(rt;
+        bench.answer() == bench.bytes("said") && bench.file("o") == bench.file("a"),
+        "PLP {plp}"
+    );
+    Ok(())
+}
+
 #[test]
 fn without_a_common_plp_all_is_as_with_receive(rt: HostRuntime) -> Result<(), Fail> {
-    let alloc = rt.alloc();
-    let config = bytes_of(alloc, &VARIED)?;
-    let packets = bytes_of(alloc, &File { times: 9, ..PACKET })?;
-    let inputs: [(&str, &[u8]); 1] = [("0", &packets)];
-    let words = ["gateway", "c", "o", "0", "0", "0", "0"];
-    let (_, stream) = done(&rt, "the stream", &config, &inputs, &words)?;
-    let words = ["modulate", "c", "t", "o"];
-    let (_, records) = done(&rt, "the records", &config, &[("t", &stream)], &words)?;
-    for plp in ["9", "5"] {
-        let files: [(&str, &[u8]); 1] = [("r", &records)];
-        let alone = done(&rt, plp, &config, &files, &["receive", "c", plp, "r", "o"])?;
-        let words = ["common", "receive", "c", plp, "r", "o"];
-        let joined = done(&rt, plp, &config, &files, &words)?;
-        assert!(rt; alone.0 == joined.0 && alone.1 == joined.1, "PLP {plp}");
-    }
-    Ok(())
+    let mut bench = Bench::new(rt.alloc());
+    make_varied(&mut bench)?;
+    is_as_with_receive(&rt, &mut bench, "9")?;
+    is_as_with_receive(&rt, &mut bench, "5")
 }
 
 // The file of records is absent: the identifier is looked for before it is opened.

@@ -2,7 +2,7 @@
 // leaves without a fault. `gateway.rt` has the call that says a last line.
 
 use ports::CallKind;
-use row_bench::{Ended, File, LOADED, LOADED_INPUT, SPREAD, bytes_of, done, end_of, is_outcome};
+use row_bench::{Bench, File, LOADED, LOADED_INPUT, SPREAD, is_outcome};
 use site_top::Outcome;
 use std::process::Abort;
 use std::test::Fail;
@@ -77,58 +77,170 @@ static COMMANDS: [Command; 11] = [
     Command { why: "show frames", words: &["show", "frames", "r"], writes: false },
 ];
 
-// Whether a run in which this call failed said a front of what it says if nothing fails, and then its last line; and whether the
-// file that it wrote has a front of what it has then. It may be absent only if a call failed that can come before it is created.
-// If a second write failed, it has some bytes and not all.
-fn leaves_front(left: &Ended, usual: &Ended, kind: &Kind, nth: u64) -> bool {
-    let says_front = match left.said.as_slice().strip_suffix(kind.line.as_bytes()) {
-        Some(front) => usual.said.as_slice().starts_with(front),
+// The files that commands read.
+const FILES: [&str; 5] = ["c", "i", "s", "r", "p"];
+
+// Makes them.
+fn make_files(bench: &mut Bench, config: &File) -> Result<(), Fail> {
+    bench.put_file("c", config)?;
+    bench.put_file("i", &LOADED_INPUT)?;
+    bench.put("p", &STAMP)?;
+    bench.done("gateway", &["gateway", "c", "s", "i"])?;
+    bench.done("modulate", &["modulate", "c", "s", "r"])
+}
+
+// Sets the same files.
+fn put_files(bench: &mut Bench, made: &Bench) -> Result<(), Fail> {
+    for name in FILES {
+        bench.put(name, made.bytes(name))?;
+    }
+    Ok(())
+}
+
+// A bench with the same files, on which nothing was done.
+fn copy(made: &Bench) -> Result<Bench, Fail> {
+    let mut bench = Bench::new(made.alloc());
+    put_files(&mut bench, made)?;
+    Ok(bench)
+}
+
+// Whether a run in which this call failed said a front of what it says if nothing fails, and then its last line.
+fn says_front(left: &[u8], usual: &[u8], kind: &Kind) -> bool {
+    match left.strip_suffix(kind.line.as_bytes()) {
+        Some(front) => usual.starts_with(front),
         None => false,
-    };
-    let again = kind.kind == CallKind::Write && 1 < nth;
-    let writes_front = match (&left.out, &usual.out) {
+    }
+}
+
+// Whether a call of this kind can come before a file is created.
+fn comes_early(kind: CallKind) -> bool {
+    matches!(kind, CallKind::Open | CallKind::Read | CallKind::Create)
+}
+
+// Whether the file that such a run wrote has a front of what it has if nothing fails. It may be absent only if a call failed that can
+// come before it is created. If a second write failed, it has some bytes and not all.
+fn writes_front(left: Option<&[u8]>, usual: Option<&[u8]>, kind: CallKind, nth: u64) -> bool {
+    let again = kind == CallKind::Write && 1 < nth;
+    match (left, usual) {
         (Some(some), Some(all)) => {
-            all.as_slice().starts_with(some.as_slice())
-                && (!again || 0 < some.len() && some.len() < all.len())
+            all.starts_with(some) && (!again || 0 < some.len() && some.len() < all.len())
         }
-        (None, Some(_)) => matches!(
-            kind.kind,
-            CallKind::Open | CallKind::Read | CallKind::Create
-        ),
+        (None, Some(_)) => comes_early(kind),
         (some, None) => some.is_none(),
-    };
-    says_front && writes_front
+    }
+}
+
+fn leaves_front(left: &Bench, usual: &Bench, kind: &Kind, nth: u64) -> bool {
+    says_front(left.said(), usual.said(), kind)
+        && writes_front(left.file("o"), usual.file("o"), kind.kind, nth)
+}
+
+// Whether a run is done in which this call fails, since it makes no such call. If not, it ends with that fault.
+fn is_done(
+    rt: &impl Abort,
+    bench: &mut Bench,
+    usual: &Bench,
+    command: &Command,
+    kind: &Kind,
+    nth: u64,
+) -> Result<bool, Fail> {
+    bench.fail(kind.kind, nth)?;
+    let outcome = bench.run(command.words)?;
+    if outcome == Outcome::Done {
+        return Ok(true);
+    }
+    is_outcome(command.why, outcome, kind.outcome, kind.status)?;
+    assert!(rt;
+        leaves_front(bench, usual, kind, nth),
+        "{}: {} {nth}",
+        command.why,
+        kind.why
+    );
+    Ok(false)
+}
+
+// The same on a bench of its own.
+fn is_done_anew(
+    rt: &impl Abort,
+    made: &Bench,
+    usual: &Bench,
+    command: &Command,
+    kind: &Kind,
+    nth: u64,
+) -> Result<bool, Fail> {
+    let mut bench = copy(made)?;
+    is_done(rt, &mut bench, usual, command, kind, nth)
 }
 
 // Makes each call of a kind fail in turn, until a run is done, and answers how many there were.
 fn calls_of(
-    rt: &(impl AllocGlobal + Abort),
-    config: &[u8],
-    others: &[(&str, &[u8])],
+    rt: &impl Abort,
+    made: &Bench,
+    usual: &Bench,
     command: &Command,
-    usual: &Ended,
     kind: &Kind,
 ) -> Result<u64, Fail> {
     for nth in 1..MOST {
-        let left = end_of(
-            rt.alloc(),
-            config,
-            others,
-            Some((kind.kind, nth)),
-            command.words,
-        )?;
-        if left.outcome == Outcome::Done {
+        if is_done_anew(rt, made, usual, command, kind, nth)? {
             return Ok(nth - 1);
         }
-        is_outcome(command.why, left.outcome, kind.outcome, kind.status)?;
-        assert!(rt;
-            leaves_front(&left, usual, kind, nth),
-            "{}: {} {nth}",
-            command.why,
-            kind.why
-        );
     }
     panic!(rt; "{}: {} {MOST}", command.why, kind.why)
+}
+
+// There are as many calls of a kind as a command of its sort makes.
+fn kind_holds(
+    rt: &impl Abort,
+    made: &Bench,
+    usual: &Bench,
+    command: &Command,
+    kind: &Kind,
+) -> Result<(), Fail> {
+    let calls = calls_of(rt, made, usual, command, kind)?;
+    let (least, most) = if command.writes {
+        kind.writing
+    } else {
+        kind.other
+    };
+    assert!(rt;
+        least <= calls && calls <= most,
+        "{}: {} {calls}",
+        command.why,
+        kind.why
+    );
+    Ok(())
+}
+
+fn all_kinds_hold(
+    rt: &impl Abort,
+    made: &Bench,
+    usual: &Bench,
+    command: &Command,
+) -> Result<(), Fail> {
+    for kind in &KINDS {
+        kind_holds(rt, made, usual, command, kind)?;
+    }
+    Ok(())
+}
+
+// The bench behind a run in which nothing fails.
+fn usual_of(made: &Bench, command: &Command) -> Result<Bench, Fail> {
+    let mut bench = copy(made)?;
+    bench.done(command.why, command.words)?;
+    Ok(bench)
+}
+
+// Makes each call fail in a command.
+fn command_holds(rt: &impl Abort, made: &Bench, command: &Command) -> Result<(), Fail> {
+    let usual = usual_of(made, command)?;
+    all_kinds_hold(rt, made, &usual, command)
+}
+
+fn all_commands_hold(rt: &impl Abort, made: &Bench, commands: &[Command]) -> Result<(), Fail> {
+    for command in commands {
+        command_holds(rt, made, command)?;
+    }
+    Ok(())
 }
 
 // Makes each call fail in some of the commands over a network.
@@ -137,42 +249,9 @@ fn all_leave_fronts(
     config: &File,
     commands: &[Command],
 ) -> Result<(), Fail> {
-    let alloc = rt.alloc();
-    let config = bytes_of(alloc, config)?;
-    let input = bytes_of(alloc, &LOADED_INPUT)?;
-    let (_, stream) = done(rt, "gateway", &config, &[("i", &input)], COMMANDS[0].words)?;
-    let (_, records) = done(
-        rt,
-        "modulate",
-        &config,
-        &[("s", &stream)],
-        COMMANDS[1].words,
-    )?;
-    let others = [
-        ("i", input.as_slice()),
-        ("s", stream.as_slice()),
-        ("r", records.as_slice()),
-        ("p", STAMP.as_slice()),
-    ];
-    for command in commands {
-        let usual = end_of(alloc, &config, &others, None, command.words)?;
-        is_outcome(command.why, usual.outcome, Outcome::Done, 0)?;
-        for kind in &KINDS {
-            let calls = calls_of(rt, &config, &others, command, &usual, kind)?;
-            let (least, most) = if command.writes {
-                kind.writing
-            } else {
-                kind.other
-            };
-            assert!(rt;
-                least <= calls && calls <= most,
-                "{}: {} {calls}",
-                command.why,
-                kind.why
-            );
-        }
-    }
-    Ok(())
+    let mut made = Bench::new(rt.alloc());
+    make_files(&mut made, config)?;
+    all_commands_hold(rt, &made, commands)
 }
 
 #[test]

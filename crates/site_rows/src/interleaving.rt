@@ -4,8 +4,8 @@
 
 use crate::rows::{Out, ROW, Row, all_hold};
 use network_rows::{Slots, numbered, packets_in, packets_of, piped};
-use row_bench::{EMPTY_RECORD, File, MUTED_HEAD, NULL, PACKET, SPREAD, SUBSECONDS, bytes_of, done};
-use std::alloc::Global;
+use row_bench::{Bench, EMPTY_RECORD, File, NULL, PACKET, SPREAD, muted_record};
+use std::alloc::{AllocError, Global};
 use std::process::Abort;
 use std::test::Fail;
 
@@ -86,74 +86,26 @@ static LOSSES: [Loss; 3] = [
     Loss { why: "nor is that of frame 3", packet: THIRD_L1, muted: 3, back: 4 },
 ];
 
-// The units of all packets but one.
-fn without(alloc: Global, packets: &[Vec<u8>], lost: usize) -> Result<Vec<u8>, Fail> {
-    let mut left = Vec::new(alloc);
-    for (place, packet) in packets.iter().enumerate() {
-        if place != lost {
-            left.push(packet.to_vec(alloc)?)?;
-        }
+// How many bytes the record of a frame has.
+fn record_len(frame: usize) -> usize {
+    if frame == FULL {
+        EMPTY_RECORD + FIVE_BLOCKS
+    } else {
+        EMPTY_RECORD
     }
-    Ok(piped(alloc, 256, &left)?)
 }
 
-// The record of each frame.
-fn parted(alloc: Global, records: &[u8]) -> Result<Vec<Vec<u8>>, Fail> {
-    let mut parts = Vec::new(alloc);
-    let mut left = records;
-    for frame in 0..FRAMES {
-        let blocks = if frame == FULL { FIVE_BLOCKS } else { 0 };
-        let (record, behind) = left.split_at((EMPTY_RECORD + blocks).min(left.len()));
-        parts.push(record.to_vec(alloc)?)?;
-        left = behind;
-    }
-    Ok(parts)
+// Makes the stream `t`.
+fn make_stream(bench: &mut Bench) -> Result<(), Fail> {
+    bench.put_file("c", &SPREAD)?;
+    bench.put_file("i", &INPUT)?;
+    bench.done("the stream", &["gateway", "c", "t", "i"])
 }
 
-// All records, of which those of some frames are muted.
-fn muted(alloc: Global, records: &[Vec<u8>], loss: &Loss) -> Result<Vec<u8>, Fail> {
-    let mut bytes = Vec::new(alloc);
-    for (frame, (record, subseconds)) in records.iter().zip(SUBSECONDS.iter()).enumerate() {
-        if loss.muted <= frame && frame < loss.back {
-            bytes.extend_from_slice(&MUTED_HEAD)?;
-            bytes.extend_from_slice(subseconds)?;
-            bytes.extend_from_slice(&[0; 4])?;
-        } else {
-            bytes.extend_from_slice(record)?;
-        }
-    }
-    Ok(bytes)
-}
-
-// The stream.
-fn stream_of(rt: &(impl AllocGlobal + Abort), config: &[u8]) -> Result<Vec<u8>, Fail> {
-    let input = bytes_of(rt.alloc(), &INPUT)?;
-    let inputs = [("0", input.as_slice())];
-    let words = ["gateway", "c", "o", "0"];
-    let (_, stream) = done(rt, "the stream", config, &inputs, &words)?;
-    Ok(stream)
-}
-
-// What `modulate` says and writes of a stream.
-fn records_of(
-    rt: &(impl AllocGlobal + Abort),
-    why: &str,
-    config: &[u8],
-    stream: &[u8],
-) -> Result<(Vec<u8>, Vec<u8>), Fail> {
-    let words = ["modulate", "c", "t", "o"];
-    done(rt, why, config, &[("t", stream)], &words)
-}
-
-// What `receive` says and writes of records.
-fn given_back(
-    rt: &(impl AllocGlobal + Abort),
-    why: &str,
-    config: &[u8],
-    records: &[u8],
-) -> Result<(Vec<u8>, Vec<u8>), Fail> {
-    let words = ["receive", "c", "0", "r", "o"];
-    done(rt, why, config, &[("r", records)], &words)
+// And its records `w`.
+fn make_records(bench: &mut Bench) -> Result<(), Fail> {
+    make_stream(bench)?;
+    bench.done("all records", &["modulate", "c", "t", "w"])
 }
 
 #[test]
@@ -161,46 +113,169 @@ fn streams_and_records_of_interleaving_frames(rt: HostRuntime) -> Result<(), Fai
     all_hold(&rt, &ROWS)
 }
 
-// PLP_NUM_BLOCKS stands in ten bits from bit 557 of an L1-current on, behind the last of PLP_START, which is 0 here.
+// Whether a packet is of this type; and if it is an L1-current, whether it tells so many blocks. PLP_NUM_BLOCKS stands in ten bits
+// from bit 557 on, behind the last of PLP_START, which is 0 here.
+fn tells(packet: &[u8], kind: u8, count: u8) -> bool {
+    packet.first() == Some(&kind)
+        && (kind != 0x10 || packet.get(69..71) == Some([0, count.wrapping_mul(2)].as_slice()))
+}
+
+// The frames 2 and 3 have five blocks.
+fn all_tell(rt: &impl Abort, packets: &[Vec<u8>]) {
+    for (place, (packet, kind)) in packets.iter().zip(TYPES.iter()).enumerate() {
+        let full = place == SECOND_L1 || place == THIRD_L1;
+        assert!(rt;
+            tells(packet, *kind, if full { 5 } else { 0 }),
+            "packet {place}"
+        );
+    }
+}
+
+// The packets of the stream `t`.
+fn packets_of_stream(bench: &Bench) -> Result<Vec<Vec<u8>>, Fail> {
+    Ok(packets_in(bench.alloc(), 256, bench.bytes("t"))?)
+}
+
 #[test]
 fn a_frame_tells_the_blocks_of_its_interleaving_frame(rt: HostRuntime) -> Result<(), Fail> {
-    let alloc = rt.alloc();
-    let config = bytes_of(alloc, &SPREAD)?;
-    let packets = packets_in(alloc, 256, &stream_of(&rt, &config)?)?;
+    let mut bench = Bench::new(rt.alloc());
+    make_stream(&mut bench)?;
+    let packets = packets_of_stream(&bench)?;
     assert!(rt; packets.len() == TYPES.len(), "so many packets");
-    for (place, (packet, kind)) in packets.iter().zip(TYPES.iter()).enumerate() {
-        assert!(rt; packet.first() == Some(kind), "packet {place}");
-        if *kind == 0x10 {
-            let count = if place == SECOND_L1 || place == THIRD_L1 {
-                5
-            } else {
-                0
-            };
-            assert!(rt;
-                packet.get(69..71) == Some([0, 2 * count].as_slice()),
-                "packet {place}"
-            );
-        }
-    }
+    all_tell(&rt, &packets);
     Ok(())
+}
+
+// The record of a frame among all.
+fn record_in(records: &[u8], frame: usize) -> &[u8] {
+    let mut left = records;
+    for before in 0..frame {
+        left = left.get(record_len(before)..).unwrap_or(&[]);
+    }
+    left.get(..record_len(frame)).unwrap_or(&[])
+}
+
+// The cells of a record.
+fn cells_of(record: &[u8]) -> &[u8] {
+    record
+        .get(record.len().saturating_sub(CELL_BYTES)..)
+        .unwrap_or(&[])
 }
 
 // The time interleaver of a PLP with 8,100 cells a block has 1,620 rows, and five columns for each block. Of five blocks frame 2
 // carries 20,250 cells, the first 810 rows, so frame 3 begins with cell 810 of block 0.
 #[test]
 fn the_second_frame_goes_on_with_the_cells_of_the_first(rt: HostRuntime) -> Result<(), Fail> {
-    let alloc = rt.alloc();
-    let config = bytes_of(alloc, &SPREAD)?;
-    let stream = stream_of(&rt, &config)?;
-    let (_, records) = records_of(&rt, "the records", &config, &stream)?;
-    let parts = parted(alloc, &records)?;
-    let third = parts.get(FULL + 1).ok_or("there is no record of frame 3")?;
-    let cells = third.len().saturating_sub(CELL_BYTES);
+    let mut bench = Bench::new(rt.alloc());
+    make_records(&mut bench)?;
+    let third = record_in(bench.bytes("w"), FULL + 1);
+    assert!(rt; cells_of(third).starts_with(&[0x00, 0x00, 0x03, 0x2A]));
+    Ok(())
+}
+
+// All packets but one.
+fn without(alloc: Global, packets: &[Vec<u8>], lost: usize) -> Result<Vec<Vec<u8>>, Fail> {
+    let mut left = Vec::new(alloc);
+    for (place, packet) in packets.iter().enumerate() {
+        if place != lost {
+            push_copy(alloc, &mut left, packet)?;
+        }
+    }
+    Ok(left)
+}
+
+fn push_copy(alloc: Global, packets: &mut Vec<Vec<u8>>, packet: &[u8]) -> Result<(), Fail> {
+    let copy = packet.to_vec(alloc)?;
+    packets.push(copy)?;
+    Ok(())
+}
+
+// Sets a file: the units of some packets.
+fn put_units(bench: &mut Bench, name: &str, packets: &[Vec<u8>]) -> Result<(), Fail> {
+    let units = piped(bench.alloc(), 256, packets)?;
+    bench.put(name, &units)
+}
+
+// Sets the stream `d` of all packets but that which is lost.
+fn put_lossy(bench: &mut Bench, packets: &[Vec<u8>], loss: &Loss) -> Result<(), Fail> {
+    let left = without(bench.alloc(), packets, loss.packet)?;
+    put_units(bench, "d", &left)
+}
+
+// All records, of which those of some frames are muted.
+fn muted(alloc: Global, records: &[u8], loss: &Loss) -> Result<Vec<u8>, Fail> {
+    let mut bytes = Vec::new(alloc);
+    for frame in 0..FRAMES {
+        if loss.muted <= frame && frame < loss.back {
+            bytes.extend_from_slice(&muted_record(frame))?;
+        } else {
+            bytes.extend_from_slice(record_in(records, frame))?;
+        }
+    }
+    Ok(bytes)
+}
+
+// The line of `modulate` then.
+fn line_of(alloc: Global, loss: &Loss) -> Result<String, AllocError> {
+    let muted = loss.back.wrapping_sub(loss.muted);
+    format!(in alloc; "first=0 records=8 muted={muted}\n")
+}
+
+// What `modulate` says of the stream `d`.
+fn line_holds(rt: &impl Abort, bench: &mut Bench, loss: &Loss) -> Result<(), Fail> {
+    bench.done(loss.why, &["modulate", "c", "d", "r"])?;
+    let line = line_of(bench.alloc(), loss)?;
+    assert!(rt; bench.answer() == line.as_bytes(), "{}: the line", loss.why);
+    Ok(())
+}
+
+// What it writes.
+fn records_hold(rt: &impl Abort, bench: &Bench, loss: &Loss) -> Result<(), Fail> {
+    let records = muted(bench.alloc(), bench.bytes("w"), loss)?;
     assert!(rt;
-        third
-            .get(cells..)
-            .unwrap_or(&[])
-            .starts_with(&[0x00, 0x00, 0x03, 0x2A])
+        bench.bytes("r") == records.as_slice(),
+        "{}: the records",
+        loss.why
+    );
+    Ok(())
+}
+
+// What comes back of that: the null packets `n`.
+fn nothing_comes_back(rt: &impl Abort, bench: &mut Bench, loss: &Loss) -> Result<(), Fail> {
+    bench.done(loss.why, &["receive", "c", "0", "r", "o"])?;
+    assert!(rt;
+        bench.answer() == b"first=0 slots=29\n".as_slice() && bench.bytes("o") == bench.bytes("n"),
+        "{}: the packets of all slots",
+        loss.why
+    );
+    Ok(())
+}
+
+fn loss_holds(
+    rt: &impl Abort,
+    bench: &mut Bench,
+    packets: &[Vec<u8>],
+    loss: &Loss,
+) -> Result<(), Fail> {
+    put_lossy(bench, packets, loss)?;
+    line_holds(rt, bench, loss)?;
+    records_hold(rt, bench, loss)?;
+    nothing_comes_back(rt, bench, loss)
+}
+
+fn all_losses_hold(rt: &impl Abort, bench: &mut Bench, packets: &[Vec<u8>]) -> Result<(), Fail> {
+    for loss in &LOSSES {
+        loss_holds(rt, bench, packets, loss)?;
+    }
+    Ok(())
+}
+
+// All packets have the units of the stream.
+fn are_all(rt: &impl Abort, bench: &mut Bench, packets: &[Vec<u8>]) -> Result<(), Fail> {
+    put_units(bench, "d", packets)?;
+    assert!(rt;
+        bench.bytes("d") == bench.bytes("t"),
+        "all packets have the units of the stream"
     );
     Ok(())
 }
@@ -209,41 +284,12 @@ fn the_second_frame_goes_on_with_the_cells_of_the_first(rt: HostRuntime) -> Resu
 fn a_lost_packet_mutes_the_frames_that_carry_it_and_nothing_comes_back(
     rt: HostRuntime,
 ) -> Result<(), Fail> {
-    let alloc = rt.alloc();
-    let config = bytes_of(alloc, &SPREAD)?;
-    let stream = stream_of(&rt, &config)?;
-    let (_, whole) = records_of(&rt, "all records", &config, &stream)?;
-    let records = parted(alloc, &whole)?;
-    let packets = packets_in(alloc, 256, &stream)?;
-    assert!(rt;
-        piped(alloc, 256, &packets)? == stream,
-        "all packets have the units of the stream"
-    );
-    let nulls = bytes_of(alloc, &SLOTS)?;
-    for loss in &LOSSES {
-        let units = without(alloc, &packets, loss.packet)?;
-        let (said, left) = records_of(&rt, loss.why, &config, &units)?;
-        let muted_count = loss.back.wrapping_sub(loss.muted);
-        let line = format!(in alloc; "first=0 records=8 muted={muted_count}\n")?;
-        assert!(rt;
-            said.as_slice() == line.as_bytes(),
-            "{}: the line",
-            loss.why
-        );
-        assert!(rt;
-            left == muted(alloc, &records, loss)?,
-            "{}: the records",
-            loss.why
-        );
-        let (said, given) = given_back(&rt, loss.why, &config, &left)?;
-        assert!(rt;
-            said.as_slice() == b"first=0 slots=29\n".as_slice(),
-            "{}: the slots",
-            loss.why
-        );
-        assert!(rt; given == nulls, "{}: the packets", loss.why);
-    }
-    Ok(())
+    let mut bench = Bench::new(rt.alloc());
+    make_records(&mut bench)?;
+    bench.put_file("n", &SLOTS)?;
+    let packets = packets_of_stream(&bench)?;
+    are_all(&rt, &mut bench, &packets)?;
+    all_losses_hold(&rt, &mut bench, &packets)
 }
 
 // What is done to the records before they are received.
@@ -291,62 +337,91 @@ static RECEPTIONS: [Reception; 9] = [
     },
 ];
 
-// The record of a frame, changed.
-fn changed(alloc: Global, frame: usize, record: &[u8], change: Change) -> Result<Vec<u8>, Fail> {
-    let mut bytes = record.to_vec(alloc)?;
+// Sets the bytes at some places.
+fn set(bytes: &mut [u8], others: &[(usize, u8)]) {
+    for (place, byte) in others {
+        if let Some(old) = bytes.get_mut(*place) {
+            *old = *byte;
+        }
+    }
+}
+
+// Appends a record with other bytes at some places.
+fn push_changed(
+    alloc: Global,
+    bytes: &mut Vec<u8>,
+    record: &[u8],
+    others: &[(usize, u8)],
+) -> Result<(), AllocError> {
+    let mut copy = record.to_vec(alloc)?;
+    set(&mut copy, others);
+    bytes.extend_from_slice(&copy)
+}
+
+// Appends the record of a frame, changed.
+fn push_record(
+    alloc: Global,
+    bytes: &mut Vec<u8>,
+    frame: usize,
+    record: &[u8],
+    change: Change,
+) -> Result<(), AllocError> {
     match change {
-        Change::Nothing => {}
-        Change::From(first) => {
-            if frame < first {
-                bytes.clear();
-            }
-        }
-        Change::Muted(muted) => {
-            if frame == muted {
-                bytes.clear();
-                bytes.extend_from_slice(&MUTED_HEAD)?;
-                bytes.extend_from_slice(SUBSECONDS.get(frame).ok_or("no such frame")?)?;
-                bytes.extend_from_slice(&[0; 4])?;
-            }
-        }
-        Change::Bytes(others) => {
-            for (place, byte) in others {
-                if frame == FULL + 1
-                    && let Some(old) = bytes.get_mut(*place)
-                {
-                    *old = *byte;
-                }
-            }
-        }
+        Change::From(first) if frame < first => Ok(()),
+        Change::Muted(muted) if frame == muted => bytes.extend_from_slice(&muted_record(frame)),
+        Change::Bytes(others) if frame == FULL + 1 => push_changed(alloc, bytes, record, others),
+        _ => bytes.extend_from_slice(record),
+    }
+}
+
+// The records of all frames, changed.
+fn changed(alloc: Global, records: &[u8], change: Change) -> Result<Vec<u8>, Fail> {
+    let mut bytes = Vec::new(alloc);
+    for frame in 0..FRAMES {
+        let record = record_in(records, frame);
+        push_record(alloc, &mut bytes, frame, record, change)?;
     }
     Ok(bytes)
 }
 
-#[test]
-fn an_interleaving_frame_is_there_if_all_its_records_are(rt: HostRuntime) -> Result<(), Fail> {
-    let alloc = rt.alloc();
-    let config = bytes_of(alloc, &SPREAD)?;
-    let sent = numbered(alloc, 20)?;
-    let words = ["gateway", "c", "o", "0"];
-    let (_, stream) = done(&rt, "the stream", &config, &[("0", &sent)], &words)?;
-    let (_, whole) = records_of(&rt, "the records", &config, &stream)?;
-    let records = parted(alloc, &whole)?;
+// Sets the records `r`: all, changed.
+fn put_changed(bench: &mut Bench, change: Change) -> Result<(), Fail> {
+    let records = changed(bench.alloc(), bench.bytes("w"), change)?;
+    bench.put("r", &records)
+}
+
+// What comes back of changed records.
+fn reception_holds(rt: &impl Abort, bench: &mut Bench, row: &Reception) -> Result<(), Fail> {
+    put_changed(bench, row.change)?;
+    bench.done(row.why, &["receive", "c", "0", "r", "o"])?;
+    let packets = packets_of(bench.alloc(), bench.bytes("i"), row.slots)?;
+    assert!(rt;
+        bench.answer() == row.line.as_bytes() && bench.bytes("o") == packets.as_slice(),
+        "{}",
+        row.why
+    );
+    Ok(())
+}
+
+fn all_receptions_hold(rt: &impl Abort, bench: &mut Bench) -> Result<(), Fail> {
     for row in &RECEPTIONS {
-        let mut left = Vec::new(alloc);
-        for (frame, record) in records.iter().enumerate() {
-            left.extend_from_slice(&changed(alloc, frame, record, row.change)?)?;
-        }
-        let (said, given) = given_back(&rt, row.why, &config, &left)?;
-        assert!(rt;
-            said.as_slice() == row.line.as_bytes(),
-            "{}: the line",
-            row.why
-        );
-        assert!(rt;
-            given == packets_of(alloc, &sent, row.slots)?,
-            "{}: the slots",
-            row.why
-        );
+        reception_holds(rt, bench, row)?;
     }
     Ok(())
+}
+
+// Makes the stream `t` of packets with their numbers, and its records `w`.
+fn make_numbered(bench: &mut Bench) -> Result<(), Fail> {
+    let packets = numbered(bench.alloc(), 20)?;
+    bench.put("i", &packets)?;
+    bench.put_file("c", &SPREAD)?;
+    bench.done("the stream", &["gateway", "c", "t", "i"])?;
+    bench.done("the records", &["modulate", "c", "t", "w"])
+}
+
+#[test]
+fn an_interleaving_frame_is_there_if_all_its_records_are(rt: HostRuntime) -> Result<(), Fail> {
+    let mut bench = Bench::new(rt.alloc());
+    make_numbered(&mut bench)?;
+    all_receptions_hold(&rt, &mut bench)
 }

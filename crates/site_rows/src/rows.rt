@@ -1,7 +1,7 @@
 // Rows of a table: a command, the files that are there, and what must come of it.
 
 use ports::CallKind;
-use row_bench::{Bench, File, bytes_of, is_outcome};
+use row_bench::{Bench, File};
 use site_top::Outcome;
 use std::process::Abort;
 use std::str;
@@ -81,52 +81,87 @@ fn has_out(bench: &Bench, out: Out) -> bool {
     }
 }
 
-// Runs the command of a row, and answers what the file `o` holds then.
-fn follow(
-    rt: &(impl AllocGlobal + Abort),
-    row: &Row,
-    most: usize,
-) -> Result<Option<Vec<u8>>, Fail> {
-    let mut bench = Bench::new(rt.alloc());
-    for (name, file) in row.files {
-        bench.put(name, &bytes_of(rt.alloc(), file)?)?;
-    }
+// Sets the files of a row, how many bytes move at most, and the call that fails.
+fn set_up(bench: &mut Bench, row: &Row, most: usize) -> Result<(), Fail> {
+    bench.put_files(row.files)?;
     bench.cap(most.max(1));
-    if let Some((kind, nth)) = row.fault {
-        bench.fail(kind, nth)?;
+    match row.fault {
+        Some((kind, nth)) => bench.fail(kind, nth),
+        None => Ok(()),
     }
+}
+
+// Runs the commands that are run before, and then that of the row.
+fn run(bench: &mut Bench, row: &Row) -> Result<(), Fail> {
     for words in row.before {
-        is_outcome(row.why, bench.run(words)?, Outcome::Done, 0)?;
+        bench.done(row.why, words)?;
     }
-    is_outcome(row.why, bench.run(row.words)?, row.outcome, row.status)?;
+    bench.ends(row.why, row.words, row.outcome, row.status)
+}
+
+// All that was said, and what the file `o` is then.
+fn has_come(rt: &impl Abort, bench: &Bench, row: &Row) {
     assert!(rt;
         are(bench.said(), row.said, row.more),
         "{}: it said {}",
         row.why,
         str::from_utf8(bench.said()).unwrap_or("no text")
     );
-    assert!(rt; has_out(&bench, row.out), "{}: OUT is another", row.why);
-    match bench.file("o") {
-        Some(bytes) => Ok(Some(bytes.to_vec(rt.alloc())?)),
-        None => Ok(None),
+    assert!(rt; has_out(bench, row.out), "{}: OUT is another", row.why);
+}
+
+// The bench behind a row.
+fn behind(rt: &(impl AllocGlobal + Abort), row: &Row, most: usize) -> Result<Bench, Fail> {
+    let mut bench = Bench::new(rt.alloc());
+    set_up(&mut bench, row, most)?;
+    run(&mut bench, row)?;
+    has_come(rt, &bench, row);
+    Ok(bench)
+}
+
+// The row holds, and `o` is as it was.
+fn holds_so(
+    rt: &(impl AllocGlobal + Abort),
+    row: &Row,
+    most: usize,
+    before: &Bench,
+) -> Result<(), Fail> {
+    let bench = behind(rt, row, most)?;
+    assert!(rt;
+        bench.file("o") == before.file("o"),
+        "{}: OUT is another if {most} bytes move",
+        row.why
+    );
+    Ok(())
+}
+
+// The row holds for each of some numbers.
+fn holds_for(
+    rt: &(impl AllocGlobal + Abort),
+    row: &Row,
+    numbers: &[usize],
+    before: &Bench,
+) -> Result<(), Fail> {
+    for most in numbers {
+        holds_so(rt, row, *most, before)?;
+    }
+    Ok(())
+}
+
+fn row_holds(rt: &(impl AllocGlobal + Abort), row: &Row) -> Result<(), Fail> {
+    match row.most.split_first() {
+        Some((most, others)) => {
+            let bench = behind(rt, row, *most)?;
+            holds_for(rt, row, others, &bench)
+        }
+        None => Ok(()),
     }
 }
 
 /// Runs the command of each row.
 pub(crate) fn all_hold(rt: &(impl AllocGlobal + Abort), rows: &[Row]) -> Result<(), Fail> {
     for row in rows {
-        let mut first = None;
-        for most in row.most {
-            let out = follow(rt, row, *most)?;
-            match &first {
-                None => first = Some(out),
-                Some(before) => assert!(rt;
-                    *before == out,
-                    "{}: OUT is another if {most} bytes move",
-                    row.why
-                ),
-            }
-        }
+        row_holds(rt, row)?;
     }
     Ok(())
 }

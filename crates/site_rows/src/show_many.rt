@@ -1,7 +1,9 @@
 // Files with more bytes than are read at once, of which more lines are shown than are said at once.
 
 use crate::show_frames::FRAME;
-use row_bench::{FIRST, done};
+use row_bench::{Bench, FIRST};
+use std::alloc::Global;
+use std::process::Abort;
 use std::test::Fail;
 
 // A line with a number: what stands before it, the number in the first lines, and what stands behind it.
@@ -46,22 +48,65 @@ static ROWS: [Row; 3] = [
     },
 ];
 
-#[test]
-fn each_part_of_a_long_file_has_its_line(rt: HostRuntime) -> Result<(), Fail> {
-    let alloc = rt.alloc();
-    for row in &ROWS {
-        let mut file = Vec::new(alloc);
-        let mut text = String::new(alloc);
-        for turn in 0..row.times {
-            file.extend_from_slice(row.piece)?;
-            for (before, first, behind) in row.lines {
-                let number = turn.wrapping_mul(row.step).wrapping_add(*first);
-                text.push_str(&format!(in alloc; "{before}{number}{behind}")?)?;
-            }
-        }
-        text.push_str(row.last)?;
-        let (said, _) = done(&rt, row.why, &[], &[("f", &file)], &["show", row.kind, "f"])?;
-        assert!(rt; said.as_slice() == text.as_bytes(), "{}", row.why);
+// The file of a row.
+fn file_of(alloc: Global, row: &Row) -> Result<Vec<u8>, Fail> {
+    let mut bytes = Vec::new(alloc);
+    for _ in 0..row.times {
+        bytes.extend_from_slice(row.piece)?;
+    }
+    Ok(bytes)
+}
+
+// Appends a line, with a number that is so much higher.
+fn push_line(alloc: Global, text: &mut String, line: &Line, more: u64) -> Result<(), Fail> {
+    let (before, first, behind) = line;
+    let number = first.wrapping_add(more);
+    let line = format!(in alloc; "{before}{number}{behind}")?;
+    Ok(text.push_str(&line)?)
+}
+
+// Appends the lines of a piece.
+fn push_lines(alloc: Global, text: &mut String, row: &Row, piece: u64) -> Result<(), Fail> {
+    for line in row.lines {
+        push_line(alloc, text, line, piece.wrapping_mul(row.step))?;
     }
     Ok(())
+}
+
+// What it is shown as.
+fn text_of(alloc: Global, row: &Row) -> Result<String, Fail> {
+    let mut text = String::new(alloc);
+    for piece in 0..row.times {
+        push_lines(alloc, &mut text, row, piece)?;
+    }
+    text.push_str(row.last)?;
+    Ok(text)
+}
+
+// Sets the file `f` of a row, and the text `t` that it is shown as.
+fn put_row(bench: &mut Bench, row: &Row) -> Result<(), Fail> {
+    let file = file_of(bench.alloc(), row)?;
+    bench.put("f", &file)?;
+    let text = text_of(bench.alloc(), row)?;
+    bench.put("t", text.as_bytes())
+}
+
+fn row_holds(rt: &impl Abort, bench: &mut Bench, row: &Row) -> Result<(), Fail> {
+    put_row(bench, row)?;
+    bench.done(row.why, &["show", row.kind, "f"])?;
+    assert!(rt; bench.answer() == bench.bytes("t"), "{}", row.why);
+    Ok(())
+}
+
+fn all_rows_hold(rt: &impl Abort, bench: &mut Bench) -> Result<(), Fail> {
+    for row in &ROWS {
+        row_holds(rt, bench, row)?;
+    }
+    Ok(())
+}
+
+#[test]
+fn each_part_of_a_long_file_has_its_line(rt: HostRuntime) -> Result<(), Fail> {
+    let mut bench = Bench::new(rt.alloc());
+    all_rows_hold(&rt, &mut bench)
 }

@@ -3,13 +3,15 @@
 use crate::rows::{ROW, Row, all_hold};
 use bit_slice::{BitSlice, crc32};
 use network_rows::{gateway_units, ts_packets};
-use row_bench::done;
+use plp_config::Plan;
+use row_bench::Bench;
 use site_top::Outcome;
+use std::alloc::Global;
 use std::process::Abort;
 use std::str;
 use std::test::Fail;
 use trial_run::{Draws, trial_input, trial_plan};
-use ts_packet::SIZE;
+use ts_packet::{SIZE, TsPacket};
 
 // What the lines of `trial 1 6` behind the first one begin with: those of both modulators, and of each PLP, of which every packet
 // comes back without losses. Unit 0 has a part of frame 0, so the second modulator begins with the next superframe.
@@ -21,38 +23,73 @@ static LINES: [&str; 5] = [
     "plp=3 packets=50 a=50 b=",
 ];
 
-// The first line of that trial: how many units the gateway makes of its packets, by its calls, and their CRC-32.
-fn first_line(rt: &(impl AllocGlobal + Abort)) -> Result<String, Fail> {
-    let alloc = rt.alloc();
-    let plan = trial_plan(alloc)?;
+// The packets that are drawn for each PLP.
+fn inputs_of(alloc: Global, plan: &Plan) -> Result<Vec<Vec<TsPacket>>, Fail> {
     let mut draws = Draws::new(1);
     let mut inputs = Vec::new(alloc);
     for plp in 0..plan.config().plps.len() {
-        let input = trial_input(alloc, &plan, plp, 6, &mut draws)?;
-        inputs.push(ts_packets(alloc, &input)?)?;
+        let input = trial_input(alloc, plan, plp, 6, &mut draws)?;
+        let packets = ts_packets(alloc, &input)?;
+        inputs.push(packets)?;
     }
-    assert!(rt; inputs.len() == plan.config().plps.len());
-    let units = gateway_units(alloc, &plan, &inputs)?;
-    assert!(rt; units.len() < 1 << 20);
-    let crc = crc32(BitSlice::whole(&units));
-    Ok(format!(in alloc; "frames=10 units={} crc={crc:08x}", units.len() / SIZE)?)
+    Ok(inputs)
 }
 
-#[test]
-fn each_line_of_a_trial(rt: HostRuntime) -> Result<(), Fail> {
-    let words = ["trial", "1", "6"];
-    let (said, _) = done(&rt, "trial 1 6", &[], &[], &words)?;
-    let mut lines = said.split(|byte| *byte == b'\n');
-    let first = first_line(&rt)?;
-    assert!(rt; lines.next() == Some(first.as_bytes()), "{first}");
+// The units that the gateway makes of them, by its calls.
+fn units_of(rt: &(impl AllocGlobal + Abort), plan: &Plan) -> Result<Vec<u8>, Fail> {
+    let inputs = inputs_of(rt.alloc(), plan)?;
+    assert!(rt; inputs.len() == plan.config().plps.len());
+    Ok(gateway_units(rt.alloc(), plan, &inputs)?)
+}
+
+// The first line of that trial: how many units there are, and their CRC-32.
+fn line_of(rt: &(impl AllocGlobal + Abort), units: &[u8]) -> Result<String, Fail> {
+    assert!(rt; units.len() < 1 << 20);
+    let crc = crc32(BitSlice::whole(units));
+    Ok(format!(in rt.alloc(); "frames=10 units={} crc={crc:08x}", units.len() / SIZE)?)
+}
+
+// Sets the file `l`: that line.
+fn put_line(rt: &(impl AllocGlobal + Abort), bench: &mut Bench) -> Result<(), Fail> {
+    let plan = trial_plan(rt.alloc())?;
+    let units = units_of(rt, &plan)?;
+    let line = line_of(rt, &units)?;
+    bench.put("l", line.as_bytes())
+}
+
+// The lines of a text: the first one, and what the others begin with.
+fn has_lines(rt: &impl Abort, text: &[u8], first: &[u8]) {
+    let mut lines = text.split(|byte| *byte == b'\n');
+    assert!(rt;
+        lines.next() == Some(first),
+        "{}",
+        str::from_utf8(first).unwrap_or("no text")
+    );
     for front in LINES {
         match lines.next() {
             Some(line) => assert!(rt; line.starts_with(front.as_bytes()), "{front}"),
             None => panic!(rt; "{front}"),
         }
     }
-    let (again, _) = done(&rt, "trial 1 6 again", &[], &[], &words)?;
-    assert!(rt; said == again, "trial 1 6 says the same text twice");
+}
+
+#[test]
+fn each_line_of_a_trial(rt: HostRuntime) -> Result<(), Fail> {
+    let mut bench = Bench::new(rt.alloc());
+    put_line(&rt, &mut bench)?;
+    bench.done("trial 1 6", &["trial", "1", "6"])?;
+    has_lines(&rt, bench.answer(), bench.bytes("l"));
+    says_it_again(&rt, &mut bench)
+}
+
+// A trial says the same text twice.
+fn says_it_again(rt: &impl Abort, bench: &mut Bench) -> Result<(), Fail> {
+    bench.put_answer("said")?;
+    bench.done("trial 1 6 again", &["trial", "1", "6"])?;
+    assert!(rt;
+        bench.answer() == bench.bytes("said"),
+        "trial 1 6 says the same text twice"
+    );
     Ok(())
 }
 
