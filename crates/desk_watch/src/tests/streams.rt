@@ -110,15 +110,28 @@ fn of_records<'p>(alloc: Global, plan: &'p Plan, count: u64) -> Result<RunCounts
     Ok(counts)
 }
 
-// At 2 Mbit/s a second has 250,000 bytes; a frame lasts 100,000 ticks of 7 / 64 microseconds.
+// At 2 Mbit/s a second has 250,000 bytes.
+fn gateway_has_time(alloc: Global, plan: &Plan) -> Result<bool, Fail> {
+    let counts = RunCounts::of_gateway(alloc, Some(plan), &[], false)?;
+    has_time(alloc, &counts, 931_250_000, 1, "1:02:05")
+}
+
+fn receive_has_time(alloc: Global, plan: &Plan) -> Result<bool, Fail> {
+    let counts = RunCounts::of_receive(alloc, Some(plan), 0, false, "i")?;
+    has_time(alloc, &counts, 1, 15_000_000, "0:01:00")
+}
+
+// A frame lasts 100,000 ticks of 7 / 64 microseconds.
+fn modulate_has_time(alloc: Global, plan: &Plan) -> Result<bool, Fail> {
+    let counts = of_records(alloc, plan, 9216)?;
+    has_time(alloc, &counts, 1, 1, "0:01:40")
+}
+
 #[test]
 fn the_time_of_the_stream_is_told(rt: HostRuntime) -> Result<(), Fail> {
     let plan = small_plan(rt.alloc())?;
-    let gateway = RunCounts::of_gateway(rt.alloc(), Some(&plan), &[], false)?;
-    assert!(rt; has_time(rt.alloc(), &gateway, 931_250_000, 1, "1:02:05")?);
-    let receive = RunCounts::of_receive(rt.alloc(), Some(&plan), 0, false, "i")?;
-    assert!(rt; has_time(rt.alloc(), &receive, 1, 15_000_000, "0:01:00")?);
-    let modulate = of_records(rt.alloc(), &plan, 9216)?;
-    assert!(rt; has_time(rt.alloc(), &modulate, 1, 1, "0:01:40")?);
+    assert!(rt; gateway_has_time(rt.alloc(), &plan)?, "gateway");
+    assert!(rt; receive_has_time(rt.alloc(), &plan)?, "receive");
+    assert!(rt; modulate_has_time(rt.alloc(), &plan)?, "modulate");
     Ok(())
 }

@@ -1,7 +1,8 @@
 // A desk that is watched. Standard error and a clock are kept here.
 use crate::counts::RunCounts;
 use crate::watched::Watched;
-use ports::{Desk, MemoryDesk};
+use bit_slice::OutOfMemory;
+use ports::{Desk, DeskFault, MemoryDesk};
 use std::alloc::Global;
 use std::cell::{Cell, RefCell};
 use std::fmt::Display;
@@ -61,18 +62,29 @@ impl Clock for Outside {
     }
 }
 
+// A desk with a file of 100,000 bytes.
+fn desk_of(alloc: Global) -> Result<MemoryDesk, OutOfMemory> {
+    let mut desk = MemoryDesk::new(alloc);
+    desk.put_file("f", &[0; 100_000])?;
+    Ok(desk)
+}
+
+// Reads the file, to its end, and says a line.
+fn read_and_say<D: Desk>(desk: &mut D) -> Result<(), DeskFault> {
+    let mut buffer = [0; 100_000];
+    let handle = desk.open("f")?;
+    desk.read(handle, &mut buffer)?;
+    desk.read(handle, &mut buffer)?;
+    desk.say(b"packets=0\n")
+}
+
 // The clock is looked at when the run begins, and at each of two reads, of which the second finds the end: after a second, and after two.
 #[test]
 fn a_run_is_watched(rt: HostRuntime) -> Result<(), Fail> {
-    let mut desk = MemoryDesk::new(rt.alloc());
-    desk.put_file("f", &[0; 100_000])?;
+    let desk = desk_of(rt.alloc())?;
     let outside = Outside::new(rt.alloc());
     let mut watched = Watched::new(desk, &outside, true, RunCounts::none(rt.alloc()));
-    let mut buffer = [0; 100_000];
-    let handle = watched.open("f")?;
-    watched.read(handle, &mut buffer)?;
-    watched.read(handle, &mut buffer)?;
-    watched.say(b"packets=0\n")?;
+    read_and_say(&mut watched)?;
     assert!(rt; watched.lines == 1 && watched.desk.said() == b"packets=0\n".as_slice());
     assert!(rt;
         outside.has_heard(
