@@ -1,5 +1,6 @@
 pub mod BeginLemmas
 pub mod LawLemmas
+pub mod OldLemmas
 pub mod RunLemmas
 pub mod ShownLemmas
 pub mod SplitLemmas

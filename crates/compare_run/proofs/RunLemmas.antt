@@ -1,13 +1,12 @@
--- How the run of a comparison ended, by its machine.
+-- What a comparison does by its files.
 use Rattle.std.proofs.Common.{◌≡◌, ◌≢◌, ◌⊎◌, ℕ, ◌+◌, ◌-◌, ◌<◌, ◌≤◌, ◌==◌, Bool, true, false, List, [], ◌∷◌, ◌++◌}
 use Rattle.std.proofs.Common.{length, take, Option, Some, None, refl, ap, ap₂, sym, subst, ◌∙◌, inl, inr, arith, append_assoc, append-nil}
 use Rattle.std.proofs.Common.{eqb-true}
-use Rattle.std.specs.Prelude.{Result, Ok, Err, IfOk, IfErr, slice_index}
+use Rattle.std.specs.Prelude.{Err, slice_index}
 use Rattle.std.proofs.lemmas.Bool.{true≢false, eqb-false}
 use Rattle.std.proofs.lemmas.List.{take_at, take-append-le}
-use Rattle.std.proofs.lemmas.Option.{IfSome_then}
 use Rattle.terms.proofs.CaseLemmas.{bool_cases}
-use Rattle.ports.specs.Desk.{State}
+use Rattle.desk_io.specs.Reading.{longest_file}
 use Rattle.plp_config.specs.declared.config.Config.{Config}
 use Rattle.plp_config.specs.declared.moment.TheConstants.{MOST_FRAMES}
 use Rattle.frame_groups.specs.Laws.{IsPrefix}
@@ -21,17 +20,14 @@ use Rattle.frame_feed.specs.StandsFor as feed
 use Rattle.frame_feed.specs.declared.feed.FrameFeed.{FrameFeed}
 use Rattle.file_run.specs.Events.{Event, fed, has_ended, gave}
 use Rattle.file_run.specs.FileRun.{AreFed, IsFed}
-use Rattle.file_run.specs.Laws.{EventsTell}
+use Rattle.file_run.specs.Steps.{Needs, FallsShort}
+use Rattle.file_run.specs.Work.{AreWhole, IsRightAtEnd, GaveSome, DoesWork}
 use Rattle.file_run.specs.declared.machine.Step.TheVariants.{End}
-use Rattle.file_run.specs.declared.stop.RunFault.{RunFault}
-use Rattle.file_run.specs.declared.stop.RunFault.TheVariants as fault
-use Rattle.file_run.specs.declared.stop.RunStop.{RunStop}
-use Rattle.file_run.specs.declared.stop.RunStop.TheVariants.{Refused, Files, OutOfMemory}
-use Rattle.file_run.proofs.StandsLemmas.{fed_since, all_read}
-use Rattle.line_run.specs.Speaking as driver
-use Rattle.line_run.specs.Speaking.{SpeaksOnce}
-use Rattle.line_run.proofs.StandsLemmas.{spoke_by}
-use Rattle.merge_run.specs.MergeRun.{names_of, AreEarly, end_by}
+use Rattle.file_run.specs.declared.stop.RunFault.TheVariants.{TooLong, ReadFault}
+use Rattle.file_run.specs.declared.stop.RunStop.TheVariants.{Files}
+use Rattle.file_run.proofs.StandsLemmas.{fed_since}
+use Rattle.file_run.proofs.WorkLemmas.{are_whole}
+use Rattle.merge_run.specs.MergeRun.{AreEarly, end_by}
 use Rattle.merge_run.specs.Shown.{IsFedWith, IsBehind, NoneComes}
 use Rattle.merge_run.specs.Steps.{is_idle, fed_at}
 use Rattle.merge_run.specs.Taking.{least_of}
@@ -50,13 +46,13 @@ use Rattle.frame_compare.specs.declared.counts.Counts.{Counts}
 use Rattle.frame_compare.proofs.GrowLemmas.{answers_nothing}
 use Rattle.frame_compare.proofs.LineLemmas.{nothing_told, known_front}
 use Rattle.compare_run.specs.AsMachine.{Becomes, ending_by, ending_in, ending_of}
-use Rattle.compare_run.specs.CompareRun.{compared_below, compared_of, HaveRecords, AreAlike, AreOther, HasNone, ReadsBoth, FindsAlike}
-use Rattle.compare_run.specs.CompareRun.{IsKnownBelow, HasLate, MeetsLate, HasSaid, GivesTooMuch, StopsReading, MaySay, HasSome, StopsSaying, Stops}
+use Rattle.compare_run.specs.CompareRun.{compared_below, compared_of, HaveRecords, AreAlike, AreOther, HasNone}
+use Rattle.compare_run.specs.CompareRun.{IsKnownBelow, HasLate, HasSaid, MaySay, HasSome}
+use Rattle.compare_run.specs.CompareWork.{compare_work}
 use Rattle.compare_run.specs.Shown.{Shown, text_in}
 use Rattle.compare_run.specs.Steps.{step_of, reach_of}
 use Rattle.compare_run.specs.declared.comparing.Comparing.{Comparing}
 use Rattle.compare_run.specs.declared.machine.CompareMachine.{CompareMachine}
-use Rattle.compare_run.specs.declared.stop.CompareStop.{CompareStop}
 use Rattle.compare_run.proofs.SplitLemmas.{answers_front, answers_split}
 use Rattle.compare_run.proofs.StepLemmas.{needs_so, short_so, late_so}
 
@@ -330,203 +326,97 @@ module _ (front : DueFront) (follow : DueFollow) (law : KnownBegins) (c : Config
   fed_count input lt = two (λ (input : ℕ). fed_at (feed.fed_of m.a) (feed.fed_of m.b) input ≡ length (fed input events))
       s.of_a.stands.count s.of_b.stands.count input lt
 
--- ---- how a machine ended that came to its end
+-- ---- what the machine does
 
-abbrev Runs : CompareMachine → CompareMachine → State → State → List ℕ → List ℕ → Type 0
-Runs start now old new a b =
-    driver.SpeaksAll old new (names_of a b) (reach_of now.comparing) (λ events. Becomes start events now)
-
-module _ (front : DueFront) (follow : DueFollow) (law : KnownBegins) (start now : CompareMachine) (old new : State)
-    (a b : List ℕ) where
+module _ (front : DueFront) (follow : DueFollow) (law : KnownBegins) (start now : CompareMachine) (files : ℕ → List ℕ)
+    (places : List ℕ) (events : List Event) (all : length places ≡ 2) (are : AreFed 2 files places events)
+    (s : Shown start.comparing.plan.now events now.comparing) where
   abbrev k : Config
   k = start.comparing.plan.now
 
-  ended_all : (events : List Event) (s : Shown k events now.comparing) → now.comparing.done ≡ true → (input : ℕ) → input < 2
-      → has_ended input events ≡ true
-  ended_all events s done =
+  whole : now.comparing.done ≡ true → AreWhole files places
+  whole done =
       let none = s.over done in
-      two (λ (input : ℕ). has_ended input events ≡ true) (sym s.of_a.stands.end ∙ none.0.ended) (sym s.of_b.stands.end ∙ none.1.ended)
+      are_whole 2 files places events all are
+      (two (λ (input : ℕ). has_ended input events ≡ true) (sym s.of_a.stands.end ∙ none.0.ended) (sym s.of_b.stands.end ∙ none.1.ended))
 
-  -- to the ends of both
-  reads_both : (Holds : (ℕ → List ℕ) → List ℕ → Type 0) → now.comparing.done ≡ true
-      → ((events : List Event) (s : Shown k events now.comparing) (files : ℕ → List ℕ) (places : List ℕ) → AreFed 2 files places events
-      → Holds files (gave events))
-      → Runs start now old new a b → ReadsBoth old new a b Holds
-  reads_both Holds done holds r =
-      let s = r.stands in
-      record {
-        places = s.places;
-        speaks = spoke_by Holds s (λ files are text is. subst (Holds files) (sym is) (holds s.events s.came files s.places are));
-        short = r.short;
-        counts = r.counts;
-        present = s.present;
-        ends = IfSome_then old.held s.inputs
-            (λ held are. all_read held (names_of a b) s.places s.events s.speaks.all (ended_all s.events s.came done) are);
-      }
+  ends_by : now.comparing.done ≡ true → (now.comparing.next == 0) ≡ false → (first : Option ℕ)
+      → (counts_in now.comparing.tally).first ≡ first
+      → IsRightAtEnd (compare_work k) files places (gave events) (ending_by first (counts_in now.comparing.tally))
+  ends_by is some None none =
+      (whole is, are_alike front follow law k now.comparing events s files places are is some none)
+  ends_by is some (Some frame) first =
+      (whole is, are_other front follow law k now.comparing events s files places are frame is some first)
 
-  meets_late : now.comparing.done ≡ false
-      → IsLate (waiting_of now.comparing.a) (feed.has_ended now.comparing.a) (waiting_of now.comparing.b) (feed.has_ended now.comparing.b)
-      → Runs start now old new a b → MeetsLate k old new a b
-  meets_late going late r =
-      let s = r.stands in
-      record {
-        places = s.places;
-        speaks = spoke_by (λ files text. HasLate k files text) s
-            (λ files are text is. subst (HasLate k files) (sym is)
-            (has_late front follow law k now.comparing s.events s.came files s.places are going late));
-        short = r.short;
-        counts = r.counts;
-      }
-
-  -- by whether both have ended
-  ends_in : (done : Bool) → now.comparing.done ≡ done → step_of now.comparing ≡ End → Runs start now old new a b
-      → IfOk (ending_in done now.comparing.next (counts_in now.comparing.tally)) (FindsAlike k old new a b)
-      × IfErr (ending_in done now.comparing.next (counts_in now.comparing.tally)) (λ why. Stops k old new a b (Refused why))
-  ends_in false is end r = (tt, meets_late is (late_so now.comparing.done _ _ _ _ is end) r)
-  ends_in true is end r =
+  ends_in : (done : Bool) → now.comparing.done ≡ done → step_of now.comparing ≡ End
+      → IsRightAtEnd (compare_work k) files places (gave events) (ending_in done now.comparing.next (counts_in now.comparing.tally))
+  ends_in false is end =
+      has_late front follow law k now.comparing events s files places are is (late_so now.comparing.done _ _ _ _ is end)
+  ends_in true is end =
       bool_cases (now.comparing.next == 0)
-      (λ none. rw none (
-        tt,
-        reads_both (λ files text. HasNone k files text) is
-            (λ events s files places are. has_none front follow law k now.comparing events s files places are is none) r,
-      ))
-      (λ some. rw some (by_first some (counts_in now.comparing.tally).first refl))
-    where
-      by_first : (now.comparing.next == 0) ≡ false → (first : Option ℕ) → (counts_in now.comparing.tally).first ≡ first
-          → IfOk (ending_by first (counts_in now.comparing.tally)) (FindsAlike k old new a b)
-          × IfErr (ending_by first (counts_in now.comparing.tally)) (λ why. Stops k old new a b (Refused why))
-      by_first some None none = (
-        reads_both (λ files text. AreAlike k files (counts_in now.comparing.tally) text) is
-            (λ events s files places are. are_alike front follow law k now.comparing events s files places are is some none) r,
-        tt,
-      )
-      by_first some (Some frame) first = (
-        tt,
-        reads_both (λ files text. AreOther k files frame text) is
-            (λ events s files places are. are_other front follow law k now.comparing events s files places are frame is some first) r,
-      )
+      (λ none. rw none (whole is, has_none front follow law k now.comparing events s files places are is none))
+      (λ some. rw some (ends_by is some (counts_in now.comparing.tally).first refl))
 
-  -- ---- how a run ended that its files stopped
-
-  gives_too_much : (input : ℕ)
-      → driver.SpeaksTooMuch old new (names_of a b) (reach_of now.comparing) (step_of now.comparing) (λ events. Becomes start events now) input
-      → GivesTooMuch k old new a b input
-  gives_too_much input g =
-      let s = g.stands in
+  too_long : (input : ℕ) → input < 2 → slice_index places input ≡ longest_file
+      → Needs (step_of now.comparing) input (slice_index places input - length (fed input events))
+      → compare_work k files (Err (Files (TooLong input))) places (gave events)
+  too_long input lt most wants =
       let w = needs_so now.comparing.done (waiting_of now.comparing.a) (feed.has_ended now.comparing.a) (waiting_of now.comparing.b)
-      (feed.has_ended now.comparing.b) input _ g.wants in
+      (feed.has_ended now.comparing.b) input _ wants in
       let few = w.few in
-      let gave_is = g.gave in
+      let ahead = (are input lt).ahead in
       record {
-        places = s.places;
-        taken = length (fed input s.events);
-        place = g.place;
-        near = omega (arith, few, gave_is);
-        speaks = spoke_by (λ files text. HasSaid k input (length (fed input s.events)) files text) s
-            (λ files are text is. subst (HasSaid k input (length (fed input s.events)) files) (sym is)
-            (has_said front follow law k now.comparing s.events s.came files s.places are input (length (fed input s.events)) w.wants
-            w.going refl));
-        gave = g.gave;
-        long = IfSome_then old.held s.inputs (λ held are. let f = are input g.place in let n = g.gave in let i = f.within in
-            let e = f.ahead in (omega (arith, n, e), omega (arith, n, i)));
-        counts = g.counts;
+        taken = length (fed input events);
+        near = omega (arith, few, most);
+        within = omega (arith, ahead, most);
+        has = has_said front follow law k now.comparing events s files places are input (length (fed input events)) w.wants w.going refl;
       }
 
-  stops_reading : (input : ℕ)
-      → driver.SpeaksUntilFault old new (names_of a b) (reach_of now.comparing) (step_of now.comparing) (λ events. Becomes start events now) input
-      → StopsReading k old new a b input
-  stops_reading input g =
-      let s = g.stands in
+  unread : (input : ℕ) → input < 2
+      → FallsShort (step_of now.comparing) input (slice_index places input - length (fed input events))
+      → compare_work k files (Err (Files (ReadFault input))) places (gave events)
+  unread input lt wants =
       let w = short_so now.comparing.done (waiting_of now.comparing.a) (feed.has_ended now.comparing.a) (waiting_of now.comparing.b)
-      (feed.has_ended now.comparing.b) input _ g.wants in
-      record {
-        places = s.places;
-        place = g.place;
-        speaks = spoke_by (λ files text. HasSaid k input (slice_index s.places input) files text) s
-            (λ files are text is. subst (HasSaid k input (slice_index s.places input) files) (sym is)
-            (let f = are input g.place in
-            let ahead = f.ahead in
-            let none = w.few in
-            has_said front follow law k now.comparing s.events s.came files s.places are input (slice_index s.places input) w.wants
-            w.going (omega (arith, ahead, none))));
-        short = g.short;
-      }
+      (feed.has_ended now.comparing.b) input _ wants in
+      let none = w.few in
+      let ahead = (are input lt).ahead in
+      has_said front follow law k now.comparing events s files places are input (slice_index places input) w.wants w.going
+      (omega (arith, ahead, none))
 
-  stops_saying : EventsTell
-      → driver.StopsSaying old new (names_of a b) (λ m. reach_of m.comparing) (λ m. step_of m.comparing) (Becomes start) now
-      → StopsSaying k old new a b
-  stops_saying tell g =
-      let s = g.stands in
-      let late = tell.late s.events g.late g.only in
-      record {
-        places = s.places;
-        speaks = spoke_by (λ files text. HasSome k s.places files text) s
-            (λ files are text is.
-            let p = gave_front front follow law k now.comparing (s.events ++ g.late) s.came.1 files s.places
-            (fed_since 2 files s.places s.events g.late g.only are) in
-            record {
-              more = g.more ++ p.0;
-              some = λ z. g.some (front_empty g.more p.0 z);
-              begins = subst (MaySay k files)
-                  (ap (λ (l : List ℕ). l ++ p.0) (late.gave ∙ ap (λ (l : List ℕ). gave s.events ++ l) g.parts
-                  ∙ sym (append_assoc (gave s.events) g.front g.more) ∙ ap (λ (l : List ℕ). l ++ g.more) (sym is))
-                  ∙ append_assoc text g.more p.0)
-                  p.1;
-              since = λ input taken lt less.
-                  let within = s.within input lt in
-                  let count = fed_count front follow law k g.mid.comparing s.events s.came.0 files s.places are input lt in
-                  let inside : taken < length (fed input s.events) = omega (arith, less, within, count) in
-                  let d = since front follow law k g.mid.comparing s.events s.came.0 files s.places are input taken lt inside in (
-                    d.0,
-                    (
-                      d.1.0 ++ g.front,
-                      is ∙ ap (λ (l : List ℕ). l ++ g.front) d.1.1 ∙ append_assoc _ d.1.0 g.front,
-                    ),
-                  );
-            });
-        short = g.short;
-      }
-    where
-      front_empty : (xs ys : List ℕ) → xs ++ ys ≡ [] → xs ≡ []
-      front_empty [] ys e = refl
-      front_empty (x ∷ xs) ys e = absurd (let n = ap length e in omega (arith, n))
+unsaid : DueFront → DueFollow → KnownBegins → (start now : CompareMachine) (files : ℕ → List ℕ) (places : List ℕ) (events : List Event)
+    (bytes : List ℕ) → AreFed 2 files places events
+    → GaveSome (λ m. reach_of m.comparing) (λ m. step_of m.comparing) (Becomes start) 2 places events now bytes
+    → HasSome start.comparing.plan.now places files bytes
+unsaid front follow law start now files places events bytes are g =
+    let k : Config = start.comparing.plan.now in
+    let p = gave_front front follow law k now.comparing (events ++ g.late) g.came_late files places
+    (fed_since 2 files places events g.late g.only are) in
+    record {
+      more = g.more ++ p.0;
+      some = λ z. g.some (front_empty g.more p.0 z);
+      begins = subst (MaySay k files) (ap (λ (l : List ℕ). l ++ p.0) g.parts ∙ append_assoc bytes g.more p.0) p.1;
+      since = λ input taken lt less.
+          let within = g.within input lt in
+          let count = fed_count front follow law k g.mid.comparing events g.came files places are input lt in
+          let d = since front follow law k g.mid.comparing events g.came files places are input taken lt
+          (omega (arith, less, within, count)) in (
+            d.0,
+            (d.1.0 ++ g.front, g.is ∙ ap (λ (l : List ℕ). l ++ g.front) d.1.1 ∙ append_assoc _ d.1.0 g.front),
+          );
+    }
+  where
+    front_empty : (xs ys : List ℕ) → xs ++ ys ≡ [] → xs ≡ []
+    front_empty [] ys e = refl
+    front_empty (x ∷ xs) ys e = absurd (let n = ap length e in omega (arith, n))
 
--- ---- so it is of a run
-
-ends : DueFront → DueFollow → KnownBegins → (start now : CompareMachine) (old new : State) (a b : List ℕ) → step_of now.comparing ≡ End
-    → Runs start now old new a b
-    → IfOk (ending_of now) (FindsAlike start.comparing.plan.now old new a b)
-    × IfErr (ending_of now) (λ why. Stops start.comparing.plan.now old new a b (Refused why))
-ends front follow law start now old new a b end r = ends_in front follow law start now old new a b now.comparing.done refl end r
-
-stops : EventsTell → DueFront → DueFollow → KnownBegins → (start now : CompareMachine) (old new : State) (a b : List ℕ) (why : RunFault)
-    → driver.StopsSpeaking old new (names_of a b) (λ m. reach_of m.comparing) (λ m. step_of m.comparing) (Becomes start) now why
-    → Stops start.comparing.plan.now old new a b (Files why)
-stops tell front follow law start now old new a b (fault.TooLong input) g =
-    gives_too_much front follow law start now old new a b input g
-stops tell front follow law start now old new a b (fault.ReadFault input) (counts, inl o) = (counts, inl o)
-stops tell front follow law start now old new a b (fault.ReadFault input) (counts, inr g) =
-    (counts, inr (stops_reading front follow law start now old new a b input g))
-stops tell front follow law start now old new a b fault.WriteFault (counts, g) =
-    (counts, stops_saying front follow law start now old new a b tell g)
-
--- ---- a run, by what it answers
-
-pub answers_so : EventsTell → DueFront → DueFollow → KnownBegins → (start now : CompareMachine) (old new : State) (a b : List ℕ)
-    (result : Result Counts (RunStop CompareStop))
-    → SpeaksOnce old new (names_of a b) (λ m. reach_of m.comparing) (λ m. step_of m.comparing) (Becomes start) ending_of now result
-    → IfOk result (FindsAlike start.comparing.plan.now old new a b)
-    × IfErr result (Stops start.comparing.plan.now old new a b)
-answers_so tell front follow law start now old new a b (Ok counts) r = (
-  subst (λ (told : Result Counts CompareStop). IfOk told (FindsAlike start.comparing.plan.now old new a b)) r.told_is
-      (ends front follow law start now old new a b r.end r.runs).0,
-  tt,
-)
-answers_so tell front follow law start now old new a b (Err (Refused why)) r = (
-  tt,
-  subst (λ (told : Result Counts CompareStop). IfErr told (λ x. Stops start.comparing.plan.now old new a b (Refused x))) r.told_is
-      (ends front follow law start now old new a b r.end r.runs).1,
-)
-answers_so tell front follow law start now old new a b (Err (Files why)) r =
-    (tt, stops tell front follow law start now old new a b why r)
-answers_so tell front follow law start now old new a b (Err OutOfMemory) r = (tt, r)
+pub compare_does : DueFront → DueFollow → KnownBegins → (start : CompareMachine) → DoesWork (compare_work start.comparing.plan.now) 2
+    (λ m. reach_of m.comparing) (λ m. step_of m.comparing) (Becomes start) ending_of
+compare_does front follow law start = record {
+  ends = λ files places events now all are came end.
+      ends_in front follow law start now files places events all are came now.comparing.done refl end;
+  too_long = λ files places events now input all are came lt most wants.
+      too_long front follow law start now files places events all are came input lt most wants;
+  unread = λ files places events now input all are came lt wants.
+      unread front follow law start now files places events all are came input lt wants;
+  unwritten = λ files places events now bytes all are g. unsaid front follow law start now files places events bytes are g;
+}

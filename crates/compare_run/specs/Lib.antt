@@ -1,4 +1,5 @@
 pub mod CompareRun
+pub mod CompareWork
 pub mod Laws
 -- inner: no public clause cites these
 pub mod AsMachine

@@ -1,11 +1,13 @@
 // A comparison of two files by a plan.
 ghost use Rattle.std.specs.Prelude.{◌≡◌, [], ◌∷◌, IfOk, IfErr};
 ghost use Rattle.line_run.specs.Speaking.{SpeaksOnce};
+ghost use Rattle.file_run.specs.Work.{Ends, Aloud};
 ghost use Rattle.compare_run.specs.CompareRun.{FindsAlike, Stops};
+ghost use Rattle.compare_run.specs.CompareWork.{compare_work};
 
 use crate::machine::CompareMachine;
 use crate::stop::CompareStop;
-use file_run::{Ending, RunStop, events_law};
+use file_run::{Ending, RunStop};
 use frame_compare::{Counts, known_law};
 use line_run::speak_one;
 use modulator::due_records_law;
@@ -42,10 +44,10 @@ pub fn run<D: Desk>(
     b: &str,
     desk: &mut D,
 ) -> Result<Counts, RunStop<CompareStop>>
+    ensures ends { Ends (compare_work plan.now) (D.state desk.old) (D.state desk.new) Aloud (a.now ∷ b.now ∷ []) result }
     ensures ok { IfOk result (FindsAlike plan.now (D.state desk.old) (D.state desk.new) a.now b.now) }
     ensures err { IfErr result (Stops plan.now (D.state desk.old) (D.state desk.new) a.now b.now) }
 {
-    events_law();
     due_records_law();
     known_law();
     let mut machine = CompareMachine::open(alloc, plan)?;

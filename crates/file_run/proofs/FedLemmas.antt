@@ -1,5 +1,5 @@
 -- A machine was fed in a run.
-use Rattle.std.proofs.Common.{◌≡◌, ◌≢◌, ℕ, ◌+◌, ◌-◌, ◌<◌, ◌≤◌, Bool, true, List, [], ◌∷◌, ◌++◌, length, Option, Some, None, refl}
+use Rattle.std.proofs.Common.{◌≡◌, ◌≢◌, ℕ, ◌+◌, ◌-◌, ◌<◌, ◌≤◌, Bool, true, false, List, [], ◌∷◌, ◌++◌, length, Option, Some, None, refl}
 use Rattle.std.proofs.Common.{ap, sym, subst, ◌∙◌, inl, inr, arith, append_assoc, length-append}
 use Rattle.std.specs.Prelude.{slice_index, slice_index_or, slice_set, option_map, ◌⊎◌}
 use Rattle.std.specs.List.{sum_by}
@@ -11,7 +11,8 @@ use Rattle.desk_io.specs.declared.ahead.ReadStop.{ReadStop}
 use Rattle.desk_io.specs.declared.ahead.ReadStop.TheVariants as stop
 use Rattle.file_run.specs.Events.{Event, Fed, Ended, Gave, fed, has_ended, gave}
 use Rattle.file_run.specs.FileRun.{file_at, Stands, HoldsAll, Stops}
-use Rattle.file_run.specs.Running.{Start, reading_at, places_of, Reached, IsRead, Runs, IsTaken, IsMarked, Feeds, read_fault}
+use Rattle.file_run.specs.Running.{Start, reading_at, places_of, Reached, IsRead, IsWhole, Runs, IsTaken, IsMarked, Feeds, read_fault}
+use Rattle.std.proofs.lemmas.Bool.{true≢false}
 use Rattle.file_run.specs.Steps.{Needs, FallsShort}
 use Rattle.file_run.specs.declared.machine.Step.{Step}
 use Rattle.file_run.specs.declared.machine.Step.TheVariants.{Read}
@@ -117,6 +118,7 @@ runs_fed Becomes m n b old new readings input is out reach later events lt r on 
       (λ other inside differ. r.ended other inside ∙ sym (ended_other f.event input other f.count _ _ events differ f.is_taken));
   within = each_reader (λ k x. given_of x ≤ later k) readings input is lt near
       (λ other inside differ. let w = r.within other inside in let u = rises other in omega (arith, w, u));
+  whole = each_reader (λ k x. IsWhole x) readings input is lt f.whole (λ other inside differ. r.whole other inside);
   relates = λ h told.
       let rel = r.relates h told in
       let all = r.reached.all in
@@ -141,15 +143,19 @@ stands_unfed : {A : Type 0} (Becomes : List Event → A → Type 0) (m : A) (rea
     (readings : List Reading) (input : ℕ) (is : Reading) (out : ℕ) (events : List Event)
     → input < length readings → Runs b old readings out (reach m) events → Becomes events m
     → ReadsOn old new (reading_at readings input) is → TakesNone old new (reading_at readings input) is
-    → given_of is ≤ longest_file → given_of is ≤ reach m input
+    → (reading_at readings input).ended ≡ false → given_of is ≤ longest_file → given_of is ≤ reach m input
     → Stands b.desk new b.out b.ins (reach m) (λ events. Becomes events m) HoldsAll
-stands_unfed Becomes m reach b old new readings input is out events lt r came on none small near =
+stands_unfed Becomes m reach b old new readings input is out events lt r came on none off small near =
     stands_by b new (slice_set readings input is) out (gave events) (reach m) events (λ events. Becomes events m) HoldsAll
     (read_on b old new readings input is out (gave events) lt r.reached on) refl came
     (each_reader (λ k x. given_of x ≤ longest_file) readings input is lt small
     (λ other inside differ. let s = r.short other inside in omega (arith, s)))
     (each_reader (λ k x. x.taken ≡ length (fed k events)) readings input is lt (none.taken ∙ r.taken input lt)
     (λ other inside differ. r.taken other inside))
+    (each_reader (λ k x. x.ended ≡ has_ended k events) readings input is lt (none.ended ∙ r.ended input lt)
+    (λ other inside differ. r.ended other inside))
+    (each_reader (λ k x. IsWhole x) readings input is lt (λ on. absurd (true≢false (sym on ∙ none.ended ∙ off)))
+    (λ other inside differ. r.whole other inside))
     (each_reader (λ k x. given_of x ≤ reach m k) readings input is lt near (λ other inside differ. r.within other inside))
     (λ h told.
     let rel = r.relates h told in
@@ -180,12 +186,12 @@ pub stops_unfed : {A : Type 0} (Becomes : List Event → A → Type 0) (m : A) (
     (why : ReadStop)
     → input < length readings → next m ≡ Read input least most → Runs b old readings out (reach m) events → Becomes events m
     → ReadsOn old new (reading_at readings input) is → TakesNone old new (reading_at readings input) is
-    → given_of is ≤ reach m input → StopsReading old new is least why → Stops b.desk new b.out b.ins reach next Becomes m
+    → (reading_at readings input).ended ≡ false → given_of is ≤ reach m input → StopsReading old new is least why → Stops b.desk new b.out b.ins reach next Becomes m
     (read_fault input why)
 unfolding stands_by stands_unfed
-stops_unfed Becomes m reach next b old new readings input least most is out events stop.TooLong lt wants r came on none near s =
+stops_unfed Becomes m reach next b old new readings input least most is out events stop.TooLong lt wants r came on none off near s =
     record {
-      stands = stands_unfed Becomes m reach b old new readings input is out events lt r came on none (let e = s.0 in
+      stands = stands_unfed Becomes m reach b old new readings input is out events lt r came on none off (let e = s.0 in
           omega (arith, e)) near;
       place = let all = r.reached.all in omega (arith, lt, all);
       wants = subst
@@ -199,10 +205,10 @@ stops_unfed Becomes m reach next b old new readings input least most is out even
           ∙ ap given_of (reading_same readings input is lt) ∙ s.0;
       counts = s.2 ∙ r.counts;
     }
-stops_unfed Becomes m reach next b old new readings input least most is out events stop.Fault lt wants r came on none near s = (
+stops_unfed Becomes m reach next b old new readings input least most is out events stop.Fault lt wants r came on none off near s = (
   reads_fail b.desk old new r.counts s.2,
   inr (record {
-    stands = stands_unfed Becomes m reach b old new readings input is out events lt r came on none (let e = s.0 in
+    stands = stands_unfed Becomes m reach b old new readings input is out events lt r came on none off (let e = s.0 in
         omega (arith, e)) near;
     place = let all = r.reached.all in omega (arith, lt, all);
     wants = subst

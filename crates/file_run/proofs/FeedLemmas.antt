@@ -2,6 +2,7 @@
 use Rattle.std.proofs.Common.{◌≡◌, ℕ, ◌+◌, ◌<◌, ◌≤◌, List, [], ◌∷◌, ◌++◌, length, take, drop, Option, Some, None, refl, ap, sym}
 use Rattle.std.proofs.Common.{subst, ◌∙◌, arith, append_assoc}
 use Rattle.std.specs.Prelude.{IfSome, option_map, true, false}
+use Rattle.std.proofs.lemmas.Bool.{true≢false}
 use Rattle.std.proofs.lemmas.List.{take-append-drop, length-take-le}
 use Rattle.std.proofs.Math.Seq.{take-length, drop-length}
 use Rattle.ports.specs.Desk.{State, left_of}
@@ -31,15 +32,16 @@ rest_skip s r n = split_rest (left_of s r.handle) n r.waiting
 
 pub fed_by : {A : Type 0} (Becomes : A → List Event → A → Type 0) (old new : A) (before after : State) (was mid is : Reading)
     (input count : ℕ) (bytes : List ℕ) → bytes ≡ mid.waiting → count ≤ length bytes
-    → TakesNone before after was mid → is ≡ skipped count mid
+    → TakesNone before after was mid → was.ended ≡ false → is ≡ skipped count mid
     → ((start : A) (events : List Event) → Becomes start events old
     → Becomes start (events ++ Fed input (take count bytes) ∷ []) new) → Feeds Becomes old new before after was is input
-fed_by Becomes old new before after was mid is input count bytes same few none skip becomes = record {
+fed_by Becomes old new before after was mid is input count bytes same few none off skip becomes = record {
   event = Fed input (take count bytes);
   becomes = becomes;
   count = count;
   taken = ap (λ (r : Reading). r.taken) skip ∙ ap (λ (n : ℕ). n + count) none.taken;
   marked = ap (λ (r : Reading). r.ended) skip ∙ none.ended;
+  whole = λ on. absurd (true≢false (sym on ∙ ap (λ (r : Reading). r.ended) skip ∙ none.ended ∙ off));
   is_taken = (
     refl,
     sym (length-take-le count bytes few),
@@ -68,6 +70,7 @@ ended_by Becomes old new before after was mid is input count bytes same all none
       count = count;
       taken = ap (λ (r : Reading). r.taken) skip ∙ ap (λ (n : ℕ). n + count) none.taken;
       marked = ap (λ (r : Reading). r.ended) skip;
+      whole = λ on. ap (λ (r : Reading). r.waiting) skip ∙ nothing;
       is_taken = (
         refl,
         all ∙ ap length (sym same),

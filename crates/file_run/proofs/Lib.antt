@@ -11,3 +11,5 @@ pub mod StandsLemmas
 pub mod TellLemmas
 pub mod ToldLemmas
 pub mod OneInputLemmas
+pub mod WorkLemmas
+pub mod EndsLemmas

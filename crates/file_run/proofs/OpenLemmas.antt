@@ -285,6 +285,7 @@ runs_first law b mid new readings out reach apart a c calm = record {
   taken = λ input lt. ap (λ (r : Reading). r.taken) (a.begin input lt);
   ended = λ input lt. ap (λ (r : Reading). r.ended) (a.begin input lt);
   within = λ input lt. let n = ap given_of (a.begin input lt) in omega (arith, n);
+  whole = λ input lt on. ap (λ (r : Reading). r.waiting) (a.begin input lt);
   relates = λ h held. record {
     present = (a.tells h held).present;
     reads = λ input lt. first_read b mid new h readings out input apart c a held lt;

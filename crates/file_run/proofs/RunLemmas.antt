@@ -12,7 +12,7 @@ use Rattle.desk_io.specs.Writing.{OnlyOut, Appends}
 use Rattle.file_run.specs.Events.{Event, fed, has_ended, gave, OnlyGave}
 use Rattle.file_run.specs.FileRun.{AreApart, file_at, OtherFiles, Works, IsFed, AreFed, Stands, HoldsAll, AllShort, StopsWriting}
 use Rattle.file_run.specs.Running.{Start, no_reading, reading_at, places_of, HoldsOut, Reached, IsRead, Relates, Runs, Drains}
-use Rattle.file_run.specs.Running.{DrainsFront}
+use Rattle.file_run.specs.Running.{DrainsFront, IsWhole}
 use Rattle.file_run.specs.declared.machine.Step.{Step}
 use Rattle.file_run.specs.declared.machine.Step.TheVariants.{Give}
 use Rattle.file_run.proofs.EventLemmas.{gave_more}
@@ -223,10 +223,12 @@ unfoldable pub stands_by : (b : Start) (now : State) (readings : List Reading) (
     → Reached b now readings out bytes → Holds events bytes → Came events
     → ((input : ℕ) → input < length readings → given_of (reading_at readings input) ≤ longest_file)
     → ((input : ℕ) → input < length readings → (reading_at readings input).taken ≡ length (fed input events))
+    → ((input : ℕ) → input < length readings → (reading_at readings input).ended ≡ has_ended input events)
+    → ((input : ℕ) → input < length readings → IsWhole (reading_at readings input))
     → ((input : ℕ) → input < length readings → given_of (reading_at readings input) ≤ reach input)
     → ((h : Held) → b.desk.held ≡ Some h → Relates b h now readings events)
     → Stands b.desk now b.out b.ins reach Came Holds
-stands_by b now readings out bytes reach events Came Holds g holds came short taken within relates = record {
+stands_by b now readings out bytes reach events Came Holds g holds came short taken ended whole within relates = record {
   events = events;
   came = came;
   places = places_of readings;
@@ -243,6 +245,13 @@ stands_by b now readings out bytes reach events Came Holds g holds came short ta
       ((relates h told).reads input lt));
   short = λ input lt. let inside : input < length readings = omega (arith, lt, g.all) in let p = place_at readings input inside in
       let w = short input inside in omega (arith, p, w);
+  taken = λ input lt.
+      let inside : input < length readings = omega (arith, lt, g.all) in
+      let p = place_at readings input inside in
+      let t = taken input inside in (
+        omega (arith, p, t),
+        λ on. let w = ap length (whole input inside (ended input inside ∙ on)) in omega (arith, p, t, w),
+      );
 }
 
 unfoldable pub stands : (b : Start) (now : State) (readings : List Reading) (out : ℕ) (reach : ℕ → ℕ) (events : List Event)
@@ -250,7 +259,7 @@ unfoldable pub stands : (b : Start) (now : State) (readings : List Reading) (out
     → Stands b.desk now b.out b.ins reach Came HoldsAll
 stands b now readings out reach events Came r came =
     stands_by b now readings out (gave events) reach events Came HoldsAll r.reached refl came
-    (λ input lt. let s = r.short input lt in omega (arith, s)) r.taken r.within r.relates
+    (λ input lt. let s = r.short input lt in omega (arith, s)) r.taken r.ended r.whole r.within r.relates
 
 -- A machine was drained.
 pub read_same : (file : List ℕ) (o p : Option (List ℕ)) (taken more : List ℕ) (ended now : Bool) → p ≡ o → more ≡ taken
@@ -303,6 +312,7 @@ runs_drained Becomes m n b old new readings out reach later events r calm rises 
       taken = λ input lt. r.taken input lt ∙ ap length (sym (more.fed input));
       ended = λ input lt. r.ended input lt ∙ sym (more.ended input);
       within = λ input lt. let w = r.within input lt in let u = rises input in omega (arith, w, u);
+      whole = r.whole;
       relates = λ h told. relates_on b h old new readings out reach events d.late (gave d.late) r d.only d.wrote told;
     }
 
@@ -325,7 +335,7 @@ stops_drained Becomes start m n reach next b old new readings out events r came 
       × Becomes start (events ++ d.late) n) (λ events bytes. bytes ≡ gave events ++ d.wrote.front)
       (write_on b old new readings out (gave events) d.wrote.front r.reached d.wrote.appends) refl
       (came, d.becomes start events came)
-      (λ input lt. let s = r.short input lt in omega (arith, s)) r.taken r.within
+      (λ input lt. let s = r.short input lt in omega (arith, s)) r.taken r.ended r.whole r.within
       (λ h told. let q = r.relates h told in record {
         present = q.present;
         reads = λ input lt.

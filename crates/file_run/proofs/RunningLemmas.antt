@@ -90,16 +90,16 @@ pub stopped_fed : {A : Type 0} (Becomes : List Event → A → Type 0) (m n : A)
     (old new : State) (readings : List Reading) (out : ℕ) (input least most : ℕ) (was is d : Reading) (why : ReadStop)
     → input < length readings → was ≡ slice_index_or readings input d → IsReadOn old new was is most → TakesNone old new was is
     → n ≡ m → next m ≡ Read input least most → StopsReading old new is least why
-    → (r : IsRunning Becomes reach b old m readings out) → length (fed input r.events) + most ≤ reach m input
-    → Stops b.desk new b.out b.ins reach next Becomes n (read_fault input why)
-stopped_fed Becomes m n reach next b old new readings out input least most was is d why lt at q t same wants s r wanted =
+    → (r : IsRunning Becomes reach b old m readings out) → has_ended input r.events ≡ false
+    → length (fed input r.events) + most ≤ reach m input → Stops b.desk new b.out b.ins reach next Becomes n (read_fault input why)
+stopped_fed Becomes m n reach next b old new readings out input least most was is d why lt at q t same wants s r going wanted =
     let e = item_is readings input was d lt at in
     let on : IsReadOn old new (reading_at readings input) is most = subst (λ (x : Reading). IsReadOn old new x is most) e q in
     let none : TakesNone old new (reading_at readings input) is = subst (λ (x : Reading). TakesNone old new x is) e t in
     let k = near Becomes reach m b old readings out input most is lt r wanted on.limit in
     subst (λ x. Stops b.desk new b.out b.ins reach next Becomes x (read_fault input why)) (sym same)
     (stops_unfed Becomes m reach next b old new readings input least most is out r.events why lt wants r.runs r.came on.reads none
-    k s)
+    (r.runs.ended input lt ∙ going) k s)
 
 pub run_all : {A : Type 0} (Becomes : List Event → A → Type 0) (m : A) (reach : A → ℕ → ℕ) (b : Start) (now : State)
     (readings : List Reading) (out : ℕ) → IsRunning Becomes reach b now m readings out

@@ -98,6 +98,11 @@ abbrev pub AreFed : ℕ → (ℕ → List ℕ) → List ℕ → List Event → T
 AreFed inputs files places events = (input : ℕ) → input < inputs
     → IsFed (files input) (slice_index places input) (fed input events) (has_ended input events)
 
+-- Of each input no more was taken than was read; and if it ended, as much.
+abbrev pub AreTaken : ℕ → List ℕ → List Event → Type 0
+AreTaken inputs places events = (input : ℕ) → input < inputs → (length (fed input events) ≤ slice_index places input)
+    × (has_ended input events ≡ true → slice_index places input ≡ length (fed input events))
+
 -- Where a run stands: what was done to its machine, what was read of each file, and what the output holds, if the desk tells.
 pub record Stands (old new : State) (out : List ℕ) (ins : List (List ℕ)) (reach : ℕ → ℕ) (Came : List Event → Type 0)
     (Holds : List Event → List ℕ → Type 0) : Type 0 where
@@ -107,6 +112,7 @@ pub record Stands (old new : State) (out : List ℕ) (ins : List (List ℕ)) (re
   pub works : Works old new out ins places (λ h bytes. Holds events bytes)
   pub within : (input : ℕ) → input < length ins → slice_index places input ≤ reach input
   pub short : (input : ℕ) → input < length ins → slice_index places input ≤ longest_file
+  pub taken : AreTaken (length ins) places events
   pub present : IfSome old.held (λ h. (input : ℕ) → input < length ins → IsSome (get h.files (slice_index_or ins input [])))
   pub inputs : IfSome old.held (λ h. AreFed (length ins) (file_at h ins) places events)
 

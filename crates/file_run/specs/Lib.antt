@@ -5,6 +5,7 @@ pub mod OneRun
 pub mod Running
 pub mod Steps
 pub mod Telling
+pub mod Work
 -- inner: no public clause cites these
 pub mod Copy
 pub mod TellingOn

@@ -71,6 +71,10 @@ pub record Relates (b : Start) (h : Held) (now : State) (readings : List Reading
   pub reads : (input : ℕ) → input < length b.ins → IsRead (file_at h b.ins input) (rest_of now (reading_at readings input))
       (fed input events) (has_ended input events)
 
+-- Behind the end of a file nothing waits.
+abbrev pub IsWhole : Reading → Type 0
+IsWhole r = r.ended ≡ true → r.waiting ≡ []
+
 -- A run so far, of which all that was given is written.
 pub record Runs (b : Start) (now : State) (readings : List Reading) (out : ℕ) (reach : ℕ → ℕ) (events : List Event) : Type 0 where
   pub apart : AreApart b.out b.ins
@@ -80,6 +84,7 @@ pub record Runs (b : Start) (now : State) (readings : List Reading) (out : ℕ) 
   pub taken : (input : ℕ) → input < length readings → (reading_at readings input).taken ≡ length (fed input events)
   pub ended : (input : ℕ) → input < length readings → (reading_at readings input).ended ≡ has_ended input events
   pub within : (input : ℕ) → input < length readings → given_of (reading_at readings input) ≤ reach input
+  pub whole : (input : ℕ) → input < length readings → IsWhole (reading_at readings input)
   pub relates : (h : Held) → b.desk.held ≡ Some h → Relates b h now readings events
 
 -- A machine gave a piece, which went behind the bytes that waited.
@@ -141,6 +146,7 @@ pub record Feeds {A : Type 0} (Becomes : A → List Event → A → Type 0) (old
   pub count : ℕ
   pub taken : is.taken ≡ was.taken + count
   pub marked : IsMarked event was.ended is.ended
+  pub whole : IsWhole is
   pub is_taken : IsTaken event input (rest_of before was) (rest_of after is) count
 
 -- What the desk holds after inputs were opened, if it told what it held.

@@ -16,8 +16,8 @@ mod tests;
 
 pub use feeding::feed;
 pub use laws::{events_law, faults_law};
-pub use machine::{AHEAD, Ending, Machine, PIECE, Step};
-pub use one_run::{open_readers, run_one, run_over, run_over_two};
+pub use machine::{AHEAD, Ending, Machine, PIECE, Step, Working};
+pub use one_run::{open_readers, run_one, run_over, run_over_two, run_work_over};
 pub use opening::open_files;
 pub use out_buffer::OutBuffer;
 pub use running::{fault_of, run};

@@ -101,3 +101,15 @@ pub trait Ending: Machine {
         requires came { HasCome Self.Becomes self.now }
         ensures { result ≡ ending self.now };
 }
+
+/// A machine that does a work: what it tells and gives is right by the bytes of its inputs, however it is stopped.
+pub trait Working: Ending {
+    ghost use Rattle.file_run.specs.Work.{Work, DoesWork};
+
+    /// What it does, by what it is before anything is done to it.
+    ghost work: { Self → Work Self.Ran Self.Stop };
+
+    /// It does so. Nothing is done.
+    fn work_law(&self)
+        ensures { (start : Self) → DoesWork (work start) (Self.inputs start) Self.reach Self.next (Self.Becomes start) Self.ending };
+}

@@ -2,8 +2,9 @@
 ghost use Rattle.std.specs.Prelude.{◌≡◌, ◌≢◌, [], ◌∷◌, length, IfOk};
 ghost use Rattle.file_run.specs.FileRun.{AreApart};
 ghost use Rattle.file_run.specs.OneRun.{RunsOnce};
+ghost use Rattle.file_run.specs.Work.{Into, Ends};
 
-use crate::machine::Ending;
+use crate::machine::{Ending, Working};
 use crate::out_buffer::OutBuffer;
 use crate::running::run;
 use crate::stop::RunStop;
@@ -82,4 +83,21 @@ pub fn run_over_two<M: Ending, D: Desk>(
 {
     let ins = [Word::new(alloc, first)?, Word::new(alloc, second)?];
     run_one(alloc, machine, out, &ins, desk)
+}
+
+/// Runs a machine of one input, which is named, and does its work.
+pub fn run_work_over<M: Working, D: Desk>(
+    alloc: Global,
+    machine: &mut M,
+    input: &str,
+    out: &str,
+    desk: &mut D,
+) -> Result<M::Ran, RunStop<M::Stop>>
+    requires inputs { M.inputs machine.old ≡ 1 }
+    requires start { M.Becomes machine.old [] machine.old }
+    requires apart { input.now ≢ out.now }
+    ensures { Ends (M.work machine.old) (D.state desk.old) (D.state desk.new) (Into out.now) (input.now ∷ []) result }
+{
+    machine.work_law();
+    run_over(alloc, machine, input, out, desk)
 }

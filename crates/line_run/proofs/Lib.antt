@@ -1,2 +1,3 @@
 pub mod SpeakLemmas
 pub mod StandsLemmas
+pub mod WorkLemmas

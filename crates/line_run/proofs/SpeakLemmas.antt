@@ -13,7 +13,8 @@ use Rattle.desk_io.specs.declared.ahead.ReadStop.TheVariants as stop
 use Rattle.file_run.specs.Events.{Event, Gave, fed, has_ended, gave, OnlyGave}
 use Rattle.file_run.specs.FileRun.{file_at, AreFed, HoldsAll, SameFiles}
 use Rattle.file_run.specs.Running.{Start, no_reading, reading_at, places_of, IsRead, Relates, Feeds, Gathers, AreOpened, IsReader}
-use Rattle.file_run.specs.Running.{read_fault}
+use Rattle.file_run.specs.Running.{read_fault, IsWhole}
+use Rattle.std.proofs.lemmas.Bool.{true≢false}
 use Rattle.line_run.specs.Speaking.{Speaks, StandsSaid, SpeaksAll, StopsSaying, StopsSpeaking}
 use Rattle.line_run.specs.SpeakingOn.{Utters, UttersFront, HoldsSame, Spoken, RunsSaid, IsSpeaking}
 use Rattle.file_run.specs.Steps.{Needs, FallsShort}
@@ -179,12 +180,12 @@ spoken_said b old new readings text front g s = record {
 left_said : (old new : State) (front : List ℕ) (handle : ℕ) → Says old new front → left_of new handle ≡ left_of old handle
 left_said old new front handle s = rw (s.held, s.opened) refl
 
-same_files : (b : Start) (now : State) (readings : List Reading) (text : List ℕ) (o : Option Held) → o ≡ b.desk.held
+pub same_files : (b : Start) (now : State) (readings : List Reading) (text : List ℕ) (o : Option Held) → o ≡ b.desk.held
     → Spoken b now readings text → SameFiles o now.held
 same_files b now readings text None e g = g.untold (sym e)
 same_files b now readings text (Some h) e g = let t = g.tells h (sym e) in (t.is, t.held, t.files)
 
-pub speaks_by : (b : Start) (now : State) (readings : List Reading) (text : List ℕ) (Is : List ℕ → Type 0) → Spoken b now readings text
+unfoldable pub speaks_by : (b : Start) (now : State) (readings : List Reading) (text : List ℕ) (Is : List ℕ → Type 0) → Spoken b now readings text
     → Is text → Speaks b.desk now b.ins (places_of readings) (λ h text. Is text)
 speaks_by b now readings text Is g is = record {
   opened = g.opened;
@@ -210,10 +211,13 @@ unfoldable pub said_by : (b : Start) (now : State) (readings : List Reading) (te
     → Spoken b now readings text → Holds events text → Came events
     → ((input : ℕ) → input < length readings → given_of (reading_at readings input) ≤ longest_file)
     → ((input : ℕ) → input < length readings → (reading_at readings input).taken ≡ length (fed input events))
+    → ((input : ℕ) → input < length readings → (reading_at readings input).ended ≡ has_ended input events)
+    → ((input : ℕ) → input < length readings → IsWhole (reading_at readings input))
     → ((input : ℕ) → input < length readings → given_of (reading_at readings input) ≤ reach input)
     → ((h : Held) → b.desk.held ≡ Some h → Relates b h now readings events)
     → StandsSaid b.desk now b.ins reach Came Holds
-said_by b now readings text reach events Came Holds g holds came short taken within relates = record {
+unfolding speaks_by
+said_by b now readings text reach events Came Holds g holds came short taken ended whole within relates = record {
   events = events;
   came = came;
   places = places_of readings;
@@ -230,6 +234,14 @@ said_by b now readings text reach events Came Holds g holds came short taken wit
       ((relates h told).reads input lt));
   short = λ input lt. let inside : input < length readings = omega (arith, lt, g.all) in let p = place_at readings input inside in
       let w = short input inside in omega (arith, p, w);
+  taken = λ input lt.
+      let inside : input < length readings = omega (arith, lt, g.all) in
+      let p = place_at readings input inside in
+      let t = taken input inside in (
+        omega (arith, p, t),
+        λ on. let w = ap length (whole input inside (ended input inside ∙ on)) in omega (arith, p, t, w),
+      );
+  holds = holds;
 }
 
 unfoldable pub said_all : (b : Start) (now : State) (readings : List Reading) (reach : ℕ → ℕ) (events : List Event)
@@ -237,7 +249,7 @@ unfoldable pub said_all : (b : Start) (now : State) (readings : List Reading) (r
     → StandsSaid b.desk now b.ins reach Came HoldsAll
 said_all b now readings reach events Came r came =
     said_by b now readings (gave events) reach events Came HoldsAll r.spoken refl came
-    (λ input lt. let s = r.short input lt in omega (arith, s)) r.taken r.within r.relates
+    (λ input lt. let s = r.short input lt in omega (arith, s)) r.taken r.ended r.whole r.within r.relates
 
 -- ---- a run begins
 
@@ -283,6 +295,7 @@ speaking_first Becomes reach m b new readings a came = record {
     taken = λ input lt. ap (λ (r : Reading). r.taken) (a.begin input lt);
     ended = λ input lt. ap (λ (r : Reading). r.ended) (a.begin input lt);
     within = λ input lt. let n = ap given_of (a.begin input lt) in omega (arith, n);
+    whole = λ input lt on. ap (λ (r : Reading). r.waiting) (a.begin input lt);
     relates = λ h held. record {
       present = (a.tells h held).present;
       reads = λ input lt. first_rest b new h readings input a held lt;
@@ -324,6 +337,7 @@ speaking_said Becomes start m n reach b old new readings calm rises u r =
         taken = λ input lt. r.runs.taken input lt ∙ ap length (sym (more.fed input));
         ended = λ input lt. r.runs.ended input lt ∙ sym (more.ended input);
         within = λ input lt. let w = r.runs.within input lt in let i = rises input in omega (arith, w, i);
+        whole = r.runs.whole;
         relates = λ h told. relates_said b h old new readings r.events u.late u.front r.runs.spoken.all (r.runs.relates h told)
             u.only u.says;
       };
@@ -349,7 +363,7 @@ stopped_saying Becomes start m n reach next b old new readings fault gives f r =
         × Becomes start (events ++ f.utters.late) n) (λ events text. text ≡ gave events ++ f.utters.front)
         (spoken_said b old new readings (gave r.events) f.utters.front r.runs.spoken f.utters.says) refl
         (r.came, f.utters.becomes start r.events r.came)
-        (λ input lt. let s = r.runs.short input lt in omega (arith, s)) r.runs.taken r.runs.within
+        (λ input lt. let s = r.runs.short input lt in omega (arith, s)) r.runs.taken r.runs.ended r.runs.whole r.runs.within
         (λ h told. let q = r.runs.relates h told in record {
           present = q.present;
           reads = λ input lt.
@@ -408,6 +422,7 @@ speaking_fed Becomes start m n reach b old new readings input most was is d lt a
             ∙ sym (ended_other f.event input other f.count _ _ r.events differ f.is_taken));
         within = each_reader (λ k x. given_of x ≤ reach n k) readings input is lt (omega (arith, k, u))
             (λ other inside differ. let w = r.runs.within other inside in let v = rises other in omega (arith, w, v));
+        whole = each_reader (λ k x. IsWhole x) readings input is lt f.whole (λ other inside differ. r.runs.whole other inside);
         relates = λ h told.
             let rel = r.runs.relates h told in
             let all = r.runs.spoken.all in
@@ -434,15 +449,19 @@ said_unfed : {A : Type 0} (Becomes : List Event → A → Type 0) (m : A) (reach
     (readings : List Reading) (input : ℕ) (is : Reading) (events : List Event)
     → input < length readings → RunsSaid b old readings (reach m) events → Becomes events m
     → ReadsOn old new (reading_at readings input) is → TakesNone old new (reading_at readings input) is
-    → given_of is ≤ longest_file → given_of is ≤ reach m input
+    → (reading_at readings input).ended ≡ false → given_of is ≤ longest_file → given_of is ≤ reach m input
     → StandsSaid b.desk new b.ins (reach m) (λ events. Becomes events m) HoldsAll
-said_unfed Becomes m reach b old new readings input is events lt r came on none small near =
+said_unfed Becomes m reach b old new readings input is events lt r came on none off small near =
     said_by b new (slice_set readings input is) (gave events) (reach m) events (λ events. Becomes events m) HoldsAll
     (spoken_read b old new readings input is (gave events) lt r.spoken on) refl came
     (each_reader (λ k x. given_of x ≤ longest_file) readings input is lt small
     (λ other inside differ. let s = r.short other inside in omega (arith, s)))
     (each_reader (λ k x. x.taken ≡ length (fed k events)) readings input is lt (none.taken ∙ r.taken input lt)
     (λ other inside differ. r.taken other inside))
+    (each_reader (λ k x. x.ended ≡ has_ended k events) readings input is lt (none.ended ∙ r.ended input lt)
+    (λ other inside differ. r.ended other inside))
+    (each_reader (λ k x. IsWhole x) readings input is lt (λ on. absurd (true≢false (sym on ∙ none.ended ∙ off)))
+    (λ other inside differ. r.whole other inside))
     (each_reader (λ k x. given_of x ≤ reach m k) readings input is lt near (λ other inside differ. r.within other inside))
     (λ h told.
     let rel = r.relates h told in
@@ -465,12 +484,12 @@ stops_unsaid : {A : Type 0} (Becomes : List Event → A → Type 0) (m : A) (rea
     (old new : State) (readings : List Reading) (input least most : ℕ) (is : Reading) (events : List Event) (why : ReadStop)
     → input < length readings → next m ≡ Read input least most → RunsSaid b old readings (reach m) events → Becomes events m
     → ReadsOn old new (reading_at readings input) is → TakesNone old new (reading_at readings input) is
-    → given_of is ≤ reach m input → StopsReading old new is least why
+    → (reading_at readings input).ended ≡ false → given_of is ≤ reach m input → StopsReading old new is least why
     → StopsSpeaking b.desk new b.ins reach next Becomes m (read_fault input why)
 unfolding said_by said_unfed
-stops_unsaid Becomes m reach next b old new readings input least most is events stop.TooLong lt wants r came on none near s =
+stops_unsaid Becomes m reach next b old new readings input least most is events stop.TooLong lt wants r came on none off near s =
     record {
-      stands = said_unfed Becomes m reach b old new readings input is events lt r came on none (let e = s.0 in
+      stands = said_unfed Becomes m reach b old new readings input is events lt r came on none off (let e = s.0 in
           omega (arith, e)) near;
       place = let all = r.spoken.all in omega (arith, lt, all);
       wants = subst
@@ -484,10 +503,10 @@ stops_unsaid Becomes m reach next b old new readings input least most is events 
           ∙ ap given_of (reading_same readings input is lt) ∙ s.0;
       counts = s.2 ∙ r.counts;
     }
-stops_unsaid Becomes m reach next b old new readings input least most is events stop.Fault lt wants r came on none near s = (
+stops_unsaid Becomes m reach next b old new readings input least most is events stop.Fault lt wants r came on none off near s = (
   reads_fail b.desk old new r.counts s.2,
   inr (record {
-    stands = said_unfed Becomes m reach b old new readings input is events lt r came on none (let e = s.0 in
+    stands = said_unfed Becomes m reach b old new readings input is events lt r came on none off (let e = s.0 in
         omega (arith, e)) near;
     place = let all = r.spoken.all in omega (arith, lt, all);
     wants = subst
@@ -506,16 +525,16 @@ pub stopped_unfed : {A : Type 0} (Becomes : List Event → A → Type 0) (m n : 
     (old new : State) (readings : List Reading) (input least most : ℕ) (was is d : Reading) (why : ReadStop)
     → input < length readings → was ≡ slice_index_or readings input d → IsReadOn old new was is most → TakesNone old new was is
     → n ≡ m → next m ≡ Read input least most → StopsReading old new is least why
-    → (r : IsSpeaking Becomes reach b old m readings) → length (fed input r.events) + most ≤ reach m input
-    → StopsSpeaking b.desk new b.ins reach next Becomes n (read_fault input why)
-stopped_unfed Becomes m n reach next b old new readings input least most was is d why lt at q t same wants s r wanted =
+    → (r : IsSpeaking Becomes reach b old m readings) → has_ended input r.events ≡ false
+    → length (fed input r.events) + most ≤ reach m input → StopsSpeaking b.desk new b.ins reach next Becomes n (read_fault input why)
+stopped_unfed Becomes m n reach next b old new readings input least most was is d why lt at q t same wants s r off wanted =
     let e = item_is readings input was d lt at in
     let on : IsReadOn old new (reading_at readings input) is most = subst (λ (x : Reading). IsReadOn old new x is most) e q in
     let none : TakesNone old new (reading_at readings input) is = subst (λ (x : Reading). TakesNone old new x is) e t in
     let k = nearer Becomes reach m b old readings input most is lt r wanted on.limit in
     subst (λ x. StopsSpeaking b.desk new b.ins reach next Becomes x (read_fault input why)) (sym same)
     (stops_unsaid Becomes m reach next b old new readings input least most is r.events why lt wants r.runs r.came on.reads none
-    k s)
+    (r.runs.ended input lt ∙ off) k s)
 
 -- ---- the machine has come to its end, and what its reader knows
 

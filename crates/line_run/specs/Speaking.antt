@@ -6,7 +6,7 @@ use Rattle.ports.specs.Desk.{State, Held, SameCounts}
 use Rattle.desk_io.specs.Faults.{ReadsFail, WritesFail}
 use Rattle.desk_io.specs.Reading.{longest_file}
 use Rattle.file_run.specs.Events.{Event, fed, gave, OnlyGave}
-use Rattle.file_run.specs.FileRun.{AreFed, AreNamed, AllShort, HoldsAll, OpensInputs, SameFiles, file_at}
+use Rattle.file_run.specs.FileRun.{AreFed, AreTaken, AreNamed, AllShort, HoldsAll, OpensInputs, SameFiles, file_at}
 use Rattle.file_run.specs.Steps.{Needs, FallsShort}
 use Rattle.file_run.specs.declared.machine.Step.{Step}
 use Rattle.file_run.specs.declared.machine.Step.TheVariants.{Give, End}
@@ -38,6 +38,8 @@ pub record StandsSaid (old new : State) (ins : List (List ℕ)) (reach : ℕ →
   pub short : (input : ℕ) → input < length ins → slice_index places input ≤ longest_file
   pub present : IfSome old.held (λ h. (input : ℕ) → input < length ins → IsSome (get h.files (slice_index_or ins input [])))
   pub inputs : IfSome old.held (λ h. AreFed (length ins) (file_at h ins) places events)
+  pub taken : AreTaken (length ins) places events
+  pub holds : Holds events speaks.text
 
 -- A run to the end of its machine: all that it gave was said.
 pub record SpeaksAll (old new : State) (ins : List (List ℕ)) (reach : ℕ → ℕ) (Came : List Event → Type 0) : Type 0 where

@@ -4,7 +4,7 @@ use Rattle.std.specs.declared.option.Option.TheVariants.{None, Some}
 use Rattle.ports.specs.Desk.{State, Held, SameCounts, Says}
 use Rattle.desk_io.specs.Reading.{Reading, given_of, longest_file}
 use Rattle.file_run.specs.Events.{Event, fed, has_ended, gave, OnlyGave}
-use Rattle.file_run.specs.Running.{Start, places_of, reading_at, Relates, start_of}
+use Rattle.file_run.specs.Running.{Start, places_of, reading_at, Relates, IsWhole, start_of}
 
 -- Events went on, of which each gives, and all that was given was said but for these bytes, which wait still.
 pub record Utters {A : Type 0} (Becomes : A → List Event → A → Type 0) (old new : A) (was is : State) (waiting : List ℕ)
@@ -48,6 +48,7 @@ pub record RunsSaid (b : Start) (now : State) (readings : List Reading) (reach :
   pub taken : (input : ℕ) → input < length readings → (reading_at readings input).taken ≡ length (fed input events)
   pub ended : (input : ℕ) → input < length readings → (reading_at readings input).ended ≡ has_ended input events
   pub within : (input : ℕ) → input < length readings → given_of (reading_at readings input) ≤ reach input
+  pub whole : (input : ℕ) → input < length readings → IsWhole (reading_at readings input)
   pub relates : (h : Held) → b.desk.held ≡ Some h → Relates b h now readings events
 
 -- There is a run so far, and the machine is where it came to.

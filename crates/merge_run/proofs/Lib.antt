@@ -10,7 +10,8 @@ pub mod LawLemmas
 pub mod LiveLemmas
 pub mod NumberLemmas
 pub mod PickLemmas
-pub mod RunLemmas
+pub mod OldLemmas
+pub mod WorkLemmas
 pub mod SendLemmas
 pub mod ShownLemmas
 pub mod SplitLemmas

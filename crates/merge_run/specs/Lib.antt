@@ -1,6 +1,7 @@
 pub mod Counted
 pub mod Laws
 pub mod MergeRun
+pub mod MergeWork
 -- of the steps for another driver
 pub mod Steps
 pub mod Taking

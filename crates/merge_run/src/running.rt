@@ -1,10 +1,12 @@
 // A run of the merger of a plan.
 ghost use Rattle.std.specs.Prelude.{◌≢◌, IfOk, IfErr};
-ghost use Rattle.merge_run.specs.MergeRun.{RunsAll, Stops};
+ghost use Rattle.file_run.specs.Work.{Ends, Into};
+ghost use Rattle.merge_run.specs.MergeRun.{names_of, RunsAll, Stops};
+ghost use Rattle.merge_run.specs.MergeWork.{merge_work};
 
 use crate::machine::MergeMachine;
 use crate::stop::{MergeStop, Ran};
-use file_run::{RunStop, events_law, run_over_two};
+use file_run::{RunStop, run_over_two};
 use modulator::due_records_law;
 use plp_config::Plan;
 use ports::{Desk, Word};
@@ -24,10 +26,10 @@ pub fn run<D: Desk>(
 ) -> Result<Ran, RunStop<MergeStop>>
     requires apart_a { a.now ≢ out.now }
     requires apart_b { b.now ≢ out.now }
+    ensures ends { Ends (merge_work plan.now) (D.state desk.old) (D.state desk.new) (Into out.now) (names_of a.now b.now) result }
     ensures ok { IfOk result (RunsAll plan.now (D.state desk.old) (D.state desk.new) a.now b.now out.now) }
     ensures err { IfErr result (Stops plan.now (D.state desk.old) (D.state desk.new) a.now b.now out.now) }
 {
-    events_law();
     due_records_law();
     complete_law();
     let mut machine = MergeMachine::open(alloc, plan)?;

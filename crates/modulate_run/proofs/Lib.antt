@@ -2,4 +2,5 @@ pub mod CountLemmas
 pub mod FrontLemmas
 pub mod LawLemmas
 pub mod MachineLemmas
-pub mod RunLemmas
+pub mod OldLemmas
+pub mod WorkLemmas

@@ -7,7 +7,7 @@ ghost use Rattle.modulator.specs.StandsFor.{next_of, is_waiting, is_finished};
 use crate::causes::Causes;
 use crate::stop::{ModulateStop, Ran};
 use bit_slice::OutOfMemory;
-use file_run::{AHEAD, Ending, Machine, Step, events_law};
+use file_run::{AHEAD, Ending, Machine, Step, Working, events_law};
 use frame_groups::Waiting;
 use modulator::{Modulator, due_records_law, is_of};
 use plp_config::{MOST_FRAMES, Plan};
@@ -105,6 +105,17 @@ impl<'p> Ending for ModulatorMachine<'p> {
             return Err(ModulateStop::NoSuperframe);
         }
         Ok(self.ran)
+    }
+}
+
+impl<'p> Working for ModulatorMachine<'p> {
+    ghost use Rattle.modulator.specs.StandsFor.{config_of};
+    ghost use Rattle.modulate_run.specs.ModulateWork.{modulate_work};
+
+    ghost work = { λ m. modulate_work (config_of m.modulator) };
+
+    fn work_law(&self) {
+        due_records_law();
     }
 }
 

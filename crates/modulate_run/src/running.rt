@@ -1,11 +1,12 @@
 // A run of the modulator of a plan.
-ghost use Rattle.std.specs.Prelude.{◌≢◌, IfOk, IfErr};
+ghost use Rattle.std.specs.Prelude.{◌≢◌, [], ◌∷◌, IfOk, IfErr};
 ghost use Rattle.modulate_run.specs.ModulateRun.{RunsAll, Stops};
+ghost use Rattle.file_run.specs.Work.{Ends, Into};
+ghost use Rattle.modulate_run.specs.ModulateWork.{modulate_work};
 
 use crate::machine::ModulatorMachine;
 use crate::stop::{ModulateStop, Ran};
-use file_run::{RunStop, events_law, run_over};
-use modulator::due_records_law;
+use file_run::{RunStop, run_work_over};
 use plp_config::Plan;
 use ports::Desk;
 use std::alloc::Global;
@@ -21,13 +22,12 @@ pub fn run<D: Desk>(
     desk: &mut D,
 ) -> Result<Ran, RunStop<ModulateStop>>
     requires apart { input.now ≢ out.now }
+    ensures ends { Ends (modulate_work plan.now) (D.state desk.old) (D.state desk.new) (Into out.now) (input.now ∷ []) result }
     ensures ok { IfOk result (RunsAll plan.now (D.state desk.old) (D.state desk.new) input.now out.now) }
     ensures err { IfErr result (Stops plan.now (D.state desk.old) (D.state desk.new) input.now out.now) }
 {
-    events_law();
-    due_records_law();
     let mut machine = ModulatorMachine::open(alloc, plan)?;
-    let ended = run_over(alloc, &mut machine, input, out, desk);
+    let ended = run_work_over(alloc, &mut machine, input, out, desk);
     machine.causes().note(desk);
     ended
 }

@@ -52,7 +52,7 @@ returns-in-Err-feed-clause-err g c =
     (omega (arith, w.place, c.requires.inputs, c.loop-input.invariant.running.runs.reached.all)) refl
     (record { reads = c.feed.ensures.reads; limit = c.feed.ensures.limit }) c.in-Err-feed.ensures.none
     c.in-Err-feed.ensures.machine (sym c.step.ensures.next ∙ c.in-Read.is) c.in-Err-feed.ensures.err
-    c.loop-input.invariant.running w.near)
+    c.loop-input.invariant.running w.is_open w.near)
 
 pub returns-in-Err-drain-clause-err : goal.returns-in-Err-drain-clause-err
 returns-in-Err-drain-clause-err g c =

@@ -51,7 +51,7 @@ returns-in-Err-feed-clause-err g c =
     (omega (arith, w.place, c.requires.inputs, c.loop-input.invariant.speaking.runs.spoken.all)) refl
     (record { reads = c.feed.ensures.reads; limit = c.feed.ensures.limit }) c.in-Err-feed.ensures.none
     c.in-Err-feed.ensures.machine (sym c.step.ensures.next ∙ c.in-Read.is) c.in-Err-feed.ensures.err
-    c.loop-input.invariant.speaking w.near)
+    c.loop-input.invariant.speaking w.is_open w.near)
 
 pub returns-in-Err-say_given-clause-err : goal.returns-in-Err-say_given-clause-err
 returns-in-Err-say_given-clause-err g c =

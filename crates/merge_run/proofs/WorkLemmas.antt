@@ -1,0 +1,119 @@
+-- What a merger does by its files.
+use Rattle.std.proofs.Common.{◌≡◌, ℕ, ◌+◌, ◌-◌, ◌<◌, ◌==◌, true, false, List, [], ◌∷◌, ◌++◌}
+use Rattle.std.proofs.Common.{length, refl, ap, sym, subst, ◌∙◌, arith, append_assoc}
+use Rattle.std.specs.Prelude.{Err, slice_index}
+use Rattle.terms.proofs.CaseLemmas.{bool_cases}
+use Rattle.plp_config.specs.declared.config.Config.{Config}
+use Rattle.desk_io.specs.Reading.{longest_file}
+use Rattle.modulator.specs.Laws.{DueFront, DueFollow}
+use Rattle.t2mi_stream.specs.CompleteLaws.{CompleteLaw}
+use Rattle.feed_merge.specs.Picks.{picks, frames_of}
+use Rattle.frame_feed.specs.StandsFor.{waiting_of}
+use Rattle.frame_feed.specs.StandsFor as feed
+use Rattle.file_run.specs.Events.{Event, fed, has_ended, gave}
+use Rattle.file_run.specs.FileRun.{AreFed}
+use Rattle.file_run.specs.Steps.{Needs, FallsShort}
+use Rattle.file_run.specs.Work.{AreWhole, IsRightAtEnd, GaveSome, DoesWork}
+use Rattle.file_run.specs.declared.machine.Step.TheVariants.{Give, End}
+use Rattle.file_run.specs.declared.stop.RunFault.TheVariants.{TooLong, ReadFault}
+use Rattle.file_run.specs.declared.stop.RunStop.TheVariants.{Files}
+use Rattle.file_run.proofs.StandsLemmas.{fed_since}
+use Rattle.file_run.proofs.WorkLemmas.{are_whole}
+use Rattle.merge_run.specs.AsMachine.{Becomes, ending_in, ending_of}
+use Rattle.merge_run.specs.MergeRun.{MayWrite, HasSome}
+use Rattle.merge_run.specs.MergeWork.{merge_work}
+use Rattle.merge_run.specs.Shown.{Shown, IsDone, IsIn}
+use Rattle.merge_run.specs.Steps.{step_by, step_in, step_of, reach_of}
+use Rattle.merge_run.specs.declared.machine.MergeMachine.{MergeMachine}
+use Rattle.merge_run.specs.declared.phase.Phase.{Phase}
+use Rattle.merge_run.specs.declared.phase.Phase.TheVariants as phase
+use Rattle.merge_run.proofs.StepLemmas.{needs_at, short_at, is_late}
+use Rattle.merge_run.proofs.FilesLemmas.{two, merges_all, has_none, has_late, has_written, gave_front, since, fed_count}
+
+module _ (front : DueFront) (follow : DueFollow) (law : CompleteLaw) (start now : MergeMachine) (files : ℕ → List ℕ)
+    (places : List ℕ) (events : List Event) (all : length places ≡ 2) (are : AreFed 2 files places events)
+    (s : Shown start.merging.plan.now events now.merging) where
+  abbrev k : Config
+  k = start.merging.plan.now
+
+  whole : now.merging.phase ≡ phase.Done → AreWhole files places
+  whole done =
+      let i : IsDone k (frames_of (picks k s.given_a s.given_b)) now.merging.ran.units now.merging.a now.merging.b =
+      subst (IsIn k now.merging (frames_of (picks k s.given_a s.given_b))) done s.is_in in
+      are_whole 2 files places events all are
+      (two (λ (input : ℕ). has_ended input events ≡ true) (sym s.of_a.stands.end ∙ i.none_a.ended) (sym s.of_b.stands.end ∙ i.none_b.ended))
+
+  ends_in : (p : Phase) → now.merging.phase ≡ p
+      → step_in p (step_by (waiting_of now.merging.a) (feed.has_ended now.merging.a) (waiting_of now.merging.b) (feed.has_ended now.merging.b))
+      ≡ End → IsRightAtEnd (merge_work k) files places (gave events) (ending_in p now.merging.next now.merging.ran)
+  ends_in phase.Reads is end = has_late front follow law k now.merging events s files places are is (is_late _ _ _ _ end)
+  ends_in phase.Gives is end = absurd (let z : Give ≡ End = end in cc)
+  ends_in phase.Rests is end = absurd (let z : Give ≡ End = end in cc)
+  ends_in phase.Done is end =
+      bool_cases (now.merging.next == 0)
+      (λ none. rw none (whole is, has_none front follow law k now.merging events s files places are is none))
+      (λ some. rw some (whole is, merges_all front follow law k now.merging events s files places are is some))
+
+  too_long : (input : ℕ) → input < 2 → slice_index places input ≡ longest_file
+      → Needs (step_of now.merging) input (slice_index places input - length (fed input events))
+      → merge_work k files (Err (Files (TooLong input))) places (gave events)
+  too_long input lt most wants =
+      let w = needs_at now.merging.phase (waiting_of now.merging.a) (feed.has_ended now.merging.a) (waiting_of now.merging.b)
+      (feed.has_ended now.merging.b) input _ wants in
+      let few = w.few in
+      let ahead = (are input lt).ahead in
+      record {
+        taken = length (fed input events);
+        near = omega (arith, few, most);
+        within = omega (arith, ahead, most);
+        has = has_written front follow law k now.merging events s files places are input (length (fed input events)) w.wants w.reads refl;
+      }
+
+  unread : (input : ℕ) → input < 2
+      → FallsShort (step_of now.merging) input (slice_index places input - length (fed input events))
+      → merge_work k files (Err (Files (ReadFault input))) places (gave events)
+  unread input lt wants =
+      let w = short_at now.merging.phase (waiting_of now.merging.a) (feed.has_ended now.merging.a) (waiting_of now.merging.b)
+      (feed.has_ended now.merging.b) input _ wants in
+      let none = w.few in
+      let ahead = (are input lt).ahead in
+      has_written front follow law k now.merging events s files places are input (slice_index places input) w.wants w.reads
+      (omega (arith, ahead, none))
+
+unwritten : DueFront → DueFollow → CompleteLaw → (start now : MergeMachine) (files : ℕ → List ℕ) (places : List ℕ) (events : List Event)
+    (bytes : List ℕ) → AreFed 2 files places events
+    → GaveSome (λ m. reach_of m.merging) (λ m. step_of m.merging) (Becomes start) 2 places events now bytes
+    → HasSome start.merging.plan.now places files bytes
+unwritten front follow law start now files places events bytes are g =
+    let k : Config = start.merging.plan.now in
+    let p = gave_front front follow law k now.merging (events ++ g.late) g.came_late files places
+    (fed_since 2 files places events g.late g.only are) in
+    record {
+      more = g.more ++ p.0;
+      some = λ z. g.some (front_empty g.more p.0 z);
+      begins = subst (MayWrite k files) (ap (λ (l : List ℕ). l ++ p.0) g.parts ∙ append_assoc bytes g.more p.0) p.1;
+      since = λ input taken lt less.
+          let within = g.within input lt in
+          let count = fed_count front follow law k g.mid.merging events g.came files places are input lt in
+          let d = since front follow law k g.mid.merging events g.came files places are input taken lt
+          (omega (arith, less, within, count)) in (
+            d.0,
+            (d.1.0 ++ g.front, g.is ∙ ap (λ (l : List ℕ). l ++ g.front) d.1.1 ∙ append_assoc _ d.1.0 g.front),
+          );
+    }
+  where
+    front_empty : (xs ys : List ℕ) → xs ++ ys ≡ [] → xs ≡ []
+    front_empty [] ys e = refl
+    front_empty (x ∷ xs) ys e = absurd (let n = ap length e in omega (arith, n))
+
+pub merge_does : DueFront → DueFollow → CompleteLaw → (start : MergeMachine) → DoesWork (merge_work start.merging.plan.now) 2
+    (λ m. reach_of m.merging) (λ m. step_of m.merging) (Becomes start) ending_of
+merge_does front follow law start = record {
+  ends = λ files places events now all are came end.
+      ends_in front follow law start now files places events all are came now.merging.phase refl end;
+  too_long = λ files places events now input all are came lt most wants.
+      too_long front follow law start now files places events all are came input lt most wants;
+  unread = λ files places events now input all are came lt wants.
+      unread front follow law start now files places events all are came input lt wants;
+  unwritten = λ files places events now bytes all are g. unwritten front follow law start now files places events bytes are g;
+}
