@@ -25,7 +25,7 @@ use Rattle.frame_tests.specs.Tests.{l1_shape, first_shape, packets_fault, rules}
 use Rattle.record_laws.specs.Frames.{sent_blocks, l1_pre}
 use Rattle.record_writer.specs.Front.{post_with}
 use Rattle.record_writer.specs.RecordBytes.{own_count, list_at}
-use Rattle.open_group.specs.Sent.{sent_bytes}
+use Rattle.open_group.specs.Sent.{held_bytes}
 use Rattle.open_group.specs.Written.{dynamic_in, shape_in, packets_view, content_view}
 use Rattle.open_group.proofs.GivenLemmas.{has_blocks}
 use Rattle.modulator.specs.Laws.{DuePass, IsRight}
@@ -80,18 +80,18 @@ module _ (knows : Knows) (c : Config) (n : ℕ) (packets : List Packet) (p : Pas
   right plp = right_blocks c plp packets
 
   abbrev lists : List (List (List ℕ))
-  lists = map (λ plp. map sent_bytes (right plp)) (places c)
+  lists = map (λ plp. map held_bytes (right plp)) (places c)
 
   module _ (numbers : BitCounts) (past : List Numbered) (plan : IsPlan c) (pass : packets_fault c past n packets ≡ None) where
     pub right_counts : (plp : ℕ) → plp < length c.plps → own_count c n shape plp ≡ length (right plp)
     right_counts plp inside =
         let size : length lists ≡ length c.plps =
-        length-map-range_with_len (λ plp. map sent_bytes (right plp)) 0 (length c.plps) in
-        let at : (j : ℕ) → j < length c.plps → list_at lists j ≡ map sent_bytes (right j) =
-        λ j l. get_or-map-range_with_len (λ plp. map sent_bytes (right plp)) 0 (length c.plps) j j [] l (omega arith) in
+        length-map-range_with_len (λ plp. map held_bytes (right plp)) 0 (length c.plps) in
+        let at : (j : ℕ) → j < length c.plps → list_at lists j ≡ map held_bytes (right j) =
+        λ j l. get_or-map-range_with_len (λ plp. map held_bytes (right plp)) 0 (length c.plps) j j [] l (omega arith) in
         let has = has_blocks numbers c past n packets shape lists plan pass first_is counts_len size at in
         sym (has.counts plp (omega (arith, size, inside))) ∙ ap (λ (l : List (List ℕ)). length l) (at plp inside)
-        ∙ length-map (right plp) sent_bytes
+        ∙ length-map (right plp) held_bytes
 
     pub forms : MapPasses → Forms c n (emission c n) (l1_pre c) (post_with c first.dynamic) (sent_blocks c right)
     forms map_test = record {

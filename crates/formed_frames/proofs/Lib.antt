@@ -6,3 +6,4 @@ pub mod SendLemmas
 pub mod MadeLemmas
 pub mod BackLemmas
 pub mod CarryLemmas
+pub mod ShownLemmas

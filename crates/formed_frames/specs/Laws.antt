@@ -1,5 +1,5 @@
 -- Laws of formed frames.
-use Rattle.std.specs.Prelude.{◌≡◌, ℕ, Bool, List}
+use Rattle.std.specs.Prelude.{◌≡◌, ℕ, Bool, List, None}
 use Rattle.std.specs.List.{AllByRecursion}
 use Rattle.plp_config.specs.Capacity.{IsPlan}
 use Rattle.plp_config.specs.declared.config.Config.{Config}
@@ -10,7 +10,14 @@ use Rattle.open_group.specs.Written.{content_view}
 use Rattle.modulator.specs.StandsFor.{records_due}
 use Rattle.site_frame.specs.declared.reading.RecordView.{RecordView}
 use Rattle.formed_frames.specs.Formed.{IsFormed}
-use Rattle.formed_frames.specs.Remade.{CanBeSent}
+use Rattle.t2mi_packet.specs.declared.packet.Packet.{Packet}
+use Rattle.frame_groups.specs.Modulated.{Numbered}
+use Rattle.frame_tests.specs.Tests.{packets_fault}
+use Rattle.pool_frame.specs.Bodies.{pool_bodies}
+use Rattle.pool_frame.specs.Signalling.{pre_part, conf_part}
+use Rattle.open_group.specs.Shown.{Shows}
+use Rattle.open_group.specs.Written.{packets_view}
+use Rattle.formed_frames.specs.Remade.{CanBeSent, view_bodies}
 
 -- If a record is not muted, it is a frame formed for its number.
 abbrev pub IsFormedRecord : Config → FrameRecord → Type 0
@@ -24,3 +31,9 @@ FramesAreFormed = (c : Config) (finished : Bool) (bytes : List ℕ) → IsPlan c
 -- A formed frame has what its packets carry.
 abbrev pub FormedCanBeSent : Type 0
 FormedCanBeSent = (c : Config) (n : ℕ) (view : RecordView) → IsFormed c n view → CanBeSent c view
+
+-- What is shown of packets that pass as frame n is what the packets of its record carry.
+abbrev pub ShownIsSent : Type 0
+ShownIsSent = (c : Config) (past : List Numbered) (n : ℕ) (packets : List Packet) (dynamic : List Bool)
+    (lists : List (List (List ℕ))) → IsPlan c → packets_fault c past n packets ≡ None → Shows c packets dynamic lists
+    → pool_bodies c n (pre_part c) (conf_part c) dynamic lists ≡ view_bodies c n (packets_view c n packets)

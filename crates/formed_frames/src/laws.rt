@@ -1,6 +1,6 @@
 // Laws of the definitions. Their functions do nothing.
 ghost use Rattle.formed_frames.specs.Carrying.{FrameComesBack};
-ghost use Rattle.formed_frames.specs.Laws.{FramesAreFormed, FormedCanBeSent};
+ghost use Rattle.formed_frames.specs.Laws.{FramesAreFormed, FormedCanBeSent, ShownIsSent};
 
 use bb_frame::{bit_counts_law, scramble_twice_law};
 use frame_tests::{map_test_law, named_law, parts_law};
@@ -37,6 +37,19 @@ pub fn back_law()
 {
     scramble_twice_law();
     named_law();
+    parts_law();
+    pre_law();
+    conf_law();
+    dyn_law();
+    post_law();
+    bit_counts_law();
+}
+
+/// What a group shows of a frame that passes is what the packets of its record carry.
+pub fn shown_law()
+    ensures { ShownIsSent }
+{
+    scramble_twice_law();
     parts_law();
     pre_law();
     conf_law();

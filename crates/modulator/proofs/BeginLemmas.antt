@@ -78,7 +78,7 @@ pub waits_for : (at : Progress) (w : Waiting) → waiting_of at ≡ Some w → W
 waits_for at w e = own_by at.number at.next at.closing at.fault w e
 
 -- the own record of a group is not muted only if the group passes
-passes : (r : Rules) (past : List Numbered) (g : Option Group) (at : Progress) (ps : List Packet) (given : List FrameRecord)
+pub passes : (r : Rules) (past : List Numbered) (g : Option Group) (at : Progress) (ps : List Packet) (given : List FrameRecord)
     (h : Group) (w : Waiting)
     → Sequenced r past g at.number at.next at.closing at.fault ps given → g ≡ Some h → IsOwn at w → w.mute ≡ None
     → r.fault past h w.frame ≡ None

@@ -24,7 +24,7 @@ use Rattle.frame_tests.specs.Carried.{body_block, has_length, blocks_of, right_b
 use Rattle.frame_tests.specs.Tally.{Tally, tally_with, tally_need}
 use Rattle.frame_tests.specs.Tests.{body_known, is_known, greatest, capped}
 use Rattle.open_group.specs.HoldsBlocks.{HoldsCounts, HoldsLists, Held, held_of}
-use Rattle.open_group.specs.Sent.{sent_bytes}
+use Rattle.open_group.specs.Sent.{held_bytes}
 use Rattle.open_group.specs.declared.blocks.HeldBlocks.{HeldBlocks}
 
 -- one place of a sum has more
@@ -121,7 +121,7 @@ lists_same : (c : Config) (old new : HeldBlocks) (packets : List Packet) (p : Pa
     → HoldsLists c new (packets ++ p ∷ [])
 lists_same c old new packets p none need chunks pool h few plp inside =
     ap (λ (s : State). list_at s plp) pool ∙ h (omega (arith, few, need, chunks)) plp inside
-    ∙ ap (map sent_bytes) (sym (append-nil (right_blocks c plp packets))
+    ∙ ap (map held_bytes) (sym (append-nil (right_blocks c plp packets))
     ∙ ap (λ (l : List (List Bool)). right_blocks c plp packets ++ l) (sym (none plp inside))
     ∙ sym (right_more c packets p plp))
 
@@ -361,28 +361,28 @@ module _ (c : Config) (p : Packet) (frame_idx id : ℕ) (first : Bool) (bits : L
 
       pub right_listed : (old new : HeldBlocks) (packets : List Packet) → length old.pool.lists ≡ length c.plps
           → Counted old new k (chunks_for (block_bytes c k)) → old.need ≤ greatest
-          → (new.need ≤ old.chunks → new.pool ≡ appended old.pool k (sent_bytes bits)) → HoldsLists c old packets
+          → (new.need ≤ old.chunks → new.pool ≡ appended old.pool k (held_bytes bits)) → HoldsLists c old packets
           → HoldsLists c new (packets ++ p ∷ [])
       right_listed old new packets size e most pool h few plp inside =
           let need = ap (λ (b : Held). b.need) e in
           let chunks = ap (λ (b : Held). b.chunks) e in
-          let grown : List (List ℕ) = list_at old.pool k ++ sent_bytes bits ∷ [] in
+          let grown : List (List ℕ) = list_at old.pool k ++ held_bytes bits ∷ [] in
           let before = h (omega (arith, few, need, most, chunks)) plp inside in
           let now = ap (λ (s : State). list_at s plp) (pool (omega (arith, few, chunks))) in
           ⊎_elim
           (λ (e : plp ≡ k).
-          let front : list_at old.pool k ≡ map sent_bytes (right_blocks c plp packets) = ap (list_at old.pool) (sym e) ∙ before in
+          let front : list_at old.pool k ≡ map held_bytes (right_blocks c plp packets) = ap (list_at old.pool) (sym e) ∙ before in
           now
           ∙ ap (λ (j : ℕ). slice_index_or (slice_set old.pool.lists k grown) j []) e
           ∙ get_or-set_same old.pool.lists k grown [] (let l = at.inside in omega (arith, size, l))
-          ∙ ap (λ (l : List (List ℕ)). l ++ sent_bytes bits ∷ []) front
-          ∙ sym (map-append sent_bytes (right_blocks c plp packets) (bits ∷ []))
-          ∙ ap (λ (l : List (List Bool)). map sent_bytes (right_blocks c plp packets ++ l))
+          ∙ ap (λ (l : List (List ℕ)). l ++ held_bytes bits ∷ []) front
+          ∙ sym (map-append held_bytes (right_blocks c plp packets) (bits ∷ []))
+          ∙ ap (λ (l : List (List Bool)). map held_bytes (right_blocks c plp packets ++ l))
           (sym own_right ∙ ap (λ (j : ℕ). right_blocks c j (p ∷ [])) (sym e))
-          ∙ ap (map sent_bytes) (sym (right_more c packets p plp)))
+          ∙ ap (map held_bytes) (sym (right_more c packets p plp)))
           (λ (ne : plp ≡ k → ⊥).
           now ∙ get_or-set_other old.pool.lists k plp grown [] ne ∙ before
-          ∙ ap (map sent_bytes) (sym (append-nil (right_blocks c plp packets))
+          ∙ ap (map held_bytes) (sym (append-nil (right_blocks c plp packets))
           ∙ ap (λ (l : List (List Bool)). right_blocks c plp packets ++ l) (sym (other_right plp inside ne))
           ∙ sym (right_more c packets p plp)))
           (cases_eq plp k)

@@ -12,7 +12,7 @@ use Rattle.std.proofs.lemmas.List.FromFn.{fill_by_all, length-range_with_len, ge
 use Rattle.std.proofs.lemmas.List.Sums.{AllPass-from_list_all}
 use Rattle.std.proofs.lemmas.Simd.{map-map}
 use Rattle.terms.specs.Bits.{bytes_for}
-use Rattle.terms.proofs.BitLemmas.{length-bytes_of}
+use Rattle.terms.proofs.BitLemmas.{length-bytes_of, bits_of-bytes_of}
 use Rattle.terms.proofs.OptionLemmas.{none_if}
 use Rattle.bb_frame.specs.Laws.{BitCounts}
 use Rattle.bb_frame.specs.Scrambled.{scrambled}
@@ -42,7 +42,7 @@ use Rattle.record_writer.specs.Laws.{RecordWritten, BlockCount, RestLength, HasB
 use Rattle.record_writer.specs.RecordBytes.{own_count, plp_block, list_blocks, list_at}
 use Rattle.record_writer.specs.Steps.{step_bytes}
 use Rattle.record_writer.specs.declared.step.Step.TheVariants.{Blocks}
-use Rattle.open_group.specs.Sent.{sent_bytes}
+use Rattle.open_group.specs.Sent.{held_bytes}
 use Rattle.open_group.specs.Written.{dynamic_in, packets_view}
 use Rattle.open_group.proofs.RoomLemmas.{none_first, none_behind}
 use Rattle.plp_config.proofs.PlaceLemmas.{place_is}
@@ -160,48 +160,64 @@ module _ (c : Config) (plan : IsPlan c) (plp : ℕ) (inside : plp < length c.plp
       let both = and_parts (is_known c p) (list_all (is_known c) packets) known in
       kept (body_block own_id p.body) (blocks_of c plp packets) (body_length p.body both.0) (all_right packets both.1)
 
+-- a block as it is sent, by the bytes that are held of it
+one_laid : (c : Config) (plp count : ℕ) (bits : List Bool) → length bits ≡ 8 * count
+    → plp_block c plp (held_bytes bits) ≡ sent_block c plp bits
+one_laid c plp count bits size = ap (λ (l : List Bool). sent_block c plp l) (bits_of-bytes_of bits count size)
+
+plp_laid : (c : Config) (plp count : ℕ) (blocks : List (List Bool))
+    → ((place : ℕ) → place < length blocks → length (get_or blocks place []) ≡ 8 * count)
+    → map (plp_block c plp) (map held_bytes blocks) ≡ map (sent_block c plp) blocks
+plp_laid c plp count [] sizes = refl
+plp_laid c plp count (b ∷ blocks) sizes =
+    ap₂ (λ x y. x ∷ y) (one_laid c plp count b (sizes 0 (omega arith)))
+    (plp_laid c plp count blocks (λ place lt. sizes (suc place) (omega (arith, lt))))
+
 -- the blocks of lists, PLP by PLP
 laid : (c : Config) (blocks : ℕ → List (List Bool)) (a n : ℕ)
-    → list_blocks c a (map (λ plp. map sent_bytes (blocks plp)) (range_with_len a n))
+    → ((plp place : ℕ) → place < length (blocks plp) → length (get_or (blocks plp) place []) ≡ 8 * block_bytes c plp)
+    → list_blocks c a (map (λ plp. map held_bytes (blocks plp)) (range_with_len a n))
     ≡ flat_map (λ plp. map (sent_block c plp) (blocks plp)) (range_with_len a n)
-laid c blocks a zero = refl
-laid c blocks a (suc n) = ap₂ (λ x y. x ++ y) (map-map (plp_block c a) sent_bytes (blocks a)) (laid c blocks (a + 1) n)
+laid c blocks a zero sizes = refl
+laid c blocks a (suc n) sizes =
+    ap₂ (λ x y. x ++ y) (plp_laid c a (block_bytes c a) (blocks a) (sizes a)) (laid c blocks (a + 1) n sizes)
 
 -- the bytes of a block that has the length of its PLP
 whole_bytes : (bits width : ℕ) → bits ≡ 8 * width → bytes_for bits ≡ width
 whole_bytes bits width e = omega (arith, e)
 
-sent_length : BitCounts → (bits : List Bool) (width : ℕ) → length bits ≡ 8 * width → length (sent_bytes bits) ≡ width
-sent_length sizes bits width e = length-bytes_of (scrambled bits) ∙ whole_bytes (length (scrambled bits)) width
-    (sizes.scrambled bits ∙ e)
+sent_length : BitCounts → (bits : List Bool) (width : ℕ) → length bits ≡ 8 * width → length (held_bytes bits) ≡ width
+sent_length sizes bits width e = length-bytes_of bits ∙ whole_bytes (length bits) width e
 
 module _ (sizes : BitCounts) (c : Config) (past : List Numbered) (n : ℕ) (packets : List Packet) (shape : FrameShape)
     (lists : List (List (List ℕ)))
     (plan : IsPlan c) (passes : packets_fault c past n packets ≡ None)
     (first : first_shape c packets ≡ Some shape) (told : length shape.counts ≡ length c.plps)
     (long : length lists ≡ length c.plps)
-    (held : (plp : ℕ) → plp < length c.plps → list_at lists plp ≡ map sent_bytes (right_blocks c plp packets)) where
+    (held : (plp : ℕ) → plp < length c.plps → list_at lists plp ≡ map held_bytes (right_blocks c plp packets)) where
   lists_sent : list_blocks c 0 lists ≡ sent_blocks c (λ plp. right_blocks c plp packets)
   lists_sent =
-      ap (list_blocks c 0) (fill_by_all (λ plp. map sent_bytes (right_blocks c plp packets)) lists (length c.plps) [] long held)
+      ap (list_blocks c 0) (fill_by_all (λ plp. map held_bytes (right_blocks c plp packets)) lists (length c.plps) [] long held)
       ∙ laid c (λ plp. right_blocks c plp packets) 0 (length c.plps)
+      (λ plp place there. eqb-true (length (get_or (right_blocks c plp packets) place [])) (8 * block_bytes c plp)
+      (filter_passes (has_length c plp) (blocks_of c plp packets) place [] there))
 
   held_count : (plp : ℕ) → plp < length c.plps → length (list_at lists plp) ≡ own_count c n shape plp
   held_count plp inside =
       let tests = blocks_pass c past n packets (blocks_none c past n packets passes) in
       let counts : has_counts c past n packets (Some shape) ≡ true =
       subst (λ (o : Option FrameShape). has_counts c past n packets o ≡ true) first tests.0 in
-      ap length (held plp inside) ∙ length-map (right_blocks c plp packets) sent_bytes
+      ap length (held plp inside) ∙ length-map (right_blocks c plp packets) held_bytes
       ∙ ap length (all_right c plan plp inside packets tests.1)
       ∙ counts_are c past n packets shape counts plp inside
 
-  held_length : (plp place : ℕ) → plp < length c.plps → place < length (map sent_bytes (right_blocks c plp packets))
-      → length (slice_index_or (map sent_bytes (right_blocks c plp packets)) place []) ≡ block_bytes c plp
+  held_length : (plp place : ℕ) → plp < length c.plps → place < length (map held_bytes (right_blocks c plp packets))
+      → length (slice_index_or (map held_bytes (right_blocks c plp packets)) place []) ≡ block_bytes c plp
   held_length plp place inside within =
-      let there : place < length (right_blocks c plp packets) = let size = length-map (right_blocks c plp packets) sent_bytes in
+      let there : place < length (right_blocks c plp packets) = let size = length-map (right_blocks c plp packets) held_bytes in
       omega (arith, size, within) in
       let right = filter_passes (has_length c plp) (blocks_of c plp packets) place [] there in
-      ap length (get_or-map sent_bytes (right_blocks c plp packets) place [] [] there)
+      ap length (get_or-map held_bytes (right_blocks c plp packets) place [] [] there)
       ∙ sent_length sizes (get_or (right_blocks c plp packets) place []) (block_bytes c plp)
       (eqb-true (length (get_or (right_blocks c plp packets) place [])) (8 * block_bytes c plp) right)
 
@@ -213,7 +229,7 @@ module _ (sizes : BitCounts) (c : Config) (past : List Numbered) (n : ℕ) (pack
         ⊎_elim
         (λ (inside : plp < length c.plps).
         let is = held plp inside in
-        let there : place < length (map sent_bytes (right_blocks c plp packets)) = let e = ap length is in
+        let there : place < length (map held_bytes (right_blocks c plp packets)) = let e = ap length is in
         omega (arith, e, within) in
         ap (λ (l : List (List ℕ)). length (slice_index_or l place [])) is ∙ held_length plp place inside there)
         (λ (past : length c.plps ≤ plp).
@@ -236,7 +252,7 @@ pub given_frame : RecordWritten → BlockCount → RestLength → BitCounts
     (lists : List (List (List ℕ))) (blocks rest : ℕ)
     → IsPlan c → packets_fault c past n packets ≡ None → dynamic ≡ dynamic_in packets → first_shape c packets ≡ Some shape
     → length shape.counts ≡ length c.plps → length lists ≡ length c.plps
-    → ((plp : ℕ) → plp < length c.plps → list_at lists plp ≡ map sent_bytes (right_blocks c plp packets))
+    → ((plp : ℕ) → plp < length c.plps → list_at lists plp ≡ map held_bytes (right_blocks c plp packets))
     → blocks ≡ sum_by (own_count c n shape) (places c)
     → rest ≡ rest_size c (post_size c (length dynamic)) (own_count c n shape)
     → front_bytes c (emission c n) dynamic blocks rest ++ step_bytes c shape (n % c.frames) lists (Blocks 0)

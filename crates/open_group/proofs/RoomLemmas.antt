@@ -15,7 +15,7 @@ use Rattle.frame_tests.specs.Tally.{Tally, tally_need, tally_room, tally_pool, t
 use Rattle.frame_tests.specs.Tally.{tally_map, tally_fault}
 use Rattle.frame_tests.specs.Tests.{unless, pool_chunks, capped, begun_test, first_failure}
 use Rattle.open_group.specs.HoldsBlocks.{HoldsCounts, HoldsLists}
-use Rattle.open_group.specs.Sent.{sent_bytes}
+use Rattle.open_group.specs.Sent.{held_bytes}
 use Rattle.open_group.specs.declared.blocks.HeldBlocks.{HeldBlocks}
 
 room_by : (fits : Bool) (cause : MuteCause) → unless fits cause ≡ None → fits ≡ true
@@ -46,6 +46,6 @@ has_room c past n t e =
 pub holds_all : (c : Config) (held : HeldBlocks) (packets : List Packet) (past : List Numbered) (n : ℕ) (t : Tally)
     → HoldsCounts c held t
     → HoldsLists c held packets → held.chunks ≡ pool_chunks c → tally_fault c past n t ≡ None
-    → (plp : ℕ) → plp < length c.plps → list_at held.pool plp ≡ map sent_bytes (right_blocks c plp packets)
+    → (plp : ℕ) → plp < length c.plps → list_at held.pool plp ≡ map held_bytes (right_blocks c plp packets)
 holds_all c held packets past n t counts lists chunks none = let room = has_room c past n t none in let need = counts.need in
     lists (omega (arith, room, need, chunks))

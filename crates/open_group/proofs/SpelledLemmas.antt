@@ -30,7 +30,7 @@ use Rattle.record_writer.specs.Laws.{RecordFits}
 use Rattle.scheduler.specs.Shape.{FrameShape}
 use Rattle.site_frame.specs.Whole.{FitsRecord}
 use Rattle.t2mi_packet.specs.declared.packet.Packet.{Packet}
-use Rattle.open_group.specs.Sent.{sent_bytes}
+use Rattle.open_group.specs.Sent.{held_bytes}
 use Rattle.open_group.specs.Written.{dynamic_in, packets_view, content_view}
 use Rattle.open_group.proofs.GivenLemmas.{map_none, has_blocks, same_view}
 use Rattle.open_group.proofs.ReadLemmas.{read_len, read_rows}
@@ -46,20 +46,20 @@ map_holds c past n packets e = none_if (has_map c (first_shape c packets)) MapRe
 
 -- the blocks of packets, in lists
 abbrev lists_of : Config → List Packet → List (List (List ℕ))
-lists_of c packets = map (λ plp. map sent_bytes (right_blocks c plp packets)) (places c)
+lists_of c packets = map (λ plp. map held_bytes (right_blocks c plp packets)) (places c)
 
 lists_long : (c : Config) (packets : List Packet) → length (lists_of c packets) ≡ length c.plps
-lists_long c packets = length-map (places c) (λ plp. map sent_bytes (right_blocks c plp packets))
+lists_long c packets = length-map (places c) (λ plp. map held_bytes (right_blocks c plp packets))
     ∙ length-range_with_len 0 (length c.plps)
 
 lists_held : (c : Config) (packets : List Packet) (plp : ℕ) → plp < length c.plps → list_at (lists_of c packets) plp
-    ≡ map sent_bytes (right_blocks c plp packets)
+    ≡ map held_bytes (right_blocks c plp packets)
 lists_held c packets plp inside =
     let size = length-range_with_len 0 (length c.plps) in
     let there : get_or (places c) plp 0 ≡ plp = let e = get_or-range_with_len 0 (length c.plps) plp 0 inside in
     omega (arith, e) in
-    get_or-map (λ plp. map sent_bytes (right_blocks c plp packets)) (places c) plp 0 [] (omega (arith, size, inside))
-    ∙ ap (λ (j : ℕ). map sent_bytes (right_blocks c j packets)) there
+    get_or-map (λ plp. map held_bytes (right_blocks c plp packets)) (places c) plp 0 [] (omega (arith, size, inside))
+    ∙ ap (λ (j : ℕ). map held_bytes (right_blocks c j packets)) there
 
 module _ (fits : RecordFits) (passing : MapPasses) (spelled : DynReadSpelled) (len : DynLength) (sizes : BitCounts) (c : Config)
     (past : List Numbered) (n : ℕ) (packets : List Packet)

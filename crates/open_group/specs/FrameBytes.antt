@@ -16,6 +16,10 @@ dynamic_of held = (parts_of held.l1.parts).dynamic
 abbrev pub shape_of : PooledGroup → Option FrameShape
 shape_of held = shape_told held.l1
 
+-- the blocks that have the length of their PLP have room
+abbrev pub has_room : PooledGroup → Bool
+has_room held = nat_le held.blocks.need held.blocks.chunks
+
 -- what is held can be given as a frame: the right blocks have room, and the first L1-current tells a shape with a cell map
 abbrev pub is_frame : PooledGroup → Bool
 is_frame held = nat_le held.blocks.need held.blocks.chunks && has_map held.network (shape_of held)

@@ -6,7 +6,7 @@ use Rattle.t2mi_packet.specs.declared.packet.Packet.{Packet}
 use Rattle.frame_tests.specs.Carried.{right_blocks}
 use Rattle.frame_tests.specs.Tally.{Tally, tally_need}
 use Rattle.frame_tests.specs.Tests.{capped}
-use Rattle.open_group.specs.Sent.{sent_bytes}
+use Rattle.open_group.specs.Sent.{held_bytes}
 use Rattle.open_group.specs.declared.blocks.HeldBlocks.{HeldBlocks}
 
 -- all that is held
@@ -38,7 +38,7 @@ pub record HoldsCounts (c : Config) (held : HeldBlocks) (t : Tally) : Type 0 whe
 -- If the right blocks have room, the lists of the pool are they.
 abbrev pub HoldsLists : Config → HeldBlocks → List Packet → Type 0
 HoldsLists c held packets = held.need ≤ held.chunks → (plp : ℕ) → plp < length c.plps → list_at held.pool plp
-    ≡ map sent_bytes (right_blocks c plp packets)
+    ≡ map held_bytes (right_blocks c plp packets)
 
 -- There is a list and two numbers for each PLP of so many.
 pub record IsOpenFor (held : HeldBlocks) (plps : ℕ) : Type 0 where

@@ -7,6 +7,7 @@ pub mod HoldsPast
 pub mod Holds
 pub mod FrameBytes
 pub mod Written
+pub mod Shown
 pub mod Laws
 -- inner: no public clause cites these
 pub mod Giving

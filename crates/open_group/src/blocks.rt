@@ -1,12 +1,11 @@
 // The blocks of a group.
 ghost use Rattle.std.specs.Prelude.{◌≡◌, ◌+◌, ◌*◌, ◌<◌, ◌≤◌, ℕ, [], length};
 ghost use Rattle.linked_pool.specs.Pool.{list_at};
-ghost use Rattle.open_group.specs.Sent.{sent_bytes};
+ghost use Rattle.open_group.specs.Sent.{held_bytes};
 ghost use Rattle.record_writer.specs.RecordBytes.{AreShort};
 ghost use Rattle.plp_config.specs.declared.plp.TheConstants.{MOST_BLOCK_BYTES};
 
 use crate::plps::block_chunks;
-use bb_frame::scramble;
 use bit_slice::{BitSlice, OutOfMemory};
 use linked_pool::{BlockRef, Pool, group_chunks};
 use plp_config::{MOST_BLOCK_BYTES, Plan};
@@ -18,7 +17,7 @@ use t2mi_packet::{Body, Packet};
 /// What is held of the blocks of a group. Its numbers stand still at the greatest that they can be.
 #[derive(Drop)]
 pub struct HeldBlocks {
-    // Of each PLP, its blocks that have its length, scrambled.
+    // Of each PLP, its blocks that have its length.
     pub(crate) pool: Pool,
     // Of each PLP, how many blocks came, and how many that have its length.
     counts: Vec<u64>,
@@ -57,14 +56,13 @@ fn clear_pool(pool: &mut Pool, lists: u32)
     pool.is_whole_law();
 }
 
-// The bytes of a block as it is sent.
-fn scramble_into(bits: &BitSlice<'_>, out: &mut [u8])
+// The bytes of a block.
+fn copy_into(bits: &BitSlice<'_>, out: &mut [u8])
     requires { length bits.now ≡ 8 * length out.old }
-    ensures bytes { out.new ≡ sent_bytes bits.now }
+    ensures bytes { out.new ≡ held_bytes bits.now }
     ensures len { length out.new ≡ length out.old }
 {
     bits.copy_bytes(out);
-    scramble(out);
 }
 
 impl HeldBlocks {
@@ -78,7 +76,7 @@ impl HeldBlocks {
     ghost use Rattle.frame_tests.specs.Tally.{Tally, tally_with};
     ghost use Rattle.frame_tests.specs.Tests.{pool_chunks, capped};
     ghost use Rattle.open_group.specs.HoldsBlocks.{IsOpenFor, HoldsCounts, HoldsLists, held_of};
-    ghost use Rattle.open_group.specs.Sent.{sent_bytes};
+    ghost use Rattle.open_group.specs.Sent.{held_bytes};
     ghost use Rattle.std.specs.Prelude.{◌↔◌, ◌⊎◌, take, drop};
     ghost use Rattle.record_writer.specs.Writes.{bytes_left, IsLast, IsReady, is_done};
 
@@ -126,7 +124,7 @@ impl HeldBlocks {
         requires len { length bits.now ≡ 8 * len }
         requires short { len ≤ MOST_BLOCK_BYTES }
         requires chunks { chunks ≡ chunks_for len }
-        ensures kept { self.new.need ≤ self.old.chunks → self.new.pool ≡ appended self.old.pool plp (sent_bytes bits.now) }
+        ensures kept { self.new.need ≤ self.old.chunks → self.new.pool ≡ appended self.old.pool plp (held_bytes bits.now) }
         ensures lists { length self.new.pool.lists ≡ length self.old.pool.lists }
         ensures held { held_of self.new ≡ record (held_of self.old) {
           pool = self.new.pool;
@@ -140,7 +138,7 @@ impl HeldBlocks {
         }
         let mut bytes = [0; MOST_BLOCK_BYTES as usize];
         let block = &mut bytes[..len];
-        scramble_into(bits, block);
+        copy_into(bits, block);
         short_law();
         self.pool.append(plp, block).unwrap();
     }
@@ -222,6 +220,14 @@ impl HeldBlocks {
         ensures { used_chunks self.now.pool.lists ≤ self.now.chunks }
     {
         self.pool.is_whole_law();
+    }
+
+    /// The blocks that have the length of their PLP, a list for each PLP.
+    pub fn pool(&self) -> &Pool
+        ensures value { result.now ≡ self.now.pool }
+        ensures short { AreShort result.now.lists }
+    {
+        &self.pool
     }
 
     /// Whether each block was one of a PLP, with its length.

@@ -61,7 +61,7 @@ impl<'p> PooledGroup<'p> {
     ghost use Rattle.frame_tests.specs.Tests.{first_shape, named_frame, group_fault};
     ghost use Rattle.open_group.specs.Holds.{HoldsPackets, Holds};
     ghost use Rattle.open_group.specs.HoldsPast.{HoldsPast};
-    ghost use Rattle.open_group.specs.Sent.{sent_bytes};
+    ghost use Rattle.open_group.specs.Sent.{held_bytes};
 
     /// A group in a network of this plan: none yet. It takes all the memory that a group needs.
     pub fn open(alloc: Global, plan: &'p Plan) -> Result<PooledGroup<'p>, OutOfMemory>

@@ -11,6 +11,7 @@ mod named;
 mod parts;
 mod past;
 mod plps;
+mod shown;
 mod stamps;
 
 pub use group::PooledGroup;

@@ -367,9 +367,9 @@ fn groups_where_interleaving_frames_begin(rt: HostRuntime) -> Result<(), Fail> {
     Ok(())
 }
 
-// The blocks stand in the pool as they are sent: the scrambler's sequence begins with 03 F6.
+// The blocks stand in the pool as they came: a record alone has them scrambled.
 #[test]
-fn blocks_are_scrambled(rt: HostRuntime) -> Result<(), Fail> {
+fn blocks_are_as_they_came(rt: HostRuntime) -> Result<(), Fail> {
     let plan = small_plan(rt.alloc())?;
     plan.rules_law();
     let mut blocks = blocks::HeldBlocks::open(rt.alloc(), &plan)?;
@@ -386,7 +386,7 @@ fn blocks_are_scrambled(rt: HostRuntime) -> Result<(), Fail> {
         Some(block) => {
             let piece = block.pieces().next();
             assert!(rt; block.len() == 879);
-            assert!(rt; matches!(piece, Some(bytes) if bytes.starts_with(&[0x03, 0xF6])));
+            assert!(rt; matches!(piece, Some(bytes) if bytes.starts_with(&BLOCK[..2])));
         }
         None => panic!(rt; "no block"),
     }

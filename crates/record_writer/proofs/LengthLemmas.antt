@@ -11,6 +11,7 @@ use Rattle.record_writer.specs.Steps.{step_bytes}
 use Rattle.record_writer.specs.Writes.{most_record}
 use Rattle.record_writer.specs.declared.step.Step.TheVariants.{Blocks}
 use Rattle.cell_words.specs.Words.{words}
+use Rattle.record_writer.proofs.ScrambleLemmas.{length-scrambled_bytes}
 use Rattle.cell_words.proofs.WordLemmas.{length-words}
 
 -- a block with its head has no more bytes than its chunks with a head each
@@ -18,7 +19,7 @@ block_fits : (len : ℕ) → 4 + len ≤ (4 + chunk_len) * chunks_for len
 block_fits len = omega arith
 
 length-sent_bytes : (c : Config) (plp : ℕ) (block : List ℕ) → length (sent_bytes c plp block) ≡ 4 + length block
-length-sent_bytes c plp block = omega arith
+length-sent_bytes c plp block = let size = length-scrambled_bytes block in omega (arith, size)
 
 list_fits : (c : Config) (plp : ℕ) (blocks : List (List ℕ)) → length (flat_map (sent_bytes c plp) blocks) ≤ (4 + chunk_len)
     * chunks_of blocks

@@ -37,6 +37,7 @@ use Rattle.record_writer.specs.Laws.{written_frame, RecordWritten, MutedWritten,
 use Rattle.record_writer.specs.Laws.{RecordFits}
 use Rattle.record_laws.proofs.FitLemmas.{length-l1_pre, room_for_all}
 use Rattle.record_writer.proofs.FittingLemmas.{length-crc_behind}
+use Rattle.record_writer.proofs.ScrambleLemmas.{length-scrambled_bytes}
 use Rattle.cell_words.proofs.WordLemmas.{length-words}
 
 -- ---- the sections one behind another
@@ -124,7 +125,7 @@ plp_size c plp size [] each = omega arith
 plp_size c plp size (b ∷ blocks) each =
     let here : length b ≡ size = each 0 (omega arith) in
     let more = plp_size c plp size blocks (λ place lt. each (suc place) (omega (arith, lt))) in
-    let one : length (sent_bytes c plp b) ≡ 4 + length b = omega arith in
+    let one : length (sent_bytes c plp b) ≡ 4 + length b = let s = length-scrambled_bytes b in omega (arith, s) in
     omega (arith, length-append (sent_bytes c plp b) (flat_map (sent_bytes c plp) blocks), here, more, one)
 
 -- the lists of the PLPs from one on
@@ -160,7 +161,7 @@ plp_sized : (c : Config) (plp : ℕ) (blocks : List (List ℕ)) (more : List Blo
     ≡ length (flat_map (sent_bytes c plp) blocks) + sum_by block_size more
 plp_sized c plp [] more = omega arith
 plp_sized c plp (b ∷ blocks) more =
-    let one : length (sent_bytes c plp b) ≡ 4 + length b = omega arith in
+    let one : length (sent_bytes c plp b) ≡ 4 + length b = let s = length-scrambled_bytes b in omega (arith, s) in
     omega (
       arith,
       one,
@@ -232,7 +233,7 @@ plp_is_sent : (c : Config) (plp : ℕ) (blocks : List (List ℕ)) → (plp_at c.
     → AllByRecursion IsSentBlock (map (plp_block c plp) blocks)
 plp_is_sent c plp [] id each = tt
 plp_is_sent c plp (b ∷ blocks) id each =
-    ((id, each 0 (omega arith)), plp_is_sent c plp blocks id (λ place lt. each (suc place) (omega (arith, lt))))
+    ((id, (let s = length-scrambled_bytes b in let e = each 0 (omega arith) in omega (arith, s, e))), plp_is_sent c plp blocks id (λ place lt. each (suc place) (omega (arith, lt))))
 
 lists_are_sent : FieldRange → (c : Config) (from : ℕ) (lists : List (List (List ℕ))) → HasByteIds c → from + length lists
     ≤ length c.plps

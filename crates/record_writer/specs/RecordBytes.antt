@@ -1,8 +1,11 @@
 -- The bytes of the blocks of a frame's record.
 use Rattle.std.specs.Prelude.{ℕ, ◌+◌, ◌≤◌, List, [], ◌∷◌, ◌++◌, length, map, slice_index, slice_index_or, if◌then◌else◌}
 use Rattle.std.specs.List.{flat_map}
+use Rattle.terms.specs.Bits.{bits_of, bytes_of}
+use Rattle.bb_frame.specs.Scrambled.{scrambled}
 use Rattle.plp_config.specs.Plps.{plp_at}
 use Rattle.plp_config.specs.declared.config.Config.{Config}
+use Rattle.plp_config.specs.declared.plp.TheConstants.{MOST_BLOCK_BYTES}
 use Rattle.plp_config.specs.InterleavingFrames.{is_first}
 use Rattle.scheduler.specs.Shape.{FrameShape}
 use Rattle.site_frame.specs.Record.{Block, block_bytes}
@@ -11,9 +14,13 @@ use Rattle.site_frame.specs.Record.{Block, block_bytes}
 abbrev pub piece_len : ℕ
 piece_len = 8192
 
+-- bytes of a block as they are sent: scrambled (EN 302 755, clause 5.2.4)
+abbrev pub scrambled_bytes : List ℕ → List ℕ
+scrambled_bytes bytes = bytes_of (scrambled (bits_of bytes))
+
 -- a block of a PLP, as a record has it, and its bytes
 abbrev pub plp_block : Config → ℕ → List ℕ → Block
-plp_block c plp bytes = record { plp_id = (plp_at c.plps plp).id; bytes = bytes }
+plp_block c plp bytes = record { plp_id = (plp_at c.plps plp).id; bytes = scrambled_bytes bytes }
 
 abbrev pub sent_bytes : Config → ℕ → List ℕ → List ℕ
 sent_bytes c plp bytes = block_bytes (plp_block c plp bytes) 0
@@ -41,7 +48,7 @@ front_of lists list = slice_index_or (list_at lists list) 0 []
 
 -- the most bytes of a block: with its head it fits a piece
 abbrev pub most_block : ℕ
-most_block = 8188
+most_block = MOST_BLOCK_BYTES
 
 -- No block is longer.
 abbrev pub AreShort : List (List (List ℕ)) → Type 0

@@ -1,5 +1,8 @@
 // A buffer that takes its memory first.
+ghost use Rattle.std.specs.Prelude.{◌≡◌, length};
+ghost use Rattle.record_writer.specs.RecordBytes.{scrambled_bytes};
 
+use bb_frame::scramble;
 use bit_slice::OutOfMemory;
 use cell_words::fill_words;
 use linked_pool::BlockRef;
@@ -29,11 +32,21 @@ impl Model for Piece {
     ghost invariant = { λ p. (vec_len p.bytes ≡ piece_len) × (p.len ≤ piece_len) };
 }
 
+// Copies the bytes of a block to a place of the same length, scrambled.
+fn copy_scrambled(block: &BlockRef<'_>, out: &mut [u8])
+    requires { length out.old ≡ length block.now }
+    ensures bytes { out.new ≡ scrambled_bytes block.now }
+    ensures len { length out.new ≡ length out.old }
+{
+    block.copy_to(out);
+    scramble(out);
+}
+
 impl Piece {
     ghost use Rattle.std.specs.Prelude.{◌≡◌, ◌≤◌, ◌<◌, ◌+◌, ◌*◌, ◌++◌, [], length, IfOk, true, false};
     ghost use Rattle.cell_map.specs.CellMap.{Passes};
     ghost use Rattle.cell_words.specs.Words.{words};
-    ghost use Rattle.record_writer.specs.RecordBytes.{piece_len};
+    ghost use Rattle.record_writer.specs.RecordBytes.{piece_len, scrambled_bytes};
 
     /// No bytes. It takes all the memory that it needs.
     pub fn open(alloc: Global) -> Result<Piece, OutOfMemory>
@@ -60,13 +73,13 @@ impl Piece {
         self.len = end;
     }
 
-    /// Appends the bytes of a block.
+    /// Appends the bytes of a block, scrambled.
     pub fn put_block(&mut self, block: &BlockRef<'_>)
         requires { length self.old + length block.now ≤ piece_len }
-        ensures { self.new ≡ self.old ++ block.now }
+        ensures { self.new ≡ self.old ++ scrambled_bytes block.now }
     {
         let end = self.len + block.len();
-        block.copy_to(&mut self.bytes[self.len..end]);
+        copy_scrambled(block, &mut self.bytes[self.len..end]);
         self.len = end;
     }
 

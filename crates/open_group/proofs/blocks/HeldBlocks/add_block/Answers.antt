@@ -1,6 +1,6 @@
 use Rattle.std.proofs.Common.{refl, ap, ◌∙◌, arith}
 use Rattle.linked_pool.specs.Pool.{appended}
-use Rattle.open_group.specs.Sent.{sent_bytes}
+use Rattle.open_group.specs.Sent.{held_bytes}
 use Rattle.open_group.proofs.BlockLemmas.{stray_counted, stray_listed, wrong_counted, wrong_listed, right_counted, right_listed}
 use Rattle.open_group.proofs.BlockLemmas.{kept_right}
 use Rattle.open_group.specs.HoldsBlocks.{Held}
@@ -44,5 +44,5 @@ returns-clause-lists c = λ packets p frame_idx first is h.
     right_listed c.args.plan.now p frame_idx c.args.id first c.args.bits.now is c.in-Some.place c.in-Some.ensures.some
     (cc) c.args.self.now c.keep.new.self packets c.requires.open.lists e (omega arith)
     (λ few. c.keep.ensures.kept (omega (arith, few, chunks))
-    ∙ ap (λ (b : Held). appended b.pool c.in-Some.place (sent_bytes c.args.bits.now)) c.count_right.ensures.held
-    ∙ ap (λ (b : Held). appended b.pool c.in-Some.place (sent_bytes c.args.bits.now)) c.count.ensures.held) h
+    ∙ ap (λ (b : Held). appended b.pool c.in-Some.place (held_bytes c.args.bits.now)) c.count_right.ensures.held
+    ∙ ap (λ (b : Held). appended b.pool c.in-Some.place (held_bytes c.args.bits.now)) c.count.ensures.held) h

@@ -1,9 +1,0 @@
-use Rattle.std.proofs.Common.{◌∙◌, ap, sym, arith}
-use Rattle.terms.specs.Bits.{bytes_of}
-use Rattle.terms.proofs.BitLemmas.{bytes_of-bits_of}
-use Rattle.bb_frame.specs.Scrambled.{scrambled}
-use Rattle.open_group.proofs.blocks.scramble_into.Goals as goal
-
-pub returns-clause-bytes : goal.returns-clause-bytes
-returns-clause-bytes c = sym (bytes_of-bits_of c.scramble.new.bytes (λ k. omega (arith, c.type_inv.out k)))
-    ∙ ap bytes_of (c.scramble.ensures.bits ∙ ap scrambled c.copy_bytes.ensures.bits)
