@@ -46,7 +46,7 @@ impl Model for ReadAhead {
 }
 
 impl ReadAhead {
-    ghost use Rattle.std.specs.Prelude.{◌≡◌, ◌<◌, ◌≤◌, ◌+◌, ◌==◌, ℕ, [], true, false, not, length, drop, IfOk, IfErr, OnOk, IsTrue};
+    ghost use Rattle.std.specs.Prelude.{◌≡◌, ◌<◌, ◌≤◌, ◌+◌, ◌==◌, ℕ, [], true, false, not, length, drop, IfOk, IfErr, OnOk, OnErr, IsTrue};
     ghost use Rattle.ports.specs.Desk.{SameCounts, has_run_out};
     ghost use Rattle.desk_io.specs.Ahead.{IsAtEnd};
     ghost use Rattle.desk_io.specs.Reading.{given_of, longest_file, ReadsOn, TakesNone, StopsReading};
@@ -111,6 +111,7 @@ impl ReadAhead {
         ensures few { length self.new.waiting ≤ most }
         ensures end { IfOk result (λ n. n ≡ 0 → IsAtEnd (D.state desk.new) self.old.handle) }
         ensures runs_out { IfOk result (λ n. has_run_out (D.state desk.new) self.old.handle ≡ (n == 0)) }
+        ensures goes_on { OnErr result (has_run_out (D.state desk.new) self.old.handle ≡ false) }
         ensures counts { OnOk result (SameCounts (D.state desk.old) (D.state desk.new)) }
         ensures short { OnOk result (given_of self.new < longest_file) }
         ensures err { IfErr result (StopsReading (D.state desk.old) (D.state desk.new) self.new least) }
@@ -151,6 +152,7 @@ impl ReadAhead {
         ensures end { IfOk result (λ full. full ≡ false
             → (length self.new.waiting < least) × IsAtEnd (D.state desk.new) self.old.handle) }
         ensures runs_out { IfOk result (λ full. has_run_out (D.state desk.new) self.old.handle ≡ not full) }
+        ensures goes_on { OnErr result (has_run_out (D.state desk.new) self.old.handle ≡ false) }
         ensures counts { OnOk result (SameCounts (D.state desk.old) (D.state desk.new)) }
         ensures short { OnOk result (given_of self.new < longest_file) }
         ensures err { IfErr result (StopsReading (D.state desk.old) (D.state desk.new) self.new least) }

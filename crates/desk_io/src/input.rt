@@ -107,6 +107,7 @@ fn read_behind<D: Desk>(
     ensures most { IfOk result (λ n. n ≤ most) }
     ensures end { IfOk result (λ n. n ≡ 0 → IsAtEnd (D.state desk.new) handle) }
     ensures runs_out { IfOk result (λ n. has_run_out (D.state desk.new) handle ≡ (n == 0)) }
+    ensures goes_on { OnErr result (has_run_out (D.state desk.new) handle ≡ false) }
     ensures err { OnErr result (part_in span.new bytes.new ≡ part_in span.old bytes.old) }
     ensures counts { MayFailReading (D.state desk.old).counts (D.state desk.new).counts result }
 {
@@ -172,6 +173,7 @@ impl Input {
         ensures most { IfOk result (λ n. n ≤ most) }
         ensures end { IfOk result (λ n. n ≡ 0 → IsAtEnd (D.state desk.new) handle) }
         ensures runs_out { IfOk result (λ n. has_run_out (D.state desk.new) handle ≡ (n == 0)) }
+        ensures goes_on { OnErr result (has_run_out (D.state desk.new) handle ≡ false) }
         ensures err { OnErr result (self.new ≡ self.old) }
         ensures counts { MayFailReading (D.state desk.old).counts (D.state desk.new).counts result }
     {
