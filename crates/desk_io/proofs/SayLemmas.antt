@@ -38,6 +38,9 @@ grows_as a b x y e g = subst (Grows a b) e g
 pub grows_kept : (a b c : Option (List (List ℕ))) (x : List ℕ) → Grows a b x → c ≡ b → Grows a c x
 grows_kept a b c x g e = subst (λ (said : Option (List (List ℕ))). Grows a said x) (sym e) g
 
+pub grows_same : (a b : Option (List (List ℕ))) → b ≡ a → Grows a b []
+grows_same a b e = grows_kept a a b [] (grows_none a) e
+
 -- ---- what was said
 
 pub says_none : (s : State) → SaysBytes s s []
@@ -79,10 +82,3 @@ says_page old new (byte ∷ bytes) s = says_one old new (byte ∷ bytes) (λ e. 
 pub page_says : (old new : State) (page : List ℕ) → page ≢ [] → SaysPage old new page → Says old new page
 page_says old new [] some k = absurd (some refl)
 page_says old new (byte ∷ bytes) some s = s
-
-pub says_as_page : (old new : State) (page : List ℕ) → page ≢ [] → Says old new page → SaysPage old new page
-says_as_page old new [] some s = absurd (some refl)
-says_as_page old new (byte ∷ bytes) some s = s
-
-pub keeps_as_page : (old new : State) (page : List ℕ) → page ≡ [] → Keeps old new → SaysPage old new page
-keeps_as_page old new page none k = subst (SaysPage old new) (sym none) k

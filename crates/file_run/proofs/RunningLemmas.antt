@@ -3,7 +3,7 @@ use Rattle.std.proofs.Common.{◌≡◌, ◌≢◌, ℕ, ◌+◌, ◌<◌, ◌�
 use Rattle.std.proofs.Common.{arith}
 use Rattle.std.specs.Prelude.{◌⊎◌, slice_index_or, slice_set}
 use Rattle.std.proofs.lemmas.List.{get_or_default}
-use Rattle.ports.specs.Desk.{State, SameCounts}
+use Rattle.ports.specs.Desk.{State, SameCounts, has_run_out}
 use Rattle.desk_io.specs.Faults.{WritesFail}
 use Rattle.desk_io.specs.Laws.{CreatesEmpty}
 use Rattle.desk_io.specs.Reading.{Reading, given_of, longest_file, ReadsOn, TakesNone, StopsReading}

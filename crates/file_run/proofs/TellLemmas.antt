@@ -7,7 +7,7 @@ use Rattle.terms.proofs.OptionLemmas.{was_some}
 use Rattle.ports.specs.Desk.{State, Keeps, Says, Opens, left_of, bytes_of, has_run_out}
 use Rattle.desk_io.specs.Reading.{Reading, given_of, rest_of, ReadsOn, TakesNone}
 use Rattle.desk_io.specs.Saying.{Grows, SaysBytes, SaysPage}
-use Rattle.desk_io.proofs.SayLemmas.{grows_none, grows_then, grows_one, grows_as, grows_kept, page_says}
+use Rattle.desk_io.proofs.SayLemmas.{grows_same, grows_then, grows_one, grows_as, grows_kept, page_says}
 use Rattle.desk_io.specs.declared.page.TheConstants.{PAGE}
 use Rattle.file_run.specs.Events.{Event, Gave, fed, has_ended, gave}
 use Rattle.file_run.specs.FileRun.{IsFed}
@@ -149,7 +149,7 @@ page_grown Becomes next begin old new start now name r (x ∷ xs) left g room fe
     grown Becomes next begin old new start now name r (x ∷ xs) left g room few t
     (still_going next t.mid t.early x xs t.going)
 
-some_page : (waiting : List ℕ) → PAGE < length waiting + PIECE → waiting ≢ []
+pub some_page : (waiting : List ℕ) → PAGE < length waiting + PIECE → waiting ≢ []
 some_page waiting full none = let e = ap length none in omega (arith, full, e)
 
 -- All that waited was said, since there was no room behind it.
@@ -297,7 +297,7 @@ telling_first Came next machine old new name handle r page o is none came = reco
   met = came;
   parts = sym none;
   going = inl none;
-  said = grows_kept old.said old.said new.said [] (grows_none old.said) o.said;
+  said = grows_same old.said new.said o.said;
   goes_on = λ off. ap (λ (x : Reading). has_run_out new x.handle) is ∙ o.fresh;
   handle = ap (λ (r : Reading). r.handle) is ∙ o.number;
   opened = o.opened ∙ ap (λ (n : ℕ). old.opened ++ n ∷ []) (sym (ap given_of is));

@@ -1,8 +1,9 @@
 -- A run aloud of a machine that does a work ends as one must that does it.
 use Rattle.std.proofs.Common.{◌≡◌, ℕ, ◌-◌, ◌<◌, List, ◌++◌, length, refl, ap, sym, subst, ◌∙◌, inl, inr, append_assoc}
-use Rattle.std.specs.Prelude.{Result, Ok, Err, slice_index, option_map}
+use Rattle.std.specs.Prelude.{Result, Ok, Err, slice_index}
 use Rattle.ports.specs.Desk.{State}
 use Rattle.desk_io.specs.Reading.{longest_file}
+use Rattle.desk_io.proofs.SayLemmas.{grows_as}
 use Rattle.file_run.specs.Events.{Event, fed, gave}
 use Rattle.file_run.specs.FileRun.{AreFed, AllShort}
 use Rattle.file_run.specs.Work.{Work, Aloud, Does, Ends, IsRightAtEnd, DoesWork}
@@ -19,14 +20,14 @@ does_said : {old new : State} {ins : List (List ℕ)} {reach : ℕ → ℕ} {Cam
     (work : (ℕ → List ℕ) → List ℕ → List ℕ → Type 0) (s : StandsSaid old new ins reach Came Holds) (text : List ℕ)
     → s.speaks.text ≡ text → ((files : ℕ → List ℕ) → AreFed (length ins) files s.places s.events → work files s.places text)
     → Does work old new Aloud ins
-does_said {old = old} work s text is f =
+does_said {old = old} {new = new} work s text is f =
     does_of Aloud work s.places s.events text s.speaks.all (record {
       opened = s.speaks.opened;
       all = s.speaks.all;
       names = s.speaks.names;
       files = s.speaks.files;
       created = s.speaks.created;
-      said = s.speaks.said ∙ ap (λ (l : List ℕ). option_map (λ said. said ++ l) old.said) is;
+      said = grows_as old.said new.said s.speaks.text text is s.speaks.said;
     }) s.taken s.present s.inputs f
 
 module _ {A R E : Type 0} (work : Work R E) (old new : State) (ins : List (List ℕ)) (reach : A → ℕ → ℕ) (next : A → Step)
