@@ -323,11 +323,13 @@ impl MemoryDesk {
             return None;
         }
         let name = String::from_str(self.alloc, name).ok()?;
-        self.handles.push(Handle {
-            name,
-            place: 0,
-            ended: false,
-        }).ok()?;
+        self.handles
+            .push(Handle {
+                name,
+                place: 0,
+                ended: false,
+            })
+            .ok()?;
         Some(at as u32)
     }
 
