@@ -104,7 +104,9 @@ fn tell_row(rt: &(impl Print + AllocGlobal), count: u32, most: usize) -> io::Res
         return failed();
     };
     let is_same = desk.said() == file.as_slice();
-    print!(rt; "# {count} bytes are told by calls of {most}: {result:?}, the same: {is_same}, in texts of")?;
+    print!(rt;
+        "# {count} bytes are told by calls of {most}: {result:?}, the same: {is_same}, in texts of"
+    )?;
     for text in desk.texts() {
         print!(rt; " {}", text.len())?;
     }
@@ -119,7 +121,10 @@ fn absent_row(rt: &(impl Print + AllocGlobal)) -> io::Result<()> {
     let Some(result) = copy_over(rt.alloc(), &mut desk) else {
         return failed();
     };
-    println!(rt; "# no file: {result:?}, created: {}", desk.file("out").is_some())
+    println!(rt;
+        "# no file: {result:?}, created: {}",
+        desk.file("out").is_some()
+    )
 }
 
 /// Plays each row.

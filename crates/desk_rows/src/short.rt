@@ -1,10 +1,10 @@
 // Real files of which a call moves little.
 ghost use Rattle.std.specs.Prelude.{◌<◌, ◌≤◌};
 
+use std::alloc::Allocator;
 use std::fmt::Display;
 use std::fs::{File, Files, Metadata, OpenFile, OpenOptions};
 use std::io::{self, ErrorKind, Print, Read, Seek, SeekFrom, Write};
-use std::alloc::Allocator;
 
 /// A file of which each call moves one byte at most, and is interrupted so often before.
 #[derive(Drop)]

@@ -24,7 +24,7 @@ struct Worked<R: Files + Print + Drop> {
 }
 
 // What a call answers that may fail.
-fn tell<T: Display, E>(rt: &impl Print, answer: Result<T, E>) -> io::Result<()> {
+fn tell<T: Display + Drop, E: Drop>(rt: &impl Print, answer: Result<T, E>) -> io::Result<()> {
     match answer {
         Ok(value) => println!(rt; " = {value}"),
         Err(_) => println!(rt; " = fault"),
@@ -192,11 +192,11 @@ fn play<R: Files + Print + Drop>(
 }
 
 static REAL: [&str; 6] = [
-    "# reads a real file to its end, and no further\nopen hello\nread 0\nread 0\nread 0",
+    "# reads a real file to its end, and no further\ncreate hello\nwrite 0 hello\nopen hello\nread 0\nread 0\nread 0",
     "# writes a real file, and does not empty one that is read under another name
-create out
+create other
 write 0 hello all
-open out
+open other
 read 0
 read 0
 open hello
