@@ -1,5 +1,5 @@
 // Runs of the machine that copies, into a file and aloud.
-ghost use Rattle.std.specs.Prelude.{◌<◌, [], length};
+ghost use Rattle.std.specs.Prelude.{◌≡◌, ◌<◌, [], length};
 ghost use Rattle.file_run.specs.FileRun.{AreApart};
 
 use crate::copy_machine::CopyMachine;
