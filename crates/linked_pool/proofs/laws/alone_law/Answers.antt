@@ -8,8 +8,7 @@ pub returns : goal.returns
 returns g = λ c rules alone.
     let one : 1 * c.cells ≡ c.cells = omega arith in
     let cells : spread_cells c ≡ c.cells =
-    ap (λ (s : ℕ). s * c.cells) (g.alone_law.ensures c rules alone).spread ∙ one in
-    (
+    ap (λ (s : ℕ). s * c.cells) (g.alone_law.ensures c rules alone).spread ∙ one in (
       ap (λ (n : ℕ). CHUNKS_OF_CELLS * (n / FEWEST_CELLS)) cells,
       ap (λ (n : ℕ). CHUNKS_OF_CELLS * n / FEWEST_CELLS) cells,
     )
