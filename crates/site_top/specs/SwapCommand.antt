@@ -27,7 +27,7 @@ use Rattle.site_top.specs.PlanCommand.{RunsAndTells, ByPlan}
 
 -- the line of a run to its end
 abbrev pub swap_line : Ran → List ℕ
-swap_line ran = codes "swapped frames=" ++ decimal ran.frames ++ codes " muted=" ++ decimal ran.muted ++ codes " unsent="
+swap_line ran = codes "frames=" ++ decimal ran.frames ++ codes " muted=" ++ decimal ran.muted ++ codes " unsent="
     ++ decimal ran.unsent ++ codes " units=" ++ decimal ran.units ++ codes "\n"
 
 -- What holds of bytes that are a stream with the PLP at a place replaced by the packets of a file.
