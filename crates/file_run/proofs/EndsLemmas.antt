@@ -1,7 +1,7 @@
 -- What follows of how a run ended, whatever its work is.
-use Rattle.std.proofs.Common.{◌≡◌, ◌≢◌, ◌⊎◌, ℕ, ◌+◌, ◌<◌, ◌≤◌, List, [], ◌++◌, length, Option, Some, None, refl, ap, sym, subst}
-use Rattle.std.proofs.Common.{◌∙◌, arith, append-nil, inl, inr}
-use Rattle.std.specs.Prelude.{Result, Ok, Err, IfSome, slice_index}
+use Rattle.std.proofs.Common.{◌≡◌, ℕ, ◌+◌, ◌<◌, ◌≤◌, List, [], ◌++◌, length, Option, Some, None, refl, ap, sym, subst}
+use Rattle.std.proofs.Common.{arith, append-nil, inl, inr}
+use Rattle.std.specs.Prelude.{Result, Ok, Err, IfSome}
 use Rattle.std.specs.FinMap.{get}
 use Rattle.std.proofs.lemmas.Option.{IfSome_then}
 use Rattle.ports.specs.Counts.{Rose}
@@ -9,8 +9,8 @@ use Rattle.ports.specs.Desk.{State, Held, SameCounts}
 use Rattle.desk_io.specs.Reading.{longest_file}
 use Rattle.desk_io.specs.Saying.{Grows}
 use Rattle.desk_io.proofs.SayLemmas.{grows_none, grows_same}
-use Rattle.file_run.specs.FileRun.{file_at, OtherFiles, SameFiles, OpensInputs, FailsToCreateOutput, Works}
-use Rattle.file_run.specs.Work.{Work, Sink, Into, Aloud, Passes, FailsToBegin, Does, Ends}
+use Rattle.file_run.specs.FileRun.{file_at, OtherFiles, SameFiles, OpensInputs}
+use Rattle.file_run.specs.Work.{Work, Sink, Into, Aloud, Passes, FailsToBegin, Ends}
 use Rattle.file_run.specs.declared.stop.RunFault.TheVariants.{TooLong, ReadFault, WriteFault}
 use Rattle.file_run.specs.declared.stop.RunStop.{RunStop}
 use Rattle.file_run.specs.declared.stop.RunStop.TheVariants.{Refused, Files, OutOfMemory}

@@ -5,7 +5,7 @@ use Rattle.std.specs.Prelude.{slice_index, slice_index_or, slice_set, option_map
 use Rattle.std.specs.List.{sum_by}
 use Rattle.std.proofs.lemmas.List.{nil_from_length, length-set}
 use Rattle.std.proofs.lemmas.List.Sums.{sum_by-set}
-use Rattle.ports.specs.Desk.{State, SameCounts, has_run_out}
+use Rattle.ports.specs.Desk.{State, SameCounts}
 use Rattle.desk_io.specs.Reading.{Reading, given_of, rest_of, spare, longest_file, ReadsOn, TakesNone, StopsReading}
 use Rattle.desk_io.specs.declared.ahead.ReadStop.{ReadStop}
 use Rattle.desk_io.specs.declared.ahead.ReadStop.TheVariants as stop

@@ -6,7 +6,7 @@ use Rattle.std.specs.FinMap.{get}
 use Rattle.terms.proofs.OptionLemmas.{was_some}
 use Rattle.ports.specs.Desk.{State, Keeps, Says, Opens, left_of, bytes_of, has_run_out}
 use Rattle.desk_io.specs.Reading.{Reading, given_of, rest_of, ReadsOn, TakesNone}
-use Rattle.desk_io.specs.Saying.{Grows, SaysBytes, SaysPage}
+use Rattle.desk_io.specs.Saying.{SaysBytes, SaysPage}
 use Rattle.desk_io.proofs.SayLemmas.{grows_same, grows_then, grows_one, grows_as, grows_kept, page_says}
 use Rattle.desk_io.specs.declared.page.TheConstants.{PAGE}
 use Rattle.file_run.specs.Events.{Event, Gave, fed, has_ended, gave}

@@ -1,5 +1,5 @@
 -- A run of a machine that does a work ends as one must that does it.
-use Rattle.std.proofs.Common.{◌≡◌, ℕ, ◌+◌, ◌-◌, ◌<◌, ◌≤◌, true, List, [], ◌∷◌, ◌++◌, length, Option, Some, None, refl, ap, sym, subst, ◌∙◌}
+use Rattle.std.proofs.Common.{◌≡◌, ℕ, ◌+◌, ◌-◌, ◌<◌, true, List, [], ◌∷◌, ◌++◌, length, Option, Some, None, refl, ap, sym, subst, ◌∙◌}
 use Rattle.std.proofs.Common.{inl, inr, arith, length-append, append_assoc}
 use Rattle.std.specs.Prelude.{Result, Ok, Err, IfSome, IsSome, slice_index, slice_index_or, replicate}
 use Rattle.std.specs.FinMap.{get}
@@ -10,7 +10,7 @@ use Rattle.terms.proofs.RangeLemmas.{one_listed}
 use Rattle.ports.specs.Desk.{State, Held, bytes_of}
 use Rattle.desk_io.specs.Reading.{longest_file}
 use Rattle.file_run.specs.Events.{Event, fed, has_ended, gave}
-use Rattle.file_run.specs.FileRun.{file_at, AreFed, IsFed, AreTaken, Works, Writes, Stands, HoldsAll, AllShort, Stops}
+use Rattle.file_run.specs.FileRun.{file_at, AreFed, AreTaken, Works, Writes, Stands, AllShort, Stops}
 use Rattle.file_run.specs.OneRun.{ComesToEnd, RunsOnce}
 use Rattle.file_run.specs.Work.{Work, AreWhole, Sink, Into, Passes, Does, Ends, IsRightAtEnd, DoesWork}
 use Rattle.file_run.specs.declared.machine.Step.{Step}

@@ -1,10 +1,10 @@
 -- A run aloud of a machine that does a work ends as one must that does it.
-use Rattle.std.proofs.Common.{◌≡◌, ℕ, ◌-◌, ◌<◌, List, ◌++◌, length, refl, ap, sym, subst, ◌∙◌, inl, inr, append_assoc}
+use Rattle.std.proofs.Common.{◌≡◌, ℕ, List, ◌++◌, length, refl, ap, sym, subst, ◌∙◌, inl, inr, append_assoc}
 use Rattle.std.specs.Prelude.{Result, Ok, Err, slice_index}
 use Rattle.ports.specs.Desk.{State}
 use Rattle.desk_io.specs.Reading.{longest_file}
 use Rattle.desk_io.proofs.SayLemmas.{grows_as}
-use Rattle.file_run.specs.Events.{Event, fed, gave}
+use Rattle.file_run.specs.Events.{Event, gave}
 use Rattle.file_run.specs.FileRun.{AreFed, AllShort}
 use Rattle.file_run.specs.Work.{Work, Aloud, Does, Ends, IsRightAtEnd, DoesWork}
 use Rattle.file_run.specs.declared.machine.Step.{Step}

@@ -1,4 +1,4 @@
-use Rattle.std.proofs.Common.{rules, List, ℕ, map, ◌∷◌, ◌++◌, [], ap, ◌∙◌}
+use Rattle.std.proofs.Common.{rules, map}
 use Rattle.ports.proofs.TextLemmas.{joined_more}
 use Rattle.ports.proofs.memory.add_text.Goals as goal
 
