@@ -7,8 +7,8 @@ use Rattle.t2mi_stream.specs.Complete.{complete_units}
 use Rattle.formed_frames.specs.Remade.{remade_packets}
 use Rattle.file_run.specs.Events.{Event, Gave, fed}
 use Rattle.file_run.specs.Laws.{EventsTell}
-use Rattle.frame_feed.specs.StandsFor as feed
-use Rattle.frame_feed.specs.declared.feed.FrameFeed.{FrameFeed}
+use Rattle.held_feed.specs.StandsFor as feed
+use Rattle.held_feed.specs.declared.feed.FrameFeed.{FrameFeed}
 use Rattle.feed_merge.specs.Laws.{AreOf}
 use Rattle.feed_merge.specs.Picks.{Picked, picks, above_all, frames_of}
 use Rattle.feed_merge.proofs.GrowLemmas.{all_below}

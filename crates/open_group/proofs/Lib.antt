@@ -6,7 +6,6 @@ pub mod HoldLemmas
 pub mod NamedLemmas
 pub mod RoomLemmas
 pub mod ReadLemmas
-pub mod ShortLemmas
 pub mod GivenLemmas
 pub mod GiveLemmas
 pub mod TellLemmas

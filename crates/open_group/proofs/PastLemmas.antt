@@ -1,11 +1,11 @@
 -- The groups before: none, and one more.
-use Rattle.std.proofs.Common.{◌≡◌, ◌≢◌, ℕ, zero, suc, ◌+◌, ◌-◌, ◌*◌, ◌/◌, ◌%◌, ◌<◌, ◌≤◌, ◌==◌, ◌&&◌, ◌^◌, Bool, true, false}
-use Rattle.std.proofs.Common.{List, [], ◌∷◌, length, replicate, Option, Some, None, is_some, refl, ap, ap₂, sym, subst, ◌∙◌}
+use Rattle.std.proofs.Common.{◌≡◌, ◌≢◌, ℕ, zero, suc, ◌+◌, ◌-◌, ◌*◌, ◌/◌, ◌%◌, ◌<◌, ◌≤◌, ◌^◌, true, false}
+use Rattle.std.proofs.Common.{List, [], ◌∷◌, length, replicate, Option, Some, None, is_some, refl, ap, sym, subst, ◌∙◌}
 use Rattle.std.proofs.Common.{⊎_elim, arith}
 use Rattle.std.specs.Prelude.{slice_index, slice_index_or}
 use Rattle.std.specs.List.{range_with_len}
 use Rattle.std.proofs.Math.Nat.{mul-le-mul_right, zero-mod}
-use Rattle.std.proofs.lemmas.Bool.{cases_eq, cases_lt, cond_both, cond-true, cond-false, eq-eqb, ne_eqb, true≢false}
+use Rattle.std.proofs.lemmas.Bool.{cases_eq, cases_lt, cond_both, cond-true, cond-false, eq-eqb, true≢false}
 use Rattle.std.proofs.lemmas.Nat.{div-add-mod', mod_below, mod-mul-add}
 use Rattle.plp_config.specs.InterleavingFrames.{is_first, begin_of}
 use Rattle.plp_config.specs.Laws.{BeginIsFirst, BeginIsLast, BeginsInSuperframe}
@@ -21,12 +21,12 @@ use Rattle.frame_groups.specs.declared.cause.MuteCause.TheVariants.{PoolFull}
 use Rattle.frame_tests.specs.Begun.{is_begin, packets_at}
 use Rattle.frame_tests.specs.Carried.{blocks_of, right_blocks}
 use Rattle.frame_tests.specs.Tally.{tally}
-use Rattle.frame_tests.specs.Tests.{pool_chunks, pool_need, capped, room_test, begun_test, first_failure, has_begun, has_count}
+use Rattle.frame_tests.specs.Tests.{pool_chunks, pool_need, capped, room_test, begun_test, first_failure}
 use Rattle.frame_tests.proofs.BegunLemmas.{at_own, at_other, no_need, none_begins, none_fails, one_fails, has_room, lacks_room}
 use Rattle.frame_tests.proofs.BegunLemmas.{no_room_asked}
 use Rattle.frame_tests.proofs.TallyLemmas.{at_place, need_is}
 use Rattle.open_group.specs.HoldsBlocks.{HoldsCounts}
-use Rattle.open_group.specs.HoldsPast.{begun_at, need_at, told_begun, noted, AreFalling, IsBegun, IsNeeded, HoldsPast}
+use Rattle.open_group.specs.HoldsPast.{begun_at, need_at, noted, AreFalling, IsBegun, IsNeeded, HoldsPast}
 use Rattle.open_group.specs.declared.blocks.HeldBlocks.{HeldBlocks}
 use Rattle.open_group.specs.declared.past.Begun.{Begun}
 use Rattle.open_group.specs.declared.past.HeldPast.{HeldPast}
@@ -53,15 +53,6 @@ later-quotient n m f place some low other =
     let turn : (m / f + 1) * f ≡ m / f * f + f = omega arith in
     absurd (omega (arith, first, second, behind, more, turn, low)))
     (cases_lt (n / f) (m / f))
-
--- a number that is held is a small one exactly if it is that one
-same_test : (held k told : ℕ) → held ≡ capped k → told < 2 ^ 16 → (held == told) ≡ (k == told)
-same_test held k told is small =
-    ⊎_elim
-    (λ (e : held ≡ told). let same : k ≡ told = omega (arith, is, small, e) in eq-eqb held told e ∙ sym (eq-eqb k told same))
-    (λ (ne : held ≡ told → ⊥). let other : k ≢ told = λ e. omega (arith, is, small, ne, e) in
-    ne_eqb held told ne ∙ sym (ne_eqb k told other))
-    (cases_eq held told)
 
 -- ---- groups before
 
@@ -214,51 +205,6 @@ module _ (law : BeginIsFirst) (last : BeginIsLast) (c : Config) (rules : AllRule
         (needed_old place (need_at old place) ne small (h.needs place small)))
         (cases_eq place (n % c.frames));
   }
-
--- ---- what the tests ask
-
-zero_told : (told : ℕ) → (told == 0) ≡ ((0 == told) && (0 == told))
-zero_told told =
-    ⊎_elim
-    (λ (e : told ≡ 0). eq-eqb told 0 e ∙ sym (ap (λ (t : Bool). t && t) (eq-eqb 0 told (sym e))))
-    (λ (ne : told ≡ 0 → ⊥). ne_eqb told 0 ne ∙ sym (ap (λ (t : Bool). t && t) (ne_eqb 0 told (λ e. ne (sym e)))))
-    (cases_eq told 0)
-
--- whether the group where an interleaving frame begins has as many blocks as told
-pub begun_there : (c : Config) (past : List Numbered) (plp : ℕ) (begun : Begun) (n told : ℕ) → IsBegun c past plp begun
-    → IsAbove past n → told < 2 ^ 16 → told_begun begun (begin_of c plp n) told
-    ≡ has_begun c plp (packets_at past (begin_of c plp n)) told
-begun_there c past plp begun n told h above small =
-    ⊎_elim
-    (λ (e : begun.number ≡ begin_of c plp n).
-    let there : List Packet = packets_at past begun.number in
-    cond-true (begun.number == begin_of c plp n) ((begun.blocks == told) && (begun.right == told)) (told == 0)
-    (eq-eqb begun.number (begin_of c plp n) e)
-    ∙ ap₂ (λ (a b : Bool). a && b) (same_test begun.blocks (length (blocks_of c plp there)) told h.blocks small)
-    (same_test begun.right (length (right_blocks c plp there)) told h.right small)
-    ∙ ap (λ (k : ℕ). has_begun c plp (packets_at past k) told) e)
-    (λ (ne : begun.number ≡ begin_of c plp n → ⊥).
-    cond-false (begun.number == begin_of c plp n) ((begun.blocks == told) && (begun.right == told)) (told == 0)
-    (ne_eqb begun.number (begin_of c plp n) ne)
-    ∙ zero_told told
-    ∙ ap (λ (l : List Packet). has_begun c plp l told) (sym (h.others n above (λ s. ne (sym s)))))
-    (cases_eq begun.number (begin_of c plp n))
-
--- the number of blocks in a group in which an interleaving frame begins, and in another
-pub first_count : (c : Config) (past : List Numbered) (n plp own count told : ℕ) → is_first c plp n ≡ true
-    → own ≡ capped count → told < 2 ^ 16 → (own == told) ≡ has_count c past n plp count told
-first_count c past n plp own count told e is small =
-    same_test own count told is small
-    ∙ sym (cond-true (is_first c plp n) (count == told)
-    ((count == 0) && has_begun c plp (packets_at past (begin_of c plp n)) told) e)
-
-pub later_count : (c : Config) (past : List Numbered) (n plp own count told : ℕ) → is_first c plp n ≡ false
-    → own ≡ capped count
-    → ((own == 0) && has_begun c plp (packets_at past (begin_of c plp n)) told) ≡ has_count c past n plp count told
-later_count c past n plp own count told e is =
-    ap (λ (t : Bool). t && has_begun c plp (packets_at past (begin_of c plp n)) told) (same_test own count 0 is (omega arith))
-    ∙ sym (cond-false (is_first c plp n) (count == told)
-    ((count == 0) && has_begun c plp (packets_at past (begin_of c plp n)) told) e)
 
 -- ---- the pool
 

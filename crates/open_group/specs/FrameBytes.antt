@@ -9,12 +9,15 @@ use Rattle.open_group.specs.HoldsL1.{shape_told}
 use Rattle.open_group.specs.Parts.{parts_of}
 use Rattle.open_group.specs.declared.group.PooledGroup.{PooledGroup}
 
--- the dynamic part of the first L1-current, as it came, and the shape that it tells, if it reads
+-- the dynamic part of the first L1-current, as it came, the shape that it tells, if it reads, and the blocks, a list for each PLP
 abbrev pub dynamic_of : PooledGroup → List Bool
 dynamic_of held = (parts_of held.l1.parts).dynamic
 
 abbrev pub shape_of : PooledGroup → Option FrameShape
 shape_of held = shape_told held.l1
+
+abbrev pub lists_of : PooledGroup → List (List (List ℕ))
+lists_of held = held.blocks.pool.lists
 
 -- the blocks that have the length of their PLP have room
 abbrev pub has_room : PooledGroup → Bool

@@ -16,6 +16,3 @@ mod stamps;
 
 pub use group::PooledGroup;
 pub use laws::record_law;
-
-#[cfg(test)]
-mod tests;

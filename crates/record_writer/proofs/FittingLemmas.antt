@@ -4,8 +4,7 @@ use Rattle.terms.specs.Bits.{field}
 use Rattle.terms.proofs.BitLemmas.{length-field}
 use Rattle.bit_slice.specs.Crc.{crc32_of}
 use Rattle.l1_signal.specs.Laws.{crc_behind}
-use Rattle.std.specs.Option.{option_map}
-use Rattle.bit_slice.specs.Sink.{State, Puts, wrapped}
+use Rattle.bit_slice.specs.Sink.{State, wrapped}
 use Rattle.record_writer.specs.Fitting.{HasRoom}
 
 -- a sink of fixed size in which nothing stands
@@ -19,15 +18,6 @@ fresh_room size bits s count empty is most =
       has = ap (λ (s : State). s.room) is ∙ ap (λ (l : List Bool). Some (size - length l)) empty ∙ ap Some none;
       most = most;
     }
-
--- and one to which some were put
-pub room_behind : (old new : State) (bits : List Bool) (count : ℕ) → HasRoom old (length bits + count) → Puts old new bits
-    → HasRoom new count
-room_behind old new bits count h p = record {
-  room = h.room - length bits;
-  has = p.room ∙ ap (option_map (λ (room : ℕ). room - length bits)) h.has;
-  most = let m = h.most in omega (arith, m);
-}
 
 -- a CRC_32 has 32 bits
 pub length-crc_behind : (front : List Bool) → length (crc_behind true front) ≡ length front + 32

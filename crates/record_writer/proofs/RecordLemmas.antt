@@ -7,21 +7,14 @@ use Rattle.std.proofs.Math.Seq.{take-add}
 use Rattle.std.proofs.lemmas.Slice.{between-put_mid}
 use borrow.Rule.Slice.PartMut.{put_mid}
 use Rattle.std.proofs.lemmas.Bool.{cases_eq}
-use Rattle.std.proofs.lemmas.List.{drop_more, drop-set, get_or-drop, get_or-set_same, get_or-set_other, drop-drop, drop_all}
+use Rattle.std.proofs.lemmas.List.{drop_more, drop-set, get_or-set_same, get_or-set_other, drop-drop, drop_all}
 use Rattle.std.proofs.lemmas.List.{length-drop, length-take-le}
 use Rattle.plp_config.specs.declared.config.Config.{Config}
 use Rattle.scheduler.specs.Shape.{FrameShape}
 use Rattle.record_writer.specs.Laws.{EmptyIsShort, AppendedIsShort}
-use Rattle.record_writer.specs.RecordBytes.{list_at, front_of, AreShort, most_block, sent_bytes, lists_bytes}
+use Rattle.record_writer.specs.RecordBytes.{list_at, front_of, most_block, sent_bytes, lists_bytes}
 use Rattle.cell_words.specs.Words.{words}
 use Rattle.cell_words.proofs.WordLemmas.{words_split}
-
--- a list without a block adds nothing
-pub blocks_skip : (c : Config) (plp : ℕ) (lists : List (List (List ℕ))) → plp < length lists → list_at lists plp ≡ []
-    → lists_bytes c plp (drop plp lists) ≡ lists_bytes c (plp + 1) (drop (plp + 1) lists)
-blocks_skip c plp lists h e =
-    ap (lists_bytes c plp) (drop_more lists plp [] h)
-    ∙ ap (λ (l : List (List ℕ)). flat_map (sent_bytes c plp) l ++ lists_bytes c (plp + 1) (drop (plp + 1) lists)) e
 
 -- the first block of a list, and the others
 first_block : (c : Config) (plp : ℕ) (l : List (List ℕ)) (rest : List ℕ) → 0 < length l → flat_map (sent_bytes c plp) l ++ rest
@@ -37,20 +30,6 @@ blocks_front c plp lists h some =
     ∙ first_block c plp (list_at lists plp) (lists_bytes c (plp + 1) (drop (plp + 1) lists)) some
     ∙ ap (λ (l : List (List (List ℕ))). sent_bytes c plp (front_of lists plp) ++ lists_bytes c plp l)
     (sym (drop-set lists plp (drop 1 (list_at lists plp)) h))
-
--- a block less leaves short blocks
-pub short_less : (plp : ℕ) (lists new : List (List (List ℕ))) → new ≡ slice_set lists plp (drop 1 (list_at lists plp))
-    → plp < length lists → AreShort lists → AreShort new
-short_less plp lists new e h short = subst AreShort (sym e) (λ list place. ⊎_elim
-    (λ (same : list ≡ plp).
-    let a : list_at (slice_set lists plp (drop 1 (list_at lists plp))) list ≡ drop 1 (list_at lists plp) =
-    ap (list_at _) same ∙ get_or-set_same lists plp (drop 1 (list_at lists plp)) [] h in
-    subst (λ (l : List (List ℕ)). length (slice_index_or l place []) ≤ most_block) (sym a)
-    (subst (λ (b : List ℕ). length b ≤ most_block) (sym (get_or-drop 1 (list_at lists plp) place [])) (short plp (1 + place))))
-    (λ (other : list ≡ plp → ⊥).
-    subst (λ (l : List (List ℕ)). length (slice_index_or l place []) ≤ most_block)
-    (sym (get_or-set_other lists plp list (drop 1 (list_at lists plp)) [] other)) (short list place))
-    (cases_eq list plp))
 
 -- lists without blocks are short
 none_at : (n i : ℕ) → list_at (replicate n []) i ≡ []
