@@ -2,16 +2,13 @@
 use Rattle.std.proofs.Common.{◌≡◌, ◌⊎◌, inl, inr, ℕ, ◌+◌, ◌-◌, ◌<◌, ◌≤◌, Bool, true, false, List, [], ◌∷◌, ◌++◌, length, take, Option, Some, None}
 use Rattle.std.proofs.Common.{refl, ap, sym, subst, ◌∙◌, arith, length-append, append-nil, append_assoc}
 use Rattle.std.specs.Prelude.{nat_lt, is_some, not, IfSome, IfNone}
-use Rattle.std.specs.Option.{unwrap_or}
 use Rattle.std.proofs.lemmas.Bool.{ltb-true, ltb-false, false≢true, true≢false}
 use Rattle.std.proofs.lemmas.List.{append_cancel_left, take-append-le, take-take, length-take}
 use Rattle.std.proofs.Math.Seq.{take-append-add}
 use Rattle.terms.proofs.CaseLemmas.{bool_cases}
 use Rattle.terms.proofs.ListLemmas.{all_of}
-use Rattle.terms.proofs.OptionLemmas.{some_injective}
 use Rattle.plp_config.specs.declared.config.Config.{Config}
 use Rattle.plp_config.specs.declared.moment.TheConstants.{MOST_FRAMES}
-use Rattle.t2mi_packet.specs.declared.packet.Packet.{Packet}
 use Rattle.t2mi_stream.specs.Events.{fed, released}
 use Rattle.t2mi_stream.specs.UnpiperStandsFor.{UnpiperStandsFor}
 use Rattle.frame_groups.specs.Due.{ComesNext}
@@ -21,15 +18,15 @@ use Rattle.frame_groups.specs.Modulated.{FrameRecord, Numbered, Content, content
 use Rattle.frame_groups.specs.Modulated.Content.{Whole, Muted}
 use Rattle.frame_groups.specs.Records.{record_of}
 use Rattle.frame_groups.specs.Sequenced.{Keeps}
-use Rattle.frame_groups.specs.Waits.{waits_by, waiting_of as next_of}
+use Rattle.frame_groups.specs.Waits.{waiting_of as next_of}
 use Rattle.frame_groups.specs.declared.cause.MuteCause.{MuteCause}
 use Rattle.frame_groups.specs.declared.waiting.Progress.{Progress}
 use Rattle.frame_groups.specs.declared.waiting.Waiting.{Waiting}
 use Rattle.frame_tests.specs.Tests.{rules, group_fault}
 use Rattle.open_group.specs.Holds.{Holds}
 use Rattle.modulator.specs.Laws.{DueFront}
-use Rattle.modulator.specs.Modulating.{StandsAt, has_record}
-use Rattle.modulator.specs.StandsFor.{records_due, mute_of}
+use Rattle.modulator.specs.Modulating.{StandsAt}
+use Rattle.modulator.specs.StandsFor.{records_due}
 use Rattle.modulator.specs.declared.modulating.Modulating.{Modulating}
 use Rattle.modulator.proofs.BeginLemmas.{waits_for, passes}
 use Rattle.modulator.proofs.MuteLemmas.{mute_told}

@@ -1,5 +1,5 @@
 -- What a feed of frames stands for.
-use Rattle.std.specs.Prelude.{◌≡◌, ℕ, ◌<◌, Bool, true, false, is_some, not, List, [], ◌∷◌, ◌++◌, length, take, Option, Some, None}
+use Rattle.std.specs.Prelude.{◌≡◌, ℕ, ◌<◌, Bool, false, is_some, not, List, [], ◌∷◌, ◌++◌, length, take, Option, Some, None}
 use Rattle.plp_config.specs.declared.config.Config.{Config}
 use Rattle.t2mi_stream.specs.UnpiperStandsFor.{fed_len}
 use Rattle.frame_groups.specs.Laws.{IsPrefix}

@@ -1,5 +1,5 @@
 -- The records of the least number are left behind but for the one whose frame is begun, if one is picked; or no more come.
-use Rattle.std.proofs.Common.{◌≡◌, ℕ, ◌+◌, ◌*◌, ◌<◌, ◌≤◌, ◌==◌, ◌&&◌, ◌||◌, Bool, true, false, cond, List, [], ◌∷◌, ◌++◌, length, max}
+use Rattle.std.proofs.Common.{◌≡◌, ℕ, ◌+◌, ◌*◌, ◌<◌, ◌≤◌, ◌==◌, ◌&&◌, Bool, true, false, cond, List, [], ◌∷◌, ◌++◌, length, max}
 use Rattle.std.proofs.Common.{Option, Some, None, refl, ap, ap₂, sym, subst, ◌∙◌, inl, inr, arith, append-nil, eqb-true}
 use Rattle.std.specs.Prelude.{option_to_list, nat_le, nat_lt, not, is_some}
 use Rattle.std.proofs.lemmas.Bool.{true≢false, cases_lt, or_parts, and_parts}
@@ -10,9 +10,7 @@ use Rattle.plp_config.specs.declared.config.Config.{Config}
 use Rattle.plp_config.specs.declared.moment.TheConstants.{MOST_FRAMES}
 use Rattle.ts_packet.specs.declared.sizes.TheConstants.{PAYLOAD}
 use Rattle.t2mi_packet.specs.declared.packet.Body.{Body}
-use Rattle.frame_groups.specs.Groups.{Group}
 use Rattle.frame_groups.specs.Modulated.{FrameRecord}
-use Rattle.frame_groups.specs.Modulated.Content.{Whole}
 use Rattle.frame_groups.specs.declared.waiting.Waiting.{Waiting}
 use Rattle.site_frame.specs.declared.reading.RecordView.{RecordView}
 use Rattle.open_group.specs.Written.{content_view}
@@ -40,10 +38,10 @@ use Rattle.pool_merger.specs.StandsFor as merger
 use Rattle.pool_merger.specs.declared.merger.Merger.{Merger}
 use Rattle.merge_run.specs.Counted.{counted, added}
 use Rattle.merge_run.specs.Sending.{numbered, frame_by, left_for, BeginsAs, Begins}
-use Rattle.merge_run.specs.Shown.{IsFedWith, IsBehind, IsHeld, OfFeed, IsPast, NoneComes, Sends, IsReading, IsLive, IsIn, is_held}
+use Rattle.merge_run.specs.Shown.{IsFedWith, IsHeld, OfFeed, IsPast, NoneComes, Sends, IsReading, IsLive, IsIn, is_held}
 use Rattle.merge_run.specs.Shown.{feed_of, left_at, more_units, frame_bytes, CountsFrames, Shown}
 use Rattle.merge_run.specs.Steps.{left_in, left_of}
-use Rattle.merge_run.specs.Taking.{seen_of, is_same, is_from, leaves, feed_in}
+use Rattle.merge_run.specs.Taking.{seen_of, is_from, leaves, feed_in}
 use Rattle.merge_run.specs.declared.merging.Merging.{Merging}
 use Rattle.merge_run.specs.declared.phase.Phase.{Phase}
 use Rattle.merge_run.specs.declared.phase.Phase.TheVariants.{Reads, Gives, Rests}

@@ -1,6 +1,6 @@
 -- A feed whose last record is one whose frame is under way, or not.
-use Rattle.std.proofs.Common.{◌≡◌, ℕ, ◌+◌, ◌<◌, ◌≤◌, Bool, true, false, List, [], ◌∷◌, ◌++◌, length, Option}
-use Rattle.std.proofs.Common.{refl, ap, sym, subst, ◌∙◌, arith, append-nil, append_assoc}
+use Rattle.std.proofs.Common.{◌≡◌, ℕ, ◌+◌, Bool, true, false, List, [], ◌∷◌, ◌++◌, length, Option}
+use Rattle.std.proofs.Common.{refl, ap, sym, subst, ◌∙◌, arith, append_assoc}
 use Rattle.std.proofs.lemmas.List.{append_cancel_left}
 use Rattle.plp_config.specs.declared.config.Config.{Config}
 use Rattle.frame_groups.specs.Laws.{AreFrom}
@@ -10,12 +10,11 @@ use Rattle.modulator.specs.Laws.{DueFront, DueFollow}
 use Rattle.modulator.specs.StandsFor.{records_due, records_of}
 use Rattle.modulator.proofs.WaitLemmas.{front_due}
 use Rattle.file_run.specs.FileRun.{IsFed}
-use Rattle.feed_merge.specs.Picks.{above_all}
 use Rattle.held_feed.specs.Skips.{IsOnly, Takes}
 use Rattle.held_feed.specs.StandsFor.{FrameFeedStandsFor, IsFirst, waiting_of}
 use Rattle.held_feed.specs.StandsFor as feed
 use Rattle.held_feed.specs.declared.feed.FrameFeed.{FrameFeed}
-use Rattle.merge_run.specs.Shown.{IsFedWith, IsBehind, IsHeld, OfFeed, IsPast, NoneComes}
+use Rattle.merge_run.specs.Shown.{IsFedWith, IsBehind, OfFeed, IsPast, NoneComes}
 use Rattle.merge_run.proofs.FeedLemmas.{waits_above}
 use Rattle.merge_run.proofs.NumberLemmas.{AllFrom, above_before, from_rest, from_more}
 use Rattle.merge_run.proofs.SplitLemmas.{IsSplit, split_at, all_given}

@@ -18,7 +18,7 @@ use Rattle.pool_merger.specs.StandsFor.{MergerStandsFor, has_unit, has_finished}
 use Rattle.pool_merger.specs.StandsFor as merger
 use Rattle.pool_merger.specs.declared.merger.Merger.{Merger}
 use Rattle.merge_run.specs.Counted.{counted}
-use Rattle.merge_run.specs.Shown.{IsFedWith, IsBehind, IsHeld, OfFeed, IsPast, Sends, IsReading, IsLive, IsIn, Shown}
+use Rattle.merge_run.specs.Shown.{IsFedWith, IsBehind, OfFeed, IsPast, Sends, IsReading, IsLive, IsIn, Shown}
 use Rattle.merge_run.specs.Shown.{is_held, feed_of, left_at, more_units, frame_bytes}
 use Rattle.merge_run.specs.Taking.{feed_in}
 use Rattle.feed_merge.specs.declared.seen.Feed.TheVariants.{A, B}

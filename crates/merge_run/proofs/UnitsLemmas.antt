@@ -11,7 +11,6 @@ use Rattle.ts_packet.specs.declared.sizes.TheConstants.{SIZE}
 use Rattle.ts_packet.specs.TsFile.{joined}
 use Rattle.file_run.specs.Events.{Event, Gave, fed, has_ended, gave}
 use Rattle.file_run.specs.Laws.{EventsTell}
-use Rattle.frame_groups.specs.Modulated.{FrameRecord}
 use Rattle.modulator.specs.Laws.{DueFollow}
 use Rattle.feed_merge.specs.Picks.{picks, frames_of}
 use Rattle.feed_merge.specs.declared.seen.Feed.TheVariants.{A, B}
@@ -20,7 +19,7 @@ use Rattle.held_feed.specs.Frames.{IsFrameOf}
 use Rattle.held_feed.specs.declared.feed.FrameFeed.{FrameFeed}
 use Rattle.pool_merger.specs.declared.merger.Merger.{Merger}
 use Rattle.merge_run.specs.Sending.{Nexts, NextsAll, GivesAll, EndsSo}
-use Rattle.merge_run.specs.Shown.{Sends, OfFeed, Shown, is_held, feed_of, left_at}
+use Rattle.merge_run.specs.Shown.{Sends, Shown, is_held, feed_of, left_at}
 use Rattle.merge_run.specs.Steps.{left_of}
 use Rattle.merge_run.specs.declared.merging.Merging.{Merging}
 use Rattle.merge_run.specs.declared.phase.Phase.TheVariants.{Gives, Reads}

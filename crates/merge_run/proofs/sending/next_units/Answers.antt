@@ -1,11 +1,10 @@
-use Rattle.std.proofs.Common.{◌≡◌, ℕ, List, [], ◌∷◌, ◌++◌, ◌-◌, Bool, true, false, length, take, refl, ap, sym, subst, ◌∙◌, rules, arith}
+use Rattle.std.proofs.Common.{◌≡◌, ℕ, List, [], ◌∷◌, ◌++◌, ◌-◌, Bool, true, false, take, refl, ap, sym, subst, ◌∙◌, rules, arith}
 use Rattle.std.proofs.Common.{length-append}
 use Rattle.ts_packet.proofs.JoinedLemmas.{joined_push}
-use borrow.Rule.Slice.PartMut.{put_mid}
 use Rattle.plp_config.specs.declared.config.Config.{Config}
 use Rattle.ts_packet.specs.declared.sizes.TheConstants.{SIZE}
 use Rattle.pool_frame.specs.Left.{CanBeSent}
-use Rattle.merge_run.specs.Sending.{Nexts, NextsAll}
+use Rattle.merge_run.specs.Sending.{Nexts}
 use Rattle.merge_run.proofs.UnitsLemmas.{piece_taken, gives_push, ends_full, ends_behind}
 use Rattle.merge_run.proofs.sending.next_units.Goals as goal
 

@@ -3,7 +3,6 @@ use Rattle.std.proofs.Math.Logic.{∥∥₁_map}
 use Rattle.held_feed.specs.StandsFor.{waiting_of, is_whole}
 use Rattle.held_feed.specs.StandsFor as feed
 use Rattle.held_feed.specs.declared.feed.FrameFeed.{FrameFeed}
-use Rattle.pool_merger.specs.StandsFor as merger
 use Rattle.merge_run.specs.Sending.{Begins}
 use Rattle.merge_run.specs.Shown.{HasShown}
 use Rattle.merge_run.proofs.BeginLemmas.{fewer_left, passed, begun, begun_left, left_passed, reading_of, waits_now, network_in}

@@ -1,4 +1,4 @@
-use Rattle.std.proofs.Common.{length, ap, sym, arith}
+use Rattle.std.proofs.Common.{length, ap, arith}
 use Rattle.pool_merger.specs.StandsFor.{MergerStandsFor}
 use Rattle.pool_merger.proofs.MergerLemmas.{begun}
 use Rattle.pool_merger.proofs.merger.Merger.frame.Goals as goal
