@@ -19,9 +19,9 @@ use desk_io::Line;
 use file_run::{Step, events_law};
 use frame_compare::{Tally, answer_by, answers_law};
 use frame_feed::{FrameFeed, RecordBuffer};
-use record_feeds::{least_number, next_step, take_left};
 use modulator::due_records_law;
 use plp_config::Plan;
+use record_feeds::{least_number, next_step, take_left};
 use record_laws::id_law;
 use std::alloc::Global;
 

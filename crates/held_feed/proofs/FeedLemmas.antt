@@ -204,9 +204,11 @@ skipped f g bytes ended given w is config still len told gave tells s =
             (ap (λ (e : Bool). records_due (config_of g) e bytes) over ∙ all);
         front = λ k less.
             let was = s.front k less in
-            let due = ap (λ (c : Config). records_due c false (take k bytes)) config in
-            (was.0 ++ x ∷ [], ap (λ (l : List FrameRecord). l ++ x ∷ []) was.1 ∙ append_assoc _ was.0 (x ∷ [])
-            ∙ ap (λ (l : List FrameRecord). l ++ (was.0 ++ x ∷ [])) (sym due));
+            let due = ap (λ (c : Config). records_due c false (take k bytes)) config in (
+              was.0 ++ x ∷ [],
+              ap (λ (l : List FrameRecord). l ++ x ∷ []) was.1 ∙ append_assoc _ was.0 (x ∷ [])
+                  ∙ ap (λ (l : List FrameRecord). l ++ (was.0 ++ x ∷ [])) (sym due),
+            );
       };
     }
 

@@ -6,8 +6,8 @@ ghost use Rattle.modulator.specs.Modulating.{IsSettled, has_record};
 ghost use Rattle.pool_frame.specs.Signalling.{pre_part, conf_part};
 
 use bit_slice::OutOfMemory;
-use linked_pool::Pool;
 use frame_groups::{Sequence, Waiting};
+use linked_pool::Pool;
 use modulator::{Modulating, due_records_law};
 use open_group::PooledGroup;
 use plp_config::{MOST_FRAMES, Plan};

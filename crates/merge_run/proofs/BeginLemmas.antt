@@ -291,11 +291,11 @@ module _ (follow : DueFollow) (grow : PicksGrow) (c : Config) (m : Merging) (a b
     frame_begun from f bytes ended given records o b h held k =
         let net : merger.config_of m.merger ≡ c = s.sends.network in
         let due = due_held c f bytes ended given records k.one k.only held in
-        let as = b.begun (h.network ∙ sym net) (subst IsPlan (sym net) s.plan) bytes ended given h.stands k.one held.later
+        let begun = b.begun (h.network ∙ sym net) (subst IsPlan (sym net) s.plan) bytes ended given h.stands k.one held.later
         (ap (λ (x : Config). records_due x ended bytes) net ∙ due) k.group k.whole k.number in
         let frame : frame_by (merger.config_of m.merger) k.one ≡ numbered n (content_view c n k.one.content) =
         ap (λ (x : Config). frame_by x k.one) net ∙ ap (λ (i : ℕ). numbered i (content_view c i k.one.content)) k.number in (
-          subst (BeginsAs m.merger g (left_for g f)) frame as,
+          subst (BeginsAs m.merger g (left_for g f)) frame begun,
           formed_due formed_law c bytes ended given from n records o held.later s.plan k due,
         )
 
@@ -416,9 +416,9 @@ module _ (follow : DueFollow) (grow : PicksGrow) (field : FieldRange) (c : Confi
     next_is = next ∙ next_is;
     early = (let e = next in omega (arith, e, early));
     sends = subst (λ (p : Phase). Sends c new.merger (left_at p new.merger (feed_of new)) now new.ran.units (gave events)) (sym gives)
-        (subst (λ (l : List NumberedView). Sends c new.merger left l new.ran.units (gave events)) (sym frames_are)
-        (subst (λ (k : ℕ). Sends c new.merger left (frames ++ numbered n view ∷ []) k (gave events)) (sym units)
-        (sends_begun c m.merger new.merger left frames (numbered n view) m.ran.units (gave events) network reading.is_open b sending)));
+        (subst (λ (l : List NumberedView). Sends c new.merger (left_for new.merger (feed_of new)) l new.ran.units (gave events)) (sym frames_are)
+        (subst (λ (k : ℕ). Sends c new.merger (left_for new.merger (feed_of new)) (frames ++ numbered n view ∷ []) k (gave events)) (sym units)
+        (sends_begun c m.merger new.merger (left_for new.merger (feed_of new)) frames (numbered n view) m.ran.units (gave events) network reading.is_open b sending)));
     ran_is = ran_now;
     counts = counts_now;
     live = subst (λ (k : ℕ). IsLive c (fed 0 events) (fed 1 events) given_a given_b k new.ran.units) (sym next)
@@ -430,9 +430,6 @@ module _ (follow : DueFollow) (grow : PicksGrow) (field : FieldRange) (c : Confi
     });
   }
     where
-      left : List Body
-      left = left_for new.merger (feed_of new)
-
       added_units : (r : Ran) (f : Feed) → (added r f).units ≡ r.units
       added_units r A = refl
       added_units r B = refl
@@ -597,18 +594,18 @@ shown_finished c m g events s reads least busy_a busy_b stands config over all_f
 module _ (follow : DueFollow) (grow : PicksGrow) (field : FieldRange) (c : Config) (m new : Merging) (events : List Event) (n : ℕ)
     (p : Pick) (t : Takings m new.a new.b n p) (s : Shown c events m) (config : new.plan.now ≡ m.plan.now) (reads : m.phase ≡ Reads)
     (next : new.next ≡ n + 1) (early : n < MOST_FRAMES) where
-  abbrev of : Option Feed
-  of = source_at n (seen_of (waiting_of m.a)) (seen_of (waiting_of m.b))
+  abbrev now_from : Option Feed
+  now_from = source_at n (seen_of (waiting_of m.a)) (seen_of (waiting_of m.b))
 
-  from_is : p.source ≡ of
+  from_is : p.source ≡ now_from
   from_is = ap (λ (q : Pick). q.source) t.is
 
   pub passed : p.source ≡ None → new.ran ≡ m.ran → new.phase ≡ Reads → new.merger ≡ m.merger → Shown c events new
   passed none ran still same =
-      let held : (f : Feed) → is_held new.phase new.source f ≡ is_from f of =
+      let held : (f : Feed) → is_held new.phase new.source f ≡ is_from f now_from =
       λ f. ap (λ (q : Phase). is_held q new.source f) still ∙ sym (ap (is_from f) (sym from_is ∙ none)) in
       shown_passed follow grow field c m new events n
-      (now_a follow grow c m new.a new.b events n p t s reads) (now_b follow grow c m new.a new.b events n p t s reads) of
+      (now_a follow grow c m new.a new.b events n p t s reads) (now_b follow grow c m new.a new.b events n p t s reads) now_from
       s config reads next early (next_low follow grow c m new.a new.b events n p t s reads) (held A) (held B)
       (ta follow grow c m new.a new.b events n p t s reads).stands (tb follow grow c m new.a new.b events n p t s reads).stands
       (behind_a follow grow c m new.a new.b events n p t s reads) (behind_b follow grow c m new.a new.b events n p t s reads)
@@ -619,11 +616,11 @@ module _ (follow : DueFollow) (grow : PicksGrow) (field : FieldRange) (c : Confi
       → new.source ≡ from → Begins m.merger new.merger (feed_in from new.a new.b) n → Shown c events new
   begun formed_law from own ran gives is b =
       let f = frame_is follow grow c m new.a new.b events n p t s reads formed_law new.merger from own b in
-      let held : (f : Feed) → is_held new.phase new.source f ≡ is_from f of =
+      let held : (f : Feed) → is_held new.phase new.source f ≡ is_from f now_from =
       λ f. ap₂ (λ (q : Phase) (k : Feed). is_held q k f) gives is ∙ sym (ap (is_from f) (sym from_is ∙ own)) in
       let feed_is : feed_in from new.a new.b ≡ feed_of new = ap (λ (k : Feed). feed_in k new.a new.b) (sym is) in
       shown_begun follow grow field c m new events n
-      (now_a follow grow c m new.a new.b events n p t s reads) (now_b follow grow c m new.a new.b events n p t s reads) of
+      (now_a follow grow c m new.a new.b events n p t s reads) (now_b follow grow c m new.a new.b events n p t s reads) now_from
       s config reads next early (next_low follow grow c m new.a new.b events n p t s reads) (held A) (held B)
       (ta follow grow c m new.a new.b events n p t s reads).stands (tb follow grow c m new.a new.b events n p t s reads).stands
       (behind_a follow grow c m new.a new.b events n p t s reads) (behind_b follow grow c m new.a new.b events n p t s reads)

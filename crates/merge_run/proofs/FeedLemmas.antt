@@ -1,6 +1,7 @@
 -- What one of the feeds stands for, and which number comes next of it.
 use Rattle.std.proofs.Common.{◌≡◌, ℕ, ◌+◌, ◌≤◌, ◌==◌, ◌&&◌, not, Bool, true, false, List, [], ◌∷◌, ◌++◌, Option, Some, None}
 use Rattle.std.proofs.Common.{is_some, refl, ap, sym, subst, ◌∙◌, arith, append_assoc}
+use Rattle.std.specs.Prelude.{IsSome}
 use Rattle.std.specs.List.{AllByRecursion}
 use Rattle.std.proofs.lemmas.Bool.{true≢false, eqb-false, eqb-true, and_parts}
 use Rattle.plp_config.specs.Capacity.{IsPlan}
@@ -92,6 +93,45 @@ there_at n None e = absurd (true≢false (sym e))
 there_at n (Some w) e = (and_parts (w.frame == n) (not (is_some w.mute)) e).0
 
 -- it was left behind, unless its frame is sent
+took_by : (held : Bool) (at : Bool) (c : Config) (f g : FrameFeed) (bytes : List ℕ) (ended : Bool) (given : List FrameRecord)
+    → (held ≡ true → (at ≡ true) × IsSome (waiting_of f)) → feed.config_of g ≡ feed.config_of f
+    → ((at && not held) ≡ false → g ≡ f) → Takes (at && not held) f g bytes ended given → IsFedWith c f bytes ended given
+    → TookFor held at c f g bytes ended given
+took_by false at c f g bytes ended given there config stays takes h =
+    let t = subst (λ (b : Bool). Takes b f g bytes ended given) (both_on at) takes in
+    record { records = t.records; are = t.are; stands = record { network = config ∙ h.network; stands = t.stands } }
+took_by true at c f g bytes ended given there config stays takes h =
+    let d = due_of c f bytes ended given h in
+    let here = there refl in
+    first (waiting_of f) refl here.1 d.later d.all d.first
+  where
+    first : (o : Option Waiting) → waiting_of f ≡ o → IsSome (waiting_of f) → (later : List FrameRecord)
+        → records_due c ended bytes ≡ given ++ later → IsFirst (waiting_of f) later → TookFor true at c f g bytes ended given
+    first None none some later all is = absurd (subst IsSome none some)
+    first (Some w) waits some [] all is = absurd (subst (λ (o : Option Waiting). IsFirst o []) waits is)
+    first (Some w) waits some (x ∷ later) all is =
+        let one : IsFirst (waiting_of f) (x ∷ []) =
+        subst (λ (o : Option Waiting). IsFirst o (x ∷ [])) (sym waits) (subst (λ (o : Option Waiting). IsFirst o (x ∷ later)) waits is) in
+        let only : IsOnly (waiting_of f) (x ∷ []) = record { one = x; only = refl; first = one } in
+        let was : IsHeld c f bytes ended (given ++ x ∷ []) = record {
+          before = given;
+          one = x;
+          later = later;
+          given_is = refl;
+          due = all;
+          first = one;
+          fed = h;
+        } in
+        record {
+          records = x ∷ [];
+          are = subst (λ (b : Bool). AreTaken b (waiting_of f) (x ∷ [])) (sym (there refl).0) only;
+          stands = subst (λ (k : FrameFeed). IsHeld c k bytes ended (given ++ x ∷ [])) (sym (stays (both_off at))) was;
+        }
+
+waits_there : (n : ℕ) (o : Option Waiting) → is_there n (seen_of o) ≡ true → IsSome o
+waits_there n None e = absurd (true≢false (sym e))
+waits_there n (Some w) e = refl
+
 pub took_of : (c : Config) (from : Feed) (source : Option Feed) (n : ℕ) (f g : FrameFeed) (bytes : List ℕ) (ended : Bool)
     (given : List FrameRecord) → (is_from from source ≡ true → is_there n (seen_of (waiting_of f)) ≡ true)
     → feed.config_of g ≡ feed.config_of f
@@ -99,48 +139,9 @@ pub took_of : (c : Config) (from : Feed) (source : Option Feed) (n : ℕ) (f g :
     → Takes (leaves from (is_at n (seen_of (waiting_of f))) source) f g bytes ended given
     → IsFedWith c f bytes ended given
     → TookFor (is_from from source) (is_at n (seen_of (waiting_of f))) c f g bytes ended given
-took_of c from source n f g bytes ended given there config stays takes h = go (is_from from source) refl
-  where
-    at : Bool
-    at = is_at n (seen_of (waiting_of f))
-
-    go : (held : Bool) → is_from from source ≡ held → TookFor held at c f g bytes ended given
-    go false off =
-        let same : leaves from at source ≡ at = ap (λ (b : Bool). at && not b) off ∙ both_on at in
-        let t = subst (λ (b : Bool). Takes b f g bytes ended given) same takes in
-        record { records = t.records; are = t.are; stands = record { network = config ∙ h.network; stands = t.stands } }
-    go true on = first d.later d.all (waiting_of f) refl d.first
-      where
-        d : IsDue c f bytes ended given
-        d = due_of c f bytes ended given h
-
-        still : g ≡ f
-        still = stays (ap (λ (b : Bool). at && not b) on ∙ both_off at)
-
-        here : at ≡ true
-        here = there_at n (waiting_of f) (there on)
-
-        first : (later : List FrameRecord) → records_due c ended bytes ≡ given ++ later → (o : Option Waiting) → waiting_of f ≡ o
-            → IsFirst (waiting_of f) later → TookFor true at c f g bytes ended given
-        first later all None none is = absurd (true≢false (sym (ap (λ (o : Option Waiting). is_at n (seen_of o)) (sym none) ∙ here)))
-        first [] all (Some w) waits is = absurd (subst (λ (o : Option Waiting). IsFirst o []) waits is)
-        first (x ∷ later) all (Some w) waits is =
-            let one : IsFirst (waiting_of f) (x ∷ []) =
-            subst (λ (o : Option Waiting). IsFirst o (x ∷ [])) (sym waits) (subst (λ (o : Option Waiting). IsFirst o (x ∷ later)) waits is) in
-            record {
-              records = x ∷ [];
-              are = subst (λ (b : Bool). AreTaken b (waiting_of f) (x ∷ [])) (sym here)
-                  (let k : IsOnly (waiting_of f) (x ∷ []) = record { one = x; only = refl; first = one } in k);
-              stands = subst (λ (k : FrameFeed). IsHeld c k bytes ended (given ++ x ∷ [])) (sym still) (record {
-                before = given;
-                one = x;
-                later = later;
-                given_is = refl;
-                due = all;
-                first = one;
-                fed = h;
-              });
-            }
+took_of c from source n f g bytes ended given there config stays takes h =
+    took_by (is_from from source) (is_at n (seen_of (waiting_of f))) c f g bytes ended given
+    (λ on. (there_at n (waiting_of f) (there on), waits_there n (waiting_of f) (there on))) config stays takes h
 
 idle_none : (e : Bool) → is_idle None e ≡ false → e ≡ true
 idle_none true off = refl

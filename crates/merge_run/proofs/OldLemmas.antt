@@ -79,18 +79,24 @@ module _ (c : Config) (old new : State) (a b out : List ℕ) where
         counts = counts;
       }
   stop_of (Files (ReadFault input)) (counts, inl o) = (counts, inl o)
-  stop_of (Files (ReadFault input)) (counts, inr (lt, d)) = (counts, inr (record {
-    places = d.places;
-    place = lt;
-    works = works_of (λ files bytes. HasWritten c input (slice_index d.places input) files bytes) d d.does.1;
-    short = d.does.0;
-  }))
+  stop_of (Files (ReadFault input)) (counts, inr (lt, d)) = (
+    counts,
+    inr (record {
+      places = d.places;
+      place = lt;
+      works = works_of (λ files bytes. HasWritten c input (slice_index d.places input) files bytes) d d.does.1;
+      short = d.does.0;
+    }),
+  )
   stop_of (Files WriteFault) (counts, inl o) = (counts, inl o)
-  stop_of (Files WriteFault) (counts, inr d) = (counts, inr (record {
-    places = d.places;
-    works = works_of (λ files bytes. HasSome c d.places files bytes) d d.does.1;
-    short = d.does.0;
-  }))
+  stop_of (Files WriteFault) (counts, inr d) = (
+    counts,
+    inr (record {
+      places = d.places;
+      works = works_of (λ files bytes. HasSome c d.places files bytes) d d.does.1;
+      short = d.does.0;
+    }),
+  )
   stop_of OutOfMemory e = e
 
 pub old_forms : (c : Config) (old new : State) (a b out : List ℕ) (result : Result Ran (RunStop MergeStop))

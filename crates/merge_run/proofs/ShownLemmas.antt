@@ -169,38 +169,34 @@ shown_read : (c : Config) (m : Merging) (g h : FrameFeed) (events more : List Ev
     → IsFedWith c g (fed 0 more) (has_ended 0 more) s.given_a → IsBehind m.next g s.given_a
     → IsFedWith c h (fed 1 more) (has_ended 1 more) s.given_b → IsBehind m.next h s.given_b
     → Shown c more (record m { a = g; b = h })
-shown_read c m g h events more s reads same of_a behind_a of_b behind_b = record {
-  config = s.config;
-  plan = s.plan;
-  ids = s.ids;
-  given_a = s.given_a;
-  given_b = s.given_b;
-  of_a = subst (λ (p : Phase). OfFeed (is_held p m.source A) c g (fed 0 more) (has_ended 0 more) s.given_a) (sym reads) of_a;
-  of_b = subst (λ (p : Phase). OfFeed (is_held p m.source B) c h (fed 1 more) (has_ended 1 more) s.given_b) (sym reads) of_b;
-  behind_a = subst (λ (p : Phase). IsPast (is_held p m.source A) m.next g s.given_a) (sym reads) behind_a;
-  behind_b = subst (λ (p : Phase). IsPast (is_held p m.source B) m.next h s.given_b) (sym reads) behind_b;
-  next_is = s.next_is;
-  early = s.early;
-  sends = subst (λ (p : Phase). Sends c m.merger (left_at p m.merger (feed_in m.source g h)) frames m.ran.units (gave more)) (sym reads)
-      (subst (Sends c m.merger [] frames m.ran.units) (sym same)
-      (subst (λ (p : Phase). Sends c m.merger (left_at p m.merger (feed_of m)) frames m.ran.units (gave events)) reads s.sends));
-  ran_is = s.ran_is;
-  counts = record {
-    frames = s.counts.frames;
-    parts = s.counts.parts;
-    units = subst (λ (p : Phase). m.ran.units + more_units p m.merger (feed_in m.source g h) ≤ m.next * frame_bytes + 184) (sym reads)
-        (subst (λ (p : Phase). m.ran.units + more_units p m.merger (feed_of m) ≤ m.next * frame_bytes + 184) reads s.counts.units);
-  };
-  live = live_all c g h (fed 0 more) (fed 1 more) _ _ s.given_a s.given_b m.next m.ran.units of_a of_b s.next_is
-      (let i = reading in let e = i.complete in omega (arith, e));
-  is_in = still_reading c m g h frames reads s.is_in;
-}
-  where
-    frames : List NumberedView
-    frames = frames_of (picks c s.given_a s.given_b)
-
-    reading : IsReading c m.merger frames m.ran.units
-    reading = subst (IsIn c m frames) reads s.is_in
+shown_read c m g h events more s reads same of_a behind_a of_b behind_b =
+    let frames : List NumberedView = frames_of (picks c s.given_a s.given_b) in
+    let reading : IsReading c m.merger frames m.ran.units = subst (IsIn c m frames) reads s.is_in in
+    record {
+      config = s.config;
+      plan = s.plan;
+      given_a = s.given_a;
+      given_b = s.given_b;
+      of_a = subst (λ (p : Phase). OfFeed (is_held p m.source A) c g (fed 0 more) (has_ended 0 more) s.given_a) (sym reads) of_a;
+      of_b = subst (λ (p : Phase). OfFeed (is_held p m.source B) c h (fed 1 more) (has_ended 1 more) s.given_b) (sym reads) of_b;
+      behind_a = subst (λ (p : Phase). IsPast (is_held p m.source A) m.next g s.given_a) (sym reads) behind_a;
+      behind_b = subst (λ (p : Phase). IsPast (is_held p m.source B) m.next h s.given_b) (sym reads) behind_b;
+      next_is = s.next_is;
+      early = s.early;
+      sends = subst (λ (p : Phase). Sends c m.merger (left_at p m.merger (feed_in m.source g h)) frames m.ran.units (gave more)) (sym reads)
+          (subst (Sends c m.merger [] frames m.ran.units) (sym same)
+          (subst (λ (p : Phase). Sends c m.merger (left_at p m.merger (feed_of m)) frames m.ran.units (gave events)) reads s.sends));
+      ran_is = s.ran_is;
+      counts = record {
+        frames = s.counts.frames;
+        parts = s.counts.parts;
+        units = subst (λ (p : Phase). m.ran.units + more_units p m.merger (feed_in m.source g h) ≤ m.next * frame_bytes + 184) (sym reads)
+            (subst (λ (p : Phase). m.ran.units + more_units p m.merger (feed_of m) ≤ m.next * frame_bytes + 184) reads s.counts.units);
+      };
+      live = live_all c g h (fed 0 more) (fed 1 more) _ _ s.given_a s.given_b m.next m.ran.units of_a of_b s.next_is
+          (let e = reading.complete in omega (arith, e));
+      is_in = still_reading c m g h frames reads s.is_in;
+    }
 
 -- what is known while records are read
 module _ (c : Config) (m : Merging) (events : List Event) (s : Shown c events m) (reads : m.phase ≡ Reads) where
@@ -269,7 +265,6 @@ pub shown_still : EventsTell → (c : Config) (m : Merging) (events : List Event
 shown_still tell c m events s = record {
   config = s.config;
   plan = s.plan;
-  ids = s.ids;
   given_a = s.given_a;
   given_b = s.given_b;
   of_a = gave_of tell (is_held m.phase m.source A) c m.a events 0 [] s.given_a s.of_a;

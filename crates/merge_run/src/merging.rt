@@ -136,7 +136,11 @@ impl<'p> Merging<'p> {
             return;
         }
         let source = pick.source.unwrap();
-        begin_frame(&mut self.merger, source_of(&self.a, &self.b, source), number);
+        begin_frame(
+            &mut self.merger,
+            source_of(&self.a, &self.b, source),
+            number,
+        );
         self.source = source;
         self.ran.add(source);
         self.phase = Phase::Gives;
