@@ -184,6 +184,3 @@ part_added old now piece sequence done count n a inside short is size runs each 
 
 pub all_added : (old new : List ℕ) (done : ℕ) → AddedTo old new done → done ≡ length old → bits_of new ≡ scrambled (bits_of old)
 all_added old new done a is = all_scrambled old new a.size (λ j h. a.sums j (omega arith))
-
-pub none_added : (old : List ℕ) → AddedTo old old 0
-none_added old = record { size = refl; sums = λ j h. absurd (omega arith); rest = λ j h. refl }

@@ -66,16 +66,6 @@ address_is c shape frame plp block cell is there =
           omega (arith, place, address);
     }
 
--- if a shape passes, nothing is wrong with it
-pub not_beyond : (c : Config) (shape : FrameShape) (plp : ℕ) → Passes c shape → plp < length c.plps → ¬ (IsBeyond c shape plp)
-not_beyond c shape plp passes h w =
-    ⊎_elim
-    (λ many. let never : ⊥ = omega (arith, many, passes.counts plp h) in never)
-    (λ far. let (frame, block, cell, there, past) = far in
-    let never : ⊥ = omega (arith, past, passes.below frame plp block cell there) in
-    never)
-    w
-
 pub not_shared : (c : Config) (shape : FrameShape) (i j : ℕ) → Passes c shape → ¬ (Shares c shape i j)
 not_shared c shape i j passes s = s.apart
     (passes.apart s.frame_idx i s.block s.cell j s.other_block s.other_cell s.one s.other s.same)
@@ -112,19 +102,6 @@ computes_single c shape frame plp block cell it start place is passes there in_f
     let same : start + place ≡ address_of c shape frame plp block cell =
     rw (e, f) (a.single (sym in_frame.row.slices ∙ one)) in
     (same, omega (arith, same, passes.below frame plp block cell there))
-
--- whether a position lies among those that the frame carries
-pub not_carried : (c : Config) (shape : FrameShape) (frame plp block cell : ℕ) → IsPlan c
-    → (position_of c shape plp block cell < first_position c shape frame plp)
-    ⊎ (first_position c shape frame plp + cells_of c shape.counts plp ≤ position_of c shape plp block cell)
-    → ¬ (IsCarried c shape frame plp block cell)
-not_carried c shape frame plp block cell is out it =
-    let (z, inside, e) = carried_place c shape frame plp block cell is it in
-    ⊎_elim
-    (λ (before : position_of c shape plp block cell < first_position c shape frame plp).
-    (let never : ⊥ = omega (arith, before, e) in never))
-    (λ (behind : first_position c shape frame plp + cells_of c shape.counts plp ≤ position_of c shape plp block cell).
-    (let never : ⊥ = omega (arith, behind, inside, e) in never)) out
 
 -- one PLP more: its blocks are counted
 pub counted : (counts : List ℕ) (plp before count : ℕ) → plp < length counts → before ≡ sum (take plp counts)

@@ -13,3 +13,4 @@ pub mod ReadingLemmas
 pub mod StripLemmas
 pub mod PlainLemmas
 pub mod NumberLemmas
+pub mod AloneLemmas

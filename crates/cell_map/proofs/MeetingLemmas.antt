@@ -44,9 +44,6 @@ meet_shifted a b interval (j, (k, hj, hk, meets)) =
     let product : k * interval + (j - k) * interval ≡ j * interval = omega (arith, ap (λ (n : ℕ). n * interval) d) in
     inr (j - k, omega arith, (omega (arith, meets.1, product), omega (arith, meets.0, product))))
 
-pub meet_first : (a b : Slices) (interval : ℕ) → 0 < a.count → SliceMeets a.start a.len b interval → SlicesMeet a b interval
-meet_first a b interval some (k, below, meets) = (0, (k, some, below, (omega (arith, meets.0), omega (arith, meets.1))))
-
 pub meet_second : (a b : Slices) (interval : ℕ) → 0 < b.count → SliceMeets b.start b.len a interval → SlicesMeet a b interval
 meet_second a b interval some (k, below, meets) = (k, (0, below, some, (omega (arith, meets.1), omega (arith, meets.0))))
 

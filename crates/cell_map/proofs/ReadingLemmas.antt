@@ -139,36 +139,6 @@ reading_hand c shape frame address run next mark dummy is inside some s =
     ] in
     reading_on c shape frame address run run next mark mark dummy is inside none (is.next some) is.first s
 
--- if no cell stands, as many dummy addresses as were counted
-pub reading_none : (c : Config) (shape : FrameShape) (frame address : ℕ) (run : Run) (mark : Mark) (old dummy : ℕ)
-    → IsReading c shape frame address run mark old → address < c.cells → run.left ≡ 0
-    → AreDummy c shape frame (address + 1) dummy → IsReading c shape frame (address + 1) run mark dummy
-reading_none c shape frame address run mark old dummy is inside end free = record {
-  plps = is.plps;
-  passes = is.passes;
-  few = is.few;
-  inside = omega (arith, inside);
-  first = is.first;
-  next = λ some. absurd (omega (arith, some, end));
-  free = free;
-  one = λ some. end;
-}
-
--- one of them less
-pub reading_less : (c : Config) (shape : FrameShape) (frame address : ℕ) (run : Run) (mark : Mark) (dummy : ℕ)
-    → IsReading c shape frame address run mark dummy → address < c.cells → 0 < dummy
-    → IsReading c shape frame (address + 1) run mark (dummy - 1)
-reading_less c shape frame address run mark dummy is inside some = record {
-  plps = is.plps;
-  passes = is.passes;
-  few = is.few;
-  inside = omega (arith, inside);
-  first = is.first;
-  next = λ left. absurd (omega (arith, left, is.one some));
-  free = λ plp b q cell far. (let end = is.free plp b q cell (omega (arith, far)) in omega (arith, end, some));
-  one = λ less. is.one some;
-}
-
 pub dummy_here : (c : Config) (shape : FrameShape) (frame address : ℕ) (run : Run) (mark : Mark) (dummy : ℕ)
     → IsReading c shape frame address run mark dummy → 0 < dummy → None ≡ get (cell_map c shape frame) address
 dummy_here c shape frame address run mark dummy is some =

@@ -108,36 +108,6 @@ lies_within cells length n at g long h before behind =
     let l = lies_in cells at g positive before behind in
     (l.from, l.to)
 
--- one step, to the next column, block or row
-pub to_column : (run : Run) → 0 < run.left → run.block < run.size → run.column + 1 < run.columns
-    → Steps run (record run { left = run.left - 1; column = run.column + 1 })
-to_column run some block column =
-    record {
-      first = refl;
-      rows = refl;
-      columns = refl;
-      size = refl;
-      place = omega arith;
-      left = omega arith;
-      block = block;
-      column = column;
-    }
-
-pub to_block : (run : Run) → 0 < run.left → run.column < run.columns → run.columns ≤ run.column + 1 → run.block + 1 < run.size
-    → Steps run (record run { left = run.left - 1; column = 0; block = run.block + 1 })
-to_block run some column last block =
-    let e : run.columns * (run.block + 1) ≡ run.columns * run.block + run.columns = omega arith in
-    record {
-      first = refl;
-      rows = refl;
-      columns = refl;
-      size = refl;
-      place = omega (arith, e);
-      left = omega arith;
-      block = block;
-      column = omega arith;
-    }
-
 pub to_row : (run : Run) → 0 < run.left → run.column < run.columns → run.columns ≤ run.column + 1 → run.block < run.size
     → run.size ≤ run.block + 1
     → Steps run (record run { left = run.left - 1; column = 0; block = 0; row = run.row + 1 })

@@ -348,13 +348,3 @@ place_law c shape frame j a interval address wide k t place n same is h e f g hk
       there = is_carried_at c shape frame j place.block place.cell (k * (slices_of c shape j).len + t) cell inside p';
       value = (at_place c shape frame j place.block place.cell k t hk' ht' p').address ∙ here';
     }
-
-pub place_inside : (c : Config) (shape : FrameShape) (frame j : ℕ) (a : Slices) (k t : ℕ) → IsPlan c → j < length c.plps
-    → a ≡ slices_of c shape j → k < a.count → t < a.len
-    → (k * a.len + t < cells_of c shape.counts j)
-    × (first_position c shape frame j + (k * a.len + t) < slice_index shape.counts j * block_cells c j)
-place_inside c shape frame j a k t is h e hk ht =
-    let cut = cut_of c shape j is h in
-    let within : k * a.len + t < a.len * a.count = mul-add-lt k a.len t a.count hk ht in
-    let all : a.count * a.len ≡ cells_of c shape.counts j = rw e cut in
-    (omega (arith, within, all), omega (arith, within, all, part_inside c shape frame j is h))

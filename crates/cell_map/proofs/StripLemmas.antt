@@ -24,27 +24,6 @@ inside_of c shape frame address run a =
     let is = ready c shape frame address run a in
     record { few = is.few; row = is.row; block = is.block; column = is.column; some = is.left; within = a.runs.within }
 
--- ---- the run at a block
-pub same_row : (run : Run) (block left : ℕ) → block < run.size → 0 < run.columns
-    → IsAtBlock run block left (record run { left = left; column = 0; block = block })
-same_row run block left h some =
-    record { first = refl; rows = refl; columns = refl; size = refl; place = omega arith; left = refl; block = h; column = refl }
-
-pub next_row : (run : Run) (block left : ℕ) → block ≡ run.size → 0 < run.size
-    → IsAtBlock run block left (record run { left = left; column = 0; block = 0; row = run.row + 1 })
-next_row run block left e some =
-    let all : run.columns * block ≡ run.columns * run.size = ap (λ (n : ℕ). run.columns * n) e in
-    record {
-      first = refl;
-      rows = refl;
-      columns = refl;
-      size = refl;
-      place = omega (arith, all);
-      left = refl;
-      block = some;
-      column = refl;
-    }
-
 -- ---- cuts
 pub plain_cut : (run : Run) (limit : ℕ) (first : Cell) → IsInside run → run.columns ≡ 1 → run.size ≡ 1 → 0 < limit
     → limit ≤ run.left

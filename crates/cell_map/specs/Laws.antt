@@ -1,13 +1,14 @@
 -- Laws of the cell map.
 use Rattle.std.specs.Prelude.{◌≡◌, ℕ, ◌*◌, ◌%◌, ◌^◌, ◌<◌, ◌↔◌, List, length, Some, None}
 use Rattle.std.specs.FinMap.{get}
-use Rattle.plp_config.specs.Capacity.{IsPlan}
-use Rattle.plp_config.specs.Plps.{spread}
+use Rattle.std.specs.List.{range_with_len}
+use Rattle.plp_config.specs.Capacity.{IsPlan, block_cells}
+use Rattle.plp_config.specs.Plps.{spread, StandsAlone}
 use Rattle.plp_config.specs.declared.config.Config.{Config}
 use Rattle.scheduler.specs.Laws.{CountsFit}
 use Rattle.scheduler.specs.Shape.{FrameShape, shape_of}
-use Rattle.cell_map.specs.Address.{IsCell, IsCarried, part_of, address_of}
-use Rattle.cell_map.specs.CellMap.{Passes, ordinal_of, cell_map}
+use Rattle.cell_map.specs.Address.{IsCell, IsCarried, part_of, position_of, address_at, address_of}
+use Rattle.cell_map.specs.CellMap.{Passes, ordinal_of, carried_cells, cell_map}
 use Rattle.cell_map.specs.Interleaver.{position}
 use Rattle.cell_map.specs.declared.places.Cell.{Cell}
 
@@ -69,3 +70,14 @@ abbrev pub CellsFit : Type 0
 CellsFit = (c : Config) (shape : FrameShape) (frame_idx address : ℕ) (found : Cell) → IsPlan c → Passes c shape
     → get (cell_map c shape frame_idx) address ≡ Some found
     → (found.ordinal < 2 ^ 16) × (found.cell < 2 ^ 15)
+
+-- If the interleaving frames of a PLP are carried by one frame each, this frame carries each cell of their blocks, at the address
+-- of its position.
+pub record MapsByFrames (c : Config) (shape : FrameShape) (frame_idx plp block cell : ℕ) : Type 0 where
+  pub carried : IsCarried c shape frame_idx plp block cell
+  pub cells : carried_cells c shape frame_idx plp block ≡ range_with_len 0 (block_cells c plp)
+  pub address : address_of c shape frame_idx plp block cell ≡ address_at c shape plp (position_of c shape plp block cell)
+
+abbrev pub MapAlone : Type 0
+MapAlone = (c : Config) (shape : FrameShape) (frame_idx plp block cell : ℕ) → StandsAlone c.plps plp
+    → IsCell c shape plp block cell → MapsByFrames c shape frame_idx plp block cell

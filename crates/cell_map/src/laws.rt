@@ -1,7 +1,8 @@
 // Laws of the cell map. Their functions do nothing.
 ghost use Rattle.cell_map.specs.Laws.{InterleaverFillsOnce, ShapePasses, MapHasEachCell, MapHasOnlyCells, DummyHasNoCell};
-ghost use Rattle.cell_map.specs.Laws.{CarriedOnce, PartsRepeat, CellsFit};
+ghost use Rattle.cell_map.specs.Laws.{CarriedOnce, PartsRepeat, CellsFit, MapAlone};
 
+use plp_config::block_law;
 use scheduler::order_law;
 
 /// The interleaver is one to one, and onto.
@@ -26,3 +27,10 @@ pub fn map_law()
     ensures parts { PartsRepeat }
     ensures small { CellsFit }
 {}
+
+/// Where each interleaving frame is carried by one frame, this frame carries each of its cells, at the address of its position.
+pub fn alone_law()
+    ensures { MapAlone }
+{
+    block_law();
+}

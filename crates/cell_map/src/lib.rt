@@ -13,7 +13,7 @@ mod slices;
 mod strips;
 
 pub use faults::{MapFault, check};
-pub use laws::{interleaver_law, map_law, shape_law};
+pub use laws::{alone_law, interleaver_law, map_law, shape_law};
 pub use places::{Cell, address, at};
 pub use reading::Cells;
 pub use strips::{Stretch, Strip};

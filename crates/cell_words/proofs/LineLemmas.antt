@@ -130,13 +130,6 @@ stretch_fits law c shape frame address (Blocks strip) plan passes some h =
     positive a zero h = (let none : a * 0 ≡ 0 = omega arith in absurd (omega (arith, h, none)))
     positive a (suc b) h = omega arith
 
--- a block's place has room
-pub block_room : (columns blocks b : ℕ) → b < blocks → columns * b + columns ≤ columns * blocks
-block_room columns blocks b l =
-    let wide : columns * b + columns ≡ columns * (b + 1) = omega arith in
-    let m : columns * (b + 1) ≤ columns * blocks = mul-le columns (b + 1) columns blocks (omega arith) (omega (arith, l)) in
-    omega (arith, wide, m)
-
 -- ---- what words spell
 fits_at : CellsFit → (c : Config) (shape : FrameShape) (frame : ℕ) (address : ℕ) → IsPlan c → Passes c shape → (o : Option Cell)
     → get (cell_map c shape frame) address ≡ o → FitsCell o

@@ -19,35 +19,6 @@ pub record Goes (fields : List Field) (words : List (List ℕ)) (i : ℕ) (left 
   pub ok : (vs : List ℕ) → SpellsFields (drop i fields) vs left → SpellsFields fields (take i values ++ vs) words
   pub err : (why : TextWhy) → FailsFirst (drop i fields) left why → FailsFirst fields words why
 
-pub goes_first : (fields : List Field) (words : List (List ℕ)) (values : List ℕ) → length values ≡ 12
-    → length words ≡ length fields → Goes fields words 0 words values
-goes_first fields words values size count = record { size = size; count = omega arith; ok = λ vs h. h; err = λ why h. h }
-
-pub goes_on : (fields : List Field) (words : List (List ℕ)) (i : ℕ) (before left : List (List ℕ)) (word values : List ℕ) (n : ℕ)
-    (d : Field)
-    → Goes fields words i before values → before ≡ word ∷ left → i < length fields → i < 12
-    → SpellsField (get_or fields i d) n word → Goes fields words (i + 1) left (set values i n)
-goes_on fields words i before left word values n d goes are inside room spelled = record {
-  size = length-set values i n ∙ goes.size;
-  count = omega (arith, goes.count, ap length are);
-  ok = λ vs h.
-      let front : SpellsFields (drop i fields) (n ∷ vs) before = rw (drop_more fields i d inside, are) (spelled, h) in
-      let all : SpellsFields fields (take i values ++ n ∷ vs) words = goes.ok (n ∷ vs) front in
-      let taken : take (i + 1) (set values i n) ≡ take i values ++ n ∷ [] =
-      take-set_at values i (i + 1) n refl (omega (arith, goes.size)) in
-      subst (λ (row : List ℕ). SpellsFields fields row words)
-      (sym (ap (λ (l : List ℕ). l ++ vs) taken ∙ append_assoc (take i values) (n ∷ []) vs)) all;
-  err = λ why h. goes.err why (rw (drop_more fields i d inside, are) (inr (n, spelled, h)));
-}
-
-pub goes_stops : (fields : List Field) (words : List (List ℕ)) (i : ℕ) (before left : List (List ℕ)) (word values : List ℕ)
-    (d : Field)
-    → Goes fields words i before values → before ≡ word ∷ left → i < length fields
-    → ((n : ℕ) → SpellsField (get_or fields i d) n word → ⊥)
-    → FailsFirst fields words (why_of (spelling_of (get_or fields i d)))
-goes_stops fields words i before left word values d goes are inside fails =
-    goes.err _ (rw (drop_more fields i d inside, are) (inl (fails, refl)))
-
 values_from-cons : (x : ℕ) (n place : ℕ) (values : List ℕ) → values_from (suc place) n (x ∷ values) ≡ values_from place n values
 values_from-cons x zero place values = refl
 values_from-cons x (suc n) place values = ap (λ (l : List ℕ). get_or values place 0 ∷ l) (values_from-cons x n (suc place) values)

@@ -293,19 +293,6 @@ all_before : (text : List ℕ) (number due version : ℕ) (config : Config) (sta
     → lines text ≡ stands.before
 all_before text number due version config stands = stands.are ∙ append-nil stands.before
 
-pub stands_short : (text : List ℕ) (number due version : ℕ) (config : Config) → length text ≤ 65536 → Stands text [] number due version config
-    → due < 8 → Refuses text (number + 1) EndsEarly
-stands_short text number due version config fits stands few =
-    let all : lines text ≡ stands.before = all_before text number due version config stands in
-    inr (inl record {
-      fits = fits;
-      few = omega (arith, stands.kept_count, ap (λ (l : List (List ℕ)). length (kept l)) all);
-      rows = take due (rows_of (version_in text) config);
-      reads = subst (λ (l : List (List ℕ)). ReadsLines (version_in text) 0 (kept l) (take due (rows_of (version_in text) config))) (sym all) stands.reads;
-      at = omega (arith, stands.counted, ap length all);
-      reason = refl;
-    })
-
 pub stands_whole : (text : List ℕ) (number due version : ℕ) (config : Config) → length text ≤ 65536 → Stands text [] number due version config
     → 8 ≤ due → Spells text config
 stands_whole text number due version config fits stands enough =

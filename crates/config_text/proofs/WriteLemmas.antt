@@ -24,15 +24,6 @@ pub record Writes (fields : List Field) (values : List ℕ) (i : ℕ) (old text 
   pub all : text ++ words_after (drop i fields) (values_left fields i values)
       ≡ old ++ words_after fields (first_values (length fields) values)
 
-pub writes_first : (fields : List Field) (values old : List ℕ) → FitFields fields (first_values (length fields) values)
-    → Writes fields values 0 old old
-writes_first fields values old fits =
-    let e : length fields - 0 ≡ length fields = omega arith in
-    record {
-      fits = subst (λ (n : ℕ). FitFields fields (values_from 0 n values)) (sym e) fits;
-      all = ap (λ (n : ℕ). old ++ words_after fields (values_from 0 n values)) e;
-    }
-
 left-cons : (fields : List Field) (i : ℕ) (values : List ℕ) → i < length fields → values_left fields i values ≡ get_or values i 0
     ∷ values_left fields (i + 1) values
 left-cons fields i values inside =
@@ -67,17 +58,6 @@ writes_on fields values old text i d writes inside =
       fits = (fits_here fields values old text i d writes inside).1;
       all = append_assoc (text ++ 32 ∷ []) word later ∙ append_assoc text (32 ∷ []) (word ++ later) ∙ sym parts ∙ writes.all;
     }
-
-none_after : (fields : List Field) (values : List ℕ) → length fields ≡ 0 → words_after fields values ≡ []
-none_after [] values e = refl
-none_after (f ∷ fs) values e = absurd (omega arith)
-
-pub writes_ends : (fields : List Field) (values old text : List ℕ) (i : ℕ) → Writes fields values i old text → i ≡ length fields
-    → text ≡ old ++ words_after fields (first_values (length fields) values)
-writes_ends fields values old text i writes end =
-    sym (ap (λ (l : List ℕ). text ++ l)
-    (none_after (drop i fields) (values_left fields i values) (omega (arith, length-drop i fields))) ∙ append-nil text)
-    ∙ writes.all
 
 -- ---- the rows of a configuration
 

@@ -64,7 +64,7 @@ impl<'a> Input<'a> {
     /// Says that units do not tell what was damaged, if it is so.
     pub fn say_whole(&self, rt: &impl Eprint) -> io::Result<()> {
         match &self.counts {
-            InputCounts::Units(units) if units.is_clean() => eprintln!(rt;
+            InputCounts::Units(units) if units.is_followed() && units.is_clean() => eprintln!(rt;
                 "{}: its units are whole, and their counters fit: bytes in them were damaged, 16 of them or a multiple were lost, or it was so before it became units",
                 Shown(self.name)
             ),

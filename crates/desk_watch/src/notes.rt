@@ -17,6 +17,18 @@ struct Noted<'a> {
     last: u64,
 }
 
+impl Noted<'_> {
+    fn say(&self, rt: &impl Eprint) -> io::Result<()> {
+        if self.count == 1 {
+            return eprintln!(rt; "of these 1 {}: frame {} of CONFIG", self.what, self.first);
+        }
+        eprintln!(rt;
+            "of these {} {}: the first is frame {} of CONFIG, the last frame {}",
+            self.count, self.what, self.first, self.last
+        )
+    }
+}
+
 /// What a run took note of: why frames are muted.
 #[derive(Drop)]
 pub struct Notes<'a> {
@@ -49,10 +61,7 @@ impl<'a> Notes<'a> {
     /// Says them.
     pub fn say(&self, rt: &impl Eprint) -> io::Result<()> {
         for note in self.kept.iter().flatten() {
-            eprintln!(rt;
-                "of these {} {}: frames {} to {} of CONFIG",
-                note.count, note.what, note.first, note.last
-            )?;
+            note.say(rt)?;
         }
         Ok(())
     }

@@ -17,6 +17,13 @@ const ONLY_B: &[u8] = b" is=only-b";
 
 const IN_BOTH: [&[u8]; 3] = [b" is=same", b" is=muted-", b" is=differs"];
 
+// How it tells that they are muted in A, in B, or in both.
+const MUTED_A: &[u8] = b" is=muted-a";
+
+const MUTED_B: &[u8] = b" is=muted-b";
+
+const MUTED_BOTH: &[u8] = b" is=muted-both";
+
 /// What the lines of `merge`, `swap` and `compare` tell of their inputs.
 #[derive(Clone, Copy)]
 pub struct Said {
@@ -24,6 +31,10 @@ pub struct Said {
     pub some_of_first: bool,
     /// Frames came from the second one.
     pub some_of_second: bool,
+    /// Some of them are muted.
+    pub muted_of_first: bool,
+    /// Some of those are.
+    pub muted_of_second: bool,
     /// Those of the first were taken before those of the second.
     pub first_is_taken: bool,
     /// No packet of IN was left at the end.
@@ -41,6 +52,8 @@ impl Said {
         Said {
             some_of_first: false,
             some_of_second: false,
+            muted_of_first: false,
+            muted_of_second: false,
             first_is_taken: false,
             none_left: false,
         }
@@ -56,6 +69,10 @@ impl Said {
         let in_both = IN_BOTH.iter().any(|part| has(text, part));
         self.some_of_first = self.some_of_first || in_both || has(text, ONLY_A);
         self.some_of_second = self.some_of_second || in_both || has(text, ONLY_B);
+        // The words of both begin with those of B.
+        let muted_both = has(text, MUTED_BOTH);
+        self.muted_of_first = self.muted_of_first || muted_both || has(text, MUTED_A);
+        self.muted_of_second = self.muted_of_second || has(text, MUTED_B);
     }
 
     /// A text was said.

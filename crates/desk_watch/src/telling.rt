@@ -37,7 +37,7 @@ fn say_packets(rt: &impl Eprint, input: &Input<'_>, plp: Option<&Plp>) -> io::Re
     let file = Shown(input.name);
     match plp {
         Some(plp) if packets.nulls() > 0 && plp.delete => eprintln!(rt;
-            "{file}: {packets}; these are deleted"
+            "{file}: {packets}; these are deleted, but for each one that 255 deleted ones precede"
         ),
         _ => eprintln!(rt; "{file}: {packets}"),
     }
@@ -193,8 +193,20 @@ impl RunCounts<'_> {
         }
     }
 
+    // Says of the files of which frames are muted, by the lines, what was damaged in none of their units.
+    fn say_muted_of_two(&self, rt: &impl Eprint) -> io::Result<()> {
+        let muted = [self.said.muted_of_first, self.said.muted_of_second];
+        for (input, is_muted) in self.inputs.as_slice().iter().zip(muted) {
+            if is_muted {
+                input.say_whole(rt)?;
+            }
+        }
+        Ok(())
+    }
+
     fn say_two(&self, rt: &impl Eprint) -> io::Result<()> {
         self.say_inputs(rt)?;
+        self.say_muted_of_two(rt)?;
         self.say_unused(rt)
     }
 

@@ -187,6 +187,11 @@ impl UnitCounts {
             .saturating_sub(self.other_pid.count)
     }
 
+    /// Whether it is known which units carry T2-MI, so that their counters are followed.
+    pub fn is_followed(&self) -> bool {
+        self.pid.is_some()
+    }
+
     /// Whether none of them can carry T2-MI, by their first bytes.
     pub fn has_none(&self) -> bool {
         self.unread.count >= self.on_pid()

@@ -62,19 +62,6 @@ apart_change [] g h a e = tt
 apart_change (x ∷ []) g h a e = (subst (λ (k : Key). is_same x.key k ≡ false) (sym e) a.0, tt)
 apart_change (x ∷ y ∷ gs) g h a e = (a.0, apart_change (y ∷ gs) g h a.1 e)
 
-apart_joined : (closed : List Group) (last : Option Group) (k : Key) (p : Packet) → (last ≡ None → closed ≡ [])
-    → AreApart (closed ++ option_to_list last) → AreApart (all_groups (joins closed last k p))
-apart_joined closed None k p none a = subst (λ (l : List Group). AreApart (l ++ one_packet k p ∷ [])) (sym (none refl)) tt
-apart_joined closed (Some g) k p none a = go (is_same g.key k) refl
-  where
-    go : (t : Bool) → is_same g.key k ≡ t
-        → AreApart
-        (all_groups
-        (cond t (record { closed = closed; under_way = Some (one_more g p) })
-        (record { closed = closed ++ g ∷ []; under_way = Some (one_packet k p) })))
-    go true e = apart_change closed g (one_more g p) a refl
-    go false e = apart_push closed g (one_packet k p) a e
-
 apart_from : (ps : List Packet) (closed : List Group) (h : Group) → AreApart (closed ++ h ∷ [])
     → AreApart (all_groups (grouped_from (record { closed = closed; under_way = Some h }) ps))
 apart_from [] closed h a = a

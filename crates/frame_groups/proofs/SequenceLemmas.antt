@@ -25,15 +25,6 @@ use Rattle.frame_groups.proofs.FollowLemmas.{known_is, number_above, close_joine
 use Rattle.frame_groups.proofs.FollowLemmas.{goes_on}
 use Rattle.frame_groups.proofs.FollowLemmas.{begins, gap_given, own_given}
 
--- a packet that belongs to no frame
-pub kept_not : (r : Rules) (ps : List Packet) (p : Packet) → is_counted r.frames p ≡ false → kept_groups r (ps ++ p ∷ [])
-    ≡ kept_groups r ps
-kept_not r ps p e =
-    ap grouped
-    (filter-append (is_counted r.frames) ps (p ∷ [])
-    ∙ ap (λ (l : List Packet). filter (is_counted r.frames) ps ++ l) (cond-false (is_counted r.frames p) (p ∷ []) [] e)
-    ∙ append-nil (filter (is_counted r.frames) ps))
-
 pub kept_more : (r : Rules) (ps : List Packet) (p : Packet) → is_counted r.frames p ≡ true → kept_groups r (ps ++ p ∷ [])
     ≡ with_packet (kept_groups r ps) p
 kept_more r ps p e =
@@ -41,13 +32,6 @@ kept_more r ps p e =
     (filter-append (is_counted r.frames) ps (p ∷ [])
     ∙ ap (λ (l : List Packet). filter (is_counted r.frames) ps ++ l) (cond-true (is_counted r.frames p) (p ∷ []) [] e))
     ∙ grouped_more (filter (is_counted r.frames) ps) p
-
-pub ignored : (r : Rules) (past : List Numbered) (g : Option Group) (number : Option ℕ) (next : ℕ) (closing : Bool)
-    (fault : Option MuteCause) (ps : List Packet) (given : List FrameRecord) (p : Packet)
-    → is_counted r.frames p ≡ false → Sequenced r past g number next closing fault ps given
-    → Sequenced r past g number next closing fault (ps ++ p ∷ []) given
-ignored r past None number next closing fault ps given p e (a, o, b, c, d) = (kept_not r ps p e ∙ a, o, b, c, d)
-ignored r past (Some h) number next closing fault ps given p e (closed, a, f) = (closed, kept_not r ps p e ∙ a, f)
 
 -- the key of a packet that is kept fits
 stamp_fits : (frames : ℕ) (before : Option Key) (superframe : ℕ) → 0 < frames → superframe < 16
@@ -156,13 +140,6 @@ closed_joined r past None n next old new ps given some e s = absurd (true≢fals
 closed_joined r past (Some h) n next old new ps given some e (closed, a, f) =
     let above = number_above r past h n f.key (known_is r past h n f.number_is) in
     (closed, a, close_joined r closed past h n next old new given f (e h refl above))
-
--- before the join no group has a number
-pub none_numbered : (r : Rules) (past : List Numbered) (g : Option Group) (next : ℕ) (closing : Bool) (fault : Option MuteCause)
-    (ps : List Packet) (given : List FrameRecord)
-    → Sequenced r past g None next closing fault ps given → past ≡ []
-none_numbered r past None next closing fault ps given s = s.1
-none_numbered r past (Some h) next closing fault ps given (closed, a, f) = f.records.0
 
 pub closed_first : (r : Rules) (past : List Numbered) (g : Option Group) (number : Option ℕ) (old next : ℕ)
     (fault new : Option MuteCause) (ps : List Packet) (given : List FrameRecord)

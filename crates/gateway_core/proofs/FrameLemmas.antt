@@ -17,12 +17,3 @@ pub over_left : (c : Config) (s : Signalling) (f : Frame) → f.step ≡ Over �
 over_left c s f e =
     ap (λ (step : FrameStep). from_step c f.number step (l1_body c f.number s.pre s.conf f.dynamic.bits)
     (blocks_left c f.number (own_in c f.number f.blocks) f.plp f.first)) e
-
-same_parts : (a b : ℕ → List (List Bool)) (x y : Layout) → a ≡ b → x ≡ y
-    → ◌≡◌ {A = Stays} (record { early = a; layout = x }) (record { early = b; layout = y })
-same_parts a b x y early layout = rw (early, layout) refl
-
-pub all_stays : (c : Config) (old new : Frame) → ((j : ℕ) → early_of c new j ≡ early_of c old j) → layout_of new ≡ layout_of old
-    → stays_of c new ≡ stays_of c old
-all_stays c old new early layout = same_parts (early_of c new) (early_of c old) (layout_of new) (layout_of old) (fun_ext early)
-    layout

@@ -121,11 +121,6 @@ given_due (Some v) (Some w) packet out b = due_by _ _ b.1.status
 
 -- ---- the first frame, and the room for one more
 
-pub common_small : (own : Receiver) (other : Option Receiver) → InStep own other → one.frame_of own < MOST_FRAMES
-    → IfSome other (λ v. one.frame_of v < MOST_FRAMES)
-common_small own None step small = tt
-common_small own (Some v) step small = (let e = (step.both v refl).frame in omega (arith, e, small))
-
 -- ---- of which PLP it is
 
 pub begun_at : (other other_new : Option Receiver) (first : ℕ) → OnBoth (Begins first) other other_new → common_at other_new
@@ -161,21 +156,6 @@ pub joins_inside : GroupingTold → (c : Config) (plp : ℕ) (joins : Option ℕ
     → IfSome joins (λ place. place < length c.plps)
 joins_inside told c plp None may = tt
 joins_inside told c plp (Some common) may = (told c).inside plp common (may common refl)
-
-pub opened_step : (own : Receiver) (other : Option Receiver) (c : Config) (plp : ℕ) (joins : Option ℕ)
-    → one.status_of own ≡ one.new_status c plp → MayJoin c plp joins → CommonIs c joins other → InStep own other
-opened_step own None c plp joins status may is = with_none own
-opened_step own (Some v) c plp joins status may is =
-    let net = network_by _ _ status in let at = plp_by _ _ status in
-    let other_at : one.plp_of v ≡ is.0 = plp_by _ _ is.4 in
-    let place : common_of c plp ≡ Some is.0 = may is.0 is.1 in
-    with_one own v (record {
-      place = common_as (one.network_of own) c (one.plp_of own) plp (Some (one.plp_of v)) net at
-          (place ∙ ap (λ (n : ℕ). Some n) (sym other_at));
-      inside = inside_as (one.network_of own) c (one.plp_of v) is.0 net other_at is.2;
-      network = network_by _ _ is.4 ∙ sym net;
-      frame = frame_by _ _ is.4 ∙ sym (frame_by _ _ status);
-    })
 
 pub opened_fresh : (other : Option Receiver) (c : Config) (joins : Option ℕ) → CommonIs c joins other → CommonIsFresh other
 opened_fresh None c joins is = tt

@@ -124,10 +124,6 @@ pub all_read : {A : Type 0} (reads : List (List Bool → Reading A)) (i : ℕ) (
 unfolding each_read
 all_read reads i out bits is le = rw is (ap (λ (l : List _). Ok (l, bits)) (append-nil (take i out) ∙ take_all i out le))
 
-pub none_read : {A : Type 0} (r : Reading (List A)) → behind [] r ≡ r
-none_read (Ok r) = refl
-none_read (Err e) = refl
-
 -- ---- the fields of a table
 pub values_back : (fs : List Field) (vs : List ℕ) (rest : List Bool) → Fits fs vs → values_of fs (spelling fs vs ++ rest)
     ≡ Ok (vs, rest)

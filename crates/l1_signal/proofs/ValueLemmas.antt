@@ -14,11 +14,6 @@ use Rattle.l1_signal.specs.L1Dynamic.{DynFits, no_dyn_plp}
 use Rattle.l1_signal.specs.L1Of.{dyn_plp_of, dyn_of, told_shape}
 use Rattle.l1_signal.proofs.ReadLemmas.{pow_pos}
 
--- one place more of a list has its value
-pub place_set : {A : Type 0} (f : ℕ → A) (xs : List A) (i : ℕ) (x d : A) → i < length xs → x ≡ f i
-    → ((k : ℕ) → k < i → get_or xs k d ≡ f k) → (k : ℕ) → k < i + 1 → get_or (set xs i x) k d ≡ f k
-place_set f xs i x d lt is so_far = rw is (fill_by_more f xs i d lt so_far)
-
 -- a list of the values of another one, place by place
 pub mapped : {A B : Type 0} (f : A → B) (ys : List A) (xs : List B) (d : A) (e : B) → length xs ≡ length ys
     → ((k : ℕ) → k < length ys → get_or xs k e ≡ f (get_or ys k d)) → xs ≡ map f ys

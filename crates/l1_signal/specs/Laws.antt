@@ -4,6 +4,7 @@ use Rattle.terms.specs.Bits.{field}
 use Rattle.bit_slice.specs.Crc.{crc32_of}
 use Rattle.l1_signal.specs.declared.pre.L1Pre.{L1Pre}
 use Rattle.plp_config.specs.declared.config.Config.{Config}
+use Rattle.plp_config.specs.declared.plp.Plp.{Plp}
 use Rattle.scheduler.specs.Shape.{FrameShape}
 use Rattle.l1_signal.specs.declared.pre.TheConstants.{PRE}
 use Rattle.l1_signal.specs.declared.conf.TheConstants.{CONF_FIRST, CONF_MORE, CONF_BACK}
@@ -12,7 +13,7 @@ use Rattle.l1_signal.specs.declared.dyn_plp.TheConstants.{DYN_PLP}
 use Rattle.l1_signal.specs.declared.dynamic.TheConstants.{DYN_FRONT, DYN_BACK}
 use Rattle.l1_signal.specs.CrcField.{EndsInCrc}
 use Rattle.l1_signal.specs.Fields.{fields}
-use Rattle.l1_signal.specs.L1Of.{conf_of, post_bits}
+use Rattle.l1_signal.specs.L1Of.{conf_of, conf_plp_of, post_bits}
 use Rattle.l1_signal.specs.Lengths.{conf_len, dyn_len, post_len}
 use Rattle.l1_signal.specs.declared.lengths.TheConstants.{PRE_BITS}
 use Rattle.l1_signal.specs.declared.conf.L1Conf.{L1Conf}
@@ -117,3 +118,8 @@ pub record TablesAreRows : Type 0 where
   pub dyn_front : DYN_FRONT ≡ fields dyn_front_rows
   pub dyn_plp : DYN_PLP ≡ fields dyn_plp_rows
   pub dyn_back : DYN_BACK ≡ fields dyn_back_rows
+
+-- if the interleaving frames of a PLP are carried by one frame each, TIME_IL_TYPE is 0, and TIME_IL_LENGTH its number of TI-blocks
+abbrev pub ConfAlone : Type 0
+ConfAlone = (plp : Plp) → plp.spread ≡ 1
+    → ((conf_plp_of plp).time_il_type ≡ 0) × ((conf_plp_of plp).time_il_length ≡ plp.interleave)

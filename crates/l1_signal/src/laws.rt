@@ -2,6 +2,7 @@
 ghost use Rattle.l1_signal.specs.Laws.{PreReadBack, PreReadSpelled, PreWritten, PreLength, PreBitsLength, ConfReadBack};
 ghost use Rattle.l1_signal.specs.Laws.{ConfReadSpelled, ConfWritten, ConfLength, DynReadBack, DynReadSpelled, DynWritten};
 ghost use Rattle.l1_signal.specs.Laws.{DynLength, PostLength, ConfPartLength, EndsInItsCrc, TablesAreRows};
+ghost use Rattle.l1_signal.specs.Laws.{ConfAlone};
 
 use bit_slice::crc32_law;
 
@@ -46,4 +47,9 @@ pub fn post_law()
 /// The tables that the code reads and writes by are those of the definitions.
 pub fn table_law()
     ensures { TablesAreRows }
+{}
+
+/// Where each interleaving frame of a PLP is carried by one frame, L1 tells its number of TI-blocks.
+pub fn alone_law()
+    ensures { ConfAlone }
 {}

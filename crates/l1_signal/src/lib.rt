@@ -22,7 +22,7 @@ pub use crc::check_post;
 pub use dyn_plp::DynPlp;
 pub use dynamic::{L1Dyn, read_dyn, write_dyn};
 pub use fault::L1Fault;
-pub use laws::{conf_law, dyn_law, post_law, pre_law, table_law};
+pub use laws::{alone_law, conf_law, dyn_law, post_law, pre_law, table_law};
 pub use lengths::{
     CONF_BITS, CONF_PLP_BITS, CRC_BITS, DYN_BITS, DYN_PLP_BITS, INFO_BITS, MOST_CONF_BITS,
     MOST_DYN_BITS, MOST_DYN_BYTES, MOST_POST_BITS, MOST_POST_BYTES, PLP_BITS, POST_BITS, PRE_BITS,

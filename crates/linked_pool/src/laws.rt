@@ -1,7 +1,7 @@
 // Laws between the definitions, for the crates above. No function here does anything.
-ghost use Rattle.linked_pool.specs.Laws.{PlanFits, NextFits};
+ghost use Rattle.linked_pool.specs.Laws.{PlanFits, NextFits, PoolAlone};
 
-use plp_config::{block_law, spread_law};
+use plp_config::{alone_law as tests_alone_law, block_law, spread_law};
 
 /// The blocks of the interleaving frames under way have their chunks.
 pub fn plan_fits_law()
@@ -12,4 +12,11 @@ pub fn plan_fits_law()
 {
     block_law();
     spread_law();
+}
+
+/// Where each interleaving frame is carried by one frame, pools have the chunks of the cells of a frame.
+pub fn alone_law()
+    ensures { PoolAlone }
+{
+    tests_alone_law();
 }

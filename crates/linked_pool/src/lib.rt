@@ -12,7 +12,7 @@ mod tables;
 
 pub use block::BlockRef;
 pub use chunk::{CHUNK, CHUNKS_OF_CELLS, FEWEST_CELLS};
-pub use laws::plan_fits_law;
+pub use laws::{alone_law, plan_fits_law};
 pub use pieces::Pieces;
 pub use pool::{Pool, PoolFull};
 pub use sizes::{frame_chunks, group_chunks};

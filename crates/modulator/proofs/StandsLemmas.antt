@@ -444,16 +444,6 @@ no_more m bytes given more h = record {
   same = refl;
 }
 
--- the last group is closed
-pub last_closed : (old new : Modulating) (bytes : List ℕ) (given : List FrameRecord)
-    → new.sequence.group.network ≡ old.sequence.group.network → new.unpiper ≡ old.unpiper → new.finished ≡ true
-    → is_ready old.unpiper ≡ false → KeepsOn old new → StandsAt old bytes given → StandsAt new bytes given
-last_closed old new bytes given same still finished idle close h =
-    let net = old.sequence.group.network in
-    stands_by new net bytes given h.events same
-    (subst (λ (u : Unpiper). UnpiperStandsFor u net.pid h.events) (sym still) h.stands) h.fed_is h.few
-    (close (worked net.pid h.events) given h.keeps) (λ _. inr (finished, ap is_ready still ∙ idle))
-
 pub some_from : {X : Type 0} (o : Option X) (P : X → Type 0) → ((x : X) → o ≡ Some x → P x) → IfSome o P
 some_from None P h = tt
 some_from (Some x) P h = h x refl

@@ -144,15 +144,6 @@ first_range rises old new frame e =
     let behind = all_rise rises r new.sound (frame - r.spread) frame (omega arith) in
     record { least = omega (arith, now, last); most = omega (arith, behind, now, last) }
 
--- in it
-pub enter_range : (old new : SlotWindow) (frame : ℕ) → status_of new ≡ entered (status_of old) frame
-    → Reaches new.rule true frame new.end
-enter_range old new frame e =
-    let same : new.rule ≡ old.rule = ap (λ (s : Status). s.rule) e in
-    let last : new.end ≡ over_after old.rule frame = ap (λ (s : Status). s.end) e in
-    let now : over_after new.rule frame ≡ over_after old.rule frame = ap (λ (q : SlotRule). over_after q frame) same in
-    record { least = omega (arith, now, last); most = omega (arith, now, last) }
-
 -- and when it has ended
 pub left_range : CountRises → (old new : SlotWindow) (in_frame : Bool) (frame : ℕ) → in_frame ≡ true
     → Reaches old.rule in_frame frame old.end → status_of new ≡ left (status_of old) frame

@@ -14,3 +14,4 @@ pub mod BeginLemmas
 pub mod RuleDecideLemmas
 pub mod TestDecideLemmas
 pub mod PlaceLemmas
+pub mod AloneLemmas

@@ -99,7 +99,7 @@ block_table Short R4_5 = (lit≤ tt, lit≤ tt, refl)
 block_table Short R5_6 = (lit≤ tt, lit≤ tt, refl)
 
 -- the cells of a block
-cell_table : (fec : FecSize) (modulation : Modulation)
+pub cell_table : (fec : FecSize) (modulation : Modulation)
     → (cells_per_block fec modulation % 5 ≡ 0) × (2025 ≤ cells_per_block fec modulation)
     × (cells_per_block fec modulation ≤ 32400)
 cell_table Normal Qpsk = (refl, lit≤ tt, lit≤ tt)
@@ -112,7 +112,7 @@ cell_table Short Qam64 = (refl, lit≤ tt, lit≤ tt)
 cell_table Short Qam256 = (refl, lit≤ tt, lit≤ tt)
 
 -- a short block has at most 1,644 bytes, and a normal one at least 8,100 cells
-short_bytes : (rate : Rate) → info_bits Short rate / 8 ≤ 1644
+pub short_bytes : (rate : Rate) → info_bits Short rate / 8 ≤ 1644
 short_bytes R1_2 = lit≤ tt
 short_bytes R3_5 = lit≤ tt
 short_bytes R2_3 = lit≤ tt
@@ -120,7 +120,7 @@ short_bytes R3_4 = lit≤ tt
 short_bytes R4_5 = lit≤ tt
 short_bytes R5_6 = lit≤ tt
 
-normal_cells : (modulation : Modulation) → 8100 ≤ cells_per_block Normal modulation
+pub normal_cells : (modulation : Modulation) → 8100 ≤ cells_per_block Normal modulation
 normal_cells Qpsk = lit≤ tt
 normal_cells Qam16 = lit≤ tt
 normal_cells Qam64 = lit≤ tt
@@ -165,9 +165,6 @@ epoch_ticks_range c plp rules inside = (
   omega (arith, mul-le 1 c.ticks (spread c.plps plp) c.ticks (rules SpreadDivides plp inside).0 (omega arith)),
   rules EpochDuration plp inside,
 )
-
-pub epoch_alone : EpochAlone
-epoch_alone c plp one = let e : 1 * c.ticks ≡ c.ticks = omega arith in ap (λ (s : ℕ). s * c.ticks) one ∙ e
 
 pub sound_times : SoundTimes
 sound_times c plp rules inside =

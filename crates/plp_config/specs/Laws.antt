@@ -1,11 +1,14 @@
 -- Laws of the times and the tables, for the crates above. A slot lasts num / den ticks, and an epoch is any number of ticks.
 use Rattle.std.specs.Prelude.{◌≡◌, ◌≢◌, ◌⊎◌, ℕ, true, ◌+◌, ◌-◌, ◌*◌, ◌/◌, ◌%◌, ◌^◌, ◌<◌, ◌≤◌, ◌↔◌, length, sum_by}
+use Rattle.std.specs.Prelude.{if◌then◌else◌}
 use Rattle.std.specs.Int.{div_ceil}
 use Rattle.plp_config.specs.Capacity.{block_bytes, field_bytes, block_cells, up_bytes, capacity, frame_room, AllTests, Lacks}
-use Rattle.plp_config.specs.Capacity.{IsPlan}
+use Rattle.plp_config.specs.Capacity.{IsPlan, PlaceFits, TestHolds, Throughput, CellCount, CellAddresses, RecordLength, cell_need}
+use Rattle.plp_config.specs.Capacity.{block_parts}
 use Rattle.plp_config.specs.Emission.{subseconds_by, origin, frame_subseconds, emission, FindsFrame}
 use Rattle.plp_config.specs.InterleavingFrames.{interleaving_frame, is_first, begin_of}
-use Rattle.plp_config.specs.Plps.{plp_at, spread, spread_max, StandsAlone}
+use Rattle.plp_config.specs.Places.{FramesStandAlone}
+use Rattle.plp_config.specs.Plps.{plp_at, spread, spread_max, is_type2, StandsAlone}
 use Rattle.plp_config.specs.Rules.{AllRules, Refuses}
 use Rattle.plp_config.specs.RunLength.{frame_count, IsFrameCount}
 use Rattle.plp_config.specs.Tables.{subseconds_per_second, info_bits, cells_per_block}
@@ -259,3 +262,18 @@ CellsByFive = (c : Config) (plp : ℕ) → (block_cells c plp % 5 ≡ 0) × (202
 -- the chunks of 256 bytes that a block fills are 7 for each 2,025 cells at most
 abbrev pub BlockChunks : Type 0
 BlockChunks = (c : Config) (plp : ℕ) → div_ceil (block_bytes c plp) 256 ≤ 7 * (block_cells c plp / 2025)
+
+-- If each interleaving frame is carried by one frame, the tests of the capacity are those of single frames: the blocks of a
+-- frame carry what arrives in its time, the cells of all blocks fit it, a block of type 2 is parted by its sub-slices alone,
+-- and no record is too long.
+pub record FitsByFrames (c : Config) : Type 0 where
+  pub throughput : (plp : ℕ) → plp < length c.plps
+      → PlaceFits Throughput c plp ↔ (up_bytes c plp * c.ticks * den c plp ≤ capacity c plp * num c)
+  pub cells : cell_need c ≡ sum_by (λ p. p.blocks * cells_per_block p.fec p.modulation) c.plps
+  pub parts : (plp : ℕ) → plp < length c.plps
+      → block_parts c plp ≡ (if is_type2 (plp_at c.plps plp).plp_type then c.sub_slices else 1)
+  pub records : TestHolds CellCount c → TestHolds CellAddresses c → TestHolds RecordLength c
+  pub spread : spread_max c.plps ≡ 1
+
+abbrev pub FitsAlone : Type 0
+FitsAlone = (c : Config) → AllRules c → FramesStandAlone c → FitsByFrames c

@@ -8,7 +8,7 @@ ghost use Rattle.plp_config.specs.Laws.{TestsDecided, SlotLength, FrameTicks, Fr
 ghost use Rattle.plp_config.specs.Laws.{UserPacketRange, CapacityHoldsUp, CellsByFive, BlockChunks, EpochTicks, RoomsFit};
 ghost use Rattle.plp_config.specs.Laws.{SpreadDividesFrames, SpreadIsGreatest, CellsInParts, BlocksFit, EpochAlone};
 ghost use Rattle.plp_config.specs.Laws.{SoundTimes, SuperframeBegins, BeginsInSuperframe, BeginIsFirst};
-ghost use Rattle.plp_config.specs.Laws.{BeginIsLast, BeginByNumber, BeginAlone};
+ghost use Rattle.plp_config.specs.Laws.{BeginIsLast, BeginByNumber, BeginAlone, FitsAlone};
 
 /// When slots start and when they are over. A count reaches a number exactly if the end of the
 /// last slot below it is not after the tick.
@@ -113,4 +113,9 @@ pub fn block_law()
     ensures capacity { CapacityHoldsUp }
     ensures cells { CellsByFive }
     ensures chunks { BlockChunks }
+{}
+
+/// Where each interleaving frame is carried by one frame, the tests of the capacity are those of single frames.
+pub fn alone_law()
+    ensures { FitsAlone }
 {}

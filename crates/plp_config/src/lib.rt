@@ -23,8 +23,8 @@ pub use config::{
     Config, FIXED_REST, GREATEST_REST, L1_POST_BITS, L1_POST_PLP_BITS, L1Numbers, MOST_CELLS,
 };
 pub use laws::{
-    block_law, delay_law, emission_law, interleaving_law, iscr_law, length_law, range_law,
-    refusal_law, release_law, run_length_law, slot_time_law, spread_law,
+    alone_law, block_law, delay_law, emission_law, interleaving_law, iscr_law, length_law,
+    range_law, refusal_law, release_law, run_length_law, slot_time_law, spread_law,
 };
 pub use list::{MOST_PLPS, PlpList};
 pub use moment::{ISCR_TICKS, MOST_FRAMES, Moment, SUPERFRAME_PERIOD};
@@ -35,6 +35,3 @@ pub use plp::{
 };
 pub use rules::{ConfigFault, Valid, validate};
 pub use slot_times::SlotTimes;
-
-#[cfg(test)]
-mod tests;

@@ -178,9 +178,6 @@ back_there k joins c plp first (v ∷ views) rules inside may = joined_there k j
 
 -- ---- the frame of a moment
 
-moment_with : ℕ → ℕ → Moment
-moment_with seconds subseconds = record { seconds = seconds; subseconds = subseconds }
-
 decide_moment : (a b : Moment) → Dec (a ≡ b)
 decide_moment a b = go (decide_equal a.seconds b.seconds) (decide_equal a.subseconds b.subseconds)
   where

@@ -78,20 +78,3 @@ pub judged_none : (c : Config) (expected : Option ℕ) (m : ReceiverMachine) (co
     → m.misplaced ≡ None → coming ≢ Whole → Judged c expected m.misplaced coming rest
 judged_none c expected m coming rest none seen =
     subst (λ (o : Option RecordWhy). Judged c expected o coming rest) (sym none) seen
-
-pub becomes_first : (m : ReceiverMachine) → RecordFeedStandsFor m.feed [] [] false → coming_of m.feed ≡ Head → left_of m.feed ≡ head_len
-    → m.slots ≡ 0 → m.first ≡ None → m.misplaced ≡ None → IsFresh m.receiver → due_of m.receiver ≡ 0 → Becomes m [] m
-becomes_first m feed heads left slots first misplaced fresh due = record {
-  same = (refl, refl, refl);
-  shown = record {
-    first = 0;
-    views = [];
-    feed = feed;
-    successive = record { moments = refl; small = omega arith };
-    first_is = first;
-    judged = judged_none (network_of m.receiver) None m (coming_of m.feed) feed.rest misplaced
-        (λ whole. let e : Head ≡ Whole = sym heads ∙ whole in cc);
-    given = (fresh, due, slots, refl);
-    between = λ some. (heads, left, misplaced);
-  };
-}

@@ -16,10 +16,6 @@ HasAll c plp ran file bytes = joined.HasAll None c plp ran file bytes
 abbrev pub RunsAll : Config → ℕ → State → State → List ℕ → List ℕ → Ran → Type 0
 RunsAll c plp old new name out ran = joined.RunsAll None c plp old new name out ran
 
--- The file begins with so many records, the bytes are what they give back, and what stands behind them is refused.
-abbrev pub HasBefore : Config → ℕ → ℕ → RecordWhy → List ℕ → List ℕ → Type 0
-HasBefore c plp number why file bytes = joined.HasBefore None c plp number why file bytes
-
 -- A run that did not come to its end, by its cause. IN is input 0, the only one.
 abbrev pub Stops : Config → ℕ → State → State → List ℕ → List ℕ → RunStop ReceiveStop → Type 0
 Stops c plp old new name out stop = joined.Stops None c plp old new name out stop

@@ -89,9 +89,6 @@ heads_pass (suc n) bytes piece part left now some is (len, long, tells, behind) 
 
 -- ---- what a count stands for
 
-pub none_came : (c : RecordCount) → c.count ≡ 0 → c.head ≡ [] → c.left ≡ 0 → RecordCountStandsFor c []
-none_came c count head left = record { heads = 0; has = (sym head, (let e = ap length head in omega (arith, e)), left); count = count }
-
 pub passes : (f g : RecordCount) (piece came : List ℕ) → 0 < f.left → g.left + length piece ≡ f.left → g.head ≡ f.head
     → g.count ≡ f.count → RecordCountStandsFor f came → RecordCountStandsFor g (came ++ piece)
 passes f g piece came some left head count s = record {
@@ -128,9 +125,6 @@ head_came f g piece came whole was is size tells none count s = record {
 }
 
 -- ---- pieces one behind the other
-
-pub none_more : (c : RecordCount) (came : List ℕ) → RecordCountStandsFor c came → RecordCountStandsFor c (came ++ [])
-none_more c came s = subst (RecordCountStandsFor c) (sym (append-nil came)) s
 
 pub goes_on : (g : RecordCount) (bytes came : List ℕ) (at count : ℕ)
     → RecordCountStandsFor g ((came ++ take at bytes) ++ take count (take (length bytes - at) (drop at bytes)))

@@ -70,9 +70,6 @@ small_packet fits false packet small k = small_append (drop 1 (packet k)) [] (sm
 
 -- Headers.
 
-first_of : (c : Config) (plp : ℕ) → Bool
-first_of c plp = length c.plps == 1
-
 matype_small : (c : Config) (plp : ℕ) → matype1 c plp < 2 ^ 8
 unfolding matype1
 matype_small c plp =

@@ -19,6 +19,3 @@ pub use texts::{
     FIRST_LINE, FIRST_TEXT, LOADED_LINE, REALISTIC_TEXT, SMALL_HEAD, SMALL_LINE, SMALL_TEXT,
     SPREAD_TEXT, VARIED_TEXT,
 };
-
-#[cfg(test)]
-mod tests;

@@ -1,7 +1,7 @@
 -- Laws of the shape.
 use Rattle.std.specs.Prelude.{◌≡◌, ℕ, ◌+◌, ◌-◌, ◌*◌, ◌<◌, ◌≤◌, ◌^◌, true, false, List, length, slice_index}
-use Rattle.plp_config.specs.Capacity.{IsPlan}
-use Rattle.plp_config.specs.Plps.{plp_at}
+use Rattle.plp_config.specs.Capacity.{IsPlan, block_cells}
+use Rattle.plp_config.specs.Plps.{plp_at, StandsAlone}
 use Rattle.plp_config.specs.declared.config.Config.{Config}
 use Rattle.scheduler.specs.Shape.{FrameShape, cells_of, slice_of, in_type2, shape_of}
 
@@ -48,3 +48,8 @@ ShapeStandsInOrder = (c : Config) (counts : List ℕ) → IsPlan c → CountsFit
 -- the numbers of blocks are the given ones
 abbrev pub ShapeHasCounts : Type 0
 ShapeHasCounts = (c : Config) (counts : List ℕ) → (shape_of c counts).counts ≡ counts
+
+-- if the interleaving frames of a PLP are carried by one frame each, this frame carries all cells of their blocks
+abbrev pub ShapeAlone : Type 0
+ShapeAlone = (c : Config) (counts : List ℕ) (plp : ℕ) → StandsAlone c.plps plp
+    → cells_of c counts plp ≡ slice_index counts plp * block_cells c plp

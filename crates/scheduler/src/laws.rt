@@ -1,5 +1,5 @@
 // Laws of the shape. Their functions do nothing.
-ghost use Rattle.scheduler.specs.Laws.{ShapeFitsL1, ShapeStandsInOrder, ShapeHasCounts};
+ghost use Rattle.scheduler.specs.Laws.{ShapeFitsL1, ShapeStandsInOrder, ShapeHasCounts, ShapeAlone};
 
 /// Each number of a shape fits its field of L1-post.
 pub fn field_law()
@@ -10,4 +10,9 @@ pub fn field_law()
 pub fn order_law()
     ensures order { ShapeStandsInOrder }
     ensures counts { ShapeHasCounts }
+{}
+
+/// Where each interleaving frame is carried by one frame, this frame has all cells of its blocks.
+pub fn alone_law()
+    ensures { ShapeAlone }
 {}

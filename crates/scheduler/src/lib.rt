@@ -6,5 +6,5 @@ mod laws;
 mod numbers;
 
 pub use frame::shape;
-pub use laws::{field_law, order_law};
+pub use laws::{alone_law, field_law, order_law};
 pub use numbers::Shape;

@@ -4,7 +4,7 @@ use crate::help::{COMMANDS, may_mean, meant_by, why_no_command};
 use crate::pids::say_pids;
 use config_text::{TextFault, TextWhy};
 use desk_watch::{Shown, Told};
-use plp_config::{CapacityFault, Config, ConfigFault, MOST_FRAMES, PlpType};
+use plp_config::{CapacityFault, Config, ConfigFault, MOST_FRAMES, PlpType, SUPERFRAME_PERIOD};
 use ports::HostFault;
 use site_frame::RecordWhy;
 use site_top::{ConfigCause, Outcome, Request, Word, request_of};
@@ -41,6 +41,8 @@ pub fn warn(rt: &impl Eprint, words: &[Word]) {
 fn why_refused(words: &[Word]) -> &'static str {
     if words.iter().any(|word| word.as_str().is_empty()) {
         "a word is empty or not UTF-8"
+    } else if words.iter().any(|word| word.as_str().starts_with("--")) {
+        "there are no options but --help and --version, and --help asks for a command"
     } else {
         why_no_command(words)
     }
@@ -165,7 +167,7 @@ fn say_no_superframe(
 fn say_differs(rt: &impl Eprint, request: Option<Request<'_>>, frame: u64) -> io::Result<()> {
     match request {
         Some(Request::Compare { a, b, .. }) => eprintln!(rt;
-            "{} and {}: both send frame {frame}, and not the same, first of the frames that differ; transmitters fed with them jam each other there; see that one gateway made both, by one CONFIG",
+            "{} and {}: both send frame {frame}, and not the same, first of the frames that differ; transmitters fed with them jam each other there; see that one gateway made both, by one CONFIG, and that neither lost {SUPERFRAME_PERIOD} superframes in a row or more: frames behind such a loss stand at wrong moments",
             Shown(a),
             Shown(b)
         ),

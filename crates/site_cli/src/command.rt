@@ -25,7 +25,7 @@ fn run_watched<D: Desk, R: Clock + Eprint>(
 // Says what was counted of a run that ended so, as far as standard error takes it.
 fn say_counts(rt: &impl Eprint, counts: &RunCounts<'_>, outcome: Outcome) {
     let _ = match outcome {
-        Outcome::Done => counts.say_done(rt),
+        Outcome::Done | Outcome::Differs { .. } => counts.say_done(rt),
         Outcome::NoSuperframe => counts.say_none(rt),
         _ => Ok(()),
     };

@@ -1,38 +1,49 @@
 -- What holds of a stream of which a PLP was replaced.
-use Rattle.std.proofs.Common.{◌≡◌, ℕ, ◌<◌, true, List, [], map, length, Option, Some, None, ap, ◌∙◌}
+use Rattle.std.proofs.Common.{◌≡◌, ℕ, ◌<◌, ◌≤◌, true, List, [], map, length, Option, Some, None, ap, ◌∙◌}
 use Rattle.std.specs.Prelude.{IfSome, unwrap_or}
 use Rattle.std.specs.FinMap.{get}
 use Rattle.std.proofs.lemmas.Option.{same_Some}
 use Rattle.ports.specs.Desk.{State, Held, bytes_of}
 use Rattle.plp_config.specs.Capacity.{IsPlan}
 use Rattle.plp_config.specs.declared.config.Config.{Config}
+use Rattle.plp_config.specs.declared.moment.TheConstants.{MOST_FRAMES}
 use Rattle.ts_packet.specs.TsFile.{packets_in, joined}
 use Rattle.t2mi_stream.specs.Pipe.{pipe}
+use Rattle.t2mi_stream.specs.Received.{Fate}
 use Rattle.frame_groups.specs.Modulated.{FrameRecord}
 use Rattle.open_group.specs.Written.{content_view}
 use Rattle.modulator.specs.StandsFor.{records_due}
 use Rattle.formed_frames.specs.Remade.{NumberedView, remade_packets}
+use Rattle.damage_laws.specs.Streams.{Honest}
+use Rattle.frame_laws.specs.SentFrames.{run_length, run_stream, stream_bytes}
 use Rattle.frame_laws.specs.Types.{TypesFit}
 use Rattle.file_run.specs.FileRun.{file_at}
 use Rattle.merge_run.specs.MergeRun.{names_of}
-use Rattle.swap_laws.specs.Region.{region_frames, RegionIsOfRun, RegionComesBack, WholeIsReplaced}
+use Rattle.swap_laws.specs.Region.{region_frames, region_of_run, RegionIsOfRun, RegionComesBack, WholeIsReplaced}
 use Rattle.swap_run.specs.SwapRun.{SwapsAll, RunsAll}
 use Rattle.swap_run.specs.declared.stop.Ran.{Ran}
 use Rattle.site_top.specs.SwapCommand.{ComesOfSwapped, HoldsSwapped, UnitsAreSwapped}
 
 pub are_swapped : (c : Config) → IsPlan c → TypesFit c → RegionIsOfRun → RegionComesBack → WholeIsReplaced → UnitsAreSwapped c
-are_swapped c plan fit region back whole plp t2mi file bytes inside is = record {
-  comes = λ inputs from fates short honest came spaced.
-      ap (λ (l : List ℕ). map (λ (x : FrameRecord). content_view c x.number x.content) (records_due c true l))
-      (is ∙ ap (λ (frames : List NumberedView). joined (pipe c.pid (remade_packets c frames)))
-      (ap (region_frames c plp (packets_in file)) came
-      ∙ region c plp inputs (packets_in file) from fates plan fit inside short honest))
-      ∙ back c plp inputs (packets_in file) from fates plan fit inside short honest spaced;
-  whole = λ inputs short came same. is
-      ∙ ap (λ (l : List ℕ). joined (pipe c.pid (remade_packets c (region_frames c plp (packets_in file) l)))) came
-      ∙ ap (λ (packets : List (List ℕ)). joined (pipe c.pid packets))
-      (whole c plp inputs (packets_in file) plan fit inside short same);
-}
+are_swapped c plan fit region back whole plp t2mi file bytes inside is =
+    let of_run : (inputs : ℕ → List (List ℕ)) (from : ℕ) (fates : List Fate) → run_length c inputs ≤ MOST_FRAMES
+    → Honest (run_stream c inputs) from fates → t2mi ≡ stream_bytes (run_stream c inputs) from fates
+    → bytes ≡ joined (pipe c.pid (remade_packets c (region_of_run c plp inputs (packets_in file) from fates))) =
+    λ inputs from fates short honest came.
+    is ∙ ap (λ (frames : List NumberedView). joined (pipe c.pid (remade_packets c frames)))
+    (ap (region_frames c plp (packets_in file)) came
+    ∙ region c plp inputs (packets_in file) from fates plan fit inside short honest) in
+    record {
+      honest = of_run;
+      comes = λ inputs from fates short honest came spaced.
+          ap (λ (l : List ℕ). map (λ (x : FrameRecord). content_view c x.number x.content) (records_due c true l))
+          (of_run inputs from fates short honest came)
+          ∙ back c plp inputs (packets_in file) from fates plan fit inside short honest spaced;
+      whole = λ inputs short came same. is
+          ∙ ap (λ (l : List ℕ). joined (pipe c.pid (remade_packets c (region_frames c plp (packets_in file) l)))) came
+          ∙ ap (λ (packets : List (List ℕ)). joined (pipe c.pid packets))
+          (whole c plp inputs (packets_in file) plan fit inside short same);
+    }
 
 -- OUT is all units of the frames of T2MI, with the PLP replaced by the packets of IN.
 pub holds_swapped : (c : Config) (plp : ℕ) (old new : State) (t2mi file out : List ℕ) (ran : Ran) → plp < length c.plps

@@ -27,13 +27,18 @@ use Rattle.site_top.specs.PlanCommand.{RunsAndTells, ByPlan}
 
 -- the line of a run to its end
 abbrev pub swap_line : Ran → List ℕ
-swap_line ran = codes "swapped frames=" ++ decimal ran.frames ++ codes " muted=" ++ decimal ran.muted ++ codes " unsent="
+swap_line ran = codes "frames=" ++ decimal ran.frames ++ codes " muted=" ++ decimal ran.muted ++ codes " unsent="
     ++ decimal ran.unsent ++ codes " units=" ++ decimal ran.units ++ codes "\n"
 
 -- What holds of bytes that are a stream with the PLP at a place replaced by the packets of a file.
 pub record ComesOfSwapped (c : Config) (plp : ℕ) (t2mi file bytes : List ℕ) : Type 0 where
-  -- Of a damaged run, if its whole frames are spaced, what a modulator makes of them: these frames of the run with the other input,
-  -- from the first to the last, each that is complete, and each other number muted.
+  -- Of a damaged run they are the units of these frames of the run with the other input, and of no others: those that came whole,
+  -- from the first of a superframe on.
+  pub honest : (inputs : ℕ → List (List ℕ)) (from : ℕ) (fates : List Fate) → run_length c inputs ≤ MOST_FRAMES
+      → Honest (run_stream c inputs) from fates → t2mi ≡ stream_bytes (run_stream c inputs) from fates
+      → bytes ≡ joined (pipe c.pid (remade_packets c (region_of_run c plp inputs (packets_in file) from fates)))
+  -- If these are spaced, what a modulator makes of them: from the first to the last, each that is complete, and each other number
+  -- muted.
   pub comes : (inputs : ℕ → List (List ℕ)) (from : ℕ) (fates : List Fate) → run_length c inputs ≤ MOST_FRAMES
       → Honest (run_stream c inputs) from fates → t2mi ≡ stream_bytes (run_stream c inputs) from fates
       → AreSpaced c (region_of_run c plp inputs (packets_in file) from fates)

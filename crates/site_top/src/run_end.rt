@@ -221,7 +221,7 @@ impl Ran for swap_run::Ran {
 
     fn line(self) -> Line {
         let mut line = Line::new();
-        line.push_field(b"swapped frames=", self.frames);
+        line.push_field(b"frames=", self.frames);
         line.push_field(b" muted=", self.muted);
         line.push_field(b" unsent=", self.unsent);
         line.push_field(b" units=", self.units);

@@ -20,9 +20,6 @@ use Rattle.split_gateway.specs.Works.{Moves, AreSettled, ComesOfTurn}
 use Rattle.split_gateway.proofs.MemberLemmas.{alone_is, turn_is}
 use Rattle.split_gateway.proofs.OnLemmas.{works_on}
 
-pub stays : (c : Config) (g : Gateway) (held : List (Option (List ℕ))) → HeldWanted c g held → Moves c g g held held
-stays c g held w = record { goes = λ events k. k; size = refl; wanted = w; status = refl }
-
 pub then_moves : (c : Config) (g h k : Gateway) (a b d : List (Option (List ℕ))) → Moves c g h a b → Moves c h k b d → Moves c g k a d
 then_moves c g h k a b d m n = record {
   goes = λ events w. n.goes events (m.goes events w);

@@ -89,10 +89,6 @@ some_held c held turn (suc n) le e =
     is_there None on f = true≢false (sym on)
     is_there (Some x) on f = true≢false (sym on ∙ ap is_some f)
 
-kept_all : (c : Config) (held after : List (Option (List ℕ))) (turn : ℕ) → PassesOn c held turn (length c.plps) after
-    → (plp : ℕ) → plp < length c.plps → held_at after plp ≡ kept_of c held turn plp
-kept_all c held after turn p = p.below
-
 pub with_empty : (b : Bool) (ps : List (List ℕ)) → b ≡ true → (if b then ps else []) ≡ ps
 with_empty b ps e = rw e refl
 

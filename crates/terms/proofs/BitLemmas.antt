@@ -57,15 +57,6 @@ number_of-lt (true ∷ bs) = let e : 2 ^ suc (length bs) ≡ 2 * 2 ^ length bs =
 number_of-lt (false ∷ bs) = let e : 2 ^ suc (length bs) ≡ 2 * 2 ^ length bs = pow-succ' 2 (length bs) in
     omega (arith, number_of-lt bs, e)
 
--- one more bit at the end
-pub number_of-push : (bs : List Bool) (b : Bool) → number_of (bs ++ b ∷ []) ≡ 2 * number_of bs + (cond b 1 0)
-number_of-push [] true = refl
-number_of-push [] false = refl
-number_of-push (true ∷ bs) b =
-    let e : 2 ^ length (bs ++ b ∷ []) ≡ 2 * 2 ^ length bs = rw (length_push, add-one) (pow-succ' 2 (length bs)) in
-    omega (arith, number_of-push bs b, e)
-number_of-push (false ∷ bs) b = omega (arith, number_of-push bs b)
-
 -- a part of a part
 pub part-part : {X : Type 0} (xs : List X) (f l g m : ℕ) → g + m ≤ l → take m (drop g (take l (drop f xs)))
     ≡ take m (drop (f + g) xs)

@@ -50,14 +50,3 @@ cut_parts n cells slices frames some long whole =
 -- of more there are larger parts
 pub part-le : (a b parts : ℕ) → 0 < parts → a ≤ b → a / parts ≤ b / parts
 part-le a b parts some le = le-div (a / parts) b parts some (omega (arith, div-mul-le_self a parts))
-
--- what cuts a number other than 0 evenly is not 0
-pub divisor_pos : (d g : ℕ) → 1 ≤ d → d / g * g ≡ d → 1 ≤ g
-divisor_pos d g pos e =
-    elim (cases_lt 0 g) [
-      | inl lt ↦ lt
-      | inr le ↦
-          let none : g ≡ 0 = omega arith in
-          let z : d / g * g ≡ d / g * 0 = ap (λ (v : ℕ). d / g * v) none in
-          absurd (omega (arith, z))
-    ]

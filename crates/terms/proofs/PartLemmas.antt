@@ -30,12 +30,6 @@ pub number-middle : (front more : List Bool) (at width n : ℕ) → length front
 number-middle front more at width n here fits =
     ap number_of (part-middle front (field width n) more at width here (length-field width n)) ∙ number_of-field width n fits
 
--- bits that spell 0 are zero bits
-pub zero_bits : (bits : List Bool) → number_of bits ≡ 0 → bits ≡ replicate (length bits) false
-zero_bits [] h = refl
-zero_bits (true ∷ bits) h = absurd (omega (arith, pow_pos (length bits)))
-zero_bits (false ∷ bits) h = ap (λ (rest : List Bool). false ∷ rest) (zero_bits bits (omega arith))
-
 pub number_of-zeros : (n : ℕ) → number_of (replicate n false) ≡ 0
 number_of-zeros zero = refl
 number_of-zeros (suc n) = omega (arith, number_of-zeros n)

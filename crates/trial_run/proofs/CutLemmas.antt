@@ -55,11 +55,3 @@ pub next_other : (bytes : List ℕ) (others : List Piece) (at : ℕ) (other : Pi
 next_other bytes others at other inside is =
     at_drop_more (λ (l : List Piece). stand_in l bytes) others at other inside
     ∙ ap (λ (p : Piece). bytes_eq bytes p.bytes.now || stand_in (drop (at + 1) others) bytes) (sym is)
-
-pub same_more : (others pieces : List Piece) (at : ℕ) (d : Piece) → at < length pieces
-    → same_count others (take (at + 1) pieces) ≡ same_count others (take at pieces)
-    + cond (is_among others (slice_index_or pieces at d)) 1 0
-unfolding same_count
-same_more others pieces at d inside =
-    ap (λ (l : List Piece). length (filter (is_among others) l)) (take_more pieces at d inside)
-    ∙ count_more (is_among others) (take at pieces) (slice_index_or pieces at d)

@@ -117,16 +117,6 @@ modulated c old new name out stream records ran has runs is =
     let counts = rw has.holds at runs.ran_is in
     (is ∙ left.is ∙ left.has ∙ ap (output_of c) has.is, counts ∙ ap (λ (s : List ℕ). counted (records_of c s)) has.is)
 
-pub received : (c : Config) (plp : ℕ) (old new : State) (name out records bytes : List ℕ) (ran : Received)
-    → HasFile old name records → ReceiverRuns c plp old new name out ran → bytes ≡ unwrap_or (file_of new out) []
-    → ComesOf c plp records bytes
-received c plp old new name out records bytes ran has runs is =
-    let left = written old new out (name ∷ []) _ _ has.held has.holds runs.works in (
-      ran,
-      subst (λ (b : List ℕ). HasAll c plp ran records b) (sym (is ∙ left.is))
-          (subst (λ (file : List ℕ). HasAll c plp ran file left.bytes) has.is left.has),
-    )
-
 -- ---- the same inputs, the same stream
 
 module _ (c : Config) (f g : ℕ → List ℕ) (same : (plp : ℕ) → plp < length c.plps → f plp ≡ g plp) where

@@ -268,9 +268,3 @@ answer bytes (Err fault) f there ok err = absurd (not_refused bytes f fault ther
 pub every_read : (bytes : List ℕ) (r : Result Fields TsFault) → IfOk r (IsRead bytes) → IfErr r (Refuses bytes) → (f : Fields)
     → Spells f bytes → r ≡ Ok f
 every_read bytes r ok err f s = answer bytes r f (read_back f bytes s) ok err
-
--- It answers with the refusal that the bytes have.
-pub every_refused : (bytes : List ℕ) (r : Result Fields TsFault) → IfOk r (IsRead bytes) → IfErr r (Refuses bytes)
-    → (fault : TsFault) → Refuses bytes fault → r ≡ Err fault
-every_refused bytes (Ok f) ok err fault refused = absurd (not_refused bytes f fault ok refused)
-every_refused bytes (Err other) ok err fault refused = ap Err (one_refusal bytes other fault err refused)
