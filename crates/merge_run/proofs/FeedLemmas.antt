@@ -107,7 +107,7 @@ took_by true at c f g bytes ended given there config stays takes h =
   where
     first : (o : Option Waiting) → waiting_of f ≡ o → IsSome (waiting_of f) → (later : List FrameRecord)
         → records_due c ended bytes ≡ given ++ later → IsFirst (waiting_of f) later → TookFor true at c f g bytes ended given
-    first None none some later all is = absurd (subst IsSome none some)
+    first None none some later all is = absurd (true≢false (sym (subst IsSome none some)))
     first (Some w) waits some [] all is = absurd (subst (λ (o : Option Waiting). IsFirst o []) waits is)
     first (Some w) waits some (x ∷ later) all is =
         let one : IsFirst (waiting_of f) (x ∷ []) =

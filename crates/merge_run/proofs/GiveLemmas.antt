@@ -283,8 +283,8 @@ module _ (tell : EventsTell) (c : Config) (m : Merging) (g : Merger) (events : L
   abbrev j : IsResting m.merger m.a m.b
   j = resting c m events s rests
 
-  sending : Sends c m.merger [] (frames c m events s) m.ran.units (gave events)
-  sending = resting_sends c m events s rests
+  ending : Sends c m.merger [] (frames c m events s) m.ran.units (gave events)
+  ending = resting_sends c m events s rests
 
   pub shown_rest : ((all : List (ℕ × Body)) (given : ℕ) → MergerStandsFor m.merger [] all given
       → slice_get (pipe (merger.config_of m.merger).pid (packets_from (merger.config_of m.merger) 0 all)) given ≡ Some unit)
@@ -311,10 +311,10 @@ module _ (tell : EventsTell) (c : Config) (m : Merging) (g : Merger) (events : L
             (sends_next c m.merger g [] [] fs m.ran.units (gave events) unit config over
             (λ more none. subst (λ (l : List (List ℕ)). slice_get (pipe c.pid l) m.ran.units ≡ Some unit)
             (sym (ap (λ (l : List (List ℕ)). remade_packets c fs ++ l) (none j.over) ∙ append-nil (remade_packets c fs)))
-            (subst (λ (k : Config). slice_get (pipe k.pid (packets_from k 0 (remade_bodies c fs))) m.ran.units ≡ Some unit) sending.network
-            (next (remade_bodies c fs) m.ran.units sending.stands)))
+            (subst (λ (k : Config). slice_get (pipe k.pid (packets_from k 0 (remade_bodies c fs))) m.ran.units ≡ Some unit) ending.network
+            (next (remade_bodies c fs) m.ran.units ending.stands)))
             (λ off. absurd (true≢false (sym j.over ∙ off)))
-            (stands (remade_bodies c fs) m.ran.units sending.stands) sending));
+            (stands (remade_bodies c fs) m.ran.units ending.stands) ending));
         ran_is = ap (λ (r : Ran). record r { units = m.ran.units + 1 }) s.ran_is;
         counts = record {
           frames = s.counts.frames;
@@ -351,7 +351,7 @@ module _ (tell : EventsTell) (c : Config) (m : Merging) (g : Merger) (events : L
         early = s.early;
         sends = subst (Sends c g [] fs m.ran.units) (sym (tell.given [] events).gave)
             (sends_none c m.merger g [] [] fs m.ran.units (gave events) config over
-            (stands (remade_bodies c fs) m.ran.units sending.stands) sending);
+            (stands (remade_bodies c fs) m.ran.units ending.stands) ending);
         ran_is = s.ran_is;
         counts = record {
           frames = s.counts.frames;
@@ -360,8 +360,8 @@ module _ (tell : EventsTell) (c : Config) (m : Merging) (g : Merger) (events : L
         };
         live = live_given tell c events [] s.given_a s.given_b m.next m.ran.units m.ran.units (omega arith) s.live;
         is_in = record {
-          all = subst (λ (k : Config). length (pipe k.pid (packets_from k 0 (remade_bodies c fs))) ≡ m.ran.units) sending.network
-              (none (remade_bodies c fs) m.ran.units sending.stands);
+          all = subst (λ (k : Config). length (pipe k.pid (packets_from k 0 (remade_bodies c fs))) ≡ m.ran.units) ending.network
+              (none (remade_bodies c fs) m.ran.units ending.stands);
           none_a = j.none_a;
           none_b = j.none_b;
         };

@@ -94,14 +94,6 @@ some_taken (Some v) (Some w) n e = go (v.frame == n) refl
         let o = one_at w n (omega (arith, s, differ)) in
         omega (arith, o)
 
-pub can_take : (o : Option Waiting) (n : ℕ) → n < MOST_FRAMES → CanBeTaken (is_at n (seen_of o)) o
-can_take None n l = tt
-can_take (Some w) n l = go (w.frame == n) refl
-  where
-    go : (b : Bool) → (w.frame == n) ≡ b → CanBeTaken b (Some w)
-    go true e = let s = eqb-true w.frame n e in omega (arith, s, l)
-    go false e = tt
-
 -- what was taken is of that number
 pub are_of : (o : Option Waiting) (n : ℕ) (xs : List FrameRecord) → AreTaken (is_at n (seen_of o)) o xs → AreOf n xs
 are_of None n xs t = subst (AreOf n) (sym t) tt

@@ -150,6 +150,19 @@ left_all tell c frame (u ∷ units) m g events s gives is h =
     let more = left_all tell c frame units (with_units m h.0 1) g (events ++ Gave u ∷ []) one gives is h.2 in
     omega (arith, less, more)
 
+-- the record that is left behind is the same
+skips_on : (m : Merging) (g : Merger) (count : ℕ) (a b : FrameFeed) → Skips m a b → Skips (with_units m g count) a b
+skips_on m g count a b t = record {
+  took_a = t.took_a;
+  took_b = t.took_b;
+  stays_a = t.stays_a;
+  stays_b = t.stays_b;
+  same_a = t.same_a;
+  same_b = t.same_b;
+  left_a = t.left_a;
+  left_b = t.left_b;
+}
+
 -- ---- what a call gave
 
 module _ (tell : EventsTell) (c : Config) (m : Merging) (g : Merger) (events : List Event) (s : Shown c events m) (gives : m.phase ≡ Gives)
@@ -191,4 +204,4 @@ module _ (tell : EventsTell) (c : Config) (m : Merging) (g : Merger) (events : L
       subst (λ (l : List ℕ). Shown c (events ++ Gave l ∷ []) new)
       (append-nil (joined n.units) ∙ sym n.bytes_are)
       (shown_once tell c new events (joined n.units) []
-      (shown_caught tell c at g more last.0 all gives frame is follow a b skips last.1))
+      (shown_caught tell c at g more last.0 all gives frame is follow a b (skips_on m n.mid (length n.units) a b skips) last.1))

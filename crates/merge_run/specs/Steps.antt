@@ -1,4 +1,5 @@
--- What two feeds and a merger do next. The steps for another driver cite it, and no clause Rattle.std.specs.Prelude.{ℕ, ◌+◌, ◌*◌}
+-- What two feeds and a merger do next. No clause of a run cites this module.
+use Rattle.std.specs.Prelude.{ℕ, ◌+◌, ◌*◌}
 use Rattle.file_run.specs.FileRun.{read_ahead}
 use Rattle.file_run.specs.declared.machine.Step.{Step}
 use Rattle.file_run.specs.declared.machine.Step.TheVariants.{Give, End}

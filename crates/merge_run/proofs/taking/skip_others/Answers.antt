@@ -14,8 +14,8 @@ skip_if-requires c =
           (can_less c.args.pick.leave_a (not (is_from A c.args.pick.source)) o c.requires.can_a);
     }
 
-pub skip_if-2-requires : goal.skip_if-2-requires
-skip_if-2-requires c =
+pub skip_if-requires-2 : goal.skip_if-requires-2
+skip_if-requires-2 c =
     let o = waiting_of c.args.b.now in
     record {
       can = subst (λ (b : Bool). CanBeLeft b o) (sym c.leaves-2.ensures)

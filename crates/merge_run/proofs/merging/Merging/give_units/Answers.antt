@@ -6,7 +6,7 @@ use Rattle.held_feed.specs.StandsFor.{waiting_of, is_whole}
 use Rattle.held_feed.specs.StandsFor as feed
 use Rattle.held_feed.specs.declared.feed.FrameFeed.{FrameFeed}
 use Rattle.merge_run.specs.Shown.{Shown, HasShown}
-use Rattle.merge_run.specs.Taking.{is_same}
+use Rattle.merge_run.specs.Taking.{is_same, feed_in}
 use Rattle.merge_run.specs.declared.phase.Phase.TheVariants.{Reads}
 use Rattle.merge_run.specs.declared.stop.Ran.{Ran}
 use Rattle.feed_merge.specs.declared.seen.Feed.TheVariants.{A, B}
@@ -84,7 +84,8 @@ returns-then-not-full-clause-shown c = λ k events s.
 pub returns-then-not-full-clause-left : goal.returns-then-not-full-clause-left
 returns-then-not-full-clause-left c =
     let t = c.skip_source.ensures in
-    left_behind c.args.self.now c.skip_source.new.a c.skip_source.new.b _ _ c.requires.gives
+    left_behind c.args.self.now c.skip_source.new.a c.skip_source.new.b
+    (feed_in c.args.self.now.source c.skip_source.new.a c.skip_source.new.b) c.give_frame-len.new.merger c.requires.gives
     (record {
       took_a = t.a;
       took_b = t.b;
