@@ -18,13 +18,16 @@ use Rattle.frame_feed.specs.declared.feed.FrameFeed.{FrameFeed}
 use Rattle.feed_merge.specs.declared.seen.Feed.TheVariants.{A, B}
 use Rattle.feed_merge.specs.Picking.{is_at}
 use Rattle.feed_merge.specs.Picks.{above_all}
-use Rattle.merge_run.specs.Shown.{IsFedWith, IsBehind, NoneComes}
-use Rattle.merge_run.specs.Steps.{is_idle}
-use Rattle.merge_run.specs.Taking.{seen_of, least_of, one_if, Takes, TookFrom, IsSameFeed}
-use Rattle.merge_run.proofs.FeedLemmas.{took_with, took_behind}
+use Rattle.record_feeds.specs.Fed.{IsFedWith, IsBehind, NoneComes}
+use Rattle.held_feed.specs.Reading.{is_idle}
+use Rattle.merge_run.specs.Taking.{seen_of}
+use Rattle.held_feed.specs.Reading.{least_of}
+use Rattle.held_feed.specs.Skips.{one_if}
+use Rattle.record_feeds.specs.Taking.{Takes, TookFrom, IsSameFeed}
+use Rattle.record_feeds.proofs.FeedLemmas.{took_with, took_behind}
 use Rattle.merge_run.proofs.NumberLemmas.{above_append, below_of}
 use Rattle.merge_run.proofs.PickLemmas.{least_first, least_second, least_most, least_none, some_taken, are_of}
-use Rattle.merge_run.proofs.ShownLemmas.{gave_there}
+use Rattle.record_feeds.proofs.ShownLemmas.{gave_there}
 use Rattle.frame_compare.specs.Comparing.{Answered, HoldsRecord, answered, record_at, sides_answer, whole_answer, records_answer}
 use Rattle.frame_compare.specs.Comparing.{answered_at, answers, views_answer}
 use Rattle.frame_compare.specs.Laws.{AnswersGrow}

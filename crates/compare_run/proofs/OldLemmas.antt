@@ -86,18 +86,24 @@ module _ (c : Config) (old new : State) (a b : List ℕ) where
         counts = same;
       }
   stop_of (Files (ReadFault input)) (fails, inl o) = (fails, inl o)
-  stop_of (Files (ReadFault input)) (fails, inr (lt, d)) = (fails, inr (record {
-    places = d.places;
-    place = lt;
-    speaks = speaks_of (λ files text. HasSaid c input (slice_index d.places input) files text) d d.does.1;
-    short = d.does.0;
-  }))
+  stop_of (Files (ReadFault input)) (fails, inr (lt, d)) = (
+    fails,
+    inr (record {
+      places = d.places;
+      place = lt;
+      speaks = speaks_of (λ files text. HasSaid c input (slice_index d.places input) files text) d d.does.1;
+      short = d.does.0;
+    }),
+  )
   stop_of (Files WriteFault) (fails, inl f) = absurd f
-  stop_of (Files WriteFault) (fails, inr d) = (fails, record {
-    places = d.places;
-    speaks = speaks_of (λ files text. HasSome c d.places files text) d d.does.1;
-    short = d.does.0;
-  })
+  stop_of (Files WriteFault) (fails, inr d) = (
+    fails,
+    record {
+      places = d.places;
+      speaks = speaks_of (λ files text. HasSome c d.places files text) d d.does.1;
+      short = d.does.0;
+    },
+  )
   stop_of OutOfMemory e = e
 
 pub old_forms : (c : Config) (old new : State) (a b : List ℕ) (result : Result Counts (RunStop CompareStop))

@@ -15,7 +15,8 @@ use Rattle.frame_groups.specs.declared.waiting.Waiting.{Waiting}
 use Rattle.modulator.specs.Laws.{DueFront, DueFollow}
 use Rattle.modulator.specs.StandsFor.{records_due, records_of}
 use Rattle.feed_merge.specs.Picks.{above_all}
-use Rattle.frame_feed.specs.StandsFor.{IsFirst, waiting_of}
+use Rattle.frame_feed.specs.StandsFor.{waiting_of}
+use Rattle.held_feed.specs.StandsFor.{IsFirst}
 use Rattle.frame_feed.specs.StandsFor as feed
 use Rattle.frame_feed.specs.declared.feed.FrameFeed.{FrameFeed}
 use Rattle.file_run.specs.Events.{Event, fed, has_ended, gave}
@@ -28,14 +29,15 @@ use Rattle.file_run.specs.declared.stop.RunStop.TheVariants.{Files}
 use Rattle.file_run.proofs.StandsLemmas.{fed_since}
 use Rattle.file_run.proofs.WorkLemmas.{are_whole}
 use Rattle.merge_run.specs.MergeRun.{AreEarly, end_by}
-use Rattle.merge_run.specs.Shown.{IsFedWith, IsBehind, NoneComes}
-use Rattle.merge_run.specs.Steps.{is_idle, fed_at}
-use Rattle.merge_run.specs.Taking.{least_of}
-use Rattle.merge_run.proofs.FeedLemmas.{due_of}
+use Rattle.record_feeds.specs.Fed.{IsFedWith, IsBehind, NoneComes}
+use Rattle.held_feed.specs.Reading.{is_idle, fed_at}
+use Rattle.held_feed.specs.Reading.{least_of}
+use Rattle.record_feeds.proofs.FeedLemmas.{due_of}
 use Rattle.merge_run.proofs.NumberLemmas.{above_append, below_of, nothing_above}
 use Rattle.merge_run.proofs.PickLemmas.{least_first, least_second}
 use Rattle.merge_run.proofs.FilesLemmas.{two}
-use Rattle.merge_run.proofs.SplitLemmas.{IsSplit, all_given, split_at, late_waits}
+use Rattle.merge_run.proofs.SplitLemmas.{IsSplit}
+use Rattle.record_feeds.proofs.SplitLemmas.{all_given, split_at, late_waits}
 use Rattle.merge_run.proofs.StepLemmas.{Wants, First, Second, IsLate}
 use Rattle.frame_compare.specs.Comparing.{Answered, answers, answers_below}
 use Rattle.frame_compare.specs.Laws.{KnownBegins}

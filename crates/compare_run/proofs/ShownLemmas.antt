@@ -10,12 +10,12 @@ use Rattle.file_run.specs.Laws.{EventsTell}
 use Rattle.frame_feed.specs.StandsFor.{FrameFeedStandsFor, waiting_of}
 use Rattle.frame_feed.specs.StandsFor as feed
 use Rattle.frame_feed.specs.declared.feed.FrameFeed.{FrameFeed}
-use Rattle.merge_run.specs.Shown.{IsFedWith, IsBehind}
-use Rattle.merge_run.proofs.FeedLemmas.{behind_more}
+use Rattle.record_feeds.specs.Fed.{IsFedWith, IsBehind}
+use Rattle.record_feeds.proofs.FeedLemmas.{behind_more}
 use Rattle.merge_run.proofs.StepLemmas.{IsIdle}
 use Rattle.compare_run.specs.Shown.{Shown}
 use Rattle.compare_run.specs.declared.comparing.Comparing.{Comparing}
-use Rattle.merge_run.proofs.ShownLemmas.{fed_here, fed_there, ended_here, ended_there, fed_with, ended_with}
+use Rattle.record_feeds.proofs.ShownLemmas.{fed_here, fed_there, ended_here, ended_there, fed_with, ended_with}
 
 -- ---- bytes came
 

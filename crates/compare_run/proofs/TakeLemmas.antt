@@ -17,9 +17,12 @@ use Rattle.modulator.specs.Laws.{DueSpelled}
 use Rattle.modulator.specs.StandsFor.{records_due, mute_of}
 use Rattle.frame_feed.specs.declared.feed.FrameFeed.{FrameFeed}
 use Rattle.feed_merge.specs.Picking.{is_at}
-use Rattle.merge_run.specs.Shown.{IsFedWith}
-use Rattle.merge_run.specs.Taking.{seen_of, AreTaken, Takes}
-use Rattle.merge_run.proofs.FeedLemmas.{IsDue, due_of, one_of}
+use Rattle.record_feeds.specs.Fed.{IsFedWith}
+use Rattle.merge_run.specs.Taking.{seen_of}
+use Rattle.held_feed.specs.Skips.{AreTaken}
+use Rattle.record_feeds.specs.Taking.{Takes}
+use Rattle.record_feeds.proofs.FeedLemmas.{IsDue, due_of}
+use Rattle.merge_run.proofs.FeedLemmas.{one_of}
 use Rattle.frame_compare.specs.Comparing.{HoldsRecord, content_side, side_of, record_at}
 use Rattle.frame_compare.specs.declared.answer.Side.TheVariants.{Absent, Whole}
 use Rattle.compare_run.specs.Taking.{side_by, side_at}

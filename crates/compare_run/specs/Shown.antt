@@ -7,7 +7,7 @@ use Rattle.frame_groups.specs.Modulated.{FrameRecord}
 use Rattle.record_laws.specs.Frames.{HasByteIds}
 use Rattle.file_run.specs.Events.{Event, fed, has_ended, gave}
 use Rattle.feed_merge.specs.Picks.{above_all}
-use Rattle.merge_run.specs.Shown.{IsFedWith, IsBehind, NoneComes}
+use Rattle.record_feeds.specs.Fed.{IsFedWith, IsBehind, NoneComes}
 use Rattle.frame_compare.specs.Comparing.{Answered, answers}
 use Rattle.frame_compare.specs.Lines.{known_text, text_of}
 use Rattle.frame_compare.specs.StandsFor.{TallyStandsFor}

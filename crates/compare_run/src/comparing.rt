@@ -8,8 +8,8 @@ ghost use Rattle.file_run.specs.declared.machine.TheConstants.{PIECE};
 ghost use Rattle.file_run.specs.declared.machine.Step.TheVariants.{Give};
 ghost use Rattle.frame_feed.specs.StandsFor.{waiting_of, has_ended, fed_of};
 ghost use Rattle.frame_compare.specs.declared.tally.TheConstants.{LONGEST_TEXT};
-ghost use Rattle.merge_run.specs.Steps.{is_idle as is_idle_by, fed_at};
-ghost use Rattle.merge_run.specs.Taking.{least_of};
+ghost use Rattle.held_feed.specs.Reading.{is_idle as is_idle_by, fed_at};
+ghost use Rattle.held_feed.specs.Reading.{least_of};
 ghost use Rattle.compare_run.specs.Shown.{Shown, HasShown};
 ghost use Rattle.compare_run.specs.Steps.{step_of, reach_of, left_of};
 
@@ -19,9 +19,9 @@ use desk_io::Line;
 use file_run::{Step, events_law};
 use frame_compare::{Tally, answer_by, answers_law};
 use frame_feed::{FrameFeed, RecordBuffer};
-use merge_run::{least_number, next_step, take_left};
 use modulator::due_records_law;
 use plp_config::Plan;
+use record_feeds::{least_number, next_step, take_left};
 use record_laws::id_law;
 use std::alloc::Global;
 

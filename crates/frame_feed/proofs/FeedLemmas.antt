@@ -25,7 +25,8 @@ use Rattle.open_group.specs.Written.{content_view, spelled}
 use Rattle.modulator.specs.Laws.{DueFront, DueFollow, DueSpelled, AreSpelled, OneWaits, NoneWaits, AllTaken}
 use Rattle.modulator.specs.StandsFor.{ModulatorStandsFor, WaitsAs, TakesOf, records_due, bytes_due, is_finished, mute_of, waits_for}
 use Rattle.modulator.specs.StandsFor as modulator
-use Rattle.frame_feed.specs.StandsFor.{FrameFeedStandsFor, IsFirst, GaveNext, config_of, waiting_of, fed_of, left_of, longest_record}
+use Rattle.held_feed.specs.StandsFor.{IsFirst}
+use Rattle.frame_feed.specs.StandsFor.{FrameFeedStandsFor, GaveNext, config_of, waiting_of, fed_of, left_of, longest_record}
 use Rattle.frame_feed.specs.Taking.{IsMidway, GoesOn, TakesPiece, IsTaking}
 use Rattle.frame_feed.specs.declared.feed.FrameFeed.{FrameFeed}
 

@@ -7,8 +7,9 @@ use Rattle.frame_groups.specs.declared.waiting.Waiting.{Waiting}
 use Rattle.open_group.specs.Written.{spelled}
 use Rattle.site_frame.specs.Record.{head_len}
 use Rattle.site_frame.specs.Whole.{greatest_rest}
-use Rattle.modulator.specs.StandsFor.{ModulatorStandsFor, records_due, mute_of}
+use Rattle.modulator.specs.StandsFor.{ModulatorStandsFor, records_due}
 use Rattle.modulator.specs.StandsFor as modulator
+use Rattle.held_feed.specs.StandsFor.{IsFirst}
 use Rattle.frame_feed.specs.declared.feed.FrameFeed.{FrameFeed}
 
 -- its network, the record that waits, whether the stream has ended, and how many bytes were fed
@@ -31,12 +32,6 @@ left_of f = modulator.left_of f.modulator
 -- no record has more bytes
 abbrev pub longest_record : ℕ
 longest_record = head_len + greatest_rest
-
--- What waits is the first of some records, if there is one.
-abbrev pub IsFirst : Option Waiting → List FrameRecord → Type 0
-IsFirst None later = later ≡ []
-IsFirst (Some w) [] = ⊥
-IsFirst (Some w) (x ∷ later) = (x.number ≡ w.frame) × (mute_of x.content ≡ w.mute)
 
 -- These bytes were fed, perhaps to their end, and these records were given, each whole. They are the first of those that are due; the
 -- one that waits is the next.

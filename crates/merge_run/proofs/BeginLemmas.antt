@@ -1,57 +1,61 @@
--- The records of the least number are taken, and its frame is begun if it is picked; or no more come.
-use Rattle.std.proofs.Common.{◌≡◌, ℕ, ◌+◌, ◌*◌, ◌<◌, ◌≤◌, ◌==◌, ◌&&◌, ◌||◌, Bool, true, false, List, [], ◌∷◌, ◌++◌, length, max}
+-- The records of the least number are left behind but for the one whose frame is begun, if one is picked; or no more come.
+use Rattle.std.proofs.Common.{◌≡◌, ℕ, ◌+◌, ◌*◌, ◌<◌, ◌≤◌, ◌==◌, ◌&&◌, Bool, true, false, cond, List, [], ◌∷◌, ◌++◌, length, max}
 use Rattle.std.proofs.Common.{Option, Some, None, refl, ap, ap₂, sym, subst, ◌∙◌, inl, inr, arith, append-nil, eqb-true}
-use Rattle.std.specs.Prelude.{option_to_list, nat_le, nat_lt}
-use Rattle.std.proofs.lemmas.Bool.{true≢false, cases_lt, or_parts}
+use Rattle.std.specs.Prelude.{option_to_list, nat_le, nat_lt, not, is_some}
+use Rattle.std.proofs.lemmas.Bool.{true≢false, cases_lt, or_parts, and_parts}
+use Rattle.terms.proofs.OptionLemmas.{some_injective}
 use Rattle.plp_config.specs.Capacity.{IsPlan}
 use Rattle.plp_config.specs.Laws.{FieldRange}
 use Rattle.plp_config.specs.declared.config.Config.{Config}
 use Rattle.plp_config.specs.declared.moment.TheConstants.{MOST_FRAMES}
 use Rattle.ts_packet.specs.declared.sizes.TheConstants.{PAYLOAD}
+use Rattle.t2mi_packet.specs.declared.packet.Body.{Body}
 use Rattle.frame_groups.specs.Modulated.{FrameRecord}
 use Rattle.frame_groups.specs.declared.waiting.Waiting.{Waiting}
-use Rattle.site_frame.specs.Whole.{Spells}
 use Rattle.site_frame.specs.declared.reading.RecordView.{RecordView}
 use Rattle.open_group.specs.Written.{content_view}
-use Rattle.modulator.specs.Laws.{DueFollow, DueSpelled}
+use Rattle.modulator.specs.Laws.{DueFollow}
+use Rattle.modulator.specs.StandsFor.{records_due}
 use Rattle.frame_writer.specs.Flowing.{at_hand}
 use Rattle.t2mi_stream.specs.PiperStandsFor.{waiting_of as piper_waiting, is_finished}
 use Rattle.formed_frames.specs.Formed.{IsFormed}
 use Rattle.formed_frames.specs.Laws.{FramesAreFormed}
-use Rattle.formed_frames.specs.Remade.{NumberedView, view_bodies}
+use Rattle.formed_frames.specs.Remade.{NumberedView, remade_bodies, view_bodies}
 use Rattle.file_run.specs.Events.{Event, fed, has_ended, gave}
-use Rattle.frame_feed.specs.StandsFor.{FrameFeedStandsFor, waiting_of}
-use Rattle.frame_feed.specs.StandsFor as feed
-use Rattle.frame_feed.specs.declared.feed.FrameFeed.{FrameFeed}
-use Rattle.feed_merge.specs.declared.merger.Merger.{Merger}
 use Rattle.feed_merge.specs.declared.seen.Feed.{Feed}
 use Rattle.feed_merge.specs.declared.seen.Feed.TheVariants.{A, B}
 use Rattle.feed_merge.specs.declared.seen.Pick.{Pick}
 use Rattle.feed_merge.specs.Laws.{PicksGrow}
-use Rattle.feed_merge.specs.Picking.{is_at, source_at, pick_at}
+use Rattle.feed_merge.specs.Picking.{is_at, is_there, source_at, pick_at}
 use Rattle.feed_merge.specs.Picks.{Picked, pick_of, picks, above_all, frames_of}
-use Rattle.feed_merge.specs.StandsFor.{MergerStandsFor, has_unit, has_finished, is_fed, bytes_left}
-use Rattle.feed_merge.specs.StandsFor as merger
+use Rattle.held_feed.specs.Reading.{is_idle, least_of}
+use Rattle.held_feed.specs.Skips.{one_if, AreTaken, Takes, IsSameFeed}
+use Rattle.held_feed.specs.StandsFor.{FrameFeedStandsFor, waiting_of, is_whole}
+use Rattle.held_feed.specs.StandsFor as feed
+use Rattle.held_feed.specs.declared.feed.FrameFeed.{FrameFeed}
+use Rattle.pool_merger.specs.StandsFor.{MergerStandsFor, has_unit, has_finished, is_fed, bytes_left}
+use Rattle.pool_merger.specs.StandsFor as merger
+use Rattle.pool_merger.specs.declared.merger.Merger.{Merger}
 use Rattle.merge_run.specs.Counted.{counted, added}
-use Rattle.merge_run.specs.Sending.{numbered, frame_at, HoldsFrame, Begins}
-use Rattle.merge_run.specs.Shown.{IsFedWith, IsBehind, NoneComes, Sends, IsReading, IsLive, IsIn, more_units, frame_bytes}
-use Rattle.merge_run.specs.Shown.{CountsFrames, Shown}
-use Rattle.merge_run.specs.Steps.{is_idle, left_in, left_of}
-use Rattle.merge_run.specs.Taking.{seen_of, least_of, one_if, AreTaken, TookFrom, IsSameFeed}
+use Rattle.merge_run.specs.Sending.{numbered, frame_by, left_for, BeginsAs, Begins}
+use Rattle.merge_run.specs.Shown.{IsFedWith, IsHeld, OfFeed, IsPast, NoneComes, Sends, IsReading, IsLive, IsIn, is_held}
+use Rattle.merge_run.specs.Shown.{feed_of, left_at, more_units, frame_bytes, CountsFrames, Shown}
+use Rattle.merge_run.specs.Steps.{left_in, left_of}
+use Rattle.merge_run.specs.Taking.{seen_of, is_from, leaves, feed_in}
 use Rattle.merge_run.specs.declared.merging.Merging.{Merging}
 use Rattle.merge_run.specs.declared.phase.Phase.{Phase}
 use Rattle.merge_run.specs.declared.phase.Phase.TheVariants.{Reads, Gives, Rests}
 use Rattle.merge_run.specs.declared.stop.Ran.{Ran}
 use Rattle.merge_run.proofs.LiveLemmas.{live_taken}
-use Rattle.merge_run.proofs.FeedLemmas.{took_with, took_behind, holds_frame}
-use Rattle.merge_run.proofs.FrameLemmas.{view_is}
+use Rattle.merge_run.proofs.FeedLemmas.{TookFor, took_of, took_past, there_at, due_held, formed_due}
 use Rattle.merge_run.proofs.BoundLemmas.{few_bodies}
 use Rattle.merge_run.proofs.NumberLemmas.{above_append, below_of}
 use Rattle.merge_run.proofs.PickLemmas.{least_first, least_second, least_most, least_none, some_taken, are_of, PickIs, pick_first}
 use Rattle.merge_run.proofs.PickLemmas.{pick_second, pick_none}
 use Rattle.merge_run.proofs.SendLemmas.{frames_append, sends_begun, sends_over, counted_push}
+use Rattle.merge_run.proofs.ShownLemmas.{read_a, read_b, past_a, past_b}
 
-pub idle_left : (g : Merger) → has_unit g ≡ false → bytes_left g None < 184
+pub idle_left : (g : Merger) → has_unit g ≡ false → bytes_left g [] < 184
 idle_left g idle =
     let off = or_parts (nat_le PAYLOAD (at_hand g.flow.outlet)) (is_finished g.flow.outlet.piper && nat_lt 0 (piper_waiting g.flow.outlet.piper))
     idle in
@@ -75,36 +79,99 @@ above_taken (Some w) n xs t = go (w.frame == n) refl t
 
 -- ---- what becomes of both feeds
 
--- what is known of the records that were taken
-pub record Takings (m : Merging) (a b : FrameFeed) (n : ℕ) (p : Pick) (out : List ℕ) : Type 0 where
+-- what is known of the records that were left behind
+pub record Takings (m : Merging) (a b : FrameFeed) (n : ℕ) (p : Pick) : Type 0 where
   pub is : p ≡ pick_at n (seen_of (waiting_of m.a)) (seen_of (waiting_of m.b))
   pub least : least_of (waiting_of m.a) (waiting_of m.b) ≡ Some n
   pub busy_a : is_idle (waiting_of m.a) (feed.has_ended m.a) ≡ false
   pub busy_b : is_idle (waiting_of m.b) (feed.has_ended m.b) ≡ false
   pub took_a : (bytes : List ℕ) (ended : Bool) (given : List FrameRecord) → FrameFeedStandsFor m.a bytes ended given
-      → TookFrom A p.source p.leave_a m.a a bytes ended given out
+      → Takes (leaves A p.leave_a p.source) m.a a bytes ended given
   pub took_b : (bytes : List ℕ) (ended : Bool) (given : List FrameRecord) → FrameFeedStandsFor m.b bytes ended given
-      → TookFrom B p.source p.leave_b m.b b bytes ended given out
-  pub stays_a : p.leave_a ≡ false → waiting_of a ≡ waiting_of m.a
-  pub stays_b : p.leave_b ≡ false → waiting_of b ≡ waiting_of m.b
+      → Takes (leaves B p.leave_b p.source) m.b b bytes ended given
+  pub stays_a : leaves A p.leave_a p.source ≡ false → a ≡ m.a
+  pub stays_b : leaves B p.leave_b p.source ≡ false → b ≡ m.b
   pub same_a : IsSameFeed m.a a
   pub same_b : IsSameFeed m.b b
-  pub left_a : feed.left_of a + one_if p.leave_a ≤ feed.left_of m.a
-  pub left_b : feed.left_of b + one_if p.leave_b ≤ feed.left_of m.b
+  pub left_a : feed.left_of a + one_if (leaves A p.leave_a p.source) ≤ feed.left_of m.a
+  pub left_b : feed.left_of b + one_if (leaves B p.leave_b p.source) ≤ feed.left_of m.b
 
--- one of them was
-pub fewer_left : (m : Merging) (a b : FrameFeed) (n : ℕ) (p : Pick) (out : List ℕ) → Takings m a b n p out
+-- no more records are left, and fewer if none is picked
+pub no_more_left : (m : Merging) (a b : FrameFeed) (n : ℕ) (p : Pick) → Takings m a b n p
+    → feed.left_of a + feed.left_of b ≤ feed.left_of m.a + feed.left_of m.b
+no_more_left m a b n p t = let u = t.left_a in let v = t.left_b in omega (arith, u, v)
+
+all_leave : (from : Feed) (has : Bool) (source : Option Feed) → source ≡ None → leaves from has source ≡ has
+all_leave from true source none = ap (leaves from true) none
+all_leave from false source none = ap (leaves from false) none
+
+pub fewer_left : (m : Merging) (a b : FrameFeed) (n : ℕ) (p : Pick) → Takings m a b n p → p.source ≡ None
     → feed.left_of a + feed.left_of b + 1 ≤ feed.left_of m.a + feed.left_of m.b
-fewer_left m a b n p out t =
+fewer_left m a b n p t none =
     let some = some_taken (waiting_of m.a) (waiting_of m.b) n t.least in
-    let x = ap (λ (q : Pick). one_if q.leave_a) t.is in
-    let y = ap (λ (q : Pick). one_if q.leave_b) t.is in
+    let x = ap one_if (all_leave A p.leave_a p.source none) ∙ ap (λ (q : Pick). one_if q.leave_a) t.is in
+    let y = ap one_if (all_leave B p.leave_b p.source none) ∙ ap (λ (q : Pick). one_if q.leave_b) t.is in
     let u = t.left_a in
     let v = t.left_b in
     omega (arith, some, x, y, u, v)
 
+-- the source has the frame
+there_first : (n : ℕ) (v w : Option Waiting) → is_from A (source_at n (seen_of v) (seen_of w)) ≡ true → is_there n (seen_of v) ≡ true
+there_first n v w e = go (is_there n (seen_of v)) (is_there n (seen_of w)) refl e
+  where
+    go : (s t : Bool) → is_there n (seen_of v) ≡ s → is_from A (cond s (Some A) (cond t (Some B) None)) ≡ true
+        → is_there n (seen_of v) ≡ true
+    go true t on e = on
+    go false true off e = absurd (true≢false (sym e))
+    go false false off e = absurd (true≢false (sym e))
+
+there_second : (n : ℕ) (v w : Option Waiting) → is_from B (source_at n (seen_of v) (seen_of w)) ≡ true → is_there n (seen_of w) ≡ true
+there_second n v w e = go (is_there n (seen_of v)) (is_there n (seen_of w)) refl e
+  where
+    go : (s t : Bool) → is_there n (seen_of w) ≡ t → is_from B (cond s (Some A) (cond t (Some B) None)) ≡ true
+        → is_there n (seen_of w) ≡ true
+    go true t on e = absurd (true≢false (sym e))
+    go false true on e = on
+    go false false off e = absurd (true≢false (sym e))
+
+whole_at : (n : ℕ) (o : Option Waiting) → is_there n (seen_of o) ≡ true → is_whole o ≡ true
+whole_at n None e = absurd (true≢false (sym e))
+whole_at n (Some w) e = (and_parts (w.frame == n) (not (is_some w.mute)) e).1
+
+number_at : (n : ℕ) (o : Option Waiting) → is_there n (seen_of o) ≡ true → (w : Waiting) → o ≡ Some w → w.frame ≡ n
+number_at n None e w is = absurd (true≢false (sym e))
+number_at n (Some v) e w is =
+    ap (λ (x : Waiting). x.frame) (sym (some_injective v w is)) ∙ eqb-true v.frame n (and_parts (v.frame == n) (not (is_some v.mute)) e).0
+
+from_source : (from : Feed) (source : Option Feed) → source ≡ Some from → is_from from source ≡ true
+from_source A source is = ap (is_from A) is
+from_source B source is = ap (is_from B) is
+
+leaves_none : (from : Feed) (has : Bool) (source : Option Feed) → is_from from source ≡ true → leaves from has source ≡ false
+leaves_none from true source on = ap not on
+leaves_none from false source on = refl
+
+-- so it waits still, when its frame is begun
+pub record Waits (o : Option Waiting) (n : ℕ) : Type 0 where
+  pub whole : is_whole o ≡ true
+  pub number : (w : Waiting) → o ≡ Some w → w.frame ≡ n
+
+waits_in : (n : ℕ) (o : Option Waiting) → is_there n (seen_of o) ≡ true → Waits o n
+waits_in n o e = record { whole = whole_at n o e; number = number_at n o e }
+
+pub waits_now : (m : Merging) (a b : FrameFeed) (n : ℕ) (p : Pick) → Takings m a b n p → (from : Feed) → p.source ≡ Some from
+    → Waits (waiting_of (feed_in from a b)) n
+waits_now m a b n p t A own =
+    let on = from_source A p.source own in
+    subst (λ (f : FrameFeed). Waits (waiting_of f) n) (sym (t.stays_a (leaves_none A p.leave_a p.source on)))
+    (waits_in n (waiting_of m.a) (there_first n (waiting_of m.a) (waiting_of m.b) (ap (λ (q : Pick). is_from A q.source) (sym t.is) ∙ on)))
+waits_now m a b n p t B own =
+    let on = from_source B p.source own in
+    subst (λ (f : FrameFeed). Waits (waiting_of f) n) (sym (t.stays_b (leaves_none B p.leave_b p.source on)))
+    (waits_in n (waiting_of m.b) (there_second n (waiting_of m.a) (waiting_of m.b) (ap (λ (q : Pick). is_from B q.source) (sym t.is) ∙ on)))
+
 module _ (follow : DueFollow) (grow : PicksGrow) (c : Config) (m : Merging) (a b : FrameFeed) (events : List Event) (n : ℕ) (p : Pick)
-    (out : List ℕ) (t : Takings m a b n p out) (s : Shown c events m) where
+    (t : Takings m a b n p) (s : Shown c events m) (reads : m.phase ≡ Reads) where
   abbrev pub source : Option Feed
   source = source_at n (seen_of (waiting_of m.a)) (seen_of (waiting_of m.b))
 
@@ -114,19 +181,33 @@ module _ (follow : DueFollow) (grow : PicksGrow) (c : Config) (m : Merging) (a b
   abbrev pub leave_b : Bool
   leave_b = is_at n (seen_of (waiting_of m.b))
 
-  pub ta : TookFrom A source leave_a m.a a (fed 0 events) (has_ended 0 events) s.given_a out
-  ta = subst (λ (q : Pick). TookFrom A q.source q.leave_a m.a a (fed 0 events) (has_ended 0 events) s.given_a out) t.is
-      (t.took_a (fed 0 events) (has_ended 0 events) s.given_a s.of_a.stands)
+  there_a : is_from A source ≡ true → is_there n (seen_of (waiting_of m.a)) ≡ true
+  there_a on = there_first n (waiting_of m.a) (waiting_of m.b) on
 
-  pub tb : TookFrom B source leave_b m.b b (fed 1 events) (has_ended 1 events) s.given_b out
-  tb = subst (λ (q : Pick). TookFrom B q.source q.leave_b m.b b (fed 1 events) (has_ended 1 events) s.given_b out) t.is
-      (t.took_b (fed 1 events) (has_ended 1 events) s.given_b s.of_b.stands)
+  there_b : is_from B source ≡ true → is_there n (seen_of (waiting_of m.b)) ≡ true
+  there_b on = there_second n (waiting_of m.a) (waiting_of m.b) on
+
+  stay_a : leaves A leave_a source ≡ false → a ≡ m.a
+  stay_a off = t.stays_a (ap (λ (q : Pick). leaves A q.leave_a q.source) t.is ∙ off)
+
+  stay_b : leaves B leave_b source ≡ false → b ≡ m.b
+  stay_b off = t.stays_b (ap (λ (q : Pick). leaves B q.leave_b q.source) t.is ∙ off)
+
+  pub ta : TookFor (is_from A source) leave_a c m.a a (fed 0 events) (has_ended 0 events) s.given_a
+  ta = took_of c A source n m.a a (fed 0 events) (has_ended 0 events) s.given_a there_a t.same_a.network stay_a
+      (subst (λ (q : Pick). Takes (leaves A q.leave_a q.source) m.a a (fed 0 events) (has_ended 0 events) s.given_a) t.is
+      (t.took_a (fed 0 events) (has_ended 0 events) s.given_a (read_a c m events s reads).stands)) (read_a c m events s reads)
+
+  pub tb : TookFor (is_from B source) leave_b c m.b b (fed 1 events) (has_ended 1 events) s.given_b
+  tb = took_of c B source n m.b b (fed 1 events) (has_ended 1 events) s.given_b there_b t.same_b.network stay_b
+      (subst (λ (q : Pick). Takes (leaves B q.leave_b q.source) m.b b (fed 1 events) (has_ended 1 events) s.given_b) t.is
+      (t.took_b (fed 1 events) (has_ended 1 events) s.given_b (read_b c m events s reads).stands)) (read_b c m events s reads)
 
   abbrev pub xs : List FrameRecord
-  xs = ta.takes.records
+  xs = ta.records
 
   abbrev pub ys : List FrameRecord
-  ys = tb.takes.records
+  ys = tb.records
 
   abbrev pub now_a : List FrameRecord
   now_a = s.given_a ++ xs
@@ -134,27 +215,28 @@ module _ (follow : DueFollow) (grow : PicksGrow) (c : Config) (m : Merging) (a b
   abbrev pub now_b : List FrameRecord
   now_b = s.given_b ++ ys
 
-  pub of_a : IsFedWith c a (fed 0 events) (has_ended 0 events) now_a
-  of_a = took_with c A source leave_a m.a a _ _ s.given_a out t.same_a.network s.of_a ta
+  off_a : leave_a ≡ false → waiting_of a ≡ waiting_of m.a
+  off_a off = ap waiting_of (stay_a (ap (λ (x : Bool). x && not (is_from A source)) off))
 
-  pub of_b : IsFedWith c b (fed 1 events) (has_ended 1 events) now_b
-  of_b = took_with c B source leave_b m.b b _ _ s.given_b out t.same_b.network s.of_b tb
+  off_b : leave_b ≡ false → waiting_of b ≡ waiting_of m.b
+  off_b off = ap waiting_of (stay_b (ap (λ (x : Bool). x && not (is_from B source)) off))
 
-  pub behind_a : IsBehind (n + 1) a now_a
-  behind_a = took_behind follow c n A source m.a a _ _ s.given_a out t.busy_a (least_first (waiting_of m.a) (waiting_of m.b) n t.least) t.same_a.ended
-      (λ off. t.stays_a (ap (λ (q : Pick). q.leave_a) t.is ∙ off)) ta of_a
+  pub behind_a : IsPast (is_from A source) (n + 1) a now_a
+  behind_a = took_past follow c n (is_from A source) m.a a _ _ s.given_a t.busy_a
+      (least_first (waiting_of m.a) (waiting_of m.b) n t.least) t.same_a.ended (λ on. there_at n (waiting_of m.a) (there_a on)) off_a ta
 
-  pub behind_b : IsBehind (n + 1) b now_b
-  behind_b = took_behind follow c n B source m.b b _ _ s.given_b out t.busy_b (least_second (waiting_of m.a) (waiting_of m.b) n t.least) t.same_b.ended
-      (λ off. t.stays_b (ap (λ (q : Pick). q.leave_b) t.is ∙ off)) tb of_b
+  pub behind_b : IsPast (is_from B source) (n + 1) b now_b
+  behind_b = took_past follow c n (is_from B source) m.b b _ _ s.given_b t.busy_b
+      (least_second (waiting_of m.a) (waiting_of m.b) n t.least) t.same_b.ended (λ on. there_at n (waiting_of m.b) (there_b on)) off_b tb
 
   pub next_low : m.next ≤ n
-  next_low = least_most (waiting_of m.a) (waiting_of m.b) n m.next t.least s.behind_a.waits s.behind_b.waits
+  next_low = least_most (waiting_of m.a) (waiting_of m.b) n m.next t.least (past_a c m events s reads).waits
+      (past_b c m events s reads).waits
 
   pub next_now : n + 1 ≡ max (above_all now_a) (above_all now_b)
   next_now =
-      let x = above_taken (waiting_of m.a) n xs ta.takes.are in
-      let y = above_taken (waiting_of m.b) n ys tb.takes.are in
+      let x = above_taken (waiting_of m.a) n xs ta.are in
+      let y = above_taken (waiting_of m.b) n ys tb.are in
       let few_a = x.0 in
       let few_b = y.0 in
       let some = some_taken (waiting_of m.a) (waiting_of m.b) n t.least in
@@ -172,15 +254,16 @@ module _ (follow : DueFollow) (grow : PicksGrow) (c : Config) (m : Merging) (a b
       let was = s.next_is in
       let low = next_low in
       grow c s.given_a s.given_b xs ys n (below_of n s.given_a (omega (arith, was, low))) (below_of n s.given_b (omega (arith, was, low)))
-      (are_of (waiting_of m.a) n xs ta.takes.are) (are_of (waiting_of m.b) n ys tb.takes.are)
+      (are_of (waiting_of m.a) n xs ta.are) (are_of (waiting_of m.b) n ys tb.are)
 
-  pub live : m.phase ≡ Reads → IsLive c (fed 0 events) (fed 1 events) now_a now_b (n + 1) m.ran.units
-  live reads =
+  pub live : IsLive c (fed 0 events) (fed 1 events) now_a now_b (n + 1) m.ran.units
+  live =
       let i : IsReading c m.merger (frames_of (picks c s.given_a s.given_b)) m.ran.units =
       subst (IsIn c m (frames_of (picks c s.given_a s.given_b))) reads s.is_in in
       let all = i.complete in
-      live_taken c m.a m.b (fed 0 events) (fed 1 events) _ _ s.given_a s.given_b xs ys m.next n (n + 1) m.ran.units s.of_a s.of_b s.next_is
-      next_low (omega arith) (are_of (waiting_of m.a) n xs ta.takes.are) (are_of (waiting_of m.b) n ys tb.takes.are) (omega (arith, all))
+      live_taken c m.a m.b (fed 0 events) (fed 1 events) _ _ s.given_a s.given_b xs ys m.next n (n + 1) m.ran.units
+      (read_a c m events s reads) (read_b c m events s reads) s.next_is
+      next_low (omega arith) (are_of (waiting_of m.a) n xs ta.are) (are_of (waiting_of m.b) n ys tb.are) (omega (arith, all))
 
   -- ---- none is picked
 
@@ -188,68 +271,104 @@ module _ (follow : DueFollow) (grow : PicksGrow) (c : Config) (m : Merging) (a b
   none_picked none =
       grown
       ∙ ap (λ (o : Option Picked). picks c s.given_a s.given_b ++ option_to_list o)
-      (pick_none c n (waiting_of m.a) (waiting_of m.b) xs ys ta.takes.are tb.takes.are (ap (λ (q : Pick). q.source) (sym t.is) ∙ none))
+      (pick_none c n (waiting_of m.a) (waiting_of m.b) xs ys ta.are tb.are (ap (λ (q : Pick). q.source) (sym t.is) ∙ none))
       ∙ append-nil (picks c s.given_a s.given_b)
 
   -- ---- a frame is picked
 
-  -- its record, and that it is begun
-  pub record FrameIs (from : Feed) : Type 0 where
+  -- it is begun as that of its record
+  pub record FrameIs (g : Merger) (from : Feed) : Type 0 where
     pub view : RecordView
     pub picked : picks c now_a now_b ≡ picks c s.given_a s.given_b ++ record { feed = from; frame = numbered n view } ∷ []
-    pub spells : Spells view out
     pub formed : IsFormed c n view
+    pub begun : BeginsAs m.merger g (left_for g (feed_in from a b)) (numbered n view)
 
-  module _ (spelled_law : DueSpelled) (formed_law : FramesAreFormed) (early : n < MOST_FRAMES) where
-    pub frame_is : (from : Feed) → p.source ≡ Some from → FrameIs from
-    frame_is A own =
+  module _ (formed_law : FramesAreFormed) (g : Merger) where
+    frame_begun : (from : Feed) (f : FrameFeed) (bytes : List ℕ) (ended : Bool) (given records : List FrameRecord) (o : Option Picked)
+        → Begins m.merger g f n → IsFedWith c f bytes ended given → IsHeld c f bytes ended (given ++ records)
+        → (k : PickIs c n from records o)
+        → BeginsAs m.merger g (left_for g f) (numbered n (content_view c n k.one.content)) × IsFormed c n (content_view c n k.one.content)
+    frame_begun from f bytes ended given records o b h held k =
+        let net : merger.config_of m.merger ≡ c = s.sends.network in
+        let due = due_held c f bytes ended given records k.one k.only held in
+        let begun = b.begun (h.network ∙ sym net) (subst IsPlan (sym net) s.plan) bytes ended given h.stands k.one held.later
+        (ap (λ (x : Config). records_due x ended bytes) net ∙ due) k.group k.whole k.number in
+        let frame : frame_by (merger.config_of m.merger) k.one ≡ numbered n (content_view c n k.one.content) =
+        ap (λ (x : Config). frame_by x k.one) net ∙ ap (λ (i : ℕ). numbered i (content_view c i k.one.content)) k.number in (
+          subst (BeginsAs m.merger g (left_for g f)) frame begun,
+          formed_due formed_law c bytes ended given from n records o held.later s.plan k due,
+        )
+
+    pub frame_is : (from : Feed) → p.source ≡ Some from → Begins m.merger g (feed_in from a b) n → FrameIs g from
+    frame_is A own begins =
         let here : source ≡ Some A = ap (λ (q : Pick). q.source) (sym t.is) ∙ own in
-        let k : PickIs c n A xs (pick_of c xs ys n) =
-        pick_first c n (waiting_of m.a) (waiting_of m.b) xs ys ta.takes.are tb.takes.are here in
-        let h = holds_frame spelled_law formed_law c A source leave_a m.a a _ _ s.given_a out n _ s.plan s.ids early s.of_a here ta of_a k in
+        let on = from_source A source here in
+        let k : PickIs c n A xs (pick_of c xs ys n) = pick_first c n (waiting_of m.a) (waiting_of m.b) xs ys ta.are tb.are here in
+        let same = stay_a (leaves_none A leave_a source on) in
+        let h = subst (λ (f : FrameFeed). IsFedWith c f (fed 0 events) (has_ended 0 events) s.given_a) (sym same) (read_a c m events s reads) in
+        let held = subst (λ (x : Bool). OfFeed x c a (fed 0 events) (has_ended 0 events) now_a) on ta.stands in
+        let x = frame_begun A a _ _ s.given_a xs _ begins h held k in
         record {
           view = content_view c n k.one.content;
           picked = grown ∙ ap (λ (o : Option Picked). picks c s.given_a s.given_b ++ option_to_list o) k.is;
-          spells = h.0;
-          formed = h.1;
+          formed = x.1;
+          begun = x.0;
         }
-    frame_is B own =
+    frame_is B own begins =
         let here : source ≡ Some B = ap (λ (q : Pick). q.source) (sym t.is) ∙ own in
-        let k : PickIs c n B ys (pick_of c xs ys n) =
-        pick_second c n (waiting_of m.a) (waiting_of m.b) xs ys ta.takes.are tb.takes.are here in
-        let h = holds_frame spelled_law formed_law c B source leave_b m.b b _ _ s.given_b out n _ s.plan s.ids early s.of_b here tb of_b k in
+        let on = from_source B source here in
+        let k : PickIs c n B ys (pick_of c xs ys n) = pick_second c n (waiting_of m.a) (waiting_of m.b) xs ys ta.are tb.are here in
+        let same = stay_b (leaves_none B leave_b source on) in
+        let h = subst (λ (f : FrameFeed). IsFedWith c f (fed 1 events) (has_ended 1 events) s.given_b) (sym same) (read_b c m events s reads) in
+        let held = subst (λ (x : Bool). OfFeed x c b (fed 1 events) (has_ended 1 events) now_b) on tb.stands in
+        let x = frame_begun B b _ _ s.given_b ys _ begins h held k in
         record {
           view = content_view c n k.one.content;
           picked = grown ∙ ap (λ (o : Option Picked). picks c s.given_a s.given_b ++ option_to_list o) k.is;
-          spells = h.0;
-          formed = h.1;
+          formed = x.1;
+          begun = x.0;
         }
-
-    pub holds : (from : Feed) → p.source ≡ Some from → HoldsFrame c n out
-    holds from own = let f = frame_is from own in record { view = f.view; spells = f.spells; formed = f.formed }
 
 -- ---- how many units a frame has that was begun
 
-pub begun_few : FieldRange → (c : Config) (g h : Merger) (n : ℕ) (view : RecordView) (bytes : List ℕ) → IsPlan c → IsFormed c n view
-    → Spells view bytes → merger.config_of g ≡ c → has_unit g ≡ false → Begins g h n view → more_units Gives h bytes ≤ frame_bytes
-begun_few field c g h n view bytes plan formed spells config idle b =
-    let at : more_units Gives h bytes ≡ 184 + bytes_left h (Some (numbered n view)) =
-    ap₂ (λ (k : ℕ) (o : Option RecordView). 184 + bytes_left h (frame_at k o)) b.frame (view_is view bytes spells) in
+pub begun_few : FieldRange → (c : Config) (g h : Merger) (f : FrameFeed) (n : ℕ) (view : RecordView) → IsPlan c → IsFormed c n view
+    → merger.config_of g ≡ c → has_unit g ≡ false → BeginsAs g h (left_for h f) (numbered n view)
+    → more_units Gives h f ≤ frame_bytes
+begun_few field c g h f n view plan formed config idle b =
     let most = b.more in
     let few = few_bodies field c n view plan formed in
     let same = ap (λ (k : Config). length (view_bodies k n view)) config in
-    omega (arith, at, most, few, same, idle_left g idle)
+    omega (arith, most, few, same, idle_left g idle)
+
+-- both feeds are of the network of the merger
+pub network_in : (c : Config) (m : Merging) (a b : FrameFeed) (events : List Event) → m.phase ≡ Reads
+    → feed.config_of a ≡ feed.config_of m.a → feed.config_of b ≡ feed.config_of m.b → (s : Shown c events m) → (from : Feed)
+    → feed.config_of (feed_in from a b) ≡ merger.config_of m.merger
+network_in c m a b events reads same_a same_b s A = same_a ∙ (read_a c m events s reads).network ∙ sym s.sends.network
+network_in c m a b events reads same_a same_b s B = same_b ∙ (read_b c m events s reads).network ∙ sym s.sends.network
 
 -- what is known while records are read
 pub reading_of : (c : Config) (m : Merging) (events : List Event) (s : Shown c events m) → m.phase ≡ Reads
     → IsReading c m.merger (frames_of (picks c s.given_a s.given_b)) m.ran.units
 reading_of c m events s reads = subst (IsIn c m (frames_of (picks c s.given_a s.given_b))) reads s.is_in
 
+pub reading_sends : (c : Config) (m : Merging) (events : List Event) (s : Shown c events m) → m.phase ≡ Reads
+    → Sends c m.merger [] (frames_of (picks c s.given_a s.given_b)) m.ran.units (gave events)
+reading_sends c m events s reads =
+    subst (λ (p : Phase). Sends c m.merger (left_at p m.merger (feed_of m)) (frames_of (picks c s.given_a s.given_b)) m.ran.units (gave events))
+    reads s.sends
+
 -- ---- where the merger is then
 
 module _ (follow : DueFollow) (grow : PicksGrow) (field : FieldRange) (c : Config) (m new : Merging) (events : List Event) (n : ℕ)
-    (given_a given_b : List FrameRecord) (s : Shown c events m) (config : new.plan.now ≡ m.plan.now)
-    (reads : m.phase ≡ Reads) (next : new.next ≡ n + 1) (early : n < MOST_FRAMES) (low : m.next ≤ n) where
+    (given_a given_b : List FrameRecord) (source : Option Feed) (s : Shown c events m) (config : new.plan.now ≡ m.plan.now)
+    (reads : m.phase ≡ Reads) (next : new.next ≡ n + 1) (early : n < MOST_FRAMES) (low : m.next ≤ n)
+    (held_a : is_held new.phase new.source A ≡ is_from A source) (held_b : is_held new.phase new.source B ≡ is_from B source)
+    (of_a : OfFeed (is_from A source) c new.a (fed 0 events) (has_ended 0 events) given_a)
+    (of_b : OfFeed (is_from B source) c new.b (fed 1 events) (has_ended 1 events) given_b)
+    (behind_a : IsPast (is_from A source) (n + 1) new.a given_a) (behind_b : IsPast (is_from B source) (n + 1) new.b given_b)
+    (next_is : n + 1 ≡ max (above_all given_a) (above_all given_b))
+    (live : IsLive c (fed 0 events) (fed 1 events) given_a given_b (n + 1) m.ran.units) where
   abbrev frames : List NumberedView
   frames = frames_of (picks c s.given_a s.given_b)
 
@@ -259,39 +378,55 @@ module _ (follow : DueFollow) (grow : PicksGrow) (field : FieldRange) (c : Confi
   reading : IsReading c m.merger frames m.ran.units
   reading = subst (IsIn c m frames) reads s.is_in
 
+  sending : Sends c m.merger [] frames m.ran.units (gave events)
+  sending = reading_sends c m events s reads
+
+  was_units : m.ran.units + 184 ≤ m.next * frame_bytes + 184
+  was_units = subst (λ (p : Phase). m.ran.units + more_units p m.merger (feed_of m) ≤ m.next * frame_bytes + 184) reads s.counts.units
+
+  first : OfFeed (is_held new.phase new.source A) c new.a (fed 0 events) (has_ended 0 events) given_a
+  first = subst (λ (h : Bool). OfFeed h c new.a (fed 0 events) (has_ended 0 events) given_a) (sym held_a) of_a
+
+  second : OfFeed (is_held new.phase new.source B) c new.b (fed 1 events) (has_ended 1 events) given_b
+  second = subst (λ (h : Bool). OfFeed h c new.b (fed 1 events) (has_ended 1 events) given_b) (sym held_b) of_b
+
+  first_past : IsPast (is_held new.phase new.source A) new.next new.a given_a
+  first_past = subst (λ (h : Bool). IsPast h new.next new.a given_a) (sym held_a)
+      (subst (λ (k : ℕ). IsPast (is_from A source) k new.a given_a) (sym next) behind_a)
+
+  second_past : IsPast (is_held new.phase new.source B) new.next new.b given_b
+  second_past = subst (λ (h : Bool). IsPast h new.next new.b given_b) (sym held_b)
+      (subst (λ (k : ℕ). IsPast (is_from B source) k new.b given_b) (sym next) behind_b)
+
   -- a frame was begun
-  pub shown_begun : (from : Feed) (view : RecordView) → picks c given_a given_b ≡ picks c s.given_a s.given_b ++ record { feed = from; frame = numbered n view } ∷ []
-      → new.ran ≡ added m.ran from → new.phase ≡ Gives → Spells view new.«record» → IsFormed c n view
-      → Begins m.merger new.merger n view
-      → IsFedWith c new.a (fed 0 events) (has_ended 0 events) given_a → IsFedWith c new.b (fed 1 events) (has_ended 1 events) given_b
-      → IsBehind (n + 1) new.a given_a → IsBehind (n + 1) new.b given_b → n + 1 ≡ max (above_all given_a) (above_all given_b)
-      → IsLive c (fed 0 events) (fed 1 events) given_a given_b (n + 1) m.ran.units → Shown c events new
-  shown_begun from view picked ran gives spells formed b of_a of_b behind_a behind_b next_is live = record {
+  pub shown_begun : (from : Feed) (view : RecordView)
+      → picks c given_a given_b ≡ picks c s.given_a s.given_b ++ record { feed = from; frame = numbered n view } ∷ []
+      → new.ran ≡ added m.ran from → new.phase ≡ Gives → IsFormed c n view → Waits (waiting_of (feed_of new)) n
+      → merger.config_of new.merger ≡ merger.config_of m.merger → has_finished new.merger ≡ false
+      → BeginsAs m.merger new.merger (left_for new.merger (feed_of new)) (numbered n view) → Shown c events new
+  shown_begun from view picked ran gives formed waits network is_open b = record {
     config = config ∙ s.config;
     plan = s.plan;
-    ids = s.ids;
     given_a = given_a;
     given_b = given_b;
-    of_a = of_a;
-    of_b = of_b;
-    behind_a = subst (λ (k : ℕ). IsBehind k new.a given_a) (sym next) behind_a;
-    behind_b = subst (λ (k : ℕ). IsBehind k new.b given_b) (sym next) behind_b;
+    of_a = first;
+    of_b = second;
+    behind_a = first_past;
+    behind_b = second_past;
     next_is = next ∙ next_is;
     early = (let e = next in omega (arith, e, early));
-    sends = subst (λ (l : List NumberedView). Sends c new.merger l new.ran.units (gave events)) (sym frames_are)
-        (subst (λ (k : ℕ). Sends c new.merger (frames ++ numbered n view ∷ []) k (gave events)) (sym units)
-        (sends_begun c m.merger new.merger n frames (numbered n view) m.ran.units (gave events) refl reading.is_open b s.sends));
+    sends = subst (λ (p : Phase). Sends c new.merger (left_at p new.merger (feed_of new)) now new.ran.units (gave events)) (sym gives)
+        (subst (λ (l : List NumberedView). Sends c new.merger (left_for new.merger (feed_of new)) l new.ran.units (gave events)) (sym frames_are)
+        (subst (λ (k : ℕ). Sends c new.merger (left_for new.merger (feed_of new)) (frames ++ numbered n view ∷ []) k (gave events)) (sym units)
+        (sends_begun c m.merger new.merger (left_for new.merger (feed_of new)) frames (numbered n view) m.ran.units (gave events) network reading.is_open b sending)));
     ran_is = ran_now;
     counts = counts_now;
     live = subst (λ (k : ℕ). IsLive c (fed 0 events) (fed 1 events) given_a given_b k new.ran.units) (sym next)
         (subst (IsLive c (fed 0 events) (fed 1 events) given_a given_b (n + 1)) (sym units) live);
     is_in = subst (IsIn c new now) (sym gives) (record {
-      is_open = b.finished;
-      before = frames;
-      view = view;
-      parts = frames_are ∙ ap (λ (k : ℕ). frames ++ numbered k view ∷ []) (sym b.frame);
-      spells = spells;
-      formed = subst (λ (k : ℕ). IsFormed c k view) (sym b.frame) formed;
+      is_open = is_open;
+      whole = waits.whole;
+      early = λ w is. let e = waits.number w is in omega (arith, e, early);
     });
   }
     where
@@ -327,40 +462,34 @@ module _ (follow : DueFollow) (grow : PicksGrow) (field : FieldRange) (c : Confi
           let both = ap (λ (r : Ran). r.a + r.b) ran ∙ added_parts m.ran from in
           let was_frames = w.frames in
           let was_parts = w.parts in
-          let was_units : m.ran.units + more_units Reads m.merger m.«record» ≤ m.next * frame_bytes + 184 =
-          subst (λ (p : Phase). m.ran.units + more_units p m.merger m.«record» ≤ m.next * frame_bytes + 184) reads
-          w.units in
-          let few = begun_few field c m.merger new.merger n view new.«record» s.plan formed spells s.sends.network
-          reading.idle b in
+          let few = begun_few field c m.merger new.merger (feed_of new) n view s.plan formed s.sends.network reading.idle b in
           let same = units in
           let e = next in
           record {
             frames = omega (arith, count, was_frames, e, low);
             parts = omega (arith, count, both, was_parts);
-            units = subst (λ (p : Phase). new.ran.units + more_units p new.merger new.«record»
+            units = subst (λ (p : Phase). new.ran.units + more_units p new.merger (feed_of new)
                 ≤ new.next * frame_bytes + 184) (sym gives) (omega (arith, was_units, few, same, e, low));
           }
 
   -- none was
   pub shown_passed : picks c given_a given_b ≡ picks c s.given_a s.given_b → new.ran ≡ m.ran → new.phase ≡ Reads → new.merger ≡ m.merger
-      → IsFedWith c new.a (fed 0 events) (has_ended 0 events) given_a → IsFedWith c new.b (fed 1 events) (has_ended 1 events) given_b
-      → IsBehind (n + 1) new.a given_a → IsBehind (n + 1) new.b given_b → n + 1 ≡ max (above_all given_a) (above_all given_b)
-      → IsLive c (fed 0 events) (fed 1 events) given_a given_b (n + 1) m.ran.units → Shown c events new
-  shown_passed picked ran still same of_a of_b behind_a behind_b next_is live = record {
+      → Shown c events new
+  shown_passed picked ran still same = record {
     config = config ∙ s.config;
     plan = s.plan;
-    ids = s.ids;
     given_a = given_a;
     given_b = given_b;
-    of_a = of_a;
-    of_b = of_b;
-    behind_a = subst (λ (k : ℕ). IsBehind k new.a given_a) (sym next) behind_a;
-    behind_b = subst (λ (k : ℕ). IsBehind k new.b given_b) (sym next) behind_b;
+    of_a = first;
+    of_b = second;
+    behind_a = first_past;
+    behind_b = second_past;
     next_is = next ∙ next_is;
     early = (let e = next in omega (arith, e, early));
-    sends = subst (λ (ps : List Picked). Sends c new.merger (frames_of ps) new.ran.units (gave events)) (sym picked)
-        (subst (λ (g : Merger). Sends c g frames new.ran.units (gave events)) (sym same)
-        (subst (λ (r : Ran). Sends c m.merger frames r.units (gave events)) (sym ran) s.sends));
+    sends = subst (λ (p : Phase). Sends c new.merger (left_at p new.merger (feed_of new)) now new.ran.units (gave events)) (sym still)
+        (subst (λ (ps : List Picked). Sends c new.merger [] (frames_of ps) new.ran.units (gave events)) (sym picked)
+        (subst (λ (g : Merger). Sends c g [] frames new.ran.units (gave events)) (sym same)
+        (subst (λ (r : Ran). Sends c m.merger [] frames r.units (gave events)) (sym ran) sending)));
     ran_is = ran ∙ s.ran_is ∙ ap₂ counted (sym picked) (ap (λ (r : Ran). r.units) (sym ran));
     counts = (
         let w = s.counts in
@@ -369,12 +498,11 @@ module _ (follow : DueFollow) (grow : PicksGrow) (field : FieldRange) (c : Confi
         let units = ap (λ (r : Ran). r.units) ran in
         let was_frames = w.frames in
         let was_parts = w.parts in
-        let was_units = w.units in
         let e = next in
         record {
           frames = omega (arith, count, was_frames, e, low);
           parts = omega (arith, count, both, was_parts);
-          units = subst (λ (p : Phase). new.ran.units + more_units p new.merger new.«record»
+          units = subst (λ (p : Phase). new.ran.units + more_units p new.merger (feed_of new)
               ≤ new.next * frame_bytes + 184) (sym still) (omega (arith, was_units, units, e, low));
         });
     live = subst (λ (k : ℕ). IsLive c (fed 0 events) (fed 1 events) given_a given_b k new.ran.units) (sym next)
@@ -386,25 +514,25 @@ module _ (follow : DueFollow) (grow : PicksGrow) (field : FieldRange) (c : Confi
 
 -- ---- it goes on so often
 
-pub left_begun : (m : Merging) (a b : FrameFeed) (g : Merger) (bytes : List ℕ) → m.phase ≡ Reads
-    → feed.left_of a + feed.left_of b + 1 ≤ feed.left_of m.a + feed.left_of m.b → more_units Gives g bytes ≤ frame_bytes
-    → left_in Gives (feed.left_of a + feed.left_of b) g bytes < left_of m
-left_begun m a b g bytes reads fewer few =
-    let was = ap (λ (p : Phase). left_in p (feed.left_of m.a + feed.left_of m.b) m.merger m.«record») reads in
+pub left_begun : (m : Merging) (a b f : FrameFeed) (g : Merger) → m.phase ≡ Reads
+    → feed.left_of a + feed.left_of b ≤ feed.left_of m.a + feed.left_of m.b → more_units Gives g f ≤ frame_bytes
+    → left_in Gives (feed.left_of a + feed.left_of b) g f < left_of m
+left_begun m a b f g reads fewer few =
+    let was = ap (λ (p : Phase). left_in p (feed.left_of m.a + feed.left_of m.b) m.merger (feed_of m)) reads in
     omega (arith, was, fewer, few)
 
-pub left_passed : (m : Merging) (a b : FrameFeed) (g : Merger) (bytes : List ℕ) (p : Phase) → m.phase ≡ Reads → p ≡ Reads
+pub left_passed : (m : Merging) (a b f : FrameFeed) (g : Merger) (p : Phase) → m.phase ≡ Reads → p ≡ Reads
     → feed.left_of a + feed.left_of b + 1 ≤ feed.left_of m.a + feed.left_of m.b
-    → left_in p (feed.left_of a + feed.left_of b) g bytes < left_of m
-left_passed m a b g bytes p reads still fewer =
-    let was = ap (λ (p : Phase). left_in p (feed.left_of m.a + feed.left_of m.b) m.merger m.«record») reads in
-    let is = ap (λ (p : Phase). left_in p (feed.left_of a + feed.left_of b) g bytes) still in
+    → left_in p (feed.left_of a + feed.left_of b) g f < left_of m
+left_passed m a b f g p reads still fewer =
+    let was = ap (λ (p : Phase). left_in p (feed.left_of m.a + feed.left_of m.b) m.merger (feed_of m)) reads in
+    let is = ap (λ (p : Phase). left_in p (feed.left_of a + feed.left_of b) g f) still in
     omega (arith, was, is, fewer)
 
-pub left_finished : (m : Merging) (g : Merger) (records : ℕ) (bytes : List ℕ) → m.phase ≡ Reads → bytes_left g None < 184
-    → left_in Rests records g bytes < left_of m
-left_finished m g records bytes reads few =
-    let was = ap (λ (p : Phase). left_in p (feed.left_of m.a + feed.left_of m.b) m.merger m.«record») reads in
+pub left_finished : (m : Merging) (g : Merger) (records : ℕ) (f : FrameFeed) → m.phase ≡ Reads → bytes_left g [] < 184
+    → left_in Rests records g f < left_of m
+left_finished m g records f reads few =
+    let was = ap (λ (p : Phase). left_in p (feed.left_of m.a + feed.left_of m.b) m.merger (feed_of m)) reads in
     omega (arith, was, few)
 
 -- ---- no more frames come
@@ -422,29 +550,30 @@ none_comes o f none busy = record {
 pub shown_finished : (c : Config) (m : Merging) (g : Merger) (events : List Event) → Shown c events m → m.phase ≡ Reads
     → least_of (waiting_of m.a) (waiting_of m.b) ≡ None → is_idle (waiting_of m.a) (feed.has_ended m.a) ≡ false
     → is_idle (waiting_of m.b) (feed.has_ended m.b) ≡ false
-    → ((c : Config) (frames : List NumberedView) (given : ℕ) → MergerStandsFor m.merger c frames given → MergerStandsFor g c frames given)
-    → merger.config_of g ≡ merger.config_of m.merger → has_finished g ≡ true → is_fed g ≡ true → bytes_left g None ≡ bytes_left m.merger None
+    → ((left : List Body) (all : List (ℕ × Body)) (given : ℕ) → MergerStandsFor m.merger left all given → MergerStandsFor g left all given)
+    → merger.config_of g ≡ merger.config_of m.merger → has_finished g ≡ true → is_fed g ≡ true → bytes_left g [] ≡ bytes_left m.merger []
     → Shown c events (record m { merger = g; phase = Rests })
 shown_finished c m g events s reads least busy_a busy_b stands config over all_fed left =
     let frames : List NumberedView = frames_of (picks c s.given_a s.given_b) in
     let i : IsReading c m.merger frames m.ran.units = subst (IsIn c m frames) reads s.is_in in
     let none = least_none (waiting_of m.a) (waiting_of m.b) least in
-    let was_units : m.ran.units + more_units Reads m.merger m.«record» ≤ m.next * frame_bytes + 184 =
-    subst (λ (p : Phase). m.ran.units + more_units p m.merger m.«record» ≤ m.next * frame_bytes + 184) reads
+    let was_units : m.ran.units + more_units Reads m.merger (feed_of m) ≤ m.next * frame_bytes + 184 =
+    subst (λ (p : Phase). m.ran.units + more_units p m.merger (feed_of m) ≤ m.next * frame_bytes + 184) reads
     s.counts.units in
+    let sending = reading_sends c m events s reads in
     record {
       config = s.config;
       plan = s.plan;
-      ids = s.ids;
       given_a = s.given_a;
       given_b = s.given_b;
-      of_a = s.of_a;
-      of_b = s.of_b;
-      behind_a = s.behind_a;
-      behind_b = s.behind_b;
+      of_a = read_a c m events s reads;
+      of_b = read_b c m events s reads;
+      behind_a = past_a c m events s reads;
+      behind_b = past_b c m events s reads;
       next_is = s.next_is;
       early = s.early;
-      sends = sends_over c m.merger g frames m.ran.units (gave events) config i.is_open (stands c frames m.ran.units s.sends.stands) s.sends;
+      sends = sends_over c m.merger g [] frames m.ran.units (gave events) config i.is_open
+          (stands [] (remade_bodies c frames) m.ran.units sending.stands) sending;
       ran_is = s.ran_is;
       counts = record {
         frames = s.counts.frames;
@@ -463,39 +592,50 @@ shown_finished c m g events s reads least busy_a busy_b stands config over all_f
 -- ---- so it is of both feeds and the merger
 
 module _ (follow : DueFollow) (grow : PicksGrow) (field : FieldRange) (c : Config) (m new : Merging) (events : List Event) (n : ℕ)
-    (p : Pick) (t : Takings m new.a new.b n p new.«record») (s : Shown c events m)
-    (config : new.plan.now ≡ m.plan.now) (reads : m.phase ≡ Reads) (next : new.next ≡ n + 1) (early : n < MOST_FRAMES) where
-  abbrev out : List ℕ
-  out = new.«record»
+    (p : Pick) (t : Takings m new.a new.b n p) (s : Shown c events m) (config : new.plan.now ≡ m.plan.now) (reads : m.phase ≡ Reads)
+    (next : new.next ≡ n + 1) (early : n < MOST_FRAMES) where
+  abbrev now_from : Option Feed
+  now_from = source_at n (seen_of (waiting_of m.a)) (seen_of (waiting_of m.b))
+
+  from_is : p.source ≡ now_from
+  from_is = ap (λ (q : Pick). q.source) t.is
 
   pub passed : p.source ≡ None → new.ran ≡ m.ran → new.phase ≡ Reads → new.merger ≡ m.merger → Shown c events new
   passed none ran still same =
+      let held : (f : Feed) → is_held new.phase new.source f ≡ is_from f now_from =
+      λ f. ap (λ (q : Phase). is_held q new.source f) still ∙ sym (ap (is_from f) (sym from_is ∙ none)) in
       shown_passed follow grow field c m new events n
-      (now_a follow grow c m new.a new.b events n p out t s) (now_b follow grow c m new.a new.b events n p out t s)
-      s config reads next early (next_low follow grow c m new.a new.b events n p out t s)
-      (none_picked follow grow c m new.a new.b events n p out t s none) ran still same
-      (of_a follow grow c m new.a new.b events n p out t s) (of_b follow grow c m new.a new.b events n p out t s)
-      (behind_a follow grow c m new.a new.b events n p out t s) (behind_b follow grow c m new.a new.b events n p out t s)
-      (next_now follow grow c m new.a new.b events n p out t s) (live follow grow c m new.a new.b events n p out t s reads)
+      (now_a follow grow c m new.a new.b events n p t s reads) (now_b follow grow c m new.a new.b events n p t s reads) now_from
+      s config reads next early (next_low follow grow c m new.a new.b events n p t s reads) (held A) (held B)
+      (ta follow grow c m new.a new.b events n p t s reads).stands (tb follow grow c m new.a new.b events n p t s reads).stands
+      (behind_a follow grow c m new.a new.b events n p t s reads) (behind_b follow grow c m new.a new.b events n p t s reads)
+      (next_now follow grow c m new.a new.b events n p t s reads) (live follow grow c m new.a new.b events n p t s reads)
+      (none_picked follow grow c m new.a new.b events n p t s reads none) ran still same
 
-  pub begun : DueSpelled → FramesAreFormed → (from : Feed) → p.source ≡ Some from → new.ran ≡ added m.ran from → new.phase ≡ Gives
-      → ((view : RecordView) → Spells view out → Begins m.merger new.merger n view) → Shown c events new
-  begun spelled_law formed_law from own ran gives b =
-      let f = frame_is follow grow c m new.a new.b events n p out t s spelled_law formed_law early from own in
+  pub begun : FramesAreFormed → (from : Feed) → p.source ≡ Some from → new.ran ≡ added m.ran from → new.phase ≡ Gives
+      → new.source ≡ from → Begins m.merger new.merger (feed_in from new.a new.b) n → Shown c events new
+  begun formed_law from own ran gives is b =
+      let f = frame_is follow grow c m new.a new.b events n p t s reads formed_law new.merger from own b in
+      let held : (f : Feed) → is_held new.phase new.source f ≡ is_from f now_from =
+      λ f. ap₂ (λ (q : Phase) (k : Feed). is_held q k f) gives is ∙ sym (ap (is_from f) (sym from_is ∙ own)) in
+      let feed_is : feed_in from new.a new.b ≡ feed_of new = ap (λ (k : Feed). feed_in k new.a new.b) (sym is) in
       shown_begun follow grow field c m new events n
-      (now_a follow grow c m new.a new.b events n p out t s) (now_b follow grow c m new.a new.b events n p out t s)
-      s config reads next early (next_low follow grow c m new.a new.b events n p out t s)
-      from f.view f.picked ran gives f.spells f.formed (b f.view f.spells)
-      (of_a follow grow c m new.a new.b events n p out t s) (of_b follow grow c m new.a new.b events n p out t s)
-      (behind_a follow grow c m new.a new.b events n p out t s) (behind_b follow grow c m new.a new.b events n p out t s)
-      (next_now follow grow c m new.a new.b events n p out t s) (live follow grow c m new.a new.b events n p out t s reads)
+      (now_a follow grow c m new.a new.b events n p t s reads) (now_b follow grow c m new.a new.b events n p t s reads) now_from
+      s config reads next early (next_low follow grow c m new.a new.b events n p t s reads) (held A) (held B)
+      (ta follow grow c m new.a new.b events n p t s reads).stands (tb follow grow c m new.a new.b events n p t s reads).stands
+      (behind_a follow grow c m new.a new.b events n p t s reads) (behind_b follow grow c m new.a new.b events n p t s reads)
+      (next_now follow grow c m new.a new.b events n p t s reads) (live follow grow c m new.a new.b events n p t s reads)
+      from f.view f.picked ran gives f.formed
+      (subst (λ (k : FrameFeed). Waits (waiting_of k) n) feed_is (waits_now m new.a new.b n p t from own))
+      b.config b.finished
+      (subst (λ (k : FrameFeed). BeginsAs m.merger new.merger (left_for new.merger k) (numbered n f.view)) feed_is f.begun)
 
-pub begun_left : DueFollow → PicksGrow → FieldRange → DueSpelled → FramesAreFormed → (c : Config) (m : Merging) (a b : FrameFeed)
-    (g : Merger) (events : List Event) (n : ℕ) (p : Pick) (out : List ℕ) → Takings m a b n p out → Shown c events m → m.phase ≡ Reads
-    → n < MOST_FRAMES → (from : Feed) → p.source ≡ Some from → ((view : RecordView) → Spells view out → Begins m.merger g n view)
-    → left_in Gives (feed.left_of a + feed.left_of b) g out < left_of m
-begun_left follow grow field spelled_law formed_law c m a b g events n p out t s reads early from own begins =
-    let f = frame_is follow grow c m a b events n p out t s spelled_law formed_law early from own in
-    left_begun m a b g out reads (fewer_left m a b n p out t)
-    (begun_few field c m.merger g n f.view out s.plan f.formed f.spells s.sends.network (reading_of c m events s reads).idle
-    (begins f.view f.spells))
+pub begun_left : DueFollow → PicksGrow → FieldRange → FramesAreFormed → (c : Config) (m : Merging) (a b : FrameFeed)
+    (g : Merger) (events : List Event) (n : ℕ) (p : Pick) → Takings m a b n p → Shown c events m → m.phase ≡ Reads
+    → (from : Feed) → p.source ≡ Some from → Begins m.merger g (feed_in from a b) n
+    → left_in Gives (feed.left_of a + feed.left_of b) g (feed_in from a b) < left_of m
+begun_left follow grow field formed_law c m a b g events n p t s reads from own begins =
+    let f = frame_is follow grow c m a b events n p t s reads formed_law g from own begins in
+    left_begun m a b (feed_in from a b) g reads (no_more_left m a b n p t)
+    (begun_few field c m.merger g (feed_in from a b) n f.view s.plan f.formed s.sends.network (reading_of c m events s reads).idle
+    f.begun)

@@ -1,30 +1,29 @@
 -- What one of the feeds stands for, and which number comes next of it.
-use Rattle.std.proofs.Common.{◌≡◌, ℕ, ◌+◌, ◌^◌, ◌<◌, ◌≤◌, ◌==◌, Bool, true, false, List, [], ◌∷◌, ◌++◌, Option, Some, None}
-use Rattle.std.proofs.Common.{refl, ap, sym, subst, ◌∙◌, arith}
+use Rattle.std.proofs.Common.{◌≡◌, ℕ, ◌+◌, ◌≤◌, ◌==◌, ◌&&◌, not, Bool, true, false, List, [], ◌∷◌, ◌++◌, Option, Some, None}
+use Rattle.std.proofs.Common.{is_some, refl, ap, sym, subst, ◌∙◌, arith, append_assoc}
+use Rattle.std.specs.Prelude.{IsSome}
 use Rattle.std.specs.List.{AllByRecursion}
-use Rattle.std.proofs.lemmas.Bool.{true≢false, eqb-false, eqb-true}
+use Rattle.std.proofs.lemmas.Bool.{true≢false, eqb-false, eqb-true, and_parts}
 use Rattle.plp_config.specs.Capacity.{IsPlan}
 use Rattle.plp_config.specs.declared.config.Config.{Config}
-use Rattle.plp_config.specs.declared.moment.TheConstants.{MOST_FRAMES}
 use Rattle.frame_groups.specs.Laws.{AreFrom}
 use Rattle.frame_groups.specs.Modulated.{FrameRecord}
 use Rattle.frame_groups.specs.declared.waiting.Waiting.{Waiting}
-use Rattle.record_laws.specs.Frames.{HasByteIds}
-use Rattle.site_frame.specs.Whole.{Spells}
-use Rattle.open_group.specs.Written.{content_view, spelled}
-use Rattle.modulator.specs.Laws.{DueFollow, DueSpelled}
+use Rattle.open_group.specs.Written.{content_view}
+use Rattle.modulator.specs.Laws.{DueFollow}
 use Rattle.modulator.specs.StandsFor.{records_due}
 use Rattle.formed_frames.specs.Formed.{IsFormed}
 use Rattle.formed_frames.specs.Laws.{FramesAreFormed, IsFormedRecord}
-use Rattle.frame_feed.specs.StandsFor.{IsFirst, waiting_of}
-use Rattle.frame_feed.specs.StandsFor as feed
-use Rattle.frame_feed.specs.declared.feed.FrameFeed.{FrameFeed}
 use Rattle.feed_merge.specs.declared.seen.Feed.{Feed}
-use Rattle.feed_merge.specs.Picking.{is_at}
+use Rattle.feed_merge.specs.Picking.{is_at, is_there}
 use Rattle.feed_merge.specs.Picks.{Picked, above_all}
-use Rattle.merge_run.specs.Shown.{IsFedWith, IsBehind}
-use Rattle.merge_run.specs.Steps.{is_idle}
-use Rattle.merge_run.specs.Taking.{seen_of, AreTaken, TookFrom}
+use Rattle.held_feed.specs.Reading.{is_idle}
+use Rattle.held_feed.specs.Skips.{AreTaken, IsOnly, Takes}
+use Rattle.held_feed.specs.StandsFor.{IsFirst, waiting_of}
+use Rattle.held_feed.specs.StandsFor as feed
+use Rattle.held_feed.specs.declared.feed.FrameFeed.{FrameFeed}
+use Rattle.merge_run.specs.Shown.{IsFedWith, IsBehind, IsHeld, OfFeed, IsPast}
+use Rattle.merge_run.specs.Taking.{seen_of, is_from, leaves}
 use Rattle.merge_run.proofs.NumberLemmas.{above_append, above_before}
 use Rattle.merge_run.proofs.PickLemmas.{PickIs}
 
@@ -72,43 +71,114 @@ behind_more follow c next f g bytes ended given none going was h = record {
   idle = λ _ _. was.idle none going;
 }
 
--- ---- a record was taken, or none
+-- ---- a record was taken, or none: its frame is sent, or it was left behind
 
-pub took_with : (c : Config) (from : Feed) (source : Option Feed) (taken : Bool) (f g : FrameFeed) (bytes : List ℕ) (ended : Bool)
-    (given : List FrameRecord) (out : List ℕ) → feed.config_of g ≡ feed.config_of f → IsFedWith c f bytes ended given
-    → (t : TookFrom from source taken f g bytes ended given out) → IsFedWith c g bytes ended (given ++ t.takes.records)
-took_with c from source taken f g bytes ended given out config h t = record {
-  network = config ∙ h.network;
-  stands = t.takes.stands;
-}
+pub record TookFor (held taken : Bool) (c : Config) (f g : FrameFeed) (bytes : List ℕ) (ended : Bool)
+    (given : List FrameRecord) : Type 0 where
+  pub records : List FrameRecord
+  pub are : AreTaken taken (waiting_of f) records
+  pub stands : OfFeed held c g bytes ended (given ++ records)
+
+both_on : (b : Bool) → (b && true) ≡ b
+both_on true = refl
+both_on false = refl
+
+both_off : (b : Bool) → (b && false) ≡ false
+both_off true = refl
+both_off false = refl
+
+-- what is not muted and of a number is of that number
+pub there_at : (n : ℕ) (o : Option Waiting) → is_there n (seen_of o) ≡ true → is_at n (seen_of o) ≡ true
+there_at n None e = absurd (true≢false (sym e))
+there_at n (Some w) e = (and_parts (w.frame == n) (not (is_some w.mute)) e).0
+
+-- it was left behind, unless its frame is sent
+took_by : (held : Bool) (at : Bool) (c : Config) (f g : FrameFeed) (bytes : List ℕ) (ended : Bool) (given : List FrameRecord)
+    → (held ≡ true → (at ≡ true) × IsSome (waiting_of f)) → feed.config_of g ≡ feed.config_of f
+    → ((at && not held) ≡ false → g ≡ f) → Takes (at && not held) f g bytes ended given → IsFedWith c f bytes ended given
+    → TookFor held at c f g bytes ended given
+took_by false at c f g bytes ended given there config stays takes h =
+    let t = subst (λ (b : Bool). Takes b f g bytes ended given) (both_on at) takes in
+    record { records = t.records; are = t.are; stands = record { network = config ∙ h.network; stands = t.stands } }
+took_by true at c f g bytes ended given there config stays takes h =
+    let d = due_of c f bytes ended given h in
+    let here = there refl in
+    first (waiting_of f) refl here.1 d.later d.all d.first
+  where
+    first : (o : Option Waiting) → waiting_of f ≡ o → IsSome (waiting_of f) → (later : List FrameRecord)
+        → records_due c ended bytes ≡ given ++ later → IsFirst (waiting_of f) later → TookFor true at c f g bytes ended given
+    first None none some later all is = absurd (true≢false (sym (subst IsSome none some)))
+    first (Some w) waits some [] all is = absurd (subst (λ (o : Option Waiting). IsFirst o []) waits is)
+    first (Some w) waits some (x ∷ later) all is =
+        let one : IsFirst (waiting_of f) (x ∷ []) =
+        subst (λ (o : Option Waiting). IsFirst o (x ∷ [])) (sym waits) (subst (λ (o : Option Waiting). IsFirst o (x ∷ later)) waits is) in
+        let only : IsOnly (waiting_of f) (x ∷ []) = record { one = x; only = refl; first = one } in
+        let was : IsHeld c f bytes ended (given ++ x ∷ []) = record {
+          before = given;
+          one = x;
+          later = later;
+          given_is = refl;
+          due = all;
+          first = one;
+          fed = h;
+        } in
+        record {
+          records = x ∷ [];
+          are = subst (λ (b : Bool). AreTaken b (waiting_of f) (x ∷ [])) (sym (there refl).0) only;
+          stands = subst (λ (k : FrameFeed). IsHeld c k bytes ended (given ++ x ∷ [])) (sym (stays (both_off at))) was;
+        }
+
+waits_there : (n : ℕ) (o : Option Waiting) → is_there n (seen_of o) ≡ true → IsSome o
+waits_there n None e = absurd (true≢false (sym e))
+waits_there n (Some w) e = refl
+
+pub took_of : (c : Config) (from : Feed) (source : Option Feed) (n : ℕ) (f g : FrameFeed) (bytes : List ℕ) (ended : Bool)
+    (given : List FrameRecord) → (is_from from source ≡ true → is_there n (seen_of (waiting_of f)) ≡ true)
+    → feed.config_of g ≡ feed.config_of f
+    → (leaves from (is_at n (seen_of (waiting_of f))) source ≡ false → g ≡ f)
+    → Takes (leaves from (is_at n (seen_of (waiting_of f))) source) f g bytes ended given
+    → IsFedWith c f bytes ended given
+    → TookFor (is_from from source) (is_at n (seen_of (waiting_of f))) c f g bytes ended given
+took_of c from source n f g bytes ended given there config stays takes h =
+    took_by (is_from from source) (is_at n (seen_of (waiting_of f))) c f g bytes ended given
+    (λ on. (there_at n (waiting_of f) (there on), waits_there n (waiting_of f) (there on))) config stays takes h
 
 idle_none : (e : Bool) → is_idle None e ≡ false → e ≡ true
 idle_none true off = refl
 idle_none false off = absurd (true≢false off)
 
-pub took_behind : DueFollow → (c : Config) (n : ℕ) (from : Feed) (source : Option Feed) (f g : FrameFeed) (bytes : List ℕ) (ended : Bool)
-    (given : List FrameRecord) (out : List ℕ) → is_idle (waiting_of f) (feed.has_ended f) ≡ false
+pub took_past : DueFollow → (c : Config) (n : ℕ) (held : Bool) (f g : FrameFeed) (bytes : List ℕ) (ended : Bool)
+    (given : List FrameRecord) → is_idle (waiting_of f) (feed.has_ended f) ≡ false
     → ((w : Waiting) → waiting_of f ≡ Some w → n ≤ w.frame) → feed.has_ended g ≡ feed.has_ended f
+    → (held ≡ true → is_at n (seen_of (waiting_of f)) ≡ true)
     → (is_at n (seen_of (waiting_of f)) ≡ false → waiting_of g ≡ waiting_of f)
-    → (t : TookFrom from source (is_at n (seen_of (waiting_of f))) f g bytes ended given out)
-    → IsFedWith c g bytes ended (given ++ t.takes.records) → IsBehind (n + 1) g (given ++ t.takes.records)
-took_behind follow c n from source f g bytes ended given out busy least end stays t h =
-    go (is_at n (seen_of (waiting_of f))) refl t.takes.are
+    → (t : TookFor held (is_at n (seen_of (waiting_of f))) c f g bytes ended given)
+    → IsPast held (n + 1) g (given ++ t.records)
+took_past follow c n held f g bytes ended given busy least end here stays t =
+    go held (is_at n (seen_of (waiting_of f))) refl refl t.are t.stands
   where
-    go : (b : Bool) → is_at n (seen_of (waiting_of f)) ≡ b → AreTaken b (waiting_of f) t.takes.records → IsBehind (n + 1) g (given ++ t.takes.records)
-    go true same are =
+    high : (at : Bool) → is_at n (seen_of (waiting_of f)) ≡ at → at ≡ true → AreTaken at (waiting_of f) t.records
+        → n + 1 ≤ above_all (given ++ t.records)
+    high true same on are =
         let number : are.one.number ≡ n = taken_number (waiting_of f) are.one same are.first in
         let size = ap above_all are.only in
-        let high : n + 1 ≤ above_all (given ++ t.takes.records) = omega (arith, above_append given t.takes.records, size, number) in
-        record {
-          waits = λ w is. let l = waits_above follow c g bytes ended (given ++ t.takes.records) h w is in omega (arith, l, high);
-          idle = λ _ _. high;
-        }
+        omega (arith, above_append given t.records, size, number)
       where
         taken_number : (o : Option Waiting) (x : FrameRecord) → is_at n (seen_of o) ≡ true → IsFirst o (x ∷ []) → x.number ≡ n
         taken_number None x e first = absurd (true≢false (sym e))
         taken_number (Some w) x e first = first.0 ∙ eqb-true w.frame n e
-    go false differ are = record {
+    high false same on are = absurd (true≢false (sym on))
+
+    go : (k at : Bool) → held ≡ k → is_at n (seen_of (waiting_of f)) ≡ at → AreTaken at (waiting_of f) t.records
+        → OfFeed k c g bytes ended (given ++ t.records) → IsPast k (n + 1) g (given ++ t.records)
+    go true at on same are h = high at same (sym same ∙ here on) are
+    go false true off same are h =
+        let up = high true same refl are in
+        record {
+          waits = λ w is. let l = waits_above follow c g bytes ended (given ++ t.records) h w is in omega (arith, l, up);
+          idle = λ _ _. up;
+        }
+    go false false off differ are h = record {
       waits = λ w is. above w (sym (stays differ) ∙ is) (least w (sym (stays differ) ∙ is));
       idle = λ none going.
           let over = idle_none (feed.has_ended f) (subst (λ (o : Option Waiting). is_idle o (feed.has_ended f) ≡ false)
@@ -128,34 +198,18 @@ pub one_of : {X : Type 0} (P : X → Type 0) (xs : List X) (x : X) (ys : List X)
 one_of P [] x ys all = all.0
 one_of P (y ∷ xs) x ys all = one_of P xs x ys all.1
 
--- its bytes are that record, and it is formed for its number
-pub holds_frame : DueSpelled → FramesAreFormed → (c : Config) (from : Feed) (source : Option Feed) (taken : Bool) (f g : FrameFeed)
-    (bytes : List ℕ) (ended : Bool) (given : List FrameRecord) (out : List ℕ) (n : ℕ) (o : Option Picked) → IsPlan c → HasByteIds c
-    → n < MOST_FRAMES → IsFedWith c f bytes ended given → source ≡ Some from
-    → (t : TookFrom from source taken f g bytes ended given out)
-    → IsFedWith c g bytes ended (given ++ t.takes.records) → (p : PickIs c n from t.takes.records o)
-    → Spells (content_view c n p.one.content) out × IsFormed c n (content_view c n p.one.content)
-holds_frame spelled_law formed_law c from source taken f g bytes ended given out n o plan ids early h own t after p =
-    let x = p.one in
-    let d = due_of c g bytes ended (given ++ t.takes.records) after in
-    let all : records_due c ended bytes ≡ (given ++ x ∷ []) ++ d.later =
-    d.all ∙ ap (λ (l : List FrameRecord). (given ++ l) ++ d.later) p.only in
-    let parts : records_due c ended bytes ≡ given ++ x ∷ d.later = all ∙ push given x d.later in
-    let number : x.number ≡ n = p.number in
-    let small : x.number < 2 ^ 32 = omega (arith, number, early) in
-    let spells : Spells (content_view c x.number x.content) (spelled c x) =
-    one_of (λ (y : FrameRecord). y.number < 2 ^ 32 → Spells (content_view c y.number y.content) (spelled c y)) given x d.later
-    (subst (AllByRecursion (λ (y : FrameRecord). y.number < 2 ^ 32 → Spells (content_view c y.number y.content) (spelled c y))) parts
-    (spelled_law c ended bytes plan ids)) small in
-    let formed : IsFormed c x.number (content_view c x.number x.content) =
-    one_of (IsFormedRecord c) given x d.later (subst (AllByRecursion (IsFormedRecord c)) parts (formed_law c ended bytes plan))
-    p.group p.whole in
-    let piece : spelled c x ≡ out =
-    ap (λ (k : Config). spelled k x) (sym h.network) ∙ sym (t.takes.is x p.only) ∙ t.own own in (
-      subst (Spells (content_view c n x.content)) piece (subst (λ (k : ℕ). Spells (content_view c k x.content) (spelled c x)) number spells),
-      subst (λ (k : ℕ). IsFormed c k (content_view c k x.content)) number formed,
-    )
-  where
-    push : (xs : List FrameRecord) (x : FrameRecord) (ys : List FrameRecord) → (xs ++ x ∷ []) ++ ys ≡ xs ++ x ∷ ys
-    push [] x ys = refl
-    push (z ∷ xs) x ys = ap (λ (l : List FrameRecord). z ∷ l) (push xs x ys)
+-- it is due behind those before
+pub due_held : (c : Config) (f : FrameFeed) (bytes : List ℕ) (ended : Bool) (given records : List FrameRecord) (x : FrameRecord)
+    → records ≡ x ∷ [] → (h : IsHeld c f bytes ended (given ++ records)) → records_due c ended bytes ≡ given ++ x ∷ h.later
+due_held c f bytes ended given records x only h =
+    h.due ∙ sym (append_assoc h.before (h.one ∷ []) h.later) ∙ ap (λ (l : List FrameRecord). l ++ h.later) (sym h.given_is)
+    ∙ ap (λ (l : List FrameRecord). (given ++ l) ++ h.later) only ∙ append_assoc given (x ∷ []) h.later
+
+-- and formed for its number
+pub formed_due : FramesAreFormed → (c : Config) (bytes : List ℕ) (ended : Bool) (given : List FrameRecord) (from : Feed) (n : ℕ)
+    (records : List FrameRecord) (o : Option Picked) (later : List FrameRecord) → IsPlan c → (p : PickIs c n from records o)
+    → records_due c ended bytes ≡ given ++ p.one ∷ later → IsFormed c n (content_view c n p.one.content)
+formed_due law c bytes ended given from n records o later plan p due =
+    subst (λ (k : ℕ). IsFormed c k (content_view c k p.one.content)) p.number
+    (one_of (IsFormedRecord c) given p.one later (subst (AllByRecursion (IsFormedRecord c)) due (law c ended bytes plan))
+    p.group p.whole)

@@ -19,18 +19,19 @@ use Rattle.t2mi_stream.specs.CompleteLaws.{CompleteLaw}
 use Rattle.t2mi_stream.specs.Pipe.{pipe, units_in}
 use Rattle.formed_frames.specs.Remade.{NumberedView, remade_packets}
 use Rattle.feed_merge.specs.Picks.{Picked, picks, picks_below, above_all, frames_of}
-use Rattle.feed_merge.specs.StandsFor.{has_finished}
-use Rattle.frame_feed.specs.StandsFor.{IsFirst, waiting_of}
-use Rattle.frame_feed.specs.StandsFor as feed
-use Rattle.frame_feed.specs.declared.feed.FrameFeed.{FrameFeed}
+use Rattle.pool_merger.specs.StandsFor.{has_finished}
+use Rattle.held_feed.specs.StandsFor.{IsFirst, waiting_of}
+use Rattle.held_feed.specs.StandsFor as feed
+use Rattle.held_feed.specs.declared.feed.FrameFeed.{FrameFeed}
 use Rattle.file_run.specs.Events.{Event, fed, has_ended, gave}
 use Rattle.file_run.specs.FileRun.{AreFed, IsFed}
 use Rattle.merge_run.specs.Counted.{counted}
 use Rattle.merge_run.specs.MergeRun.{complete_by, picked_below, picked_of, packets_of, units_of, AreEarly, MergesAll}
 use Rattle.merge_run.specs.MergeRun.{HasNone, AreCompleteBelow, HasLate, end_by, HasWritten, MayWrite}
-use Rattle.merge_run.specs.Shown.{Shown, IsFedWith, IsBehind, IsDueBelow, NoneComes, IsReading, IsDone, IsIn}
-use Rattle.merge_run.specs.Steps.{is_idle, fed_at}
-use Rattle.merge_run.specs.Taking.{least_of}
+use Rattle.feed_merge.specs.declared.seen.Feed.TheVariants.{A, B}
+use Rattle.merge_run.specs.Shown.{Shown, IsFedWith, IsBehind, IsPast, IsDueBelow, NoneComes, IsReading, IsDone, IsIn, is_held}
+use Rattle.held_feed.specs.Reading.{is_idle, fed_at}
+use Rattle.held_feed.specs.Reading.{least_of}
 use Rattle.merge_run.specs.declared.merging.Merging.{Merging}
 use Rattle.merge_run.specs.declared.phase.Phase.{Phase}
 use Rattle.merge_run.specs.declared.phase.Phase.TheVariants as phase
@@ -38,7 +39,9 @@ use Rattle.merge_run.proofs.FeedLemmas.{due_of}
 use Rattle.merge_run.proofs.NumberLemmas.{below_of, nothing_above}
 use Rattle.merge_run.proofs.PickLemmas.{least_first, least_second}
 use Rattle.merge_run.proofs.SendLemmas.{frames_append, packets_more, gave_complete, given_front, gave_all}
-use Rattle.merge_run.proofs.SplitLemmas.{IsSplit, picks_front, below_split, picks_split, picks_nothing, all_given, split_at, late_waits}
+use Rattle.merge_run.proofs.SplitLemmas.{IsSplit, picks_front, below_split, picks_split, picks_nothing, late_waits}
+use Rattle.merge_run.proofs.HeldLemmas.{all_of, split_of, count_of}
+use Rattle.merge_run.proofs.ShownLemmas.{read_a, read_b, past_a, past_b}
 use Rattle.merge_run.proofs.StepLemmas.{Wants, First, Second, IsLate}
 use Rattle.frame_groups.specs.Laws.{IsPrefix}
 use Rattle.std.proofs.lemmas.List.{take-append-le}
@@ -79,14 +82,20 @@ module _ (front : DueFront) (follow : DueFollow) (law : CompleteLaw) (c : Config
   above_b : above_all gb ≤ m.next
   above_b = let n = s.next_is in omega (arith, n)
 
-  split_a : (n : ℕ) → IsBehind n m.a ga → IsSplit c (files 0) ga n
-  split_a n b = split_at front follow c m.a (files 0) _ _ _ ga fed_a s.of_a n b
+  abbrev held_a : Bool
+  held_a = is_held m.phase m.source A
 
-  split_b : (n : ℕ) → IsBehind n m.b gb → IsSplit c (files 1) gb n
-  split_b n b = split_at front follow c m.b (files 1) _ _ _ gb fed_b s.of_b n b
+  abbrev held_b : Bool
+  held_b = is_held m.phase m.source B
+
+  split_a : (n : ℕ) → IsPast held_a n m.a ga → IsSplit c (files 0) ga n
+  split_a n b = split_of front follow c m.a (files 0) _ _ _ ga fed_a held_a n s.of_a b
+
+  split_b : (n : ℕ) → IsPast held_b n m.b gb → IsSplit c (files 1) gb n
+  split_b n b = split_of front follow c m.b (files 1) _ _ _ gb fed_b held_b n s.of_b b
 
   -- the frames that were picked are those below a number that is behind both
-  picked_is : (n : ℕ) → m.next ≤ n → IsBehind n m.a ga → IsBehind n m.b gb → picked_below c files n ≡ picks c ga gb
+  picked_is : (n : ℕ) → m.next ≤ n → IsPast held_a n m.a ga → IsPast held_b n m.b gb → picked_below c files n ≡ picks c ga gb
   picked_is n le x y =
       let p = split_a n x in
       let q = split_b n y in
@@ -99,8 +108,10 @@ module _ (front : DueFront) (follow : DueFollow) (law : CompleteLaw) (c : Config
       → AreCompleteBelow c files n (gave events)
   complete_below n le x y reads =
       let i : IsReading c m.merger frames m.ran.units = subst (IsIn c m frames) reads s.is_in in
-      gave_complete law c m.merger frames m.ran.units (gave events) i.is_open i.complete s.sends
-      ∙ ap (λ (ps : List Picked). joined (complete_units c.pid (packets_of c ps))) (sym (picked_is n le x y))
+      gave_complete law c m.merger _ frames m.ran.units (gave events) i.is_open i.complete s.sends
+      ∙ ap (λ (ps : List Picked). joined (complete_units c.pid (packets_of c ps))) (sym (picked_is n le
+      (subst (λ (p : Phase). IsPast (is_held p m.source A) n m.a ga) (sym reads) x)
+      (subst (λ (p : Phase). IsPast (is_held p m.source B) n m.b gb) (sym reads) y)))
 
   -- ---- all was given
 
@@ -108,10 +119,10 @@ module _ (front : DueFront) (follow : DueFollow) (law : CompleteLaw) (c : Config
   none_in done = subst (IsIn c m frames) done s.is_in
 
   all_a : NoneComes m.a → records_of c (files 0) ≡ ga
-  all_a none = all_given front follow c m.a (files 0) _ _ _ ga fed_a s.of_a none
+  all_a none = all_of front follow c m.a (files 0) _ _ _ ga fed_a held_a s.of_a none
 
   all_b : NoneComes m.b → records_of c (files 1) ≡ gb
-  all_b none = all_given front follow c m.b (files 1) _ _ _ gb fed_b s.of_b none
+  all_b none = all_of front follow c m.b (files 1) _ _ _ gb fed_b held_b s.of_b none
 
   early_all : NoneComes m.a → NoneComes m.b → (input : ℕ) → input < 2 → AreEarly (records_of c (files input))
   early_all none_a none_b =
@@ -135,7 +146,7 @@ module _ (front : DueFront) (follow : DueFollow) (law : CompleteLaw) (c : Config
       record {
         some = there;
         early = early_all i.none_a i.none_b;
-        output = gave_all c m.merger frames m.ran.units (gave events) i.all s.sends ∙ ap joined (sym units);
+        output = gave_all c m.merger _ frames m.ran.units (gave events) i.all s.sends ∙ ap joined (sym units);
         ran_is = s.ran_is ∙ ap₂ counted (sym picked) (sym i.all ∙ ap length (sym units));
       }
     where
@@ -165,7 +176,7 @@ module _ (front : DueFront) (follow : DueFollow) (law : CompleteLaw) (c : Config
       ap₂ (λ (ra rb : List FrameRecord). picks c ra rb) a b ∙ picks_nothing c in
       record {
         none = two (λ (input : ℕ). records_of c (files input) ≡ []) (all_a i.none_a ∙ a) (all_b i.none_b ∙ b);
-        empty = gave_all c m.merger frames m.ran.units (gave events) i.all s.sends
+        empty = gave_all c m.merger _ frames m.ran.units (gave events) i.all s.sends
             ∙ ap (λ (ps : List Picked). joined (pipe c.pid (packets_of c ps))) none ∙ nothing_sent c;
       }
 
@@ -200,8 +211,8 @@ module _ (front : DueFront) (follow : DueFollow) (law : CompleteLaw) (c : Config
 
       go : (v w : Option Waiting) → waiting_of m.a ≡ v → waiting_of m.b ≡ w
           → (¬ (AreEarly (records_of c (files 0)))) ⊎ (¬ (AreEarly (records_of c (files 1))))
-      go (Some v) w x y = inl (late_waits front follow c m.a (files 0) _ _ _ ga fed_a s.of_a v x (low_a v x))
-      go None (Some w) x y = inr (late_waits front follow c m.b (files 1) _ _ _ gb fed_b s.of_b w y (low_b w y))
+      go (Some v) w x y = inl (late_waits front follow c m.a (files 0) _ _ _ ga fed_a (read_a c m events s reads) v x (low_a v x))
+      go None (Some w) x y = inr (late_waits front follow c m.b (files 1) _ _ _ gb fed_b (read_b c m events s reads) w y (low_b w y))
       go None None x y =
           absurd (let z : None ≡ Some l.least = sym (ap₂ least_of x y) ∙ l.is in cc)
 
@@ -238,15 +249,15 @@ module _ (front : DueFront) (follow : DueFollow) (law : CompleteLaw) (c : Config
     where
       end : (input : ℕ) → Wants (waiting_of m.a) (feed.has_ended m.a) (waiting_of m.b) (feed.has_ended m.b) input → EndsAt input
       end input (First at idle) = subst EndsAt at
-          (ends_at 0 m.a ga _ fed_a s.of_a s.behind_a above_a idle.none idle.going)
+          (ends_at 0 m.a ga _ fed_a (read_a c m events s reads) (past_a c m events s reads) above_a idle.none idle.going)
       end input (Second at idle) = subst EndsAt at
-          (ends_at 1 m.b gb _ fed_b s.of_b s.behind_b above_b idle.none idle.going)
+          (ends_at 1 m.b gb _ fed_b (read_b c m events s reads) (past_b c m events s reads) above_b idle.none idle.going)
 
       by : end_by c (files input) taken ≡ m.next → HasWritten c input taken files (gave events)
       by same = record {
         early = (let e = s.early in omega (arith, same, e));
         is = subst (λ (n : ℕ). AreCompleteBelow c files n (gave events)) (sym same)
-            (complete_below m.next (omega arith) s.behind_a s.behind_b reads);
+            (complete_below m.next (omega arith) (past_a c m events s reads) (past_b c m events s reads) reads);
       }
 
   -- ---- some were given
@@ -359,4 +370,5 @@ module _ (front : DueFront) (follow : DueFollow) (law : CompleteLaw) (c : Config
 
   pub fed_count : (input : ℕ) → input < 2 → fed_at (feed.fed_of m.a) (feed.fed_of m.b) input ≡ length (fed input events)
   fed_count input lt = two (λ (input : ℕ). fed_at (feed.fed_of m.a) (feed.fed_of m.b) input ≡ length (fed input events))
-      s.of_a.stands.count s.of_b.stands.count input lt
+      (count_of c m.a (fed 0 events) (has_ended 0 events) ga held_a s.of_a) (count_of c m.b (fed 1 events) (has_ended 1 events) gb held_b s.of_b)
+      input lt

@@ -1,11 +1,54 @@
--- The record that bytes hold.
-use Rattle.std.proofs.Common.{◌≡◌, ℕ, List, [], length, Some, subst, append-nil}
-use Rattle.site_frame.specs.Whole.{Spells, IsRead}
-use Rattle.site_frame.specs.declared.reading.RecordView.{RecordView}
-use Rattle.site_frame.proofs.WholeLemmas.{read_of}
-use Rattle.merge_run.specs.Sending.{view_at}
+-- What is begun is the frame of the record.
+use Rattle.std.proofs.Common.{◌≡◌, ℕ, Bool, List, [], ◌∷◌, ◌++◌, ap, ap₂, sym, subst, ◌∙◌, append-nil}
+use Rattle.std.specs.List.{AllByRecursion}
+use Rattle.std.proofs.lemmas.Grind.{flat_map-append}
+use Rattle.plp_config.specs.Capacity.{IsPlan}
+use Rattle.plp_config.specs.declared.config.Config.{Config}
+use Rattle.t2mi_packet.specs.declared.packet.Body.{Body}
+use Rattle.frame_groups.specs.Groups.{Group, groups}
+use Rattle.frame_groups.specs.Modulated.{FrameRecord, Content, past_after}
+use Rattle.frame_groups.specs.Modulated.Content.{Whole}
+use Rattle.frame_tests.specs.Tests.{rules}
+use Rattle.frame_writer.specs.Carried.{of_frame}
+use Rattle.t2mi_stream.specs.Units.{accepted_of}
+use Rattle.modulator.specs.Laws.{DuePass, IsRight}
+use Rattle.modulator.specs.Modulating.{packets_of}
+use Rattle.modulator.specs.StandsFor.{records_due}
+use Rattle.open_group.specs.Shown.{Shows}
+use Rattle.open_group.specs.Written.{content_view}
+use Rattle.pool_frame.specs.Bodies.{pool_bodies}
+use Rattle.pool_frame.specs.Left.{bodies_of}
+use Rattle.pool_frame.specs.Signalling.{pre_part, conf_part}
+use Rattle.pool_frame.specs.declared.frame.PoolFrame.{PoolFrame}
+use Rattle.held_feed.specs.Frames.{IsFrameOf, dynamic_of, lists_of}
+use Rattle.held_feed.specs.StandsFor.{config_of}
+use Rattle.held_feed.specs.declared.feed.FrameFeed.{FrameFeed}
+use Rattle.formed_frames.specs.Laws.{ShownIsSent}
+use Rattle.formed_frames.specs.Remade.{NumberedView, view_bodies, frame_pairs, remade_bodies}
+use Rattle.merge_run.specs.Sending.{frame_by}
+use Rattle.merge_run.proofs.FeedLemmas.{one_of}
 
-pub view_is : (view : RecordView) (bytes : List ℕ) → Spells view bytes → view_at bytes ≡ Some view
-unfolding view_at
-view_is view bytes spells =
-    let r = subst (λ (l : List ℕ). IsRead l view (length bytes)) (append-nil bytes) (read_of view bytes [] spells) in r.view-is
+-- one frame more
+pub pushed : (c : Config) (frames : List NumberedView) (f : NumberedView) (bodies : List Body)
+    → bodies ≡ view_bodies c f.number f.view
+    → remade_bodies c frames ++ of_frame f.number bodies ≡ remade_bodies c (frames ++ f ∷ [])
+pushed c frames f bodies is =
+    ap (λ (l : List Body). remade_bodies c frames ++ of_frame f.number l) is
+    ∙ sym (flat_map-append (frame_pairs c) frames (f ∷ [])
+    ∙ ap (λ (l : List (ℕ × Body)). remade_bodies c frames ++ l) (append-nil (frame_pairs c f)))
+
+-- what a feed shows of the record that waits is what its packets carry
+pub sent : DuePass → ShownIsSent → (c : Config) (ended : Bool) (bytes : List ℕ) (given : List FrameRecord) (x : FrameRecord)
+    (later : List FrameRecord) (g : Group) (f : PoolFrame) (feed : FrameFeed) → IsPlan c → records_due c ended bytes ≡ given ++ x ∷ later
+    → x.content ≡ Whole g → Shows c g.packets (dynamic_of feed) (lists_of feed) → config_of feed ≡ c → IsFrameOf feed f
+    → bodies_of c x.number f ≡ view_bodies c x.number (frame_by c x).view
+sent pass law c ended bytes given x later g f feed plan all content shows network is =
+    let gs : List Group = groups c.frames (packets_of (accepted_of c.pid bytes)) in
+    let right : AllByRecursion (IsRight c gs) (given ++ x ∷ later) =
+    subst (AllByRecursion (IsRight c gs)) all (pass c ended bytes) in
+    let p = one_of (IsRight c gs) given x later right g content in
+    ap₂ (λ (a b : List Bool). pool_bodies c x.number a b f.dynamic f.blocks.now.lists) (is.pre ∙ ap pre_part network)
+    (is.conf ∙ ap conf_part network)
+    ∙ ap₂ (pool_bodies c x.number (pre_part c) (conf_part c)) is.dynamic is.lists
+    ∙ law c (past_after (rules c) [] p.before) x.number g.packets (dynamic_of feed) (lists_of feed) plan p.none shows
+    ∙ ap (λ (k : Content). view_bodies c x.number (content_view c x.number k)) (sym content)

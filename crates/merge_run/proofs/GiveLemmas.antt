@@ -1,32 +1,46 @@
 -- Units are given, one by one.
-use Rattle.std.proofs.Common.{◌≡◌, ℕ, ◌+◌, ◌^◌, ◌<◌, true, false, List, [], ◌∷◌, ◌++◌, length, Option, Some, None}
-use Rattle.std.proofs.Common.{ap, ap₂, sym, subst, ◌∙◌, arith, append-nil}
+use Rattle.std.proofs.Common.{◌≡◌, ℕ, ◌+◌, ◌*◌, ◌^◌, ◌<◌, ◌≤◌, Bool, true, false, List, [], ◌∷◌, ◌++◌, length, Some}
+use Rattle.std.proofs.Common.{refl, ap, sym, subst, ◌∙◌, arith, append-nil}
 use Rattle.std.specs.Prelude.{slice_get}
 use Rattle.std.proofs.lemmas.Bool.{true≢false}
 use Rattle.plp_config.specs.declared.config.Config.{Config}
-use Rattle.site_frame.specs.declared.reading.RecordView.{RecordView}
+use Rattle.plp_config.specs.declared.moment.TheConstants.{MOST_FRAMES}
+use Rattle.frame_groups.specs.declared.waiting.Waiting.{Waiting}
+use Rattle.t2mi_packet.specs.declared.packet.Body.{Body}
 use Rattle.t2mi_stream.specs.Complete.{complete_units}
 use Rattle.t2mi_stream.specs.Pipe.{pipe}
-use Rattle.formed_frames.specs.Formed.{IsFormed}
-use Rattle.formed_frames.specs.Remade.{NumberedView, remade_packets}
-use Rattle.file_run.specs.Events.{Event, Gave, gave}
+use Rattle.frame_groups.specs.Modulated.{FrameRecord}
+use Rattle.frame_writer.specs.FramePackets.{packets_from}
+use Rattle.modulator.specs.Laws.{DueFollow}
+use Rattle.formed_frames.specs.Remade.{NumberedView, remade_bodies, remade_packets}
+use Rattle.file_run.specs.Events.{Event, Gave, fed, has_ended, gave}
 use Rattle.file_run.specs.Laws.{EventsTell}
-use Rattle.frame_feed.specs.StandsFor as feed
-use Rattle.feed_merge.specs.declared.merger.Merger.{Merger}
 use Rattle.feed_merge.specs.Picks.{picks, frames_of}
-use Rattle.feed_merge.specs.StandsFor.{MergerStandsFor, frame_of, has_finished, is_fed, bytes_left}
-use Rattle.feed_merge.specs.StandsFor as merger
-use Rattle.merge_run.specs.Sending.{numbered, frame_at, HoldsFrame, GivesUnit, GivesNone, Nexts}
-use Rattle.merge_run.specs.Shown.{Sends, IsGiving, IsResting, IsIn, more_units, Shown}
+use Rattle.feed_merge.specs.declared.seen.Feed.{Feed}
+use Rattle.feed_merge.specs.declared.seen.Feed.TheVariants.{A, B}
+use Rattle.pool_frame.specs.declared.frame.PoolFrame.{PoolFrame}
+use Rattle.held_feed.specs.Frames.{IsFrameOf}
+use Rattle.held_feed.specs.Skips.{one_if, Takes, IsSameFeed}
+use Rattle.held_feed.specs.StandsFor.{FrameFeedStandsFor, waiting_of, is_whole}
+use Rattle.held_feed.specs.StandsFor as feed
+use Rattle.held_feed.specs.declared.feed.FrameFeed.{FrameFeed}
+use Rattle.pool_merger.specs.StandsFor.{MergerStandsFor, has_finished, is_fed, bytes_left}
+use Rattle.pool_merger.specs.StandsFor as merger
+use Rattle.pool_merger.specs.declared.merger.Merger.{Merger}
+use Rattle.merge_run.specs.Sending.{left_for, GivesUnit, GivesNone, Nexts}
+use Rattle.merge_run.specs.Shown.{IsFedWith, IsBehind, OfFeed, IsPast, Sends, IsGiving, IsResting, IsIn, is_held, feed_of, left_at}
+use Rattle.merge_run.specs.Shown.{more_units, frame_bytes, Shown}
 use Rattle.merge_run.specs.Steps.{left_in, left_of}
+use Rattle.merge_run.specs.Taking.{is_same, feed_in}
 use Rattle.merge_run.specs.declared.merging.Merging.{Merging}
 use Rattle.merge_run.specs.declared.phase.Phase.{Phase}
 use Rattle.merge_run.specs.declared.phase.Phase.TheVariants.{Reads, Gives, Rests, Done}
 use Rattle.merge_run.specs.declared.stop.Ran.{Ran}
-use Rattle.merge_run.proofs.FrameLemmas.{view_is}
+use Rattle.merge_run.proofs.HeldLemmas as held
 use Rattle.merge_run.proofs.LiveLemmas.{live_given}
 use Rattle.merge_run.proofs.SendLemmas.{sends_next, sends_none}
-use Rattle.merge_run.proofs.ShownLemmas.{gave_there}
+use Rattle.merge_run.proofs.ShownLemmas.{gave_of}
+use Rattle.merge_run.proofs.UnitLemmas.{left_is}
 
 -- ---- what is known while units are given
 
@@ -34,156 +48,232 @@ module _ (c : Config) (m : Merging) (events : List Event) (s : Shown c events m)
   abbrev pub frames : List NumberedView
   frames = frames_of (picks c s.given_a s.given_b)
 
-  abbrev pub bytes : List ℕ
-  bytes = m.«record»
-
-  pub giving : m.phase ≡ Gives → IsGiving c m.merger frames bytes
+  pub giving : m.phase ≡ Gives → IsGiving m.merger (feed_of m)
   giving gives = subst (IsIn c m frames) gives s.is_in
+
+  pub giving_sends : m.phase ≡ Gives → Sends c m.merger (left_for m.merger (feed_of m)) frames m.ran.units (gave events)
+  giving_sends gives = subst (λ (p : Phase). Sends c m.merger (left_at p m.merger (feed_of m)) frames m.ran.units (gave events)) gives s.sends
 
   pub resting : m.phase ≡ Rests → IsResting m.merger m.a m.b
   resting rests = subst (IsIn c m frames) rests s.is_in
 
-  -- the record that is held
-  pub held : (gives : m.phase ≡ Gives) → HoldsFrame (merger.config_of m.merger) (frame_of m.merger) bytes
-  held gives =
-      let i = giving gives in
-      subst (λ (k : Config). HoldsFrame k (frame_of m.merger) bytes) (sym s.sends.network)
-      (record { view = i.view; spells = i.spells; formed = i.formed })
+  pub resting_sends : m.phase ≡ Rests → Sends c m.merger [] frames m.ran.units (gave events)
+  resting_sends rests = subst (λ (p : Phase). Sends c m.merger (left_at p m.merger (feed_of m)) frames m.ran.units (gave events)) rests s.sends
 
-  pub more_is : (gives : m.phase ≡ Gives) → more_units m.phase m.merger bytes
-      ≡ 184 + bytes_left m.merger (Some (numbered (frame_of m.merger) (giving gives).view))
-  more_is gives =
-      ap (λ (p : Phase). more_units p m.merger bytes) gives
-      ∙ ap (λ (o : Option RecordView). 184 + bytes_left m.merger (frame_at (frame_of m.merger) o))
-      (view_is (giving gives).view bytes (giving gives).spells)
+  pub units_in : (p : Phase) → m.phase ≡ p → m.ran.units + more_units p m.merger (feed_of m) ≤ m.next * frame_bytes + 184
+  units_in p is = subst (λ (q : Phase). m.ran.units + more_units q m.merger (feed_of m) ≤ m.next * frame_bytes + 184) is s.counts.units
+
+  -- the feed is of the network
+  pub feed_network : feed.config_of (feed_of m) ≡ c
+  feed_network = go m.source
+    where
+      go : (from : Feed) → feed.config_of (feed_in from m.a m.b) ≡ c
+      go A = held.network_of c m.a (fed 0 events) (has_ended 0 events) s.given_a (is_held m.phase m.source A) s.of_a
+      go B = held.network_of c m.b (fed 1 events) (has_ended 1 events) s.given_b (is_held m.phase m.source B) s.of_b
+
+  pub same_network : feed.config_of (feed_of m) ≡ merger.config_of m.merger
+  same_network = feed_network ∙ sym s.sends.network
 
   -- so the units can be counted
   pub few_units : m.ran.units < 2 ^ 62
   few_units = let u = s.counts.units in let e = s.early in omega (arith, u, e)
 
--- of a merger that gave, its frames and units
-gives_still : (c : Config) (g h : Merger) (frames : List NumberedView) (bytes : List ℕ) → frame_of h ≡ frame_of g
-    → has_finished h ≡ has_finished g → IsGiving c g frames bytes → IsGiving c h frames bytes
-gives_still c g h frames bytes frame finished i = record {
-  is_open = finished ∙ i.is_open;
-  before = i.before;
-  view = i.view;
-  parts = i.parts ∙ ap (λ (k : ℕ). i.before ++ numbered k i.view ∷ []) (sym frame);
-  spells = i.spells;
-  formed = subst (λ (k : ℕ). IsFormed c k i.view) (sym frame) i.formed;
-}
+-- the record whose frame is under way can be left behind
+module _ (c : Config) (m : Merging) (events : List Event) (s : Shown c events m) (gives : m.phase ≡ Gives) where
+  of_first : is_same m.source A ≡ true → feed_of m ≡ m.a
+  of_first on = go m.source on
+    where
+      go : (from : Feed) → is_same from A ≡ true → feed_in from m.a m.b ≡ m.a
+      go A on = refl
+      go B on = absurd (true≢false (sym on))
 
--- where the last frames end with the record that is held
-at_last : (c : Config) (g : Merger) (frames : List NumberedView) (bytes : List ℕ) (i : IsGiving c g frames bytes) (count : ℕ)
-    → MergerStandsFor g c frames count → MergerStandsFor g c (i.before ++ numbered (frame_of g) i.view ∷ []) count
-at_last c g frames bytes i count h = subst (λ (l : List NumberedView). MergerStandsFor g c l count) i.parts h
+  of_second : is_same m.source B ≡ true → feed_of m ≡ m.b
+  of_second on = go m.source on
+    where
+      go : (from : Feed) → is_same from B ≡ true → feed_in from m.a m.b ≡ m.b
+      go A on = absurd (true≢false (sym on))
+      go B on = refl
 
-from_last : (c : Config) (g h : Merger) (frames : List NumberedView) (bytes : List ℕ) (i : IsGiving c g frames bytes) (count : ℕ)
-    → MergerStandsFor h c (i.before ++ numbered (frame_of g) i.view ∷ []) count → MergerStandsFor h c frames count
-from_last c g h frames bytes i count s = subst (λ (l : List NumberedView). MergerStandsFor h c l count) (sym i.parts) s
+  pub whole_first : is_same m.source A ≡ true → is_whole (waiting_of m.a) ≡ true
+  whole_first on = subst (λ (f : FrameFeed). is_whole (waiting_of f) ≡ true) (of_first on) (giving c m events s gives).whole
+
+  pub whole_second : is_same m.source B ≡ true → is_whole (waiting_of m.b) ≡ true
+  whole_second on = subst (λ (f : FrameFeed). is_whole (waiting_of f) ≡ true) (of_second on) (giving c m events s gives).whole
+
+  pub early_first : is_same m.source A ≡ true → (w : Waiting) → waiting_of m.a ≡ Some w → w.frame < MOST_FRAMES
+  early_first on w is = (giving c m events s gives).early w (ap waiting_of (of_first on) ∙ is)
+
+  pub early_second : is_same m.source B ≡ true → (w : Waiting) → waiting_of m.b ≡ Some w → w.frame < MOST_FRAMES
+  early_second on w is = (giving c m events s gives).early w (ap waiting_of (of_second on) ∙ is)
 
 -- ---- of a frame
 
 module _ (tell : EventsTell) (c : Config) (m : Merging) (g : Merger) (events : List Event) (unit : List ℕ) (s : Shown c events m)
-    (gives : m.phase ≡ Gives) where
-  abbrev i : IsGiving c m.merger (frames c m events s) (bytes c m events s)
+    (gives : m.phase ≡ Gives) (frame : PoolFrame) (is : IsFrameOf (feed_of m) frame) where
+  abbrev fs : List NumberedView
+  fs = frames c m events s
+
+  sending : Sends c m.merger (left_for m.merger (feed_of m)) fs m.ran.units (gave events)
+  sending = giving_sends c m events s gives
+
+  i : IsGiving m.merger (feed_of m)
   i = giving c m events s gives
 
-  pub shown_given : Nexts m.merger g i.view true unit
+  -- what is left of the frame, before and behind
+  was : merger.left_in m.merger frame ≡ left_for m.merger (feed_of m)
+  was = left_is m.merger (feed_of m) frame is (same_network c m events s)
+
+  now : merger.config_of g ≡ merger.config_of m.merger → merger.left_in g frame ≡ left_for g (feed_of m)
+  now config = left_is g (feed_of m) frame is (same_network c m events s ∙ sym config)
+
+  stands : MergerStandsFor m.merger (merger.left_in m.merger frame) (remade_bodies c fs) m.ran.units
+  stands = subst (λ (l : List Body). MergerStandsFor m.merger l (remade_bodies c fs) m.ran.units) (sym was) sending.stands
+
+  pub shown_given : Nexts m.merger g frame true unit
       → Shown c (events ++ Gave unit ∷ []) (record m { merger = g; ran = record m.ran { units = m.ran.units + 1 } })
+  unfolding remade_packets
   shown_given n =
-      let fs = frames c m events s in
-      let so : GivesUnit m.merger g i.view unit = n.so in
+      let so : GivesUnit m.merger g frame unit = n.so in
+      let more : List Event = events ++ Gave unit ∷ [] in
       record {
         config = s.config;
         plan = s.plan;
-        ids = s.ids;
         given_a = s.given_a;
         given_b = s.given_b;
-        of_a = gave_there tell c m.a events 0 unit s.given_a s.of_a;
-        of_b = gave_there tell c m.b events 1 unit s.given_b s.of_b;
+        of_a = gave_of tell (is_held m.phase m.source A) c m.a events 0 unit s.given_a s.of_a;
+        of_b = gave_of tell (is_held m.phase m.source B) c m.b events 1 unit s.given_b s.of_b;
         behind_a = s.behind_a;
         behind_b = s.behind_b;
         next_is = s.next_is;
         early = s.early;
-        sends = subst (Sends c g fs (m.ran.units + 1)) (sym (tell.given unit events).gave)
-            (sends_next c m.merger g fs m.ran.units (gave events) unit n.config n.finished
-            (λ more over. subst (λ (l : List NumberedView). slice_get (pipe c.pid (remade_packets c l ++ more)) m.ran.units ≡ Some unit)
-            (sym i.parts) (so.next c i.before m.ran.units (at_last c m.merger fs _ i m.ran.units s.sends.stands) more over))
-            (λ off. subst (λ (l : List NumberedView). m.ran.units < length (complete_units c.pid (remade_packets c l))) (sym i.parts)
-            (so.complete off c i.before m.ran.units (at_last c m.merger fs _ i m.ran.units s.sends.stands)))
-            (from_last c m.merger g fs _ i (m.ran.units + 1)
-            (so.stands c i.before m.ran.units (at_last c m.merger fs _ i m.ran.units s.sends.stands))) s.sends);
+        sends = subst (λ (p : Phase). Sends c g (left_at p g (feed_of m)) fs (m.ran.units + 1) (gave more)) (sym gives)
+            (subst (Sends c g (left_for g (feed_of m)) fs (m.ran.units + 1)) (sym (tell.given unit events).gave)
+            (sends_next c m.merger g _ (left_for g (feed_of m)) fs m.ran.units (gave events) unit n.config n.finished
+            (λ rest over. subst (λ (k : Config). slice_get (pipe k.pid (packets_from k 0 (remade_bodies c fs) ++ rest)) m.ran.units ≡ Some unit)
+            sending.network (so.next (remade_bodies c fs) m.ran.units stands rest over))
+            (λ off. subst (λ (k : Config). m.ran.units < length (complete_units k.pid (packets_from k 0 (remade_bodies c fs))))
+            sending.network (so.complete off (remade_bodies c fs) m.ran.units stands))
+            (subst (λ (l : List Body). MergerStandsFor g l (remade_bodies c fs) (m.ran.units + 1)) (now n.config)
+            (so.stands (remade_bodies c fs) m.ran.units stands)) sending));
         ran_is = ap (λ (r : Ran). record r { units = m.ran.units + 1 }) s.ran_is;
         counts = record {
           frames = s.counts.frames;
           parts = s.counts.parts;
-          units = (
-              let was = more_is c m events s gives in
-              let all = s.counts.units in
+          units = subst (λ (p : Phase). m.ran.units + 1 + more_units p g (feed_of m) ≤ m.next * frame_bytes + 184) (sym gives) (
+              let all = units_in c m events s Gives gives in
               let less = so.less in
-              let is = ap₂ (λ (k : ℕ) (o : Option RecordView). 184 + bytes_left g (frame_at k o)) n.frame
-              (view_is i.view (bytes c m events s) i.spells) in
-              let now = ap (λ (p : Phase). more_units p g (bytes c m events s)) gives in
-              omega (arith, was, all, less, is, now));
+              let before = ap (bytes_left m.merger) was in
+              let behind = ap (bytes_left g) (now n.config) in
+              omega (arith, all, less, before, behind));
         };
         live = live_given tell c events unit s.given_a s.given_b m.next m.ran.units (m.ran.units + 1) (omega arith) s.live;
         is_in = subst (IsIn c (record m { merger = g; ran = record m.ran { units = m.ran.units + 1 } }) fs) (sym gives)
-            (gives_still c m.merger g fs (bytes c m events s) n.frame n.finished i);
+            (record { is_open = n.finished ∙ i.is_open; whole = i.whole; early = i.early });
       }
 
-  pub left_given : Nexts m.merger g i.view true unit → left_of (record m { merger = g; ran = record m.ran { units = m.ran.units + 1 } })
+  pub left_given : Nexts m.merger g frame true unit → left_of (record m { merger = g; ran = record m.ran { units = m.ran.units + 1 } })
       < left_of m
   left_given n =
-      let so : GivesUnit m.merger g i.view unit = n.so in
+      let so : GivesUnit m.merger g frame unit = n.so in
       let less = so.less in
       let records : ℕ = feed.left_of m.a + feed.left_of m.b in
-      let was = ap (λ (p : Phase). left_in p records m.merger (bytes c m events s)) gives in
-      let is = ap (λ (p : Phase). left_in p records g (bytes c m events s)) gives in
-      let old = ap (λ (o : Option RecordView). bytes_left m.merger (frame_at (frame_of m.merger) o)) (view_is i.view (bytes c m events s) i.spells) in
-      let new = ap₂ (λ (k : ℕ) (o : Option RecordView). bytes_left g (frame_at k o)) n.frame (view_is i.view (bytes c m events s) i.spells) in
-      omega (arith, less, was, is, old, new)
+      let old = ap (λ (p : Phase). left_in p records m.merger (feed_of m)) gives in
+      let new = ap (λ (p : Phase). left_in p records g (feed_of m)) gives in
+      let before = ap (bytes_left m.merger) was in
+      let behind = ap (bytes_left g) (now n.config) in
+      omega (arith, less, old, new, before, behind)
+
+-- ---- the record is left behind whose frame was sent
+
+pub record Skips (m : Merging) (a b : FrameFeed) : Type 0 where
+  pub took_a : (bytes : List ℕ) (ended : Bool) (given : List FrameRecord) → FrameFeedStandsFor m.a bytes ended given
+      → Takes (is_same m.source A) m.a a bytes ended given
+  pub took_b : (bytes : List ℕ) (ended : Bool) (given : List FrameRecord) → FrameFeedStandsFor m.b bytes ended given
+      → Takes (is_same m.source B) m.b b bytes ended given
+  pub stays_a : is_same m.source A ≡ false → a ≡ m.a
+  pub stays_b : is_same m.source B ≡ false → b ≡ m.b
+  pub same_a : IsSameFeed m.a a
+  pub same_b : IsSameFeed m.b b
+  pub left_a : feed.left_of a + one_if (is_same m.source A) ≤ feed.left_of m.a
+  pub left_b : feed.left_of b + one_if (is_same m.source B) ≤ feed.left_of m.b
+
+module _ (tell : EventsTell) (c : Config) (m : Merging) (g : Merger) (events : List Event) (unit : List ℕ) (s : Shown c events m)
+    (gives : m.phase ≡ Gives) (frame : PoolFrame) (is : IsFrameOf (feed_of m) frame) (follow : DueFollow) (a b : FrameFeed)
+    (t : Skips m a b) where
+  abbrev more : List Event
+  more = events ++ Gave [] ∷ []
+
+  of_a : IsFedWith c a (fed 0 events) (has_ended 0 events) s.given_a
+  of_a = held.left_of (is_same m.source A) c m.a a (fed 0 events) (has_ended 0 events) s.given_a t.same_a.network t.stays_a
+      (t.took_a (fed 0 events) (has_ended 0 events))
+      (subst (λ (p : Phase). OfFeed (is_held p m.source A) c m.a (fed 0 events) (has_ended 0 events) s.given_a) gives s.of_a)
+
+  of_b : IsFedWith c b (fed 1 events) (has_ended 1 events) s.given_b
+  of_b = held.left_of (is_same m.source B) c m.b b (fed 1 events) (has_ended 1 events) s.given_b t.same_b.network t.stays_b
+      (t.took_b (fed 1 events) (has_ended 1 events))
+      (subst (λ (p : Phase). OfFeed (is_held p m.source B) c m.b (fed 1 events) (has_ended 1 events) s.given_b) gives s.of_b)
+
+  past_a : IsBehind m.next a s.given_a
+  past_a = held.left_past follow (is_same m.source A) c m.next m.a a (fed 0 events) (has_ended 0 events) s.given_a t.stays_a
+      (subst (λ (p : Phase). IsPast (is_held p m.source A) m.next m.a s.given_a) gives s.behind_a) of_a
+
+  past_b : IsBehind m.next b s.given_b
+  past_b = held.left_past follow (is_same m.source B) c m.next m.b b (fed 1 events) (has_ended 1 events) s.given_b t.stays_b
+      (subst (λ (p : Phase). IsPast (is_held p m.source B) m.next m.b s.given_b) gives s.behind_b) of_b
 
   -- none is complete
-  pub shown_caught : Nexts m.merger g i.view false unit → Shown c (events ++ Gave [] ∷ []) (record m { merger = g; phase = Reads })
+  pub shown_caught : Nexts m.merger g frame false unit → Shown c more (record m { a = a; b = b; merger = g; phase = Reads })
+  unfolding remade_packets
   shown_caught n =
       let fs = frames c m events s in
-      let so : GivesNone m.merger g i.view = n.so in
-      let at = at_last c m.merger fs _ i m.ran.units s.sends.stands in
+      let so : GivesNone m.merger g frame = n.so in
+      let sends = giving_sends c m events s gives in
+      let was = left_is m.merger (feed_of m) frame is (same_network c m events s) in
+      let stands = subst (λ (l : List Body). MergerStandsFor m.merger l (remade_bodies c fs) m.ran.units) (sym was) sends.stands in
       record {
         config = s.config;
         plan = s.plan;
-        ids = s.ids;
         given_a = s.given_a;
         given_b = s.given_b;
-        of_a = gave_there tell c m.a events 0 [] s.given_a s.of_a;
-        of_b = gave_there tell c m.b events 1 [] s.given_b s.of_b;
-        behind_a = s.behind_a;
-        behind_b = s.behind_b;
+        of_a = gave_of tell false c a events 0 [] s.given_a of_a;
+        of_b = gave_of tell false c b events 1 [] s.given_b of_b;
+        behind_a = past_a;
+        behind_b = past_b;
         next_is = s.next_is;
         early = s.early;
-        sends = subst (Sends c g fs m.ran.units) (sym (tell.given [] events).gave)
-            (sends_none c m.merger g fs m.ran.units (gave events) n.config n.finished
-            (from_last c m.merger g fs _ i m.ran.units (so.stands c i.before m.ran.units at)) s.sends);
+        sends = subst (Sends c g [] fs m.ran.units) (sym (tell.given [] events).gave)
+            (sends_none c m.merger g _ [] fs m.ran.units (gave events) n.config n.finished
+            (subst (λ (l : List Body). MergerStandsFor g l (remade_bodies c fs) m.ran.units) so.spent
+            (so.stands (merger.left_in m.merger frame) (remade_bodies c fs) m.ran.units stands)) sends);
         ran_is = s.ran_is;
         counts = record {
           frames = s.counts.frames;
           parts = s.counts.parts;
-          units = (let was = more_is c m events s gives in let all = s.counts.units in omega (arith, was, all));
+          units = (let all = units_in c m events s Gives gives in omega (arith, all));
         };
         live = live_given tell c events [] s.given_a s.given_b m.next m.ran.units m.ran.units (omega arith) s.live;
         is_in = record {
           is_open = n.finished ∙ i.is_open;
           idle = so.idle;
-          complete = so.all i.is_open c i.before m.ran.units at
-              ∙ ap (λ (l : List NumberedView). length (complete_units c.pid (remade_packets c l))) (sym i.parts);
+          complete = subst (λ (k : Config). m.ran.units ≡ length (complete_units k.pid (packets_from k 0 (remade_bodies c fs))))
+              sends.network (so.all i.is_open (remade_bodies c fs) m.ran.units stands);
         };
       }
+    where
+      i : IsGiving m.merger (feed_of m)
+      i = giving c m events s gives
 
-pub left_caught : (m : Merging) (g : Merger) → m.phase ≡ Gives → left_of (record m { merger = g; phase = Reads }) < left_of m
-left_caught m g gives =
-    let was = ap (λ (p : Phase). left_in p (feed.left_of m.a + feed.left_of m.b) m.merger m.«record») gives in
-    omega (arith, was)
+one_same : (source : Feed) → one_if (is_same source A) + one_if (is_same source B) ≡ 1
+one_same A = refl
+one_same B = refl
+
+pub left_behind : (m : Merging) (a b f : FrameFeed) (g : Merger) → m.phase ≡ Gives → Skips m a b
+    → left_in Reads (feed.left_of a + feed.left_of b) g f < left_of m
+left_behind m a b f g gives t =
+    let was = ap (λ (p : Phase). left_in p (feed.left_of m.a + feed.left_of m.b) m.merger (feed_of m)) gives in
+    let u = t.left_a in
+    let v = t.left_b in
+    omega (arith, was, u, v, one_same m.source)
 
 -- ---- behind the end
 
@@ -193,43 +283,44 @@ module _ (tell : EventsTell) (c : Config) (m : Merging) (g : Merger) (events : L
   abbrev j : IsResting m.merger m.a m.b
   j = resting c m events s rests
 
-  pub shown_rest : ((c : Config) (frames : List NumberedView) (given : ℕ) → MergerStandsFor m.merger c frames given
-      → slice_get (pipe c.pid (remade_packets c frames)) given ≡ Some unit)
-      → ((c : Config) (frames : List NumberedView) (given : ℕ) → MergerStandsFor m.merger c frames given
-      → MergerStandsFor g c frames (given + 1))
-      → bytes_left g None < bytes_left m.merger None
+  ending : Sends c m.merger [] (frames c m events s) m.ran.units (gave events)
+  ending = resting_sends c m events s rests
+
+  pub shown_rest : ((all : List (ℕ × Body)) (given : ℕ) → MergerStandsFor m.merger [] all given
+      → slice_get (pipe (merger.config_of m.merger).pid (packets_from (merger.config_of m.merger) 0 all)) given ≡ Some unit)
+      → ((all : List (ℕ × Body)) (given : ℕ) → MergerStandsFor m.merger [] all given → MergerStandsFor g [] all (given + 1))
+      → bytes_left g [] < bytes_left m.merger []
       → Shown c (events ++ Gave unit ∷ []) (record m { merger = g; ran = record m.ran { units = m.ran.units + 1 } })
+  unfolding remade_packets
   shown_rest next stands less =
       let fs = frames c m events s in
       let over : has_finished g ≡ has_finished m.merger = finished ∙ sym j.over in
       record {
         config = s.config;
         plan = s.plan;
-        ids = s.ids;
         given_a = s.given_a;
         given_b = s.given_b;
-        of_a = gave_there tell c m.a events 0 unit s.given_a s.of_a;
-        of_b = gave_there tell c m.b events 1 unit s.given_b s.of_b;
+        of_a = gave_of tell (is_held m.phase m.source A) c m.a events 0 unit s.given_a s.of_a;
+        of_b = gave_of tell (is_held m.phase m.source B) c m.b events 1 unit s.given_b s.of_b;
         behind_a = s.behind_a;
         behind_b = s.behind_b;
         next_is = s.next_is;
         early = s.early;
-        sends = subst (Sends c g fs (m.ran.units + 1)) (sym (tell.given unit events).gave)
-            (sends_next c m.merger g fs m.ran.units (gave events) unit config over
+        sends = subst (λ (p : Phase). Sends c g (left_at p g (feed_of m)) fs (m.ran.units + 1) (gave (events ++ Gave unit ∷ []))) (sym rests)
+            (subst (Sends c g [] fs (m.ran.units + 1)) (sym (tell.given unit events).gave)
+            (sends_next c m.merger g [] [] fs m.ran.units (gave events) unit config over
             (λ more none. subst (λ (l : List (List ℕ)). slice_get (pipe c.pid l) m.ran.units ≡ Some unit)
             (sym (ap (λ (l : List (List ℕ)). remade_packets c fs ++ l) (none j.over) ∙ append-nil (remade_packets c fs)))
-            (next c fs m.ran.units s.sends.stands))
+            (subst (λ (k : Config). slice_get (pipe k.pid (packets_from k 0 (remade_bodies c fs))) m.ran.units ≡ Some unit) ending.network
+            (next (remade_bodies c fs) m.ran.units ending.stands)))
             (λ off. absurd (true≢false (sym j.over ∙ off)))
-            (stands c fs m.ran.units s.sends.stands) s.sends);
+            (stands (remade_bodies c fs) m.ran.units ending.stands) ending));
         ran_is = ap (λ (r : Ran). record r { units = m.ran.units + 1 }) s.ran_is;
         counts = record {
           frames = s.counts.frames;
           parts = s.counts.parts;
-          units = (
-              let all = s.counts.units in
-              let was = ap (λ (p : Phase). more_units p m.merger (bytes c m events s)) rests in
-              let is = ap (λ (p : Phase). more_units p g (bytes c m events s)) rests in
-              omega (arith, all, was, is, less));
+          units = subst (λ (p : Phase). m.ran.units + 1 + more_units p g (feed_of m) ≤ m.next * frame_bytes + 184) (sym rests)
+              (let all = units_in c m events s Rests rests in omega (arith, all, less));
         };
         live = live_given tell c events unit s.given_a s.given_b m.next m.ran.units (m.ran.units + 1) (omega arith) s.live;
         is_in = subst (IsIn c (record m { merger = g; ran = record m.ran { units = m.ran.units + 1 } }) fs) (sym rests)
@@ -237,27 +328,30 @@ module _ (tell : EventsTell) (c : Config) (m : Merging) (g : Merger) (events : L
       }
 
   -- none is left
-  pub shown_done : ((c : Config) (frames : List NumberedView) (given : ℕ) → MergerStandsFor m.merger c frames given
-      → length (pipe c.pid (remade_packets c frames)) ≡ given)
-      → ((c : Config) (frames : List NumberedView) (given : ℕ) → MergerStandsFor m.merger c frames given → MergerStandsFor g c frames given)
+  pub shown_done : ((all : List (ℕ × Body)) (given : ℕ) → MergerStandsFor m.merger [] all given
+      → length (pipe (merger.config_of m.merger).pid (packets_from (merger.config_of m.merger) 0 all)) ≡ given)
+      → ((all : List (ℕ × Body)) (given : ℕ) → MergerStandsFor m.merger [] all given → MergerStandsFor g [] all given)
       → Shown c (events ++ Gave [] ∷ []) (record m { merger = g; phase = Done })
+  unfolding remade_packets
   shown_done none stands =
       let fs = frames c m events s in
       let over : has_finished g ≡ has_finished m.merger = finished ∙ sym j.over in
       record {
         config = s.config;
         plan = s.plan;
-        ids = s.ids;
         given_a = s.given_a;
         given_b = s.given_b;
-        of_a = gave_there tell c m.a events 0 [] s.given_a s.of_a;
-        of_b = gave_there tell c m.b events 1 [] s.given_b s.of_b;
-        behind_a = s.behind_a;
-        behind_b = s.behind_b;
+        of_a = gave_of tell false c m.a events 0 [] s.given_a
+            (subst (λ (p : Phase). OfFeed (is_held p m.source A) c m.a (fed 0 events) (has_ended 0 events) s.given_a) rests s.of_a);
+        of_b = gave_of tell false c m.b events 1 [] s.given_b
+            (subst (λ (p : Phase). OfFeed (is_held p m.source B) c m.b (fed 1 events) (has_ended 1 events) s.given_b) rests s.of_b);
+        behind_a = subst (λ (p : Phase). IsPast (is_held p m.source A) m.next m.a s.given_a) rests s.behind_a;
+        behind_b = subst (λ (p : Phase). IsPast (is_held p m.source B) m.next m.b s.given_b) rests s.behind_b;
         next_is = s.next_is;
         early = s.early;
-        sends = subst (Sends c g fs m.ran.units) (sym (tell.given [] events).gave)
-            (sends_none c m.merger g fs m.ran.units (gave events) config over (stands c fs m.ran.units s.sends.stands) s.sends);
+        sends = subst (Sends c g [] fs m.ran.units) (sym (tell.given [] events).gave)
+            (sends_none c m.merger g [] [] fs m.ran.units (gave events) config over
+            (stands (remade_bodies c fs) m.ran.units ending.stands) ending);
         ran_is = s.ran_is;
         counts = record {
           frames = s.counts.frames;
@@ -266,21 +360,22 @@ module _ (tell : EventsTell) (c : Config) (m : Merging) (g : Merger) (events : L
         };
         live = live_given tell c events [] s.given_a s.given_b m.next m.ran.units m.ran.units (omega arith) s.live;
         is_in = record {
-          all = none c fs m.ran.units s.sends.stands;
+          all = subst (λ (k : Config). length (pipe k.pid (packets_from k 0 (remade_bodies c fs))) ≡ m.ran.units) ending.network
+              (none (remade_bodies c fs) m.ran.units ending.stands);
           none_a = j.none_a;
           none_b = j.none_b;
         };
       }
 
-pub left_rest : (m : Merging) (g : Merger) → m.phase ≡ Rests → bytes_left g None < bytes_left m.merger None
+pub left_rest : (m : Merging) (g : Merger) → m.phase ≡ Rests → bytes_left g [] < bytes_left m.merger []
     → left_of (record m { merger = g; ran = record m.ran { units = m.ran.units + 1 } }) < left_of m
 left_rest m g rests less =
     let records : ℕ = feed.left_of m.a + feed.left_of m.b in
-    let was = ap (λ (p : Phase). left_in p records m.merger m.«record») rests in
-    let is = ap (λ (p : Phase). left_in p records g m.«record») rests in
+    let was = ap (λ (p : Phase). left_in p records m.merger (feed_of m)) rests in
+    let is = ap (λ (p : Phase). left_in p records g (feed_of m)) rests in
     omega (arith, was, is, less)
 
 pub left_done : (m : Merging) (g : Merger) → m.phase ≡ Rests → left_of (record m { merger = g; phase = Done }) < left_of m
 left_done m g rests =
-    let was = ap (λ (p : Phase). left_in p (feed.left_of m.a + feed.left_of m.b) m.merger m.«record») rests in
+    let was = ap (λ (p : Phase). left_in p (feed.left_of m.a + feed.left_of m.b) m.merger (feed_of m)) rests in
     omega (arith, was)

@@ -3,9 +3,9 @@ pub mod BoundLemmas
 pub mod CameLemmas
 pub mod FeedLemmas
 pub mod FilesLemmas
-pub mod FormedLemmas
 pub mod FrameLemmas
 pub mod GiveLemmas
+pub mod HeldLemmas
 pub mod LawLemmas
 pub mod LiveLemmas
 pub mod NumberLemmas

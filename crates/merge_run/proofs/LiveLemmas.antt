@@ -1,5 +1,5 @@
 -- Of what is read of the inputs no more waits than was looked at last: all complete units that follow of less were given.
-use Rattle.std.proofs.Common.{◌≡◌, ℕ, ◌<◌, ◌≤◌, max, Bool, false, List, [], ◌∷◌, ◌++◌, length, take, ap, sym, subst, ◌∙◌, arith}
+use Rattle.std.proofs.Common.{◌≡◌, ℕ, ◌≤◌, max, Bool, false, List, [], ◌∷◌, ◌++◌, length, take, ap, sym, subst, arith}
 use Rattle.plp_config.specs.declared.config.Config.{Config}
 use Rattle.frame_groups.specs.Modulated.{FrameRecord}
 use Rattle.modulator.specs.StandsFor.{records_due}
@@ -7,8 +7,8 @@ use Rattle.t2mi_stream.specs.Complete.{complete_units}
 use Rattle.formed_frames.specs.Remade.{remade_packets}
 use Rattle.file_run.specs.Events.{Event, Gave, fed}
 use Rattle.file_run.specs.Laws.{EventsTell}
-use Rattle.frame_feed.specs.StandsFor as feed
-use Rattle.frame_feed.specs.declared.feed.FrameFeed.{FrameFeed}
+use Rattle.held_feed.specs.StandsFor as feed
+use Rattle.held_feed.specs.declared.feed.FrameFeed.{FrameFeed}
 use Rattle.feed_merge.specs.Laws.{AreOf}
 use Rattle.feed_merge.specs.Picks.{Picked, picks, above_all, frames_of}
 use Rattle.feed_merge.proofs.GrowLemmas.{all_below}

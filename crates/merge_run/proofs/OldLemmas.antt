@@ -1,5 +1,5 @@
 -- What was promised of a run by its desk follows: nothing is lost.
-use Rattle.std.proofs.Common.{◌≡◌, ◌≢◌, ℕ, ◌<◌, ◌≤◌, List, [], ◌∷◌, length, map, ap, subst, sym, ◌∙◌, inl, inr, arith}
+use Rattle.std.proofs.Common.{◌≡◌, ℕ, ◌<◌, ◌≤◌, List, [], length, map, subst, sym, ◌∙◌, inl, inr, arith}
 use Rattle.std.proofs.lemmas.List.{ext_get_or, length-map, get_or-map}
 use Rattle.std.specs.Prelude.{Result, Ok, Err, IfOk, IfErr, IfSome, IsSome, slice_index, slice_index_or}
 use Rattle.std.specs.FinMap.{get}
@@ -7,14 +7,14 @@ use Rattle.std.proofs.lemmas.Option.{IfSome_then}
 use Rattle.ports.specs.Desk.{State, Held, bytes_of}
 use Rattle.plp_config.specs.declared.config.Config.{Config}
 use Rattle.desk_io.specs.Reading.{longest_file}
-use Rattle.file_run.specs.FileRun.{file_at, AllShort}
+use Rattle.file_run.specs.FileRun.{file_at}
 use Rattle.file_run.specs.Work.{Does, DoesShort, Ends, AreWhole, Into}
 use Rattle.file_run.specs.declared.stop.RunFault.TheVariants.{TooLong, ReadFault, WriteFault}
 use Rattle.file_run.specs.declared.stop.RunStop.{RunStop}
 use Rattle.file_run.specs.declared.stop.RunStop.TheVariants.{Refused, Files, OutOfMemory}
 use Rattle.file_run.proofs.WorkLemmas.{told_of, works_of}
-use Rattle.merge_run.specs.MergeRun.{names_of, MergesAll, RunsAll, HasNone, FindsNone, HasLate, MeetsLate, HasWritten, GivesTooMuch}
-use Rattle.merge_run.specs.MergeRun.{StopsReading, HasSome, StopsWriting, Stops}
+use Rattle.merge_run.specs.MergeRun.{names_of, MergesAll, RunsAll, HasNone, HasLate, HasWritten}
+use Rattle.merge_run.specs.MergeRun.{HasSome, Stops}
 use Rattle.merge_run.specs.MergeWork.{merge_work}
 use Rattle.merge_run.specs.declared.stop.Ran.{Ran}
 use Rattle.merge_run.specs.declared.stop.MergeStop.{MergeStop}
@@ -79,18 +79,24 @@ module _ (c : Config) (old new : State) (a b out : List ℕ) where
         counts = counts;
       }
   stop_of (Files (ReadFault input)) (counts, inl o) = (counts, inl o)
-  stop_of (Files (ReadFault input)) (counts, inr (lt, d)) = (counts, inr (record {
-    places = d.places;
-    place = lt;
-    works = works_of (λ files bytes. HasWritten c input (slice_index d.places input) files bytes) d d.does.1;
-    short = d.does.0;
-  }))
+  stop_of (Files (ReadFault input)) (counts, inr (lt, d)) = (
+    counts,
+    inr (record {
+      places = d.places;
+      place = lt;
+      works = works_of (λ files bytes. HasWritten c input (slice_index d.places input) files bytes) d d.does.1;
+      short = d.does.0;
+    }),
+  )
   stop_of (Files WriteFault) (counts, inl o) = (counts, inl o)
-  stop_of (Files WriteFault) (counts, inr d) = (counts, inr (record {
-    places = d.places;
-    works = works_of (λ files bytes. HasSome c d.places files bytes) d d.does.1;
-    short = d.does.0;
-  }))
+  stop_of (Files WriteFault) (counts, inr d) = (
+    counts,
+    inr (record {
+      places = d.places;
+      works = works_of (λ files bytes. HasSome c d.places files bytes) d d.does.1;
+      short = d.does.0;
+    }),
+  )
   stop_of OutOfMemory e = e
 
 pub old_forms : (c : Config) (old new : State) (a b out : List ℕ) (result : Result Ran (RunStop MergeStop))

@@ -20,7 +20,9 @@ use Rattle.feed_merge.specs.Laws.{AreOf}
 use Rattle.feed_merge.specs.Picking.{is_at, is_there, source_at, pick_at, picked}
 use Rattle.feed_merge.specs.Picks.{is_frame, Picked, frame_from, pick_of}
 use Rattle.merge_run.specs.Sending.{numbered}
-use Rattle.merge_run.specs.Taking.{seen_of, least_of, one_if, CanBeTaken, IsOnly, AreTaken}
+use Rattle.held_feed.specs.Reading.{least_of}
+use Rattle.held_feed.specs.Skips.{one_if, IsOnly, AreTaken}
+use Rattle.merge_run.specs.Taking.{seen_of}
 
 -- the least number is the one that is picked
 pub picked_at : (v w : Option Waiting) (n : ℕ) → least_of v w ≡ Some n → picked (seen_of v) (seen_of w)
@@ -91,14 +93,6 @@ some_taken (Some v) (Some w) n e = go (v.frame == n) refl
         let differ = eqb-false v.frame n f in
         let o = one_at w n (omega (arith, s, differ)) in
         omega (arith, o)
-
-pub can_take : (o : Option Waiting) (n : ℕ) → n < MOST_FRAMES → CanBeTaken (is_at n (seen_of o)) o
-can_take None n l = tt
-can_take (Some w) n l = go (w.frame == n) refl
-  where
-    go : (b : Bool) → (w.frame == n) ≡ b → CanBeTaken b (Some w)
-    go true e = let s = eqb-true w.frame n e in omega (arith, s, l)
-    go false e = tt
 
 -- what was taken is of that number
 pub are_of : (o : Option Waiting) (n : ℕ) (xs : List FrameRecord) → AreTaken (is_at n (seen_of o)) o xs → AreOf n xs

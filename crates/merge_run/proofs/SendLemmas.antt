@@ -9,6 +9,7 @@ use Rattle.std.proofs.lemmas.List.Elements.{filter-append}
 use Rattle.terms.proofs.ListLemmas.{next_element, same_front, all_of}
 use Rattle.ts_packet.proofs.JoinedLemmas.{joined_push}
 use Rattle.plp_config.specs.declared.config.Config.{Config}
+use Rattle.t2mi_packet.specs.declared.packet.Body.{Body}
 use Rattle.ts_packet.specs.TsFile.{joined}
 use Rattle.frame_groups.specs.Laws.{IsPrefix}
 use Rattle.t2mi_stream.specs.Complete.{complete_units}
@@ -18,13 +19,13 @@ use Rattle.t2mi_stream.proofs.CompleteLemmas.{shorter_front, complete_law}
 use Rattle.frame_writer.specs.FramePackets.{packets_from}
 use Rattle.frame_writer.proofs.CarriedLemmas.{packets_append}
 use Rattle.formed_frames.specs.Remade.{NumberedView, remade_packets, remade_bodies, frame_pairs}
-use Rattle.feed_merge.specs.declared.merger.Merger.{Merger}
+use Rattle.pool_merger.specs.declared.merger.Merger.{Merger}
 use Rattle.feed_merge.specs.declared.seen.Feed.{Feed}
 use Rattle.feed_merge.specs.declared.seen.Feed.TheVariants.{A, B}
 use Rattle.feed_merge.specs.Picks.{Picked, frames_of}
-use Rattle.feed_merge.specs.StandsFor.{MergerStandsFor, config_of, has_finished}
+use Rattle.pool_merger.specs.StandsFor.{MergerStandsFor, config_of, has_finished}
 use Rattle.merge_run.specs.Counted.{from_first, from_second, counted, added}
-use Rattle.merge_run.specs.Sending.{numbered, Begins}
+use Rattle.merge_run.specs.Sending.{BeginsAs}
 use Rattle.merge_run.specs.Shown.{Sends}
 use Rattle.merge_run.specs.declared.stop.Ran.{Ran}
 
@@ -45,14 +46,15 @@ packets_more c frames more = (
 
 -- ---- a frame is begun
 
-pub sends_begun : (c : Config) (g h : Merger) (n : ℕ) (frames : List NumberedView) (f : NumberedView) (count : ℕ) (gave : List ℕ)
-    → f ≡ numbered n f.view → has_finished g ≡ false → Begins g h n f.view → Sends c g frames count gave
-    → Sends c h (frames ++ f ∷ []) count gave
-sends_begun c g h n frames f count gave is going b s =
+pub sends_begun : (c : Config) (g h : Merger) (left : List Body) (frames : List NumberedView) (f : NumberedView) (count : ℕ)
+    (gave : List ℕ) → config_of h ≡ config_of g → has_finished g ≡ false → BeginsAs g h left f → Sends c g [] frames count gave
+    → Sends c h left (frames ++ f ∷ []) count gave
+sends_begun c g h left frames f count gave config going b s =
     let more = packets_more c frames (f ∷ []) in
     record {
-      network = b.config ∙ s.network;
-      stands = subst (λ (x : NumberedView). MergerStandsFor h c (frames ++ x ∷ []) count) (sym is) (b.stands c frames count s.stands);
+      network = config ∙ s.network;
+      stands = subst (λ (k : Config). MergerStandsFor h left (remade_bodies k (frames ++ f ∷ [])) count) s.network
+          (b.stands frames count (subst (λ (k : Config). MergerStandsFor g [] (remade_bodies k frames) count) (sym s.network) s.stands));
       units = s.units;
       gave_is = s.gave_is;
       count_is = s.count_is;
@@ -71,13 +73,15 @@ sends_begun c g h n frames f count gave is going b s =
 -- ---- a unit is given
 
 -- the next of all units
-pub sends_next : (c : Config) (g h : Merger) (frames : List NumberedView) (count : ℕ) (gave unit : List ℕ) → config_of h ≡ config_of g
+pub sends_next : (c : Config) (g h : Merger) (was left : List Body) (frames : List NumberedView) (count : ℕ) (gave unit : List ℕ)
+    → config_of h ≡ config_of g
     → has_finished h ≡ has_finished g
     → ((more : List (List ℕ)) → (has_finished g ≡ true → more ≡ [])
     → slice_get (pipe c.pid (remade_packets c frames ++ more)) count ≡ Some unit)
     → (has_finished g ≡ false → count < length (complete_units c.pid (remade_packets c frames)))
-    → MergerStandsFor h c frames (count + 1) → Sends c g frames count gave → Sends c h frames (count + 1) (gave ++ unit)
-sends_next c g h frames count gave unit config finished next complete stands s = record {
+    → MergerStandsFor h left (remade_bodies c frames) (count + 1) → Sends c g was frames count gave
+    → Sends c h left frames (count + 1) (gave ++ unit)
+sends_next c g h was left frames count gave unit config finished next complete stands s = record {
   network = config ∙ s.network;
   stands = stands;
   units = s.units ++ unit ∷ [];
@@ -94,9 +98,10 @@ sends_next c g h frames count gave unit config finished next complete stands s =
 }
 
 -- no unit is given
-pub sends_none : (c : Config) (g h : Merger) (frames : List NumberedView) (count : ℕ) (gave : List ℕ) → config_of h ≡ config_of g
-    → has_finished h ≡ has_finished g → MergerStandsFor h c frames count → Sends c g frames count gave → Sends c h frames count (gave ++ [])
-sends_none c g h frames count gave config finished stands s = record {
+pub sends_none : (c : Config) (g h : Merger) (was left : List Body) (frames : List NumberedView) (count : ℕ) (gave : List ℕ)
+    → config_of h ≡ config_of g → has_finished h ≡ has_finished g → MergerStandsFor h left (remade_bodies c frames) count
+    → Sends c g was frames count gave → Sends c h left frames count (gave ++ [])
+sends_none c g h was left frames count gave config finished stands s = record {
   network = config ∙ s.network;
   stands = stands;
   units = s.units;
@@ -107,9 +112,10 @@ sends_none c g h frames count gave config finished stands s = record {
 }
 
 -- it is finished
-pub sends_over : (c : Config) (g h : Merger) (frames : List NumberedView) (count : ℕ) (gave : List ℕ) → config_of h ≡ config_of g
-    → has_finished g ≡ false → MergerStandsFor h c frames count → Sends c g frames count gave → Sends c h frames count gave
-sends_over c g h frames count gave config going stands s = record {
+pub sends_over : (c : Config) (g h : Merger) (left : List Body) (frames : List NumberedView) (count : ℕ) (gave : List ℕ)
+    → config_of h ≡ config_of g → has_finished g ≡ false → MergerStandsFor h left (remade_bodies c frames) count
+    → Sends c g left frames count gave → Sends c h left frames count gave
+sends_over c g h left frames count gave config going stands s = record {
   network = config ∙ s.network;
   stands = stands;
   units = s.units;
@@ -121,10 +127,10 @@ sends_over c g h frames count gave config going stands s = record {
 
 -- ---- what was given
 
-pub gave_complete : CompleteLaw → (c : Config) (g : Merger) (frames : List NumberedView) (count : ℕ) (gave : List ℕ)
-    → has_finished g ≡ false → count ≡ length (complete_units c.pid (remade_packets c frames)) → Sends c g frames count gave
+pub gave_complete : CompleteLaw → (c : Config) (g : Merger) (left : List Body) (frames : List NumberedView) (count : ℕ) (gave : List ℕ)
+    → has_finished g ≡ false → count ≡ length (complete_units c.pid (remade_packets c frames)) → Sends c g left frames count gave
     → gave ≡ joined (complete_units c.pid (remade_packets c frames))
-gave_complete law c g frames count gave going all s =
+gave_complete law c g left frames count gave going all s =
     let p = s.front [] (λ _. refl) in
     let q = law c.pid (remade_packets c frames) [] in
     s.gave_is ∙ ap joined (same_front s.units (complete_units c.pid (remade_packets c frames)) p.0 q.rest (sym p.1 ∙ q.units)
@@ -143,10 +149,10 @@ given_front law pid few more rest units back le is =
     shorter_front (complete_units pid few) units all.rest back same
     (omega (arith, le, size, length-append (complete_units pid few) one.others))
 
-pub gave_all : (c : Config) (g : Merger) (frames : List NumberedView) (count : ℕ) (gave : List ℕ)
-    → length (pipe c.pid (remade_packets c frames)) ≡ count → Sends c g frames count gave
+pub gave_all : (c : Config) (g : Merger) (left : List Body) (frames : List NumberedView) (count : ℕ) (gave : List ℕ)
+    → length (pipe c.pid (remade_packets c frames)) ≡ count → Sends c g left frames count gave
     → gave ≡ joined (pipe c.pid (remade_packets c frames))
-gave_all c g frames count gave all s =
+gave_all c g left frames count gave all s =
     let p = s.front [] (λ _. refl) in
     let units : pipe c.pid (remade_packets c frames) ≡ s.units ++ p.0 =
     ap (pipe c.pid) (sym (append-nil (remade_packets c frames))) ∙ p.1 in

@@ -19,9 +19,9 @@ use Rattle.open_group.specs.Written.{content_view}
 use Rattle.modulator.specs.Laws.{DueFront, DueFollow}
 use Rattle.modulator.specs.StandsFor.{records_due, records_of}
 use Rattle.file_run.specs.FileRun.{IsFed}
-use Rattle.frame_feed.specs.StandsFor.{IsFirst, waiting_of}
-use Rattle.frame_feed.specs.StandsFor as feed
-use Rattle.frame_feed.specs.declared.feed.FrameFeed.{FrameFeed}
+use Rattle.held_feed.specs.StandsFor.{IsFirst, waiting_of}
+use Rattle.held_feed.specs.StandsFor as feed
+use Rattle.held_feed.specs.declared.feed.FrameFeed.{FrameFeed}
 use Rattle.feed_merge.specs.declared.seen.Feed.{Feed}
 use Rattle.feed_merge.specs.declared.seen.Feed.TheVariants.{A, B}
 use Rattle.feed_merge.specs.Picks.{Picked, frame_from, picks_below, above_all, picks}

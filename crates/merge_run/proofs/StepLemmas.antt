@@ -10,10 +10,11 @@ use Rattle.frame_groups.specs.declared.waiting.Waiting.{Waiting}
 use Rattle.file_run.specs.Steps.{Needs, Suffices, FallsShort}
 use Rattle.file_run.specs.declared.machine.Step.{Step}
 use Rattle.file_run.specs.declared.machine.Step.TheVariants.{Read, Give, End}
-use Rattle.frame_feed.specs.StandsFor.{waiting_of, has_ended}
+use Rattle.held_feed.specs.StandsFor.{waiting_of, has_ended}
 use Rattle.file_run.specs.FileRun.{read_ahead}
-use Rattle.merge_run.specs.Steps.{is_idle, wants_of, step_at, step_by, step_in, step_of, fed_at}
-use Rattle.merge_run.specs.Taking.{least_of}
+use Rattle.held_feed.specs.Reading.{is_idle, wants_of, step_at, step_by, fed_at}
+use Rattle.merge_run.specs.Steps.{step_in, step_of}
+use Rattle.held_feed.specs.Reading.{least_of}
 use Rattle.merge_run.specs.declared.merging.Merging.{Merging}
 use Rattle.merge_run.specs.declared.phase.Phase.{Phase}
 use Rattle.merge_run.specs.declared.phase.Phase.TheVariants.{Reads, Gives, Rests, Done}

@@ -1,34 +1,61 @@
 -- A unit was given, or none.
-use Rattle.std.proofs.Common.{◌≡◌, ℕ, ◌+◌, ◌<◌, Bool, true, false, List, [], ◌∷◌, ◌++◌, length, Some, refl}
+use Rattle.std.proofs.Common.{◌≡◌, ℕ, ◌+◌, ◌%◌, ◌<◌, Bool, true, false, List, [], ◌++◌, length, Some, refl, ap, ap₂, ◌∙◌}
 use Rattle.std.specs.Prelude.{slice_get}
 use Rattle.plp_config.specs.declared.config.Config.{Config}
-use Rattle.site_frame.specs.declared.reading.RecordView.{RecordView}
+use Rattle.t2mi_packet.specs.declared.packet.Body.{Body}
 use Rattle.t2mi_stream.specs.Complete.{complete_units}
 use Rattle.t2mi_stream.specs.Pipe.{pipe}
-use Rattle.formed_frames.specs.Remade.{NumberedView, remade_packets}
-use Rattle.feed_merge.specs.declared.merger.Merger.{Merger}
-use Rattle.feed_merge.specs.StandsFor.{MergerStandsFor, frame_of, has_unit, has_finished, bytes_left}
-use Rattle.merge_run.specs.Sending.{numbered, GivesSo}
+use Rattle.frame_writer.specs.FirstPacket.{from_step}
+use Rattle.frame_writer.specs.FramePackets.{packets_from, l1_body}
+use Rattle.pool_frame.specs.Left.{CanBeSent, blocks_left}
+use Rattle.pool_frame.specs.Signalling.{pre_part, conf_part}
+use Rattle.pool_frame.specs.declared.frame.PoolFrame.{PoolFrame}
+use Rattle.held_feed.specs.Frames.{IsFrameOf}
+use Rattle.held_feed.specs.StandsFor as feed
+use Rattle.held_feed.specs.declared.feed.FrameFeed.{FrameFeed}
+use Rattle.pool_merger.specs.StandsFor.{MergerStandsFor, config_of, left_in, has_unit, has_finished, bytes_left}
+use Rattle.pool_merger.specs.declared.merger.Merger.{Merger}
+use Rattle.merge_run.specs.Sending.{left_for, GivesSo}
+use Rattle.merge_run.proofs.CameLemmas.{number_of}
 
-pub gives_so : (old new : Merger) (view : RecordView) (b : Bool) (unit : List ℕ)
-    → (b ≡ true → (c : Config) (before : List NumberedView) (given : ℕ)
-    → MergerStandsFor old c (before ++ numbered (frame_of old) view ∷ []) given
+pub gives_so : (old new : Merger) (frame : PoolFrame) (b : Bool) (unit : List ℕ)
+    → (b ≡ true → (all : List (ℕ × Body)) (given : ℕ) → MergerStandsFor old (left_in old frame) all given
     → (more : List (List ℕ)) → (has_finished old ≡ true → more ≡ [])
-    → slice_get (pipe c.pid (remade_packets c (before ++ numbered (frame_of old) view ∷ []) ++ more)) given ≡ Some unit)
-    → (b ≡ true → (c : Config) (before : List NumberedView) (given : ℕ)
-    → MergerStandsFor old c (before ++ numbered (frame_of old) view ∷ []) given
-    → MergerStandsFor new c (before ++ numbered (frame_of old) view ∷ []) (given + 1))
-    → (b ≡ true → has_finished old ≡ false → (c : Config) (before : List NumberedView) (given : ℕ)
-    → MergerStandsFor old c (before ++ numbered (frame_of old) view ∷ []) given
-    → given < length (complete_units c.pid (remade_packets c (before ++ numbered (frame_of old) view ∷ []))))
-    → (b ≡ true → bytes_left new (Some (numbered (frame_of old) view)) < bytes_left old (Some (numbered (frame_of old) view)))
-    → (b ≡ false → (c : Config) (before : List NumberedView) (given : ℕ)
-    → MergerStandsFor old c (before ++ numbered (frame_of old) view ∷ []) given
-    → MergerStandsFor new c (before ++ numbered (frame_of old) view ∷ []) given)
-    → (b ≡ false → has_finished old ≡ false → (c : Config) (before : List NumberedView) (given : ℕ)
-    → MergerStandsFor old c (before ++ numbered (frame_of old) view ∷ []) given
-    → given ≡ length (complete_units c.pid (remade_packets c (before ++ numbered (frame_of old) view ∷ []))))
-    → (b ≡ false → has_unit new ≡ false) → GivesSo old new view b unit
-gives_so old new view true unit next stands complete less kept all idle =
+    → slice_get (pipe (config_of old).pid (packets_from (config_of old) 0 all ++ more)) given ≡ Some unit)
+    → (b ≡ true → (all : List (ℕ × Body)) (given : ℕ) → MergerStandsFor old (left_in old frame) all given
+    → MergerStandsFor new (left_in new frame) all (given + 1))
+    → (b ≡ true → has_finished old ≡ false → (all : List (ℕ × Body)) (given : ℕ) → MergerStandsFor old (left_in old frame) all given
+    → given < length (complete_units (config_of old).pid (packets_from (config_of old) 0 all)))
+    → (b ≡ true → bytes_left new (left_in new frame) < bytes_left old (left_in old frame))
+    → (b ≡ false → (left : List Body) (all : List (ℕ × Body)) (given : ℕ) → MergerStandsFor old left all given
+    → MergerStandsFor new left all given)
+    → (b ≡ false → has_finished old ≡ false → (all : List (ℕ × Body)) (given : ℕ) → MergerStandsFor old (left_in old frame) all given
+    → given ≡ length (complete_units (config_of old).pid (packets_from (config_of old) 0 all)))
+    → (b ≡ false → has_unit new ≡ false) → (b ≡ false → left_in old frame ≡ []) → GivesSo old new frame b unit
+gives_so old new frame true unit next stands complete less kept all idle spent =
     record { next = next refl; stands = stands refl; complete = complete refl; less = less refl }
-gives_so old new view false unit next stands complete less kept all idle = record { stands = kept refl; all = all refl; idle = idle refl }
+gives_so old new frame false unit next stands complete less kept all idle spent =
+    record { stands = kept refl; all = all refl; idle = idle refl; spent = spent refl }
+
+-- what is left of a frame is what is left of it where it waits
+pub left_is : (g : Merger) (f : FrameFeed) (frame : PoolFrame) → IsFrameOf f frame → feed.config_of f ≡ config_of g
+    → left_in g frame ≡ left_for g f
+left_is g f frame is network =
+    let pre : frame.pre ≡ pre_part (config_of g) = is.pre ∙ ap pre_part network in
+    let conf : frame.conf ≡ conf_part (config_of g) = is.conf ∙ ap conf_part network in
+    let n : ℕ = g.place.number in
+    let c : Config = config_of g in
+    ap₂ (λ (signal : Body) (blocks : List Body). from_step c n g.place.step signal blocks)
+    (ap₂ (λ (a b : List Bool). l1_body c n a b frame.dynamic) pre conf
+    ∙ ap (λ (d : List Bool). l1_body c n (pre_part c) (conf_part c) d) is.dynamic)
+    (ap (blocks_left c (n % c.frames) g.place.plp g.place.place) is.lists)
+
+-- a frame of a network is one of the same network
+pub sent_in : {A : Type 0} (c k : Config) (frame : PoolFrame) → ∥ A ∥₁ → (A → c ≡ k) → CanBeSent c frame → CanBeSent k frame
+sent_in c k frame came same can = record {
+  pre = can.pre;
+  conf = can.conf;
+  dynamic = can.dynamic;
+  plps = number_of _ _ came (λ x. can.plps ∙ ap (λ (q : Config). length q.plps) (same x));
+  short = can.short;
+}

@@ -5,15 +5,18 @@ use Rattle.std.specs.Prelude.{nat_lt}
 use Rattle.plp_config.specs.declared.config.Config.{Config}
 use Rattle.plp_config.specs.declared.moment.TheConstants.{MOST_FRAMES}
 use Rattle.desk_io.specs.Reading.{longest_file}
-use Rattle.file_run.specs.Events.{Event, fed}
+use Rattle.file_run.specs.Events.{Event, fed, has_ended}
 use Rattle.file_run.specs.Steps.{IsWanted, CanBeRead}
 use Rattle.file_run.specs.declared.machine.Step.TheVariants.{Give, End}
-use Rattle.frame_feed.specs.StandsFor.{waiting_of, fed_of}
-use Rattle.frame_feed.specs.StandsFor as feed
+use Rattle.held_feed.specs.StandsFor.{waiting_of, fed_of}
+use Rattle.held_feed.specs.StandsFor as feed
 use Rattle.file_run.specs.FileRun.{read_ahead}
-use Rattle.merge_run.specs.Shown.{Shown}
-use Rattle.merge_run.specs.Steps.{is_idle, wants_of, step_at, step_by, step_in, step_of, fed_at, reach_of}
-use Rattle.merge_run.specs.Taking.{least_of}
+use Rattle.merge_run.specs.Shown.{Shown, is_held}
+use Rattle.feed_merge.specs.declared.seen.Feed.TheVariants.{A, B}
+use Rattle.merge_run.proofs.HeldLemmas.{end_of, count_of}
+use Rattle.held_feed.specs.Reading.{is_idle, wants_of, step_at, step_by, fed_at}
+use Rattle.merge_run.specs.Steps.{step_in, step_of, reach_of}
+use Rattle.held_feed.specs.Reading.{least_of}
 use Rattle.merge_run.specs.declared.merging.Merging.{Merging}
 use Rattle.merge_run.specs.declared.phase.Phase.{Phase}
 use Rattle.merge_run.specs.declared.phase.Phase.TheVariants.{Reads, Gives, Rests, Done}
@@ -33,21 +36,21 @@ wanted_by c events m s = by m.phase
     first : is_idle (waiting_of m.a) (feed.has_ended m.a) ≡ true → CanBeRead 2 events (reach_of m) 0 1 read_ahead
     first on = record {
       place = omega arith;
-      is_open = sym s.of_a.stands.end ∙ (idle_is (waiting_of m.a) (feed.has_ended m.a) on).1;
+      is_open = sym (end_of c m.a (fed 0 events) (has_ended 0 events) s.given_a (is_held m.phase m.source A) s.of_a) ∙ (idle_is (waiting_of m.a) (feed.has_ended m.a) on).1;
       some = omega arith;
       few = omega arith;
       order = omega arith;
-      near = (let e = s.of_a.stands.count in omega (arith, e));
+      near = (let e = count_of c m.a (fed 0 events) (has_ended 0 events) s.given_a (is_held m.phase m.source A) s.of_a in omega (arith, e));
     }
 
     second : is_idle (waiting_of m.b) (feed.has_ended m.b) ≡ true → CanBeRead 2 events (reach_of m) 1 1 read_ahead
     second on = record {
       place = omega arith;
-      is_open = sym s.of_b.stands.end ∙ (idle_is (waiting_of m.b) (feed.has_ended m.b) on).1;
+      is_open = sym (end_of c m.b (fed 1 events) (has_ended 1 events) s.given_b (is_held m.phase m.source B) s.of_b) ∙ (idle_is (waiting_of m.b) (feed.has_ended m.b) on).1;
       some = omega arith;
       few = omega arith;
       order = omega arith;
-      near = (let e = s.of_b.stands.count in omega (arith, e));
+      near = (let e = count_of c m.b (fed 1 events) (has_ended 1 events) s.given_b (is_held m.phase m.source B) s.of_b in omega (arith, e));
     }
 
     reads : (t u : Bool) → is_idle (waiting_of m.a) (feed.has_ended m.a) ≡ t → is_idle (waiting_of m.b) (feed.has_ended m.b) ≡ u
@@ -69,11 +72,11 @@ pub room_of : (c : Config) (events : List Event) (m : Merging) (input count : �
     → length (fed input events) + count ≤ longest_file → fed_at (fed_of m.a) (fed_of m.b) input + count < 2 ^ 60
 room_of c events m input count s (First at idle) few =
     subst (λ (k : ℕ). fed_at (fed_of m.a) (fed_of m.b) k + count < 2 ^ 60) at
-    (let e = s.of_a.stands.count in
+    (let e = count_of c m.a (fed 0 events) (has_ended 0 events) s.given_a (is_held m.phase m.source A) s.of_a in
     let l = subst (λ (k : ℕ). length (fed k events) + count ≤ longest_file) (sym at) few in
     omega (arith, e, l))
 room_of c events m input count s (Second at idle) few =
     subst (λ (k : ℕ). fed_at (fed_of m.a) (fed_of m.b) k + count < 2 ^ 60) at
-    (let e = s.of_b.stands.count in
+    (let e = count_of c m.b (fed 1 events) (has_ended 1 events) s.given_b (is_held m.phase m.source B) s.of_b in
     let l = subst (λ (k : ℕ). length (fed k events) + count ≤ longest_file) (sym at) few in
     omega (arith, e, l))

@@ -1,5 +1,5 @@
 -- What a merger does by its files.
-use Rattle.std.proofs.Common.{◌≡◌, ℕ, ◌+◌, ◌-◌, ◌<◌, ◌==◌, true, false, List, [], ◌∷◌, ◌++◌}
+use Rattle.std.proofs.Common.{◌≡◌, ℕ, ◌+◌, ◌-◌, ◌<◌, ◌==◌, true, List, [], ◌∷◌, ◌++◌}
 use Rattle.std.proofs.Common.{length, refl, ap, sym, subst, ◌∙◌, arith, append_assoc}
 use Rattle.std.specs.Prelude.{Err, slice_index}
 use Rattle.terms.proofs.CaseLemmas.{bool_cases}
@@ -8,8 +8,8 @@ use Rattle.desk_io.specs.Reading.{longest_file}
 use Rattle.modulator.specs.Laws.{DueFront, DueFollow}
 use Rattle.t2mi_stream.specs.CompleteLaws.{CompleteLaw}
 use Rattle.feed_merge.specs.Picks.{picks, frames_of}
-use Rattle.frame_feed.specs.StandsFor.{waiting_of}
-use Rattle.frame_feed.specs.StandsFor as feed
+use Rattle.held_feed.specs.StandsFor.{waiting_of}
+use Rattle.held_feed.specs.StandsFor as feed
 use Rattle.file_run.specs.Events.{Event, fed, has_ended, gave}
 use Rattle.file_run.specs.FileRun.{AreFed}
 use Rattle.file_run.specs.Steps.{Needs, FallsShort}
@@ -22,8 +22,11 @@ use Rattle.file_run.proofs.WorkLemmas.{are_whole}
 use Rattle.merge_run.specs.AsMachine.{Becomes, ending_in, ending_of}
 use Rattle.merge_run.specs.MergeRun.{MayWrite, HasSome}
 use Rattle.merge_run.specs.MergeWork.{merge_work}
-use Rattle.merge_run.specs.Shown.{Shown, IsDone, IsIn}
-use Rattle.merge_run.specs.Steps.{step_by, step_in, step_of, reach_of}
+use Rattle.merge_run.specs.Shown.{Shown, IsDone, IsIn, is_held}
+use Rattle.feed_merge.specs.declared.seen.Feed.TheVariants.{A, B}
+use Rattle.merge_run.proofs.HeldLemmas.{end_of}
+use Rattle.held_feed.specs.Reading.{step_by}
+use Rattle.merge_run.specs.Steps.{step_in, step_of, reach_of}
 use Rattle.merge_run.specs.declared.machine.MergeMachine.{MergeMachine}
 use Rattle.merge_run.specs.declared.phase.Phase.{Phase}
 use Rattle.merge_run.specs.declared.phase.Phase.TheVariants as phase
@@ -41,7 +44,9 @@ module _ (front : DueFront) (follow : DueFollow) (law : CompleteLaw) (start now 
       let i : IsDone k (frames_of (picks k s.given_a s.given_b)) now.merging.ran.units now.merging.a now.merging.b =
       subst (IsIn k now.merging (frames_of (picks k s.given_a s.given_b))) done s.is_in in
       are_whole 2 files places events all are
-      (two (λ (input : ℕ). has_ended input events ≡ true) (sym s.of_a.stands.end ∙ i.none_a.ended) (sym s.of_b.stands.end ∙ i.none_b.ended))
+      (two (λ (input : ℕ). has_ended input events ≡ true) (sym (end_of k now.merging.a (fed 0 events) (has_ended 0 events)
+      s.given_a (is_held now.merging.phase now.merging.source A) s.of_a) ∙ i.none_a.ended) (sym (end_of k now.merging.b (fed 1 events)
+      (has_ended 1 events) s.given_b (is_held now.merging.phase now.merging.source B) s.of_b) ∙ i.none_b.ended))
 
   ends_in : (p : Phase) → now.merging.phase ≡ p
       → step_in p (step_by (waiting_of now.merging.a) (feed.has_ended now.merging.a) (waiting_of now.merging.b) (feed.has_ended now.merging.b))

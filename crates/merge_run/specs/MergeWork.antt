@@ -1,10 +1,9 @@
 -- What a run of the merger does, by the bytes of its two files.
-use Rattle.std.specs.Prelude.{ℕ, ◌+◌, ◌≤◌, List, slice_index, Result, Ok, Err}
+use Rattle.std.specs.Prelude.{ℕ, ◌+◌, ◌≤◌, List, slice_index, Ok, Err}
 use Rattle.plp_config.specs.declared.config.Config.{Config}
 use Rattle.desk_io.specs.Reading.{longest_file}
 use Rattle.file_run.specs.Work.{Work, AreWhole}
 use Rattle.file_run.specs.declared.stop.RunFault.TheVariants.{TooLong, ReadFault, WriteFault}
-use Rattle.file_run.specs.declared.stop.RunStop.{RunStop}
 use Rattle.file_run.specs.declared.stop.RunStop.TheVariants.{Refused, Files, OutOfMemory}
 use Rattle.merge_run.specs.MergeRun.{MergesAll, HasNone, HasLate, HasWritten, HasSome}
 use Rattle.merge_run.specs.declared.stop.Ran.{Ran}

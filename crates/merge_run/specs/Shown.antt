@@ -3,28 +3,28 @@ use Rattle.std.specs.Prelude.{◌≡◌, ℕ, ◌+◌, ◌*◌, ◌^◌, ◌<◌
 use Rattle.plp_config.specs.Capacity.{IsPlan}
 use Rattle.plp_config.specs.declared.config.Config.{Config}
 use Rattle.plp_config.specs.declared.moment.TheConstants.{MOST_FRAMES}
+use Rattle.t2mi_packet.specs.declared.packet.Body.{Body}
 use Rattle.ts_packet.specs.TsFile.{joined}
 use Rattle.frame_groups.specs.Laws.{IsPrefix}
 use Rattle.frame_groups.specs.Modulated.{FrameRecord}
 use Rattle.frame_groups.specs.declared.waiting.Waiting.{Waiting}
-use Rattle.record_laws.specs.Frames.{HasByteIds}
-use Rattle.site_frame.specs.Whole.{Spells}
-use Rattle.site_frame.specs.declared.reading.RecordView.{RecordView}
 use Rattle.t2mi_stream.specs.Complete.{complete_units}
 use Rattle.t2mi_stream.specs.Pipe.{pipe}
 use Rattle.modulator.specs.StandsFor.{records_due}
-use Rattle.formed_frames.specs.Formed.{IsFormed}
-use Rattle.formed_frames.specs.Remade.{NumberedView, remade_packets}
+use Rattle.formed_frames.specs.Remade.{NumberedView, remade_bodies, remade_packets}
 use Rattle.file_run.specs.Events.{Event, fed, has_ended, gave}
-use Rattle.frame_feed.specs.StandsFor.{FrameFeedStandsFor, waiting_of}
-use Rattle.frame_feed.specs.StandsFor as feed
-use Rattle.frame_feed.specs.declared.feed.FrameFeed.{FrameFeed}
 use Rattle.feed_merge.specs.Picks.{picks, picks_below, above_all, frames_of}
-use Rattle.feed_merge.specs.StandsFor.{MergerStandsFor, frame_of, has_unit, has_finished, is_fed, bytes_left}
-use Rattle.feed_merge.specs.StandsFor as merger
-use Rattle.feed_merge.specs.declared.merger.Merger.{Merger}
+use Rattle.feed_merge.specs.declared.seen.Feed.{Feed}
+use Rattle.feed_merge.specs.declared.seen.Feed.TheVariants.{A, B}
+use Rattle.held_feed.specs.StandsFor.{FrameFeedStandsFor, IsFirst, waiting_of, is_whole}
+use Rattle.held_feed.specs.StandsFor as feed
+use Rattle.held_feed.specs.declared.feed.FrameFeed.{FrameFeed}
+use Rattle.pool_merger.specs.StandsFor.{MergerStandsFor, has_unit, has_finished, is_fed, bytes_left}
+use Rattle.pool_merger.specs.StandsFor as merger
+use Rattle.pool_merger.specs.declared.merger.Merger.{Merger}
 use Rattle.merge_run.specs.Counted.{counted}
-use Rattle.merge_run.specs.Sending.{numbered, view_at, frame_at}
+use Rattle.merge_run.specs.Sending.{left_for}
+use Rattle.merge_run.specs.Taking.{is_same, feed_in}
 use Rattle.merge_run.specs.declared.merging.Merging.{Merging}
 use Rattle.merge_run.specs.declared.phase.Phase.{Phase}
 use Rattle.merge_run.specs.declared.phase.Phase.TheVariants.{Reads, Gives, Rests, Done}
@@ -39,15 +39,36 @@ pub record IsBehind (next : ℕ) (f : FrameFeed) (given : List FrameRecord) : Ty
   pub waits : (w : Waiting) → waiting_of f ≡ Some w → next ≤ w.frame
   pub idle : waiting_of f ≡ None → feed.has_ended f ≡ false → next ≤ above_all given
 
+-- The frame of the last record is under way: it waits still.
+pub record IsHeld (c : Config) (f : FrameFeed) (bytes : List ℕ) (ended : Bool) (given : List FrameRecord) : Type 0 where
+  pub before : List FrameRecord
+  pub one : FrameRecord
+  pub later : List FrameRecord
+  pub given_is : given ≡ before ++ one ∷ []
+  pub due : records_due c ended bytes ≡ before ++ one ∷ later
+  pub first : IsFirst (waiting_of f) (one ∷ [])
+  pub fed : IsFedWith c f bytes ended before
+
+-- A feed of a network was fed with an input, and gave these records, the last one with a frame that is under way or not.
+abbrev pub OfFeed : Bool → Config → FrameFeed → List ℕ → Bool → List FrameRecord → Type 0
+OfFeed true c f bytes ended given = IsHeld c f bytes ended given
+OfFeed false c f bytes ended given = IsFedWith c f bytes ended given
+
+-- What comes of it has a number that is no lower.
+abbrev pub IsPast : Bool → ℕ → FrameFeed → List FrameRecord → Type 0
+IsPast true next f given = next ≤ above_all given
+IsPast false next f given = IsBehind next f given
+
 -- No record comes.
 pub record NoneComes (f : FrameFeed) : Type 0 where
   pub none : waiting_of f ≡ None
   pub ended : feed.has_ended f ≡ true
 
--- Of these frames units were given, the first ones whatever packets follow, and before the end only complete ones.
-pub record Sends (c : Config) (g : Merger) (frames : List NumberedView) (count : ℕ) (gave : List ℕ) : Type 0 where
+-- Of these frames units were given, the first ones whatever packets follow, and before the end only complete ones. Of the last one
+-- these bodies are left.
+pub record Sends (c : Config) (g : Merger) (left : List Body) (frames : List NumberedView) (count : ℕ) (gave : List ℕ) : Type 0 where
   pub network : merger.config_of g ≡ c
-  pub stands : MergerStandsFor g c frames count
+  pub stands : MergerStandsFor g left (remade_bodies c frames) count
   pub units : List (List ℕ)
   pub gave_is : gave ≡ joined units
   pub count_is : count ≡ length units
@@ -61,14 +82,11 @@ pub record IsReading (c : Config) (g : Merger) (frames : List NumberedView) (cou
   pub idle : has_unit g ≡ false
   pub complete : count ≡ length (complete_units c.pid (remade_packets c frames))
 
--- The last of these frames is the one whose record is held.
-pub record IsGiving (c : Config) (g : Merger) (frames : List NumberedView) (bytes : List ℕ) : Type 0 where
+-- The frame of a record that waits is under way.
+pub record IsGiving (g : Merger) (f : FrameFeed) : Type 0 where
   pub is_open : has_finished g ≡ false
-  pub before : List NumberedView
-  pub view : RecordView
-  pub parts : frames ≡ before ++ numbered (frame_of g) view ∷ []
-  pub spells : Spells view bytes
-  pub formed : IsFormed c (frame_of g) view
+  pub whole : is_whole (waiting_of f) ≡ true
+  pub early : (w : Waiting) → waiting_of f ≡ Some w → w.frame < MOST_FRAMES
 
 -- No more frames come.
 pub record IsResting (g : Merger) (a b : FrameFeed) : Type 0 where
@@ -83,18 +101,36 @@ pub record IsDone (c : Config) (frames : List NumberedView) (count : ℕ) (a b :
   pub none_a : NoneComes a
   pub none_b : NoneComes b
 
+-- the feed whose frame is under way, if one is
+abbrev pub feed_of : Merging → FrameFeed
+feed_of m = feed_in m.source m.a m.b
+
 abbrev pub IsIn : Config → Merging → List NumberedView → Phase → Type 0
 IsIn c m frames Reads = IsReading c m.merger frames m.ran.units
-IsIn c m frames Gives = IsGiving c m.merger frames m.«record»
+IsIn c m frames Gives = IsGiving m.merger (feed_of m)
 IsIn c m frames Rests = IsResting m.merger m.a m.b
 IsIn c m frames Done = IsDone c frames m.ran.units m.a m.b
 
+-- whether the frame under way is one of a feed
+abbrev pub is_held : Phase → Feed → Feed → Bool
+is_held Reads source from = false
+is_held Gives source from = is_same source from
+is_held Rests source from = false
+is_held Done source from = false
+
+-- what is left of it
+abbrev pub left_at : Phase → Merger → FrameFeed → List Body
+left_at Reads g f = []
+left_at Gives g f = left_for g f
+left_at Rests g f = []
+left_at Done g f = []
+
 -- no fewer than the units that can be given before the next frame; between frames fewer than 184 bytes wait
-abbrev pub more_units : Phase → Merger → List ℕ → ℕ
-more_units Reads g bytes = 184
-more_units Gives g bytes = 184 + bytes_left g (frame_at (frame_of g) (view_at bytes))
-more_units Rests g bytes = bytes_left g None
-more_units Done g bytes = 0
+abbrev pub more_units : Phase → Merger → FrameFeed → ℕ
+more_units Reads g f = 184
+more_units Gives g f = 184 + bytes_left g (left_for g f)
+more_units Rests g f = bytes_left g []
+more_units Done g f = 0
 
 -- no frame has so many bytes
 abbrev pub frame_bytes : ℕ
@@ -104,7 +140,7 @@ frame_bytes = 2 ^ 30
 pub record CountsFrames (m : Merging) : Type 0 where
   pub frames : m.ran.frames ≤ m.next
   pub parts : m.ran.a + m.ran.b ≡ m.ran.frames
-  pub units : m.ran.units + more_units m.phase m.merger m.«record» ≤ m.next * frame_bytes + 184
+  pub units : m.ran.units + more_units m.phase m.merger (feed_of m) ≤ m.next * frame_bytes + 184
 
 -- By fewer bytes of an input than were fed of it, no record is due of this number or a higher one.
 abbrev pub IsDueBelow : Config → ℕ → List ℕ → Type 0
@@ -122,16 +158,15 @@ pub record IsLive (c : Config) (fed_a fed_b : List ℕ) (given_a given_b : List 
 pub record Shown (c : Config) (events : List Event) (m : Merging) : Type 0 where
   pub config : m.plan.now ≡ c
   pub plan : IsPlan c
-  pub ids : HasByteIds c
   pub given_a : List FrameRecord
   pub given_b : List FrameRecord
-  pub of_a : IsFedWith c m.a (fed 0 events) (has_ended 0 events) given_a
-  pub of_b : IsFedWith c m.b (fed 1 events) (has_ended 1 events) given_b
-  pub behind_a : IsBehind m.next m.a given_a
-  pub behind_b : IsBehind m.next m.b given_b
+  pub of_a : OfFeed (is_held m.phase m.source A) c m.a (fed 0 events) (has_ended 0 events) given_a
+  pub of_b : OfFeed (is_held m.phase m.source B) c m.b (fed 1 events) (has_ended 1 events) given_b
+  pub behind_a : IsPast (is_held m.phase m.source A) m.next m.a given_a
+  pub behind_b : IsPast (is_held m.phase m.source B) m.next m.b given_b
   pub next_is : m.next ≡ max (above_all given_a) (above_all given_b)
   pub early : m.next ≤ MOST_FRAMES
-  pub sends : Sends c m.merger (frames_of (picks c given_a given_b)) m.ran.units (gave events)
+  pub sends : Sends c m.merger (left_at m.phase m.merger (feed_of m)) (frames_of (picks c given_a given_b)) m.ran.units (gave events)
   pub ran_is : m.ran ≡ counted (picks c given_a given_b) m.ran.units
   pub counts : CountsFrames m
   pub live : IsLive c (fed 0 events) (fed 1 events) given_a given_b m.next m.ran.units

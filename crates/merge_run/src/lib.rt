@@ -5,14 +5,11 @@ mod laws;
 mod machine;
 mod merging;
 mod phase;
-mod reading;
 mod running;
 mod sending;
 mod stop;
 mod taking;
 
 pub use laws::{one_run_law, run_ends_law};
-pub use reading::{is_idle, least_number, next_step};
 pub use running::run;
 pub use stop::{MergeStop, Ran};
-pub use taking::take_left;

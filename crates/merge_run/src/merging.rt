@@ -7,25 +7,24 @@ ghost use Rattle.file_run.specs.Events.{Event, Fed, Ended, Gave};
 ghost use Rattle.file_run.specs.Steps.{Suffices, FallsShort};
 ghost use Rattle.file_run.specs.declared.machine.TheConstants.{PIECE};
 ghost use Rattle.file_run.specs.declared.machine.Step.TheVariants.{Give};
-ghost use Rattle.frame_feed.specs.StandsFor.{waiting_of, has_ended, fed_of};
+ghost use Rattle.held_feed.specs.Reading.{is_idle, least_of, fed_at};
+ghost use Rattle.held_feed.specs.StandsFor.{waiting_of, has_ended, fed_of};
 ghost use Rattle.merge_run.specs.Shown.{Shown, HasShown};
-ghost use Rattle.merge_run.specs.Steps.{is_idle, step_of, fed_at, reach_of, left_of};
-ghost use Rattle.merge_run.specs.Taking.{least_of};
+ghost use Rattle.merge_run.specs.Steps.{step_of, reach_of, left_of};
 ghost use Rattle.merge_run.specs.declared.phase.Phase.TheVariants as phase;
 
 use crate::phase::Phase;
-use crate::reading::{least_number, next_step};
-use crate::sending::{begin_frame, next_units};
+use crate::sending::{begin_frame, give_frame};
 use crate::stop::Ran;
-use crate::taking::{is_picked, pick_next, take_picked};
+use crate::taking::{is_picked, pick_next, skip_others, skip_source, source_of};
 use bit_slice::OutOfMemory;
-use feed_merge::{Merger, grow_law};
+use feed_merge::{Feed, grow_law};
 use file_run::{Step, events_law};
 use formed_frames::formed_law;
-use frame_feed::{FrameFeed, RecordBuffer};
+use held_feed::{FrameFeed, least_number, next_step};
 use modulator::due_records_law;
 use plp_config::{Plan, block_law};
-use record_laws::id_law;
+use pool_merger::Merger;
 use std::alloc::Global;
 use ts_packet::SIZE;
 
@@ -36,8 +35,8 @@ pub struct Merging<'p> {
     pub a: FrameFeed<'p>,
     pub b: FrameFeed<'p>,
     pub merger: Merger<'p>,
-    // The record that was taken last.
-    pub record: RecordBuffer,
+    // The feed whose frame was begun last.
+    pub source: Feed,
     // The number behind those of all records that were taken.
     pub next: u64,
     pub phase: Phase,
@@ -51,16 +50,14 @@ impl<'p> Merging<'p> {
         ensures shown { IfOk result (λ m. Shown plan.now [] m) }
     {
         plan.rules_law();
-        id_law(plan);
         let a = FrameFeed::open(alloc, plan)?;
         let b = FrameFeed::open(alloc, plan)?;
-        let record = RecordBuffer::open(alloc)?;
         Ok(Merging {
             plan,
             a,
             b,
             merger: Merger::new(plan),
-            record,
+            source: Feed::A,
             next: 0,
             phase: Phase::Reads,
             ran: Ran {
@@ -116,7 +113,7 @@ impl<'p> Merging<'p> {
         self.b.finish();
     }
 
-    // Takes the records of the least number, and begins its frame if it is picked.
+    // Leaves the records of the least number behind, but for the one that is picked: its frame is begun.
     fn begin(&mut self, number: u64)
         requires came { ∥ HasShown self.old ∥₁ }
         requires reads { self.old.phase ≡ phase.Reads }
@@ -133,14 +130,19 @@ impl<'p> Merging<'p> {
         grow_law();
         block_law();
         let pick = pick_next(&self.a, &self.b);
-        take_picked(&mut self.a, &mut self.b, pick, &mut self.record);
+        skip_others(&mut self.a, &mut self.b, pick);
         self.next = number + 1;
         if !is_picked(pick.source) {
             return;
         }
-        let feed = pick.source.unwrap();
-        begin_frame(&mut self.merger, number, self.record.as_bytes());
-        self.ran.add(feed);
+        let source = pick.source.unwrap();
+        begin_frame(
+            &mut self.merger,
+            source_of(&self.a, &self.b, source),
+            number,
+        );
+        self.source = source;
+        self.ran.add(source);
         self.phase = Phase::Gives;
     }
 
@@ -186,9 +188,12 @@ impl<'p> Merging<'p> {
         ensures fed { (fed_of self.new.a ≡ fed_of self.old.a) × (fed_of self.new.b ≡ fed_of self.old.b) }
     {
         events_law();
-        let (len, full) = next_units(&mut self.merger, self.record.as_bytes(), out);
+        due_records_law();
+        let feed = source_of(&self.a, &self.b, self.source);
+        let (len, full) = give_frame(&mut self.merger, feed, out);
         self.ran.add_units(len / SIZE);
         if !full {
+            skip_source(&mut self.a, &mut self.b, self.source);
             self.phase = Phase::Reads;
         }
         len

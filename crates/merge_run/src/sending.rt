@@ -1,67 +1,84 @@
-// The frame of a record, sent again.
-ghost use Rattle.std.specs.Prelude.{◌≡◌, ◌<◌, ◌≤◌, ℕ, List, false, length, take};
-ghost use Rattle.ts_packet.specs.declared.sizes.TheConstants.{SIZE};
-ghost use Rattle.formed_frames.specs.Formed.{IsFormed};
+// The frame that waits in a feed, sent again.
+ghost use Rattle.std.specs.Prelude.{◌≡◌, ◌<◌, ◌≤◌, false, true, length, take};
 ghost use Rattle.plp_config.specs.declared.moment.TheConstants.{MOST_FRAMES};
-ghost use Rattle.site_frame.specs.declared.reading.RecordView.{RecordView};
-ghost use Rattle.site_frame.specs.Whole.{Spells};
-ghost use Rattle.feed_merge.specs.StandsFor.{config_of, frame_of, has_unit, has_finished};
-ghost use Rattle.merge_run.specs.Sending.{HoldsFrame, Begins, Nexts, NextsAll};
+ghost use Rattle.ts_packet.specs.declared.sizes.TheConstants.{SIZE};
+ghost use Rattle.pool_frame.specs.Left.{CanBeSent};
+ghost use Rattle.pool_frame.specs.declared.frame.PoolFrame.{PoolFrame};
+ghost use Rattle.held_feed.specs.Frames.{IsFrameOf};
+ghost use Rattle.held_feed.specs.StandsFor.{config_of as network_of, waiting_of, is_whole};
+ghost use Rattle.pool_merger.specs.StandsFor.{config_of, has_unit, has_finished};
+ghost use Rattle.merge_run.specs.Sending.{Begins, Nexts, NextsAll};
 
-use feed_merge::Merger;
-use site_frame::{RecordView, read_record, reading_law};
+use formed_frames::shown_law;
+use held_feed::FrameFeed;
+use modulator::due_records_law;
+use pool_frame::PoolFrame;
+use pool_merger::Merger;
 use ts_packet::SIZE;
 
-/// Begins the frame of a record.
-pub fn begin_frame(merger: &mut Merger<'_>, number: u64, bytes: &[u8])
-    requires holds { ∥ HoldsFrame (config_of merger.old) number bytes.now ∥₁ }
+/// Begins the frame that waits in a feed of the same network.
+pub fn begin_frame(merger: &mut Merger<'_>, feed: &FrameFeed<'_>, number: u64)
+    requires whole { is_whole (waiting_of feed.now) ≡ true }
+    requires network { ∥ network_of feed.now ≡ config_of merger.old ∥₁ }
     requires early { number < MOST_FRAMES }
     requires given { has_unit merger.old ≡ false }
     requires open { has_finished merger.old ≡ false }
-    ensures begins { (view : RecordView) → Spells view bytes.now → Begins merger.old merger.new number view }
+    ensures { Begins merger.old merger.new feed.now number }
 {
-    reading_law();
-    let (view, _) = read_record(bytes).unwrap();
-    merger.frame(number, &view);
+    shown_law();
+    due_records_law();
+    let frame = feed.frame();
+    merger.frame(number, &frame);
 }
 
 // Gives the next unit of the frames begun, if it is complete.
-fn next_unit(merger: &mut Merger<'_>, view: &RecordView<'_>, unit: &mut [u8; SIZE]) -> bool
-    requires formed { IsFormed (config_of merger.old) (frame_of merger.old) view.now }
-    ensures nexts { Nexts merger.old merger.new view.now result unit.new }
+fn next_unit(merger: &mut Merger<'_>, frame: &PoolFrame<'_>, unit: &mut [u8; SIZE]) -> bool
+    requires can { CanBeSent (config_of merger.old) frame.now }
+    ensures nexts { Nexts merger.old merger.new frame.now result unit.new }
     ensures whole { length unit.new ≡ SIZE }
 {
-    merger.next_ts(view, unit)
+    merger.next_ts(frame, unit)
 }
 
 // The same to the front of these bytes.
-fn next_front(merger: &mut Merger<'_>, view: &RecordView<'_>, out: &mut [u8]) -> bool
-    requires formed { IsFormed (config_of merger.old) (frame_of merger.old) view.now }
+fn next_front(merger: &mut Merger<'_>, frame: &PoolFrame<'_>, out: &mut [u8]) -> bool
+    requires can { CanBeSent (config_of merger.old) frame.now }
     requires room { SIZE ≤ length out.old }
-    ensures nexts { Nexts merger.old merger.new view.now result (take SIZE out.new) }
+    ensures nexts { Nexts merger.old merger.new frame.now result (take SIZE out.new) }
     ensures size { length out.new ≡ length out.old }
 {
-    next_unit(merger, view, out.first_chunk_mut().unwrap())
+    next_unit(merger, frame, out.first_chunk_mut().unwrap())
 }
 
-/// Gives units of the frames begun, to the front of these bytes, as long as one is complete and there is room: how many bytes, and
-/// whether it was the room that ended. The record is that of the last frame.
-pub fn next_units(merger: &mut Merger<'_>, bytes: &[u8], out: &mut [u8]) -> (usize, bool)
-    requires holds { ∥ HoldsFrame (config_of merger.old) (frame_of merger.old) bytes.now ∥₁ }
+// Gives units of the frames begun, to the front of these bytes, as long as one is complete and there is room: how many bytes, and
+// whether it was the room that ended. The frame is the last one.
+fn next_units(merger: &mut Merger<'_>, frame: &PoolFrame<'_>, out: &mut [u8]) -> (usize, bool)
+    requires can { CanBeSent (config_of merger.old) frame.now }
     requires room { SIZE ≤ length out.old }
-    ensures nexts { (view : RecordView) → Spells view bytes.now
-        → NextsAll merger.old merger.new view result.1 (take result.0 out.new) }
+    ensures nexts { NextsAll merger.old merger.new frame.now result.1 (take result.0 out.new) }
     ensures count { result.0 ≤ length out.old }
     ensures size { length out.new ≡ length out.old }
 {
-    reading_law();
-    let (view, _) = read_record(bytes).unwrap();
     let mut len = 0;
     while out.len() - len >= SIZE {
-        if !next_front(merger, &view, &mut out[len..]) {
+        if !next_front(merger, frame, &mut out[len..]) {
             return (len, false);
         }
         len += SIZE;
     }
     (len, true)
+}
+
+/// The same of the frame that waits in a feed of the same network.
+pub fn give_frame(merger: &mut Merger<'_>, feed: &FrameFeed<'_>, out: &mut [u8]) -> (usize, bool)
+    requires whole { is_whole (waiting_of feed.now) ≡ true }
+    requires network { ∥ network_of feed.now ≡ config_of merger.old ∥₁ }
+    requires room { SIZE ≤ length out.old }
+    ensures nexts { (frame : PoolFrame) × IsFrameOf feed.now frame
+        × NextsAll merger.old merger.new frame result.1 (take result.0 out.new) }
+    ensures count { result.0 ≤ length out.old }
+    ensures size { length out.new ≡ length out.old }
+{
+    let frame = feed.frame();
+    next_units(merger, &frame, out)
 }

@@ -1,16 +1,15 @@
-// Taking the records that wait.
-ghost use Rattle.std.specs.Prelude.{◌≡◌, ◌<◌, ◌≤◌, ◌+◌, ℕ, Bool, List, true, false, is_some};
+// What becomes of the records that wait.
+ghost use Rattle.std.specs.Prelude.{◌≡◌, ◌≤◌, ◌+◌, ℕ, Bool, List, false, is_some};
 ghost use Rattle.frame_groups.specs.Modulated.{FrameRecord};
-ghost use Rattle.frame_groups.specs.declared.waiting.Waiting.{Waiting};
-ghost use Rattle.plp_config.specs.declared.moment.TheConstants.{MOST_FRAMES};
 ghost use Rattle.feed_merge.specs.Picking.{picked};
 ghost use Rattle.feed_merge.specs.declared.seen.Feed.TheVariants.{A, B};
-ghost use Rattle.frame_feed.specs.StandsFor.{FrameFeedStandsFor, waiting_of, left_of};
-ghost use Rattle.merge_run.specs.Taking.{seen_of, least_of, is_from_first, CanBeTaken, Takes, TakesSome, TookFrom, IsSameFeed, one_if};
+ghost use Rattle.held_feed.specs.StandsFor.{FrameFeedStandsFor, waiting_of, left_of};
+ghost use Rattle.held_feed.specs.Skips.{CanBeLeft, Takes, IsSameFeed, one_if};
+ghost use Rattle.merge_run.specs.Taking.{seen_of, is_same, is_from, leaves, feed_in};
 
 use feed_merge::{Feed, Pick, Seen, pick};
-use frame_feed::{FrameFeed, RecordBuffer};
 use frame_groups::Waiting;
+use held_feed::{FrameFeed, skip_if};
 
 // A record that waits, as it is seen.
 fn seen(waiting: Option<Waiting>) -> Option<Seen>
@@ -39,78 +38,83 @@ pub fn is_picked(source: Option<Feed>) -> bool
     source.is_some()
 }
 
-/// Takes the record that waits into the buffer, if it is left behind.
-pub fn take_left(feed: &mut FrameFeed<'_>, leaves: bool, buffer: &mut RecordBuffer)
-    requires can { CanBeTaken leaves (waiting_of feed.old) }
-    ensures takes { (bytes : List ℕ) (ended : Bool) (given : List FrameRecord) → FrameFeedStandsFor feed.old bytes ended given
-        → Takes leaves feed.old feed.new bytes ended given buffer.new }
-    ensures stays { leaves ≡ false → waiting_of feed.new ≡ waiting_of feed.old }
-    ensures left { left_of feed.new + one_if leaves ≤ left_of feed.old }
-    ensures same { IsSameFeed feed.old feed.new }
+// Whether two are the same feed.
+fn is_same(source: Feed, feed: Feed) -> bool
+    ensures { result ≡ is_same source feed }
 {
-    if leaves {
-        buffer.take_from(feed);
+    match (source, feed) {
+        (Feed::A, Feed::A) => true,
+        (Feed::A, Feed::B) => false,
+        (Feed::B, Feed::A) => false,
+        (Feed::B, Feed::B) => true,
     }
 }
 
-// The same of two feeds, one after the other: the buffer holds the record of the second.
-fn take_both(
-    other: &mut FrameFeed<'_>,
-    leaves_other: bool,
-    own: &mut FrameFeed<'_>,
-    leaves_own: bool,
-    buffer: &mut RecordBuffer,
-)
-    requires can_other { CanBeTaken leaves_other (waiting_of other.old) }
-    requires can_own { CanBeTaken leaves_own (waiting_of own.old) }
-    ensures other { (bytes : List ℕ) (ended : Bool) (given : List FrameRecord) → FrameFeedStandsFor other.old bytes ended given
-        → TakesSome leaves_other other.old other.new bytes ended given }
-    ensures own { (bytes : List ℕ) (ended : Bool) (given : List FrameRecord) → FrameFeedStandsFor own.old bytes ended given
-        → Takes leaves_own own.old own.new bytes ended given buffer.new }
-    ensures stays_other { leaves_other ≡ false → waiting_of other.new ≡ waiting_of other.old }
-    ensures stays_own { leaves_own ≡ false → waiting_of own.new ≡ waiting_of own.old }
-    ensures left_other { left_of other.new + one_if leaves_other ≤ left_of other.old }
-    ensures left_own { left_of own.new + one_if leaves_own ≤ left_of own.old }
-    ensures same_other { IsSameFeed other.old other.new }
-    ensures same_own { IsSameFeed own.old own.new }
-{
-    take_left(other, leaves_other, buffer);
-    take_left(own, leaves_own, buffer);
-}
-
-// Whether a frame comes from the first feed.
-fn is_first(source: Option<Feed>) -> bool
-    ensures { result ≡ is_from_first source }
+// Whether a frame comes from a feed.
+fn is_from(feed: Feed, source: Option<Feed>) -> bool
+    ensures { result ≡ is_from feed source }
 {
     match source {
-        Some(Feed::A) => true,
-        Some(Feed::B) => false,
+        Some(source) => is_same(source, feed),
         None => false,
     }
 }
 
-/// Takes the records that are left behind into the buffer, that of the source last.
-pub fn take_picked(
-    a: &mut FrameFeed<'_>,
-    b: &mut FrameFeed<'_>,
-    pick: Pick,
-    buffer: &mut RecordBuffer,
-)
-    requires can_a { CanBeTaken pick.leave_a (waiting_of a.old) }
-    requires can_b { CanBeTaken pick.leave_b (waiting_of b.old) }
+// Whether what a feed has of a number is left behind at once.
+fn leaves(feed: Feed, has: bool, source: Option<Feed>) -> bool
+    ensures { result ≡ leaves feed has source }
+{
+    has && !is_from(feed, source)
+}
+
+/// The feed that a frame comes from.
+pub fn source_of<'f, 'p>(
+    a: &'f FrameFeed<'p>,
+    b: &'f FrameFeed<'p>,
+    source: Feed,
+) -> &'f FrameFeed<'p>
+    ensures { result.now ≡ feed_in source a.now b.now }
+{
+    match source {
+        Feed::A => a,
+        Feed::B => b,
+    }
+}
+
+/// Leaves the records of a number behind, but for the one whose frame is picked.
+pub fn skip_others(a: &mut FrameFeed<'_>, b: &mut FrameFeed<'_>, pick: Pick)
+    requires can_a { CanBeLeft pick.leave_a (waiting_of a.old) }
+    requires can_b { CanBeLeft pick.leave_b (waiting_of b.old) }
     ensures a { (bytes : List ℕ) (ended : Bool) (given : List FrameRecord) → FrameFeedStandsFor a.old bytes ended given
-        → TookFrom A pick.source pick.leave_a a.old a.new bytes ended given buffer.new }
+        → Takes (leaves A pick.leave_a pick.source) a.old a.new bytes ended given }
     ensures b { (bytes : List ℕ) (ended : Bool) (given : List FrameRecord) → FrameFeedStandsFor b.old bytes ended given
-        → TookFrom B pick.source pick.leave_b b.old b.new bytes ended given buffer.new }
-    ensures stays_a { pick.leave_a ≡ false → waiting_of a.new ≡ waiting_of a.old }
-    ensures stays_b { pick.leave_b ≡ false → waiting_of b.new ≡ waiting_of b.old }
-    ensures left_a { left_of a.new + one_if pick.leave_a ≤ left_of a.old }
-    ensures left_b { left_of b.new + one_if pick.leave_b ≤ left_of b.old }
+        → Takes (leaves B pick.leave_b pick.source) b.old b.new bytes ended given }
+    ensures stays_a { leaves A pick.leave_a pick.source ≡ false → a.new ≡ a.old }
+    ensures stays_b { leaves B pick.leave_b pick.source ≡ false → b.new ≡ b.old }
+    ensures left_a { left_of a.new + one_if (leaves A pick.leave_a pick.source) ≤ left_of a.old }
+    ensures left_b { left_of b.new + one_if (leaves B pick.leave_b pick.source) ≤ left_of b.old }
     ensures same_a { IsSameFeed a.old a.new }
     ensures same_b { IsSameFeed b.old b.new }
 {
-    if is_first(pick.source) {
-        return take_both(b, pick.leave_b, a, pick.leave_a, buffer);
-    }
-    take_both(a, pick.leave_a, b, pick.leave_b, buffer)
+    skip_if(a, leaves(Feed::A, pick.leave_a, pick.source));
+    skip_if(b, leaves(Feed::B, pick.leave_b, pick.source));
+}
+
+/// Leaves the record behind whose frame was sent.
+pub fn skip_source(a: &mut FrameFeed<'_>, b: &mut FrameFeed<'_>, source: Feed)
+    requires can_a { CanBeLeft (is_same source A) (waiting_of a.old) }
+    requires can_b { CanBeLeft (is_same source B) (waiting_of b.old) }
+    ensures a { (bytes : List ℕ) (ended : Bool) (given : List FrameRecord) → FrameFeedStandsFor a.old bytes ended given
+        → Takes (is_same source A) a.old a.new bytes ended given }
+    ensures b { (bytes : List ℕ) (ended : Bool) (given : List FrameRecord) → FrameFeedStandsFor b.old bytes ended given
+        → Takes (is_same source B) b.old b.new bytes ended given }
+    ensures stays_a { is_same source A ≡ false → a.new ≡ a.old }
+    ensures stays_b { is_same source B ≡ false → b.new ≡ b.old }
+    ensures left_a { left_of a.new + one_if (is_same source A) ≤ left_of a.old }
+    ensures left_b { left_of b.new + one_if (is_same source B) ≤ left_of b.old }
+    ensures same_a { IsSameFeed a.old a.new }
+    ensures same_b { IsSameFeed b.old b.new }
+{
+    skip_if(a, is_same(source, Feed::A));
+    skip_if(b, is_same(source, Feed::B));
 }

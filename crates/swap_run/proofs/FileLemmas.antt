@@ -23,7 +23,8 @@ use Rattle.t2mi_stream.specs.CompleteLaws.{CompleteLaw}
 use Rattle.t2mi_stream.specs.Pipe.{pipe, units_in}
 use Rattle.formed_frames.specs.Remade.{NumberedView, remade_packets}
 use Rattle.feed_merge.specs.Picks.{above_all}
-use Rattle.frame_feed.specs.StandsFor.{IsFirst, waiting_of}
+use Rattle.frame_feed.specs.StandsFor.{waiting_of}
+use Rattle.held_feed.specs.StandsFor.{IsFirst}
 use Rattle.frame_feed.specs.StandsFor as feed
 use Rattle.file_run.specs.Events.{Event, fed, has_ended, gave}
 use Rattle.file_run.specs.FileRun.{AreFed, IsFed}
@@ -31,12 +32,12 @@ use Rattle.file_run.specs.declared.machine.Step.TheVariants.{Give, End}
 use Rattle.gateway_core.specs.InputSoFar.{Continues}
 use Rattle.gateway_run.proofs.FileLemmas.{NextIsBad}
 use Rattle.merge_run.specs.MergeRun.{AreEarly}
-use Rattle.merge_run.specs.Shown.{NoneComes}
-use Rattle.merge_run.specs.Steps.{is_idle}
-use Rattle.merge_run.proofs.FeedLemmas.{IsDue, due_of, waits_above}
+use Rattle.record_feeds.specs.Fed.{NoneComes}
+use Rattle.held_feed.specs.Reading.{is_idle}
+use Rattle.record_feeds.proofs.FeedLemmas.{IsDue, due_of, waits_above}
 use Rattle.merge_run.proofs.NumberLemmas.{below_of, above_append, below_append}
 use Rattle.merge_run.proofs.SendLemmas.{given_front}
-use Rattle.merge_run.proofs.SplitLemmas as split
+use Rattle.record_feeds.proofs.SplitLemmas as split
 use Rattle.t2mi_stream.proofs.CompleteLemmas.{shorter_front}
 use Rattle.region_swap.specs.StandsFor.{Status, status_of, wants_of}
 use Rattle.region_swap.specs.Swapped.{swapped}

@@ -31,10 +31,12 @@ use Rattle.frame_feed.specs.StandsFor as feed
 use Rattle.frame_feed.specs.declared.feed.FrameFeed.{FrameFeed}
 use Rattle.feed_merge.specs.Picks.{above_all}
 use Rattle.gateway_core.specs.InputSoFar.{Told, in_next, Continues}
-use Rattle.merge_run.specs.Sending.{numbered, HoldsFrame, frame_at}
-use Rattle.merge_run.specs.Shown.{IsFedWith}
-use Rattle.merge_run.proofs.FeedLemmas.{IsDue, due_of, waits_above}
-use Rattle.merge_run.proofs.FrameLemmas.{view_is}
+use Rattle.merge_run.specs.Sending.{numbered}
+use Rattle.swap_run.specs.Record.{HoldsFrame, frame_at}
+use Rattle.record_feeds.specs.Fed.{IsFedWith}
+use Rattle.held_feed.specs.StandsFor.{IsFirst}
+use Rattle.record_feeds.proofs.FeedLemmas.{IsDue, due_of, waits_above}
+use Rattle.swap_run.proofs.RecordLemmas.{view_is}
 use Rattle.merge_run.proofs.NumberLemmas.{above_append}
 use Rattle.region_swap.specs.StandsFor.{SwapperStandsFor, Status, status_of, wants_of, frame_of, has_unit, is_fed, bytes_left}
 use Rattle.region_swap.specs.declared.swapper.Swapper.{Swapper}
@@ -293,7 +295,7 @@ module _ (c : Config) (plp : ℕ) (events : List Event) (m : Swapping) (s : Show
   shown_skip g q out w e waits here mute none config took stands unit status =
       let i = in_packets c plp events m s e in
       let x : FrameRecord = took.next in
-      let first = subst (λ (o : Option Waiting). feed.IsFirst o (x ∷ [])) waits took.waited in
+      let first = subst (λ (o : Option Waiting). IsFirst o (x ∷ [])) waits took.waited in
       let above = above_push w x e waits here first.0 in
       let slots = slots_push x above in
       let muted : frame_in c x.number x.content ≡ [] = no_frame x.content first.1 in
@@ -367,7 +369,7 @@ module _ (c : Config) (plp : ℕ) (events : List Event) (m : Swapping) (s : Show
       i = in_packets c plp events m s e
 
       first : (x.number ≡ w.frame) × (mute_of x.content ≡ w.mute)
-      first = subst (λ (o : Option Waiting). feed.IsFirst o (x ∷ [])) waits took.waited
+      first = subst (λ (o : Option Waiting). IsFirst o (x ∷ [])) waits took.waited
 
       same : w.frame ≡ i.waiting.frame
       same = ap (λ (y : Waiting). y.frame) (some_injective w i.waiting (sym waits ∙ i.waits))
@@ -425,7 +427,7 @@ module _ (c : Config) (plp : ℕ) (events : List Event) (m : Swapping) (s : Show
   shown_begin field told g q out w e waits here none config took f b =
       let i = in_packets c plp events m s e in
       let x : FrameRecord = took.next in
-      let first = subst (λ (o : Option Waiting). feed.IsFirst o (x ∷ [])) waits took.waited in
+      let first = subst (λ (o : Option Waiting). IsFirst o (x ∷ [])) waits took.waited in
       let above = above_push w x e waits here first.0 in
       let slots = slots_push x above in
       let few = i.few in

@@ -1,10 +1,12 @@
 pub mod BoundLemmas
 pub mod FileLemmas
+pub mod FormedLemmas
 pub mod GoLemmas
 pub mod LawLemmas
 pub mod LiveLemmas
 pub mod NextLemmas
 pub mod PacketLemmas
+pub mod RecordLemmas
 pub mod RunLemmas
 pub mod SendLemmas
 pub mod ShownLemmas

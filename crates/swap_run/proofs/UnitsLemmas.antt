@@ -14,7 +14,7 @@ use Rattle.formed_frames.specs.Remade.{NumberedView}
 use Rattle.file_run.specs.Events.{Event, Gave, gave}
 use Rattle.file_run.specs.Laws.{EventsTell}
 use Rattle.gateway_core.specs.InputSoFar.{Told, in_next}
-use Rattle.merge_run.proofs.FrameLemmas.{view_is}
+use Rattle.swap_run.proofs.RecordLemmas.{view_is}
 use Rattle.region_swap.specs.StandsFor.{SwapperStandsFor, status_of, frame_of, has_unit}
 use Rattle.region_swap.specs.declared.swapper.Swapper.{Swapper}
 use Rattle.swap_run.specs.Sending.{Nexts, NextsAll, GivesAll, EndsSo}

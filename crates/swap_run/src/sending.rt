@@ -4,7 +4,7 @@ ghost use Rattle.ts_packet.specs.declared.sizes.TheConstants.{SIZE};
 ghost use Rattle.formed_frames.specs.Formed.{IsFormed};
 ghost use Rattle.site_frame.specs.declared.reading.RecordView.{RecordView};
 ghost use Rattle.site_frame.specs.Whole.{Spells};
-ghost use Rattle.merge_run.specs.Sending.{HoldsFrame};
+ghost use Rattle.swap_run.specs.Record.{HoldsFrame};
 ghost use Rattle.region_swap.specs.StandsFor.{status_of, wants_of, frame_of, has_unit};
 ghost use Rattle.swap_run.specs.Sending.{Begins, Nexts, NextsAll};
 

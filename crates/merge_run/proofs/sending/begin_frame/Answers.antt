@@ -1,23 +1,52 @@
-use Rattle.std.proofs.Common.{subst}
-use Rattle.merge_run.specs.Sending.{Begins}
-use Rattle.merge_run.proofs.FormedLemmas.{is_read, view_read, formed_read}
+use Rattle.std.proofs.Common.{◌≡◌, ◌∙◌, ◌++◌, [], ◌*◌, ◌+◌, ◌≤◌, ℕ, List, length, ap, sym, subst}
+use Rattle.plp_config.specs.declared.config.Config.{Config}
+use Rattle.t2mi_packet.specs.declared.packet.Body.{Body}
+use Rattle.modulator.specs.StandsFor.{records_due}
+use Rattle.frame_writer.specs.Carried.{of_frame}
+use Rattle.frame_writer.specs.Flowing.{packet_bound}
+use Rattle.formed_frames.specs.Remade.{remade_bodies, view_bodies}
+use Rattle.open_group.specs.Shown.{Shows}
+use Rattle.pool_frame.specs.Left.{bodies_of}
+use Rattle.held_feed.specs.Frames.{dynamic_of, lists_of}
+use Rattle.pool_merger.specs.StandsFor.{MergerStandsFor, config_of, left_in, bytes_left}
+use Rattle.merge_run.specs.Sending.{frame_by, left_for}
+use Rattle.merge_run.proofs.FrameLemmas.{pushed, sent}
+use Rattle.merge_run.proofs.UnitLemmas.{left_is, sent_in}
 use Rattle.merge_run.proofs.sending.begin_frame.Goals as goal
 
-pub unwrap-view-requires : goal.unwrap-view-requires
-unwrap-view-requires c =
-    is_read c.reading_law.ensures.read c.args.bytes.now c.read_record.result c.read_record.ensures.every _ _ c.requires.holds
-
-pub frame-requires-clause-formed : goal.frame-requires-clause-formed
-frame-requires-clause-formed c =
-    formed_read c.reading_law.ensures.read c.args.bytes.now c.read_record.result c.read_record.ensures.every _ _ c.unwrap-view.result
-    c.unwrap-view.ensures c.requires.holds
+pub frame-requires-clause-can : goal.frame-requires-clause-can
+frame-requires-clause-can c = sent_in _ _ c.frame-frame.result c.requires.network (λ e. e) c.frame-frame.ensures.is.can
 
 pub returns : goal.returns
 returns c = record {
-  begins = λ view s.
-      let f = c.frame.ensures in
-      subst (Begins c.args.merger.now c.frame.new.self c.args.number)
-      (view_read c.reading_law.ensures.read c.args.bytes.now c.read_record.result c.read_record.ensures.every c.unwrap-view.result
-      c.unwrap-view.ensures view s)
-      (record { stands = f.stands; config = f.config; frame = f.frame; finished = f.finished; more = f.more });
+  begun = λ net plan bytes ended given s x later all g content number.
+      let old = c.args.merger.now in
+      let new = c.frame.new.self in
+      let feed = c.args.feed.now in
+      let k : Config = config_of old in
+      let f = c.frame-frame.result in
+      let is = c.frame-frame.ensures.is in
+      let due = ap (λ (k : Config). records_due k ended bytes) net ∙ all in
+      let shows : Shows k g.packets (dynamic_of feed) (lists_of feed) =
+      subst (λ (k : Config). Shows k g.packets (dynamic_of feed) (lists_of feed)) net
+      (c.frame-frame.ensures.shows bytes ended given s x later due g content) in
+      let bodies = sent c.due_records_law.ensures.pass c.shown_law.ensures k ended bytes given x later g f feed plan all
+      content shows net is in
+      let left : left_in new f ≡ left_for new feed = left_is new feed f is (net ∙ sym c.frame.ensures.config) in
+      record {
+        stands = λ frames count h.
+            subst (λ (l : List (ℕ × Body)). MergerStandsFor new (left_for new feed) l count)
+            (pushed k frames (frame_by k x) (bodies_of k x.number f) bodies)
+            (subst (λ (n : ℕ). MergerStandsFor new (left_for new feed) (remade_bodies k frames ++ of_frame n (bodies_of k n f)) count)
+            (sym number)
+            (subst (λ (l : List Body). MergerStandsFor new l (remade_bodies k frames ++ of_frame c.args.number (bodies_of k c.args.number f)) count)
+            left (c.frame.ensures.stands (remade_bodies k frames) count h)));
+        more = subst (λ (l : List Body). bytes_left new l
+            ≤ bytes_left old [] + packet_bound * length (view_bodies k x.number (frame_by k x).view)) left
+            (subst (λ (l : List Body). bytes_left new (left_in new f) ≤ bytes_left old [] + packet_bound * length l) bodies
+            (subst (λ (n : ℕ). bytes_left new (left_in new f) ≤ bytes_left old [] + packet_bound * length (bodies_of k n f)) (sym number)
+            c.frame.ensures.more));
+      };
+  config = c.frame.ensures.config;
+  finished = c.frame.ensures.finished;
 }

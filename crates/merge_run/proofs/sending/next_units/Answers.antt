@@ -1,21 +1,12 @@
-use Rattle.std.proofs.Common.{◌≡◌, ℕ, List, [], ◌∷◌, ◌++◌, ◌-◌, Bool, true, false, length, take, refl, ap, sym, subst, ◌∙◌, rules, arith}
+use Rattle.std.proofs.Common.{◌≡◌, ℕ, List, [], ◌∷◌, ◌++◌, ◌-◌, Bool, true, false, take, refl, ap, sym, subst, ◌∙◌, rules, arith}
 use Rattle.std.proofs.Common.{length-append}
 use Rattle.ts_packet.proofs.JoinedLemmas.{joined_push}
-use borrow.Rule.Slice.PartMut.{put_mid}
 use Rattle.plp_config.specs.declared.config.Config.{Config}
 use Rattle.ts_packet.specs.declared.sizes.TheConstants.{SIZE}
-use Rattle.site_frame.specs.declared.reading.RecordView.{RecordView}
-use Rattle.formed_frames.specs.Formed.{IsFormed}
-use Rattle.feed_merge.specs.StandsFor.{config_of, frame_of}
-use Rattle.frame_feed.proofs.FeedLemmas.{piece_taken}
-use Rattle.merge_run.specs.Sending.{Nexts, NextsAll}
-use Rattle.merge_run.proofs.FormedLemmas.{is_read, view_read, formed_read}
-use Rattle.merge_run.proofs.UnitsLemmas.{gives_push, ends_full, ends_behind}
+use Rattle.pool_frame.specs.Left.{CanBeSent}
+use Rattle.merge_run.specs.Sending.{Nexts}
+use Rattle.merge_run.proofs.UnitsLemmas.{piece_taken, gives_push, ends_full, ends_behind}
 use Rattle.merge_run.proofs.sending.next_units.Goals as goal
-
-pub unwrap-view-requires : goal.unwrap-view-requires
-unwrap-view-requires c =
-    is_read c.reading_law.ensures.read c.args.bytes.now c.read_record.result c.read_record.ensures.every _ _ c.requires.holds
 
 pub loop-out-init : goal.loop-out-init
 loop-out-init c = record {
@@ -26,18 +17,11 @@ loop-out-init c = record {
   count = refl;
   gives = refl;
   config = refl;
-  frame = refl;
 }
 
-pub next_front-requires-clause-formed : goal.next_front-requires-clause-formed
-next_front-requires-clause-formed c =
-    let i = c.loop-out.invariant in
-    let merger = c.args.merger.now in
-    let view = c.unwrap-view.result.0 in
-    subst (λ (k : Config). IsFormed k (frame_of c.loop-out.merger) view) (sym i.config)
-    (subst (λ (n : ℕ). IsFormed (config_of merger) n view) (sym i.frame)
-    (formed_read c.reading_law.ensures.read c.args.bytes.now c.read_record.result c.read_record.ensures.every _ _
-    c.unwrap-view.result c.unwrap-view.ensures c.requires.holds))
+pub next_front-requires-clause-can : goal.next_front-requires-clause-can
+next_front-requires-clause-can c =
+    subst (λ (k : Config). CanBeSent k c.args.frame.now) (sym c.loop-out.invariant.config) c.requires.can
 
 pub loop-out-preserved : goal.loop-out-preserved
 loop-out-preserved c =
@@ -45,10 +29,10 @@ loop-out-preserved c =
     let i = now.invariant in
     let u = c.next_front in
     let unit = take SIZE u.new.out in
-    let view = c.unwrap-view.result.0 in
+    let frame = c.args.frame.now in
     let on : u.result ≡ true = search rules in
-    let n : Nexts now.merger u.new.merger view true unit =
-    subst (λ (b : Bool). Nexts now.merger u.new.merger view b unit) on u.ensures.nexts in
+    let n : Nexts now.merger u.new.merger frame true unit =
+    subst (λ (b : Bool). Nexts now.merger u.new.merger frame b unit) on u.ensures.nexts in
     record {
       inside = search (rules, arith);
       size = search (rules, arith);
@@ -56,34 +40,26 @@ loop-out-preserved c =
       bytes = piece_taken now.out u.new.out now.len _ SIZE i.inside (search (rules, arith))
           ∙ ap (λ (l : List ℕ). l ++ unit) i.bytes ∙ sym (joined_push i.units unit);
       count = (let e = i.count in let s = length-append i.units (unit ∷ []) in omega (arith, e, s));
-      gives = gives_push view c.args.merger.now now.merger u.new.merger i.units unit i.gives n;
+      gives = gives_push frame c.args.merger.now now.merger u.new.merger i.units unit i.gives n;
       config = n.config ∙ i.config;
-      frame = n.frame ∙ i.frame;
     }
 
 pub returns-then-not-next_front-clause-nexts : goal.returns-then-not-next_front-clause-nexts
-returns-then-not-next_front-clause-nexts c = λ view s.
+returns-then-not-next_front-clause-nexts c =
     let now = c.loop-out in
     let i = now.invariant in
     let u = c.next_front in
-    let n = subst (λ (b : Bool). Nexts now.merger u.new.merger c.unwrap-view.result.0 b (take SIZE u.new.out)) (search rules)
+    let n = subst (λ (b : Bool). Nexts now.merger u.new.merger c.args.frame.now b (take SIZE u.new.out)) (search rules)
     u.ensures.nexts in
-    subst (λ (v : RecordView). NextsAll c.args.merger.now u.new.merger v false
-    (take now.len (put_mid now.len (length now.out - now.len) now.out u.new.out)))
-    (view_read c.reading_law.ensures.read c.args.bytes.now c.read_record.result c.read_record.ensures.every c.unwrap-view.result
-    c.unwrap-view.ensures view s)
-    (ends_behind c.args.merger.now now.merger u.new.merger c.unwrap-view.result.0 now.out u.new.out now.len _ (take SIZE u.new.out)
-    i.units i.inside i.bytes i.count i.gives n)
+    ends_behind c.args.merger.now now.merger u.new.merger c.args.frame.now now.out u.new.out now.len _ (take SIZE u.new.out)
+    i.units i.inside i.bytes i.count i.gives n
 
 pub returns-clause-nexts : goal.returns-clause-nexts
-returns-clause-nexts c = λ view s.
+returns-clause-nexts c =
     let now = c.loop-out in
     let i = now.invariant in
     let end = c.loop-out-test.false in
     let room = c.requires.room in
     let size = i.size in
-    subst (λ (v : RecordView). NextsAll c.args.merger.now now.merger v true (take now.len now.out))
-    (view_read c.reading_law.ensures.read c.args.bytes.now c.read_record.result c.read_record.ensures.every c.unwrap-view.result
-    c.unwrap-view.ensures view s)
-    (ends_full c.args.merger.now now.merger c.unwrap-view.result.0 now.out now.len i.units i.inside
-    (search (rules, arith)) i.bytes i.count i.gives)
+    ends_full c.args.merger.now now.merger c.args.frame.now now.out now.len i.units i.inside
+    (search (rules, arith)) i.bytes i.count i.gives

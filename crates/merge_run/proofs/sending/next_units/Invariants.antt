@@ -1,7 +1,7 @@
 use Rattle.std.proofs.Common.{◌≡◌, ◌*◌, ◌≤◌, ◌-◌, ℕ, List, length, take}
 use Rattle.ts_packet.specs.TsFile.{joined}
 use Rattle.ts_packet.specs.declared.sizes.TheConstants.{SIZE}
-use Rattle.feed_merge.specs.StandsFor.{config_of, frame_of}
+use Rattle.pool_merger.specs.StandsFor.{config_of}
 use Rattle.merge_run.specs.Sending.{GivesAll}
 use Rattle.merge_run.proofs.sending.next_units.Given as goal
 
@@ -12,9 +12,8 @@ invariant-loop-out l = record {
   units : List (List ℕ);
   bytes : take l.len l.out ≡ joined units;
   count : l.len ≡ SIZE * length units;
-  gives : GivesAll l.view l.initial.merger units l.merger;
+  gives : GivesAll l.frame l.initial.merger units l.merger;
   config : config_of l.merger ≡ config_of l.initial.merger;
-  frame : frame_of l.merger ≡ frame_of l.initial.merger;
 }
 
 abbrev pub decreases-loop-out : goal.decreases-loop-out

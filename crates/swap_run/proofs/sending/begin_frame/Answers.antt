@@ -1,6 +1,6 @@
 use Rattle.std.proofs.Common.{subst}
 use Rattle.swap_run.specs.Sending.{Begins}
-use Rattle.merge_run.proofs.FormedLemmas.{is_read, view_read, formed_read}
+use Rattle.swap_run.proofs.FormedLemmas.{is_read, view_read, formed_read}
 use Rattle.swap_run.proofs.sending.begin_frame.Goals as goal
 
 pub unwrap-view-requires : goal.unwrap-view-requires

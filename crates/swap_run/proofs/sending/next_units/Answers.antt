@@ -5,7 +5,7 @@ use Rattle.ts_packet.specs.declared.sizes.TheConstants.{SIZE}
 use Rattle.site_frame.specs.declared.reading.RecordView.{RecordView}
 use Rattle.formed_frames.specs.Formed.{IsFormed}
 use Rattle.frame_feed.proofs.FeedLemmas.{piece_taken}
-use Rattle.merge_run.proofs.FormedLemmas.{is_read, view_read, formed_read}
+use Rattle.swap_run.proofs.FormedLemmas.{is_read, view_read, formed_read}
 use Rattle.ts_packet.proofs.JoinedLemmas.{joined_push}
 use Rattle.region_swap.specs.StandsFor.{Status}
 use Rattle.swap_run.specs.Sending.{Nexts, NextsAll}

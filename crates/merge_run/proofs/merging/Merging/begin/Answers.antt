@@ -1,12 +1,11 @@
-use Rattle.std.proofs.Common.{◌≡◌, ℕ, List, refl, sym, subst, ◌∙◌, arith}
+use Rattle.std.proofs.Common.{◌≡◌, true, refl, ap, sym, subst, ◌∙◌, arith}
 use Rattle.std.proofs.Math.Logic.{∥∥₁_map}
-use Rattle.plp_config.specs.declared.config.Config.{Config}
-use Rattle.site_frame.specs.Whole.{Spells}
-use Rattle.frame_feed.specs.StandsFor.{waiting_of}
-use Rattle.feed_merge.specs.StandsFor.{config_of}
-use Rattle.merge_run.specs.Sending.{HoldsFrame}
+use Rattle.held_feed.specs.StandsFor.{waiting_of, is_whole}
+use Rattle.held_feed.specs.StandsFor as feed
+use Rattle.held_feed.specs.declared.feed.FrameFeed.{FrameFeed}
+use Rattle.merge_run.specs.Sending.{Begins}
 use Rattle.merge_run.specs.Shown.{HasShown}
-use Rattle.merge_run.proofs.BeginLemmas.{fewer_left, holds, passed, begun, begun_left, left_passed, reading_of}
+use Rattle.merge_run.proofs.BeginLemmas.{fewer_left, passed, begun, begun_left, left_passed, reading_of, waits_now, network_in}
 use Rattle.merge_run.proofs.CameLemmas.{test_of, less_of, number_of}
 use Rattle.merge_run.proofs.PickLemmas.{picked_at}
 use Rattle.merge_run.proofs.TakeLemmas.{none_picked_is}
@@ -14,7 +13,7 @@ use Rattle.merge_run.proofs.merging.Merging.begin.Goals as goal
 
 pub returns-then-not-is_picked-clause-shown : goal.returns-then-not-is_picked-clause-shown
 returns-then-not-is_picked-clause-shown c = λ k events s.
-    let t = c.take_picked.ensures in
+    let t = c.skip_others.ensures in
     passed c.due_records_law.ensures.follow c.grow_law.ensures c.block_law.ensures.field k c.args.self.now _ events c.args.number
     c.pick_next-pick.result
     (record {
@@ -36,10 +35,9 @@ returns-then-not-is_picked-clause-shown c = λ k events s.
 
 pub returns-then-not-is_picked-clause-left : goal.returns-then-not-is_picked-clause-left
 returns-then-not-is_picked-clause-left c =
-    let t = c.take_picked.ensures in
-    left_passed c.args.self.now c.take_picked.new.a c.take_picked.new.b _ _ _ c.requires.reads c.requires.reads
-    (fewer_left c.args.self.now c.take_picked.new.a c.take_picked.new.b c.args.number c.pick_next-pick.result
-    c.take_picked.new.buffer
+    let t = c.skip_others.ensures in
+    left_passed c.args.self.now c.skip_others.new.a c.skip_others.new.b _ _ _ c.requires.reads c.requires.reads
+    (fewer_left c.args.self.now c.skip_others.new.a c.skip_others.new.b c.args.number c.pick_next-pick.result
     (record {
       is = c.pick_next-pick.ensures ∙ picked_at (waiting_of c.args.self.now.a) (waiting_of c.args.self.now.b) c.args.number c.requires.least;
       least = c.requires.least;
@@ -53,11 +51,12 @@ returns-then-not-is_picked-clause-left c =
       same_b = t.same_b;
       left_a = t.left_a;
       left_b = t.left_b;
-    }))
+    })
+    (none_picked_is c.pick_next-pick.result.source (sym c.is_picked.ensures ∙ c.if-not-is_picked.true)))
 
 pub returns-clause-shown : goal.returns-clause-shown
 returns-clause-shown c = λ k events s.
-    let t = c.take_picked.ensures in
+    let t = c.skip_others.ensures in
     begun c.due_records_law.ensures.follow c.grow_law.ensures c.block_law.ensures.field k c.args.self.now _ events c.args.number
     c.pick_next-pick.result
     (record {
@@ -75,17 +74,17 @@ returns-clause-shown c = λ k events s.
       left_b = t.left_b;
     })
     s refl c.requires.reads refl c.requires.early
-    c.due_records_law.ensures.spelled c.formed_law.ensures c.unwrap-feed.result c.unwrap-feed.ensures c.add.ensures refl
-    (λ view spells. c.begin_frame.ensures.begins view (subst (λ (l : List ℕ). Spells view l)
-    (sym (let e : c.as_bytes.result.now ≡ c.take_picked.new.buffer = c.as_bytes.ensures in e)) spells))
+    c.formed_law.ensures c.unwrap-source.result c.unwrap-source.ensures c.add.ensures refl refl
+    (subst (λ (f : FrameFeed). Begins c.args.self.now.merger c.begin_frame.new.merger f c.args.number) c.source_of.ensures
+    c.begin_frame.ensures)
 
 pub returns-clause-left : goal.returns-clause-left
 returns-clause-left c =
-    let t = c.take_picked.ensures in
+    let t = c.skip_others.ensures in
     less_of _ _ c.requires.came (λ (h : HasShown c.args.self.now).
-    begun_left c.due_records_law.ensures.follow c.grow_law.ensures c.block_law.ensures.field c.due_records_law.ensures.spelled
-    c.formed_law.ensures h.network c.args.self.now c.take_picked.new.a c.take_picked.new.b c.begin_frame.new.merger h.events
-    c.args.number c.pick_next-pick.result c.take_picked.new.buffer
+    begun_left c.due_records_law.ensures.follow c.grow_law.ensures c.block_law.ensures.field
+    c.formed_law.ensures h.network c.args.self.now c.skip_others.new.a c.skip_others.new.b c.begin_frame.new.merger h.events
+    c.args.number c.pick_next-pick.result
     (record {
       is = c.pick_next-pick.ensures ∙ picked_at (waiting_of c.args.self.now.a) (waiting_of c.args.self.now.b) c.args.number c.requires.least;
       least = c.requires.least;
@@ -100,21 +99,15 @@ returns-clause-left c =
       left_a = t.left_a;
       left_b = t.left_b;
     })
-    h.shown c.requires.reads c.requires.early c.unwrap-feed.result c.unwrap-feed.ensures
-    (λ view spells. c.begin_frame.ensures.begins view (subst (λ (l : List ℕ). Spells view l)
-    (sym (let e : c.as_bytes.result.now ≡ c.take_picked.new.buffer = c.as_bytes.ensures in e)) spells)))
+    h.shown c.requires.reads c.unwrap-source.result c.unwrap-source.ensures
+    (subst (λ (f : FrameFeed). Begins c.args.self.now.merger c.begin_frame.new.merger f c.args.number) c.source_of.ensures
+    c.begin_frame.ensures))
 
-pub begin_frame-requires-clause-holds : goal.begin_frame-requires-clause-holds
-begin_frame-requires-clause-holds c =
-    let t = c.take_picked.ensures in
-    let m = c.args.self.now in
-    let out = c.take_picked.new.buffer in
-    let same : c.as_bytes.result.now ≡ c.take_picked.new.buffer = c.as_bytes.ensures in
-    subst (λ (l : List ℕ). ∥ HoldsFrame (config_of m.merger) c.args.number l ∥₁) (sym same)
-    (∥∥₁_map c.requires.came (λ (h : HasShown m).
-    subst (λ (k : Config). HoldsFrame k c.args.number out) (sym h.shown.sends.network)
-    (holds c.due_records_law.ensures.follow c.grow_law.ensures h.network m c.take_picked.new.a c.take_picked.new.b h.events
-    c.args.number c.pick_next-pick.result out
+pub begin_frame-requires-clause-whole : goal.begin_frame-requires-clause-whole
+begin_frame-requires-clause-whole c =
+    let t = c.skip_others.ensures in
+    subst (λ (f : FrameFeed). is_whole (waiting_of f) ≡ true) (sym c.source_of.ensures)
+    (waits_now c.args.self.now c.skip_others.new.a c.skip_others.new.b c.args.number c.pick_next-pick.result
     (record {
       is = c.pick_next-pick.ensures ∙ picked_at (waiting_of c.args.self.now.a) (waiting_of c.args.self.now.b) c.args.number c.requires.least;
       least = c.requires.least;
@@ -129,7 +122,15 @@ begin_frame-requires-clause-holds c =
       left_a = t.left_a;
       left_b = t.left_b;
     })
-    h.shown c.due_records_law.ensures.spelled c.formed_law.ensures c.requires.early c.unwrap-feed.result c.unwrap-feed.ensures)))
+    c.unwrap-source.result c.unwrap-source.ensures).whole
+
+pub begin_frame-requires-clause-network : goal.begin_frame-requires-clause-network
+begin_frame-requires-clause-network c =
+    let t = c.skip_others.ensures in
+    ∥∥₁_map c.requires.came (λ (h : HasShown c.args.self.now).
+    ap feed.config_of c.source_of.ensures
+    ∙ network_in h.network c.args.self.now c.skip_others.new.a c.skip_others.new.b h.events c.requires.reads t.same_a.network
+    t.same_b.network h.shown c.unwrap-source.result)
 
 pub begin_frame-requires-clause-given : goal.begin_frame-requires-clause-given
 begin_frame-requires-clause-given c = test_of _ _ c.requires.came

@@ -1,6 +1,6 @@
 use Rattle.std.proofs.Common.{◌+◌, arith}
-use Rattle.frame_feed.specs.StandsFor as feed
-use Rattle.merge_run.specs.Shown.{HasShown}
+use Rattle.held_feed.specs.StandsFor as feed
+use Rattle.merge_run.specs.Shown.{HasShown, feed_of}
 use Rattle.merge_run.proofs.BeginLemmas.{shown_finished, left_finished, idle_left, reading_of}
 use Rattle.merge_run.proofs.CameLemmas.{test_of, less_of}
 use Rattle.merge_run.proofs.merging.Merging.finish.Goals as goal
@@ -16,7 +16,7 @@ returns-clause-left c =
     let f = c.finish.ensures in
     less_of _ _ c.requires.came (λ (h : HasShown c.args.self.now).
     left_finished c.args.self.now c.finish.new.self (feed.left_of c.args.self.now.a + feed.left_of c.args.self.now.b)
-    c.args.self.now.«record» c.requires.reads
+    (feed_of c.args.self.now) c.requires.reads
     (let e = f.left in let l = idle_left c.args.self.now.merger (reading_of h.network c.args.self.now h.events h.shown c.requires.reads).idle in
     omega (arith, e, l)))
 

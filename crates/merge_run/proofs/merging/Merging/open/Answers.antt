@@ -11,7 +11,6 @@ returns-clause-shown c =
     record {
       config = refl;
       plan = c.rules_law.ensures.plan;
-      ids = c.id_law.ensures;
       given_a = [];
       given_b = [];
       of_a = record { network = a.config; stands = a.stands };

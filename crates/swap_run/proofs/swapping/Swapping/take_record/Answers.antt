@@ -4,7 +4,7 @@ use Rattle.std.proofs.Math.Logic.{∥∥₁_map}
 use Rattle.plp_config.specs.declared.config.Config.{Config}
 use Rattle.site_frame.specs.Whole.{Spells}
 use Rattle.file_run.specs.Events.{fed, has_ended}
-use Rattle.merge_run.specs.Sending.{HoldsFrame}
+use Rattle.swap_run.specs.Record.{HoldsFrame}
 use Rattle.merge_run.proofs.CameLemmas.{most_of}
 use Rattle.region_swap.specs.StandsFor.{Status, status_of, frame_of}
 use Rattle.swap_run.specs.Shown.{HasShown, more_units, frame_bytes}

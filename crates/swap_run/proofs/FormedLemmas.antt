@@ -17,7 +17,7 @@ use Rattle.site_frame.specs.declared.reading.RecordView.{RecordView}
 use Rattle.site_frame.specs.declared.reading.RecordView.TheVariants.{Frame, Muted}
 use Rattle.frame_tests.specs.Readable.{told_dynamic, coming, block_sizes, has_size}
 use Rattle.formed_frames.specs.Formed.{Forms, IsFormed}
-use Rattle.merge_run.specs.Sending.{HoldsFrame}
+use Rattle.swap_run.specs.Record.{HoldsFrame}
 use Rattle.merge_run.proofs.CameLemmas.{test_of, most_of, less_of, nothing_of, number_of}
 use Rattle.feed_merge.proofs.RecordLemmas.{begins_so}
 

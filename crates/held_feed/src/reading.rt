@@ -1,11 +1,10 @@
 // What two feeds want next, by the records that wait.
 ghost use Rattle.std.specs.Prelude.{◌≡◌};
-ghost use Rattle.frame_feed.specs.StandsFor.{waiting_of, has_ended};
-ghost use Rattle.merge_run.specs.Steps.{is_idle, wants_of, step_by};
-ghost use Rattle.merge_run.specs.Taking.{least_of};
+ghost use Rattle.held_feed.specs.Reading.{is_idle, least_of, wants_of, step_by};
+ghost use Rattle.held_feed.specs.StandsFor.{waiting_of, has_ended};
 
+use crate::feed::FrameFeed;
 use file_run::{AHEAD, Step};
-use frame_feed::FrameFeed;
 use frame_groups::Waiting;
 use plp_config::MOST_FRAMES;
 

@@ -1,5 +1,5 @@
-use Rattle.merge_run.proofs.TakeLemmas.{takes_none, takes_one}
-use Rattle.merge_run.proofs.taking.take_left.Goals as goal
+use Rattle.record_feeds.proofs.TakeLemmas.{takes_none, takes_one}
+use Rattle.record_feeds.proofs.taking.take_left.Goals as goal
 
 pub returns-then-leaves-clause-takes : goal.returns-then-leaves-clause-takes
 returns-then-leaves-clause-takes c = λ bytes ended given s.

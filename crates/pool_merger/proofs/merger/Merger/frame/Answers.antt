@@ -1,0 +1,18 @@
+use Rattle.std.proofs.Common.{length, ap, arith}
+use Rattle.pool_merger.specs.StandsFor.{MergerStandsFor}
+use Rattle.pool_merger.proofs.MergerLemmas.{begun}
+use Rattle.pool_merger.proofs.merger.Merger.frame.Goals as goal
+
+pub returns-clause-stands : goal.returns-clause-stands
+unfolding MergerStandsFor
+returns-clause-stands c = λ all given h.
+    let self = c.args.self.now in
+    begun self.flow.outlet c.begin.new.self.outlet self.plan.now self.place.number c.args.number c.first-place.result.number _ _ _
+    all given h c.first-place.ensures.number (c.first-place.ensures.left c.args.frame.now) c.begin.ensures.feeds.flows _
+    c.begin.ensures.number
+
+pub returns-clause-more : goal.returns-clause-more
+returns-clause-more c =
+    let bound = c.begin.ensures.feeds.bound in
+    let bodies = ap length (c.first-place.ensures.left c.args.frame.now) in
+    omega (arith, bound, bodies)

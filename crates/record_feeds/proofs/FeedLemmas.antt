@@ -1,0 +1,117 @@
+-- What one of the feeds stands for, and which number comes next of it.
+use Rattle.std.proofs.Common.{◌≡◌, ℕ, ◌+◌, ◌≤◌, ◌==◌, Bool, true, false, List, [], ◌∷◌, ◌++◌, Option, Some, None}
+use Rattle.std.proofs.Common.{refl, ap, sym, subst, ◌∙◌, arith}
+use Rattle.std.proofs.lemmas.Bool.{true≢false, eqb-false, eqb-true}
+use Rattle.plp_config.specs.declared.config.Config.{Config}
+use Rattle.frame_groups.specs.Laws.{AreFrom}
+use Rattle.frame_groups.specs.Modulated.{FrameRecord}
+use Rattle.frame_groups.specs.declared.waiting.Waiting.{Waiting}
+use Rattle.modulator.specs.Laws.{DueFollow}
+use Rattle.modulator.specs.StandsFor.{records_due}
+use Rattle.frame_feed.specs.StandsFor.{waiting_of}
+use Rattle.held_feed.specs.StandsFor.{IsFirst}
+use Rattle.frame_feed.specs.StandsFor as feed
+use Rattle.frame_feed.specs.declared.feed.FrameFeed.{FrameFeed}
+use Rattle.feed_merge.specs.declared.seen.Feed.{Feed}
+use Rattle.feed_merge.specs.Picking.{is_at}
+use Rattle.feed_merge.specs.Picks.{above_all}
+use Rattle.record_feeds.specs.Fed.{IsFedWith, IsBehind}
+use Rattle.held_feed.specs.Reading.{is_idle}
+use Rattle.held_feed.specs.Skips.{AreTaken}
+use Rattle.merge_run.specs.Taking.{seen_of}
+use Rattle.record_feeds.specs.Taking.{TookFrom}
+use Rattle.merge_run.proofs.NumberLemmas.{above_append, above_before}
+
+-- ---- the records that are due
+
+-- Those that were given are the first of them, and the one that waits is the next.
+pub record IsDue (c : Config) (f : FrameFeed) (bytes : List ℕ) (ended : Bool) (given : List FrameRecord) : Type 0 where
+  pub later : List FrameRecord
+  pub all : records_due c ended bytes ≡ given ++ later
+  pub first : IsFirst (waiting_of f) later
+
+pub due_of : (c : Config) (f : FrameFeed) (bytes : List ℕ) (ended : Bool) (given : List FrameRecord) → IsFedWith c f bytes ended given
+    → IsDue c f bytes ended given
+due_of c f bytes ended given w = record {
+  later = w.stands.later;
+  all = ap (λ (k : Config). records_due k ended bytes) (sym w.network) ∙ w.stands.all;
+  first = w.stands.first;
+}
+
+-- what waits has a number above those that were given
+pub waits_above : DueFollow → (c : Config) (f : FrameFeed) (bytes : List ℕ) (ended : Bool) (given : List FrameRecord)
+    → IsFedWith c f bytes ended given → (w : Waiting) → waiting_of f ≡ Some w → above_all given ≤ w.frame
+waits_above follow c f bytes ended given h w is = go d.later d.all (subst (λ (o : Option Waiting). IsFirst o d.later) is d.first)
+  where
+    d : IsDue c f bytes ended given
+    d = due_of c f bytes ended given h
+
+    go : (later : List FrameRecord) → records_due c ended bytes ≡ given ++ later → IsFirst (Some w) later → above_all given ≤ w.frame
+    go [] all first = absurd first
+    go (y ∷ later) all first =
+        let from = follow c ended bytes in
+        let a = above_before from.0 given y later (subst (AreFrom from.0) all from.1) in
+        let n = first.0 in
+        omega (arith, a, n)
+
+-- ---- bytes came, or the end
+
+pub behind_more : DueFollow → (c : Config) (next : ℕ) (f g : FrameFeed) (bytes : List ℕ) (ended : Bool) (given : List FrameRecord)
+    → waiting_of f ≡ None → feed.has_ended f ≡ false → IsBehind next f given → IsFedWith c g bytes ended given → IsBehind next g given
+behind_more follow c next f g bytes ended given none going was h = record {
+  waits = λ w is.
+      let low = was.idle none going in
+      let high = waits_above follow c g bytes ended given h w is in
+      omega (arith, low, high);
+  idle = λ _ _. was.idle none going;
+}
+
+-- ---- a record was taken, or none
+
+pub took_with : (c : Config) (from : Feed) (source : Option Feed) (taken : Bool) (f g : FrameFeed) (bytes : List ℕ) (ended : Bool)
+    (given : List FrameRecord) (out : List ℕ) → feed.config_of g ≡ feed.config_of f → IsFedWith c f bytes ended given
+    → (t : TookFrom from source taken f g bytes ended given out) → IsFedWith c g bytes ended (given ++ t.takes.records)
+took_with c from source taken f g bytes ended given out config h t = record {
+  network = config ∙ h.network;
+  stands = t.takes.stands;
+}
+
+idle_none : (e : Bool) → is_idle None e ≡ false → e ≡ true
+idle_none true off = refl
+idle_none false off = absurd (true≢false off)
+
+pub took_behind : DueFollow → (c : Config) (n : ℕ) (from : Feed) (source : Option Feed) (f g : FrameFeed) (bytes : List ℕ) (ended : Bool)
+    (given : List FrameRecord) (out : List ℕ) → is_idle (waiting_of f) (feed.has_ended f) ≡ false
+    → ((w : Waiting) → waiting_of f ≡ Some w → n ≤ w.frame) → feed.has_ended g ≡ feed.has_ended f
+    → (is_at n (seen_of (waiting_of f)) ≡ false → waiting_of g ≡ waiting_of f)
+    → (t : TookFrom from source (is_at n (seen_of (waiting_of f))) f g bytes ended given out)
+    → IsFedWith c g bytes ended (given ++ t.takes.records) → IsBehind (n + 1) g (given ++ t.takes.records)
+took_behind follow c n from source f g bytes ended given out busy least end stays t h =
+    go (is_at n (seen_of (waiting_of f))) refl t.takes.are
+  where
+    go : (b : Bool) → is_at n (seen_of (waiting_of f)) ≡ b → AreTaken b (waiting_of f) t.takes.records → IsBehind (n + 1) g (given ++ t.takes.records)
+    go true same are =
+        let number : are.one.number ≡ n = taken_number (waiting_of f) are.one same are.first in
+        let size = ap above_all are.only in
+        let high : n + 1 ≤ above_all (given ++ t.takes.records) = omega (arith, above_append given t.takes.records, size, number) in
+        record {
+          waits = λ w is. let l = waits_above follow c g bytes ended (given ++ t.takes.records) h w is in omega (arith, l, high);
+          idle = λ _ _. high;
+        }
+      where
+        taken_number : (o : Option Waiting) (x : FrameRecord) → is_at n (seen_of o) ≡ true → IsFirst o (x ∷ []) → x.number ≡ n
+        taken_number None x e first = absurd (true≢false (sym e))
+        taken_number (Some w) x e first = first.0 ∙ eqb-true w.frame n e
+    go false differ are = record {
+      waits = λ w is. above w (sym (stays differ) ∙ is) (least w (sym (stays differ) ∙ is));
+      idle = λ none going.
+          let over = idle_none (feed.has_ended f) (subst (λ (o : Option Waiting). is_idle o (feed.has_ended f) ≡ false)
+          (sym (stays differ) ∙ none) busy) in
+          absurd (true≢false (sym over ∙ sym end ∙ going));
+    }
+      where
+        above : (w : Waiting) → waiting_of f ≡ Some w → n ≤ w.frame → n + 1 ≤ w.frame
+        above w is low =
+            let off : (w.frame == n) ≡ false = sym (ap (λ (o : Option Waiting). is_at n (seen_of o)) is) ∙ differ in
+            let apart = eqb-false w.frame n off in
+            omega (arith, low, apart)

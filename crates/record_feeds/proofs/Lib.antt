@@ -1,0 +1,4 @@
+pub mod FeedLemmas
+pub mod ShownLemmas
+pub mod SplitLemmas
+pub mod TakeLemmas
