@@ -7,7 +7,7 @@ use crate::said::Said;
 use crate::t2mi::T2miCounts;
 use bit_slice::OutOfMemory;
 use common_plp::common_of;
-use plp_config::Plan;
+use plp_config::{Config, Plan};
 use ports::{Note, Word};
 use std::alloc::Global;
 
@@ -51,14 +51,41 @@ pub struct RunCounts<'a> {
 
 // The PID of T2-MI, if it is known.
 fn pid_of(plan: Option<&Plan>) -> Option<u16> {
-    plan.map(|plan| plan.config().pid)
+    match plan {
+        Some(plan) => Some(plan.config().pid),
+        None => None,
+    }
 }
 
-// The identifier of the common PLP of the group of a PLP.
+// The place of the PLP with an identifier, if it is known.
+fn place_of(plan: Option<&Plan>, plp_id: u8) -> Option<usize> {
+    match plan {
+        Some(plan) => plan.place_of(plp_id),
+        None => None,
+    }
+}
+
+fn id_at(config: &Config, place: usize) -> Option<u8> {
+    match config.plps.get(place) {
+        Some(plp) => Some(plp.id),
+        None => None,
+    }
+}
+
+// The identifier of the common PLP of the group of the PLP at a place.
+fn common_id_at(config: &Config, place: usize) -> Option<u8> {
+    match common_of(config, place) {
+        Some(common) => id_at(config, common),
+        None => None,
+    }
+}
+
+// The same of the PLP with an identifier.
 fn common_id_of(plan: &Plan, plp_id: u8) -> Option<u8> {
-    let config = plan.config();
-    let common = common_of(config, plan.place_of(plp_id)?)?;
-    Some(config.plps.get(common)?.id)
+    match plan.place_of(plp_id) {
+        Some(place) => common_id_at(plan.config(), place),
+        None => None,
+    }
 }
 
 // What of records is looked into by a receiver of a PLP, with its common PLP or alone.
@@ -137,7 +164,7 @@ impl<'a> RunCounts<'a> {
         joined: bool,
         input: &'a str,
     ) -> Result<RunCounts<'a>, OutOfMemory> {
-        let plp = plan.and_then(|plan| plan.place_of(plp_id));
+        let plp = place_of(plan, plp_id);
         let mut counts = RunCounts::new(alloc, Kind::Receive { plp }, plan);
         let inside = match plan {
             Some(plan) => Some(inside_of(alloc, plan, plp_id, joined)?),
@@ -181,7 +208,7 @@ impl<'a> RunCounts<'a> {
         t2mi: &'a str,
         input: &'a str,
     ) -> Result<RunCounts<'a>, OutOfMemory> {
-        let plp = plan.and_then(|plan| plan.place_of(plp_id));
+        let plp = place_of(plan, plp_id);
         let mut counts = RunCounts::new(alloc, Kind::Swap { plp }, plan);
         counts.inputs.push(Input::of_units(t2mi, pid_of(plan)))?;
         counts.inputs.push(Input::of_packets(input))?;
