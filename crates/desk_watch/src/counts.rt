@@ -1,4 +1,6 @@
 // What is counted of a run, from the bytes that it reads, writes and says.
+ghost use Rattle.std.specs.Prelude.{◌<◌, length};
+
 use crate::input::Input;
 use crate::l1_test::L1Test;
 use crate::notes::Notes;
@@ -73,7 +75,9 @@ fn id_at(config: &Config, place: usize) -> Option<u8> {
 }
 
 // The identifier of the common PLP of the group of the PLP at a place.
-fn common_id_at(config: &Config, place: usize) -> Option<u8> {
+fn common_id_at(config: &Config, place: usize) -> Option<u8>
+    requires { place < length config.now.plps }
+{
     match common_of(config, place) {
         Some(common) => id_at(config, common),
         None => None,
