@@ -270,6 +270,18 @@ class Networks(dict):
         return f"{place}: block {sum(counts[:plp]) + int(block)} cell {cell}"
 
 
+def queue(net, plp, frames, count):
+    """Of each interleaving frame of a PLP how many blocks it has, how many bytes wait then, and the CRC-32 of the blocks."""
+    own, told = net.plps[int(plp)], ""
+    own.count = int(count)
+    own.prepare((int(frames) + 1) * own.spread)
+    for m in range(int(frames) + 1):
+        blocks = own.blocks(m) if m else []
+        waits = own.arrived(m * own.epoch) - own.sent(m)
+        told += f"{len(blocks)}:{waits}:{remainder(''.join(blocks), *CRC_32):08x} "
+    return told + "all"
+
+
 def numbers(word):
     return [int(text) for text in word.split(",")]
 
@@ -404,6 +416,7 @@ def answer(networks, verb, *words):
         "turned": turned,
         "post": lambda net, *rest: post(*rest),
         "knows": knows,
+        "queue": queue,
     }
     plain = {
         "crc32": lambda *words: f"{remainder(part(*words), *CRC_32):08x}",

@@ -1,6 +1,7 @@
 // The configuration of a named file.
-ghost use Rattle.std.specs.Prelude.{◌≡◌, ◌⊎◌, ◌<◌, ◌≤◌, ◌+◌, List, ℕ, [], length, IfOk, IfErr, OnOk, OnErr};
+ghost use Rattle.std.specs.Prelude.{◌≡◌, ◌⊎◌, ◌<◌, ◌≤◌, ◌+◌, List, ℕ, [], false, length, IfOk, IfErr, OnOk, OnErr};
 ghost use Rattle.ports.specs.Counts.{MayFailReading};
+ghost use Rattle.ports.specs.Desk.{has_run_out};
 ghost use Rattle.plp_config.specs.Capacity.{IsPlan};
 ghost use Rattle.plp_config.specs.Rules.{AllRules};
 ghost use Rattle.config_text.specs.ConfigText.{Spells, CausesFault};
@@ -21,6 +22,7 @@ const LIMIT: usize = LONGEST_TEXT + 1;
 // Reads a text to its end, or until it has too many bytes.
 fn read_text<D: Desk>(desk: &mut D, handle: u32, input: &mut Input) -> Result<(), DeskFault>
     requires opened { handle < length (D.state desk.old).opened }
+    requires going { has_run_out (D.state desk.old) handle ≡ false }
     requires nothing { input.old ≡ [] }
     ensures reads { ReadsAhead (D.state desk.old) (D.state desk.new) handle input.old input.new }
     ensures few { length input.new ≤ LIMIT }

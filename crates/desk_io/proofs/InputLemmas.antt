@@ -1,12 +1,13 @@
 -- Bytes that wait, when more are read behind them and when some are taken.
-use Rattle.std.proofs.Common.{◌≡◌, ℕ, ◌+◌, ◌-◌, ◌<◌, ◌≤◌, List, [], ◌∷◌, ◌++◌, length, take, drop, Option, Some, None, refl, ap}
+use Rattle.std.proofs.Common.{◌≡◌, ◌≢◌, ◌==◌, ℕ, Bool, false, ◌+◌, ◌-◌, ◌<◌, ◌≤◌, List, [], ◌∷◌, ◌++◌, length, take, drop, Option, Some, None, refl, ap}
 use Rattle.std.proofs.Common.{sym, ◌∙◌, arith, append_assoc}
-use Rattle.std.specs.Prelude.{IfSome, option_map, slice_index, slice_set}
-use Rattle.std.proofs.lemmas.List.{drop-take, drop-drop, length-append, length-take-le, set-get_or, get_or-set_same, length-set}
+use Rattle.std.specs.Prelude.{IfSome, option_map, slice_index, slice_index_or, slice_set}
+use Rattle.std.proofs.lemmas.List.{drop-take, drop-drop, length-append, length-take-le, set-get_or, get_or-set_same, get_or-set_other}
+use Rattle.std.proofs.lemmas.List.{length-set}
 use Rattle.std.proofs.lemmas.List.{set-set}
 use Rattle.std.proofs.lemmas.Option.{IfSome_then}
 use Rattle.terms.proofs.PartLemmas.{part-add}
-use Rattle.ports.specs.Desk.{State, Held, Keeps, Reads, content, left_of}
+use Rattle.ports.specs.Desk.{State, Held, Keeps, Reads, content, left_of, has_run_out}
 use Rattle.desk_io.specs.Ahead.{ReadsAhead, IsAtEnd}
 
 -- what was taken from the front of a part
@@ -43,6 +44,12 @@ joined : (left : Option (List ℕ)) (waiting piece : List ℕ) → option_map (�
 joined None waiting piece = refl
 joined (Some l) waiting piece = ap Some (append_assoc waiting piece l)
 
+-- another handle is at its end only if it was
+other_end : (old new : State) (handle n : ℕ) (buffer : List ℕ) → Reads old new handle n buffer → (other : ℕ) → other ≢ handle
+    → has_run_out new other ≡ has_run_out old other
+other_end old new handle n buffer r other apart =
+    ap (λ (l : List Bool). slice_index_or l other false) r.ended ∙ get_or-set_other old.ended handle other (n == 0) false apart
+
 -- a read went on
 pub reads_on : (old new : State) (handle n : ℕ) (buffer waiting more : List ℕ) → Reads old new handle n buffer → n ≤ length buffer
     → more ≡ waiting ++ take n buffer → ReadsAhead old new handle waiting more
@@ -58,6 +65,7 @@ reads_on old new handle n buffer waiting more r inside is =
       grown = omega arith;
       next = rw is (joined (left_of new handle) waiting (take n buffer) ∙ ap (option_map (λ l. waiting ++ l)) (sym r.next));
       others = r.others;
+      others_end = λ other apart. other_end old new handle n buffer r other apart;
     }
 
 pub left_kept : (old new : State) (handle : ℕ) → Keeps old new → left_of new handle ≡ left_of old handle
@@ -79,6 +87,7 @@ reads_not old new handle waiting more came k is =
       grown = let size = ap length is in omega arith;
       next = rw is (ap (option_map (λ l. waiting ++ l)) (left_kept old new handle k));
       others = λ other apart. left_kept old new other k;
+      others_end = λ other apart. ap (λ (l : List Bool). slice_index_or l other false) k.ended;
     }
 
 no_rest : (piece l : List ℕ) → piece ++ l ≡ [] → l ≡ []
@@ -98,7 +107,7 @@ at_end old new handle n buffer r none =
 
 pub reads_same : (s : State) (handle : ℕ) (waiting : List ℕ) → handle < length s.opened → ReadsAhead s s handle waiting waiting
 reads_same s handle waiting came =
-    reads_not s s handle waiting waiting came (record { held = refl; said = refl; opened = refl; created = refl }) refl
+    reads_not s s handle waiting waiting came (record { held = refl; said = refl; opened = refl; ended = refl; created = refl }) refl
 
 -- two readings are one
 pub reads_then : (a b c : State) (handle : ℕ) (u v w : List ℕ) → handle < length a.opened → ReadsAhead a b handle u v
@@ -120,6 +129,7 @@ reads_then a b c handle u v w came p q =
       grown = omega (arith, p.grown, q.grown);
       next = q.next ∙ p.next;
       others = λ other apart. q.others other apart ∙ p.others other apart;
+      others_end = λ other apart. q.others_end other apart ∙ p.others_end other apart;
     }
 
 pub length-read : (a b : State) (handle : ℕ) (u v : List ℕ) → ReadsAhead a b handle u v → length b.opened ≡ length a.opened

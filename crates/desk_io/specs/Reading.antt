@@ -1,7 +1,7 @@
 -- How a file is read ahead.
 use Rattle.std.specs.Prelude.{◌≡◌, ◌≢◌, ℕ, ◌+◌, ◌-◌, ◌^◌, ◌<◌, ◌≤◌, Bool, if◌then◌else◌, List, ◌++◌, length, slice_index}
 use Rattle.std.specs.Prelude.{slice_set, Option, option_map}
-use Rattle.ports.specs.Desk.{State, SameCounts, left_of}
+use Rattle.ports.specs.Desk.{State, SameCounts, left_of, has_run_out}
 use Rattle.desk_io.specs.Faults.{ReadsFail}
 use Rattle.desk_io.specs.declared.ahead.ReadStop.{ReadStop}
 use Rattle.desk_io.specs.declared.ahead.ReadStop.TheVariants.{TooLong, Fault}
@@ -30,8 +30,9 @@ pub record ReadsOn (old new : State) (was is : Reading) : Type 0 where
   pub said : new.said ≡ old.said
   pub opened : new.opened ≡ slice_set old.opened was.handle (slice_index old.opened was.handle + (given_of is - given_of was))
   pub created : new.created ≡ old.created
-  -- so every other handle has left what it had
+  -- so every other handle has left what it had, and is at its end only if it was
   pub others : (other : ℕ) → other ≢ was.handle → left_of new other ≡ left_of old other
+  pub others_end : (other : ℕ) → other ≢ was.handle → has_run_out new other ≡ has_run_out old other
 
 -- No byte was taken.
 pub record TakesNone (old new : State) (was is : Reading) : Type 0 where

@@ -14,6 +14,7 @@ pub record Appends (old new : State) (out : ℕ) (bytes : List ℕ) : Type 0 whe
   pub held : OnlyOut out old.held new.held
   pub said : new.said ≡ old.said
   pub opened : new.opened ≡ old.opened
+  pub ended : new.ended ≡ old.ended
   pub created : new.created ≡ old.created
   pub behind : written_of new out ≡ option_map (λ written. written ++ bytes) (written_of old out)
   -- and a file that was there is there

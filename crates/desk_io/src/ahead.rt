@@ -46,8 +46,8 @@ impl Model for ReadAhead {
 }
 
 impl ReadAhead {
-    ghost use Rattle.std.specs.Prelude.{◌≡◌, ◌<◌, ◌≤◌, ◌+◌, ℕ, [], true, false, length, drop, IfOk, IfErr, OnOk, IsTrue};
-    ghost use Rattle.ports.specs.Desk.{SameCounts};
+    ghost use Rattle.std.specs.Prelude.{◌≡◌, ◌<◌, ◌≤◌, ◌+◌, ◌==◌, ℕ, [], true, false, not, length, drop, IfOk, IfErr, OnOk, OnErr, IsTrue};
+    ghost use Rattle.ports.specs.Desk.{SameCounts, has_run_out};
     ghost use Rattle.desk_io.specs.Ahead.{IsAtEnd};
     ghost use Rattle.desk_io.specs.Reading.{given_of, longest_file, ReadsOn, TakesNone, StopsReading};
 
@@ -101,6 +101,7 @@ impl ReadAhead {
     // the file is nearly too long, no more is read than is wanted, so that what stands before is looked at first.
     fn read<D: Desk>(&mut self, desk: &mut D, least: usize, most: u64) -> Result<usize, ReadStop>
         requires opened { self.old.handle < length (D.state desk.old).opened }
+        requires going { has_run_out (D.state desk.old) self.old.handle ≡ false }
         requires within { (least ≤ most) × (least ≤ MOST_WANTED) }
         requires less { length self.old.waiting < least }
         requires short { given_of self.old < longest_file }
@@ -109,6 +110,8 @@ impl ReadAhead {
         ensures count { IfOk result (λ n. length self.new.waiting ≡ length self.old.waiting + n) }
         ensures few { length self.new.waiting ≤ most }
         ensures end { IfOk result (λ n. n ≡ 0 → IsAtEnd (D.state desk.new) self.old.handle) }
+        ensures runs_out { IfOk result (λ n. has_run_out (D.state desk.new) self.old.handle ≡ (n == 0)) }
+        ensures goes_on { OnErr result (has_run_out (D.state desk.new) self.old.handle ≡ false) }
         ensures counts { OnOk result (SameCounts (D.state desk.old) (D.state desk.new)) }
         ensures short { OnOk result (given_of self.new < longest_file) }
         ensures err { IfErr result (StopsReading (D.state desk.old) (D.state desk.new) self.new least) }
@@ -130,8 +133,8 @@ impl ReadAhead {
         Ok(count)
     }
 
-    /// Reads on until so many bytes wait: false if the file ends before. It reads no further than `most` bytes wait. If it
-    /// fails, as many bytes wait as were read.
+    /// Reads on until so many bytes wait: false if the file ends before, and then it is not to be read again. It reads no further
+    /// than `most` bytes wait. If it fails, as many bytes wait as were read.
     pub fn read_until<D: Desk>(
         &mut self,
         desk: &mut D,
@@ -139,6 +142,7 @@ impl ReadAhead {
         most: u64,
     ) -> Result<bool, ReadStop>
         requires opened { self.old.handle < length (D.state desk.old).opened }
+        requires going { has_run_out (D.state desk.old) self.old.handle ≡ false }
         requires within { (least ≤ most) × (least ≤ MOST_WANTED) }
         requires short { given_of self.old < longest_file }
         ensures reads { ReadsOn (D.state desk.old) (D.state desk.new) self.old self.new }
@@ -147,6 +151,8 @@ impl ReadAhead {
         ensures full { IfOk result (λ full. IsTrue full → least ≤ length self.new.waiting) }
         ensures end { IfOk result (λ full. full ≡ false
             → (length self.new.waiting < least) × IsAtEnd (D.state desk.new) self.old.handle) }
+        ensures runs_out { IfOk result (λ full. has_run_out (D.state desk.new) self.old.handle ≡ not full) }
+        ensures goes_on { OnErr result (has_run_out (D.state desk.new) self.old.handle ≡ false) }
         ensures counts { OnOk result (SameCounts (D.state desk.old) (D.state desk.new)) }
         ensures short { OnOk result (given_of self.new < longest_file) }
         ensures err { IfErr result (StopsReading (D.state desk.old) (D.state desk.new) self.new least) }

@@ -1,6 +1,6 @@
 // What was read of a file and not yet taken.
-ghost use Rattle.std.specs.Prelude.{◌≡◌, ◌↔◌, IsTrue, ◌+◌, ◌-◌, ◌<◌, ◌≤◌, [], length, take, drop, IfOk, OnErr};
-ghost use Rattle.ports.specs.Desk.{Keeps, Reads};
+ghost use Rattle.std.specs.Prelude.{◌≡◌, ◌↔◌, IsTrue, ◌+◌, ◌-◌, ◌<◌, ◌≤◌, ◌==◌, [], false, length, take, drop, IfOk, OnErr};
+ghost use Rattle.ports.specs.Desk.{Keeps, Reads, has_run_out};
 ghost use Rattle.ports.specs.Counts.{MayFailReading};
 ghost use Rattle.desk_io.specs.Ahead.{ReadsAhead, IsAtEnd};
 ghost use Rattle.desk_io.specs.Waiting.{part_in, IsSettled};
@@ -71,6 +71,7 @@ fn read_at<D: Desk>(
     most: u64,
 ) -> Result<usize, DeskFault>
     requires opened { handle < length (D.state desk.old).opened }
+    requires going { has_run_out (D.state desk.old) handle ≡ false }
     requires room { end < length bytes.old }
     requires some { 0 < most }
     ensures ok { IfOk result (λ n. Reads (D.state desk.old) (D.state desk.new) handle n (drop end bytes.new)) }
@@ -93,6 +94,7 @@ fn read_behind<D: Desk>(
     most: u64,
 ) -> Result<usize, DeskFault>
     requires opened { handle < length (D.state desk.old).opened }
+    requires going { has_run_out (D.state desk.old) handle ≡ false }
     requires order { span.old.start ≤ span.old.end }
     requires within { span.old.end ≤ length bytes.old }
     requires few { span.old.end - span.old.start + MOST_WANTED ≤ BUFFER }
@@ -104,6 +106,8 @@ fn read_behind<D: Desk>(
     ensures count { IfOk result (λ n. span.new.end - span.new.start ≡ span.old.end - span.old.start + n) }
     ensures most { IfOk result (λ n. n ≤ most) }
     ensures end { IfOk result (λ n. n ≡ 0 → IsAtEnd (D.state desk.new) handle) }
+    ensures runs_out { IfOk result (λ n. has_run_out (D.state desk.new) handle ≡ (n == 0)) }
+    ensures goes_on { OnErr result (has_run_out (D.state desk.new) handle ≡ false) }
     ensures err { OnErr result (part_in span.new bytes.new ≡ part_in span.old bytes.old) }
     ensures counts { MayFailReading (D.state desk.old).counts (D.state desk.new).counts result }
 {
@@ -152,7 +156,8 @@ impl Input {
         self.span.start += count;
     }
 
-    /// Reads the next bytes of a file behind those that wait, at most `most`: how many, and 0 only at the end of the file.
+    /// Reads the next bytes of a file behind those that wait, at most `most`: how many, and 0 only at the end of the file, which is
+    /// not read again then.
     pub fn read<D: Desk>(
         &mut self,
         desk: &mut D,
@@ -160,12 +165,15 @@ impl Input {
         most: u64,
     ) -> Result<usize, DeskFault>
         requires opened { handle < length (D.state desk.old).opened }
+        requires going { has_run_out (D.state desk.old) handle ≡ false }
         requires few { length self.old + MOST_WANTED ≤ BUFFER }
         requires some { 0 < most }
         ensures reads { ReadsAhead (D.state desk.old) (D.state desk.new) handle self.old self.new }
         ensures count { IfOk result (λ n. length self.new ≡ length self.old + n) }
         ensures most { IfOk result (λ n. n ≤ most) }
         ensures end { IfOk result (λ n. n ≡ 0 → IsAtEnd (D.state desk.new) handle) }
+        ensures runs_out { IfOk result (λ n. has_run_out (D.state desk.new) handle ≡ (n == 0)) }
+        ensures goes_on { OnErr result (has_run_out (D.state desk.new) handle ≡ false) }
         ensures err { OnErr result (self.new ≡ self.old) }
         ensures counts { MayFailReading (D.state desk.old).counts (D.state desk.new).counts result }
     {

@@ -6,8 +6,6 @@ mod input;
 mod laws;
 mod line;
 mod page;
-#[cfg(test)]
-mod tests;
 mod writing;
 
 pub use ahead::{LONGEST_FILE, ReadAhead, ReadStop};

@@ -1,15 +1,16 @@
 -- What follows of how a run ended, whatever its work is.
-use Rattle.std.proofs.Common.{◌≡◌, ◌≢◌, ◌⊎◌, ℕ, ◌+◌, ◌<◌, ◌≤◌, List, [], ◌++◌, length, Option, Some, None, refl, ap, sym, subst}
-use Rattle.std.proofs.Common.{◌∙◌, arith, append-nil, inl, inr}
-use Rattle.std.specs.Prelude.{Result, Ok, Err, IfSome, slice_index, option_map}
-use Rattle.terms.proofs.OptionLemmas.{append-none}
+use Rattle.std.proofs.Common.{◌≡◌, ℕ, ◌+◌, ◌<◌, ◌≤◌, List, [], ◌++◌, length, Option, Some, None, refl, ap, sym, subst}
+use Rattle.std.proofs.Common.{arith, append-nil, inl, inr}
+use Rattle.std.specs.Prelude.{Result, Ok, Err, IfSome}
 use Rattle.std.specs.FinMap.{get}
 use Rattle.std.proofs.lemmas.Option.{IfSome_then}
 use Rattle.ports.specs.Counts.{Rose}
 use Rattle.ports.specs.Desk.{State, Held, SameCounts}
 use Rattle.desk_io.specs.Reading.{longest_file}
-use Rattle.file_run.specs.FileRun.{file_at, OtherFiles, SameFiles, OpensInputs, FailsToCreateOutput, Works}
-use Rattle.file_run.specs.Work.{Work, Sink, Into, Aloud, Passes, FailsToBegin, Does, Ends}
+use Rattle.desk_io.specs.Saying.{Grows}
+use Rattle.desk_io.proofs.SayLemmas.{grows_none, grows_same}
+use Rattle.file_run.specs.FileRun.{file_at, OtherFiles, SameFiles, OpensInputs}
+use Rattle.file_run.specs.Work.{Work, Sink, Into, Aloud, Passes, FailsToBegin, Ends}
 use Rattle.file_run.specs.declared.stop.RunFault.TheVariants.{TooLong, ReadFault, WriteFault}
 use Rattle.file_run.specs.declared.stop.RunStop.{RunStop}
 use Rattle.file_run.specs.declared.stop.RunStop.TheVariants.{Refused, Files, OutOfMemory}
@@ -29,7 +30,7 @@ pub record LeavesAlone (old new : State) (sink : Sink) (ins : List (List ℕ)) :
   pub opened : new.opened ≡ old.opened ++ places
   pub few : length places ≤ length ins
   pub text : List ℕ
-  pub said : new.said ≡ option_map (λ said. said ++ text) old.said
+  pub said : Grows old.said new.said text
 
 same_others : (sink : Sink) (old new : Option Held) → SameFiles old new → OthersOf sink old new
 same_others (Into out) None new e = e
@@ -48,7 +49,7 @@ nothing_done old new sink ins e = subst (λ (s : State). LeavesAlone old s sink 
   opened = sym (append-nil old.opened);
   few = omega arith;
   text = [];
-  said = append-none old.said;
+  said = grows_none old.said;
 })
 
 opened_only : (old new : State) (sink : Sink) (ins : List (List ℕ)) (count : ℕ) → OpensInputs old new ins count
@@ -60,7 +61,7 @@ opened_only old new sink ins count o = record {
   opened = o.opened;
   few = (let f = o.few in let s = o.some in omega (arith, f, s));
   text = [];
-  said = o.said ∙ append-none old.said;
+  said = grows_same old.said new.said o.said;
 }
 
 not_begun : (old new : State) (sink : Sink) (ins : List (List ℕ)) → FailsToBegin sink old new ins → LeavesAlone old new sink ins
@@ -71,7 +72,7 @@ not_begun old new (Into out) ins f = record {
   opened = f.opened;
   few = (let a = f.all in omega (arith, a));
   text = [];
-  said = f.said ∙ append-none old.said;
+  said = grows_same old.said new.said f.said;
 }
 not_begun old new Aloud ins f = absurd f
 
@@ -84,7 +85,7 @@ passed old new (Into out) ins places bytes w = record {
   opened = w.opened;
   few = (let a = w.all in omega (arith, a));
   text = [];
-  said = w.said ∙ append-none old.said;
+  said = grows_same old.said new.said w.said;
 }
 passed old new Aloud ins places bytes w = record {
   files = w.files;

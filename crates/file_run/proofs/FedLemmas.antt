@@ -11,14 +11,15 @@ use Rattle.desk_io.specs.declared.ahead.ReadStop.{ReadStop}
 use Rattle.desk_io.specs.declared.ahead.ReadStop.TheVariants as stop
 use Rattle.file_run.specs.Events.{Event, Fed, Ended, Gave, fed, has_ended, gave}
 use Rattle.file_run.specs.FileRun.{file_at, Stands, HoldsAll, Stops}
-use Rattle.file_run.specs.Running.{Start, reading_at, places_of, Reached, IsRead, IsWhole, Runs, IsTaken, IsMarked, Feeds, read_fault}
+use Rattle.file_run.specs.Running.{Start, reading_at, places_of, Reached, IsRead, IsWhole, GoesOn, Runs, IsTaken, IsMarked, Feeds}
+use Rattle.file_run.specs.Running.{read_fault}
 use Rattle.std.proofs.lemmas.Bool.{true≢false}
 use Rattle.file_run.specs.Steps.{Needs, FallsShort}
 use Rattle.file_run.specs.declared.machine.Step.{Step}
 use Rattle.file_run.specs.declared.machine.Step.TheVariants.{Read}
 use Rattle.file_run.proofs.EventLemmas.{fed_more, ended_more}
 use Rattle.file_run.proofs.OpenLemmas.{of_some, reads_fail}
-use Rattle.file_run.proofs.RunLemmas.{each_reader, read_same, read_on, other_left, stands_by, reading_same, place_at, all_short}
+use Rattle.file_run.proofs.RunLemmas.{each_reader, read_same, read_on, other_left, other_end, stands_by, reading_same, place_at, all_short}
 
 -- what one event tells of its input, of another one, and of the output
 pub fed_other : (e : Event) (input other count : ℕ) (o n : Option (List ℕ)) (events : List Event) → other ≢ input
@@ -119,6 +120,9 @@ runs_fed Becomes m n b old new readings input is out reach later events lt r on 
   within = each_reader (λ k x. given_of x ≤ later k) readings input is lt near
       (λ other inside differ. let w = r.within other inside in let u = rises other in omega (arith, w, u));
   whole = each_reader (λ k x. IsWhole x) readings input is lt f.whole (λ other inside differ. r.whole other inside);
+  goes_on = each_reader (λ k x. GoesOn new x) readings input is lt f.goes_on
+      (λ other inside differ off. other_end b old new readings input other is out (gave events) lt inside differ r.reached on
+      ∙ r.goes_on other inside off);
   relates = λ h told.
       let rel = r.relates h told in
       let all = r.reached.all in

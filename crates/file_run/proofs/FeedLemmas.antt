@@ -5,7 +5,7 @@ use Rattle.std.specs.Prelude.{IfSome, option_map, true, false}
 use Rattle.std.proofs.lemmas.Bool.{true≢false}
 use Rattle.std.proofs.lemmas.List.{take-append-drop, length-take-le}
 use Rattle.std.proofs.Math.Seq.{take-length, drop-length}
-use Rattle.ports.specs.Desk.{State, left_of}
+use Rattle.ports.specs.Desk.{State, left_of, has_run_out}
 use Rattle.desk_io.specs.Ahead.{IsAtEnd}
 use Rattle.desk_io.specs.Reading.{Reading, given_of, rest_of, spare, longest_file, TakesNone}
 use Rattle.file_run.specs.Events.{Event, Fed, Ended}
@@ -32,16 +32,18 @@ rest_skip s r n = split_rest (left_of s r.handle) n r.waiting
 
 pub fed_by : {A : Type 0} (Becomes : A → List Event → A → Type 0) (old new : A) (before after : State) (was mid is : Reading)
     (input count : ℕ) (bytes : List ℕ) → bytes ≡ mid.waiting → count ≤ length bytes
-    → TakesNone before after was mid → was.ended ≡ false → is ≡ skipped count mid
+    → TakesNone before after was mid → was.ended ≡ false → mid.handle ≡ was.handle → has_run_out after was.handle ≡ false
+    → is ≡ skipped count mid
     → ((start : A) (events : List Event) → Becomes start events old
     → Becomes start (events ++ Fed input (take count bytes) ∷ []) new) → Feeds Becomes old new before after was is input
-fed_by Becomes old new before after was mid is input count bytes same few none off skip becomes = record {
+fed_by Becomes old new before after was mid is input count bytes same few none off reader going skip becomes = record {
   event = Fed input (take count bytes);
   becomes = becomes;
   count = count;
   taken = ap (λ (r : Reading). r.taken) skip ∙ ap (λ (n : ℕ). n + count) none.taken;
   marked = ap (λ (r : Reading). r.ended) skip ∙ none.ended;
   whole = λ on. absurd (true≢false (sym on ∙ ap (λ (r : Reading). r.ended) skip ∙ none.ended ∙ off));
+  goes_on = λ open_still. ap (λ (r : Reading). has_run_out after r.handle) skip ∙ ap (has_run_out after) reader ∙ going;
   is_taken = (
     refl,
     sym (length-take-le count bytes few),
@@ -71,6 +73,7 @@ ended_by Becomes old new before after was mid is input count bytes same all none
       taken = ap (λ (r : Reading). r.taken) skip ∙ ap (λ (n : ℕ). n + count) none.taken;
       marked = ap (λ (r : Reading). r.ended) skip;
       whole = λ on. ap (λ (r : Reading). r.waiting) skip ∙ nothing;
+      goes_on = λ off. absurd (true≢false (sym (ap (λ (r : Reading). r.ended) skip) ∙ off));
       is_taken = (
         refl,
         all ∙ ap length (sym same),

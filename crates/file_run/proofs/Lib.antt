@@ -1,5 +1,4 @@
 pub mod BufferLemmas
-pub mod CopyLemmas
 pub mod DrainLemmas
 pub mod EventLemmas
 pub mod FeedLemmas

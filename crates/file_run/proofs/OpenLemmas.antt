@@ -1,5 +1,5 @@
 -- Opening the inputs of a run and creating its output.
-use Rattle.std.proofs.Common.{◌≡◌, ◌≢◌, ℕ, ◌+◌, ◌<◌, ◌≤◌, true, false, List, [], ◌∷◌, ◌++◌, length, take, Option, Some, None}
+use Rattle.std.proofs.Common.{◌≡◌, ◌≢◌, ℕ, zero, suc, ◌+◌, ◌<◌, ◌≤◌, Bool, true, false, List, [], ◌∷◌, ◌++◌, length, take, Option, Some, None}
 use Rattle.std.proofs.Common.{refl, ap, sym, subst, ◌∙◌, inl, inr, arith, append_assoc, append-nil, length-append}
 use Rattle.std.specs.Prelude.{IfSome, IsSome, slice_index_or, slice_set, option_map, option_and_then}
 use Rattle.std.specs.FinMap.{get}
@@ -11,7 +11,7 @@ use Rattle.ports.specs.declared.counts.Counts.{Counts}
 use Rattle.ports.specs.declared.fault.FaultKind.TheVariants as kind
 use Rattle.ports.specs.Counts.{Rose, first_of}
 use Rattle.ports.specs.Desk.{State, Held, Files, SameCounts, Keeps, Opens, Creates, FailsToCreate, with_name, with_empty, left_of}
-use Rattle.ports.specs.Desk.{out_name, bytes_of, SameButFor}
+use Rattle.ports.specs.Desk.{out_name, bytes_of, SameButFor, has_run_out}
 use Rattle.desk_io.specs.Faults.{ReadsFail, WritesFail}
 use Rattle.desk_io.specs.Laws.{CreatesEmpty}
 use Rattle.desk_io.specs.Reading.{Reading, given_of, rest_of}
@@ -54,6 +54,7 @@ none_opened s = record {
   opened = sym (append-nil s.opened);
   all = refl;
   begin = λ input lt. absurd (omega (arith, lt));
+  fresh = λ input lt. absurd (omega (arith, lt));
   created = refl;
   said = refl;
   counts = refl;
@@ -109,6 +110,17 @@ ins_more old mid new h ins name handle size o t =
           ∙ o.left ∙ ap (option_and_then (λ h. get h.files name)) t.held ∙ found ∙ was_some (get h.files name) [] there);
     }
 
+fresh_more : (xs : List Bool) (i : ℕ) → slice_index_or (xs ++ false ∷ []) i false ≡ slice_index_or xs i false
+fresh_more [] zero = refl
+fresh_more [] (suc i) = refl
+fresh_more (x ∷ xs) zero = refl
+fresh_more (x ∷ xs) (suc i) = fresh_more xs i
+
+-- a file that is opened leaves the others as far as they were read
+pub runs_on : (old new : State) (name : List ℕ) (handle other : ℕ) → Opens old new name handle → has_run_out new other
+    ≡ has_run_out old other
+runs_on old new name handle other o = ap (λ (l : List Bool). slice_index_or l other false) o.ended ∙ fresh_more old.ended other
+
 pub one_opened : (old mid new : State) (ins : List (List ℕ)) (readings : List Reading) (name : List ℕ) (handle : ℕ)
     (reading : Reading) → Opens mid new name handle → SameCounts mid new → reading ≡ reading_from handle
     → AreOpened old mid ins readings → AreOpened old new (ins ++ name ∷ []) (readings ++ reading ∷ [])
@@ -125,6 +137,9 @@ one_opened old mid new ins readings name handle reading o calm is was =
       all = length_push readings reading ∙ ap (λ (n : ℕ). n + 1) all ∙ sym (length_push ins name);
       begin = pushed (λ i r. r ≡ reading_from (length old.opened + i)) readings reading no_reading was.begin
           (is ∙ ap reading_from at);
+      fresh = pushed (λ i r. has_run_out new (length old.opened + i) ≡ false) readings reading no_reading
+          (λ i lt. runs_on mid new name handle (length old.opened + i) o ∙ was.fresh i lt)
+          (ap (has_run_out new) (sym at) ∙ o.fresh);
       created = o.created ∙ was.created;
       said = o.said ∙ was.said;
       counts = calm ∙ was.counts;
@@ -286,6 +301,8 @@ runs_first law b mid new readings out reach apart a c calm = record {
   ended = λ input lt. ap (λ (r : Reading). r.ended) (a.begin input lt);
   within = λ input lt. let n = ap given_of (a.begin input lt) in omega (arith, n);
   whole = λ input lt on. ap (λ (r : Reading). r.waiting) (a.begin input lt);
+  goes_on = λ input lt going. ap (λ (r : Reading). has_run_out new r.handle) (a.begin input lt)
+      ∙ ap (λ (l : List Bool). slice_index_or l (length b.desk.opened + input) false) c.ended ∙ a.fresh input lt;
   relates = λ h held. record {
     present = (a.tells h held).present;
     reads = λ input lt. first_read b mid new h readings out input apart c a held lt;

@@ -6,7 +6,7 @@ use Rattle.std.specs.FinMap.{get}
 use Rattle.std.proofs.lemmas.Bool.{cases_eq}
 use Rattle.std.proofs.lemmas.List.{length-set, length-map, map-set, get_or-set_same, get_or-set_other, get_or-append-add}
 use Rattle.std.proofs.lemmas.List.{set-append_right, get_or-map}
-use Rattle.ports.specs.Desk.{State, Held, IsApart, SameCounts, out_name, left_of, written_of, bytes_of}
+use Rattle.ports.specs.Desk.{State, Held, IsApart, SameCounts, out_name, left_of, written_of, bytes_of, has_run_out}
 use Rattle.desk_io.specs.Reading.{Reading, given_of, longest_file, ReadsOn}
 use Rattle.desk_io.specs.Writing.{OnlyOut, Appends}
 use Rattle.file_run.specs.Events.{Event, fed, has_ended, gave, OnlyGave}
@@ -94,6 +94,15 @@ pub other_left : (b : Start) (old new : State) (readings : List Reading) (input 
     → left_of new (reading_at readings other).handle ≡ left_of old (reading_at readings other).handle
 other_left b old new readings input other is out bytes lt inside differ g r =
     r.others (reading_at readings other).handle
+    (λ e. differ (let a = g.handles input lt in let o = g.handles other inside in omega (arith, a, o, e)))
+
+-- and is at its end only if it was
+pub other_end : (b : Start) (old new : State) (readings : List Reading) (input other : ℕ) (is : Reading) (out : ℕ)
+    (bytes : List ℕ) → input < length readings → other < length readings → other ≢ input
+    → Reached b old readings out bytes → ReadsOn old new (reading_at readings input) is
+    → has_run_out new (reading_at readings other).handle ≡ has_run_out old (reading_at readings other).handle
+other_end b old new readings input other is out bytes lt inside differ g r =
+    r.others_end (reading_at readings other).handle
     (λ e. differ (let a = g.handles input lt in let o = g.handles other inside in omega (arith, a, o, e)))
 
 written_at : (s : State) (k : Held) (out : ℕ) → s.held ≡ Some k → written_of s out ≡ Some (bytes_of k.files (out_name k out))
@@ -313,6 +322,8 @@ runs_drained Becomes m n b old new readings out reach later events r calm rises 
       ended = λ input lt. r.ended input lt ∙ sym (more.ended input);
       within = λ input lt. let w = r.within input lt in let u = rises input in omega (arith, w, u);
       whole = r.whole;
+      goes_on = λ input lt off. ap (λ (l : List Bool). slice_index_or l (reading_at readings input).handle false) d.wrote.ended
+          ∙ r.goes_on input lt off;
       relates = λ h told. relates_on b h old new readings out reach events d.late (gave d.late) r d.only d.wrote told;
     }
 

@@ -3,7 +3,7 @@ use Rattle.std.proofs.Common.{◌≡◌, ◌≢◌, ℕ, ◌+◌, ◌<◌, ◌�
 use Rattle.std.proofs.Common.{arith}
 use Rattle.std.specs.Prelude.{◌⊎◌, slice_index_or, slice_set}
 use Rattle.std.proofs.lemmas.List.{get_or_default}
-use Rattle.ports.specs.Desk.{State, SameCounts}
+use Rattle.ports.specs.Desk.{State, SameCounts, has_run_out}
 use Rattle.desk_io.specs.Faults.{WritesFail}
 use Rattle.desk_io.specs.Laws.{CreatesEmpty}
 use Rattle.desk_io.specs.Reading.{Reading, given_of, longest_file, ReadsOn, TakesNone, StopsReading}
@@ -123,6 +123,14 @@ pub not_ended : {A : Type 0} (Becomes : List Event → A → Type 0) (reach : A 
     → (slice_index_or readings input d).ended ≡ false
 not_ended Becomes reach m b old readings out input d lt r off =
     ap (λ (x : Reading). x.ended) (get_or_default readings input d no_reading lt) ∙ r.runs.ended input lt ∙ off
+
+pub can_go_on : {A : Type 0} (Becomes : List Event → A → Type 0) (reach : A → ℕ → ℕ) (m : A) (b : Start) (old : State)
+    (readings : List Reading) (out : ℕ) (input : ℕ) (d : Reading) → input < length readings
+    → (r : IsRunning Becomes reach b old m readings out) → has_ended input r.events ≡ false
+    → has_run_out old (slice_index_or readings input d).handle ≡ false
+can_go_on Becomes reach m b old readings out input d lt r off =
+    ap (λ (x : Reading). has_run_out old x.handle) (get_or_default readings input d no_reading lt)
+    ∙ r.runs.goes_on input lt (r.runs.ended input lt ∙ off)
 
 pub reader_of : {A : Type 0} (Becomes : A → List Event → A → Type 0) (start : A) (reach : A → ℕ → ℕ) (m : A) (b : Start)
     (old : State) (readings : List Reading) (out : ℕ) (input : ℕ) (d : Reading) → input < length readings

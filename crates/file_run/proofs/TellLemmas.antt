@@ -1,11 +1,13 @@
 -- Saying what a machine gives, step by step.
-use Rattle.std.proofs.Common.{◌≡◌, ℕ, ◌+◌, ◌-◌, ◌<◌, ◌≤◌, true, false, List, [], ◌∷◌, ◌++◌, length, Option, Some, None, refl, ap}
+use Rattle.std.proofs.Common.{◌≡◌, ◌≢◌, ℕ, Bool, ◌+◌, ◌-◌, ◌<◌, ◌≤◌, true, false, List, [], ◌∷◌, ◌++◌, length, Option, Some, None, refl, ap}
 use Rattle.std.proofs.Common.{sym, subst, ◌∙◌, inl, inr, append_assoc, append-nil, arith}
-use Rattle.std.specs.Prelude.{◌⊎◌, IsSome, option_map, option_and_then, slice_set, slice_index}
+use Rattle.std.specs.Prelude.{◌⊎◌, IsSome, option_map, option_and_then, slice_set, slice_index, slice_index_or}
 use Rattle.std.specs.FinMap.{get}
-use Rattle.terms.proofs.OptionLemmas.{append-none, was_some}
-use Rattle.ports.specs.Desk.{State, Keeps, Says, Opens, left_of, bytes_of}
+use Rattle.terms.proofs.OptionLemmas.{was_some}
+use Rattle.ports.specs.Desk.{State, Keeps, Says, Opens, left_of, bytes_of, has_run_out}
 use Rattle.desk_io.specs.Reading.{Reading, given_of, rest_of, ReadsOn, TakesNone}
+use Rattle.desk_io.specs.Saying.{SaysBytes, SaysPage}
+use Rattle.desk_io.proofs.SayLemmas.{grows_same, grows_then, grows_one, grows_as, grows_kept, page_says}
 use Rattle.desk_io.specs.declared.page.TheConstants.{PAGE}
 use Rattle.file_run.specs.Events.{Event, Gave, fed, has_ended, gave}
 use Rattle.file_run.specs.FileRun.{IsFed}
@@ -16,7 +18,6 @@ use Rattle.file_run.specs.declared.machine.TheConstants.{PIECE}
 use Rattle.file_run.specs.declared.machine.Step.{Step}
 use Rattle.file_run.specs.declared.machine.Step.TheVariants.{Read, Give}
 use Rattle.std.proofs.lemmas.List.{length_push}
-use Rattle.terms.proofs.OptionLemmas.{append_twice}
 use Rattle.file_run.specs.TellingOn.{Telling, GivesWay}
 use Rattle.file_run.proofs.EventLemmas.{gave_piece}
 use Rattle.file_run.proofs.FedLemmas.{read_here, fed_here, ended_here, gives_none}
@@ -85,6 +86,7 @@ grown Becomes next begin old new start now name r waiting left g room few t goin
       present = t.present;
       taken = t.taken ∙ ap length (sym (more.fed 0));
       ended = t.ended ∙ sym (more.ended 0);
+      goes_on = t.goes_on;
       reads = λ h told. read_same _ _ _ _ _ _ _ refl (more.fed 0) (more.ended 0) (t.reads h told);
       first = t.first;
       waits = record {
@@ -115,7 +117,7 @@ caught_up Came next machine start now name r t = record {
   met = t.came;
   parts = sym (append-nil (gave t.events));
   going = inl refl;
-  said = t.said ∙ ap (λ (l : List ℕ). option_map (λ said. said ++ l) start.said) (sym (t.parts ∙ append-nil (gave t.early)));
+  said = grows_as start.said now.said (gave t.early) (gave t.events) (sym (t.parts ∙ append-nil (gave t.early))) t.said;
   handle = t.handle;
   opened = t.opened;
   created = t.created;
@@ -123,6 +125,7 @@ caught_up Came next machine start now name r t = record {
   present = t.present;
   taken = t.taken;
   ended = t.ended;
+  goes_on = t.goes_on;
   reads = t.reads;
   first = λ h told. let rest = t.reads h told in (rest.left, rest.parts, rest.end);
   waits = none_waits (gave t.events) t.events;
@@ -146,11 +149,14 @@ page_grown Becomes next begin old new start now name r (x ∷ xs) left g room fe
     grown Becomes next begin old new start now name r (x ∷ xs) left g room few t
     (still_going next t.mid t.early x xs t.going)
 
+pub some_page : (waiting : List ℕ) → PAGE < length waiting + PIECE → waiting ≢ []
+some_page waiting full none = let e = ap length none in omega (arith, full, e)
+
 -- All that waited was said, since there was no room behind it.
 all_said : {A : Type 0} (Came : List Event → A → Type 0) (next : A → Step) (machine : A) (start was is : State)
-    (name : List ℕ) (r : Reading) (waiting : List ℕ) → Says was is waiting → PAGE < length waiting + PIECE
+    (name : List ℕ) (r : Reading) (waiting : List ℕ) → waiting ≢ [] → Says was is waiting → PAGE < length waiting + PIECE
     → Telling Came next start was name machine r waiting → Telling Came next start is name machine r []
-all_said Came next machine start was is name r waiting says full t = record {
+all_said Came next machine start was is name r waiting some says full t = record {
   events = t.events;
   came = t.came;
   early = t.events;
@@ -158,8 +164,8 @@ all_said Came next machine start was is name r waiting says full t = record {
   met = t.came;
   parts = sym (append-nil (gave t.events));
   going = inl refl;
-  said = says.said ∙ ap (option_map (λ said. said ++ waiting)) t.said ∙ append_twice start.said (gave t.early) waiting
-      ∙ ap (λ (l : List ℕ). option_map (λ said. said ++ l) start.said) (sym t.parts);
+  said = grows_as start.said is.said (gave t.early ++ waiting) (gave t.events) (sym t.parts)
+      (grows_then start.said was.said is.said (gave t.early) waiting t.said (grows_one was is waiting some says));
   handle = t.handle;
   opened = says.opened ∙ t.opened;
   created = says.created ∙ t.created;
@@ -167,6 +173,7 @@ all_said Came next machine start was is name r waiting says full t = record {
   present = t.present;
   taken = t.taken;
   ended = t.ended;
+  goes_on = λ off. ap (λ (l : List Bool). slice_index_or l r.handle false) says.ended ∙ t.goes_on off;
   reads = λ h told. read_same _ _ _ _ _ _ _ (rest_kept was is r says.held says.opened) refl refl (t.reads h told);
   first = λ h told. let rest = t.reads h told in (rest.left, rest.parts, rest.end);
   waits = none_waits (gave t.events) t.events;
@@ -192,7 +199,8 @@ telling_kept Came next machine start was is name r page keeps t = record {
   first = t.first;
   waits = t.waits;
   pages = t.pages;
-  said = keeps.said ∙ t.said;
+  goes_on = λ off. ap (λ (l : List Bool). slice_index_or l r.handle false) keeps.ended ∙ t.goes_on off;
+  said = grows_kept start.said was.said is.said (gave t.early) t.said keeps.said;
   opened = keeps.opened ∙ t.opened;
   created = keeps.created ∙ t.created;
   held = keeps.held ∙ t.held;
@@ -200,6 +208,10 @@ telling_kept Came next machine start was is name r page keeps t = record {
 }
 
 -- All that waited, or nothing, was said.
+pub way_given : (old new : State) (waiting left : List ℕ) → SaysPage old new waiting → left ≡ [] → PAGE < length waiting + PIECE
+    → GivesWay old new waiting left
+way_given old new waiting left says none full = inr (page_says old new waiting (some_page waiting full) says, none, full)
+
 pub room_made : {A : Type 0} (Came : List Event → A → Type 0) (next : A → Step) (machine : A) (start was is : State)
     (name : List ℕ) (r : Reading) (waiting left : List ℕ) → GivesWay was is waiting left
     → Telling Came next start was name machine r waiting → Telling Came next start is name machine r left
@@ -209,7 +221,7 @@ room_made Came next machine start was is name r waiting left (inl kept) t =
     (telling_kept Came next machine start was is name r waiting kept.0 t)
 room_made Came next machine start was is name r waiting left (inr said) t =
     subst (λ (l : List ℕ). Telling Came next start is name machine r l) (sym said.1)
-    (all_said Came next machine start was is name r waiting said.0 said.2 t)
+    (all_said Came next machine start was is name r waiting (some_page waiting said.2) said.0 said.2 t)
 
 -- The machine was fed.
 pub telling_fed : {A : Type 0} (Becomes : A → List Event → A → Type 0) (next : A → Step) (begin old new : A)
@@ -226,7 +238,8 @@ telling_fed Becomes next begin old new start was is name r s input page zero on 
       met = t.met;
       going = t.going;
       parts = gives_none f.event 0 f.count _ _ t.events taken ∙ t.parts;
-      said = on.said ∙ t.said;
+      goes_on = f.goes_on;
+      said = grows_kept start.said was.said is.said (gave t.early) t.said on.said;
       handle = on.handle ∙ t.handle;
       opened = read_further start was is r s on t.handle t.opened;
       created = on.created ∙ t.created;
@@ -242,9 +255,9 @@ telling_fed Becomes next begin old new start was is name r s input page zero on 
 
 -- The file was read on, and the machine was not fed.
 pub telling_read : {A : Type 0} (Came : List Event → A → Type 0) (next : A → Step) (machine : A) (start was is : State)
-    (name : List ℕ) (r s : Reading) (page : List ℕ) → ReadsOn was is r s → TakesNone was is r s
+    (name : List ℕ) (r s : Reading) (page : List ℕ) → ReadsOn was is r s → TakesNone was is r s → has_run_out is r.handle ≡ false
     → Telling Came next start was name machine r page → Telling Came next start is name machine s page
-telling_read Came next machine start was is name r s page on none t = record {
+telling_read Came next machine start was is name r s page on none going t = record {
   events = t.events;
   came = t.came;
   early = t.early;
@@ -252,7 +265,8 @@ telling_read Came next machine start was is name r s page on none t = record {
   met = t.met;
   parts = t.parts;
   going = t.going;
-  said = on.said ∙ t.said;
+  goes_on = λ off. ap (has_run_out is) on.handle ∙ going;
+  said = grows_kept start.said was.said is.said (gave t.early) t.said on.said;
   handle = on.handle ∙ t.handle;
   opened = read_further start was is r s on t.handle t.opened;
   created = on.created ∙ t.created;
@@ -283,7 +297,8 @@ telling_first Came next machine old new name handle r page o is none came = reco
   met = came;
   parts = sym none;
   going = inl none;
-  said = o.said ∙ append-none old.said;
+  said = grows_same old.said new.said o.said;
+  goes_on = λ off. ap (λ (x : Reading). has_run_out new x.handle) is ∙ o.fresh;
   handle = ap (λ (r : Reading). r.handle) is ∙ o.number;
   opened = o.opened ∙ ap (λ (n : ℕ). old.opened ++ n ∷ []) (sym (ap given_of is));
   created = o.created;
@@ -328,7 +343,7 @@ tells_of Came next machine old new name r unsaid t = record {
 
 -- what a run has told, and then all that was left
 unfoldable pub tells_all : {A : Type 0} (Came : List Event → A → Type 0) (next : A → Step) (machine : A) (start was is : State)
-    (name : List ℕ) (r : Reading) (page : List ℕ) → Says was is page → Telling Came next start was name machine r page
+    (name : List ℕ) (r : Reading) (page : List ℕ) → SaysBytes was is page → Telling Came next start was name machine r page
     → Tells Came next start is name machine (given_of r) []
 tells_all Came next machine start was is name r page says t = record {
   events = t.events;
@@ -338,8 +353,8 @@ tells_all Came next machine start was is name r page says t = record {
   met = t.came;
   parts = sym (append-nil (gave t.events));
   going = inl refl;
-  said = says.said ∙ ap (option_map (λ said. said ++ page)) t.said ∙ append_twice start.said (gave t.early) page
-      ∙ ap (λ (l : List ℕ). option_map (λ said. said ++ l) start.said) (sym t.parts);
+  said = grows_as start.said is.said (gave t.early ++ page) (gave t.events) (sym t.parts)
+      (grows_then start.said was.said is.said (gave t.early) page t.said says.grew);
   opened = record {
     present = t.present;
     held = says.held ∙ t.held;

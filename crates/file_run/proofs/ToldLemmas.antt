@@ -6,9 +6,11 @@ use Rattle.ports.specs.declared.counts.Counts.{Counts}
 use Rattle.ports.specs.declared.fault.FaultKind.{FaultKind}
 use Rattle.ports.specs.declared.fault.FaultKind.TheVariants as kind
 use Rattle.ports.specs.Counts.{Rose, first_of}
-use Rattle.ports.specs.Desk.{State, SameCounts, Keeps, Says}
+use Rattle.ports.specs.Desk.{State, SameCounts, Keeps}
 use Rattle.desk_io.specs.Faults.{ReadsFail, WritesFail}
 use Rattle.desk_io.specs.Reading.{Reading, given_of, longest_file}
+use Rattle.desk_io.specs.Saying.{SaysBytes}
+use Rattle.desk_io.proofs.SayLemmas.{says_page}
 use Rattle.file_run.specs.Events.{Event, fed}
 use Rattle.file_run.specs.Steps.{Needs, FallsShort}
 use Rattle.file_run.specs.Laws.{FirstIsTold}
@@ -39,7 +41,7 @@ pub told_all : {A T : Type 0} (Came : List Event → A → Type 0) (next : A →
 told_all {A = A} {T = T} Came next start old new name machine r page (Ok u) result t f (inl said) =
     subst (λ (x : Result T RunFault). OnOk x (TellsAll Came next start new name machine)) (sym said.0) (record {
       place = given_of r;
-      tells = tells_all Came next machine start old new name r page said.1.0 t;
+      tells = tells_all Came next machine start old new name r page (says_page old new page said.1.0) t;
       end = f.end;
       short = f.short;
       counts = said.1.1 ∙ f.counts;
@@ -138,7 +140,7 @@ broke Came next start now name machine r page why other b = subst (λ (l : List 
     (b.2 other) b.1
 
 told_at : {A : Type 0} (Came : List Event → A → Type 0) (next : A → Step) (start was now : State) (name : List ℕ) (machine : A)
-    (r : Reading) (page : List ℕ) (most : ℕ) → given_of r ≡ most → Says was now page
+    (r : Reading) (page : List ℕ) (most : ℕ) → given_of r ≡ most → SaysBytes was now page
     → (t : Telling Came next start was name machine r page)
     → (x : Tells Came next start now name machine most []) × (x.events ≡ t.events)
 unfolding tells_all
@@ -148,7 +150,7 @@ told_at Came next start was now name machine r page most same says t =
 
 -- a run over a file that is too long
 too_much : {A : Type 0} (Came : List Event → A → Type 0) (next : A → Step) (start was now : State) (name : List ℕ) (machine : A)
-    (r : Reading) (page : List ℕ) → given_of r ≡ longest_file → Says was now page
+    (r : Reading) (page : List ℕ) → given_of r ≡ longest_file → SaysBytes was now page
     → (t : Telling Came next start was name machine r page) → Needs (next machine) 0 (length r.waiting) → SameCounts start now
     → TellsTooMuch Came next start now name machine
 too_much Came next start was now name machine r page same says t wants calm =
@@ -179,7 +181,7 @@ told_fault {A = A} {T = T} Came next start old new name machine r page (Err (Too
     let u = broke Came next start old name machine r page (TooLong input) (λ e. cc) broken in
     subst (stopped Came next start new name machine) (sym said.0) (
       cause.0,
-      too_much Came next start old new name machine r page cause.1 said.1.0 u cause.2 (said.1.1 ∙ cause.3),
+      too_much Came next start old new name machine r page cause.1 (says_page old new page said.1.0) u cause.2 (said.1.1 ∙ cause.3),
     )
 told_fault {A = A} {T = T} Came next start old new name machine r page (Err (TooLong input)) result t f broken cause (inr lost) =
     let u = broke Came next start old name machine r page (TooLong input) (λ e. cc) broken in
@@ -196,7 +198,7 @@ told_fault {A = A} {T = T} Came next start old new name machine r page (Err (Rea
           record {
             place = given_of r;
             unsaid = [];
-            tells = tells_all Came next machine start old new name r page said.0 u;
+            tells = tells_all Came next machine start old new name r page (says_page old new page said.0) u;
             wants = subst (λ (n : ℕ). FallsShort (next machine) 0 n) (waits Came next start old name machine r page u) cause.2;
             short = cause.1;
             all = inl (refl, ap (λ (k : Counts). k.writes) said.1 ∙ ap (λ (k : Counts). k.writes) cause.3.others);

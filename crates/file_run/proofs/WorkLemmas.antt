@@ -1,5 +1,5 @@
 -- A run of a machine that does a work ends as one must that does it.
-use Rattle.std.proofs.Common.{◌≡◌, ℕ, ◌+◌, ◌-◌, ◌<◌, ◌≤◌, true, List, [], ◌∷◌, ◌++◌, length, Option, Some, None, refl, ap, sym, subst, ◌∙◌}
+use Rattle.std.proofs.Common.{◌≡◌, ℕ, ◌+◌, ◌-◌, ◌<◌, true, List, [], ◌∷◌, ◌++◌, length, Option, Some, None, refl, ap, sym, subst, ◌∙◌}
 use Rattle.std.proofs.Common.{inl, inr, arith, length-append, append_assoc}
 use Rattle.std.specs.Prelude.{Result, Ok, Err, IfSome, IsSome, slice_index, slice_index_or, replicate}
 use Rattle.std.specs.FinMap.{get}
@@ -10,7 +10,7 @@ use Rattle.terms.proofs.RangeLemmas.{one_listed}
 use Rattle.ports.specs.Desk.{State, Held, bytes_of}
 use Rattle.desk_io.specs.Reading.{longest_file}
 use Rattle.file_run.specs.Events.{Event, fed, has_ended, gave}
-use Rattle.file_run.specs.FileRun.{file_at, AreFed, IsFed, AreTaken, Works, Writes, Stands, HoldsAll, AllShort, Stops}
+use Rattle.file_run.specs.FileRun.{file_at, AreFed, AreTaken, Works, Writes, Stands, AllShort, Stops}
 use Rattle.file_run.specs.OneRun.{ComesToEnd, RunsOnce}
 use Rattle.file_run.specs.Work.{Work, AreWhole, Sink, Into, Passes, Does, Ends, IsRightAtEnd, DoesWork}
 use Rattle.file_run.specs.declared.machine.Step.{Step}
@@ -107,9 +107,11 @@ does_of {old = old} {new = new} {ins = ins} sink work places events bytes all pa
           within = λ input lt. (are input lt).within;
           passes = passes;
           told = subst (λ (o : Option Held). IfSome o (λ k. (file_at h ins ≡ file_at k ins)
-              × ((input : ℕ) → input < length ins → IsSome (get k.files (slice_index_or ins input []))))) (sym some)
-              (refl, subst (λ (o : Option Held). IfSome o (λ h. (input : ℕ) → input < length ins
-              → IsSome (get h.files (slice_index_or ins input [])))) some present);
+              × ((input : ℕ) → input < length ins → IsSome (get k.files (slice_index_or ins input []))))) (sym some) (
+                refl,
+                subst (λ (o : Option Held). IfSome o (λ h. (input : ℕ) → input < length ins
+                    → IsSome (get h.files (slice_index_or ins input [])))) some present,
+              );
         }
 
 does_by : {old new : State} {out : List ℕ} {ins : List (List ℕ)} {reach : ℕ → ℕ} {Came : List Event → Type 0}
@@ -134,41 +136,57 @@ module _ {A R E : Type 0} (work : Work R E) (old new : State) (out : List ℕ)
   come_to_end told result same e =
       let s = e.runs.stands in
       does_by (λ files places bytes. AllShort places × work files result places bytes) s (gave s.events) (λ is h. h)
-      (λ files all are. (e.runs.short, same files s.places (gave s.events)
-      (subst (IsRightAtEnd work files s.places (gave s.events)) e.told_is (m.ends files s.places s.events now all are s.came e.end))))
+      (λ files all are. (
+        e.runs.short,
+        same files s.places (gave s.events)
+            (subst (IsRightAtEnd work files s.places (gave s.events)) e.told_is (m.ends files s.places s.events now all are s.came e.end)),
+      ))
 
   stopped : (why : RunFault) → Stops old new out ins reach next Came now why → Ends work old new (Into out) ins (Err (Files why))
   stopped (TooLong input) g =
-      let s = g.stands in
-      (g.counts, g.place, does_by (λ files places bytes. (slice_index places input ≡ longest_file)
-      × work files (Err (Files (TooLong input))) places bytes) s (gave s.events) (λ is h. h)
-      (λ files all are. (g.gave, m.too_long files s.places s.events now input all are s.came g.place g.gave g.wants)))
+      let s = g.stands in (
+        g.counts,
+        g.place,
+        does_by (λ files places bytes. (slice_index places input ≡ longest_file)
+            × work files (Err (Files (TooLong input))) places bytes) s (gave s.events) (λ is h. h)
+            (λ files all are. (g.gave, m.too_long files s.places s.events now input all are s.came g.place g.gave g.wants)),
+      )
   stopped (ReadFault input) (counts, inl o) = (counts, inl o)
   stopped (ReadFault input) (counts, inr g) =
-      let s = g.stands in
-      (counts, inr (g.place, does_by (λ files places bytes. AllShort places × work files (Err (Files (ReadFault input))) places bytes)
-      s (gave s.events) (λ is h. h)
-      (λ files all are. (g.short, m.unread files s.places s.events now input all are s.came g.place g.wants))))
+      let s = g.stands in (
+        counts,
+        inr (
+          g.place,
+          does_by (λ files places bytes. AllShort places × work files (Err (Files (ReadFault input))) places bytes)
+              s (gave s.events) (λ is h. h)
+              (λ files all are. (g.short, m.unread files s.places s.events now input all are s.came g.place g.wants)),
+        ),
+      )
   stopped WriteFault (counts, inl o) = (counts, inl o)
   stopped WriteFault (counts, inr g) =
-      let s = g.stands in
-      (counts, inr (does_by (λ files places bytes. AllShort places × work files (Err (Files WriteFault)) places bytes) s
-      (gave s.events ++ g.front) (λ is h. h)
-      (λ files all are. (g.short, m.unwritten files s.places s.events now (gave s.events ++ g.front) all are (record {
-        mid = g.mid;
-        gives = g.gives;
-        came = s.came.0;
-        late = g.late;
-        only = g.only;
-        came_late = s.came.1;
-        within = s.within;
-        front = g.front;
-        is = refl;
-        more = g.more;
-        some = g.some;
-        parts = (gave_more s.events g.late g.only).gave ∙ ap (λ (l : List ℕ). gave s.events ++ l) g.parts
-            ∙ sym (append_assoc (gave s.events) g.front g.more);
-      })))))
+      let s = g.stands in (
+        counts,
+        inr (does_by (λ files places bytes. AllShort places × work files (Err (Files WriteFault)) places bytes) s
+            (gave s.events ++ g.front) (λ is h. h)
+            (λ files all are. (
+              g.short,
+              m.unwritten files s.places s.events now (gave s.events ++ g.front) all are (record {
+                mid = g.mid;
+                gives = g.gives;
+                came = s.came.0;
+                late = g.late;
+                only = g.only;
+                came_late = s.came.1;
+                within = s.within;
+                front = g.front;
+                is = refl;
+                more = g.more;
+                some = g.some;
+                parts = (gave_more s.events g.late g.only).gave ∙ ap (λ (l : List ℕ). gave s.events ++ l) g.parts
+                    ∙ sym (append_assoc (gave s.events) g.front g.more);
+              }),
+            ))),
+      )
 
   pub ends_so : (result : Result R (RunStop E)) → RunsOnce old new out ins reach next Came ending now result
       → Ends work old new (Into out) ins result
@@ -195,8 +213,16 @@ works_of {old = old} {new = new} {out = out} {ins = ins} Is d is = record {
   said = d.passes.said;
   holds = if_both old.held _ _ (λ h. (k : Held) × (new.held ≡ Some k)
       × ((bytes : List ℕ) × (get k.files out ≡ Some bytes) × Is (file_at h ins) bytes))
-      (λ h t k. (k.0, k.1, (k.2.0, k.2.1, subst (Is (file_at h ins)) (sym k.2.2)
-      (subst (λ (files : ℕ → List ℕ). Is files d.bytes) t.0 is)))) d.told d.passes.holds;
+      (λ h t k. (
+        k.0,
+        k.1,
+        (
+          k.2.0,
+          k.2.1,
+          subst (Is (file_at h ins)) (sym k.2.2)
+              (subst (λ (files : ℕ → List ℕ). Is files d.bytes) t.0 is),
+        ),
+      )) d.told d.passes.holds;
 }
 
 -- the same of one input

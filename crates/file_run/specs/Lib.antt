@@ -7,5 +7,4 @@ pub mod Steps
 pub mod Telling
 pub mod Work
 -- inner: no public clause cites these
-pub mod Copy
 pub mod TellingOn

@@ -3,7 +3,7 @@ use Rattle.std.specs.Prelude.{◌≡◌, ◌≢◌, ℕ, ◌+◌, ◌<◌, ◌�
 use Rattle.std.specs.Prelude.{None, Some, IsSome, IfSome, option_map}
 use Rattle.std.specs.declared.option.Option.{Option}
 use Rattle.std.specs.FinMap.{get}
-use Rattle.ports.specs.Desk.{State, Held, SameCounts, Creates, left_of, out_name}
+use Rattle.ports.specs.Desk.{State, Held, SameCounts, Creates, left_of, out_name, has_run_out}
 use Rattle.desk_io.specs.Reading.{Reading, given_of, rest_of, longest_file}
 use Rattle.desk_io.specs.declared.ahead.ReadStop.{ReadStop}
 use Rattle.desk_io.specs.declared.ahead.ReadStop.TheVariants as stop
@@ -75,6 +75,10 @@ pub record Relates (b : Start) (h : Held) (now : State) (readings : List Reading
 abbrev pub IsWhole : Reading → Type 0
 IsWhole r = r.ended ≡ true → r.waiting ≡ []
 
+-- A file that was not found to have ended can be read on.
+abbrev pub GoesOn : State → Reading → Type 0
+GoesOn s r = r.ended ≡ false → has_run_out s r.handle ≡ false
+
 -- A run so far, of which all that was given is written.
 pub record Runs (b : Start) (now : State) (readings : List Reading) (out : ℕ) (reach : ℕ → ℕ) (events : List Event) : Type 0 where
   pub apart : AreApart b.out b.ins
@@ -85,6 +89,7 @@ pub record Runs (b : Start) (now : State) (readings : List Reading) (out : ℕ) 
   pub ended : (input : ℕ) → input < length readings → (reading_at readings input).ended ≡ has_ended input events
   pub within : (input : ℕ) → input < length readings → given_of (reading_at readings input) ≤ reach input
   pub whole : (input : ℕ) → input < length readings → IsWhole (reading_at readings input)
+  pub goes_on : (input : ℕ) → input < length readings → GoesOn now (reading_at readings input)
   pub relates : (h : Held) → b.desk.held ≡ Some h → Relates b h now readings events
 
 -- A machine gave a piece, which went behind the bytes that waited.
@@ -147,6 +152,7 @@ pub record Feeds {A : Type 0} (Becomes : A → List Event → A → Type 0) (old
   pub taken : is.taken ≡ was.taken + count
   pub marked : IsMarked event was.ended is.ended
   pub whole : IsWhole is
+  pub goes_on : GoesOn after is
   pub is_taken : IsTaken event input (rest_of before was) (rest_of after is) count
 
 -- What the desk holds after inputs were opened, if it told what it held.
@@ -164,6 +170,7 @@ pub record AreOpened (old new : State) (ins : List (List ℕ)) (readings : List 
   pub opened : new.opened ≡ old.opened ++ places_of readings
   pub all : length readings ≡ length ins
   pub begin : (input : ℕ) → input < length readings → reading_at readings input ≡ reading_from (length old.opened + input)
+  pub fresh : (input : ℕ) → input < length readings → has_run_out new (length old.opened + input) ≡ false
   pub created : new.created ≡ old.created
   pub said : new.said ≡ old.said
   pub counts : SameCounts old new

@@ -1,17 +1,15 @@
 -- What a run does that reads one named file and says what its machine gives.
 use Rattle.std.specs.Prelude.{◌≡◌, ◌≢◌, ◌⊎◌, ℕ, ◌+◌, ◌-◌, ◌<◌, ◌≤◌, Bool, true, List, [], ◌∷◌, ◌++◌, length, IfSome}
-use Rattle.std.specs.Prelude.{option_map}
 use Rattle.ports.specs.Counts.{Rose, first_of}
 use Rattle.ports.specs.Desk.{State, SameCounts, bytes_of}
 use Rattle.ports.specs.declared.fault.FaultKind.TheVariants.{Reading}
 use Rattle.desk_io.specs.Faults.{ReadsFail, WritesFail}
 use Rattle.desk_io.specs.Opening.{Opened, Unopened}
 use Rattle.desk_io.specs.Reading.{longest_file}
-use Rattle.desk_io.specs.declared.page.TheConstants.{PAGE}
+use Rattle.desk_io.specs.Saying.{Grows}
 use Rattle.file_run.specs.Events.{Event, Gave, fed, has_ended, gave}
 use Rattle.file_run.specs.FileRun.{IsFed}
 use Rattle.file_run.specs.Steps.{Needs, FallsShort}
-use Rattle.file_run.specs.declared.machine.TheConstants.{PIECE}
 use Rattle.file_run.specs.declared.machine.Step.{Step}
 use Rattle.file_run.specs.declared.machine.Step.TheVariants.{Give, End}
 use Rattle.file_run.specs.declared.stop.RunFault.{RunFault}
@@ -21,9 +19,16 @@ use Rattle.file_run.specs.declared.stop.RunFault.TheVariants.{TooLong, ReadFault
 abbrev pub StartsWith : List ℕ → List ℕ → Bool → Type 0
 StartsWith bytes front ended = (more : List ℕ) × (bytes ≡ front ++ more) × (ended ≡ true → more ≡ [])
 
+-- how many bytes wait at most to be said, and how many a machine gives at most at once
+abbrev pub most_waiting : ℕ
+most_waiting = 131072
+
+abbrev pub most_given : ℕ
+most_given = 4096
+
 -- Nothing was said, or last a page on which there was no room for a piece.
 abbrev pub SaidPages : List ℕ → Type 0
-SaidPages said = (said ≡ []) ⊎ ((earlier : List ℕ) × (page : List ℕ) × (said ≡ earlier ++ page) × (PAGE < length page + PIECE))
+SaidPages said = (said ≡ []) ⊎ ((earlier : List ℕ) × (page : List ℕ) × (said ≡ earlier ++ page) × (most_waiting < length page + most_given))
 
 -- When the machine gave for the last time, so little waited that there was room for a piece: of what is not said, nothing was to
 -- be said before it. And nothing was said before it was to be.
@@ -35,12 +40,12 @@ pub record HadRoom (said : List ℕ) (events : List Event) : Type 0 where
   pub last : gave after ≡ []
   pub waiting : List ℕ
   pub waited : gave before ≡ said ++ waiting
-  pub room : length waiting + PIECE ≤ PAGE
+  pub room : length waiting + most_given ≤ most_waiting
   pub pages : SaidPages said
 
 -- What is not said is no more than may wait.
 pub record MayWait (said unsaid : List ℕ) (events : List Event) : Type 0 where
-  pub few : length unsaid ≤ PAGE
+  pub few : length unsaid ≤ most_waiting
   pub since : (unsaid ≡ []) ⊎ HadRoom said events
 
 -- The named file was opened and read up to a place, and its bytes were fed to a machine. All that it had given at some moment was
@@ -54,7 +59,7 @@ pub record Tells {A : Type 0} (Came : List Event → A → Type 0) (next : A →
   pub met : Came early mid
   pub parts : gave events ≡ gave early ++ unsaid
   pub going : (unsaid ≡ []) ⊎ ((early ≡ []) ⊎ (next mid ≡ Give))
-  pub said : new.said ≡ option_map (λ said. said ++ gave early) old.said
+  pub said : Grows old.said new.said (gave early)
   pub opened : Opened old new name place
   pub inputs : IfSome old.held (λ h. IsFed (bytes_of h.files name) place (fed 0 events) (has_ended 0 events))
   pub first : IfSome old.held (λ h. StartsWith (bytes_of h.files name) (fed 0 early) (has_ended 0 early))

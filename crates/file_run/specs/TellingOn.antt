@@ -5,9 +5,10 @@ use Rattle.std.specs.FinMap.{get}
 use Rattle.ports.specs.Desk.{State, Held, SameCounts, Keeps, Says, bytes_of, with_name}
 use Rattle.desk_io.specs.Faults.{ReadsFail, WritesFail}
 use Rattle.desk_io.specs.Reading.{Reading, given_of, rest_of, longest_file}
+use Rattle.desk_io.specs.Saying.{Grows, SaysPage}
 use Rattle.desk_io.specs.declared.page.TheConstants.{PAGE}
 use Rattle.file_run.specs.Events.{Event, fed, has_ended, gave}
-use Rattle.file_run.specs.Running.{IsRead}
+use Rattle.file_run.specs.Running.{IsRead, GoesOn}
 use Rattle.file_run.specs.Telling.{StartsWith, SaidPages, MayWait}
 use Rattle.file_run.specs.declared.machine.TheConstants.{PIECE}
 use Rattle.file_run.specs.declared.machine.Step.{Step}
@@ -31,7 +32,7 @@ pub record Telling {A : Type 0} (Came : List Event → A → Type 0) (next : A �
   pub met : Came early mid
   pub parts : gave events ≡ gave early ++ unsaid
   pub going : (unsaid ≡ []) ⊎ ((early ≡ []) ⊎ (next mid ≡ Give))
-  pub said : now.said ≡ option_map (λ said. said ++ gave early) start.said
+  pub said : Grows start.said now.said (gave early)
   pub handle : r.handle ≡ length start.opened
   pub opened : now.opened ≡ start.opened ++ given_of r ∷ []
   pub created : now.created ≡ start.created
@@ -39,6 +40,7 @@ pub record Telling {A : Type 0} (Came : List Event → A → Type 0) (next : A �
   pub present : IfSome start.held (λ h. IsSome (get h.files name))
   pub taken : r.taken ≡ length (fed 0 events)
   pub ended : r.ended ≡ has_ended 0 events
+  pub goes_on : GoesOn now r
   pub reads : (h : Held) → start.held ≡ Some h → IsRead (bytes_of h.files name) (rest_of now r) (fed 0 events)
       (has_ended 0 events)
   pub first : (h : Held) → start.held ≡ Some h → StartsWith (bytes_of h.files name) (fed 0 early) (has_ended 0 early)
@@ -71,7 +73,7 @@ Breaks next old new machine r WriteFault = (given_of r < longest_file) × Writes
 
 -- What was left on the page was said, or not.
 abbrev pub SaysLeft : State → State → List ℕ → Type 0
-SaysLeft old new page = Says old new page × SameCounts old new
+SaysLeft old new page = SaysPage old new page × SameCounts old new
 
 abbrev pub LosesLeft : State → State → List ℕ → Type 0
 LosesLeft old new page = Keeps old new × WritesFail old new × (page ≢ [])

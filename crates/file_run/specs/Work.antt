@@ -1,10 +1,11 @@
 -- What a command does by the bytes of its files alone, and how a run over a desk ends that does it.
 use Rattle.std.specs.Prelude.{◌≡◌, ◌≢◌, ◌⊎◌, ℕ, ◌+◌, ◌-◌, ◌<◌, ◌≤◌, List, [], ◌++◌, length, slice_index, slice_index_or, Result}
-use Rattle.std.specs.Prelude.{Ok, Err, IsSome, IfSome, option_map}
+use Rattle.std.specs.Prelude.{Ok, Err, IsSome, IfSome}
 use Rattle.std.specs.FinMap.{get}
 use Rattle.ports.specs.Desk.{State, SameCounts}
 use Rattle.desk_io.specs.Faults.{ReadsFail, WritesFail}
 use Rattle.desk_io.specs.Reading.{longest_file}
+use Rattle.desk_io.specs.Saying.{Grows}
 use Rattle.file_run.specs.Events.{Event, fed, gave, OnlyGave}
 use Rattle.file_run.specs.FileRun.{file_at, OpensInputs, FailsToCreateOutput, Works, AllShort, AreFed, AreNamed, SameFiles}
 use Rattle.file_run.specs.Steps.{Needs, FallsShort}
@@ -36,7 +37,7 @@ pub record SaysOf (old new : State) (ins : List (List ℕ)) (places text : List 
   pub names : AreNamed old new ins places
   pub files : SameFiles old.held new.held
   pub created : new.created ≡ old.created
-  pub said : new.said ≡ option_map (λ said. said ++ text) old.said
+  pub said : Grows old.said new.said text
 
 -- The inputs were opened and read up to these places, and these bytes went out; nothing else was done.
 abbrev pub Passes : Sink → State → State → List (List ℕ) → List ℕ → List ℕ → Type 0

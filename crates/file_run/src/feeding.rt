@@ -1,6 +1,6 @@
 // Reading what a machine wants.
 ghost use Rattle.std.specs.Prelude.{◌≡◌, ◌<◌, ◌≤◌, ◌+◌, ℕ, length, false, IfErr, OnOk, OnErr};
-ghost use Rattle.ports.specs.Desk.{SameCounts};
+ghost use Rattle.ports.specs.Desk.{SameCounts, has_run_out};
 ghost use Rattle.desk_io.specs.Reading.{given_of, spare, longest_file, ReadsOn, TakesNone, StopsReading};
 ghost use Rattle.file_run.specs.Running.{Feeds, IsReader};
 
@@ -20,6 +20,7 @@ pub fn feed<M: Machine, D: Desk>(
     requires next { M.next machine.old ≡ Step.Read input least most }
     requires within { (least ≤ most) × (least ≤ MOST_WANTED) × (0 < least) }
     requires opened { reader.old.handle < length (D.state desk.old).opened }
+    requires going { has_run_out (D.state desk.old) reader.old.handle ≡ false }
     requires short { given_of reader.old < longest_file }
     requires reader { IsReader M.Becomes machine.old input reader.old }
     requires is_open { reader.old.ended ≡ false }
@@ -33,6 +34,7 @@ pub fn feed<M: Machine, D: Desk>(
     ensures reach { (other : ℕ) → M.reach machine.old other ≤ M.reach machine.new other }
     ensures counts { OnOk result (SameCounts (D.state desk.old) (D.state desk.new)) }
     ensures short { OnOk result (given_of reader.new < longest_file) }
+    ensures goes_on { OnErr result (has_run_out (D.state desk.new) reader.old.handle ≡ false) }
     ensures err { IfErr result (StopsReading (D.state desk.old) (D.state desk.new) reader.new least) }
 {
     if reader.read_until(desk, least, most)? {

@@ -11,8 +11,6 @@ mod out_buffer;
 mod running;
 mod stop;
 mod telling;
-#[cfg(test)]
-mod tests;
 
 pub use feeding::feed;
 pub use laws::{events_law, faults_law};

@@ -1,8 +1,9 @@
 // Saying what a machine gives.
 ghost use Rattle.std.specs.Prelude.{◌≡◌, ◌≢◌, ◌≤◌, ◌+◌, ℕ, List, [], length, IfErr, OnOk, OnErr};
 ghost use Rattle.ports.specs.Counts.{MayFailWriting};
-ghost use Rattle.ports.specs.Desk.{State, Keeps, Says};
+ghost use Rattle.ports.specs.Desk.{State, Keeps};
 ghost use Rattle.desk_io.specs.Reading.{Reading};
+ghost use Rattle.desk_io.specs.Saying.{SaysPage};
 ghost use Rattle.file_run.specs.Telling.{TellsAll, StopsTelling};
 ghost use Rattle.file_run.specs.TellingOn.{Telling, HasBegun, GivesWay, Finishes, Breaks, TellsLast};
 ghost use Rattle.file_run.specs.declared.machine.TheConstants.{PIECE};
@@ -15,9 +16,9 @@ use crate::stop::RunFault;
 use desk_io::{ReadAhead, ReadStop};
 use ports::{Desk, DeskFault};
 
-/// Says what waits on the page.
+/// Says what waits on the page, by one call, or nothing if nothing waits.
 pub fn say_page<D: Desk>(desk: &mut D, page: &mut OutBuffer) -> Result<(), DeskFault>
-    ensures ok { OnOk result (Says (D.state desk.old) (D.state desk.new) page.old) }
+    ensures ok { OnOk result (SaysPage (D.state desk.old) (D.state desk.new) page.old) }
     ensures err { OnErr result (Keeps (D.state desk.old) (D.state desk.new)) }
     ensures page { page.new ≡ [] }
     ensures some { OnErr result (page.old ≢ []) }

@@ -18,8 +18,17 @@ fn answer(alloc: Global, networks: &Networks, words: &Words<'_>) -> Result<Strin
         "crc32" | "crc8" | "prbs" | "blocks" | "field" | "bytes" | "put" | "take" | "joined" => {
             bits::answer(alloc, words)
         }
-        "shape" | "map" | "cell" | "pre" | "conf" | "dyn" | "turned" | "read" | "post" | "knows" =>
-            { networks.answer(words) }
+        "shape"
+        | "map"
+        | "cell"
+        | "queue"
+        | "pre"
+        | "conf"
+        | "dyn"
+        | "turned"
+        | "read"
+        | "post"
+        | "knows" => { networks.answer(words) }
         "baseband" | "written" | "scramble" => frames::answer(alloc, words),
         _ => packets::answer(alloc, words),
     }

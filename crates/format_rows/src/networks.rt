@@ -2,6 +2,7 @@
 //
 // `network NAME CELLS SUBSLICES FRAMES PLP;PLP..` defines one, each PLP by the words of its line in a configuration, joined by commas.
 mod maps;
+mod queues;
 mod signals;
 
 use crate::words::Words;
@@ -79,6 +80,7 @@ impl Networks {
         };
         match words.verb() {
             "shape" | "map" | "cell" => maps::answer(self.alloc, plan, words),
+            "queue" => queues::answer(self.alloc, plan, words),
             _ => signals::answer(self.alloc, plan, words),
         }
     }

@@ -6,7 +6,7 @@
 // its dnp; `slots FIRST DNP..` finds slots again. `t2mi BYTES` is what stands there, and `needed BYTES` how many bytes it wants.
 ghost use Rattle.std.specs.Prelude.{◌<◌, ◌^◌, length};
 
-use crate::words::{Words, number, spelled};
+use crate::words::{Words, number, number_8, spelled};
 use null_delete::{Deleter, Inserter};
 use std::alloc::{AllocError, Global};
 use t2mi_packet::{Body, needed, read as read_t2mi};
@@ -96,7 +96,7 @@ fn slots(alloc: Global, words: &Words<'_>) -> Result<String, AllocError> {
         if at >= 1 << 50 {
             break;
         }
-        at = Inserter::new(at).push(number(dnp) as u8);
+        at = Inserter::new(at).push(number_8(dnp));
         told.push_str(format!(in alloc; "{at} ")?.as_str())?;
     }
     told.push_str("are")?;

@@ -20,6 +20,19 @@ pub(crate) fn number(word: &str) -> usize {
     word.parse::<usize>().unwrap_or(0)
 }
 
+/// The same of a number of 8, of 16 and of 32 bits.
+pub(crate) fn number_8(word: &str) -> u8 {
+    word.parse::<u8>().unwrap_or(0)
+}
+
+pub(crate) fn number_16(word: &str) -> u16 {
+    word.parse::<u16>().unwrap_or(0)
+}
+
+pub(crate) fn number_32(word: &str) -> u32 {
+    word.parse::<u32>().unwrap_or(0)
+}
+
 fn push_piece(alloc: Global, bytes: &mut Vec<u8>, piece: &str) -> Result<(), AllocError> {
     let (one, times) = piece.split_once('*').unwrap_or((piece, "1"));
     let Ok(own) = decode(alloc, one.as_bytes()) else {
@@ -37,7 +50,9 @@ pub(crate) fn spelled(alloc: Global, bytes: &[u8]) -> Result<String, AllocError>
 }
 
 /// All bits of some bytes.
-pub(crate) fn all_bits(bytes: &[u8]) -> BitSlice<'_> {
+pub(crate) fn all_bits(bytes: &[u8]) -> BitSlice<'_>
+    ensures { length result ≤ 2 ^ 23 }
+{
     BitSlice::whole(&bytes[..bytes.len().min(MOST_BYTES)])
 }
 
@@ -71,7 +86,10 @@ impl<'a> Words<'a> {
     }
 
     /// Those from a place on.
-    pub(crate) fn from(&self, at: usize) -> &[&'a str] {
+    pub(crate) fn from<'s>(&'s self, at: usize) -> &'s [&'a str]
+    where
+        'a: 's,
+    {
         self.list.get(at..).unwrap_or(&[])
     }
 

@@ -1,19 +1,20 @@
 -- Saying what a machine gives before it is fed on, and how a run stands that does so.
-use Rattle.std.proofs.Common.{◌≡◌, ◌≢◌, ℕ, ◌+◌, ◌-◌, ◌<◌, ◌≤◌, true, false, List, [], ◌∷◌, ◌++◌, length, Option, Some, None}
+use Rattle.std.proofs.Common.{◌≡◌, ◌≢◌, ℕ, ◌+◌, ◌-◌, ◌<◌, ◌≤◌, Bool, true, false, List, [], ◌∷◌, ◌++◌, length, Option, Some, None}
 use Rattle.std.proofs.Common.{refl, ap, sym, subst, ◌∙◌, inl, inr, append_assoc, append-nil, arith}
 use Rattle.std.specs.Prelude.{◌⊎◌, IsSome, option_map, slice_index, slice_index_or, slice_set, Result, Ok, Err, OnErr}
 use Rattle.std.specs.FinMap.{get}
 use Rattle.std.proofs.lemmas.List.{length-set, length-map, get_or_default}
-use Rattle.terms.proofs.OptionLemmas.{append-none, append_twice}
-use Rattle.ports.specs.Desk.{State, Held, SameCounts, Keeps, Says, left_of}
+use Rattle.ports.specs.Desk.{State, Held, SameCounts, Keeps, left_of, has_run_out}
 use Rattle.desk_io.specs.Faults.{WritesFail}
 use Rattle.desk_io.specs.Reading.{Reading, given_of, rest_of, longest_file, ReadsOn, TakesNone, StopsReading}
+use Rattle.desk_io.specs.Saying.{SaysBytes, SaysPage}
+use Rattle.desk_io.proofs.SayLemmas.{grows_same, grows_then, grows_kept, says_none, says_then, says_kept, says_one, says_page}
 use Rattle.desk_io.specs.declared.ahead.ReadStop.{ReadStop}
 use Rattle.desk_io.specs.declared.ahead.ReadStop.TheVariants as stop
 use Rattle.file_run.specs.Events.{Event, Gave, fed, has_ended, gave, OnlyGave}
 use Rattle.file_run.specs.FileRun.{file_at, AreFed, HoldsAll, SameFiles}
 use Rattle.file_run.specs.Running.{Start, no_reading, reading_at, places_of, IsRead, Relates, Feeds, Gathers, AreOpened, IsReader}
-use Rattle.file_run.specs.Running.{read_fault, IsWhole}
+use Rattle.file_run.specs.Running.{read_fault, IsWhole, GoesOn}
 use Rattle.std.proofs.lemmas.Bool.{true≢false}
 use Rattle.line_run.specs.Speaking.{Speaks, StandsSaid, SpeaksAll, StopsSaying, StopsSpeaking}
 use Rattle.line_run.specs.SpeakingOn.{Utters, UttersFront, HoldsSame, Spoken, RunsSaid, IsSpeaking}
@@ -26,31 +27,13 @@ use Rattle.file_run.proofs.FedLemmas.{fed_other, ended_other, gives_none, fed_he
 use Rattle.file_run.proofs.OpenLemmas.{some_is, reads_fail, writes_fail}
 use Rattle.file_run.proofs.RunLemmas.{moved, reading_same, each_reader, is_fed, place_at, all_short, read_same}
 use Rattle.file_run.proofs.RunningLemmas.{IsReadOn, item_is}
+use Rattle.file_run.proofs.TellLemmas.{some_page}
 
 pub err_both : {T E : Type 0} (P Q : Type 0) (r : Result T E) → OnErr r P → OnErr r Q → OnErr r (P × Q)
 err_both P Q (Ok x) p q = tt
 err_both P Q (Err e) p q = (p, q)
 
 -- ---- what was said
-
-says_none : (s : State) → Says s s []
-says_none s = record { held = refl; said = append-none s.said; opened = refl; created = refl }
-
-says_then : (a b c : State) (x y : List ℕ) → Says a b x → Says b c y → Says a c (x ++ y)
-says_then a b c x y p q = record {
-  held = q.held ∙ p.held;
-  said = q.said ∙ ap (option_map (λ said. said ++ y)) p.said ∙ append_twice a.said x y;
-  opened = q.opened ∙ p.opened;
-  created = q.created ∙ p.created;
-}
-
-says_kept : (a b c : State) (x : List ℕ) → Says a b x → Keeps b c → Says a c x
-says_kept a b c x p k = record {
-  held = k.held ∙ p.held;
-  said = k.said ∙ p.said;
-  opened = k.opened ∙ p.opened;
-  created = k.created ∙ p.created;
-}
 
 pub uttered_none : {A : Type 0} (Becomes : A → List Event → A → Type 0) (m : A) (s : State) (waiting : List ℕ) → waiting ≡ []
     → Utters Becomes m m s s waiting
@@ -80,7 +63,7 @@ uttered_room Becomes old new was now is waiting left u (inr (says, none, full)) 
   becomes = u.becomes;
   front = u.front ++ waiting;
   parts = u.parts ∙ sym (append-nil (u.front ++ waiting)) ∙ ap (λ (l : List ℕ). (u.front ++ waiting) ++ l) (sym none);
-  says = says_then was now is u.front waiting u.says says;
+  says = says_then was now is u.front waiting u.says (says_one now is waiting (some_page waiting full) says);
 }
 
 -- A machine gave a piece.
@@ -99,14 +82,14 @@ uttered_more Becomes old mid new was is waiting left u g = record {
 
 -- All that waited was said,
 pub uttered_all : {A : Type 0} (Becomes : A → List Event → A → Type 0) (old new : A) (was now is : State) (waiting : List ℕ)
-    → Utters Becomes old new was now waiting → Says now is waiting → Utters Becomes old new was is []
+    → Utters Becomes old new was now waiting → SaysPage now is waiting → Utters Becomes old new was is []
 uttered_all Becomes old new was now is waiting u says = record {
   late = u.late;
   only = u.only;
   becomes = u.becomes;
   front = u.front ++ waiting;
   parts = u.parts ∙ sym (append-nil (u.front ++ waiting));
-  says = says_then was now is u.front waiting u.says says;
+  says = says_then was now is u.front waiting u.says (says_page now is waiting says);
 }
 
 -- or could not be.
@@ -149,7 +132,7 @@ spoken_read b old new readings input is text lt g r = record {
   handles = each_reader (λ k x. x.handle ≡ length b.desk.opened + k) readings input is lt (r.handle ∙ g.handles input lt)
       (λ other inside differ. g.handles other inside);
   created = r.created ∙ g.created;
-  said = r.said ∙ g.said;
+  said = grows_kept b.desk.said old.said new.said text g.said r.said;
   untold = λ none. r.held ∙ g.untold none;
   tells = λ h told. same_held b h old new r.held (g.tells h told);
 }
@@ -163,21 +146,30 @@ other_rest b old new readings input other is text lt inside differ g r =
     r.others (reading_at readings other).handle
     (λ e. differ (let a = g.handles input lt in let o = g.handles other inside in omega (arith, a, o, e)))
 
+-- and is at its end only if it was
+other_end : (b : Start) (old new : State) (readings : List Reading) (input other : ℕ) (is : Reading) (text : List ℕ)
+    → input < length readings → other < length readings → other ≢ input
+    → Spoken b old readings text → ReadsOn old new (reading_at readings input) is
+    → has_run_out new (reading_at readings other).handle ≡ has_run_out old (reading_at readings other).handle
+other_end b old new readings input other is text lt inside differ g r =
+    r.others_end (reading_at readings other).handle
+    (λ e. differ (let a = g.handles input lt in let o = g.handles other inside in omega (arith, a, o, e)))
+
 -- more was said
 spoken_said : (b : Start) (old new : State) (readings : List Reading) (text front : List ℕ) → Spoken b old readings text
-    → Says old new front → Spoken b new readings (text ++ front)
+    → SaysBytes old new front → Spoken b new readings (text ++ front)
 spoken_said b old new readings text front g s = record {
   opened = s.opened ∙ g.opened;
   all = g.all;
   handles = g.handles;
   created = s.created ∙ g.created;
-  said = s.said ∙ ap (option_map (λ said. said ++ front)) g.said ∙ append_twice b.desk.said text front;
+  said = grows_then b.desk.said old.said new.said text front g.said s.grew;
   untold = λ none. s.held ∙ g.untold none;
   tells = λ h told. same_held b h old new s.held (g.tells h told);
 }
 
 -- and each reader has left what it had
-left_said : (old new : State) (front : List ℕ) (handle : ℕ) → Says old new front → left_of new handle ≡ left_of old handle
+left_said : (old new : State) (front : List ℕ) (handle : ℕ) → SaysBytes old new front → left_of new handle ≡ left_of old handle
 left_said old new front handle s = rw (s.held, s.opened) refl
 
 pub same_files : (b : Start) (now : State) (readings : List Reading) (text : List ℕ) (o : Option Held) → o ≡ b.desk.held
@@ -278,7 +270,7 @@ spoken_first b new readings a = record {
   all = a.all;
   handles = λ input lt. ap (λ (r : Reading). r.handle) (a.begin input lt);
   created = a.created;
-  said = a.said ∙ append-none b.desk.said;
+  said = grows_same b.desk.said new.said a.said;
   untold = a.untold;
   tells = λ h held. let t = a.tells h held in record { is = t.is; held = t.held; files = t.files; names = t.names };
 }
@@ -296,6 +288,7 @@ speaking_first Becomes reach m b new readings a came = record {
     ended = λ input lt. ap (λ (r : Reading). r.ended) (a.begin input lt);
     within = λ input lt. let n = ap given_of (a.begin input lt) in omega (arith, n);
     whole = λ input lt on. ap (λ (r : Reading). r.waiting) (a.begin input lt);
+    goes_on = λ input lt off. ap (λ (r : Reading). has_run_out new r.handle) (a.begin input lt) ∙ a.fresh input lt;
     relates = λ h held. record {
       present = (a.tells h held).present;
       reads = λ input lt. first_rest b new h readings input a held lt;
@@ -306,7 +299,7 @@ speaking_first Becomes reach m b new readings a came = record {
 -- ---- what a machine gave was said
 
 relates_said : (b : Start) (h : Held) (old new : State) (readings : List Reading) (events late : List Event) (front : List ℕ)
-    → length readings ≡ length b.ins → Relates b h old readings events → OnlyGave late → Says old new front
+    → length readings ≡ length b.ins → Relates b h old readings events → OnlyGave late → SaysBytes old new front
     → Relates b h new readings (events ++ late)
 relates_said b h old new readings events late front all rel o s =
     let later = gave_more events late o in
@@ -338,6 +331,9 @@ speaking_said Becomes start m n reach b old new readings calm rises u r =
         ended = λ input lt. r.runs.ended input lt ∙ sym (more.ended input);
         within = λ input lt. let w = r.runs.within input lt in let i = rises input in omega (arith, w, i);
         whole = r.runs.whole;
+        goes_on = λ input lt off.
+            ap (λ (l : List Bool). slice_index_or l (reading_at readings input).handle false) u.says.ended
+            ∙ r.runs.goes_on input lt off;
         relates = λ h told. relates_said b h old new readings r.events u.late u.front r.runs.spoken.all (r.runs.relates h told)
             u.only u.says;
       };
@@ -423,6 +419,9 @@ speaking_fed Becomes start m n reach b old new readings input most was is d lt a
         within = each_reader (λ k x. given_of x ≤ reach n k) readings input is lt (omega (arith, k, u))
             (λ other inside differ. let w = r.runs.within other inside in let v = rises other in omega (arith, w, v));
         whole = each_reader (λ k x. IsWhole x) readings input is lt f.whole (λ other inside differ. r.runs.whole other inside);
+        goes_on = each_reader (λ k x. GoesOn new x) readings input is lt f.goes_on
+            (λ other inside differ off. other_end b old new readings input other is (gave r.events) lt inside differ r.runs.spoken
+            on.reads ∙ r.runs.goes_on other inside off);
         relates = λ h told.
             let rel = r.runs.relates h told in
             let all = r.runs.spoken.all in
@@ -554,6 +553,14 @@ pub still_open : {A : Type 0} (Becomes : List Event → A → Type 0) (reach : A
     → (slice_index_or readings input d).ended ≡ false
 still_open Becomes reach m b old readings input d lt r off =
     ap (λ (x : Reading). x.ended) (get_or_default readings input d no_reading lt) ∙ r.runs.ended input lt ∙ off
+
+pub can_go_on : {A : Type 0} (Becomes : List Event → A → Type 0) (reach : A → ℕ → ℕ) (m : A) (b : Start) (old : State)
+    (readings : List Reading) (input : ℕ) (d : Reading) → input < length readings
+    → (r : IsSpeaking Becomes reach b old m readings) → has_ended input r.events ≡ false
+    → has_run_out old (slice_index_or readings input d).handle ≡ false
+can_go_on Becomes reach m b old readings input d lt r off =
+    ap (λ (x : Reading). has_run_out old x.handle) (get_or_default readings input d no_reading lt)
+    ∙ r.runs.goes_on input lt (r.runs.ended input lt ∙ off)
 
 pub reader_at : {A : Type 0} (Becomes : A → List Event → A → Type 0) (start : A) (reach : A → ℕ → ℕ) (m : A) (b : Start)
     (old : State) (readings : List Reading) (input : ℕ) (d : Reading) → input < length readings

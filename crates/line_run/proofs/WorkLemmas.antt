@@ -1,9 +1,10 @@
 -- A run aloud of a machine that does a work ends as one must that does it.
-use Rattle.std.proofs.Common.{◌≡◌, ℕ, ◌-◌, ◌<◌, List, ◌++◌, length, refl, ap, sym, subst, ◌∙◌, inl, inr, append_assoc}
-use Rattle.std.specs.Prelude.{Result, Ok, Err, slice_index, option_map}
+use Rattle.std.proofs.Common.{◌≡◌, ℕ, List, ◌++◌, length, refl, ap, sym, subst, ◌∙◌, inl, inr, append_assoc}
+use Rattle.std.specs.Prelude.{Result, Ok, Err, slice_index}
 use Rattle.ports.specs.Desk.{State}
 use Rattle.desk_io.specs.Reading.{longest_file}
-use Rattle.file_run.specs.Events.{Event, fed, gave}
+use Rattle.desk_io.proofs.SayLemmas.{grows_as}
+use Rattle.file_run.specs.Events.{Event, gave}
 use Rattle.file_run.specs.FileRun.{AreFed, AllShort}
 use Rattle.file_run.specs.Work.{Work, Aloud, Does, Ends, IsRightAtEnd, DoesWork}
 use Rattle.file_run.specs.declared.machine.Step.{Step}
@@ -19,14 +20,14 @@ does_said : {old new : State} {ins : List (List ℕ)} {reach : ℕ → ℕ} {Cam
     (work : (ℕ → List ℕ) → List ℕ → List ℕ → Type 0) (s : StandsSaid old new ins reach Came Holds) (text : List ℕ)
     → s.speaks.text ≡ text → ((files : ℕ → List ℕ) → AreFed (length ins) files s.places s.events → work files s.places text)
     → Does work old new Aloud ins
-does_said {old = old} work s text is f =
+does_said {old = old} {new = new} work s text is f =
     does_of Aloud work s.places s.events text s.speaks.all (record {
       opened = s.speaks.opened;
       all = s.speaks.all;
       names = s.speaks.names;
       files = s.speaks.files;
       created = s.speaks.created;
-      said = s.speaks.said ∙ ap (λ (l : List ℕ). option_map (λ said. said ++ l) old.said) is;
+      said = grows_as old.said new.said s.speaks.text text is s.speaks.said;
     }) s.taken s.present s.inputs f
 
 module _ {A R E : Type 0} (work : Work R E) (old new : State) (ins : List (List ℕ)) (reach : A → ℕ → ℕ) (next : A → Step)
@@ -38,41 +39,57 @@ module _ {A R E : Type 0} (work : Work R E) (old new : State) (ins : List (List 
   come_to_end told result same e =
       let s = e.runs.stands in
       does_said (λ files places bytes. AllShort places × work files result places bytes) s (gave s.events) s.holds
-      (λ files are. (e.runs.short, same files s.places (gave s.events)
-      (subst (IsRightAtEnd work files s.places (gave s.events)) e.told_is
-      (m.ends files s.places s.events now s.speaks.all are s.came e.end))))
+      (λ files are. (
+        e.runs.short,
+        same files s.places (gave s.events)
+            (subst (IsRightAtEnd work files s.places (gave s.events)) e.told_is
+            (m.ends files s.places s.events now s.speaks.all are s.came e.end)),
+      ))
 
   stopped : (why : RunFault) → StopsSpeaking old new ins reach next Came now why → Ends work old new Aloud ins (Err (Files why))
   stopped (TooLong input) g =
-      let s = g.stands in
-      (g.counts, g.place, does_said (λ files places bytes. (slice_index places input ≡ longest_file)
-      × work files (Err (Files (TooLong input))) places bytes) s (gave s.events) s.holds
-      (λ files are. (g.gave, m.too_long files s.places s.events now input s.speaks.all are s.came g.place g.gave g.wants)))
+      let s = g.stands in (
+        g.counts,
+        g.place,
+        does_said (λ files places bytes. (slice_index places input ≡ longest_file)
+            × work files (Err (Files (TooLong input))) places bytes) s (gave s.events) s.holds
+            (λ files are. (g.gave, m.too_long files s.places s.events now input s.speaks.all are s.came g.place g.gave g.wants)),
+      )
   stopped (ReadFault input) (counts, inl o) = (counts, inl o)
   stopped (ReadFault input) (counts, inr g) =
-      let s = g.stands in
-      (counts, inr (g.place, does_said (λ files places bytes. AllShort places × work files (Err (Files (ReadFault input))) places bytes)
-      s (gave s.events) s.holds
-      (λ files are. (g.short, m.unread files s.places s.events now input s.speaks.all are s.came g.place g.wants))))
+      let s = g.stands in (
+        counts,
+        inr (
+          g.place,
+          does_said (λ files places bytes. AllShort places × work files (Err (Files (ReadFault input))) places bytes)
+              s (gave s.events) s.holds
+              (λ files are. (g.short, m.unread files s.places s.events now input s.speaks.all are s.came g.place g.wants)),
+        ),
+      )
   stopped WriteFault (counts, g) =
-      let s = g.stands in
-      (counts, inr (does_said (λ files places bytes. AllShort places × work files (Err (Files WriteFault)) places bytes) s
-      (gave s.events ++ g.front) s.holds
-      (λ files are. (g.short, m.unwritten files s.places s.events now (gave s.events ++ g.front) s.speaks.all are (record {
-        mid = g.mid;
-        gives = g.gives;
-        came = s.came.0;
-        late = g.late;
-        only = g.only;
-        came_late = s.came.1;
-        within = s.within;
-        front = g.front;
-        is = refl;
-        more = g.more;
-        some = g.some;
-        parts = (gave_more s.events g.late g.only).gave ∙ ap (λ (l : List ℕ). gave s.events ++ l) g.parts
-            ∙ sym (append_assoc (gave s.events) g.front g.more);
-      })))))
+      let s = g.stands in (
+        counts,
+        inr (does_said (λ files places bytes. AllShort places × work files (Err (Files WriteFault)) places bytes) s
+            (gave s.events ++ g.front) s.holds
+            (λ files are. (
+              g.short,
+              m.unwritten files s.places s.events now (gave s.events ++ g.front) s.speaks.all are (record {
+                mid = g.mid;
+                gives = g.gives;
+                came = s.came.0;
+                late = g.late;
+                only = g.only;
+                came_late = s.came.1;
+                within = s.within;
+                front = g.front;
+                is = refl;
+                more = g.more;
+                some = g.some;
+                parts = (gave_more s.events g.late g.only).gave ∙ ap (λ (l : List ℕ). gave s.events ++ l) g.parts
+                    ∙ sym (append_assoc (gave s.events) g.front g.more);
+              }),
+            ))),
+      )
 
   pub ends_aloud : (result : Result R (RunStop E)) → SpeaksOnce old new ins reach next Came ending now result
       → Ends work old new Aloud ins result

@@ -1,10 +1,11 @@
 -- What a run does that reads files and says what its machine gives, before the machine is fed on.
 use Rattle.std.specs.Prelude.{◌≡◌, ◌≢◌, ◌⊎◌, ℕ, ◌-◌, ◌<◌, ◌≤◌, List, [], ◌++◌, length, slice_index, slice_index_or}
-use Rattle.std.specs.Prelude.{Result, Ok, Err, IsSome, IfSome, option_map}
+use Rattle.std.specs.Prelude.{Result, Ok, Err, IsSome, IfSome}
 use Rattle.std.specs.FinMap.{get}
 use Rattle.ports.specs.Desk.{State, Held, SameCounts}
 use Rattle.desk_io.specs.Faults.{ReadsFail, WritesFail}
 use Rattle.desk_io.specs.Reading.{longest_file}
+use Rattle.desk_io.specs.Saying.{Grows}
 use Rattle.file_run.specs.Events.{Event, fed, gave, OnlyGave}
 use Rattle.file_run.specs.FileRun.{AreFed, AreTaken, AreNamed, AllShort, HoldsAll, OpensInputs, SameFiles, file_at}
 use Rattle.file_run.specs.Steps.{Needs, FallsShort}
@@ -24,7 +25,7 @@ pub record Speaks (old new : State) (ins : List (List ℕ)) (places : List ℕ) 
   pub files : SameFiles old.held new.held
   pub created : new.created ≡ old.created
   pub text : List ℕ
-  pub said : new.said ≡ option_map (λ said. said ++ text) old.said
+  pub said : Grows old.said new.said text
   pub holds : IfSome old.held (λ h. HoldsText h text)
 
 -- Where such a run stands: what was done to its machine, what was read of each file, and what was said.

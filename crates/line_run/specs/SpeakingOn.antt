@@ -1,10 +1,11 @@
 -- How far a run has come that says what its machine gives before it reads on. No public clause cites this module.
-use Rattle.std.specs.Prelude.{◌≡◌, ◌≢◌, ℕ, ◌+◌, ◌<◌, ◌≤◌, List, [], ◌++◌, length, slice_index_or, option_map}
+use Rattle.std.specs.Prelude.{◌≡◌, ◌≢◌, ℕ, ◌+◌, ◌<◌, ◌≤◌, List, [], ◌++◌, length, slice_index_or}
 use Rattle.std.specs.declared.option.Option.TheVariants.{None, Some}
-use Rattle.ports.specs.Desk.{State, Held, SameCounts, Says}
+use Rattle.ports.specs.Desk.{State, Held, SameCounts}
 use Rattle.desk_io.specs.Reading.{Reading, given_of, longest_file}
+use Rattle.desk_io.specs.Saying.{Grows, SaysBytes}
 use Rattle.file_run.specs.Events.{Event, fed, has_ended, gave, OnlyGave}
-use Rattle.file_run.specs.Running.{Start, places_of, reading_at, Relates, IsWhole, start_of}
+use Rattle.file_run.specs.Running.{Start, places_of, reading_at, Relates, IsWhole, GoesOn, start_of}
 
 -- Events went on, of which each gives, and all that was given was said but for these bytes, which wait still.
 pub record Utters {A : Type 0} (Becomes : A → List Event → A → Type 0) (old new : A) (was is : State) (waiting : List ℕ)
@@ -14,7 +15,7 @@ pub record Utters {A : Type 0} (Becomes : A → List Event → A → Type 0) (ol
   pub becomes : (start : A) (events : List Event) → Becomes start events old → Becomes start (events ++ late) new
   pub front : List ℕ
   pub parts : gave late ≡ front ++ waiting
-  pub says : Says was is front
+  pub says : SaysBytes was is front
 
 -- The same, and some bytes could not be said.
 pub record UttersFront {A : Type 0} (Becomes : A → List Event → A → Type 0) (old new : A) (was is : State) : Type 0 where
@@ -36,7 +37,7 @@ pub record Spoken (b : Start) (now : State) (readings : List Reading) (text : Li
   pub all : length readings ≡ length b.ins
   pub handles : (input : ℕ) → input < length readings → (reading_at readings input).handle ≡ length b.desk.opened + input
   pub created : now.created ≡ b.desk.created
-  pub said : now.said ≡ option_map (λ said. said ++ text) b.desk.said
+  pub said : Grows b.desk.said now.said text
   pub untold : b.desk.held ≡ None → now.held ≡ None
   pub tells : (h : Held) → b.desk.held ≡ Some h → HoldsSame b h now
 
@@ -49,6 +50,7 @@ pub record RunsSaid (b : Start) (now : State) (readings : List Reading) (reach :
   pub ended : (input : ℕ) → input < length readings → (reading_at readings input).ended ≡ has_ended input events
   pub within : (input : ℕ) → input < length readings → given_of (reading_at readings input) ≤ reach input
   pub whole : (input : ℕ) → input < length readings → IsWhole (reading_at readings input)
+  pub goes_on : (input : ℕ) → input < length readings → GoesOn now (reading_at readings input)
   pub relates : (h : Held) → b.desk.held ≡ Some h → Relates b h now readings events
 
 -- There is a run so far, and the machine is where it came to.

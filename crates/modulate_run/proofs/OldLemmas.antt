@@ -68,30 +68,38 @@ module _ (c : Config) (old new : State) (name out : List ℕ) where
       let zero : input ≡ 0 = omega (arith, lt) in
       let most : slice_index d.places 0 ≡ longest_file = ap (slice_index d.places) (sym zero) ∙ d.does.0 in
       let near = d.does.1 in
-      let within = d.within 0 (omega arith) in
-      (zero, record {
-        taken = near.taken;
-        near = near.near;
-        works = subst (λ (n : ℕ). Writes old new name out n (HasWritten c near.taken)) most (writes_of (HasWritten c near.taken) d near.has);
-        long = told_of (λ files. (near.taken ≤ longest_file) × (longest_file ≤ length (files 0))) d
-            (near.within, omega (arith, most, within));
-        counts = counts;
-      })
+      let within = d.within 0 (omega arith) in (
+        zero,
+        record {
+          taken = near.taken;
+          near = near.near;
+          works = subst (λ (n : ℕ). Writes old new name out n (HasWritten c near.taken)) most (writes_of (HasWritten c near.taken) d near.has);
+          long = told_of (λ files. (near.taken ≤ longest_file) × (longest_file ≤ length (files 0))) d
+              (near.within, omega (arith, most, within));
+          counts = counts;
+        },
+      )
   stop_of (Files (ReadFault input)) (counts, inl o) =
       let zero : input ≡ 0 = let f = o.few in omega (arith, f) in
       (zero, counts, inl (subst (OpensInputs old new (name ∷ [])) zero o))
-  stop_of (Files (ReadFault input)) (counts, inr (lt, d)) =
-      (omega (arith, lt), counts, inr (record {
-        place = slice_index d.places 0;
-        short = short_of d;
-        works = writes_of (HasWritten c (slice_index d.places 0)) d d.does.1;
-      }))
+  stop_of (Files (ReadFault input)) (counts, inr (lt, d)) = (
+    omega (arith, lt),
+    counts,
+    inr (record {
+      place = slice_index d.places 0;
+      short = short_of d;
+      works = writes_of (HasWritten c (slice_index d.places 0)) d d.does.1;
+    }),
+  )
   stop_of (Files WriteFault) (counts, inl o) = (counts, inl o)
-  stop_of (Files WriteFault) (counts, inr d) = (counts, inr (record {
-    place = slice_index d.places 0;
-    short = short_of d;
-    works = writes_of (HasSome c (slice_index d.places 0)) d d.does.1;
-  }))
+  stop_of (Files WriteFault) (counts, inr d) = (
+    counts,
+    inr (record {
+      place = slice_index d.places 0;
+      short = short_of d;
+      works = writes_of (HasSome c (slice_index d.places 0)) d d.does.1;
+    }),
+  )
   stop_of OutOfMemory e = e
 
 pub old_forms : (c : Config) (old new : State) (name out : List ℕ) (result : Result Ran (RunStop ModulateStop))

@@ -179,12 +179,15 @@ module _ (law : DueFront) (start now : ModulatorMachine) (files : ℕ → List �
       let few : length (records_of c got) ≡ 0 = sym (ap (λ (x : Ran). x.records) a.ran_is) ∙ eqb-true now.ran.records 0 zero in
       let empty : records_of c got ≡ [] = nil_from_length _ few in
       rw zero (ends, (sym records ∙ empty), sym a.all ∙ ap (flat_map (spelled c)) empty))
-      (λ some. rw some (ends, record {
-        some = λ e. eqb-false now.ran.records 0 some (ap (λ (x : Ran). x.records) a.ran_is ∙ ap length (records ∙ e));
-        early = subst AreEarly records a.early;
-        output = sym a.all ∙ ap (output_of c) whole;
-        ran_is = a.ran_is ∙ ap counted records;
-      }))
+      (λ some. rw some (
+        ends,
+        record {
+          some = λ e. eqb-false now.ran.records 0 some (ap (λ (x : Ran). x.records) a.ran_is ∙ ap length (records ∙ e));
+          early = subst AreEarly records a.early;
+          output = sym a.all ∙ ap (output_of c) whole;
+          ran_is = a.ran_is ∙ ap counted records;
+        },
+      ))
 
   has_written : now.waiting ≡ None → now.ended ≡ false → HasWritten c (length got) (files 0) (gave events)
   has_written none going =

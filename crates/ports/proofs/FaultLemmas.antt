@@ -10,4 +10,4 @@ same_held name (Some h) = (h, refl, refl, refl, λ other apart. refl)
 pub fails : (old new : State) (name : List ℕ) → new ≡ with_write_fault old → FailsToCreate old new name
 fails old new name e =
     subst (λ (s : State). FailsToCreate old s name) (sym e)
-    (record { held = same_held name old.held; said = refl; opened = refl; created = refl })
+    (record { held = same_held name old.held; said = refl; opened = refl; ended = refl; created = refl })

@@ -1,5 +1,5 @@
 -- What the places of handles are, and what a handle has left, after it was read.
-use Rattle.std.proofs.Common.{◌≡◌, ℕ, ◌+◌, ◌-◌, ◌<◌, ◌≤◌, List, [], ◌++◌, length, take, drop, map, set, get_or, Some, refl, ap}
+use Rattle.std.proofs.Common.{◌≡◌, ◌==◌, ℕ, Bool, false, ◌+◌, ◌-◌, ◌<◌, ◌≤◌, List, [], ◌++◌, length, take, drop, map, set, get_or, Some, refl, ap}
 use Rattle.std.proofs.Common.{sym, ◌∙◌, arith, ◌↔◌, string_bytes}
 use Rattle.std.proofs.lemmas.List.{map-set, get_or-map, get_or-set_same, get_or-set_other, take_all, take-append-drop, drop-drop}
 use Rattle.std.proofs.lemmas.List.{length-map, length-drop, length-take-le}
@@ -42,26 +42,32 @@ name_of handle = string_bytes handle.name
 abbrev pub place_of : Handle → ℕ
 place_of handle = handle.place
 
+abbrev pub ended_of : Handle → Bool
+ended_of handle = handle.ended
+
 -- a desk with these files and handles
-abbrev desk : Files → List Handle → List (List ℕ) → List ℕ → ℕ → Counts → State
+abbrev desk : Files → List Handle → List (List ℕ) → List (List ℕ) → ℕ → Counts → State
 desk files handles outs said created counts = record {
   held = Some (record { files = files; names = map name_of handles; outs = outs });
   said = Some said;
   opened = map place_of handles;
+  ended = map ended_of handles;
   created = created;
   counts = counts;
 }
 
 -- a desk after the handle x at a place was read on to y
-pub reads_on : (files : Files) (xs : List Handle) (outs : List (List ℕ)) (said : List ℕ) (created : ℕ) (counts : Counts)
+pub reads_on : (files : Files) (xs : List Handle) (outs said : List (List ℕ)) (created : ℕ) (counts : Counts)
     (at n : ℕ) (x y : Handle) (buffer : List ℕ) →
-    at < length xs → x ≡ get_or xs at x → y.name ≡ x.name → y.place ≡ x.place + n →
+    at < length xs → x ≡ get_or xs at x → y.name ≡ x.name → y.place ≡ x.place + n → y.ended ≡ (n == 0) →
     drop x.place (bytes_of files (name_of x)) ≡ take n buffer ++ drop y.place (bytes_of files (name_of x)) →
     ((n ≡ 0) ↔ (drop x.place (bytes_of files (name_of x)) ≡ [])) →
     Reads (desk files xs outs said created counts) (desk files (set xs at y) outs said created counts) at n buffer
-reads_on files xs outs said created counts at n x y buffer came is name moved next end =
+reads_on files xs outs said created counts at n x y buffer came is name moved over next end =
     let names : map name_of (set xs at y) ≡ map name_of xs = map-set_stayed name_of xs at x y is (ap string_bytes name) in
     let places : map place_of (set xs at y) ≡ set (map place_of xs) at y.place = map-set place_of xs at y in
+    let ended : map ended_of (set xs at y) ≡ set (map ended_of xs) at (n == 0) = map-set ended_of xs at y
+    ∙ ap (set (map ended_of xs) at) over in
     let called : get_or (map name_of xs) at [] ≡ name_of x = get_or-map name_of xs at x [] came ∙ ap name_of (sym is) in
     let before : get_or (map place_of xs) at 0 ≡ x.place = get_or-map place_of xs at x 0 came ∙ ap place_of (sym is) in
     let after : get_or (map place_of (set xs at y)) at 0 ≡ y.place =
@@ -70,9 +76,12 @@ reads_on files xs outs said created counts at n x y buffer came is name moved ne
       held = ap (λ (ns : List (List ℕ)). Some (record { files = files; names = ns; outs = outs })) names;
       said = refl;
       opened = map-set_moved place_of xs at n x y came is moved;
+      ended = ended;
       created = refl;
       next = rw (names, called, before, after) (ap Some next);
       end = rw (called, before) end;
+      runs_out = ap (λ (l : List Bool). get_or l at false) ended
+          ∙ get_or-set_same (map ended_of xs) at (n == 0) false (rw length-map came);
       others = λ other apart.
           let same : get_or (map place_of (set xs at y)) other 0 ≡ get_or (map place_of xs) other 0 =
           ap (λ (ps : List ℕ). get_or ps other 0) places ∙ get_or-set_other (map place_of xs) at other y.place 0 apart in

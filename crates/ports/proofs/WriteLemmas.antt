@@ -101,33 +101,38 @@ writes_join a b c out x y p q = record {
   held = q.held ∙ ap (option_map (with_bytes out y)) p.held ∙ held_twice a.held out x y;
   said = q.said ∙ p.said;
   opened = q.opened ∙ p.opened;
+  ended = q.ended ∙ p.ended;
   created = q.created ∙ p.created;
   behind = q.behind ∙ ap (option_map (λ w. w ++ y)) p.behind ∙ append_twice (written_of a out) x y;
   others = λ handle apart. q.others handle (apart_after a.held b.held handle out x p.held apart) ∙ p.others handle apart;
 }
 
 -- a desk in memory
-abbrev desk : Files → List (List ℕ) → List (List ℕ) → List ℕ → List ℕ → ℕ → Counts → State
-desk files names outs said opened created counts = record {
+abbrev desk : Files → List (List ℕ) → List (List ℕ) → List (List ℕ) → List ℕ → List Bool → ℕ → Counts → State
+desk files names outs said opened ended created counts = record {
   held = Some (record { files = files; names = names; outs = outs });
   said = Some said;
   opened = opened;
+  ended = ended;
   created = created;
   counts = counts;
 }
 
 -- a desk after bytes were put behind those of an out
-pub writes_on : (files new : Files) (names outs : List (List ℕ)) (said opened : List ℕ) (created : ℕ) (counts : Counts) (out : ℕ)
+pub writes_on : (files new : Files) (names outs said : List (List ℕ)) (opened : List ℕ) (ended : List Bool) (created : ℕ)
+    (counts : Counts) (out : ℕ)
     (name bytes : List ℕ)
     → name ≡ slice_index_or outs out [] → new ≡ insert files name (bytes_of files name ++ bytes)
-    → Writes (desk files names outs said opened created counts) (desk new names outs said opened created counts) out bytes
-writes_on files new names outs said opened created counts out name bytes named set =
+    → Writes (desk files names outs said opened ended created counts) (desk new names outs said opened ended created counts)
+    out bytes
+writes_on files new names outs said opened ended created counts out name bytes named set =
     let files_are : new ≡ insert files (slice_index_or outs out []) (bytes_of files (slice_index_or outs out []) ++ bytes) =
     rw (← named) set in
     record {
       held = ap (λ (f : Files). Some (record { files = f; names = names; outs = outs })) files_are;
       said = refl;
       opened = refl;
+      ended = refl;
       created = refl;
       behind = ap (λ (f : Files). Some (bytes_of f (slice_index_or outs out []))) files_are
           ∙ ap (λ (o : Option (List ℕ)). Some (unwrap_or o []))
@@ -144,12 +149,14 @@ last_of [] name = refl
 last_of (out ∷ outs) name = last_of outs name
 
 -- a desk after an empty file was made for one more out
-pub creates_on : (files new : Files) (names outs outs_new : List (List ℕ)) (said opened : List ℕ) (created created_new : ℕ)
+pub creates_on : (files new : Files) (names outs outs_new said : List (List ℕ)) (opened : List ℕ) (ended : List Bool)
+    (created created_new : ℕ)
     (counts : Counts) (out : ℕ) (name : List ℕ)
     → out ≡ created → length outs ≡ created → outs_new ≡ outs ++ name ∷ [] → created_new ≡ created + 1
     → new ≡ insert files name []
-    → Creates (desk files names outs said opened created counts) (desk new names outs_new said opened created_new counts) name out
-creates_on files new names outs outs_new said opened created created_new counts out name is len more one set =
+    → Creates (desk files names outs said opened ended created counts)
+    (desk new names outs_new said opened ended created_new counts) name out
+creates_on files new names outs outs_new said opened ended created created_new counts out name is len more one set =
     let last : slice_index_or (outs ++ name ∷ []) out [] ≡ name = rw (is, ← len) (last_of outs name) in
     record {
       number = is;
@@ -158,6 +165,7 @@ creates_on files new names outs outs_new said opened created created_new counts 
       outs = rw (more, one) (length-append outs (name ∷ []) ∙ ap (λ (k : ℕ). k + 1) len);
       said = refl;
       opened = refl;
+      ended = refl;
       created = one;
       others = λ handle apart. rw set (ap Some (left_beside files names handle (slice_index opened handle) name [] apart));
     }

@@ -1,6 +1,7 @@
 -- What a desk means, and what its calls do.
-use Rattle.std.specs.Prelude.{◌≡◌, ◌≢◌, ◌⊎◌, ◌↔◌, ℕ, ◌+◌, ◌<◌, List, [], ◌∷◌, ◌++◌, length, take, drop, slice_index}
-use Rattle.std.specs.Prelude.{slice_index_or, slice_set, unwrap_or, None, Some, IsSome, IfSome, option_map, option_and_then}
+use Rattle.std.specs.Prelude.{◌≡◌, ◌≢◌, ◌⊎◌, ◌↔◌, ℕ, ◌+◌, ◌<◌, ◌==◌, Bool, false, List, [], ◌∷◌, ◌++◌, length, take, drop}
+use Rattle.std.specs.Prelude.{slice_index, slice_index_or, slice_set, unwrap_or, None, Some, IsSome, IfSome, option_map}
+use Rattle.std.specs.Prelude.{option_and_then}
 use Rattle.std.specs.declared.option.Option.{Option}
 use Rattle.std.specs.Ordering.{nat_cmp}
 use Rattle.std.specs.Cmp.Lexicographic.{slice_cmp}
@@ -18,12 +19,14 @@ pub record Held : Type 0 where
   pub names : List (List ℕ)
   pub outs : List (List ℕ)
 
--- What a desk means: what it holds and what was said, if it tells; the place of each handle for reading in order of opening,
--- and the number of handles for writing; and how often its calls failed, and which first.
+-- What a desk means: what it holds and which texts were said, one for each call, if it tells; the place of each handle for
+-- reading in order of opening, and whether its last read gave no byte, which is the end; the number of handles for writing; and
+-- how often its calls failed, and which first.
 pub record State : Type 0 where
   pub held : Option Held
-  pub said : Option (List ℕ)
+  pub said : Option (List (List ℕ))
   pub opened : List ℕ
+  pub ended : List Bool
   pub created : ℕ
   pub counts : Counts
 
@@ -42,6 +45,10 @@ file_of s name = option_and_then (λ h. get h.files name) s.held
 -- the bytes of a handle's file from its place on, if the desk tells
 abbrev pub left_of : State → ℕ → Option (List ℕ)
 left_of s handle = option_map (λ h. drop (slice_index s.opened handle) (content h handle)) s.held
+
+-- whether a handle was read to its end: then it is not read again
+abbrev pub has_run_out : State → ℕ → Bool
+has_run_out s handle = slice_index_or s.ended handle false
 
 -- the name of a handle for writing
 abbrev pub out_name : Held → ℕ → List ℕ
@@ -64,6 +71,7 @@ pub record Keeps (old new : State) : Type 0 where
   pub held : new.held ≡ old.held
   pub said : new.said ≡ old.said
   pub opened : new.opened ≡ old.opened
+  pub ended : new.ended ≡ old.ended
   pub created : new.created ≡ old.created
 
 -- the same files, and one more handle of this name
@@ -78,19 +86,23 @@ pub record Opens (old new : State) (name : List ℕ) (handle : ℕ) : Type 0 whe
   pub names : IfSome new.held (λ h. length h.names ≡ length new.opened)
   pub said : new.said ≡ old.said
   pub opened : new.opened ≡ old.opened ++ 0 ∷ []
+  pub ended : new.ended ≡ old.ended ++ false ∷ []
   pub created : new.created ≡ old.created
   -- so this handle has the whole file left, and every other one what it had
   pub left : left_of new handle ≡ file_of old name
+  pub fresh : has_run_out new handle ≡ false
   pub others : (other : ℕ) → other < length old.opened → left_of new other ≡ left_of old other
 
--- The first n bytes of the buffer are the next ones of a handle's file, and n is 0 exactly at its end.
+-- The first n bytes of the buffer are the next ones of a handle's file, and n is 0 exactly at its end: then the handle has ended.
 pub record Reads (old new : State) (handle n : ℕ) (buffer : List ℕ) : Type 0 where
   pub held : new.held ≡ old.held
   pub said : new.said ≡ old.said
   pub opened : new.opened ≡ slice_set old.opened handle (slice_index old.opened handle + n)
+  pub ended : new.ended ≡ slice_set old.ended handle (n == 0)
   pub created : new.created ≡ old.created
   pub next : left_of old handle ≡ option_map (λ left. take n buffer ++ left) (left_of new handle)
   pub end : IfSome (left_of old handle) (λ left. (n ≡ 0) ↔ (left ≡ []))
+  pub runs_out : has_run_out new handle ≡ (n == 0)
   -- so every other handle has left what it had
   pub others : (other : ℕ) → other ≢ handle → left_of new other ≡ left_of old other
 
@@ -106,6 +118,7 @@ pub record Creates (old new : State) (name : List ℕ) (out : ℕ) : Type 0 wher
   pub outs : IfSome new.held (λ h. length h.outs ≡ new.created)
   pub said : new.said ≡ old.said
   pub opened : new.opened ≡ old.opened
+  pub ended : new.ended ≡ old.ended
   pub created : new.created ≡ old.created + 1
   -- so a handle for reading from another file has left what it had
   pub others : (handle : ℕ) → IsApart old.held handle name → left_of new handle ≡ left_of old handle
@@ -121,6 +134,7 @@ pub record FailsToCreate (old new : State) (name : List ℕ) : Type 0 where
   pub held : SameButFor name old.held new.held
   pub said : new.said ≡ old.said
   pub opened : new.opened ≡ old.opened
+  pub ended : new.ended ≡ old.ended
   pub created : new.created ≡ old.created
 
 -- with bytes behind those of the file of a handle for writing
@@ -132,17 +146,19 @@ pub record Writes (old new : State) (out : ℕ) (bytes : List ℕ) : Type 0 wher
   pub held : new.held ≡ option_map (with_bytes out bytes) old.held
   pub said : new.said ≡ old.said
   pub opened : new.opened ≡ old.opened
+  pub ended : new.ended ≡ old.ended
   pub created : new.created ≡ old.created
   -- so the file has these bytes at its end, and a handle for reading from another file has left what it had
   pub behind : written_of new out ≡ option_map (λ written. written ++ bytes) (written_of old out)
   pub others : (handle : ℕ) → IfSome old.held (λ h. IsApart old.held handle (out_name h out)) → left_of new handle
       ≡ left_of old handle
 
--- The text was said.
+-- The text was said, by one call.
 pub record Says (old new : State) (text : List ℕ) : Type 0 where
   pub held : new.held ≡ old.held
-  pub said : new.said ≡ option_map (λ said. said ++ text) old.said
+  pub said : new.said ≡ option_map (λ said. said ++ text ∷ []) old.said
   pub opened : new.opened ≡ old.opened
+  pub ended : new.ended ≡ old.ended
   pub created : new.created ≡ old.created
 
 -- The last text was said, or nothing was if that failed.

@@ -5,4 +5,4 @@ use Rattle.ports.specs.Desk.{State}
 
 -- a desk that tells nothing, on which nothing was done
 abbrev pub untold_state : State
-untold_state = record { held = None; said = None; opened = []; created = 0; counts = no_faults }
+untold_state = record { held = None; said = None; opened = []; ended = []; created = 0; counts = no_faults }

@@ -24,6 +24,7 @@ empty_memory = record {
     held = Some (record { files = empty; names = []; outs = [] });
     said = Some [];
     opened = [];
+    ended = [];
     created = 0;
     counts = no_faults;
   };

@@ -1,8 +1,8 @@
 -- How the state of a desk is stored. No public clause cites this module.
-use Rattle.std.specs.Prelude.{◌≡◌, ℕ, zero, suc, List, refl}
+use Rattle.std.specs.Prelude.{◌≡◌, ℕ, zero, suc, Bool, List, refl}
 use Rattle.std.specs.declared.option.Option.{Option}
 use Rattle.std.specs.FinMap.{code}
-use Rattle.std.specs.Coded.{Coded, code_by, coded×, coded_ℕ, coded_list, coded_option}
+use Rattle.std.specs.Coded.{Coded, code_by, coded×, coded_ℕ, coded_list, coded_bool, coded_option}
 use Rattle.ports.specs.declared.counts.Counts.{Counts}
 use Rattle.ports.specs.declared.fault.FaultKind.{FaultKind}
 use Rattle.ports.specs.declared.fault.FaultKind.TheVariants.{Reading, Writing, LastLine}
@@ -45,12 +45,19 @@ counts_code = code_by (ℕ × (ℕ × (ℕ × Option FaultKind)))
 
 -- a state is stored as the tuple of its fields
 abbrev pub state_code : Coded State
-state_code = code_by (Option Held × (Option (List ℕ) × (List ℕ × (ℕ × Counts))))
+state_code = code_by (Option Held × (Option (List (List ℕ)) × (List ℕ × (List Bool × (ℕ × Counts)))))
     (coded× (coded_option held_code)
-    (coded× (coded_option (coded_list coded_ℕ)) (coded× (coded_list coded_ℕ) (coded× coded_ℕ counts_code))))
-    (λ s. (s.held, (s.said, (s.opened, (s.created, s.counts)))))
-    (λ p. record { held = p.0; said = p.1.0; opened = p.1.1.0; created = p.1.1.1.0; counts = p.1.1.1.1 })
-    (λ _. refl)
+    (coded× (coded_option (coded_list (coded_list coded_ℕ)))
+    (coded× (coded_list coded_ℕ) (coded× (coded_list coded_bool) (coded× coded_ℕ counts_code)))))
+    (λ s. (s.held, (s.said, (s.opened, (s.ended, (s.created, s.counts))))))
+    (λ p. record {
+      held = p.0;
+      said = p.1.0;
+      opened = p.1.1.0;
+      ended = p.1.1.1.0;
+      created = p.1.1.1.1.0;
+      counts = p.1.1.1.1.1;
+    }) (λ _. refl)
 
 abbrev six_calls : Type 0
 six_calls = KindCalls × (KindCalls × (KindCalls × (KindCalls × (KindCalls × KindCalls))))

@@ -1,7 +1,7 @@
 // The outside of a command.
-ghost use Rattle.std.specs.Prelude.{◌≡◌, ◌<◌, ◌≤◌, length, take, IfOk, OnOk, OnErr};
+ghost use Rattle.std.specs.Prelude.{◌≡◌, ◌<◌, ◌≤◌, false, length, take, IfOk, OnOk, OnErr};
 ghost use Rattle.ports.specs.Counts.{MayFailReading, MayFailWriting, MayFailAtLast};
-ghost use Rattle.ports.specs.Desk.{State, Keeps, Opens, Creates, FailsToCreate, Reads, Writes, Says, SaysLast};
+ghost use Rattle.ports.specs.Desk.{State, Keeps, Opens, Creates, FailsToCreate, Reads, Writes, Says, SaysLast, has_run_out};
 
 use crate::{DeskFault, Note};
 
@@ -10,8 +10,8 @@ use crate::{DeskFault, Note};
 /// After a fault all is as before but the count of its kind, and the kind of the first fault if there was none before, of which
 /// `Counts` tells. Of a file that could not be created nothing is known then. A call that is Ok changes neither.
 pub trait Desk {
-    /// What the desk holds and what was said, if it tells; the place of each handle for reading, and the number of
-    /// those for writing; its counts of faults.
+    /// What the desk holds and which texts were said, if it tells; the place of each handle for reading and whether it
+    /// ended, and the number of those for writing; its counts of faults.
     ghost state: { Self → State };
 
     /// Opens a file and gives a handle at its first byte. An absent name is a fault.
@@ -21,9 +21,11 @@ pub trait Desk {
         ensures counts { MayFailReading (state self.old).counts (state self.new).counts result };
 
     /// Reads the next bytes of a file into the front of the buffer. Answers how many, at most as
-    /// many as the buffer has room for, and 0 exactly at the end of the file.
+    /// many as the buffer has room for, and 0 exactly at the end of the file. Behind its end it is
+    /// not read again: a terminal gives one end after another, and a pipe that grows gives more.
     fn read(&mut self, handle: u32, buffer: &mut [u8]) -> Result<usize, DeskFault>
         requires opened { handle < length (state self.old).opened }
+        requires going { has_run_out (state self.old) handle ≡ false }
         requires room { 0 < length buffer.old }
         ensures count { IfOk result (λ n. n ≤ length buffer.new) }
         ensures ok { IfOk result (λ n. Reads (state self.old) (state self.new) handle n buffer.new) }
@@ -45,7 +47,7 @@ pub trait Desk {
         ensures err { OnErr result (Keeps (state self.old) (state self.new)) }
         ensures counts { MayFailWriting (state self.old).counts (state self.new).counts result };
 
-    /// Appends a text to standard output.
+    /// Appends a text to standard output, by one call.
     fn say(&mut self, text: &[u8]) -> Result<(), DeskFault>
         ensures ok { OnOk result (Says (state self.old) (state self.new) text.now) }
         ensures err { OnErr result (Keeps (state self.old) (state self.new)) }

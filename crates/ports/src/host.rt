@@ -1,5 +1,5 @@
 // A desk over real files and standard output.
-ghost use Rattle.std.specs.Prelude.{◌≡◌, ◌⊎◌, ◌<◌, ◌≤◌, ◌+◌, ◌^◌, length, IfOk, OnOk, OnErr, IsErr, IsSome};
+ghost use Rattle.std.specs.Prelude.{◌≡◌, ◌⊎◌, ◌<◌, ◌≤◌, ◌+◌, ◌^◌, ◌==◌, false, length, IfOk, OnOk, OnErr, IsErr, IsSome};
 ghost use Rattle.ports.specs.Counts.{with_fault};
 
 use crate::fault::fault;
@@ -20,13 +20,15 @@ struct Node {
     number: u64,
 }
 
-/// A file that was opened or created, under a name if there was memory for it, and how many of its bytes were read.
+/// A file that was opened or created, under a name if there was memory for it; how many of its bytes were read, and whether the
+/// last read gave none.
 #[derive(Drop)]
 struct Handle<F> {
     file: F,
     name: Option<String>,
     node: Option<Node>,
     place: u64,
+    ended: bool,
 }
 
 /// A desk over real files and standard output. It tells nothing of what they hold.
@@ -58,6 +60,7 @@ impl<R: Files + Print + Drop> Model for HostDesk<R> {
       held = None;
       said = None;
       opened = map (λ handle. handle.place) d.handles.items;
+      ended = map (λ handle. handle.ended) d.handles.items;
       created = vec_len d.outs;
       counts = d.counts;
     } };
@@ -150,8 +153,8 @@ impl<F: Read> Handle<F> {
     // Reads on from its place.
     fn read(&mut self, buffer: &mut [u8]) -> Result<usize, Reason>
         ensures count { IfOk result (λ n. n ≤ length buffer.new) }
-        ensures ok { IfOk result (λ n. self.new.place ≡ self.old.place + n) }
-        ensures err { OnErr result (self.new.place ≡ self.old.place) }
+        ensures ok { IfOk result (λ n. (self.new.place ≡ self.old.place + n) × (self.new.ended ≡ (n == 0))) }
+        ensures err { OnErr result ((self.new.place ≡ self.old.place) × (self.new.ended ≡ self.old.ended)) }
     {
         let count = match read_again(&mut self.file, buffer) {
             Ok(count) => count,
@@ -161,6 +164,7 @@ impl<F: Read> Handle<F> {
             Some(place) => self.place = place,
             None => return Err(Reason::from(ErrorKind::FileTooLarge)),
         }
+        self.ended = count == 0;
         Ok(count)
     }
 }
@@ -230,6 +234,7 @@ impl<R: Files + Print + Drop> HostDesk<R> {
             name: self.name(name),
             file,
             place: 0,
+            ended: false,
         };
         match self.handles.push(handle) {
             Ok(()) => Ok(number),
@@ -276,6 +281,7 @@ impl<R: Files + Print + Drop> HostDesk<R> {
             name: self.name(name),
             file,
             place: 0,
+            ended: false,
         };
         match self.outs.push(out) {
             Ok(()) => Ok(number),
@@ -287,7 +293,7 @@ impl<R: Files + Print + Drop> HostDesk<R> {
 impl<R: Files + Print + Drop> Desk for HostDesk<R> {
     ghost use Rattle.std.specs.Prelude.{take};
     ghost use Rattle.ports.specs.Counts.{MayFailReading, MayFailWriting, MayFailAtLast};
-    ghost use Rattle.ports.specs.Desk.{SameCounts, Opens, Creates, FailsToCreate, Reads, Writes, Says};
+    ghost use Rattle.ports.specs.Desk.{SameCounts, Opens, Creates, FailsToCreate, Reads, Writes, Says, has_run_out};
     ghost use Rattle.ports.specs.Faults.{with_read_fault, with_write_fault, with_line_fault};
 
     ghost state = { λ d. d };
@@ -310,6 +316,7 @@ impl<R: Files + Print + Drop> Desk for HostDesk<R> {
 
     fn read(&mut self, handle: u32, buffer: &mut [u8]) -> Result<usize, DeskFault>
         requires opened { handle < length self.old.opened }
+        requires going { has_run_out self.old handle ≡ false }
         requires room { 0 < length buffer.old }
         ensures count { IfOk result (λ n. n ≤ length buffer.new) }
         ensures ok { IfOk result (λ n. Reads self.old self.new handle n buffer.new) }
@@ -390,6 +397,3 @@ impl<R: Files + Print + Drop> Desk for HostDesk<R> {
         ensures { self.new ≡ self.old }
     {}
 }
-
-#[cfg(test)]
-mod tests;

@@ -1,7 +1,8 @@
 // A desk in memory.
-ghost use Rattle.std.specs.Prelude.{◌≡◌, ◌⊎◌, min, option_map, ◌<◌, ◌≤◌, ◌+◌, ◌-◌, ◌^◌, ◌++◌, ◌∷◌, ◌↔◌, [], length, map, vec_len};
+ghost use Rattle.std.specs.Prelude.{◌≡◌, ◌⊎◌, min, option_map, ◌==◌, ◌<◌, ◌≤◌, ◌+◌, ◌-◌, ◌^◌, ◌++◌, ◌∷◌, ◌↔◌, [], length, map, vec_len};
 ghost use Rattle.std.specs.Prelude.{vec_capacity, take, drop, true, false, option_copied, IfSome, OnOk, OnErr, string_bytes};
 ghost use Rattle.std.specs.FinMap.{get, insert};
+ghost use Rattle.std.specs.List.{concat};
 ghost use Rattle.ports.specs.Desk.{bytes_of};
 ghost use Rattle.ports.specs.MemoryDesk.{given_by};
 ghost use Rattle.ports.specs.Stored.{files_of};
@@ -14,14 +15,15 @@ use std::alloc::Global;
 use std::collections::BTreeMap;
 use std::marker::Model;
 
-/// A file that was opened, and the place up to which it was read.
+/// A file that was opened, the place up to which it was read, and whether the last read gave no byte.
 #[derive(Drop)]
 struct Handle {
     name: String,
     place: u64,
+    ended: bool,
 }
 
-/// A desk in memory. It tells all that it holds and all that was said.
+/// A desk in memory. It tells all that it holds and each text that was said.
 #[derive(Drop)]
 pub struct MemoryDesk {
     alloc: Global,
@@ -29,6 +31,8 @@ pub struct MemoryDesk {
     handles: Vec<Handle>,
     // The names of the files that are written.
     outs: Vec<String>,
+    texts: Vec<Vec<u8>>,
+    // The texts, joined.
     said: Vec<u8>,
     // How many bytes a read or a write moves at most.
     cap: usize,
@@ -37,7 +41,8 @@ pub struct MemoryDesk {
 }
 
 impl Model for MemoryDesk {
-    ghost use Rattle.std.specs.Prelude.{◌<◌, Some, map, string_bytes, vec_len};
+    ghost use Rattle.std.specs.Prelude.{◌≡◌, ◌<◌, Some, map, string_bytes, vec_len};
+    ghost use Rattle.std.specs.List.{concat};
     ghost use Rattle.ports.specs.MemoryDesk.{Memory};
     ghost use Rattle.ports.specs.StateCode.{memory_code};
     ghost use Rattle.ports.specs.Stored.{files_of};
@@ -53,8 +58,9 @@ impl Model for MemoryDesk {
           names = map (λ handle. string_bytes handle.name) m.handles.items;
           outs = map (λ name. string_bytes name) m.outs.items;
         });
-        said = Some m.said.items;
+        said = Some (map (λ text. text.items) m.texts.items);
         opened = map (λ handle. handle.place) m.handles.items;
+        ended = map (λ handle. handle.ended) m.handles.items;
         created = vec_len m.outs;
         counts = m.counts;
       };
@@ -62,7 +68,7 @@ impl Model for MemoryDesk {
       script = m.script;
     } };
 
-    ghost invariant = { λ m. 0 < m.cap };
+    ghost invariant = { λ m. (0 < m.cap) × (concat (map (λ text. text.items) m.texts.items) ≡ m.said.items) };
 }
 
 // Copies what stands from a place on, as much as there is room for, but at most so many bytes.
@@ -150,6 +156,34 @@ fn append(files: &mut BTreeMap<String, Vec<u8>>, name: &str, piece: &[u8]) -> bo
     }
 }
 
+// Adds a text, for which there is room.
+fn push_text(texts: &mut Vec<Vec<u8>>, text: Vec<u8>)
+    requires { vec_len texts.old < vec_capacity texts.old }
+    ensures { map (λ text. text.items) texts.new.items ≡ map (λ text. text.items) texts.old.items ++ text.items ∷ [] }
+{
+    texts.push(text).unwrap();
+}
+
+// Adds a text to those that were said, if memory is found.
+fn add_text(
+    alloc: Global,
+    texts: &mut Vec<Vec<u8>>,
+    said: &mut Vec<u8>,
+    text: &[u8],
+) -> Result<(), OutOfMemory>
+    requires { concat (map (λ text. text.items) texts.old.items) ≡ said.old.items }
+    ensures ok { OnOk result
+        (map (λ text. text.items) texts.new.items ≡ map (λ text. text.items) texts.old.items ++ text.now ∷ []) }
+    ensures err { OnErr result (map (λ text. text.items) texts.new.items ≡ map (λ text. text.items) texts.old.items) }
+    ensures joined { concat (map (λ text. text.items) texts.new.items) ≡ said.new.items }
+{
+    let own = Vec::from_slice(alloc, text)?;
+    texts.reserve(1)?;
+    said.extend_from_slice(text)?;
+    push_text(texts, own);
+    Ok(())
+}
+
 impl Handle {
     // Reads on from its place, as much as there is room for, but at most so many bytes.
     fn read(&mut self, files: &BTreeMap<String, Vec<u8>>, buffer: &mut [u8], most: usize) -> usize
@@ -157,6 +191,7 @@ impl Handle {
         requires most { 0 < most }
         ensures name { self.new.name ≡ self.old.name }
         ensures place { self.new.place ≡ self.old.place + result }
+        ensures ended { self.new.ended ≡ (result == 0) }
         ensures count { result ≤ length buffer.new }
         ensures few { result ≤ most }
         ensures next { let file = bytes_of (files_of files.now) (string_bytes self.old.name) in
@@ -167,6 +202,7 @@ impl Handle {
         let bytes = find(files, self.name.as_str()).unwrap_or(&[]);
         let count = copy_next(bytes, self.place, buffer, most);
         self.place += count as u64;
+        self.ended = count == 0;
         count
     }
 }
@@ -187,7 +223,7 @@ fn given_by(handles: &[Handle], name: &str) -> u64
 
 impl MemoryDesk {
     ghost use Rattle.std.specs.Prelude.{Some, IsSome, IsNone, IfNone};
-    ghost use Rattle.ports.specs.Desk.{SameCounts, Opens, Creates, file_of};
+    ghost use Rattle.ports.specs.Desk.{SameCounts, Opens, Creates, Says, file_of};
     ghost use Rattle.ports.specs.MemoryDesk.{empty_memory, given_of, with_failing, with_file};
 
     /// A desk with no file, on which nothing was done.
@@ -199,6 +235,7 @@ impl MemoryDesk {
             files: BTreeMap::new(alloc),
             handles: Vec::new(alloc),
             outs: Vec::new(alloc),
+            texts: Vec::new(alloc),
             said: Vec::new(alloc),
             cap: usize::MAX,
             script: Script::new(alloc),
@@ -248,11 +285,28 @@ impl MemoryDesk {
         find(&self.files, name)
     }
 
-    /// What was said.
+    /// The texts that were said, one for each call.
+    pub fn texts(&self) -> &[Vec<u8>]
+        ensures { self.now.state.said ≡ Some (map (λ text. text.items) result.now) }
+    {
+        &self.texts
+    }
+
+    /// What was said, however many calls it took.
     pub fn said(&self) -> &[u8]
-        ensures { self.now.state.said ≡ Some result.now }
+        ensures { option_map concat self.now.state.said ≡ Some result.now }
     {
         &self.said
+    }
+
+    // Says a text, if memory is found.
+    fn add(&mut self, text: &[u8]) -> Result<(), OutOfMemory>
+        ensures ok { OnOk result (Says self.old.state self.new.state text.now) }
+        ensures err { OnErr result (self.new ≡ self.old) }
+        ensures counts { SameCounts self.old.state self.new.state }
+        ensures rest { self.new ≡ record self.old { state = self.new.state } }
+    {
+        add_text(self.alloc, &mut self.texts, &mut self.said, text)
     }
 
     // Opens a file as the next handle, if it can.
@@ -269,7 +323,13 @@ impl MemoryDesk {
             return None;
         }
         let name = String::from_str(self.alloc, name).ok()?;
-        self.handles.push(Handle { name, place: 0 }).ok()?;
+        self.handles
+            .push(Handle {
+                name,
+                place: 0,
+                ended: false,
+            })
+            .ok()?;
         Some(at as u32)
     }
 
@@ -298,7 +358,7 @@ impl MemoryDesk {
 /// A call that was listed to fail is a fault, which does nothing but count.
 impl Desk for MemoryDesk {
     ghost use Rattle.std.specs.Prelude.{IsNone, IsErr, IfOk, OnOk, OnErr};
-    ghost use Rattle.ports.specs.Desk.{SameCounts, Opens, Creates, FailsToCreate, Reads, Writes, Says, file_of};
+    ghost use Rattle.ports.specs.Desk.{SameCounts, Opens, Creates, FailsToCreate, Reads, Writes, Says, file_of, has_run_out};
     ghost use Rattle.ports.specs.Counts.{MayFailReading, MayFailWriting, MayFailAtLast};
     ghost use Rattle.ports.specs.MemoryDesk.{Gives, after_call, fails_reading, fails_writing, fails_at_last};
     ghost use Rattle.ports.specs.Script.{Strikes};
@@ -326,6 +386,7 @@ impl Desk for MemoryDesk {
     /// A fault exactly if it was listed.
     fn read(&mut self, handle: u32, buffer: &mut [u8]) -> Result<usize, DeskFault>
         requires opened { handle < length self.old.state.opened }
+        requires going { has_run_out self.old.state handle ≡ false }
         requires room { 0 < length buffer.old }
         ensures count { IfOk result (λ n. n ≤ length buffer.new) }
         ensures moved { IfOk result (λ n. n ≤ self.old.cap) }
@@ -391,7 +452,7 @@ impl Desk for MemoryDesk {
         ensures counts { MayFailWriting self.old.state.counts self.new.state.counts result }
         ensures rest { self.new ≡ record (after_call CallKind.Say self.old) { state = self.new.state } }
     {
-        if self.script.strikes(CallKind::Say) || self.said.extend_from_slice(text).is_err() {
+        if self.script.strikes(CallKind::Say) || self.add(text).is_err() {
             return Err(fault(&mut self.counts, FaultKind::Writing));
         }
         Ok(())
@@ -405,7 +466,7 @@ impl Desk for MemoryDesk {
         ensures counts { MayFailAtLast self.old.state.counts self.new.state.counts }
         ensures rest { self.new ≡ record (after_call CallKind.Last self.old) { state = self.new.state } }
     {
-        if self.script.strikes(CallKind::Last) || self.said.extend_from_slice(text).is_err() {
+        if self.script.strikes(CallKind::Last) || self.add(text).is_err() {
             fault(&mut self.counts, FaultKind::LastLine);
         }
     }
@@ -415,6 +476,3 @@ impl Desk for MemoryDesk {
         ensures { self.new ≡ self.old }
     {}
 }
-
-#[cfg(test)]
-mod tests;

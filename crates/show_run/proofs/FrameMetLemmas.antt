@@ -3,7 +3,7 @@ use Rattle.std.proofs.Common.{◌≡◌, ℕ, zero, suc, ◌+◌, ◌-◌, ◌<�
 use Rattle.std.proofs.Common.{sym, subst, ◌∙◌, inl, inr, arith, append-nil, length-append}
 use Rattle.std.specs.Prelude.{codes, ◌⊎◌, Ok, Err}
 use Rattle.desk_io.specs.declared.input.TheConstants.{BUFFER}
-use Rattle.desk_io.specs.declared.page.TheConstants.{PAGE}
+use Rattle.file_run.specs.Telling.{most_waiting}
 use Rattle.file_run.specs.Events.{Event, fed, has_ended, gave}
 use Rattle.file_run.specs.FileRun.{IsFed}
 use Rattle.file_run.specs.Telling.{StartsWith}
@@ -98,7 +98,7 @@ all_met takes within file m events place count none some near s starts is = (
 pub part_met : TakesOn → LacksWithin → (file : List ℕ) (m : FrameLines) (events : List Event) (place count : ℕ)
     (text unsaid : List ℕ) → m.line ≡ [] → 0 < lacks_of m.feed → count + 1 ≤ lacks_of m.feed → (s : Shown m events)
     → StartsWith file (fed 0 events) (has_ended 0 events) → length (fed 0 events) + count ≡ place → gave events ≡ text ++ unsaid
-    → length unsaid ≤ PAGE → LacksFewRecords file place text
+    → length unsaid ≤ most_waiting → LacksFewRecords file place text unsaid
 part_met takes within file m events place count text unsaid none some near s starts is parts few =
     let behind = read_behind file m events place count s starts is in
     let more : place - bytes_before file (s.feed.rest ++ starts.0) + 1 ≡ length s.feed.rest + (count + 1) = omega
@@ -108,7 +108,8 @@ part_met takes within file m events place count text unsaid none some near s sta
       records_file file (fed 0 events) starts.0 s.feed.rest (s.told ++ s.next) starts.1 s.feed.records,
       subst (λ (k : ℕ). EndsWithin (s.feed.rest ++ starts.0) k) (sym more) (ends_within takes within m events starts.0
           (count + 1) some near s),
-      (unsaid, sym (all_told m events s none (unfinished m.feed some)) ∙ parts, few),
+      sym (all_told m events s none (unfinished m.feed some)) ∙ parts,
+      few,
     )
 
 pub all_first : (file : List ℕ) (m : FrameLines) (events : List Event) → m.line ≡ [] → 0 < lacks_of m.feed
@@ -143,7 +144,7 @@ ended_all told next line text none (some, inr given) = (some, given.1)
 pub finished_text : (file : List ℕ) (place : ℕ) (m : FrameLines) (events : List Event) (early : List ℕ) → m.line ≡ []
     → coming_of m.feed ≡ Finished → (s : Shown m events) → IsFed file place (fed 0 events) (has_ended 0 events)
     → gave events ≡ early
-    → IsRecordText file place (Ok (count_of m.feed)) early
+    → IsRecordText file place (Ok (count_of m.feed)) early []
 finished_text file place m events early none done s f text =
     let behind = behind_at m events Finished done s in
     let all =
@@ -167,7 +168,7 @@ pub refused_text : (file : List ℕ) (place : ℕ) (m : FrameLines) (events : Li
     → m.line ≡ []
     → coming_of m.feed ≡ Refused why → (s : Shown m events) → IsFed file place (fed 0 events) (has_ended 0 events)
     → gave events ≡ early
-    → IsRecordText file place (Err (run.Refused (stop.RecordRefused (count_of m.feed) why))) early
+    → IsRecordText file place (Err (run.Refused (stop.RecordRefused (count_of m.feed) why))) early []
 refused_text file place m events early why none refused s f text =
     let behind = behind_at m events (Refused why) refused s in (
       s.told ++ s.next,
@@ -183,7 +184,7 @@ refused_text file place m events early why none refused s f text =
 pub room_text : (file : List ℕ) (place : ℕ) (m : FrameLines) (events : List Event) (early : List ℕ) → m.line ≡ []
     → coming_of m.feed ≡ NoRoom
     → (s : Shown m events) → IsFed file place (fed 0 events) (has_ended 0 events) → gave events ≡ early
-    → IsRecordText file place (Err (run.Refused stop.NoRoom)) early
+    → IsRecordText file place (Err (run.Refused stop.NoRoom)) early []
 room_text file place m events early none lacks s f text =
     let behind = behind_at m events NoRoom lacks s in (
       s.told ++ s.next,

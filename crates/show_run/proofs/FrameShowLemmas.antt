@@ -4,9 +4,10 @@ use Rattle.std.proofs.Common.{append-nil, length-append}
 use Rattle.std.specs.Prelude.{◌⊎◌, IfSome, Result, Err}
 use Rattle.std.proofs.lemmas.List.{nil_from_length}
 use Rattle.std.proofs.lemmas.Option.{IfSome_then}
-use Rattle.terms.proofs.OptionLemmas.{if_any, if_both, append-none}
+use Rattle.terms.proofs.OptionLemmas.{if_any, if_both}
 use Rattle.ports.specs.Desk.{State, Held, bytes_of}
 use Rattle.desk_io.specs.Reading.{longest_file}
+use Rattle.desk_io.proofs.SayLemmas.{grows_same}
 use Rattle.file_run.specs.Events.{Event, fed, has_ended, gave}
 use Rattle.file_run.specs.FileRun.{IsFed}
 use Rattle.file_run.specs.Telling.{StartsWith, Tells, TellsAll}
@@ -67,6 +68,8 @@ frames_end start now old new name t = go (coming_of now.feed) refl
     go (Refused why) is = record {
       given = t.place;
       text = gave x.early;
+      unsaid = [];
+      due = inl refl;
       reads = (x.opened, t.short);
       grew = x.said;
       lines = IfSome_then old.held x.inputs (λ held f. refused_text (bytes_of held.files name) t.place now x.events
@@ -76,6 +79,8 @@ frames_end start now old new name t = go (coming_of now.feed) refl
     go NoRoom is = record {
       given = t.place;
       text = gave x.early;
+      unsaid = [];
+      due = inl refl;
       reads = (x.opened, t.short);
       grew = x.said;
       lines = IfSome_then old.held x.inputs
@@ -85,6 +90,8 @@ frames_end start now old new name t = go (coming_of now.feed) refl
     go Finished is = record {
       given = t.place;
       text = gave x.early;
+      unsaid = [];
+      due = inl refl;
       reads = (x.opened, t.short);
       grew = x.said;
       lines = IfSome_then old.held x.inputs (λ held f. finished_text (bytes_of held.files name) t.place now x.events
@@ -177,8 +184,10 @@ frames_none : (old new : State) (name : List ℕ) → new ≡ old → shows old 
 frames_none old new name s = record {
   given = 0;
   text = [];
+  unsaid = [];
+  due = inl refl;
   reads = s;
-  grew = ap (λ (x : State). x.said) s ∙ append-none old.said;
+  grew = grows_same old.said new.said (ap (λ (x : State). x.said) s);
   lines = if_any old.held _ (λ held. refl);
   counts = ap (λ (x : State). x.counts) s;
 }
@@ -195,6 +204,8 @@ frames_stop one never takes within start now old new name (run.Files (TooLong in
     record {
       given = longest_file;
       text = gave x.early;
+      unsaid = [];
+      due = inl refl;
       reads = (s.0, x.opened, refl);
       grew = x.said;
       lines = IfSome_then old.held x.inputs (λ held f.
@@ -212,11 +223,13 @@ frames_stop one never takes within start now old new name (run.Files (ReadFault 
   | inl closed ↦ record {
     given = 0;
     text = [];
+    unsaid = [];
+    due = inl refl;
     reads = (s.0, inl (closed.1, refl));
-    grew = closed.1.said ∙ append-none old.said;
+    grew = grows_same old.said new.said closed.1.said;
     lines = if_any old.held _
         (λ held. (
-          ([], bytes_of held.files name, refl, inl (omega arith), ([], refl, omega arith)),
+          ([], bytes_of held.files name, refl, inl (omega arith), refl, omega arith),
           none_first (bytes_of held.files name),
         ));
     counts = closed_counted old new closed.0;
@@ -230,6 +243,8 @@ frames_stop one never takes within start now old new name (run.Files (ReadFault 
       record {
         given = t.place;
         text = gave x.early;
+        unsaid = t.unsaid;
+        due = elim t.all [ inl all ↦ inl all.0 | inr lost ↦ inr lost.1 ];
         reads = (s.0, inr (x.opened, t.short));
         grew = x.said;
         lines = if_both old.held _ _ _ (λ held f first. (
@@ -248,6 +263,8 @@ frames_stop one never takes within start now old new name (run.Files WriteFault)
     record {
       given = s.1.0;
       text = gave x.early;
+      unsaid = [];
+      due = inl refl;
       reads = (x.opened, s.1.4);
       grew = x.said;
       lines = some_left one never start now old new name s.1.0 s.1.1 x s.1.3;

@@ -8,7 +8,7 @@ use Rattle.ports.specs.Desk.{State}
 use Rattle.desk_io.specs.Faults.{ReadsFail}
 use Rattle.desk_io.specs.Opening.{Opened, Unopened}
 use Rattle.t2mi_packet.specs.declared.fault.PacketWhy.{PacketWhy}
-use Rattle.desk_io.specs.declared.page.TheConstants.{PAGE}
+use Rattle.file_run.specs.Telling.{most_waiting}
 use Rattle.file_run.specs.Events.{Event, fed, has_ended, gave}
 use Rattle.file_run.specs.FileRun.{IsFed}
 use Rattle.file_run.specs.Steps.{Needs, FallsShort}
@@ -132,17 +132,19 @@ all_met file m events place none reads s starts ahead near =
 -- of the lines of these packets the first were said
 pub some_met : (file : List ℕ) (m : PacketLines) (events : List Event) (place : ℕ) (text unsaid : List ℕ) → m.line ≡ []
     → m.phase ≡ Reads → (s : Shown m events) → StartsWith file (fed 0 events) (has_ended 0 events)
-    → place ≡ length (fed 0 events) → gave events ≡ text ++ unsaid → length unsaid ≤ PAGE → LacksFew file place text
+    → place ≡ length (fed 0 events) → gave events ≡ text ++ unsaid → length unsaid ≤ most_waiting
+    → LacksFew file place text unsaid
 unfolding met_of
 some_met file m events place text unsaid none reads s starts is parts few =
-    (met_of file m events reads s starts, is, (unsaid, sym (quiet m events none reads s) ∙ parts, few))
+    (met_of file m events reads s starts, is, sym (quiet m events none reads s) ∙ parts, few)
 
 -- nothing was met
-pub none_met : (file : List ℕ) → LacksFew file 0 []
+pub none_met : (file : List ℕ) → LacksFew file 0 [] []
 none_met file = (
   record { front = []; more = file; parts = refl; packets = []; behind = []; packs = refl; short = inl (omega arith) },
   refl,
-  ([], refl, omega arith),
+  refl,
+  omega arith,
 )
 
 pub all_first : (file : List ℕ) (m : PacketLines) (events : List Event) → m.line ≡ [] → m.phase ≡ Reads → (s : Shown m events)
@@ -175,7 +177,7 @@ ended_all told next line text none (some, inr given) = (some, given.1)
 
 pub finished_text : (file : List ℕ) (place : ℕ) (m : PacketLines) (events : List Event) (early : List ℕ) → m.line ≡ []
     → m.phase ≡ Finished → (s : Shown m events) → IsFed file place (fed 0 events) (has_ended 0 events) → gave events ≡ early
-    → IsPacketText file place (Ok m.count) early
+    → IsPacketText file place (Ok m.count) early []
 finished_text file place m events early none done s f text =
     let behind = subst (λ (p : Phase). Behind p m.bytes.items s.rest (has_ended 0 events)) done s.behind in
     let all =
@@ -205,7 +207,7 @@ refused_on front more why ended (inr whole) end r = refused_whole front more why
 pub refused_text : (file : List ℕ) (place : ℕ) (m : PacketLines) (events : List Event) (early : List ℕ)
     (why : PacketWhy) → m.line ≡ [] → m.phase ≡ Refused why → (s : Shown m events)
     → IsFed file place (fed 0 events) (has_ended 0 events)
-    → gave events ≡ early → IsPacketText file place (Err (run.Refused (PacketRefused (m.at - length m.bytes.items) why))) early
+    → gave events ≡ early → IsPacketText file place (Err (run.Refused (PacketRefused (m.at - length m.bytes.items) why))) early []
 refused_text file place m events early why none refused s f text =
     let behind = subst (λ (p : Phase). Behind p m.bytes.items s.rest (has_ended 0 events)) refused s.behind in
     let size = file_len (fed 0 events) s.rest (s.told ++ s.next) s.packs in

@@ -4,9 +4,10 @@ use Rattle.std.proofs.Common.{append-nil, length-append}
 use Rattle.std.specs.Prelude.{◌⊎◌, IfSome, Result, Err}
 use Rattle.std.proofs.lemmas.List.{nil_from_length}
 use Rattle.std.proofs.lemmas.Option.{IfSome_then}
-use Rattle.terms.proofs.OptionLemmas.{if_any, if_both, append-none}
+use Rattle.terms.proofs.OptionLemmas.{if_any, if_both}
 use Rattle.ports.specs.Desk.{State, Held, bytes_of}
 use Rattle.desk_io.specs.Reading.{longest_file}
+use Rattle.desk_io.proofs.SayLemmas.{grows_same}
 use Rattle.desk_io.specs.declared.input.TheConstants.{BUFFER}
 use Rattle.t2mi_packet.specs.Laws.{OnePacket, NoRefusal, PacketLength}
 use Rattle.t2mi_packet.specs.declared.fault.PacketWhy.{PacketWhy}
@@ -58,6 +59,8 @@ shows_end start now old new name t = go now.phase refl
     go (Refused why) is = record {
       given = t.place;
       text = gave x.early;
+      unsaid = [];
+      due = inl refl;
       reads = (x.opened, t.short);
       grew = x.said;
       lines = IfSome_then old.held x.inputs (λ held f. refused_text (bytes_of held.files name) t.place now x.events
@@ -67,6 +70,8 @@ shows_end start now old new name t = go now.phase refl
     go Finished is = record {
       given = t.place;
       text = gave x.early;
+      unsaid = [];
+      due = inl refl;
       reads = (x.opened, t.short);
       grew = x.said;
       lines = IfSome_then old.held x.inputs (λ held f. finished_text (bytes_of held.files name) t.place now x.events
@@ -152,14 +157,16 @@ some_left one none sizes start now old new name place unsaid x some =
     )) x.inputs (some_said start now old new name place unsaid x (λ all. absurd (some all)))
 
 -- nothing was done
-pub shows_none : (IsText : List ℕ → ℕ → Result ℕ (RunStop ShowStop) → List ℕ → Type 0)
-    → ((file : List ℕ) → IsText file 0 (Err run.OutOfMemory) []) → (old new : State) (name : List ℕ) → new ≡ old
+pub shows_none : (IsText : List ℕ → ℕ → Result ℕ (RunStop ShowStop) → List ℕ → List ℕ → Type 0)
+    → ((file : List ℕ) → IsText file 0 (Err run.OutOfMemory) [] []) → (old new : State) (name : List ℕ) → new ≡ old
     → Shows IsText old new name (Err run.OutOfMemory)
 shows_none IsText nothing old new name s = record {
   given = 0;
   text = [];
+  unsaid = [];
+  due = inl refl;
   reads = s;
-  grew = ap (λ (x : State). x.said) s ∙ append-none old.said;
+  grew = grows_same old.said new.said (ap (λ (x : State). x.said) s);
   lines = if_any old.held _ (λ held. nothing (bytes_of held.files name));
   counts = ap (λ (x : State). x.counts) s;
 }
@@ -174,6 +181,8 @@ shows_stop one none sizes start now old new name (run.Files (TooLong input)) s =
     record {
       given = longest_file;
       text = gave x.early;
+      unsaid = [];
+      due = inl refl;
       reads = (s.0, x.opened, refl);
       grew = x.said;
       lines = IfSome_then old.held x.inputs (λ held f. (
@@ -188,8 +197,10 @@ shows_stop one none sizes start now old new name (run.Files (ReadFault input)) s
   | inl closed ↦ record {
     given = 0;
     text = [];
+    unsaid = [];
+    due = inl refl;
     reads = (s.0, inl (closed.1, refl));
-    grew = closed.1.said ∙ append-none old.said;
+    grew = grows_same old.said new.said closed.1.said;
     lines = if_any old.held _
         (λ held. (none_met (bytes_of held.files name), none_first (bytes_of held.files name)));
     counts = closed_counted old new closed.0;
@@ -201,6 +212,8 @@ shows_stop one none sizes start now old new name (run.Files (ReadFault input)) s
       record {
         given = t.place;
         text = gave x.early;
+        unsaid = t.unsaid;
+        due = elim t.all [ inl all ↦ inl all.0 | inr lost ↦ inr lost.1 ];
         reads = (s.0, inr (x.opened, t.short));
         grew = x.said;
         lines = if_both old.held _ _ _ (λ held f first. (
@@ -216,6 +229,8 @@ shows_stop one none sizes start now old new name (run.Files WriteFault) s =
     record {
       given = s.1.0;
       text = gave x.early;
+      unsaid = [];
+      due = inl refl;
       reads = (x.opened, s.1.4);
       grew = x.said;
       lines = some_left one none sizes start now old new name s.1.0 s.1.1 x s.1.3;

@@ -5,10 +5,11 @@ use Rattle.std.specs.Prelude.{◌⊎◌, nat_lt, IfSome, Result, Ok, Err}
 use Rattle.std.proofs.lemmas.List.{take-append-drop, map-append}
 use Rattle.std.proofs.lemmas.List.Concat.{flat_map-append}
 use Rattle.std.proofs.lemmas.Option.{IfSome_then}
-use Rattle.terms.proofs.OptionLemmas.{if_any, if_both, append-none}
+use Rattle.terms.proofs.OptionLemmas.{if_any, if_both}
 use Rattle.show_run.proofs.ShowLemmas.{shows_none}
 use Rattle.ports.specs.Desk.{State, Held, bytes_of}
 use Rattle.desk_io.specs.Reading.{longest_file}
+use Rattle.desk_io.proofs.SayLemmas.{grows_same}
 use Rattle.desk_io.specs.declared.input.TheConstants.{BUFFER}
 use Rattle.ts_packet.specs.declared.sizes.TheConstants.{SIZE}
 use Rattle.t2mi_stream.specs.Accepted.{AcceptedPacket}
@@ -118,7 +119,7 @@ shows old new name result = Shows IsT2miText old new name result
 
 all_text : (file : List ℕ) (place : ℕ) (m : T2miLines) (events : List Event) (early : List ℕ) → m.search ≡ Finished → m.line ≡ []
     → Shown m events → IsFed file place (fed 0 events) (has_ended 0 events) → gave events ≡ early
-    → IsT2miText file place (Ok m.count) early
+    → IsT2miText file place (Ok m.count) early []
 all_text file place m events early done none s f text =
     let e = subst (λ (x : Search). Found x m (fed 0 events) (gave events) (has_ended 0 events)) done s.found in
     let same : file ≡ fed 0 events = f.parts ∙ ap (λ (l : List ℕ). fed 0 events ++ l) (f.end e.over)
@@ -138,6 +139,8 @@ t2mi_end start now old new name t =
     record {
       given = t.place;
       text = gave x.early;
+      unsaid = [];
+      due = inl refl;
       reads = (x.opened, t.short);
       grew = x.said;
       lines = IfSome_then old.held x.inputs
@@ -229,6 +232,8 @@ t2mi_stop nothing front behind start now old new name (run.Files (TooLong input)
     record {
       given = longest_file;
       text = gave x.early;
+      unsaid = [];
+      due = inl refl;
       reads = (s.0, x.opened, refl);
       grew = x.said;
       lines = if_both old.held _ _ _ (λ held f first. (
@@ -252,13 +257,16 @@ t2mi_stop nothing front behind start now old new name (run.Files (ReadFault inpu
   | inl none ↦ record {
     given = 0;
     text = [];
+    unsaid = [];
+    due = inl refl;
     reads = (s.0, inl (none.1, refl));
-    grew = none.1.said ∙ append-none old.said;
+    grew = grows_same old.said new.said none.1.said;
     lines = if_any old.held _
         (λ held. (
           (
             record { front = []; more = bytes_of held.files name; parts = refl; near = omega arith },
-            ([], no_text nothing, omega arith),
+            no_text nothing,
+            omega arith,
           ),
           none_first (t2mi_packets_in (bytes_of held.files name)) [] refl,
         ));
@@ -270,6 +278,8 @@ t2mi_stop nothing front behind start now old new name (run.Files (ReadFault inpu
       record {
         given = t.place;
         text = gave x.early;
+        unsaid = t.unsaid;
+        due = elim t.all [ inl all ↦ inl all.0 | inr lost ↦ inr lost.1 ];
         reads = (s.0, inr (x.opened, t.short));
         grew = x.said;
         lines = if_both old.held _ _ _ (λ held f first. (
@@ -280,11 +290,8 @@ t2mi_stop nothing front behind start now old new name (run.Files (ReadFault inpu
               parts = f.parts;
               near = near_short now t.place (length (fed 0 x.events)) t.wants;
             },
-            (
-              t.unsaid,
-              sym (all x.events _ x.came (short_needs (next_of now) _ t.wants)) ∙ x.parts,
-              x.waits.few,
-            ),
+            sym (all x.events _ x.came (short_needs (next_of now) _ t.wants)) ∙ x.parts,
+            x.waits.few,
           ),
           first,
         )) x.inputs (some_said front behind start now old new name t.place t.unsaid x
@@ -297,6 +304,8 @@ t2mi_stop nothing front behind start now old new name (run.Files WriteFault) all
     record {
       given = s.1.0;
       text = gave x.early;
+      unsaid = [];
+      due = inl refl;
       reads = (x.opened, s.1.4);
       grew = x.said;
       lines = if_both old.held _ _ _ (λ held f first. (

@@ -1,7 +1,7 @@
 -- The text of a file of records.
 use Rattle.std.specs.Prelude.{◌≡◌, ℕ, ◌+◌, ◌-◌, ◌≤◌, List, [], ◌++◌, length, Result, Ok, Err}
 use Rattle.desk_io.specs.Reading.{longest_file}
-use Rattle.desk_io.specs.declared.page.TheConstants.{PAGE}
+use Rattle.file_run.specs.Telling.{most_waiting}
 use Rattle.file_run.specs.declared.stop.RunFault.TheVariants.{TooLong, ReadFault, WriteFault}
 use Rattle.site_frame.specs.declared.fault.RecordWhy.{RecordWhy}
 use Rattle.site_frame.specs.declared.reading.RecordView.{RecordView}
@@ -22,10 +22,10 @@ AreFirstRecords file text = (views : List RecordView) × (rest : List ℕ) × Sa
 -- Of so many bytes that were read, records were met, and of the next one some bytes were not read, since a byte more would end
 -- within it too: so no refused one was met. The text is the first of the lines of these records: what is left of them is no more
 -- than may wait to be said.
-abbrev pub LacksFewRecords : List ℕ → ℕ → List ℕ → Type 0
-LacksFewRecords file given text = (views : List RecordView) × (rest : List ℕ) × AreRecords file views rest
+abbrev pub LacksFewRecords : List ℕ → ℕ → List ℕ → List ℕ → Type 0
+LacksFewRecords file given text unsaid = (views : List RecordView) × (rest : List ℕ) × AreRecords file views rest
     × EndsWithin rest (given - bytes_before file rest + 1)
-    × ((unsaid : List ℕ) × (record_lines 0 views ≡ text ++ unsaid) × (length unsaid ≤ PAGE))
+    × (record_lines 0 views ≡ text ++ unsaid) × (length unsaid ≤ most_waiting)
 
 -- Records were met, of which the text is the lines, and what was read behind them ends within the next one, at which nobody
 -- looked.
@@ -41,17 +41,17 @@ LeavesRecords file text = (views : List RecordView) × (rest : List ℕ) × Says
 
 -- The text by outcome: the lines of all records and their number; the lines of those before what is no record, or before one for
 -- which there was no memory; or those of the first.
-abbrev pub IsRecordText : List ℕ → ℕ → Result ℕ (RunStop ShowStop) → List ℕ → Type 0
-IsRecordText file given (Ok count) text =
+abbrev pub IsRecordText : List ℕ → ℕ → Result ℕ (RunStop ShowStop) → List ℕ → List ℕ → Type 0
+IsRecordText file given (Ok count) text unsaid =
     (views : List RecordView) × AreRecords file views [] × (count ≡ length views)
     × (text ≡ record_lines 0 views ++ records_line count) × (given ≡ length file)
-IsRecordText file given (Err (run.Refused (PacketRefused at why))) text = ⊥
-IsRecordText file given (Err (run.Refused (RecordRefused number why))) text =
+IsRecordText file given (Err (run.Refused (PacketRefused at why))) text unsaid = ⊥
+IsRecordText file given (Err (run.Refused (RecordRefused number why))) text unsaid =
     (views : List RecordView) × (rest : List ℕ) × SaysFirst file views rest text × IsNoRecord rest why × (number ≡ length views)
-IsRecordText file given (Err (run.Files (TooLong input))) text = (longest_file ≤ length file) × SaysMetRecords file given text
-IsRecordText file given (Err (run.Files (ReadFault input))) text = LacksFewRecords file given text
+IsRecordText file given (Err (run.Files (TooLong input))) text unsaid = (longest_file ≤ length file) × SaysMetRecords file given text
+IsRecordText file given (Err (run.Files (ReadFault input))) text unsaid = LacksFewRecords file given text unsaid
     × AreFirstRecords file text
-IsRecordText file given (Err (run.Files WriteFault)) text = LeavesRecords file text
-IsRecordText file given (Err run.OutOfMemory) text = text ≡ []
-IsRecordText file given (Err (run.Refused NoRoom)) text = (views : List RecordView) × (rest : List ℕ) × SaysFirst file views rest text
+IsRecordText file given (Err (run.Files WriteFault)) text unsaid = LeavesRecords file text
+IsRecordText file given (Err run.OutOfMemory) text unsaid = text ≡ []
+IsRecordText file given (Err (run.Refused NoRoom)) text unsaid = (views : List RecordView) × (rest : List ℕ) × SaysFirst file views rest text
     × ((len : ℕ) × Announces rest len)

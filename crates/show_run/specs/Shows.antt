@@ -1,9 +1,11 @@
 -- What a command does that shows a file by lines, up to its last line.
-use Rattle.std.specs.Prelude.{◌≡◌, ◌⊎◌, ℕ, ◌<◌, ◌≤◌, List, ◌++◌, Result, Ok, Err, IfSome, option_map}
+use Rattle.std.specs.Prelude.{◌≡◌, ◌⊎◌, ℕ, ◌<◌, ◌≤◌, List, [], Result, Ok, Err, IfSome}
+use Rattle.ports.specs.Counts.{Rose}
 use Rattle.ports.specs.Desk.{State, SameCounts, bytes_of}
 use Rattle.desk_io.specs.Faults.{ReadsFail, WritesFail}
 use Rattle.desk_io.specs.Reading.{longest_file}
 use Rattle.desk_io.specs.Opening.{Opened, Unopened}
+use Rattle.desk_io.specs.Saying.{Grows}
 use Rattle.file_run.specs.Telling.{ReadsFailAtLeast}
 use Rattle.file_run.specs.declared.stop.RunFault.TheVariants.{TooLong, ReadFault, WriteFault}
 use Rattle.file_run.specs.declared.stop.RunStop.{RunStop}
@@ -29,12 +31,15 @@ Counted old new (Err (run.Files WriteFault)) = WritesFail old new
 Counted old new result = SameCounts old new
 
 -- A run over a named file, of which so many bytes were read. Standard output grew by this text, whatever the desk tells, and by
--- the text that a definition asks for, by the file's bytes, how many were read, and the outcome.
-pub record Shows (IsText : List ℕ → ℕ → Result ℕ (RunStop ShowStop) → List ℕ → Type 0) (old new : State) (name : List ℕ)
-    (result : Result ℕ (RunStop ShowStop)) : Type 0 where
+-- the text that a definition asks for, by the file's bytes, how many were read, the outcome, and what was due when reading failed
+-- and is not said: that is nothing, unless a fault of writing came too.
+pub record Shows (IsText : List ℕ → ℕ → Result ℕ (RunStop ShowStop) → List ℕ → List ℕ → Type 0) (old new : State)
+    (name : List ℕ) (result : Result ℕ (RunStop ShowStop)) : Type 0 where
   pub given : ℕ
   pub text : List ℕ
+  pub unsaid : List ℕ
   pub reads : ReadsFile old new name given result
-  pub grew : new.said ≡ option_map (λ said. said ++ text) old.said
-  pub lines : IfSome old.held (λ held. IsText (bytes_of held.files name) given result text)
+  pub grew : Grows old.said new.said text
+  pub due : (unsaid ≡ []) ⊎ Rose old.counts.writes new.counts.writes
+  pub lines : IfSome old.held (λ held. IsText (bytes_of held.files name) given result text unsaid)
   pub counts : Counted old new result

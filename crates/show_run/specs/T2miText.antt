@@ -1,8 +1,8 @@
 -- The text of the T2-MI packets in a file of units.
 use Rattle.std.specs.Prelude.{◌≡◌, ◌≢◌, ◌⊎◌, ℕ, ◌+◌, ◌<◌, ◌≤◌, List, [], ◌++◌, length, flat_map, codes, Result, Ok, Err}
 use Rattle.desk_io.specs.Reading.{longest_file}
-use Rattle.desk_io.specs.declared.page.TheConstants.{PAGE}
 use Rattle.ts_packet.specs.declared.sizes.TheConstants.{SIZE}
+use Rattle.file_run.specs.Telling.{most_waiting}
 use Rattle.file_run.specs.declared.stop.RunFault.TheVariants.{TooLong, ReadFault, WriteFault}
 use Rattle.t2mi_packet.specs.T2miPacket.{view_of}
 use Rattle.t2mi_stream.specs.Accepted.{AcceptedPacket}
@@ -37,9 +37,9 @@ abbrev pub SaysThrough : List ℕ → ℕ → List ℕ → Type 0
 SaysThrough file given text = (through : GoneThrough file given) × (text ≡ place_lines (t2mi_packets_in through.front))
 
 -- The same packets, and the text is the first of their lines: what is left of these is no more than may wait to be said.
-abbrev pub LacksFewLines : List ℕ → ℕ → List ℕ → Type 0
-LacksFewLines file given text = (through : GoneThrough file given)
-    × ((unsaid : List ℕ) × (place_lines (t2mi_packets_in through.front) ≡ text ++ unsaid) × (length unsaid ≤ PAGE))
+abbrev pub LacksFewLines : List ℕ → ℕ → List ℕ → List ℕ → Type 0
+LacksFewLines file given text unsaid = (through : GoneThrough file given)
+    × (place_lines (t2mi_packets_in through.front) ≡ text ++ unsaid) × (length unsaid ≤ most_waiting)
 
 -- The text is the first of the lines that were due, and not all of them: of the packets in what was read, and behind these, if
 -- that is the whole file, of their number.
@@ -54,16 +54,16 @@ pub record LeavesLines (file : List ℕ) (given : ℕ) (text : List ℕ) : Type 
       ⊎ ((more ≡ []) × (place_lines (t2mi_packets_in front) ++ count_line (length (t2mi_packets_in front)) ≡ text ++ unsaid))
 
 -- The text by outcome: the lines of all packets and their number, or the lines of the first.
-abbrev pub IsT2miText : List ℕ → ℕ → Result ℕ (RunStop ShowStop) → List ℕ → Type 0
-IsT2miText file given (Ok count) text =
+abbrev pub IsT2miText : List ℕ → ℕ → Result ℕ (RunStop ShowStop) → List ℕ → List ℕ → Type 0
+IsT2miText file given (Ok count) text unsaid =
     (count ≡ length (t2mi_packets_in file)) × (text ≡ place_lines (t2mi_packets_in file) ++ count_line count)
     × (given ≡ length file)
-IsT2miText file given (Err (run.Refused (PacketRefused at why))) text = ⊥
-IsT2miText file given (Err (run.Refused (RecordRefused number why))) text = ⊥
-IsT2miText file given (Err (run.Files (TooLong input))) text = (longest_file ≤ length file) × SaysThrough file given text
+IsT2miText file given (Err (run.Refused (PacketRefused at why))) text unsaid = ⊥
+IsT2miText file given (Err (run.Refused (RecordRefused number why))) text unsaid = ⊥
+IsT2miText file given (Err (run.Files (TooLong input))) text unsaid = (longest_file ≤ length file) × SaysThrough file given text
     × AreFirstLines (t2mi_packets_in file) text
-IsT2miText file given (Err (run.Files (ReadFault input))) text = LacksFewLines file given text
+IsT2miText file given (Err (run.Files (ReadFault input))) text unsaid = LacksFewLines file given text unsaid
     × AreFirstLines (t2mi_packets_in file) text
-IsT2miText file given (Err (run.Files WriteFault)) text = LeavesLines file given text × AreFirstLines (t2mi_packets_in file) text
-IsT2miText file given (Err run.OutOfMemory) text = text ≡ []
-IsT2miText file given (Err (run.Refused NoRoom)) text = ⊥
+IsT2miText file given (Err (run.Files WriteFault)) text unsaid = LeavesLines file given text × AreFirstLines (t2mi_packets_in file) text
+IsT2miText file given (Err run.OutOfMemory) text unsaid = text ≡ []
+IsT2miText file given (Err (run.Refused NoRoom)) text unsaid = ⊥

@@ -104,68 +104,68 @@ decided law command old new result s =
     IfSome_then old.held s (λ held f. λ outcome must r w. inl (law command held result outcome (f outcome must) must))
 
 -- a file of packets
-packets_so : OneEnding → (file : List ℕ) (old new : State) (given : ℕ) (text : List ℕ) (shown : Result ℕ (RunStop ShowStop))
-    → IfSome old.held (λ held. IsPacketText (bytes_of held.files file) given shown text) → Counted old new shown →
+packets_so : OneEnding → (file : List ℕ) (old new : State) (given : ℕ) (text unsaid : List ℕ) (shown : Result ℕ (RunStop ShowStop))
+    → IfSome old.held (λ held. IsPacketText (bytes_of held.files file) given shown text unsaid) → Counted old new shown →
     IsComplete (ShowPackets file) old new (run_outcome (stop_outcome show_cause) shown)
-packets_so law file old new given text (Ok count) s counts =
+packets_so law file old new given text unsaid (Ok count) s counts =
     decided law (ShowPackets file) old new Done
     (IfSome_then old.held s (λ held x. λ outcome must. (must.0, (Ok count, (x.0, x.1, x.2), refl))))
-packets_so law file old new given text (Err (run.Refused (show.PacketRefused at why))) s counts =
+packets_so law file old new given text unsaid (Err (run.Refused (show.PacketRefused at why))) s counts =
     decided law (ShowPackets file) old new (show_cause (show.PacketRefused at why))
     (IfSome_then old.held s
     (λ held x. λ outcome must. (must.0, (Err (show.PacketRefused at why), (x.0, x.1, x.2, x.3, x.4), refl))))
-packets_so law file old new given text (Err (run.Refused (show.RecordRefused number why))) s counts =
+packets_so law file old new given text unsaid (Err (run.Refused (show.RecordRefused number why))) s counts =
     IfSome_then old.held s (λ held x. absurd x)
-packets_so law file old new given text (Err (run.Files (run_fault.TooLong input))) s counts =
+packets_so law file old new given text unsaid (Err (run.Files (run_fault.TooLong input))) s counts =
     IfSome_then old.held s (λ held x. λ outcome must r w. let many : 2 ^ 40 ≤ length (bytes_of held.files file) = x.0 in
     absurd (omega (arith, many, must.0)))
-packets_so law file old new given text (Err (run.Files (run_fault.ReadFault input))) s counts =
+packets_so law file old new given text unsaid (Err (run.Files (run_fault.ReadFault input))) s counts =
     failed (ShowPackets file) old new ReadFault (inl counts.0.rose)
-packets_so law file old new given text (Err (run.Files run_fault.WriteFault)) s counts =
+packets_so law file old new given text unsaid (Err (run.Files run_fault.WriteFault)) s counts =
     failed (ShowPackets file) old new WriteFault (inr (inl counts.rose))
-packets_so law file old new given text (Err run.OutOfMemory) s counts =
+packets_so law file old new given text unsaid (Err run.OutOfMemory) s counts =
     failed (ShowPackets file) old new OutOfMemory (inr (inr refl))
-packets_so law file old new given text (Err (run.Refused show.NoRoom)) s counts = failed (ShowPackets file) old new OutOfMemory (inr (inr refl))
+packets_so law file old new given text unsaid (Err (run.Refused show.NoRoom)) s counts = failed (ShowPackets file) old new OutOfMemory (inr (inr refl))
 
 -- a file of records
-records_so : OneEnding → (file : List ℕ) (old new : State) (given : ℕ) (text : List ℕ) (shown : Result ℕ (RunStop ShowStop))
-    → IfSome old.held (λ held. IsRecordText (bytes_of held.files file) given shown text) → Counted old new shown →
+records_so : OneEnding → (file : List ℕ) (old new : State) (given : ℕ) (text unsaid : List ℕ) (shown : Result ℕ (RunStop ShowStop))
+    → IfSome old.held (λ held. IsRecordText (bytes_of held.files file) given shown text unsaid) → Counted old new shown →
     IsComplete (ShowFrames file) old new (run_outcome (stop_outcome show_cause) shown)
-records_so law file old new given text (Ok count) s counts =
+records_so law file old new given text unsaid (Ok count) s counts =
     decided law (ShowFrames file) old new Done
     (IfSome_then old.held s (λ held x. λ outcome must. (must.0, (Ok count, (x.0, x.1, x.2), refl))))
-records_so law file old new given text (Err (run.Refused (show.PacketRefused at why))) s counts = IfSome_then old.held s (λ held x. absurd x)
-records_so law file old new given text (Err (run.Refused (show.RecordRefused number why))) s counts =
+records_so law file old new given text unsaid (Err (run.Refused (show.PacketRefused at why))) s counts = IfSome_then old.held s (λ held x. absurd x)
+records_so law file old new given text unsaid (Err (run.Refused (show.RecordRefused number why))) s counts =
     decided law (ShowFrames file) old new (show_cause (show.RecordRefused number why))
     (IfSome_then old.held s
     (λ held x. λ outcome must. (must.0, (Err (show.RecordRefused number why), (x.0, x.1, x.2.0, x.3, x.4), refl))))
-records_so law file old new given text (Err (run.Files (run_fault.TooLong input))) s counts =
+records_so law file old new given text unsaid (Err (run.Files (run_fault.TooLong input))) s counts =
     IfSome_then old.held s (λ held x. λ outcome must r w. let many : 2 ^ 40 ≤ length (bytes_of held.files file) = x.0 in
     absurd (omega (arith, many, must.0)))
-records_so law file old new given text (Err (run.Files (run_fault.ReadFault input))) s counts =
+records_so law file old new given text unsaid (Err (run.Files (run_fault.ReadFault input))) s counts =
     failed (ShowFrames file) old new ReadFault (inl counts.0.rose)
-records_so law file old new given text (Err (run.Files run_fault.WriteFault)) s counts =
+records_so law file old new given text unsaid (Err (run.Files run_fault.WriteFault)) s counts =
     failed (ShowFrames file) old new WriteFault (inr (inl counts.rose))
-records_so law file old new given text (Err run.OutOfMemory) s counts =
+records_so law file old new given text unsaid (Err run.OutOfMemory) s counts =
     failed (ShowFrames file) old new OutOfMemory (inr (inr refl))
-records_so law file old new given text (Err (run.Refused show.NoRoom)) s counts = failed (ShowFrames file) old new OutOfMemory (inr (inr refl))
+records_so law file old new given text unsaid (Err (run.Refused show.NoRoom)) s counts = failed (ShowFrames file) old new OutOfMemory (inr (inr refl))
 
 -- a file of units
-t2mi_so : (file : List ℕ) (old new : State) (given : ℕ) (text : List ℕ) (shown : Result ℕ (RunStop ShowStop))
-    → IfSome old.held (λ held. IsT2miText (bytes_of held.files file) given shown text) → Counted old new shown →
+t2mi_so : (file : List ℕ) (old new : State) (given : ℕ) (text unsaid : List ℕ) (shown : Result ℕ (RunStop ShowStop))
+    → IfSome old.held (λ held. IsT2miText (bytes_of held.files file) given shown text unsaid) → Counted old new shown →
     IsComplete (ShowT2mi file) old new (run_outcome (stop_outcome show_cause) shown)
-t2mi_so file old new given text (Ok count) s counts = IfSome_then old.held s (λ held x. λ outcome must r w. inl (sym must.1))
-t2mi_so file old new given text (Err (run.Refused (show.PacketRefused at why))) s counts = IfSome_then old.held s (λ held x. absurd x)
-t2mi_so file old new given text (Err (run.Refused (show.RecordRefused number why))) s counts = IfSome_then old.held s (λ held x. absurd x)
-t2mi_so file old new given text (Err (run.Files (run_fault.TooLong input))) s counts =
+t2mi_so file old new given text unsaid (Ok count) s counts = IfSome_then old.held s (λ held x. λ outcome must r w. inl (sym must.1))
+t2mi_so file old new given text unsaid (Err (run.Refused (show.PacketRefused at why))) s counts = IfSome_then old.held s (λ held x. absurd x)
+t2mi_so file old new given text unsaid (Err (run.Refused (show.RecordRefused number why))) s counts = IfSome_then old.held s (λ held x. absurd x)
+t2mi_so file old new given text unsaid (Err (run.Files (run_fault.TooLong input))) s counts =
     IfSome_then old.held s (λ held x. λ outcome must r w. let many : 2 ^ 40 ≤ length (bytes_of held.files file) = x.0 in
     absurd (omega (arith, many, must.0)))
-t2mi_so file old new given text (Err (run.Files (run_fault.ReadFault input))) s counts =
+t2mi_so file old new given text unsaid (Err (run.Files (run_fault.ReadFault input))) s counts =
     failed (ShowT2mi file) old new ReadFault (inl counts.0.rose)
-t2mi_so file old new given text (Err (run.Files run_fault.WriteFault)) s counts =
+t2mi_so file old new given text unsaid (Err (run.Files run_fault.WriteFault)) s counts =
     failed (ShowT2mi file) old new WriteFault (inr (inl counts.rose))
-t2mi_so file old new given text (Err run.OutOfMemory) s counts = failed (ShowT2mi file) old new OutOfMemory (inr (inr refl))
-t2mi_so file old new given text (Err (run.Refused show.NoRoom)) s counts = failed (ShowT2mi file) old new OutOfMemory (inr (inr refl))
+t2mi_so file old new given text unsaid (Err run.OutOfMemory) s counts = failed (ShowT2mi file) old new OutOfMemory (inr (inr refl))
+t2mi_so file old new given text unsaid (Err (run.Refused show.NoRoom)) s counts = failed (ShowT2mi file) old new OutOfMemory (inr (inr refl))
 
 -- a file gives no configuration, or reading it failed
 no_config : (old new : State) (name : List ℕ) (stop : ConfigStop) → GivesNone old new name stop
@@ -586,12 +586,12 @@ trial_so old new seed frames result (inr (text, lines, tells)) =
 pub is_complete : OneEnding → OnePlan → OneRun → OneModulation → OneReception → OneMerging → OneSwapping → OneComparison → Completeness
 is_complete law one run modulation reception merging swapping comparison (ShowPackets file) old new result s =
     subst (IsComplete (ShowPackets file) old new) (sym s.2)
-    (packets_so law file old new s.1.given s.1.text s.0 s.1.lines s.1.counts)
+    (packets_so law file old new s.1.given s.1.text s.1.unsaid s.0 s.1.lines s.1.counts)
 is_complete law one run modulation reception merging swapping comparison (ShowT2mi file) old new result s =
-    subst (IsComplete (ShowT2mi file) old new) (sym s.2) (t2mi_so file old new s.1.given s.1.text s.0 s.1.lines s.1.counts)
+    subst (IsComplete (ShowT2mi file) old new) (sym s.2) (t2mi_so file old new s.1.given s.1.text s.1.unsaid s.0 s.1.lines s.1.counts)
 is_complete law one run modulation reception merging swapping comparison (ShowFrames file) old new result s =
     subst (IsComplete (ShowFrames file) old new) (sym s.2)
-    (records_so law file old new s.1.given s.1.text s.0 s.1.lines s.1.counts)
+    (records_so law file old new s.1.given s.1.text s.1.unsaid s.0 s.1.lines s.1.counts)
 is_complete law one run modulation reception merging swapping comparison (ShowConfig file) old new result s = config_so law old new file result s
 is_complete law one run modulation reception merging swapping comparison (Plan config) old new result s = plan_so law old new config result s
 is_complete law one run modulation reception merging swapping comparison (Gateway sharing config out ins) old new result s =

@@ -95,7 +95,7 @@ untouched out reads old new same = record {
   places = [];
   opened = ap (λ (s : State). s.opened) same ∙ sym (append-nil old.opened);
   few = omega arith;
-  text = [];
+  texts = [];
   said = ap (λ (s : State). s.said) same ∙ append-none old.said;
 }
 
@@ -108,53 +108,53 @@ then_touched out first second old mid new a none b = record {
   places = a.places ++ b.places;
   opened = b.opened ∙ ap (λ (l : List ℕ). l ++ b.places) a.opened ∙ append_assoc old.opened a.places b.places;
   few = subst (λ (n : ℕ). n ≤ first + second) (sym (length-append a.places b.places)) (omega (arith, a.few, b.few));
-  text = a.text ++ b.text;
-  said = b.said ∙ ap (option_map (λ (said : List ℕ). said ++ b.text)) a.said ∙ append_twice old.said a.text b.text;
+  texts = a.texts ++ b.texts;
+  said = b.said ∙ ap (option_map (λ (said : List (List ℕ)). said ++ b.texts)) a.said ∙ append_twice old.said a.texts b.texts;
 }
 
 -- and then something was said
-then_said : (out : Option (List ℕ)) (reads : ℕ) (old mid new : State) (text : List ℕ) → Touches out reads old mid
+then_said : (out : Option (List ℕ)) (reads : ℕ) (old mid new : State) (texts : List (List ℕ)) → Touches out reads old mid
     → new.held ≡ mid.held → new.created ≡ mid.created → new.opened ≡ mid.opened
-    → new.said ≡ option_map (λ (said : List ℕ). said ++ text) mid.said → Touches out reads old new
-then_said out reads old mid new text a held created opened said = record {
+    → new.said ≡ option_map (λ (said : List (List ℕ)). said ++ texts) mid.said → Touches out reads old new
+then_said out reads old mid new texts a held created opened said = record {
   files = subst (OthersStay out old.held) (sym held) a.files;
   created = subst (λ (n : ℕ). n ≤ old.created + outs out) (sym created) a.created;
   places = a.places;
   opened = opened ∙ a.opened;
   few = a.few;
-  text = a.text ++ text;
-  said = said ∙ ap (option_map (λ (said : List ℕ). said ++ text)) a.said ∙ append_twice old.said a.text text;
+  texts = a.texts ++ texts;
+  said = said ∙ ap (option_map (λ (said : List (List ℕ)). said ++ texts)) a.said ∙ append_twice old.said a.texts texts;
 }
 
 told : (out : Option (List ℕ)) (reads : ℕ) (old mid new : State) (text : List ℕ) (result : Outcome) → Touches out reads old mid
     → Tells mid new text result → Touches out reads old new
 told out reads old mid new text outcome.Done a tells =
-    then_said out reads old mid new text a tells.0.held tells.0.created tells.0.opened tells.0.said
+    then_said out reads old mid new (text ∷ []) a tells.0.held tells.0.created tells.0.opened tells.0.said
 told out reads old mid new text outcome.WriteFault a tells =
     then_said out reads old mid new [] a tells.0.held tells.0.created tells.0.opened (tells.0.said ∙ append-none mid.said)
 told out reads old mid new text result a tells = absurd tells
 
 -- a file was opened
-opened_one : (out : Option (List ℕ)) (old new : State) (name : List ℕ) (given : ℕ) (text : List ℕ) → Opened old new name given
-    → new.said ≡ option_map (λ (said : List ℕ). said ++ text) old.said → Touches out 1 old new
-opened_one out old new name given text o said = record {
+opened_one : (out : Option (List ℕ)) (old new : State) (name : List ℕ) (given : ℕ) (texts : List (List ℕ))
+    → Opened old new name given → new.said ≡ option_map (λ (said : List (List ℕ)). said ++ texts) old.said → Touches out 1 old new
+opened_one out old new name given texts o said = record {
   files = named_files out name old.held new.held o.held;
   created = subst (λ (n : ℕ). n ≤ old.created + outs out) (sym o.created) (omega arith);
   places = given ∷ [];
   opened = o.opened;
   few = omega arith;
-  text = text;
+  texts = texts;
   said = said;
 }
 
-unopened : (out : Option (List ℕ)) (old new : State) (text : List ℕ) → Unopened old new → Touches out 1 old new
-unopened out old new text u = record {
+unopened : (out : Option (List ℕ)) (old new : State) → Unopened old new → Touches out 1 old new
+unopened out old new u = record {
   files = same_files out old.held new.held u.held;
   created = subst (λ (n : ℕ). n ≤ old.created + outs out) (sym u.created) (omega arith);
   places = [];
   opened = u.opened ∙ sym (append-nil old.opened);
   few = omega arith;
-  text = [];
+  texts = [];
   said = u.said ∙ append-none old.said;
 }
 
@@ -164,7 +164,7 @@ text_read out old new name r = opened_one out old new name r.given [] r.opened (
 
 text_failed : (out : Option (List ℕ)) (old new : State) (name : List ℕ) → FailsToRead old new name → Touches out 1 old new
 text_failed out old new name f =
-    ⊎_elim (λ u. unopened out old new [] u) (λ o. opened_one out old new name o.0 [] o.1 (o.3 ∙ append-none old.said)) f.way
+    ⊎_elim (λ u. unopened out old new u) (λ o. opened_one out old new name o.0 [] o.1 (o.3 ∙ append-none old.said)) f.way
 
 gives_none : (out : Option (List ℕ)) (old new : State) (name : List ℕ) (stop : ConfigStop) → GivesNone old new name stop
     → Touches out 1 old new
@@ -195,7 +195,7 @@ fewer out reads old new t = record {
   places = t.places;
   opened = t.opened;
   few = omega (arith, t.few);
-  text = t.text;
+  texts = t.texts;
   said = t.said;
 }
 
@@ -208,7 +208,7 @@ run_opens old new out ins count o = record {
   places = o.places;
   opened = o.opened;
   few = omega (arith, o.some, o.few);
-  text = [];
+  texts = [];
   said = o.said ∙ append-none old.said;
 }
 
@@ -220,7 +220,7 @@ run_creates old new out ins f = record {
   places = f.places;
   opened = f.opened;
   few = omega (arith, f.all);
-  text = [];
+  texts = [];
   said = f.said ∙ append-none old.said;
 }
 
@@ -232,7 +232,7 @@ run_works old new out ins places Holds w = record {
   places = places;
   opened = w.opened;
   few = omega (arith, w.all);
-  text = [];
+  texts = [];
   said = w.said ∙ append-none old.said;
 }
 
@@ -364,7 +364,7 @@ says_opens old new ins count o = record {
   places = o.places;
   opened = o.opened;
   few = omega (arith, o.some, o.few);
-  text = [];
+  texts = [];
   said = o.said ∙ append-none old.said;
 }
 
@@ -376,8 +376,8 @@ says_touches old new ins places Holds s = record {
   places = places;
   opened = s.opened;
   few = omega (arith, s.all);
-  text = s.text;
-  said = s.said;
+  texts = s.said.texts;
+  said = s.said.said;
 }
 
 -- that of a comparison
@@ -398,22 +398,22 @@ compare_follows : (a b : List ℕ) (c : Config) (mid new : State) (result : Outc
 compare_follows a b c mid new result f = compare_runs c mid new a b f.0 f.1
 
 -- a file that is shown
-file_read : (old new : State) (name : List ℕ) (given : ℕ) (text : List ℕ) (result : Result ℕ (RunStop ShowStop))
-    → ReadsFile old new name given result → new.said ≡ option_map (λ (said : List ℕ). said ++ text) old.said
+file_read : (old new : State) (name : List ℕ) (given : ℕ) (texts : List (List ℕ)) (result : Result ℕ (RunStop ShowStop))
+    → ReadsFile old new name given result → new.said ≡ option_map (λ (said : List (List ℕ)). said ++ texts) old.said
     → Touches None 1 old new
-file_read old new name given text (Ok count) r said = opened_one None old new name given text r.0 said
-file_read old new name given text (Err (run.Refused why)) r said = opened_one None old new name given text r.0 said
-file_read old new name given text (Err (run.Files (run_fault.TooLong input))) r said =
-    opened_one None old new name given text r.1 said
-file_read old new name given text (Err (run.Files (run_fault.ReadFault input))) r said =
-    ⊎_elim (λ u. unopened None old new text u.0) (λ o. opened_one None old new name given text o.0 said) r.1
-file_read old new name given text (Err (run.Files run_fault.WriteFault)) r said =
-    opened_one None old new name given text r.0 said
-file_read old new name given text (Err run.OutOfMemory) r said = untouched None 1 old new r
+file_read old new name given texts (Ok count) r said = opened_one None old new name given texts r.0 said
+file_read old new name given texts (Err (run.Refused why)) r said = opened_one None old new name given texts r.0 said
+file_read old new name given texts (Err (run.Files (run_fault.TooLong input))) r said =
+    opened_one None old new name given texts r.1 said
+file_read old new name given texts (Err (run.Files (run_fault.ReadFault input))) r said =
+    ⊎_elim (λ u. unopened None old new u.0) (λ o. opened_one None old new name given texts o.0 said) r.1
+file_read old new name given texts (Err (run.Files run_fault.WriteFault)) r said =
+    opened_one None old new name given texts r.0 said
+file_read old new name given texts (Err run.OutOfMemory) r said = untouched None 1 old new r
 
-shown_touches : {IsText : List ℕ → ℕ → Result ℕ (RunStop ShowStop) → List ℕ → Type 0} (old new : State) (name : List ℕ)
+shown_touches : {IsText : List ℕ → ℕ → Result ℕ (RunStop ShowStop) → List ℕ → List ℕ → Type 0} (old new : State) (name : List ℕ)
     (result : Result ℕ (RunStop ShowStop)) → Shows IsText old new name result → Touches None 1 old new
-shown_touches old new name result s = file_read old new name s.given s.text result s.reads s.grew
+shown_touches old new name result s = file_read old new name s.given s.grew.texts result s.reads s.grew.said
 
 -- a configuration that is shown, and a plan
 config_touches : (old new : State) (name : List ℕ) (result : Outcome) → ShowsConfig old new name result → Touches None 1 old new

@@ -55,5 +55,5 @@ pub record Touches (out : Option (List ℕ)) (reads : ℕ) (old new : State) : T
   pub places : List ℕ
   pub opened : new.opened ≡ old.opened ++ places
   pub few : length places ≤ reads
-  pub text : List ℕ
-  pub said : new.said ≡ option_map (λ said. said ++ text) old.said
+  pub texts : List (List ℕ)
+  pub said : new.said ≡ option_map (λ said. said ++ texts) old.said

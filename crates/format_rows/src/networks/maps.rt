@@ -8,7 +8,7 @@ ghost use Rattle.std.specs.Prelude.{◌≡◌, length, IsTrue};
 ghost use Rattle.cell_map.specs.CellMap.{Passes};
 ghost use Rattle.scheduler.specs.Laws.{CountsFit};
 
-use crate::words::{Words, number};
+use crate::words::{Words, number_8, number_16, number_32};
 use byteorder::{BigEndian, ByteOrder};
 use cell_map::{Cell, Cells, address, at, check};
 use cell_words::fill_words;
@@ -22,7 +22,7 @@ const PIECE: u32 = 2048;
 pub(crate) fn counts_of(alloc: Global, word: &str) -> Result<Vec<u16>, AllocError> {
     let mut counts = Vec::new(alloc);
     for text in word.split(',') {
-        counts.push(number(text) as u16)?;
+        counts.push(number_16(text))?;
     }
     Ok(counts)
 }
@@ -74,10 +74,10 @@ fn shape_of(alloc: Global, plan: &Plan, words: &Words<'_>) -> Result<Shape, Allo
     let places = words.word(3).split(',').zip(words.word(4).split(','));
     for (plp, (count, start)) in places.enumerate() {
         if plp < shape.len() {
-            shape.set(plp, number(count) as u16, number(start) as u32);
+            shape.set(plp, number_16(count), number_32(start));
         }
     }
-    shape.set_type2(words.number(5) as u32, 0);
+    shape.set_type2(number_32(words.word(5)), 0);
     Ok(shape)
 }
 
@@ -175,7 +175,7 @@ fn mapped(alloc: Global, plan: &Plan, words: &Words<'_>) -> Result<String, Alloc
         return format!(in alloc; "none");
     }
     match check(plan, &shape) {
-        Ok(()) => digest(alloc, plan, &shape, words.number(2) as u8),
+        Ok(()) => digest(alloc, plan, &shape, number_8(words.word(2))),
         Err(fault) => format!(in alloc; "{fault:?}"),
     }
 }
@@ -190,8 +190,8 @@ fn stands(
     requires plps { length shape.now.counts ≡ length plan.now.plps }
     requires passes { Passes plan.now shape.now }
 {
-    let (frame_idx, plp) = (words.number(2) as u8, words.number(6));
-    let (block, cell) = (words.number(7) as u32, words.number(8) as u32);
+    let (frame_idx, plp) = (number_8(words.word(2)), words.number(6));
+    let (block, cell) = (number_32(words.word(7)), number_32(words.word(8)));
     if plp >= shape.len() || block >= u32::from(shape.count(plp)) || cell >= plan.block_cells(plp) {
         return format!(in alloc; "no such cell");
     }

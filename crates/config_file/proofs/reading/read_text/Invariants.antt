@@ -1,5 +1,5 @@
-use Rattle.std.proofs.Common.{◌≡◌, ◌≤◌, ◌-◌, length}
-use Rattle.ports.specs.Desk.{SameCounts}
+use Rattle.std.proofs.Common.{◌≡◌, ◌≤◌, ◌-◌, false, length}
+use Rattle.ports.specs.Desk.{SameCounts, has_run_out}
 use Rattle.desk_io.specs.Ahead.{ReadsAhead}
 use Rattle.config_file.proofs.reading.read_text.Given as goal
 
@@ -10,6 +10,7 @@ invariant-loop-input g l = record {
   handles : length (g.D.Desk.state l.desk).opened ≡ length (g.D.Desk.state l.initial.desk).opened;
   calm : SameCounts (g.D.Desk.state l.initial.desk) (g.D.Desk.state l.desk);
   few : length l.input ≤ 65537;
+  going : has_run_out (g.D.Desk.state l.desk) l.handle ≡ false;
 }
 
 abbrev pub decreases-loop-input : goal.decreases-loop-input

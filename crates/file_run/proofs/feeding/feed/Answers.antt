@@ -6,7 +6,8 @@ use Rattle.file_run.proofs.feeding.feed.Goals as goal
 pub returns-then-branch-clause-feeds : goal.returns-then-branch-clause-feeds
 returns-then-branch-clause-feeds g c =
     fed_by _ _ _ _ _ _ c.read_until.new.self _ _ c.feed-count.result _ c.as_bytes.ensures c.feed-count.ensures.some.1
-    c.read_until.ensures.none c.requires.is_open c.skip.ensures.taken c.feed-count.ensures.becomes
+    c.read_until.ensures.none c.requires.is_open c.read_until.ensures.reads.handle (search rules) c.skip.ensures.taken
+    c.feed-count.ensures.becomes
 
 pub returns-else-branch-clause-feeds : goal.returns-else-branch-clause-feeds
 returns-else-branch-clause-feeds g c =

@@ -2,7 +2,7 @@ use Rattle.std.proofs.Common.{refl, sym, ◌∙◌, arith}
 use Rattle.file_run.specs.Running.{start_of}
 use Rattle.file_run.proofs.FedLemmas.{less_left}
 use Rattle.file_run.proofs.RunningLemmas.{running_first, running_drained, stopped_drained, running_fed, stopped_fed, run_all}
-use Rattle.file_run.proofs.RunningLemmas.{at_end, not_ended, reader_of}
+use Rattle.file_run.proofs.RunningLemmas.{at_end, not_ended, can_go_on, reader_of}
 use Rattle.file_run.proofs.running.run.Goals as goal
 
 pub returns-in-Err-clause-err : goal.returns-in-Err-clause-err
@@ -89,6 +89,13 @@ pub feed-requires-clause-is_open : goal.feed-requires-clause-is_open
 feed-requires-clause-is_open g c =
     let w = c.in-Read.ensures.wanted _ _ c.loop-input.invariant.running.came in
     not_ended _ g.M.Machine.reach _ _ _ _ _ _ _
+    (omega (arith, w.place, c.requires.inputs, c.loop-input.invariant.running.runs.reached.all))
+    c.loop-input.invariant.running w.is_open
+
+pub feed-requires-clause-going : goal.feed-requires-clause-going
+feed-requires-clause-going g c =
+    let w = c.in-Read.ensures.wanted _ _ c.loop-input.invariant.running.came in
+    can_go_on _ g.M.Machine.reach _ _ _ _ _ _ _
     (omega (arith, w.place, c.requires.inputs, c.loop-input.invariant.running.runs.reached.all))
     c.loop-input.invariant.running w.is_open
 

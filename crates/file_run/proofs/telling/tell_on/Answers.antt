@@ -22,6 +22,13 @@ feed-requires-clause-opened g c =
     let b = c.requires.begun in
     place_within _ g.M.Machine.next _ _ _ _ _ _ (c.loop-input.invariant.telling b.begin b.start b.name b.telling)
 
+pub feed-requires-clause-going : goal.feed-requires-clause-going
+feed-requires-clause-going g c =
+    let b = c.requires.begun in
+    let t = c.loop-input.invariant.telling b.begin b.start b.name b.telling in
+    let w = c.in-Read.ensures.wanted b.begin t.events t.came in
+    t.goes_on (t.ended ∙ ap (λ (k : ℕ). has_ended k t.events) (sym (is_zero _ _ w.place b.one)) ∙ w.is_open)
+
 pub feed-requires-clause-reader : goal.feed-requires-clause-reader
 feed-requires-clause-reader g c =
     let b = c.requires.begun in
@@ -47,7 +54,7 @@ returns-in-Err-TooLong-clause-err g c = λ begin start name t.
       _,
       subst (λ (m : g.row.M.Denot). Telling (g.M.Machine.Becomes begin) g.M.Machine.next start
           (g.D.Desk.state c.feed.new.desk) name m c.feed.new.reader c.loop-input.page) (sym n.machine)
-          (telling_read _ g.M.Machine.next _ start _ _ name _ _ _ n.reads n.none
+          (telling_read _ g.M.Machine.next _ start _ _ name _ _ _ n.reads n.none n.goes_on
           (c.loop-input.invariant.telling begin start name t)),
       (λ other. refl),
       λ same. absurd (let e : TooLong 0 ≡ WriteFault = same in cc),
@@ -73,7 +80,7 @@ returns-in-Err-Fault-clause-err g c = λ begin start name t.
       _,
       subst (λ (m : g.row.M.Denot). Telling (g.M.Machine.Becomes begin) g.M.Machine.next start
           (g.D.Desk.state c.feed.new.desk) name m c.feed.new.reader c.loop-input.page) (sym n.machine)
-          (telling_read _ g.M.Machine.next _ start _ _ name _ _ _ n.reads n.none
+          (telling_read _ g.M.Machine.next _ start _ _ name _ _ _ n.reads n.none n.goes_on
           (c.loop-input.invariant.telling begin start name t)),
       (λ other. refl),
       λ same. absurd (let e : ReadFault 0 ≡ WriteFault = same in cc),

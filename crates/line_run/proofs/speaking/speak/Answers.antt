@@ -3,7 +3,7 @@ use Rattle.line_run.specs.SpeakingOn.{start_over}
 use Rattle.file_run.proofs.FedLemmas.{less_left}
 use Rattle.file_run.proofs.RunningLemmas.{at_end}
 use Rattle.line_run.proofs.SpeakLemmas.{speaking_first, speaking_said, stopped_saying, speaking_fed, stopped_unfed, speaks_all}
-use Rattle.line_run.proofs.SpeakLemmas.{still_open, reader_at}
+use Rattle.line_run.proofs.SpeakLemmas.{still_open, can_go_on, reader_at}
 use Rattle.line_run.proofs.speaking.speak.Goals as goal
 
 pub returns-in-Err-clause-err : goal.returns-in-Err-clause-err
@@ -88,6 +88,13 @@ pub feed-requires-clause-is_open : goal.feed-requires-clause-is_open
 feed-requires-clause-is_open g c =
     let w = c.in-Read.ensures.wanted _ _ c.loop-input.invariant.speaking.came in
     still_open _ g.M.Machine.reach _ _ _ _ _ _
+    (omega (arith, w.place, c.requires.inputs, c.loop-input.invariant.speaking.runs.spoken.all))
+    c.loop-input.invariant.speaking w.is_open
+
+pub feed-requires-clause-going : goal.feed-requires-clause-going
+feed-requires-clause-going g c =
+    let w = c.in-Read.ensures.wanted _ _ c.loop-input.invariant.speaking.came in
+    can_go_on _ g.M.Machine.reach _ _ _ _ _ _
     (omega (arith, w.place, c.requires.inputs, c.loop-input.invariant.speaking.runs.spoken.all))
     c.loop-input.invariant.speaking w.is_open
 

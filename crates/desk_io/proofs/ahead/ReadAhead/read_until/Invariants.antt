@@ -1,5 +1,5 @@
-use Rattle.std.proofs.Common.{◌<◌, ◌≤◌, ◌-◌, ◌+◌, ℕ, length}
-use Rattle.ports.specs.Desk.{SameCounts}
+use Rattle.std.proofs.Common.{◌≡◌, false, ◌<◌, ◌≤◌, ◌-◌, ◌+◌, ℕ, length}
+use Rattle.ports.specs.Desk.{SameCounts, has_run_out}
 use Rattle.desk_io.specs.Reading.{given_of, longest_file, ReadsOn, TakesNone}
 use Rattle.desk_io.proofs.ahead.ReadAhead.read_until.Given as goal
 
@@ -9,6 +9,7 @@ invariant-loop-self g l = record {
   none : TakesNone (g.D.Desk.state l.initial.desk) (g.D.Desk.state l.desk) l.initial.self l.self;
   limit : (limit : ℕ) → given_of l.initial.self ≤ limit → l.initial.self.taken + l.most ≤ limit → given_of l.self ≤ limit;
   short : given_of l.self < longest_file;
+  going : has_run_out (g.D.Desk.state l.desk) l.initial.self.handle ≡ false;
   counts : SameCounts (g.D.Desk.state l.initial.desk) (g.D.Desk.state l.desk);
 }
 

@@ -11,9 +11,10 @@ pub returns-clause-ok : goal.returns-clause-ok
 returns-clause-ok c =
     let came : c.args.handle < length c.self.inside.handles.items = grind (arith, common_steps, length-map) in
     rw (← c.self.view_is)
-    (reads_on (files_of c.self.inside.files) c.self.inside.handles.items _ c.self.inside.said.items _ _ c.args.handle
+    (reads_on (files_of c.self.inside.files) c.self.inside.handles.items _ _ _ _ c.args.handle
     c.read.result c.index_mut.result.now c.read.new.self c.read.new.buffer
-    came c.index_mut.ensures.value c.read.ensures.name c.read.ensures.place c.read.ensures.next c.read.ensures.end)
+    came c.index_mut.ensures.value c.read.ensures.name c.read.ensures.place c.read.ensures.ended c.read.ensures.next
+    c.read.ensures.end)
 
 pub returns-clause-given : goal.returns-clause-given
 unfolding Gives

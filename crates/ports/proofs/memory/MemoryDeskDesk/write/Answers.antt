@@ -11,5 +11,5 @@ returns-then-append-clause-ok c =
     let named = c.as_str-name.ensures.value ∙ ap string_bytes c.index.ensures
     ∙ sym (get_or-map string_bytes c.self.inside.outs.items c.args.out c.index.result.now [] inside) in
     rw (← c.self.view_is)
-    (writes_on (files_of c.self.inside.files) (files_of c.append.new.files) _ _ _ _ _ _ c.args.out _ _ named
+    (writes_on (files_of c.self.inside.files) (files_of c.append.new.files) _ _ _ _ _ _ _ c.args.out _ _ named
     (c.append.ensures.done c.if-append.true))
