@@ -1,4 +1,4 @@
-pub mod RecordLemmas
-mod MergerLemmas
-pub mod PickLemmas
 pub mod GrowLemmas
+pub mod MergerLemmas
+pub mod PickLemmas
+pub mod RecordLemmas

@@ -4,7 +4,6 @@
 mod laws;
 mod merger;
 mod picking;
-mod record;
 mod seen;
 
 pub use laws::{grow_law, picks_law};

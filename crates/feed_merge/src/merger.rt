@@ -1,26 +1,24 @@
-// Frames of records in, units out.
-ghost use Rattle.std.specs.Prelude.{◌≡◌, ◌<◌, ◌^◌, true};
+// Frames that are held in, units out.
+ghost use Rattle.std.specs.Prelude.{◌≡◌, ◌<◌, ◌≤◌, ◌^◌, true, length};
 ghost use Rattle.plp_config.specs.declared.moment.TheConstants.{MOST_FRAMES};
-ghost use Rattle.frame_writer.specs.Flowing.{packet_bound};
-ghost use Rattle.feed_merge.specs.PlaceOver.{IsOver, number_of};
+ghost use Rattle.pool_frame.specs.Left.{IsOver};
 
-use crate::record::RecordPlace;
-use formed_frames::send_law;
 use frame_writer::Flow;
 use plp_config::Plan;
-use site_frame::RecordView;
+use pool_frame::{PoolFrame, PoolPlace};
 use ts_packet::SIZE;
 
-/// Makes one T2-MI stream of the frames of records: begin a frame by its record, take the units, each with the same record; behind the
-/// last frame finish, and take the rest.
+/// Makes one T2-MI stream of frames: begin a frame, take the units, each with the same frame; behind the last frame finish, and take
+/// the rest.
 #[derive(Drop)]
 pub struct Merger<'p> {
     plan: &'p Plan,
     flow: Flow,
-    // How far the packets of the last frame were built. Its record is not kept.
-    place: RecordPlace,
+    // How far the packets of the last frame were built. The frame is not kept.
+    place: PoolPlace,
     ghost over: { flow.dry ≡ true → IsOver place },
-    ghost early: { number_of place < MOST_FRAMES },
+    ghost early: { place.number < MOST_FRAMES },
+    ghost inside: { place.plp ≤ length plan.now.plps },
 }
 
 // The PID of the T2-MI stream.
@@ -33,17 +31,19 @@ fn pid_of(plan: &Plan) -> u16
 }
 
 impl<'p> Merger<'p> {
-    ghost use Rattle.std.specs.Prelude.{◌≡◌, ◌<◌, ◌≤◌, ◌+◌, ◌*◌, ◌↔◌, ◌++◌, ◌∷◌, ℕ, List, [], true, false, length, Some, None, slice_get, ◌^◌};
-    ghost use Rattle.plp_config.specs.declared.config.Config.{Config};
+    ghost use Rattle.std.specs.Prelude.{◌≡◌, ◌<◌, ◌≤◌, ◌+◌, ◌*◌, ◌++◌, ℕ, List, [], true, false, length, Some, slice_get};
+    ghost use Rattle.t2mi_packet.specs.declared.packet.Body.{Body};
     ghost use Rattle.t2mi_stream.specs.Complete.{complete_units};
     ghost use Rattle.t2mi_stream.specs.Pipe.{pipe};
-    ghost use Rattle.formed_frames.specs.Formed.{IsFormed};
-    ghost use Rattle.formed_frames.specs.Remade.{NumberedView, remade_packets, view_bodies};
-    ghost use Rattle.feed_merge.specs.StandsFor.{MergerStandsFor, config_of, frame_of, has_unit, has_finished, is_fed, bytes_left};
+    ghost use Rattle.frame_writer.specs.Carried.{of_frame};
+    ghost use Rattle.frame_writer.specs.Flowing.{packet_bound};
+    ghost use Rattle.frame_writer.specs.FramePackets.{packets_from};
+    ghost use Rattle.pool_frame.specs.Left.{CanBeSent, bodies_of};
+    ghost use Rattle.feed_merge.specs.StandsFor.{MergerStandsFor, config_of, frame_of, left_in, has_unit, has_finished, is_fed, bytes_left};
 
     /// A merger to which no frame was given, for a plan. It takes no memory.
     pub fn new(plan: &'p Plan) -> Merger<'p>
-        ensures stands { MergerStandsFor result plan.now [] 0 }
+        ensures stands { MergerStandsFor result [] [] 0 }
         ensures config { config_of result ≡ plan.now }
         ensures unit { has_unit result ≡ false }
         ensures finished { has_finished result ≡ false }
@@ -51,69 +51,69 @@ impl<'p> Merger<'p> {
         Merger {
             plan,
             flow: Flow::new(pid_of(plan)),
-            place: RecordPlace::over(),
+            place: PoolPlace::over(),
         }
     }
 
-    /// Begins a frame by its record: all complete units of the frames before were taken, and [`Merger::finish`] was not called.
-    pub fn frame(&mut self, number: u64, view: &RecordView<'_>)
-        requires formed { IsFormed (config_of self.old) number view.now }
+    /// Begins a frame: all complete units of the frames before were taken, and [`Merger::finish`] was not called.
+    pub fn frame(&mut self, number: u64, frame: &PoolFrame<'_>)
+        requires can { CanBeSent (config_of self.old) frame.now }
         requires early { number < MOST_FRAMES }
         requires given { has_unit self.old ≡ false }
         requires open { has_finished self.old ≡ false }
-        ensures stands { (c : Config) (frames : List NumberedView) (given : ℕ) → MergerStandsFor self.old c frames given
-            → MergerStandsFor self.new c (frames ++ record { number = number; view = view.now } ∷ []) given }
+        ensures stands { (all : List (ℕ × Body)) (given : ℕ) → MergerStandsFor self.old [] all given
+            → MergerStandsFor self.new (left_in self.new frame.now)
+            (all ++ of_frame number (bodies_of (config_of self.old) number frame.now)) given }
         ensures config { config_of self.new ≡ config_of self.old }
         ensures frame { frame_of self.new ≡ number }
         ensures finished { has_finished self.new ≡ false }
         // It has no more to give than its packets have bytes, and what was left.
-        ensures more { bytes_left self.new (Some (record { number = number; view = view.now }))
-            ≤ bytes_left self.old None + packet_bound * length (view_bodies (config_of self.old) number view.now) }
+        ensures more { bytes_left self.new (left_in self.new frame.now)
+            ≤ bytes_left self.old [] + packet_bound * length (bodies_of (config_of self.old) number frame.now) }
     {
-        send_law();
-        let mut place = RecordPlace::first(self.plan, number);
-        self.flow.begin(view, self.plan, &mut place);
+        let mut place = PoolPlace::first(self.plan, number);
+        self.flow.begin(frame, self.plan, &mut place);
         self.place = place;
     }
 
-    /// Gives the next unit of the frames begun, if it is complete, and behind the last one also the rest. The record is that of the last
-    /// frame that was begun. Else nothing changes.
-    pub fn next_ts(&mut self, view: &RecordView<'_>, out: &mut [u8; SIZE]) -> bool
-        requires formed { IsFormed (config_of self.old) (frame_of self.old) view.now }
+    /// Gives the next unit of the frames begun, if it is complete, and behind the last one also the rest. The frame is the last one
+    /// that was begun. Else nothing changes.
+    pub fn next_ts(&mut self, frame: &PoolFrame<'_>, out: &mut [u8; SIZE]) -> bool
+        requires can { CanBeSent (config_of self.old) frame.now }
         // Each unit is the next one of all, whatever frames follow; after the end none follows.
-        ensures unit { result ≡ true → (c : Config) (before : List NumberedView) (given : ℕ)
-            → MergerStandsFor self.old c (before ++ record { number = frame_of self.old; view = view.now } ∷ []) given
+        ensures unit { result ≡ true → (all : List (ℕ × Body)) (given : ℕ)
+            → MergerStandsFor self.old (left_in self.old frame.now) all given
             → (more : List (List ℕ)) → (has_finished self.old ≡ true → more ≡ [])
-            → slice_get (pipe c.pid (remade_packets c (before ++ record { number = frame_of self.old; view = view.now } ∷ [])
-            ++ more)) given ≡ Some out.new }
-        ensures stands { result ≡ true → (c : Config) (before : List NumberedView) (given : ℕ)
-            → MergerStandsFor self.old c (before ++ record { number = frame_of self.old; view = view.now } ∷ []) given
-            → MergerStandsFor self.new c (before ++ record { number = frame_of self.old; view = view.now } ∷ []) (given + 1) }
-        ensures kept { result ≡ false → (c : Config) (before : List NumberedView) (given : ℕ)
-            → MergerStandsFor self.old c (before ++ record { number = frame_of self.old; view = view.now } ∷ []) given
-            → MergerStandsFor self.new c (before ++ record { number = frame_of self.old; view = view.now } ∷ []) given }
+            → slice_get (pipe (config_of self.old).pid (packets_from (config_of self.old) 0 all ++ more)) given ≡ Some out.new }
+        ensures stands { result ≡ true → (all : List (ℕ × Body)) (given : ℕ)
+            → MergerStandsFor self.old (left_in self.old frame.now) all given
+            → MergerStandsFor self.new (left_in self.new frame.now) all (given + 1) }
+        ensures kept { result ≡ false → (left : List Body) (all : List (ℕ × Body)) (given : ℕ)
+            → MergerStandsFor self.old left all given → MergerStandsFor self.new left all given }
+        ensures left { result ≡ false → left_in self.new frame.now ≡ left_in self.old frame.now }
+        ensures idle { result ≡ false → has_unit self.new ≡ false }
+        // None is complete only if all packets of the frame were built.
+        ensures spent { result ≡ false → left_in self.old frame.now ≡ [] }
         ensures stays { result ≡ false → out.new ≡ out.old }
         // Before the end a unit of the frames begun is given as soon as it is complete, and no other.
-        ensures complete { result ≡ true → has_finished self.old ≡ false → (c : Config) (before : List NumberedView) (given : ℕ)
-            → MergerStandsFor self.old c (before ++ record { number = frame_of self.old; view = view.now } ∷ []) given
-            → given < length (complete_units c.pid
-            (remade_packets c (before ++ record { number = frame_of self.old; view = view.now } ∷ []))) }
-        ensures caught_up { result ≡ false → has_finished self.old ≡ false → (c : Config) (before : List NumberedView) (given : ℕ)
-            → MergerStandsFor self.old c (before ++ record { number = frame_of self.old; view = view.now } ∷ []) given
-            → given ≡ length (complete_units c.pid
-            (remade_packets c (before ++ record { number = frame_of self.old; view = view.now } ∷ []))) }
+        ensures complete { result ≡ true → has_finished self.old ≡ false → (all : List (ℕ × Body)) (given : ℕ)
+            → MergerStandsFor self.old (left_in self.old frame.now) all given
+            → given < length (complete_units (config_of self.old).pid (packets_from (config_of self.old) 0 all)) }
+        ensures caught_up { result ≡ false → has_finished self.old ≡ false → (all : List (ℕ × Body)) (given : ℕ)
+            → MergerStandsFor self.old (left_in self.old frame.now) all given
+            → given ≡ length (complete_units (config_of self.old).pid (packets_from (config_of self.old) 0 all)) }
         ensures is { result ≡ has_unit self.old }
-        ensures idle { result ≡ false → has_unit self.new ≡ false }
         // So a loop that takes units ends.
-        ensures less { result ≡ true → bytes_left self.new (Some (record { number = frame_of self.old; view = view.now }))
-            < bytes_left self.old (Some (record { number = frame_of self.old; view = view.now })) }
+        ensures less { result ≡ true → bytes_left self.new (left_in self.new frame.now)
+            < bytes_left self.old (left_in self.old frame.now) }
+        // Behind the last unit nothing of the frame is left.
+        ensures over { is_fed self.new ≡ true → left_in self.new frame.now ≡ [] }
         ensures config { config_of self.new ≡ config_of self.old }
         ensures frame { frame_of self.new ≡ frame_of self.old }
         ensures finished { has_finished self.new ≡ has_finished self.old }
     {
-        send_law();
         let mut place = self.place;
-        let given = self.flow.next(view, self.plan, &mut place, out);
+        let given = self.flow.next(frame, self.plan, &mut place, out);
         self.place = place;
         given
     }
@@ -122,12 +122,12 @@ impl<'p> Merger<'p> {
     pub fn finish(&mut self)
         requires given { has_unit self.old ≡ false }
         requires open { has_finished self.old ≡ false }
-        ensures stands { (c : Config) (frames : List NumberedView) (given : ℕ) → MergerStandsFor self.old c frames given
-            → MergerStandsFor self.new c frames given }
+        ensures stands { (left : List Body) (all : List (ℕ × Body)) (given : ℕ) → MergerStandsFor self.old left all given
+            → MergerStandsFor self.new left all given }
         ensures config { config_of self.new ≡ config_of self.old }
         ensures finished { has_finished self.new ≡ true }
         ensures fed { is_fed self.new ≡ true }
-        ensures left { bytes_left self.new None ≡ bytes_left self.old None }
+        ensures left { bytes_left self.new [] ≡ bytes_left self.old [] }
     {
         self.flow.finish();
     }
@@ -136,17 +136,17 @@ impl<'p> Merger<'p> {
     pub fn rest(&mut self, out: &mut [u8; SIZE]) -> bool
         requires finished { has_finished self.old ≡ true }
         requires fed { is_fed self.old ≡ true }
-        ensures unit { result ≡ true → (c : Config) (frames : List NumberedView) (given : ℕ) → MergerStandsFor self.old c frames given
-            → slice_get (pipe c.pid (remade_packets c frames)) given ≡ Some out.new }
-        ensures stands { result ≡ true → (c : Config) (frames : List NumberedView) (given : ℕ) → MergerStandsFor self.old c frames given
-            → MergerStandsFor self.new c frames (given + 1) }
-        ensures none { result ≡ false → (c : Config) (frames : List NumberedView) (given : ℕ) → MergerStandsFor self.old c frames given
-            → length (pipe c.pid (remade_packets c frames)) ≡ given }
-        ensures kept { result ≡ false → (c : Config) (frames : List NumberedView) (given : ℕ) → MergerStandsFor self.old c frames given
-            → MergerStandsFor self.new c frames given }
+        ensures unit { result ≡ true → (all : List (ℕ × Body)) (given : ℕ) → MergerStandsFor self.old [] all given
+            → slice_get (pipe (config_of self.old).pid (packets_from (config_of self.old) 0 all)) given ≡ Some out.new }
+        ensures stands { result ≡ true → (all : List (ℕ × Body)) (given : ℕ) → MergerStandsFor self.old [] all given
+            → MergerStandsFor self.new [] all (given + 1) }
+        ensures none { result ≡ false → (all : List (ℕ × Body)) (given : ℕ) → MergerStandsFor self.old [] all given
+            → length (pipe (config_of self.old).pid (packets_from (config_of self.old) 0 all)) ≡ given }
+        ensures kept { result ≡ false → (all : List (ℕ × Body)) (given : ℕ) → MergerStandsFor self.old [] all given
+            → MergerStandsFor self.new [] all given }
         ensures stays { result ≡ false → out.new ≡ out.old }
         ensures is { result ≡ has_unit self.old }
-        ensures less { result ≡ true → bytes_left self.new None < bytes_left self.old None }
+        ensures less { result ≡ true → bytes_left self.new [] < bytes_left self.old [] }
         ensures config { config_of self.new ≡ config_of self.old }
         ensures finished { has_finished self.new ≡ true }
         ensures fed { is_fed self.new ≡ true }

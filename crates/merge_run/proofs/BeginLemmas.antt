@@ -33,9 +33,9 @@ use Rattle.held_feed.specs.Skips.{one_if, AreTaken, Takes, IsSameFeed}
 use Rattle.held_feed.specs.StandsFor.{FrameFeedStandsFor, waiting_of, is_whole}
 use Rattle.held_feed.specs.StandsFor as feed
 use Rattle.held_feed.specs.declared.feed.FrameFeed.{FrameFeed}
-use Rattle.pool_merger.specs.StandsFor.{MergerStandsFor, has_unit, has_finished, is_fed, bytes_left}
-use Rattle.pool_merger.specs.StandsFor as merger
-use Rattle.pool_merger.specs.declared.merger.Merger.{Merger}
+use Rattle.feed_merge.specs.StandsFor.{MergerStandsFor, has_unit, has_finished, is_fed, bytes_left}
+use Rattle.feed_merge.specs.StandsFor as merger
+use Rattle.feed_merge.specs.declared.merger.Merger.{Merger}
 use Rattle.merge_run.specs.Counted.{counted, added}
 use Rattle.merge_run.specs.Sending.{numbered, frame_by, left_for, BeginsAs, Begins}
 use Rattle.merge_run.specs.Shown.{IsFedWith, IsHeld, OfFeed, IsPast, NoneComes, Sends, IsReading, IsLive, IsIn, is_held}

@@ -19,7 +19,7 @@ use Rattle.t2mi_stream.specs.CompleteLaws.{CompleteLaw}
 use Rattle.t2mi_stream.specs.Pipe.{pipe, units_in}
 use Rattle.formed_frames.specs.Remade.{NumberedView, remade_packets}
 use Rattle.feed_merge.specs.Picks.{Picked, picks, picks_below, above_all, frames_of}
-use Rattle.pool_merger.specs.StandsFor.{has_finished}
+use Rattle.feed_merge.specs.StandsFor.{has_finished}
 use Rattle.held_feed.specs.StandsFor.{IsFirst, waiting_of}
 use Rattle.held_feed.specs.StandsFor as feed
 use Rattle.held_feed.specs.declared.feed.FrameFeed.{FrameFeed}

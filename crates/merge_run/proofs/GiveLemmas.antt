@@ -24,9 +24,9 @@ use Rattle.held_feed.specs.Skips.{one_if, Takes, IsSameFeed}
 use Rattle.held_feed.specs.StandsFor.{FrameFeedStandsFor, waiting_of, is_whole}
 use Rattle.held_feed.specs.StandsFor as feed
 use Rattle.held_feed.specs.declared.feed.FrameFeed.{FrameFeed}
-use Rattle.pool_merger.specs.StandsFor.{MergerStandsFor, has_finished, is_fed, bytes_left}
-use Rattle.pool_merger.specs.StandsFor as merger
-use Rattle.pool_merger.specs.declared.merger.Merger.{Merger}
+use Rattle.feed_merge.specs.StandsFor.{MergerStandsFor, has_finished, is_fed, bytes_left}
+use Rattle.feed_merge.specs.StandsFor as merger
+use Rattle.feed_merge.specs.declared.merger.Merger.{Merger}
 use Rattle.merge_run.specs.Sending.{left_for, GivesUnit, GivesNone, Nexts}
 use Rattle.merge_run.specs.Shown.{IsFedWith, IsBehind, OfFeed, IsPast, Sends, IsGiving, IsResting, IsIn, is_held, feed_of, left_at}
 use Rattle.merge_run.specs.Shown.{more_units, frame_bytes, Shown}

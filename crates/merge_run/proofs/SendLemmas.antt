@@ -19,11 +19,11 @@ use Rattle.t2mi_stream.proofs.CompleteLemmas.{shorter_front, complete_law}
 use Rattle.frame_writer.specs.FramePackets.{packets_from}
 use Rattle.frame_writer.proofs.CarriedLemmas.{packets_append}
 use Rattle.formed_frames.specs.Remade.{NumberedView, remade_packets, remade_bodies, frame_pairs}
-use Rattle.pool_merger.specs.declared.merger.Merger.{Merger}
+use Rattle.feed_merge.specs.declared.merger.Merger.{Merger}
 use Rattle.feed_merge.specs.declared.seen.Feed.{Feed}
 use Rattle.feed_merge.specs.declared.seen.Feed.TheVariants.{A, B}
 use Rattle.feed_merge.specs.Picks.{Picked, frames_of}
-use Rattle.pool_merger.specs.StandsFor.{MergerStandsFor, config_of, has_finished}
+use Rattle.feed_merge.specs.StandsFor.{MergerStandsFor, config_of, has_finished}
 use Rattle.merge_run.specs.Counted.{from_first, from_second, counted, added}
 use Rattle.merge_run.specs.Sending.{BeginsAs}
 use Rattle.merge_run.specs.Shown.{Sends}

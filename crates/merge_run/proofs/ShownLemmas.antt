@@ -14,9 +14,9 @@ use Rattle.held_feed.specs.StandsFor.{FrameFeedStandsFor, waiting_of}
 use Rattle.held_feed.specs.StandsFor as feed
 use Rattle.held_feed.specs.declared.feed.FrameFeed.{FrameFeed}
 use Rattle.feed_merge.specs.Picks.{Picked, picks, frames_of}
-use Rattle.pool_merger.specs.StandsFor.{MergerStandsFor, has_unit, has_finished}
-use Rattle.pool_merger.specs.StandsFor as merger
-use Rattle.pool_merger.specs.declared.merger.Merger.{Merger}
+use Rattle.feed_merge.specs.StandsFor.{MergerStandsFor, has_unit, has_finished}
+use Rattle.feed_merge.specs.StandsFor as merger
+use Rattle.feed_merge.specs.declared.merger.Merger.{Merger}
 use Rattle.merge_run.specs.Counted.{counted}
 use Rattle.merge_run.specs.Shown.{IsFedWith, IsBehind, OfFeed, IsPast, Sends, IsReading, IsLive, IsIn, Shown}
 use Rattle.merge_run.specs.Shown.{is_held, feed_of, left_at, more_units, frame_bytes}

@@ -13,8 +13,8 @@ use Rattle.pool_frame.specs.declared.frame.PoolFrame.{PoolFrame}
 use Rattle.held_feed.specs.Frames.{IsFrameOf}
 use Rattle.held_feed.specs.StandsFor as feed
 use Rattle.held_feed.specs.declared.feed.FrameFeed.{FrameFeed}
-use Rattle.pool_merger.specs.StandsFor.{MergerStandsFor, config_of, left_in, has_unit, has_finished, bytes_left}
-use Rattle.pool_merger.specs.declared.merger.Merger.{Merger}
+use Rattle.feed_merge.specs.StandsFor.{MergerStandsFor, config_of, left_in, has_unit, has_finished, bytes_left}
+use Rattle.feed_merge.specs.declared.merger.Merger.{Merger}
 use Rattle.merge_run.specs.Sending.{left_for, GivesSo}
 use Rattle.merge_run.proofs.CameLemmas.{number_of}
 

@@ -17,7 +17,7 @@ use Rattle.feed_merge.specs.declared.seen.Feed.TheVariants.{A, B}
 use Rattle.pool_frame.specs.declared.frame.PoolFrame.{PoolFrame}
 use Rattle.held_feed.specs.Frames.{IsFrameOf}
 use Rattle.held_feed.specs.declared.feed.FrameFeed.{FrameFeed}
-use Rattle.pool_merger.specs.declared.merger.Merger.{Merger}
+use Rattle.feed_merge.specs.declared.merger.Merger.{Merger}
 use Rattle.merge_run.specs.Sending.{Nexts, NextsAll, GivesAll, EndsSo}
 use Rattle.merge_run.specs.Shown.{Sends, Shown, is_held, feed_of, left_at}
 use Rattle.merge_run.specs.Steps.{left_of}

@@ -21,8 +21,8 @@ use Rattle.held_feed.specs.Frames.{dynamic_of, lists_of}
 use Rattle.held_feed.specs.StandsFor.{FrameFeedStandsFor}
 use Rattle.held_feed.specs.StandsFor as feed
 use Rattle.held_feed.specs.declared.feed.FrameFeed.{FrameFeed}
-use Rattle.pool_merger.specs.StandsFor.{MergerStandsFor, config_of, left_in, left_by, has_unit, has_finished, bytes_left}
-use Rattle.pool_merger.specs.declared.merger.Merger.{Merger}
+use Rattle.feed_merge.specs.StandsFor.{MergerStandsFor, config_of, left_in, left_by, has_unit, has_finished, bytes_left}
+use Rattle.feed_merge.specs.declared.merger.Merger.{Merger}
 
 abbrev pub numbered : ℕ → RecordView → NumberedView
 numbered n view = record { number = n; view = view }

@@ -19,9 +19,9 @@ use Rattle.feed_merge.specs.declared.seen.Feed.TheVariants.{A, B}
 use Rattle.held_feed.specs.StandsFor.{FrameFeedStandsFor, IsFirst, waiting_of, is_whole}
 use Rattle.held_feed.specs.StandsFor as feed
 use Rattle.held_feed.specs.declared.feed.FrameFeed.{FrameFeed}
-use Rattle.pool_merger.specs.StandsFor.{MergerStandsFor, has_unit, has_finished, is_fed, bytes_left}
-use Rattle.pool_merger.specs.StandsFor as merger
-use Rattle.pool_merger.specs.declared.merger.Merger.{Merger}
+use Rattle.feed_merge.specs.StandsFor.{MergerStandsFor, has_unit, has_finished, is_fed, bytes_left}
+use Rattle.feed_merge.specs.StandsFor as merger
+use Rattle.feed_merge.specs.declared.merger.Merger.{Merger}
 use Rattle.merge_run.specs.Counted.{counted}
 use Rattle.merge_run.specs.Sending.{left_for}
 use Rattle.merge_run.specs.Taking.{is_same, feed_in}

@@ -7,7 +7,7 @@ use Rattle.held_feed.specs.Reading.{step_by, fed_at}
 use Rattle.held_feed.specs.StandsFor.{waiting_of, has_ended, fed_of}
 use Rattle.held_feed.specs.StandsFor as feed
 use Rattle.held_feed.specs.declared.feed.FrameFeed.{FrameFeed}
-use Rattle.pool_merger.specs.declared.merger.Merger.{Merger}
+use Rattle.feed_merge.specs.declared.merger.Merger.{Merger}
 use Rattle.merge_run.specs.Shown.{feed_of, more_units, frame_bytes}
 use Rattle.merge_run.specs.declared.merging.Merging.{Merging}
 use Rattle.merge_run.specs.declared.phase.Phase.{Phase}

@@ -18,13 +18,12 @@ use crate::sending::{begin_frame, give_frame};
 use crate::stop::Ran;
 use crate::taking::{is_picked, pick_next, skip_others, skip_source, source_of};
 use bit_slice::OutOfMemory;
-use feed_merge::{Feed, grow_law};
+use feed_merge::{Feed, Merger, grow_law};
 use file_run::{Step, events_law};
 use formed_frames::formed_law;
 use held_feed::{FrameFeed, least_number, next_step};
 use modulator::due_records_law;
 use plp_config::{Plan, block_law};
-use pool_merger::Merger;
 use std::alloc::Global;
 use ts_packet::SIZE;
 

@@ -6,14 +6,14 @@ ghost use Rattle.pool_frame.specs.Left.{CanBeSent};
 ghost use Rattle.pool_frame.specs.declared.frame.PoolFrame.{PoolFrame};
 ghost use Rattle.held_feed.specs.Frames.{IsFrameOf};
 ghost use Rattle.held_feed.specs.StandsFor.{config_of as network_of, waiting_of, is_whole};
-ghost use Rattle.pool_merger.specs.StandsFor.{config_of, has_unit, has_finished};
+ghost use Rattle.feed_merge.specs.StandsFor.{config_of, has_unit, has_finished};
 ghost use Rattle.merge_run.specs.Sending.{Begins, Nexts, NextsAll};
 
+use feed_merge::Merger;
 use formed_frames::shown_law;
 use held_feed::FrameFeed;
 use modulator::due_records_law;
 use pool_frame::PoolFrame;
-use pool_merger::Merger;
 use ts_packet::SIZE;
 
 /// Begins the frame that waits in a feed of the same network.

@@ -8,7 +8,7 @@ use Rattle.formed_frames.specs.Remade.{remade_bodies, view_bodies}
 use Rattle.open_group.specs.Shown.{Shows}
 use Rattle.pool_frame.specs.Left.{bodies_of}
 use Rattle.held_feed.specs.Frames.{dynamic_of, lists_of}
-use Rattle.pool_merger.specs.StandsFor.{MergerStandsFor, config_of, left_in, bytes_left}
+use Rattle.feed_merge.specs.StandsFor.{MergerStandsFor, config_of, left_in, bytes_left}
 use Rattle.merge_run.specs.Sending.{frame_by, left_for}
 use Rattle.merge_run.proofs.FrameLemmas.{pushed, sent}
 use Rattle.merge_run.proofs.UnitLemmas.{left_is, sent_in}

@@ -1,7 +1,7 @@
 use Rattle.std.proofs.Common.{◌≡◌, ◌*◌, ◌≤◌, ◌-◌, ℕ, List, length, take}
 use Rattle.ts_packet.specs.TsFile.{joined}
 use Rattle.ts_packet.specs.declared.sizes.TheConstants.{SIZE}
-use Rattle.pool_merger.specs.StandsFor.{config_of}
+use Rattle.feed_merge.specs.StandsFor.{config_of}
 use Rattle.merge_run.specs.Sending.{GivesAll}
 use Rattle.merge_run.proofs.sending.next_units.Given as goal
 

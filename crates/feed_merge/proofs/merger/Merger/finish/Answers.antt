@@ -1,18 +1,12 @@
-use Rattle.std.specs.List.{last_or}
-use Rattle.std.proofs.Common.{None, [], sym, ◌∙◌}
+use Rattle.std.proofs.Common.{[], sym, ◌∙◌}
 use Rattle.frame_writer.proofs.FlowLemmas.{dry_when}
-use Rattle.feed_merge.specs.PlaceOver.{number_of}
-use Rattle.formed_frames.specs.Remade.{remade_bodies}
-use Rattle.feed_merge.specs.StandsFor.{MergerStandsFor, left_in}
+use Rattle.feed_merge.specs.StandsFor.{MergerStandsFor}
 use Rattle.feed_merge.proofs.merger.Merger.finish.Goals as goal
 
 pub returns-clause-stands : goal.returns-clause-stands
 unfolding MergerStandsFor
-returns-clause-stands c = λ config frames given h. (
-  h.0,
-  c.finish.ensures.flows config (number_of c.args.self.now.place)
-      (left_in config c.args.self.now.place (last_or None frames)) (remade_bodies config frames) given h.1,
-)
+returns-clause-stands c = λ left all given h.
+    c.finish.ensures.flows c.args.self.now.plan.now c.args.self.now.place.number left all given h
 
 pub returns-clause-fed : goal.returns-clause-fed
 returns-clause-fed c =
