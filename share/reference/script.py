@@ -6,9 +6,10 @@ usage: script.py < crates/script_rows/stdin > crates/script_rows/stdout
 
 import sys
 
-from vicelotus import commands, ts
+from vicelotus import commands, packets, people, ts
 from vicelotus.bits import crc32
 from vicelotus.desk import Desk
+from vicelotus.frames import frames_of, length
 
 
 def number(word):
@@ -27,9 +28,62 @@ def cell_word(address, count):
     return block * 32_768 + column * 1_620 + address // 10
 
 
+def first_places(pid, frames):
+    """For each frame the place of its first byte in the units of all of them."""
+    made, starts = [], []
+    for frame in frames:
+        starts.append(sum(map(len, made)))
+        made += frame.packets(len(made))
+    places, at, next_start = [], 0, 0
+    stream = packets.pipe(pid, made)
+    for begin, end, _, _ in packets.carriers(pid, stream):
+        while next_start < len(starts) and starts[next_start] < at + end - begin:
+            places.append(begin + starts[next_start] - at)
+            next_start += 1
+        at += end - begin
+    return places
+
+
+def ahead_rows(plan, streams, place, count):
+    """How far `gateway` may read the input of a PLP while OUT lacks the first byte of a frame, from frame 1 on."""
+    frames = frames_of(plan, streams, length(plan, list(map(len, streams))))
+    chain, data = plan.chains[place], first_places(plan.config.pid, frames)
+    most = [ts.UNIT * chain.over((number + 2) * plan.ticks) for number in range(count + 1)]
+    return ",".join(f"{data[number] + 1}:{most[number]}" for number in range(1, count + 1))
+
+
+class Page:
+    """A line for each row; what a run says in several lines has lines of its own, and each further run of a row begins another line."""
+
+    def __init__(self):
+        self.at = "line"
+
+    def name(self, line):
+        before = "" if self.at == "line" else "\n"
+        if line.startswith("## "):
+            self.at = "line"
+            return f"{before}\n{line}\n"
+        self.at = "name"
+        return before + line[2:]
+
+    def word(self, word):
+        before = {"line": "", "name": ": ", "answer": ", "}[self.at]
+        self.at = "answer"
+        return before + word
+
+    def run(self, said, end):
+        if said.count("\n") > 1:
+            before, text = {"line": "", "name": ":\n", "answer": "\n"}[self.at], f"{said}  {end}"
+        else:
+            text = f"{said[:-1]}, {end}" if said else end
+            before = {"line": "  ", "name": ": ", "answer": "\n  "}[self.at]
+        self.at = "answer"
+        return before + text
+
+
 class Player:
     def __init__(self):
-        self.defined, self.desk = {}, Desk()
+        self.defined, self.desk, self.page = {}, Desk(), Page()
 
     def files(self, name):
         return self.defined if name[:1].isupper() else self.desk.files
@@ -64,12 +118,35 @@ class Player:
             at += size
         self.files(to)[to] = made
 
-    def run(self, words):
+    def run(self, words, is_told=False, is_hushed=False):
         self.desk.said = []
-        status, outcome = commands.run(["" if word == "-" else word for word in words], self.desk)
-        return "".join(self.desk.said), f"= {status} {outcome}\n"
+        words = ["" if word == "-" else word for word in words]
+        (status, outcome), told = people.watched(words, self.desk) if is_told else (commands.run(words, self.desk), "")
+        return self.page.run("" if is_hushed else "".join(self.desk.said) + told, f"{status} {outcome}")
+
+    def calls(self, bounds, words):
+        """Of each kind of calls whether a run may make so many: it opens each file that it reads, meets its end, and creates OUT."""
+        _, _, out, names = commands.command(self.desk, words)
+        names = names or [words[-1]]
+        least = [len(names), len(names) + 1, int(out is not None), int(out is not None), 1]
+        marks = ""
+        for kind, bound, own in zip(["open", "read", "create", "write", "say"], bounds.split(","), least):
+            low, _, high = bound.partition("-")
+            fits = int(high or low) >= own and (kind not in ("open", "create") or bound == str(own))
+            marks += "+" if fits else "-"
+        return marks
+
+    def ahead(self, writes, name, rows, words):
+        plan = commands.plan_of(self.desk, words[1])
+        streams = [ts.packets_of(self.bytes(word)) for word in words[3:]]
+        own = ahead_rows(plan, streams, words[3:].index(name), len(rows.split(",")))
+        if rows != own:
+            sys.exit(f"script.py: ahead {writes} {name}: the rows are {own}")
+        return writes
 
     def answer(self, line):
+        if line.startswith("#"):
+            return self.page.name(line)
         verb, *words = line.split(" ")
         rest = line.partition(" ")[2]
         if verb == "new":
@@ -77,33 +154,40 @@ class Player:
         elif verb == "file":
             name = words[0]
             self.files(name)[name] = b"".join(map(self.piece, words[1:]))
-        elif verb == "text":
+        elif verb in ("text", "set"):
             name, _, text = rest.partition(" ")
-            self.files(name)[name] = self.bytes(name) + text.encode() + b"\n"
+            lines = self.bytes(name).decode().splitlines()
+            if verb == "text":
+                lines.append(text)
+            else:
+                lines = [text if own.split(" ")[0] == words[1] else own for own in lines]
+            self.files(name)[name] = "".join(own + "\n" for own in lines).encode()
         elif verb == "fail":
             self.desk.failing.setdefault(words[0], []).append(int(words[1]))
         elif verb == "mute":
             self.mute(*words)
-        elif verb == "run":
-            return "".join(self.run(words))
-        elif verb == "hush":
-            return self.run(words)[1]
+        elif verb in ("run", "told", "hush"):
+            return self.run(words, verb == "told", verb == "hush")
         elif verb == "size":
-            return f"= {len(self.bytes(words[0]))}\n" if words[0] in self.files(words[0]) else "= absent\n"
+            name = words[0]
+            return self.page.word(str(len(self.bytes(name))) if name in self.files(name) else "absent")
         elif verb == "crc":
             data = self.bytes(words[0])
-            return f"= {len(data)} {crc32(data):08x}\n"
+            return self.page.word(f"{len(data)} {crc32(data):08x}")
         elif verb == "same":
-            return f"= {str(self.bytes(words[0]) == self.bytes(words[1])).lower()}\n"
+            return self.page.word(str(self.bytes(words[0]) == self.bytes(words[1])).lower())
         elif verb == "calls":
-            return "= true\n"
+            return self.page.word(self.calls(words[0], words[1:]))
+        elif verb == "ahead":
+            return self.page.word(self.ahead(*words[:3], words[3:]))
         return ""
 
 
 def main():
     player = Player()
     for line in sys.stdin.read().splitlines():
-        sys.stdout.write(f"{line}\n{player.answer(line)}")
+        sys.stdout.write(player.answer(line))
+    sys.stdout.write("\n")
 
 
 if __name__ == "__main__":
