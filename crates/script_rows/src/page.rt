@@ -52,12 +52,7 @@ fn before_name(place: Place) -> &'static str {
     if place == Place::Line { "" } else { "\n" }
 }
 
-fn text_of_run(
-    alloc: Global,
-    place: Place,
-    said: &str,
-    end: &str,
-) -> Result<String, AllocError> {
+fn text_of_run(alloc: Global, place: Place, said: &str, end: &str) -> Result<String, AllocError> {
     if said.is_empty() {
         return format!(in alloc; "{}{end}", before_run(place));
     }
