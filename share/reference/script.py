@@ -118,11 +118,11 @@ class Player:
             at += size
         self.files(to)[to] = made
 
-    def run(self, words, is_told=False, is_hushed=False):
+    def run(self, words, is_told=False):
         self.desk.said = []
         words = ["" if word == "-" else word for word in words]
         (status, outcome), told = people.watched(words, self.desk) if is_told else (commands.run(words, self.desk), "")
-        return self.page.run("" if is_hushed else "".join(self.desk.said) + told, f"{status} {outcome}")
+        return "".join(self.desk.said) + told, f"{status} {outcome}"
 
     def calls(self, bounds, words):
         """Of each kind of calls whether a run may make so many: it opens each file that it reads, meets its end, and creates OUT."""
@@ -166,8 +166,10 @@ class Player:
             self.desk.failing.setdefault(words[0], []).append(int(words[1]))
         elif verb == "mute":
             self.mute(*words)
-        elif verb in ("run", "told", "hush"):
-            return self.run(words, verb == "told", verb == "hush")
+        elif verb in ("run", "told"):
+            return self.page.run(*self.run(words, verb == "told"))
+        elif verb == "hush":
+            return self.page.word(self.run(words)[1])
         elif verb == "size":
             name = words[0]
             return self.page.word(str(len(self.bytes(name))) if name in self.files(name) else "absent")

@@ -140,10 +140,7 @@ fn told(bench: &mut Bench, words: &str) -> Result<Came, AllocError> {
 // Runs a command, and tells how it ends.
 fn hush(bench: &mut Bench, words: &str) -> Result<Came, AllocError> {
     let outcome = bench.run(words)?;
-    Ok(Came::Run {
-        said: String::new(bench.alloc()),
-        end: end_of(bench.alloc(), outcome)?,
-    })
+    Ok(Came::Word(end_of(bench.alloc(), outcome)?))
 }
 
 fn size(bench: &Bench, name: &str) -> Result<String, AllocError> {
