@@ -1,13 +1,13 @@
 #!/usr/bin/env python3
-"""Writes streams that no gateway sends as pieces of a script (crates/script_rows/stdin): packets are changed and piped again.
+"""Streams that no gateway sends, as pieces of a script (crates/script_rows/stdin): packets are changed and piped again.
 
 usage: pieces.py CONFIG COUNT [FRAME CHANGE ..] ..
 
-The stream is that of a configuration file with COUNT equal packets in each input, as `file i @PACKET*COUNT` and `gateway` make it. In a frame
-its packets are changed, each change behind the one before: `drop KIND N`, `copy KIND N TIMES`, `bits KIND N FROM VALUE WIDTH` (a field of the
-payload), `cut KIND N BYTES` (off a block), `move KIND N TO`, `add KIND HEX TO`; KIND is `stamp`, `current`, `block` or a number, N counts those
-of the kind from 0, and TO is a place among the packets of the frame. A word `/` ends the changes of a frame. What is printed is what stands
-behind `file d`, if `t` is the stream that is not changed.
+The stream is that of a configuration file with COUNT equal packets in each input, as `file i @PACKET*COUNT` and `gateway` make it.
+In a frame its packets are changed, each change behind the one before: `drop KIND N`, `copy KIND N TIMES`, `bits KIND N FROM VALUE
+WIDTH` (a field of the payload), `cut KIND N BYTES` (off a block), `move KIND N TO`, `add KIND HEX TO`; KIND is `stamp`, `current`,
+`block` or a number, N counts those of the kind from 0, and TO is a place among the packets of the frame. A word `/` ends the changes of
+a frame. What is printed is what stands behind `file d`, if `t` is the stream that is not changed.
 """
 
 import re
@@ -42,7 +42,8 @@ def changed(own, words):
     while words:
         change, kind, number = words.pop(0), words.pop(0), words.pop(0)
         if change == "add":
-            own.insert(int(words.pop(0)), packets.spell(kind_of(kind), 0, own[0][2] >> 4, bits_of(bytes.fromhex(number))))
+            payload = bits_of(bytes.fromhex(number))
+            own.insert(int(words.pop(0)), packets.spell(kind_of(kind), 0, own[0][2] >> 4, payload))
             continue
         place = find(own, kind, number)
         packet = own.pop(place)

@@ -53,7 +53,7 @@ def ahead_rows(plan, streams, place, count):
 
 
 class Page:
-    """A line for each row; what a run says in several lines has lines of its own, and each further run of a row begins another line."""
+    """A line for each row; several lines of a run stand by themselves, and each further run of a row begins another line."""
 
     def __init__(self):
         self.at = "line"
@@ -113,8 +113,8 @@ class Player:
         data, at, made = self.bytes(source), 0, b""
         for bit in bits:
             size = 24 + int.from_bytes(data[at + 20 : at + 24], "big")
-            is_muted = bit == "1"
-            made += data[at : at + 4] + b"\2\0\0\0" + data[at + 8 : at + 20] + bytes(4) if is_muted else data[at : at + size]
+            muted = data[at : at + 4] + b"\2\0\0\0" + data[at + 8 : at + 20] + bytes(4)
+            made += muted if bit == "1" else data[at : at + size]
             at += size
         self.files(to)[to] = made
 
@@ -125,7 +125,7 @@ class Player:
         return "".join(self.desk.said) + told, f"{status} {outcome}"
 
     def calls(self, bounds, words):
-        """Of each kind of calls whether a run may make so many: it opens each file that it reads, meets its end, and creates OUT."""
+        """Of each kind of calls whether so many may be made: each file is opened and read to its end, and OUT is created."""
         _, _, out, names = commands.command(self.desk, words)
         names = names or [words[-1]]
         least = [len(names), len(names) + 1, int(out is not None), int(out is not None), 1]

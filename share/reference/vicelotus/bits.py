@@ -25,7 +25,7 @@ def bytes_of(bits):
 
 
 def crc32(data):
-    """The CRC-32 of some bytes, made of that of ISO 3309, which reads each byte from its lowest bit on and is complemented."""
+    """The CRC-32 of some bytes, of that of ISO 3309, which reads each byte from its lowest bit on and is complemented."""
     turned = zlib.crc32(data.translate(TURNED)) ^ 0xFFFFFFFF
     return int(f"{turned:032b}"[::-1], 2)
 

@@ -23,7 +23,8 @@ def shape_of(plan, frame, counts):
             start = sum(cells[:place])
         starts.append(start if count else 0)
     ids = [chain.id for chain in plan.chains]
-    return Shape(frame % plan.frames, ids, counts, starts, second // slices if plan.two else 0, first if plan.two else 0)
+    interval, type2_start = (second // slices, first) if plan.two else (0, 0)
+    return Shape(frame % plan.frames, ids, counts, starts, interval, type2_start)
 
 
 def pieces(plan, shape, place):
@@ -53,7 +54,7 @@ def passes(plan, shape):
 
 @lru_cache(64)
 def interleaved(blocks, cells, groups, ordinal):
-    """The words of all cells of some blocks, the first of this ordinal, by their positions in the interleaving frame."""
+    """The words of all cells of some blocks, the first of this ordinal, by their positions."""
     words = array("I", bytes(4 * blocks * cells))
     least, larger = divmod(blocks, groups) if groups else (1, 0)
     sizes = [least] * (groups - larger) + [least + 1] * larger if groups else [1] * blocks

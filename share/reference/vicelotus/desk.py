@@ -12,7 +12,7 @@ def write_fault():
 
 
 class Desk:
-    """Files by name, and what was said. A call that fails is told by its kind and how many calls of the kind come before."""
+    """Files by name, and what was said. A call that fails is told by its kind and its number among those of the kind."""
 
     def __init__(self):
         self.files, self.said, self.failing = {}, [], {}

@@ -3,7 +3,7 @@
 from functools import lru_cache
 
 from . import l1, packets
-from .bits import bits_of, bytes_of, scramble
+from .bits import bytes_of, scramble
 from .blocks import Queue
 from .cells import cell_map, shape_of
 
@@ -12,7 +12,8 @@ class Frame:
     """A frame with its number: the bits of its L1, its blocks, not scrambled, each with its PLP, and its shape."""
 
     def __init__(self, plan, number, pre, conf, dynamic, blocks):
-        self.plan, self.number, self.pre, self.conf, self.dynamic, self.blocks = plan, number, pre, conf, dynamic, blocks
+        self.plan, self.number, self.blocks = plan, number, blocks
+        self.pre, self.conf, self.dynamic = pre, conf, dynamic
         self.shape = l1.read_dyn(plan, dynamic)
 
     def post(self):
@@ -27,13 +28,14 @@ class Frame:
         superframe = self.number // plan.frames
         payloads = []
         if idx == 0:
-            payloads.append((packets.STAMP, packets.stamp_payload(plan.bw, *plan.emission(self.number), plan.config.utco)))
+            moment = plan.emission(self.number)
+            payloads.append((packets.STAMP, packets.stamp_payload(plan.bw, *moment, plan.config.utco)))
         payloads.append((packets.CURRENT, packets.current_payload(idx, self.pre, self.conf, self.dynamic)))
         before = None
         for plp_id, block in self.blocks:
             payloads.append((packets.BLOCK, packets.block_payload(idx, plp_id, plp_id != before, block)))
             before = plp_id
-        return [packets.spell(kind, count + place, superframe, payload) for place, (kind, payload) in enumerate(payloads)]
+        return [packets.spell(kind, count + at, superframe, payload) for at, (kind, payload) in enumerate(payloads)]
 
     def record(self):
         """Its record, as bytes."""
@@ -70,7 +72,8 @@ def made_frame(plan, number, counts, blocks):
 
 def frames_of(plan, inputs, count):
     """The first so many frames of a run; an input is a list of packets."""
-    queues = [Queue(chain, own, (count - 1) // chain.spread) for chain, own in zip(plan.chains, inputs)] if count else []
+    pairs = zip(plan.chains, inputs) if count else []
+    queues = [Queue(chain, own, (count - 1) // chain.spread) for chain, own in pairs]
     for number in range(count):
         counts, blocks = [], []
         for chain, queue in zip(plan.chains, queues):
@@ -82,7 +85,7 @@ def frames_of(plan, inputs, count):
 
 
 def length(plan, counts):
-    """How many frames a run has whose inputs have so many packets: the fewest whole superframes in which all delays have passed."""
+    """How many frames a run has: the fewest whole superframes in which the delays of so many packets have passed."""
     frames = 0
     while any(frames * plan.ticks < chain.start(count) + chain.delay for chain, count in zip(plan.chains, counts)):
         frames += plan.frames

@@ -1,6 +1,6 @@
-"""L1 signalling (EN 302 755, clause 7.2). A part is the bits of its fields; RESERVED fields and AUX_CONFIG_RFU decide nothing."""
+"""L1 signalling (EN 302 755, clause 7.2). A part is the bits of its fields; RESERVED ones and AUX_CONFIG_RFU decide nothing."""
 
-from .bits import bits_of, bytes_of, crc32_of_bits, fields
+from .bits import crc32_of_bits, fields
 from .text import KINDS
 
 PRE = [8, 1, 3, 4, 1, 3, 4, 4, 2, 2, 18, 18, 4, 8, 16, 16, 16, 8, 12, 3, 1, 3, 3, 4, 1, 1, 4]
@@ -99,12 +99,14 @@ def read_dyn(plan, bits):
         return None
     values = split(bits, DYN_HEAD + DYN_PLP * count + DYN_TAIL)
     rows = [values[6 + 4 * place : 10 + 4 * place] for place in range(count)]
-    return Shape(values[0], [row[0] for row in rows], [row[2] for row in rows], [row[1] for row in rows], values[1], values[2])
+    ids, starts, counts, _ = zip(*rows)
+    return Shape(values[0], ids, counts, starts, values[1], values[2])
 
 
 def agrees(plan, frame, shape):
     """Whether a dynamic part is one of this frame, with the PLPs in order."""
-    return shape is not None and shape.frame_idx == frame % plan.frames and list(shape.ids) == [c.id for c in plan.chains]
+    ids = tuple(chain.id for chain in plan.chains)
+    return shape is not None and shape.frame_idx == frame % plan.frames and shape.ids == ids
 
 
 def with_crc(bits):

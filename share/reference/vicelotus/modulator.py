@@ -1,4 +1,4 @@
-"""What a modulator makes of any received bytes: groups of packets, their numbers, and the tests by which a frame is muted."""
+"""What a modulator makes of any received bytes: groups of packets, their numbers, and the tests of each."""
 
 from . import l1, packets
 from .cells import passes
@@ -66,7 +66,7 @@ def pool_cause(plan, group, number, numbered):
 
 
 def is_complete(plan, group, number, numbered, shape):
-    """Whether each interleaving frame that the frame carries has as many blocks as it tells, all of the right length, and no others."""
+    """Whether each interleaving frame that the frame carries has as many blocks as it tells, and each its length."""
     known = {chain.id: chain for chain in plan.chains}
     for packet in group.of(packets.BLOCK):
         if packet.plp_id not in known or packet.block_bits != known[packet.plp_id].bits:

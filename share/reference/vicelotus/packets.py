@@ -60,7 +60,7 @@ class Packet:
 
 
 def current_parts(payload, bits):
-    """L1-pre, the configurable part, the dynamic part and the extension, or nothing if they do not end where the payload does."""
+    """L1-pre, the configurable and the dynamic part, and the extension; nothing if they do not end where the payload does."""
     if bits < 16 + 168:
         return None
     at, parts = 2 + 21, [bits_of(payload[2:23])]
@@ -114,7 +114,7 @@ def pipe(pid, packets, is_whole=True):
 
 
 def carriers(pid, data):
-    """The units that carry packets: the place of each payload without pointer_field, its counter, and what its pointer_field names."""
+    """The units that carry packets: from where to where in the bytes, the counter, and what the pointer_field names."""
     for unit in range(len(data) // ts.UNIT):
         view = ts.read(data[unit * ts.UNIT : (unit + 1) * ts.UNIT])
         if not view or view.pid != pid or view.error or view.scrambling or not view.payload:

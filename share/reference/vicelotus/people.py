@@ -1,4 +1,4 @@
-"""What people are told of a run besides its lines. The sentences are those of the program; what stands in them is counted here."""
+"""What people are told of a run. The sentences are those of the program; what stands in them is counted here."""
 
 from . import commands, l1, packets, records, shared, ts
 from .bits import bits_of, crc8, scramble
@@ -97,7 +97,8 @@ class Units:
         if self.rest:
             line += f"; the last one is cut off behind {self.rest} bytes"
         tallies = [("not beginning with 0x47", self.no_sync), ("of other PIDs", self.other)]
-        tallies += [("marked as wrong or scrambled, or empty", self.unread), ("jumps of the continuity counter", self.jumps)]
+        tallies.append(("marked as wrong or scrambled, or empty", self.unread))
+        tallies.append(("jumps of the continuity counter", self.jumps))
         for what, places in tallies:
             if places:
                 line += f"; {what}: {len(places)}, first at byte {places[0]}"
@@ -183,7 +184,8 @@ def of_receive(plan, desk, name, plp_id, is_joined):
     if muted:
         yield f"{name}: muted frames: {len(muted)} of {count}, records {in_runs(muted)}, {NULLS_STAND}"
     if foreign:
-        yield f"{name}: frames whose L1 is not that of CONFIG: {len(foreign)} of {count}, records {in_runs(foreign)}, {NULLS_STAND}"
+        line = f"{name}: frames whose L1 is not that of CONFIG: {len(foreign)} of {count}"
+        yield f"{line}, records {in_runs(foreign)}, {NULLS_STAND}"
     if blocks:
         places = in_runs(sorted(set(blocks)))
         yield f"{name}: blocks whose header is damaged: {len(blocks)}, in records {places}, {NULLS_STAND}"

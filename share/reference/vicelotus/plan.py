@@ -2,7 +2,7 @@
 
 from math import gcd
 
-from .text import BANDS, BLOCK_BITS, BLOCK_CELLS, KINDS, MODULATIONS, RATES, RECORD_MOST, capacity_refused, validate
+from .text import BANDS, BLOCK_BITS, BLOCK_CELLS, MODULATIONS, RATES, RECORD_MOST, capacity_refused, validate
 
 
 def up(value, divisor):

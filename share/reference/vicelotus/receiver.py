@@ -18,13 +18,15 @@ class Taken:
 
 
 def is_taken(chain, view):
-    return view is not None and view.matype >> 6 == 3 and view.matype >> 3 & 1 == 1 and view.matype >> 2 & 1 == chain.delete
+    # TS/GS, ISSYI and NPD.
+    return view is not None and (view.matype >> 6, view.matype >> 3 & 1, view.matype >> 2 & 1) == (3, 1, chain.delete)
 
 
 def blocks_of(plan, chain, numbered, shapes):
     """The blocks of a PLP that are taken, in order, with their interleaving frames; nothing stands for a gap."""
     if not numbered:
         return
+    records = dict(numbered)
     for m in range(numbered[0][0] // chain.spread, numbered[-1][0] // chain.spread + 1):
         carrying = range(m * chain.spread, (m + 1) * chain.spread)
         own = [shapes.get(number) for number in carrying]
@@ -33,8 +35,8 @@ def blocks_of(plan, chain, numbered, shapes):
             continue
         wrong = set()
         for number in carrying:
-            wrong |= wrong_blocks(plan, shapes[number], chain.place, number, numbered[number - numbered[0][0]][1].parts[3])
-        first = numbered[carrying[0] - numbered[0][0]][1]
+            wrong |= wrong_blocks(plan, shapes[number], chain.place, number, records[number].parts[3])
+        first = records[carrying[0]]
         for place, block in enumerate(block for plp_id, block in first.parts[2] if plp_id == chain.id):
             view = None if place in wrong else read_block(scramble(block))
             yield m, view if is_taken(chain, view) else None

@@ -69,7 +69,7 @@ def all_of(data):
 
 
 def placed(plan, data):
-    """The records of a file with the numbers of their frames, up to its end or to the first that is refused by its bytes or by the plan."""
+    """The records of a file with the numbers of their frames, up to the first that is refused, and that refusal."""
     found, refusal = all_of(data)
     numbered, expected = [], None
     for place, record in enumerate(found):

@@ -27,7 +27,9 @@ def split(plan, inputs):
 
 
 def join(common, own):
-    return [one if not ts.is_null(one) else other if not ts.is_null(other) else ts.NULL for one, other in zip(own, common, strict=True)]
+    """In each slot the packet of its own that is not null, else the common one."""
+    pairs = zip(own, common, strict=True)
+    return [one if not ts.is_null(one) else ts.NULL if ts.is_null(other) else other for one, other in pairs]
 
 
 def common_chain(plan, chain):
@@ -44,7 +46,7 @@ def met_at(plan, chain, packet):
 
 
 def first_bad(plan, chains, inputs, is_split):
-    """The first bad packet of some inputs in the order in which they are read: the frame that wants it, its input and its number."""
+    """The first bad packet in the order in which inputs are read: the frame that wants it, its input, and its number."""
     bad = []
     for place, (chain, data) in enumerate(zip(chains, inputs)):
         packet = ts.first_bad(data)

@@ -49,7 +49,8 @@ def rule_refused(rule, place=None):
 
 def capacity_refused(test, place, need, have):
     cause = f"CapacityRefused {{ test: {test}, plp: {some(place)}, need: {need}, have: {have} }}"
-    return Refused(4, cause, f"refused: capacity test {test} plp {'-' if place is None else place} need {need} have {have}")
+    plp = "-" if place is None else place
+    return Refused(4, cause, f"refused: capacity test {test} plp {plp} need {need} have {have}")
 
 
 class BadField(Exception):
@@ -222,7 +223,7 @@ def plp_rules(config):
         (15, lambda j: plps[j].spread < 1 or config.frames % plps[j].spread),
         (16, lambda j: plps[j].spread > 1 and plps[j].interleave != 1),
         (17, lambda j: plps[j].spread * config.ticks >= 4_194_304),
-        (18, lambda j: plps[j].kind == "common" and any(p.kind == "common" and p.group == plps[j].group for p in plps[:j])),
+        (18, lambda j: plps[j].kind == "common" and common_of(config, plps[j].group) is not plps[j]),
         (19, differs),
         (20, lambda j: plps[j].kind == "common" and not others(j)),
     ]

@@ -29,7 +29,7 @@ def read(unit):
 
 
 def write(pid, counter, pointer, payload):
-    """A transport packet with this payload, behind a pointer_field if there is one; space that is left is an adaptation field."""
+    """A transport packet with a payload, behind a pointer_field if there is one; an adaptation field fills it."""
     front = b"" if pointer is None else bytes([pointer])
     space = 184 - len(front) - len(payload)
     filling = b"" if space == 0 else b"\0" if space == 1 else bytes([space - 1, 0]) + b"\xff" * (space - 2)
