@@ -127,7 +127,6 @@ class Player:
     def calls(self, bounds, words):
         """Of each kind of calls whether so many may be made: each file is opened and read to its end, and OUT is created."""
         _, _, out, names = commands.command(self.desk, words)
-        names = names or [words[-1]]
         least = [len(names), len(names) + 1, int(out is not None), int(out is not None), 1]
         marks = ""
         for kind, bound, own in zip(["open", "read", "create", "write", "say"], bounds.split(","), least):

@@ -213,8 +213,8 @@ pub(crate) fn ahead_of(made: &Bench, rest: &str) -> Result<String, AllocError> {
     let (name, rest) = rest.split_once(' ').unwrap_or((rest, ""));
     let (rows, words) = rest.split_once(' ').unwrap_or((rest, ""));
     let mut held = 0;
-    for nth in 1..number(writes, 0).min(MOST) + 1 {
-        if !is_behind(made, name, rows, nth, words)? {
+    for nth in 1..MOST {
+        if nth > number(writes, 0) || !is_behind(made, name, rows, nth, words)? {
             break;
         }
         held = nth;

@@ -196,12 +196,12 @@ def show_trial(desk, seed, frames):
 
 
 def command(desk, words):
-    """What the words ask for."""
+    """What the words ask for: what does it, by what, the name of OUT, and the names of the files that are read."""
     if "" in words:
         raise usage()
     match words:
         case ["plan", name]:
-            return show_plan, [desk, name], None, []
+            return show_plan, [desk, name], None, [name]
         case ["gateway", config, out, *names]:
             return gateway, [desk, config, out, names, False], out, [config, *names]
         case ["common", "gateway", config, out, *names]:
@@ -217,15 +217,15 @@ def command(desk, words):
         case ["swap", config, plp, t2mi, name, out]:
             return swap, [desk, config, decimal(plp, 0, 255), t2mi, name, out], out, [config, t2mi, name]
         case ["compare", config, one, other]:
-            return compare, [desk, config, one, other], None, []
+            return compare, [desk, config, one, other], None, [config, one, other]
         case ["show", "packets", name]:
-            return show_packets, [desk, name], None, []
+            return show_packets, [desk, name], None, [name]
         case ["show", "t2mi", name]:
-            return show_t2mi, [desk, name], None, []
+            return show_t2mi, [desk, name], None, [name]
         case ["show", "config", name]:
-            return show_config, [desk, name], None, []
+            return show_config, [desk, name], None, [name]
         case ["show", "frames", name]:
-            return show_frames, [desk, name], None, []
+            return show_frames, [desk, name], None, [name]
         case ["trial", seed, frames]:
             return show_trial, [desk, decimal(seed, 0, 2**64 - 1), decimal(frames, 6, 64)], None, []
     raise usage()
