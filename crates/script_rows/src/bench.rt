@@ -1,10 +1,13 @@
 // A desk in memory, on which commands are run.
 ghost use Rattle.std.specs.Prelude.{◌<◌};
 
+use crate::people::{plan_of, run_watched};
+use plp_config::Plan;
 use ports::{CallKind, MemoryDesk};
 use site_top::{Outcome, Word, run};
 use std::alloc::{AllocError, Global};
 use std::marker::Model;
+use std::mem;
 
 /// A desk in memory, on which commands are run.
 ///
@@ -84,6 +87,43 @@ impl Bench {
         let list = words_of(self.alloc, words)?;
         self.before = self.desk.said().len();
         Ok(run(self.alloc, list.as_slice(), &mut self.desk))
+    }
+
+    // The plan of the first file that words name and that spells a configuration.
+    fn plan_of(&self, words: &str) -> Option<Plan> {
+        for word in words.split(' ') {
+            if let Some(plan) = plan_of(self.alloc, self.bytes(word)) {
+                return Some(plan);
+            }
+        }
+        None
+    }
+
+    /// Runs the command that these words name, watched: how it ended, and what people are told. Nothing may have been opened before.
+    pub(crate) fn run_watched(&mut self, words: &str) -> Result<(Outcome, String), AllocError> {
+        let list = words_of(self.alloc, words)?;
+        let plan = self.plan_of(words);
+        let desk = mem::replace(&mut self.desk, MemoryDesk::new(self.alloc));
+        let (desk, outcome, told) = run_watched(self.alloc, desk, list.as_slice(), plan.as_ref())?;
+        self.desk = desk;
+        Ok((outcome, told))
+    }
+
+    /// A bench with the files that words name, on which nothing was done.
+    pub(crate) fn copy(&self, words: &str) -> Result<Bench, AllocError> {
+        let mut bench = Bench::new(self.alloc);
+        bench.take(self, words)?;
+        Ok(bench)
+    }
+
+    /// Takes the files that words name from another bench.
+    pub(crate) fn take(&mut self, other: &Bench, words: &str) -> Result<(), AllocError> {
+        for name in words.split(' ') {
+            if let Some(bytes) = other.file(name) {
+                self.put(name, bytes)?;
+            }
+        }
+        Ok(())
     }
 
     /// What the last command said.

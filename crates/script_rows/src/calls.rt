@@ -45,17 +45,6 @@ pub(crate) fn kind_of(name: &str) -> Option<Kind> {
     }
 }
 
-// A bench with the files that the words name, on which nothing was done.
-fn copy(made: &Bench, words: &str) -> Result<Bench, AllocError> {
-    let mut bench = Bench::new(made.alloc());
-    for name in words.split(' ') {
-        if let Some(bytes) = made.file(name) {
-            bench.put(name, bytes)?;
-        }
-    }
-    Ok(bench)
-}
-
 // Whether a run in which this call failed said a front of what it says if nothing fails, and then its last line.
 fn says_front(left: &[u8], usual: &[u8], kind: &Kind) -> bool {
     match left.strip_suffix(kind.line.as_bytes()) {
@@ -121,7 +110,7 @@ fn come_anew(
     nth: u64,
     words: &str,
 ) -> Result<Came, AllocError> {
-    let mut bench = copy(made, words)?;
+    let mut bench = made.copy(words)?;
     come_of(&mut bench, usual, kind, nth, words)
 }
 
@@ -139,13 +128,14 @@ fn count(made: &Bench, usual: &Bench, kind: &Kind, words: &str) -> Result<Option
 
 // The bench behind a run in which nothing fails.
 fn usual_of(made: &Bench, words: &str) -> Result<Bench, AllocError> {
-    let mut bench = copy(made, words)?;
+    let mut bench = made.copy(words)?;
     let _ = bench.run(words)?;
     Ok(bench)
 }
 
-// Whether a count is there, and from one number up to another.
-fn is_between(calls: Option<u64>, least: &str, most: &str) -> bool {
+// Whether a count is there, and within a bound `N` or `LEAST-MOST`.
+fn is_within(calls: Option<u64>, bound: &str) -> bool {
+    let (least, most) = bound.split_once('-').unwrap_or((bound, bound));
     match calls {
         Some(calls) => { number(least, MOST) <= calls && calls <= number(most, 0) }
         None => false,
@@ -156,15 +146,78 @@ fn number(text: &str, other: u64) -> u64 {
     text.parse::<u64>().unwrap_or(other)
 }
 
-/// Whether a command makes so many calls of a kind, and each that fails is told and leaves a front.
-pub(crate) fn calls_of(made: &Bench, rest: &str) -> Result<String, AllocError> {
-    let (name, rest) = rest.split_once(' ').unwrap_or((rest, ""));
-    let (least, rest) = rest.split_once(' ').unwrap_or((rest, ""));
-    let (most, words) = rest.split_once(' ').unwrap_or((rest, ""));
-    let Some(kind) = kind_of(name) else {
-        return Ok(String::new(made.alloc()));
-    };
+// The kinds of calls that are tried, in the order of their bounds.
+const KINDS: [&str; 5] = ["open", "read", "create", "write", "say"];
+
+fn try_kind(
+    made: &Bench,
+    usual: &Bench,
+    name: &str,
+    bound: &str,
+    words: &str,
+) -> Result<bool, AllocError> {
+    match kind_of(name) {
+        Some(kind) => Ok(is_within(count(made, usual, &kind, words)?, bound)),
+        None => Ok(false),
+    }
+}
+
+// Of each kind whether there are as many calls as its bound says, and each that fails is told and leaves a front.
+fn try_kinds(made: &Bench, bounds: &str, words: &str) -> Result<String, AllocError> {
     let usual = usual_of(made, words)?;
-    let is_so = is_between(count(made, &usual, &kind, words)?, least, most);
-    format!(in made.alloc(); "= {is_so}\n")
+    let mut told = String::new(made.alloc());
+    for (name, bound) in KINDS.iter().zip(bounds.split(',')) {
+        let is_so = try_kind(made, &usual, name, bound, words)?;
+        told.push_str(if is_so { "+" } else { "-" })?;
+    }
+    Ok(told)
+}
+
+/// `calls OPEN,READ,CREATE,WRITE,SAY WORDS`: of each kind of calls, `+` if a command makes as many as its bound says, `N` or
+/// `LEAST-MOST`, and each that fails is told and leaves a front; else `-`.
+pub(crate) fn calls_of(made: &Bench, rest: &str) -> Result<String, AllocError> {
+    let (bounds, words) = rest.split_once(' ').unwrap_or((rest, ""));
+    try_kinds(made, bounds, words)
+}
+
+// The most that may be read of a file while the file `o` has so many bytes, by rows `BELOW:MOST`.
+fn most_given(rows: &str, size: usize) -> u64 {
+    for row in rows.split(',') {
+        let (below, most) = row.split_once(':').unwrap_or((row, ""));
+        if (size as u64) < number(below, 0) {
+            return number(most, 0);
+        }
+    }
+    0
+}
+
+// Whether a run in which this write fails read no more of a file than it may.
+fn is_behind(
+    made: &Bench,
+    name: &str,
+    rows: &str,
+    nth: u64,
+    words: &str,
+) -> Result<bool, AllocError> {
+    let mut bench = made.copy(words)?;
+    bench.fail(CallKind::Write, nth)?;
+    let outcome = bench.run(words)?;
+    let most = most_given(rows, bench.bytes("o").len());
+    Ok(outcome == Outcome::WriteFault && bench.given(name) <= most)
+}
+
+/// `ahead WRITES NAME ROWS WORDS`: of how many of so many writes, each of which fails in turn, the command has read no more of a file
+/// than rows `BELOW:MOST` say: of those up to the first one of which it is not so.
+pub(crate) fn ahead_of(made: &Bench, rest: &str) -> Result<String, AllocError> {
+    let (writes, rest) = rest.split_once(' ').unwrap_or((rest, ""));
+    let (name, rest) = rest.split_once(' ').unwrap_or((rest, ""));
+    let (rows, words) = rest.split_once(' ').unwrap_or((rest, ""));
+    let mut held = 0;
+    for nth in 1..MOST {
+        if nth > number(writes, 0) || !is_behind(made, name, rows, nth, words)? {
+            break;
+        }
+        held = nth;
+    }
+    format!(in made.alloc(); "{held}")
 }
