@@ -15,8 +15,6 @@ mod shown;
 mod stream_time;
 mod t2mi;
 mod telling;
-#[cfg(test)]
-mod tests;
 mod units;
 mod watched;
 

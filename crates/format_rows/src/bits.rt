@@ -64,8 +64,8 @@ fn taken(alloc: Global, words: &Words<'_>) -> Result<String, AllocError> {
     let bytes = words.bytes(1)?;
     let mut source = BitReader::new(part_of(bytes.as_slice(), words.number(2), words.number(3)));
     let mut told = String::new(alloc);
-    for width in words.from(4) {
-        let one = match source.take(number(width).min(64) as u32) {
+    for at in 4..words.count() {
+        let one = match source.take(words.number(at).min(64) as u32) {
             Ok(value) => format!(in alloc; "{value:x} ")?,
             Err(short) => format!(in alloc; "short-{} ", short.left)?,
         };
@@ -108,17 +108,17 @@ fn put_item<S: BitSink>(alloc: Global, sink: &mut S, item: &str) -> Result<(), S
     sink.put_slice(part_of(bytes.as_slice(), first, len))
 }
 
-fn put_items<S: BitSink>(alloc: Global, sink: &mut S, items: &[&str]) -> Result<(), SinkFault> {
-    for item in items {
-        put_item(alloc, sink, item)?;
+fn put_items<S: BitSink>(alloc: Global, sink: &mut S, words: &Words<'_>) -> Result<(), SinkFault> {
+    for at in 1..words.count() {
+        put_item(alloc, sink, words.word(at))?;
     }
     Ok(())
 }
 
 // What came of items in a sink that grows, with their CRC-32.
-fn grown(alloc: Global, items: &[&str]) -> Result<String, AllocError> {
+fn grown(alloc: Global, words: &Words<'_>) -> Result<String, AllocError> {
     let mut sink = CrcSink::new(BitBuf::new(alloc));
-    if put_items(alloc, &mut sink, items).is_err() {
+    if put_items(alloc, &mut sink, words).is_err() {
         return Err(AllocError);
     }
     match sink.finish() {
@@ -131,10 +131,10 @@ fn grown(alloc: Global, items: &[&str]) -> Result<String, AllocError> {
     }
 }
 
-fn put(alloc: Global, items: &[&str]) -> Result<String, AllocError> {
-    let grown = grown(alloc, items)?;
+fn put(alloc: Global, words: &Words<'_>) -> Result<String, AllocError> {
+    let grown = grown(alloc, words)?;
     let mut fixed = FixedBits::<46>::new();
-    match put_items(alloc, &mut fixed, items) {
+    match put_items(alloc, &mut fixed, words) {
         Ok(()) => format!(in alloc; "{grown}; in 46 bytes {}", fixed.as_slice().len()),
         Err(fault) => format!(in alloc; "{grown}; in 46 bytes {fault:?}"),
     }
@@ -151,6 +151,6 @@ pub(crate) fn answer(alloc: Global, words: &Words<'_>) -> Result<String, AllocEr
         "bytes" => copied(alloc, words),
         "take" => taken(alloc, words),
         "joined" => joined(alloc, words),
-        _ => put(alloc, words.from(1)),
+        _ => put(alloc, words),
     }
 }

@@ -6,7 +6,7 @@
 // its dnp; `slots FIRST DNP..` finds slots again. `t2mi BYTES` is what stands there, and `needed BYTES` how many bytes it wants.
 ghost use Rattle.std.specs.Prelude.{◌<◌, ◌^◌, length};
 
-use crate::words::{Words, number, number_8, spelled};
+use crate::words::{Words, number_8, spelled};
 use null_delete::{Deleter, Inserter};
 use std::alloc::{AllocError, Global};
 use t2mi_packet::{Body, needed, read as read_t2mi};
@@ -77,8 +77,8 @@ fn kept(alloc: Global, words: &Words<'_>) -> Result<String, AllocError> {
     let mut deleter = Deleter::new(words.word(1) == "on");
     let mut told = String::new(alloc);
     let mut slot: usize = 0;
-    for run in words.from(2) {
-        for _ in 0..number(run) {
+    for at in 2..words.count() {
+        for _ in 0..words.number(at) {
             push_kept(alloc, &mut deleter, &TsPacket::canonical(), slot, &mut told)?;
             slot = slot.saturating_add(1);
         }
@@ -92,11 +92,11 @@ fn kept(alloc: Global, words: &Words<'_>) -> Result<String, AllocError> {
 fn slots(alloc: Global, words: &Words<'_>) -> Result<String, AllocError> {
     let mut at = words.number(1).min(1 << 30) as u64;
     let mut told = String::new(alloc);
-    for dnp in words.from(2) {
+    for place in 2..words.count() {
         if at >= 1 << 50 {
             break;
         }
-        at = Inserter::new(at).push(number_8(dnp));
+        at = Inserter::new(at).push(number_8(words.word(place)));
         told.push_str(format!(in alloc; "{at} ")?.as_str())?;
     }
     told.push_str("are")?;

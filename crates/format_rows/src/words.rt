@@ -85,12 +85,9 @@ impl<'a> Words<'a> {
         self.list.get(at).copied().unwrap_or("")
     }
 
-    /// Those from a place on.
-    pub(crate) fn from<'s>(&'s self, at: usize) -> &'s [&'a str]
-    where
-        'a: 's,
-    {
-        self.list.get(at..).unwrap_or(&[])
+    /// How many they are.
+    pub(crate) fn count(&self) -> usize {
+        self.list.len()
     }
 
     /// The number at a place.

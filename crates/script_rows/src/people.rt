@@ -111,7 +111,7 @@ fn counts_of<'a>(
 // Says what came of a run.
 fn say(heard: &Heard, counts: &RunCounts<'_>, outcome: Outcome) -> io::Result<()> {
     match outcome {
-        Outcome::Done => counts.say_done(heard),
+        Outcome::Done | Outcome::Differs { .. } => counts.say_done(heard),
         Outcome::NoSuperframe => counts.say_none(heard),
         _ => Ok(()),
     }

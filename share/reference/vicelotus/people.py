@@ -7,6 +7,7 @@ from .plan import Plan
 from .text import read
 
 NONE_CAME = "no frame came from it: "
+DELETED = "; these are deleted, but for each one that 255 deleted ones precede"
 NULLS_STAND = "counted from 0; null packets stand in OUT for what they carried"
 CAUSES = {
     "Gap": "are not in the stream",
@@ -74,6 +75,10 @@ class Units:
     def is_clean(self):
         return not (self.rest or self.no_sync or self.unread or self.jumps)
 
+    def whole(self):
+        if self.pid is not None and self.is_clean():
+            yield f"{self.name}: {WHOLE}"
+
     def on_pid(self):
         return self.count - len(self.no_sync) - len(self.other)
 
@@ -116,7 +121,7 @@ def of_packets(name, data, chain):
     if not own:
         return f"{name}: it has no packet; null packets stand for it"
     nulls = sum(map(ts.is_null, own))
-    deleted = "; these are deleted" if chain and nulls and chain.delete else ""
+    deleted = DELETED if chain and nulls and chain.delete else ""
     return f"{name}: packets: {len(own)}, null packets among them: {nulls}{deleted}"
 
 
@@ -142,10 +147,11 @@ def of_modulate(plan, desk, name):
     yield f"muted frames: {len(muted)} of {len(frames)}, records {in_runs(muted)}, counted from 0 as `show frames` does"
     numbers = {cause: [f.number for f in frames if not is_shown(f) and f.cause.name == cause] for cause in CAUSES}
     for cause, own in numbers.items():
-        if own:
-            yield f"of these {len(own)} {CAUSES[cause]}: frames {own[0]} to {own[-1]} of CONFIG"
-    if units.is_clean():
-        yield f"{name}: {WHOLE}"
+        if len(own) == 1:
+            yield f"of these 1 {CAUSES[cause]}: frame {own[0]} of CONFIG"
+        elif own:
+            yield f"of these {len(own)} {CAUSES[cause]}: the first is frame {own[0]} of CONFIG, the last frame {own[-1]}"
+    yield from units.whole()
     at_end = 0
     while at_end < len(frames) and not is_shown(frames[-1 - at_end]):
         at_end += 1
@@ -201,6 +207,10 @@ def of_two(plan, desk, one, other, is_merged):
         some = [bool(numbers[0]), bool(numbers[1] - numbers[0])]
     else:
         some = [bool(frames) for frames in feeds]
+        for units, own, others in zip(pair, feeds, feeds[::-1]):
+            met = {frame.number for frame in others}
+            if any(not is_shown(frame) and frame.number in met for frame in own):
+                yield from units.whole()
     if not some[0]:
         yield f"{one}: {NONE_CAME}{pair[0].why_none()}"
     if some[1]:
@@ -251,7 +261,7 @@ def told(words, desk, outcome):
             does, arguments, streams = of_swap, [int(plp), t2mi, name], [t2mi]
         case _:
             return
-    if outcome == "Done":
+    if outcome == "Done" or outcome.startswith("Differs"):
         yield from does(Plan(read(desk.files[config])), desk, *arguments)
     elif outcome == "NoSuperframe":
         yield from of_no_superframe(Plan(read(desk.files[config])), desk, streams)

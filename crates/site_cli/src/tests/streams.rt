@@ -33,7 +33,7 @@ static HEARD: [Heard; 12] = [
     Heard { words: &["gateway", "two.txt", "two.out", "two.none"],
         told: "two.none: it has no packet; null packets stand for it\nPLP 0: blocks sent: 0, of 16 that 4 frames have room for\n" },
     Heard { words: &["gateway", "two.txt", "two.out", "two.null"],
-        told: "two.null: packets: 1, null packets among them: 1; these are deleted\nPLP 0: blocks sent: 0, of 16 that 4 frames have room for\n" },
+        told: "two.null: packets: 1, null packets among them: 1; these are deleted, but for each one that 255 deleted ones precede\nPLP 0: blocks sent: 0, of 16 that 4 frames have room for\n" },
     Heard { words: &["common", "gateway", "two.txt", "two.ts", "two.packet"],
         told: "two.packet: packets: 1, null packets among them: 0\nPLP 0: blocks sent: 1, of 16 that 4 frames have room for\n" },
     Heard { words: &["swap", "two.txt", "0", "two.ts", "two.none", "two.out"], told: "two.none: it has no packet; null packets stand for it\n" },
