@@ -8,7 +8,7 @@ a number of TI-blocks (0: no interleaver), and of so many frames that carry an i
 has the number of blocks of each PLP, then the start of each, then the sub-slice interval; the frame is the first of its superframe, or
 that of FRAME_IDX. For each line it prints the PLP that does not fit, or the two PLPs that share an address, or a digest of all cells: from 0 on, for
 each address, 31 times the digest before, plus 0 for a dummy cell, or else plus 1, the number of the cell in its block, and 65,536 times the
-number of the block in the frame, modulo 2^64. `crates/signal_rows/src/cell_map_tests.rt` expects these.
+number of the block in the frame, modulo 2^64. `share/reference/formats.py` asks it.
 """
 
 import sys

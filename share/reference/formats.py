@@ -10,12 +10,31 @@ What each call is stands at the head of its module in `crates/format_rows/src`.
 import sys
 
 import cells
-import packets
-from packets import bits_of, fields, padded, remainder
+from vicelotus import l1, ts
+from vicelotus.bits import bits_of, fields
+from vicelotus.blocks import Queue
+from vicelotus.cells import shape_of
+from vicelotus.plan import Plan
+from vicelotus.text import KINDS, read
 
 CRC_32 = (32, 0x04C11DB7, 2**32 - 1)
 CRC_8 = (8, 0xD5, 0)
 FULL_BYTES = 46
+
+
+def padded(bits):
+    return bits + "0" * (-len(bits) % 8)
+
+
+def remainder(bits, degree, generator, start):
+    """The CRC of bits: a shift register that begins with `start`."""
+    register = start
+    for bit in bits:
+        top = register >> (degree - 1) ^ int(bit)
+        register = register << 1 & (1 << degree) - 1
+        if top:
+            register ^= generator
+    return register
 
 
 def data(word):
@@ -231,24 +250,28 @@ def needed(word):
 # ---- networks
 
 
+def row_of(chain):
+    """A PLP as `cells` takes it."""
+    return KINDS.index(chain.kind), chain.cells, chain.most, chain.plp.interleave, chain.spread
+
+
 class Networks(dict):
     def add(self, name, frame_cells, sub_slices, frames, plps):
         rows = [row.replace(",", " ") for row in plps.split(";")]
-        text = f"bandwidth 8\nframe 100000 {frames} {frame_cells}\nstart 700000000 0 5\nnetwork 1 2 3 474000000\n"
-        text += f"l1 0 6 1 0 1 0 0 1000 6 0 59 0\nsubslices {sub_slices}\n" + "".join(f"plp {row}\n" for row in rows)
-        self[name] = packets.Network(text, [0] * len(rows))
+        text = f"t2-gateway 2\nbandwidth 8\nframe 100000 {frames} {frame_cells}\nstart 700000000 0 5\npid 256\n"
+        text += "network 1 2 3 474000000\nl1 0 6 1 0 1 0 0 1000 6 0 59 0\n"
+        text += f"subslices {sub_slices}\n" + "".join(f"plp {row}\n" for row in rows)
+        self[name] = Plan(read(text.encode())).fits()
 
     def shape(self, name, counts):
-        net = self[name]
-        bits = net.dynamic(0, numbers(counts))
-        starts = [number(bits[place + 8 : place + 30]) for place in range(71, 71 + 48 * len(net.plps), 48)]
-        return f"interval={number(bits[8:30])} type2={number(bits[30:52])} starts=" + "".join(f"{s}," for s in starts)
+        shape = shape_of(self[name], 0, numbers(counts))
+        starts = "".join(f"{start}," for start in shape.starts)
+        return f"interval={shape.interval} type2={shape.type2_start} starts={starts}"
 
     def judged(self, name, frame, counts, starts, interval):
         net = self[name]
-        plps = [(plp.kind, plp.cells, plp.most, plp.il, plp.spread) for plp in net.plps]
         shape = numbers(counts) + numbers(starts) + [int(interval)]
-        return cells.judge(net.all_cells, net.sub_slices, int(frame), plps, shape)
+        return cells.judge(net.config.cells, net.config.sub_slices, int(frame), list(map(row_of, net.chains)), shape)
 
     def map(self, *words):
         answer = self.judged(*words)
@@ -260,26 +283,27 @@ class Networks(dict):
     def cell(self, name, frame, counts, starts, interval, plp, block, cell):
         net = self[name]
         plp, counts = int(plp), numbers(counts)
-        own = net.plps[plp]
-        rows = (own.kind, own.cells, own.most, own.il, own.spread)
+        rows = row_of(net.chains[plp])
         order = cells.carried(rows, counts[plp], int(frame))
         if (int(block), int(cell)) not in order:
             return "in another frame"
-        places = cells.addresses(rows, net.sub_slices, len(order), numbers(starts)[plp], int(interval))
+        places = cells.addresses(rows, net.config.sub_slices, len(order), numbers(starts)[plp], int(interval))
         place = places[order.index((int(block), int(cell)))]
         return f"{place}: block {sum(counts[:plp]) + int(block)} cell {cell}"
 
 
 def queue(net, plp, frames, count):
     """Of each interleaving frame of a PLP how many blocks it has, how many bytes wait then, and the CRC-32 of the blocks."""
-    own, told = net.plps[int(plp)], ""
-    own.count = int(count)
-    own.prepare((int(frames) + 1) * own.spread)
+    packets = [ts.NULL[:2] + bytes([0xFE, ts.NULL[3], slot % 256]) + ts.NULL[5:] for slot in range(int(count))]
+    own, told = Queue(net.chains[int(plp)], packets, int(frames)), ""
     for m in range(int(frames) + 1):
         blocks = own.blocks(m) if m else []
-        waits = own.arrived(m * own.epoch) - own.sent(m)
-        told += f"{len(blocks)}:{waits}:{remainder(''.join(blocks), *CRC_32):08x} "
+        told += f"{len(blocks)}:{own.arrived[m] - own.sent[m]}:{remainder(bits_of(b''.join(blocks)), *CRC_32):08x} "
     return told + "all"
+
+
+def dynamic(net, frame, counts):
+    return l1.dyn_of(net, frame, shape_of(net, frame, counts))
 
 
 def numbers(word):
@@ -358,12 +382,12 @@ def again(net, kind, bits):
         plps = source.take(8)
         if plps == 0:
             raise ValueError("Unsupported { field: 32 }")
-        if (size := 181 + 137 * len(net.plps)) != 181 + 137 * plps:
+        if (size := 181 + 137 * len(net.chains)) != 181 + 137 * plps:
             raise ValueError(f"Size {{ told: {size}, counted: {181 + 137 * plps} }}")
         source.out += f"{plps:08b}"
         source.rows(CONF + plps * CONF_PLP + CONF_BACK)
     else:
-        source.rows(DYN + len(net.plps) * DYN_PLP + DYN_BACK)
+        source.rows(DYN + len(net.chains) * DYN_PLP + DYN_BACK)
     return source.out
 
 
@@ -401,7 +425,7 @@ def knows(net, word, length):
     """Whether bits are the configurable part of a network, but for what is ignored."""
     bits = part(word, 0, length)
     try:
-        known = again(net, "conf", bits) == net.conf() and len(bits) == len(net.conf())
+        known = again(net, "conf", bits) == l1.conf_of(net) and len(bits) == len(l1.conf_of(net))
     except ValueError:
         known = False
     return "true" if known else "false"
@@ -409,9 +433,9 @@ def knows(net, word, length):
 
 def answer(networks, verb, *words):
     with_network = {
-        "pre": lambda net: hexed(net.pre()),
-        "conf": lambda net: hexed(net.conf()),
-        "dyn": lambda net, frame, counts: hexed(net.dynamic(int(frame), numbers(counts))),
+        "pre": lambda net: hexed(l1.pre_of(net)),
+        "conf": lambda net: hexed(l1.conf_of(net)),
+        "dyn": lambda net, frame, counts: hexed(dynamic(net, int(frame), numbers(counts))),
         "read": reads,
         "turned": turned,
         "post": lambda net, *rest: post(*rest),
@@ -431,7 +455,7 @@ def answer(networks, verb, *words):
         "transport": transport,
         "carries": carries,
         "null": is_null,
-        "canonical": lambda: packets.NULL.hex(),
+        "canonical": lambda: ts.NULL.hex(),
         "deletes": deletes,
         "slots": slots,
         "baseband": baseband,

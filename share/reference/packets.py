@@ -6,7 +6,7 @@ usage: packets.py COUNT.. < CONFIG
 CONFIG is a configuration text. The input of each PLP has COUNT packets, none of them null: each is the canonical null packet with PID
 0x1FFE, its fifth byte the number of the packet modulo 256. For each frame it prints how many blocks of each PLP are sent in it, and how
 many it tells; then how many packets there are, how many bytes they have, and a digest of these: from 0 on, for each byte, 31 times the
-digest before, plus the byte, modulo 2^64. `crates/gateway_rows/src/gateway_core_tests.rt` expects these.
+digest before, plus the byte, modulo 2^64.
 """
 
 import sys
