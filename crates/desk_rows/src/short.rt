@@ -26,14 +26,14 @@ impl<F: Drop> ShortFile<F> {
     }
 }
 
-fn interrupted<T>() -> io::Result<T> {
-    Err(io::Error::from(ErrorKind::Interrupted))
+fn interrupted() -> io::Error {
+    io::Error::from(ErrorKind::Interrupted)
 }
 
 impl<F: Read + Drop> Read for ShortFile<F> {
     fn read(&mut self, buffer: &mut [u8]) -> io::Result<usize> {
         if self.is_cut() {
-            return interrupted();
+            return Err(interrupted());
         }
         let few = buffer.len().min(1);
         self.file.read(&mut buffer[..few])
@@ -43,7 +43,7 @@ impl<F: Read + Drop> Read for ShortFile<F> {
 impl<F: Write + Drop> Write for ShortFile<F> {
     fn write(&mut self, piece: &[u8]) -> io::Result<usize> {
         if self.is_cut() {
-            return interrupted();
+            return Err(interrupted());
         }
         let few = piece.len().min(1);
         self.file.write(&piece[..few])

@@ -7,7 +7,6 @@ ghost use Rattle.std.specs.Prelude.{◌≡◌, ◌<◌, length, vec_len};
 use crate::short::ShortFiles;
 use ports::{Desk, HostDesk, HostFault};
 use std::alloc::Global;
-use std::fmt::Display;
 use std::io::{self, Print};
 use std::rt::Files;
 use std::str;
@@ -21,14 +20,6 @@ struct Worked<R: Files + Print + Drop> {
     ghost same: { desk.ended ≡ ended.items },
     ghost opened: { length desk.opened ≡ vec_len ended },
     ghost created: { desk.created ≡ outs },
-}
-
-// What a call answers that may fail.
-fn tell<T: Display + Drop, E: Drop>(rt: &impl Print, answer: Result<T, E>) -> io::Result<()> {
-    match answer {
-        Ok(value) => println!(rt; " = {value}"),
-        Err(_) => println!(rt; " = fault"),
-    }
 }
 
 fn tell_fault(rt: &impl Print, fault: Option<&HostFault>) -> io::Result<()> {
@@ -74,11 +65,13 @@ impl<R: Files + Print + Drop> Worked<R> {
     fn open(self, rt: &impl Print, name: &str) -> io::Result<Worked<R>> {
         let mut desk = self.desk;
         let mut ended = self.ended;
-        let answer = desk.open(name);
-        if answer.is_ok() {
-            ended.push(false)?;
+        match desk.open(name) {
+            Ok(handle) => {
+                ended.push(false)?;
+                println!(rt; " = {handle}")?;
+            }
+            Err(_) => println!(rt; " = fault")?,
         }
-        tell(rt, answer)?;
         Ok(Worked {
             desk,
             ended,
@@ -112,11 +105,13 @@ impl<R: Files + Print + Drop> Worked<R> {
     fn create(self, rt: &impl Print, name: &str) -> io::Result<Worked<R>> {
         let mut desk = self.desk;
         let mut outs = self.outs;
-        let answer = desk.create(name);
-        if let Ok(out) = answer {
-            outs = u64::from(out) + 1;
+        match desk.create(name) {
+            Ok(out) => {
+                outs = u64::from(out) + 1;
+                println!(rt; " = {out}")?;
+            }
+            Err(_) => println!(rt; " = fault")?,
         }
-        tell(rt, answer)?;
         Ok(Worked {
             desk,
             ended: self.ended,
@@ -129,7 +124,10 @@ impl<R: Files + Print + Drop> Worked<R> {
         if u64::from(out) >= self.outs || text.is_empty() {
             println!(rt; " = not asked")?;
         } else {
-            tell(rt, desk.write(out, text.as_bytes()))?;
+            match desk.write(out, text.as_bytes()) {
+                Ok(count) => println!(rt; " = {count}")?,
+                Err(_) => println!(rt; " = fault")?,
+            }
         }
         Ok(Worked {
             desk,
