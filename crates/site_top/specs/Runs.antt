@@ -55,7 +55,7 @@ use Rattle.site_top.specs.Outcomes.{run_outcome, stop_outcome, gateway_cause, mo
 use Rattle.site_top.specs.Outcomes.{swap_cause, show_cause, config_outcome, Miscounts}
 
 -- A file is shown by the text that a definition asks for.
-abbrev pub Shows : (List ℕ → ℕ → Result ℕ (RunStop ShowStop) → List ℕ → Type 0) → State → State → List ℕ → Outcome → Type 0
+abbrev pub Shows : (List ℕ → ℕ → Result ℕ (RunStop ShowStop) → List ℕ → List ℕ → Type 0) → State → State → List ℕ → Outcome → Type 0
 Shows IsText old new file outcome = (result : Result ℕ (RunStop ShowStop)) × show.Shows IsText old new file result
     × (outcome ≡ run_outcome (stop_outcome show_cause) result)
 
