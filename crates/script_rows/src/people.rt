@@ -118,11 +118,11 @@ fn say(heard: &Heard, counts: &RunCounts<'_>, outcome: Outcome) -> io::Result<()
 }
 
 /// Runs a command over a desk that is watched, and gives the desk back: how the run ended, and what people are told.
-pub(crate) fn run_watched(
+pub(crate) fn run_watched<'a>(
     alloc: Global,
     desk: MemoryDesk,
-    words: &[Word],
-    plan: Option<&Plan>,
+    words: &'a [Word],
+    plan: Option<&'a Plan>,
 ) -> Result<(MemoryDesk, Outcome, String), AllocError> {
     let heard = Heard::new(alloc);
     let counts = counts_of(alloc, words, plan)?;
