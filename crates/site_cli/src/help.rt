@@ -286,18 +286,9 @@ pub fn may_mean(command: &Command, name: &str, words: &[Word]) -> bool {
     command.name == name && (command.fits(words) || !is_named(words))
 }
 
-// The word that is to be the name of a command: the first, or the one behind the word that asks for help.
-fn asked_name(words: &[Word]) -> Option<&str> {
-    let first = words.first()?.as_str();
-    match words.get(1) {
-        Some(second) if asks_for_help(first) || first == "help" => Some(second.as_str()),
-        _ => Some(first),
-    }
-}
-
-/// The name of the command that is meant, or else that a word is near to.
+/// The name of the command that a first word is, or else that it is near to.
 pub fn meant_by(words: &[Word]) -> Option<&'static str> {
-    let first = asked_name(words)?;
+    let first = words.first()?.as_str();
     for command in &COMMANDS {
         if command.name == first {
             return Some(command.name);
