@@ -1,7 +1,7 @@
 // A desk in memory, on which commands are run.
 ghost use Rattle.std.specs.Prelude.{◌<◌};
 
-use crate::people::{plan_of, run_watched};
+use crate::people::{Heard, plan_of, run_watched};
 use plp_config::Plan;
 use ports::{CallKind, MemoryDesk};
 use site_top::{Outcome, Word, run};
@@ -104,9 +104,11 @@ impl Bench {
         let list = words_of(self.alloc, words)?;
         let plan = self.plan_of(words);
         let desk = mem::replace(&mut self.desk, MemoryDesk::new(self.alloc));
-        let (desk, outcome, told) = run_watched(self.alloc, desk, list.as_slice(), plan.as_ref())?;
+        let heard = Heard::new(self.alloc);
+        let words = list.as_slice();
+        let (desk, outcome) = run_watched(self.alloc, &heard, desk, words, plan.as_ref())?;
         self.desk = desk;
-        Ok((outcome, told))
+        Ok((outcome, heard.text()?))
     }
 
     /// A bench with the files that words name, on which nothing was done.

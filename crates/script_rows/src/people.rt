@@ -11,22 +11,24 @@ use std::io::{self, Eprint, ErrorKind};
 use std::mem;
 use std::time::{Clock, Duration};
 
-// Keeps what people are told. Its clock stands still.
+/// Keeps what people are told. Its clock stands still.
 #[derive(Drop)]
-struct Heard {
+pub(crate) struct Heard {
     alloc: Global,
     text: RefCell<String>,
 }
 
 impl Heard {
-    fn new(alloc: Global) -> Heard {
+    /// Nothing yet.
+    pub(crate) fn new(alloc: Global) -> Heard {
         Heard {
             alloc,
             text: RefCell::new(String::new(alloc)),
         }
     }
 
-    fn text(&self) -> Result<String, AllocError> {
+    /// What people were told.
+    pub(crate) fn text(&self) -> Result<String, AllocError> {
         match self.text.try_borrow() {
             Ok(text) => String::from_str(self.alloc, text.as_str()),
             Err(_) => Err(AllocError),
@@ -117,19 +119,18 @@ fn say(heard: &Heard, counts: &RunCounts<'_>, outcome: Outcome) -> io::Result<()
     }
 }
 
-/// Runs a command over a desk that is watched, and gives the desk back: how the run ended, and what people are told.
+/// Runs a command over a desk that is watched, and gives the desk back, and how the run ended. What people are told is kept.
 pub(crate) fn run_watched<'a>(
     alloc: Global,
+    heard: &'a Heard,
     desk: MemoryDesk,
     words: &'a [Word],
     plan: Option<&'a Plan>,
-) -> Result<(MemoryDesk, Outcome, String), AllocError> {
-    let heard = Heard::new(alloc);
+) -> Result<(MemoryDesk, Outcome), AllocError> {
     let counts = counts_of(alloc, words, plan)?;
-    let mut watched = Watched::new(desk, &heard, false, counts);
+    let mut watched = Watched::new(desk, heard, false, counts);
     let outcome = run(alloc, words, &mut watched);
-    let _ = say(&heard, &watched.counts, outcome);
+    let _ = say(heard, &watched.counts, outcome);
     let desk = mem::replace(&mut watched.desk, MemoryDesk::new(alloc));
-    let told = heard.text()?;
-    Ok((desk, outcome, told))
+    Ok((desk, outcome))
 }
