@@ -1,43 +1,10 @@
-// What is told of a run that goes on: bytes, and the time of the stream.
-use super::{CONFIG, Outside};
+// What is told of a run that goes on: the time of the stream.
+use super::CONFIG;
 use bit_slice::OutOfMemory;
-use desk_watch::{RunCounts, Watched};
+use desk_watch::RunCounts;
 use plp_config::{Plan, fits, validate};
-use ports::{Desk, DeskFault, MemoryDesk};
 use std::alloc::Global;
 use std::test::Fail;
-
-// A desk with a file of 100,000 bytes.
-fn desk_of(alloc: Global) -> Result<MemoryDesk, OutOfMemory> {
-    let mut desk = MemoryDesk::new(alloc);
-    desk.put_file("f", &[0; 100_000])?;
-    Ok(desk)
-}
-
-// Reads the file, to its end, and says a line.
-fn read_and_say<D: Desk>(desk: &mut D) -> Result<(), DeskFault> {
-    let mut buffer = [0; 100_000];
-    let handle = desk.open("f")?;
-    desk.read(handle, &mut buffer)?;
-    desk.read(handle, &mut buffer)?;
-    desk.say(b"packets=0\n")
-}
-
-// The clock is looked at when the run begins, and at each of two reads, of which the second finds the end: after a second, and after two.
-#[test]
-fn a_run_is_watched(rt: HostRuntime) -> Result<(), Fail> {
-    let desk = desk_of(rt.alloc())?;
-    let outside = Outside::new(&rt, true);
-    let mut watched = Watched::new(desk, &outside, true, RunCounts::none(rt.alloc()));
-    read_and_say(&mut watched)?;
-    assert!(rt; watched.lines == 1 && watched.desk.said() == b"packets=0\n".as_slice());
-    assert!(rt;
-        outside.has_heard(
-            "\r\x1b[K0.1 MB read, 0.0 MB written, 0.1 MB/s\r\x1b[K0.1 MB read, 0.0 MB written, 0.0 MB/s\r\x1b[K"
-        )
-    );
-    Ok(())
-}
 
 // The bytes of the head of a record.
 const HEAD: usize = 24;
