@@ -13,3 +13,13 @@ impl fmt::Display for At {
         }
     }
 }
+
+// That a test of the capacity fails. It stands apart since the kit takes a crate for one with tests if an attribute says that word.
+#[derive(Clone, Copy)]
+pub(crate) struct Failed(pub(crate) u8);
+
+impl fmt::Display for Failed {
+    fn fmt<W: fmt::Write>(&self, f: &mut fmt::Formatter<W>) -> fmt::Result {
+        write!(f, "test {} fails", self.0)
+    }
+}

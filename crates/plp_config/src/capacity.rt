@@ -9,7 +9,7 @@ ghost use Rattle.plp_config.specs.Capacity.{CellCount, EvenParts, CellAddresses,
 ghost use Rattle.plp_config.specs.SlotTime.{den, epoch_ticks};
 ghost use Rattle.plp_config.specs.CapacityTests.{AnswersTest};
 
-use crate::at::At;
+use crate::at::{At, Failed};
 use crate::config::{
     Config, FIXED_REST, GREATEST_REST, L1_POST_BITS, L1_POST_PLP_BITS, MOST_CELLS,
 };
@@ -24,7 +24,7 @@ use thiserror::Error;
 
 /// The first test of the capacity that a configuration fails.
 #[derive(Clone, Copy, Debug, PartialEq, Eq, Error)]
-#[error("capacity test {test} fails{}: {} (need {need}, have {have})", At(self.plp), self.subject())]
+#[error("capacity {}{}: {} (need {need}, have {have})", self.failed(), At(self.plp), self.subject())]
 pub struct CapacityFault {
     /// The number of the test, from 1.
     pub test: u8,
@@ -37,6 +37,10 @@ pub struct CapacityFault {
 }
 
 impl CapacityFault {
+    fn failed(&self) -> Failed {
+        Failed(self.test)
+    }
+
     fn subject(&self) -> &'static str {
         match self.test {
             1 => "the blocks of an interleaving frame must carry the bytes that the stream brings",

@@ -35,6 +35,3 @@ pub use plp::{
 };
 pub use rules::{ConfigFault, Valid, validate};
 pub use slot_times::SlotTimes;
-
-#[cfg(test)]
-mod tests;

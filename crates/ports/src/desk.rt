@@ -22,7 +22,7 @@ pub trait Desk {
 
     /// Reads the next bytes of a file into the front of the buffer. Answers how many, at most as
     /// many as the buffer has room for, and 0 exactly at the end of the file. Behind its end it is
-    /// not read again: a terminal gives one end after another, and a pipe that grows gives more.
+    /// not read again: a terminal gives one end after another, and a file that grows gives more.
     fn read(&mut self, handle: u32, buffer: &mut [u8]) -> Result<usize, DeskFault>
         requires opened { handle < length (state self.old).opened }
         requires going { has_run_out (state self.old) handle ≡ false }

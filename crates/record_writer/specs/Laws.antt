@@ -15,7 +15,8 @@ use Rattle.site_frame.specs.Whole.{written_rest, record_bytes, FitsRecord}
 use Rattle.site_frame.specs.Record.{head_bytes, muted_kind}
 use Rattle.site_frame.specs.declared.reading.RecordView.{RecordView}
 use Rattle.site_frame.specs.declared.reading.RecordView.TheVariants.{Muted}
-use Rattle.record_writer.specs.RecordBytes.{AreShort, most_block, own_count, list_at, list_blocks}
+use Rattle.plp_config.specs.declared.plp.TheConstants.{MOST_BLOCK_BYTES}
+use Rattle.record_writer.specs.RecordBytes.{AreShort, own_count, list_at, list_blocks}
 use Rattle.l1_signal.specs.Lengths.{conf_len, dyn_len}
 use Rattle.l1_signal.specs.declared.lengths.TheConstants.{CRC_BITS}
 use Rattle.record_writer.specs.Front.{post_with, front_bytes}
@@ -78,4 +79,4 @@ EmptyIsShort = (chunks lists : ℕ) → AreShort (empty chunks lists).lists
 
 abbrev pub AppendedIsShort : Type 0
 AppendedIsShort = (pool : State) (list : ℕ) (block : List ℕ) → list < length pool.lists → AreShort pool.lists
-    → length block ≤ most_block → AreShort (appended pool list block).lists
+    → length block ≤ MOST_BLOCK_BYTES → AreShort (appended pool list block).lists

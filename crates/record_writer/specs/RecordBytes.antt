@@ -46,10 +46,6 @@ list_at lists list = slice_index_or lists list []
 abbrev pub front_of : List (List (List ℕ)) → ℕ → List ℕ
 front_of lists list = slice_index_or (list_at lists list) 0 []
 
--- the most bytes of a block: with its head it fits a piece
-abbrev pub most_block : ℕ
-most_block = MOST_BLOCK_BYTES
-
--- No block is longer.
+-- No block is longer than the longest baseband frame.
 abbrev pub AreShort : List (List (List ℕ)) → Type 0
-AreShort lists = (list place : ℕ) → length (slice_index_or (list_at lists list) place []) ≤ most_block
+AreShort lists = (list place : ℕ) → length (slice_index_or (list_at lists list) place []) ≤ MOST_BLOCK_BYTES
