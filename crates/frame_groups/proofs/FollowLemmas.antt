@@ -38,6 +38,10 @@ number_above r (b ∷ past) h n key e =
     let up = (next_law r.frames b.number h.key key).0.above in
     let same = some_injective n (next_number r.frames b.number h.key) e in omega (arith, up, same)
 
+above_more : (past : List Numbered) (n : ℕ) → IsAbove past n → IsAbove past (n + 1)
+above_more [] n a = tt
+above_more (b ∷ past) n a = omega (arith, a)
+
 pub close_joined : (r : Rules) (closed : List Group) (past : List Numbered) (h : Group) (n next : ℕ) (old new : Option MuteCause)
     (given : List FrameRecord)
     → Follows r closed past h (Some n) next false old given → new ≡ r.fault past h n
@@ -78,6 +82,7 @@ close_first r closed past h number old next fault new given f e at = record {
     go (Some n) at =
         let same = (at n refl).0 in
         record {
+          above = subst (λ (o : List Numbered). IsAbove o next) (sym f.records.0) tt;
           most = omega (arith, same);
           front = λ _.
               ap₂ (λ (g : List FrameRecord) (k : ℕ). g ++ gaps_from k n) f.records.1 same
@@ -100,6 +105,7 @@ start_joined r closed past h g n next old new given f e key = record {
   fault_is = λ c. absurd (true≢false (sym c));
   records =
       record {
+        above = omega (arith, e);
         most = let up = above in omega (arith, e, up);
         front = λ _.
             ap₂ (λ (g' : List FrameRecord) (k : ℕ). g' ++ gaps_from k (next_number r.frames n g.key)) (f.records.all e) e
@@ -155,7 +161,7 @@ goes_on r closed past h g number next fault given f same = record {
     go : (o : Option ℕ) → ((n : ℕ) → o ≡ Some n → next ≤ n) → HasGiven r (records_from r [] closed) past h o next given
         → HasGiven r (records_from r [] closed) past g o next given
     go None w a = a
-    go (Some n) w a = let l = w n refl in record { most = a.most; front = a.front; all = λ e. absurd (omega (arith, e, l)) }
+    go (Some n) w a = let l = w n refl in record { above = a.above; most = a.most; front = a.front; all = λ e. absurd (omega (arith, e, l)) }
 
 -- the first group begins
 pub begins : (r : Rules) (g : Group) (next : ℕ) (fault : Option MuteCause) → IsKey r.frames g.key
@@ -186,6 +192,7 @@ gap_given r closed past h n next closing fault given f l = record {
   fault_is = f.fault_is;
   records =
       record {
+        above = above_more past next f.records.above;
         most = omega (arith, l);
         front = λ _.
             append_assoc given (gap_record next ∷ []) (gaps_from (next + 1) n)
@@ -207,6 +214,7 @@ own_given r closed past h n next fault given f e = record {
   fault_is = f.fault_is;
   records =
       record {
+        above = above_more past next f.records.above;
         most = omega (arith, e);
         front = λ l. absurd (omega (arith, e, l));
         all = λ _.

@@ -39,6 +39,7 @@ gaps_from next n = map gap_record (range_with_len next (n - next))
 -- Behind others, the records of a group with a number were given, up to the next.
 pub record Given (r : Rules) (others : List FrameRecord) (past : List Numbered) (h : Group) (n next : ℕ)
     (given : List FrameRecord) : Type 0 where
+  pub above : IsAbove past next
   pub most : next ≤ n + 1
   pub front : next ≤ n → given ++ gaps_from next n ≡ others ++ gaps_behind past (Some n)
   pub all : next ≡ n + 1 → given ≡ others ++ records_with r past h
