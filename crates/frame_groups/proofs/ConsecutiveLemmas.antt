@@ -19,7 +19,7 @@ first_above f (suc steps) n = go (f n) (first_above f steps (n + 1))
     go true h = omega arith
     go false h = omega (arith, h)
 
-next_above : (r : Rules) (m : ℕ) (g : Group) → m + 1 ≤ next_number r.frames m g.key
+pub next_above : (r : Rules) (m : ℕ) (g : Group) → m + 1 ≤ next_number r.frames m g.key
 unfolding next_number
 next_above r m g = first_above (λ i. is_same (frame_key r.frames i) g.key) (16 * r.frames) (m + 1)
 
