@@ -19,10 +19,10 @@ use Rattle.feed_merge.specs.declared.seen.Feed.TheVariants.{A, B}
 use Rattle.feed_merge.specs.Picking.{is_at}
 use Rattle.feed_merge.specs.Picks.{above_all}
 use Rattle.record_feeds.specs.Fed.{IsFedWith, IsBehind, NoneComes}
-use Rattle.held_feed.specs.Reading.{is_idle}
+use Rattle.two_feeds.specs.Reading.{is_idle}
 use Rattle.merge_run.specs.Taking.{seen_of}
-use Rattle.held_feed.specs.Reading.{least_of}
-use Rattle.held_feed.specs.Skips.{one_if}
+use Rattle.two_feeds.specs.Reading.{least_of}
+use Rattle.two_feeds.specs.Skips.{one_if}
 use Rattle.record_feeds.specs.Taking.{Takes, TookFrom, IsSameFeed}
 use Rattle.record_feeds.proofs.FeedLemmas.{took_with, took_behind}
 use Rattle.merge_run.proofs.NumberLemmas.{above_append, below_of}

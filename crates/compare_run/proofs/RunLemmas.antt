@@ -30,8 +30,8 @@ use Rattle.file_run.proofs.StandsLemmas.{fed_since}
 use Rattle.file_run.proofs.WorkLemmas.{are_whole}
 use Rattle.merge_run.specs.MergeRun.{AreEarly, end_by}
 use Rattle.record_feeds.specs.Fed.{IsFedWith, IsBehind, NoneComes}
-use Rattle.held_feed.specs.Reading.{is_idle, fed_at}
-use Rattle.held_feed.specs.Reading.{least_of}
+use Rattle.two_feeds.specs.Reading.{is_idle, fed_at}
+use Rattle.two_feeds.specs.Reading.{least_of}
 use Rattle.record_feeds.proofs.FeedLemmas.{due_of}
 use Rattle.merge_run.proofs.NumberLemmas.{above_append, below_of, nothing_above}
 use Rattle.merge_run.proofs.PickLemmas.{least_first, least_second}

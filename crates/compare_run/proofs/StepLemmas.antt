@@ -4,7 +4,7 @@ use Rattle.std.proofs.lemmas.Bool.{true≢false}
 use Rattle.frame_groups.specs.declared.waiting.Waiting.{Waiting}
 use Rattle.file_run.specs.Steps.{Needs, Suffices, FallsShort}
 use Rattle.file_run.specs.declared.machine.Step.TheVariants.{Give, End}
-use Rattle.held_feed.specs.Reading.{step_by}
+use Rattle.two_feeds.specs.Reading.{step_by}
 use Rattle.merge_run.specs.declared.phase.Phase.TheVariants.{Reads}
 use Rattle.merge_run.proofs.StepLemmas.{Wants, GoesOn, goes_on, IsLate, is_late}
 use Rattle.merge_run.proofs.StepLemmas as merge

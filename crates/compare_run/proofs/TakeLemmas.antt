@@ -19,7 +19,7 @@ use Rattle.frame_feed.specs.declared.feed.FrameFeed.{FrameFeed}
 use Rattle.feed_merge.specs.Picking.{is_at}
 use Rattle.record_feeds.specs.Fed.{IsFedWith}
 use Rattle.merge_run.specs.Taking.{seen_of}
-use Rattle.held_feed.specs.Skips.{AreTaken}
+use Rattle.two_feeds.specs.Skips.{AreTaken}
 use Rattle.record_feeds.specs.Taking.{Takes}
 use Rattle.record_feeds.proofs.FeedLemmas.{IsDue, due_of}
 use Rattle.merge_run.proofs.FeedLemmas.{one_of}

@@ -11,8 +11,8 @@ use Rattle.file_run.specs.declared.machine.Step.TheVariants.{Give, End}
 use Rattle.frame_feed.specs.StandsFor.{waiting_of, fed_of}
 use Rattle.frame_feed.specs.StandsFor as feed
 use Rattle.file_run.specs.FileRun.{read_ahead}
-use Rattle.held_feed.specs.Reading.{is_idle, wants_of, step_at, step_by, fed_at}
-use Rattle.held_feed.specs.Reading.{least_of}
+use Rattle.two_feeds.specs.Reading.{is_idle, wants_of, step_at, step_by, fed_at}
+use Rattle.two_feeds.specs.Reading.{least_of}
 use Rattle.merge_run.proofs.StepLemmas.{Wants, First, Second, idle_is}
 use Rattle.compare_run.specs.Shown.{Shown}
 use Rattle.compare_run.specs.Steps.{step_of, reach_of}

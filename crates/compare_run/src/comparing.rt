@@ -8,8 +8,8 @@ ghost use Rattle.file_run.specs.declared.machine.TheConstants.{PIECE};
 ghost use Rattle.file_run.specs.declared.machine.Step.TheVariants.{Give};
 ghost use Rattle.frame_feed.specs.StandsFor.{waiting_of, has_ended, fed_of};
 ghost use Rattle.frame_compare.specs.declared.tally.TheConstants.{LONGEST_TEXT};
-ghost use Rattle.held_feed.specs.Reading.{is_idle as is_idle_by, fed_at};
-ghost use Rattle.held_feed.specs.Reading.{least_of};
+ghost use Rattle.two_feeds.specs.Reading.{is_idle as is_idle_by, fed_at};
+ghost use Rattle.two_feeds.specs.Reading.{least_of};
 ghost use Rattle.compare_run.specs.Shown.{Shown, HasShown};
 ghost use Rattle.compare_run.specs.Steps.{step_of, reach_of, left_of};
 

@@ -1,4 +1,3 @@
 pub mod Frames
-pub mod Reading
-pub mod Skips
+pub mod Groups
 pub mod StandsFor

@@ -2,9 +2,5 @@
 #![tactic(auto)]
 
 mod feed;
-mod reading;
-mod skipping;
 
 pub use feed::FrameFeed;
-pub use reading::{is_idle, least_number, next_step};
-pub use skipping::skip_if;

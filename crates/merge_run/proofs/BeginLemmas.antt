@@ -28,8 +28,8 @@ use Rattle.feed_merge.specs.declared.seen.Pick.{Pick}
 use Rattle.feed_merge.specs.Laws.{PicksGrow}
 use Rattle.feed_merge.specs.Picking.{is_at, is_there, source_at, pick_at}
 use Rattle.feed_merge.specs.Picks.{Picked, pick_of, picks, above_all, frames_of}
-use Rattle.held_feed.specs.Reading.{is_idle, least_of}
-use Rattle.held_feed.specs.Skips.{one_if, AreTaken, Takes, IsSameFeed}
+use Rattle.two_feeds.specs.Reading.{is_idle, least_of}
+use Rattle.two_feeds.specs.Skips.{one_if, AreTaken, Takes, IsSameFeed}
 use Rattle.held_feed.specs.StandsFor.{FrameFeedStandsFor, waiting_of, is_whole}
 use Rattle.held_feed.specs.StandsFor as feed
 use Rattle.held_feed.specs.declared.feed.FrameFeed.{FrameFeed}

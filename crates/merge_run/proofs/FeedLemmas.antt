@@ -17,8 +17,8 @@ use Rattle.formed_frames.specs.Laws.{FramesAreFormed, IsFormedRecord}
 use Rattle.feed_merge.specs.declared.seen.Feed.{Feed}
 use Rattle.feed_merge.specs.Picking.{is_at, is_there}
 use Rattle.feed_merge.specs.Picks.{Picked, above_all}
-use Rattle.held_feed.specs.Reading.{is_idle}
-use Rattle.held_feed.specs.Skips.{AreTaken, IsOnly, Takes}
+use Rattle.two_feeds.specs.Reading.{is_idle}
+use Rattle.two_feeds.specs.Skips.{AreTaken, IsOnly, Takes}
 use Rattle.held_feed.specs.StandsFor.{IsFirst, waiting_of}
 use Rattle.held_feed.specs.StandsFor as feed
 use Rattle.held_feed.specs.declared.feed.FrameFeed.{FrameFeed}

@@ -30,8 +30,8 @@ use Rattle.merge_run.specs.MergeRun.{complete_by, picked_below, picked_of, packe
 use Rattle.merge_run.specs.MergeRun.{HasNone, AreCompleteBelow, HasLate, end_by, HasWritten, MayWrite}
 use Rattle.feed_merge.specs.declared.seen.Feed.TheVariants.{A, B}
 use Rattle.merge_run.specs.Shown.{Shown, IsFedWith, IsBehind, IsPast, IsDueBelow, NoneComes, IsReading, IsDone, IsIn, is_held}
-use Rattle.held_feed.specs.Reading.{is_idle, fed_at}
-use Rattle.held_feed.specs.Reading.{least_of}
+use Rattle.two_feeds.specs.Reading.{is_idle, fed_at}
+use Rattle.two_feeds.specs.Reading.{least_of}
 use Rattle.merge_run.specs.declared.merging.Merging.{Merging}
 use Rattle.merge_run.specs.declared.phase.Phase.{Phase}
 use Rattle.merge_run.specs.declared.phase.Phase.TheVariants as phase

@@ -20,7 +20,7 @@ use Rattle.feed_merge.specs.declared.seen.Feed.{Feed}
 use Rattle.feed_merge.specs.declared.seen.Feed.TheVariants.{A, B}
 use Rattle.pool_frame.specs.declared.frame.PoolFrame.{PoolFrame}
 use Rattle.held_feed.specs.Frames.{IsFrameOf}
-use Rattle.held_feed.specs.Skips.{one_if, Takes, IsSameFeed}
+use Rattle.two_feeds.specs.Skips.{one_if, Takes, IsSameFeed}
 use Rattle.held_feed.specs.StandsFor.{FrameFeedStandsFor, waiting_of, is_whole}
 use Rattle.held_feed.specs.StandsFor as feed
 use Rattle.held_feed.specs.declared.feed.FrameFeed.{FrameFeed}

@@ -10,7 +10,7 @@ use Rattle.modulator.specs.Laws.{DueFront, DueFollow}
 use Rattle.modulator.specs.StandsFor.{records_due, records_of}
 use Rattle.modulator.proofs.WaitLemmas.{front_due}
 use Rattle.file_run.specs.FileRun.{IsFed}
-use Rattle.held_feed.specs.Skips.{IsOnly, Takes}
+use Rattle.two_feeds.specs.Skips.{IsOnly, Takes}
 use Rattle.held_feed.specs.StandsFor.{FrameFeedStandsFor, IsFirst, waiting_of}
 use Rattle.held_feed.specs.StandsFor as feed
 use Rattle.held_feed.specs.declared.feed.FrameFeed.{FrameFeed}

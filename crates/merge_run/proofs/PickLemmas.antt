@@ -20,8 +20,8 @@ use Rattle.feed_merge.specs.Laws.{AreOf}
 use Rattle.feed_merge.specs.Picking.{is_at, is_there, source_at, pick_at, picked}
 use Rattle.feed_merge.specs.Picks.{is_frame, Picked, frame_from, pick_of}
 use Rattle.merge_run.specs.Sending.{numbered}
-use Rattle.held_feed.specs.Reading.{least_of}
-use Rattle.held_feed.specs.Skips.{one_if, IsOnly, AreTaken}
+use Rattle.two_feeds.specs.Reading.{least_of}
+use Rattle.two_feeds.specs.Skips.{one_if, IsOnly, AreTaken}
 use Rattle.merge_run.specs.Taking.{seen_of}
 
 -- the least number is the one that is picked

@@ -12,9 +12,9 @@ use Rattle.file_run.specs.declared.machine.Step.{Step}
 use Rattle.file_run.specs.declared.machine.Step.TheVariants.{Read, Give, End}
 use Rattle.held_feed.specs.StandsFor.{waiting_of, has_ended}
 use Rattle.file_run.specs.FileRun.{read_ahead}
-use Rattle.held_feed.specs.Reading.{is_idle, wants_of, step_at, step_by, fed_at}
+use Rattle.two_feeds.specs.Reading.{is_idle, wants_of, step_at, step_by, fed_at}
 use Rattle.merge_run.specs.Steps.{step_in, step_of}
-use Rattle.held_feed.specs.Reading.{least_of}
+use Rattle.two_feeds.specs.Reading.{least_of}
 use Rattle.merge_run.specs.declared.merging.Merging.{Merging}
 use Rattle.merge_run.specs.declared.phase.Phase.{Phase}
 use Rattle.merge_run.specs.declared.phase.Phase.TheVariants.{Reads, Gives, Rests, Done}

@@ -4,7 +4,7 @@ use Rattle.std.proofs.lemmas.Bool.{true≢false}
 use Rattle.plp_config.specs.declared.moment.TheConstants.{MOST_FRAMES}
 use Rattle.frame_groups.specs.declared.waiting.Waiting.{Waiting}
 use Rattle.feed_merge.specs.declared.seen.Feed.{Feed}
-use Rattle.held_feed.specs.Skips.{CanBeLeft}
+use Rattle.two_feeds.specs.Skips.{CanBeLeft}
 use Rattle.held_feed.specs.StandsFor.{is_whole}
 use Rattle.merge_run.proofs.CameLemmas.{less_of, nothing_of}
 

@@ -14,9 +14,9 @@ use Rattle.file_run.specs.FileRun.{read_ahead}
 use Rattle.merge_run.specs.Shown.{Shown, is_held}
 use Rattle.feed_merge.specs.declared.seen.Feed.TheVariants.{A, B}
 use Rattle.merge_run.proofs.HeldLemmas.{end_of, count_of}
-use Rattle.held_feed.specs.Reading.{is_idle, wants_of, step_at, step_by, fed_at}
+use Rattle.two_feeds.specs.Reading.{is_idle, wants_of, step_at, step_by, fed_at}
 use Rattle.merge_run.specs.Steps.{step_in, step_of, reach_of}
-use Rattle.held_feed.specs.Reading.{least_of}
+use Rattle.two_feeds.specs.Reading.{least_of}
 use Rattle.merge_run.specs.declared.merging.Merging.{Merging}
 use Rattle.merge_run.specs.declared.phase.Phase.{Phase}
 use Rattle.merge_run.specs.declared.phase.Phase.TheVariants.{Reads, Gives, Rests, Done}

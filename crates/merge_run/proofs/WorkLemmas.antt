@@ -25,7 +25,7 @@ use Rattle.merge_run.specs.MergeWork.{merge_work}
 use Rattle.merge_run.specs.Shown.{Shown, IsDone, IsIn, is_held}
 use Rattle.feed_merge.specs.declared.seen.Feed.TheVariants.{A, B}
 use Rattle.merge_run.proofs.HeldLemmas.{end_of}
-use Rattle.held_feed.specs.Reading.{step_by}
+use Rattle.two_feeds.specs.Reading.{step_by}
 use Rattle.merge_run.specs.Steps.{step_in, step_of, reach_of}
 use Rattle.merge_run.specs.declared.machine.MergeMachine.{MergeMachine}
 use Rattle.merge_run.specs.declared.phase.Phase.{Phase}

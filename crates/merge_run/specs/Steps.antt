@@ -3,7 +3,7 @@ use Rattle.std.specs.Prelude.{ℕ, ◌+◌, ◌*◌}
 use Rattle.file_run.specs.FileRun.{read_ahead}
 use Rattle.file_run.specs.declared.machine.Step.{Step}
 use Rattle.file_run.specs.declared.machine.Step.TheVariants.{Give, End}
-use Rattle.held_feed.specs.Reading.{step_by, fed_at}
+use Rattle.two_feeds.specs.Reading.{step_by, fed_at}
 use Rattle.held_feed.specs.StandsFor.{waiting_of, has_ended, fed_of}
 use Rattle.held_feed.specs.StandsFor as feed
 use Rattle.held_feed.specs.declared.feed.FrameFeed.{FrameFeed}

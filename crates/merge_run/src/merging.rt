@@ -7,7 +7,7 @@ ghost use Rattle.file_run.specs.Events.{Event, Fed, Ended, Gave};
 ghost use Rattle.file_run.specs.Steps.{Suffices, FallsShort};
 ghost use Rattle.file_run.specs.declared.machine.TheConstants.{PIECE};
 ghost use Rattle.file_run.specs.declared.machine.Step.TheVariants.{Give};
-ghost use Rattle.held_feed.specs.Reading.{is_idle, least_of, fed_at};
+ghost use Rattle.two_feeds.specs.Reading.{is_idle, least_of, fed_at};
 ghost use Rattle.held_feed.specs.StandsFor.{waiting_of, has_ended, fed_of};
 ghost use Rattle.merge_run.specs.Shown.{Shown, HasShown};
 ghost use Rattle.merge_run.specs.Steps.{step_of, reach_of, left_of};
@@ -21,11 +21,12 @@ use bit_slice::OutOfMemory;
 use feed_merge::{Feed, Merger, grow_law};
 use file_run::{Step, events_law};
 use formed_frames::formed_law;
-use held_feed::{FrameFeed, least_number, next_step};
+use held_feed::FrameFeed;
 use modulator::due_records_law;
 use plp_config::{Plan, block_law};
 use std::alloc::Global;
 use ts_packet::SIZE;
+use two_feeds::{least_number, next_step};
 
 /// Two feeds of a network, and the merger of their frames.
 #[derive(Drop)]

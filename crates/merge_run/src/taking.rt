@@ -4,12 +4,13 @@ ghost use Rattle.frame_groups.specs.Modulated.{FrameRecord};
 ghost use Rattle.feed_merge.specs.Picking.{picked};
 ghost use Rattle.feed_merge.specs.declared.seen.Feed.TheVariants.{A, B};
 ghost use Rattle.held_feed.specs.StandsFor.{FrameFeedStandsFor, waiting_of, left_of};
-ghost use Rattle.held_feed.specs.Skips.{CanBeLeft, Takes, IsSameFeed, one_if};
+ghost use Rattle.two_feeds.specs.Skips.{CanBeLeft, Takes, IsSameFeed, one_if};
 ghost use Rattle.merge_run.specs.Taking.{seen_of, is_same, is_from, leaves, feed_in};
 
 use feed_merge::{Feed, Pick, Seen, pick};
 use frame_groups::Waiting;
-use held_feed::{FrameFeed, skip_if};
+use held_feed::FrameFeed;
+use two_feeds::skip_if;
 
 // A record that waits, as it is seen.
 fn seen(waiting: Option<Waiting>) -> Option<Seen>

@@ -16,8 +16,8 @@ use Rattle.feed_merge.specs.declared.seen.Feed.{Feed}
 use Rattle.feed_merge.specs.Picking.{is_at}
 use Rattle.feed_merge.specs.Picks.{above_all}
 use Rattle.record_feeds.specs.Fed.{IsFedWith, IsBehind}
-use Rattle.held_feed.specs.Reading.{is_idle}
-use Rattle.held_feed.specs.Skips.{AreTaken}
+use Rattle.two_feeds.specs.Reading.{is_idle}
+use Rattle.two_feeds.specs.Skips.{AreTaken}
 use Rattle.merge_run.specs.Taking.{seen_of}
 use Rattle.record_feeds.specs.Taking.{TookFrom}
 use Rattle.merge_run.proofs.NumberLemmas.{above_append, above_before}

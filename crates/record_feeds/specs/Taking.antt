@@ -5,7 +5,7 @@ use Rattle.open_group.specs.Written.{spelled}
 use Rattle.feed_merge.specs.declared.seen.Feed.{Feed}
 use Rattle.frame_feed.specs.StandsFor.{FrameFeedStandsFor, config_of, waiting_of, has_ended, fed_of}
 use Rattle.frame_feed.specs.declared.feed.FrameFeed.{FrameFeed}
-use Rattle.held_feed.specs.Skips.{AreTaken}
+use Rattle.two_feeds.specs.Skips.{AreTaken}
 
 -- The record that waited was taken, if it was to be, with these bytes.
 pub record Takes (taken : Bool) (old new : FrameFeed) (bytes : List ℕ) (ended : Bool) (given : List FrameRecord)

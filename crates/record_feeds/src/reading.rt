@@ -1,7 +1,7 @@
 // What two feeds want next, by the records that wait.
 ghost use Rattle.std.specs.Prelude.{◌≡◌};
 ghost use Rattle.frame_feed.specs.StandsFor.{waiting_of, has_ended};
-ghost use Rattle.held_feed.specs.Reading.{is_idle, least_of, wants_of, step_by};
+ghost use Rattle.two_feeds.specs.Reading.{is_idle, least_of, wants_of, step_by};
 
 use file_run::{AHEAD, Step};
 use frame_feed::FrameFeed;

@@ -2,7 +2,7 @@
 ghost use Rattle.std.specs.Prelude.{◌≡◌, ◌≤◌, ◌+◌, ℕ, Bool, List, false};
 ghost use Rattle.frame_groups.specs.Modulated.{FrameRecord};
 ghost use Rattle.frame_feed.specs.StandsFor.{FrameFeedStandsFor, waiting_of, left_of};
-ghost use Rattle.held_feed.specs.Skips.{CanBeLeft, one_if};
+ghost use Rattle.two_feeds.specs.Skips.{CanBeLeft, one_if};
 ghost use Rattle.record_feeds.specs.Taking.{Takes, IsSameFeed};
 
 use frame_feed::{FrameFeed, RecordBuffer};

@@ -33,7 +33,7 @@ use Rattle.gateway_core.specs.InputSoFar.{Continues}
 use Rattle.gateway_run.proofs.FileLemmas.{NextIsBad}
 use Rattle.merge_run.specs.MergeRun.{AreEarly}
 use Rattle.record_feeds.specs.Fed.{NoneComes}
-use Rattle.held_feed.specs.Reading.{is_idle}
+use Rattle.two_feeds.specs.Reading.{is_idle}
 use Rattle.record_feeds.proofs.FeedLemmas.{IsDue, due_of, waits_above}
 use Rattle.merge_run.proofs.NumberLemmas.{below_of, above_append, below_append}
 use Rattle.merge_run.proofs.SendLemmas.{given_front}

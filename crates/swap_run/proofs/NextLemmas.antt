@@ -19,7 +19,7 @@ use Rattle.frame_feed.specs.StandsFor as feed
 use Rattle.merge_run.proofs.CameLemmas.{test_of, most_of, less_of, number_of, nothing_of}
 use Rattle.terms.proofs.CaseLemmas.{bool_cases}
 use Rattle.terms.proofs.OptionLemmas.{some_injective, none_some}
-use Rattle.held_feed.specs.Reading.{is_idle}
+use Rattle.two_feeds.specs.Reading.{is_idle}
 use Rattle.region_swap.specs.StandsFor.{Status, status_of, frame_of, has_unit, is_fed}
 use Rattle.region_swap.specs.declared.swapper.Swapper.{Swapper}
 use Rattle.swap_run.specs.SwapRun.{frames_in}

@@ -19,7 +19,7 @@ use Rattle.frame_feed.specs.StandsFor as feed
 use Rattle.feed_merge.specs.Picks.{above_all}
 use Rattle.gateway_core.specs.InputSoFar.{Told}
 use Rattle.gateway_run.proofs.FileLemmas.{joined_length}
-use Rattle.held_feed.specs.Reading.{is_idle}
+use Rattle.two_feeds.specs.Reading.{is_idle}
 use Rattle.merge_run.proofs.StepLemmas.{idle_is}
 use Rattle.region_swap.specs.StandsFor.{Status, status_of, wants_of}
 use Rattle.region_swap.specs.Swapped.{swapped}

@@ -7,7 +7,7 @@ use Rattle.file_run.specs.declared.machine.Step.{Step}
 use Rattle.file_run.specs.declared.machine.Step.TheVariants.{Read, Give, End}
 use Rattle.frame_feed.specs.StandsFor.{waiting_of, has_ended, fed_of}
 use Rattle.frame_feed.specs.StandsFor as feed
-use Rattle.held_feed.specs.Reading.{is_idle}
+use Rattle.two_feeds.specs.Reading.{is_idle}
 use Rattle.region_swap.specs.StandsFor.{status_of, wants_of}
 use Rattle.region_swap.specs.declared.swapper.Swapper.{Swapper}
 use Rattle.swap_run.specs.Shown.{more_units, frame_bytes}

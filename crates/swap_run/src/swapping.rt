@@ -9,7 +9,7 @@ ghost use Rattle.file_run.specs.Steps.{Suffices, FallsShort};
 ghost use Rattle.file_run.specs.declared.machine.TheConstants.{PIECE};
 ghost use Rattle.file_run.specs.declared.machine.Step.TheVariants.{Give};
 ghost use Rattle.frame_feed.specs.StandsFor.{waiting_of, has_ended, fed_of};
-ghost use Rattle.held_feed.specs.Reading.{is_idle};
+ghost use Rattle.two_feeds.specs.Reading.{is_idle};
 ghost use Rattle.region_swap.specs.StandsFor.{wants_of};
 ghost use Rattle.swap_run.specs.Shown.{Shown, HasShown};
 ghost use Rattle.swap_run.specs.Steps.{record_step, packet_step, drain_step, step_of, reach_of, left_of};

@@ -1,6 +1,6 @@
 use Rattle.std.proofs.Common.{Bool, not, sym, subst}
 use Rattle.feed_merge.specs.declared.seen.Feed.TheVariants.{A, B}
-use Rattle.held_feed.specs.Skips.{CanBeLeft}
+use Rattle.two_feeds.specs.Skips.{CanBeLeft}
 use Rattle.held_feed.specs.StandsFor.{waiting_of}
 use Rattle.merge_run.specs.Taking.{is_from}
 use Rattle.merge_run.proofs.TakeLemmas.{can_less}

@@ -1,11 +1,11 @@
 // What two feeds want next, by the records that wait.
 ghost use Rattle.std.specs.Prelude.{◌≡◌};
-ghost use Rattle.held_feed.specs.Reading.{is_idle, least_of, wants_of, step_by};
+ghost use Rattle.two_feeds.specs.Reading.{is_idle, least_of, wants_of, step_by};
 ghost use Rattle.held_feed.specs.StandsFor.{waiting_of, has_ended};
 
-use crate::feed::FrameFeed;
 use file_run::{AHEAD, Step};
 use frame_groups::Waiting;
+use held_feed::FrameFeed;
 use plp_config::MOST_FRAMES;
 
 // The least number of two that wait.

@@ -1,5 +1,5 @@
-use Rattle.held_feed.proofs.SkipLemmas.{takes_none, takes_one}
-use Rattle.held_feed.proofs.skipping.skip_if.Goals as goal
+use Rattle.two_feeds.proofs.SkipLemmas.{takes_none, takes_one}
+use Rattle.two_feeds.proofs.skipping.skip_if.Goals as goal
 
 pub returns-then-leaves-clause-takes : goal.returns-then-leaves-clause-takes
 returns-then-leaves-clause-takes c = λ bytes ended given s.

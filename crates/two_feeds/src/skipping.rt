@@ -2,9 +2,9 @@
 ghost use Rattle.std.specs.Prelude.{◌≡◌, ◌≤◌, ◌+◌, ℕ, Bool, List, false};
 ghost use Rattle.frame_groups.specs.Modulated.{FrameRecord};
 ghost use Rattle.held_feed.specs.StandsFor.{FrameFeedStandsFor, waiting_of, left_of};
-ghost use Rattle.held_feed.specs.Skips.{CanBeLeft, Takes, IsSameFeed, one_if};
+ghost use Rattle.two_feeds.specs.Skips.{CanBeLeft, Takes, IsSameFeed, one_if};
 
-use crate::feed::FrameFeed;
+use held_feed::FrameFeed;
 
 /// Leaves the record that waits behind, if it is to be left.
 pub fn skip_if(feed: &mut FrameFeed<'_>, leaves: bool)

@@ -6,7 +6,7 @@ use Rattle.terms.proofs.OptionLemmas.{some_injective}
 use Rattle.plp_config.specs.declared.moment.TheConstants.{MOST_FRAMES}
 use Rattle.frame_groups.specs.Modulated.{FrameRecord}
 use Rattle.frame_groups.specs.declared.waiting.Waiting.{Waiting}
-use Rattle.held_feed.specs.Skips.{CanBeLeft, Takes}
+use Rattle.two_feeds.specs.Skips.{CanBeLeft, Takes}
 use Rattle.held_feed.specs.StandsFor.{FrameFeedStandsFor, Skipped}
 use Rattle.held_feed.specs.declared.feed.FrameFeed.{FrameFeed}
 
