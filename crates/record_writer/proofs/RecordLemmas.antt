@@ -10,9 +10,10 @@ use Rattle.std.proofs.lemmas.Bool.{cases_eq}
 use Rattle.std.proofs.lemmas.List.{drop_more, drop-set, get_or-set_same, get_or-set_other, drop-drop, drop_all}
 use Rattle.std.proofs.lemmas.List.{length-drop, length-take-le}
 use Rattle.plp_config.specs.declared.config.Config.{Config}
+use Rattle.plp_config.specs.declared.plp.TheConstants.{MOST_BLOCK_BYTES}
 use Rattle.scheduler.specs.Shape.{FrameShape}
 use Rattle.record_writer.specs.Laws.{EmptyIsShort, AppendedIsShort}
-use Rattle.record_writer.specs.RecordBytes.{list_at, front_of, most_block, sent_bytes, lists_bytes}
+use Rattle.record_writer.specs.RecordBytes.{list_at, front_of, sent_bytes, lists_bytes}
 use Rattle.cell_words.specs.Words.{words}
 use Rattle.cell_words.proofs.WordLemmas.{words_split}
 
@@ -40,19 +41,19 @@ none_at (suc n) (suc i) = none_at n i
 
 pub empty_is_short : EmptyIsShort
 empty_is_short chunks lists list place =
-    subst (λ (l : List (List ℕ)). length (slice_index_or l place []) ≤ most_block) (sym (none_at lists list)) (nothing place)
+    subst (λ (l : List (List ℕ)). length (slice_index_or l place []) ≤ MOST_BLOCK_BYTES) (sym (none_at lists list)) (nothing place)
   where
     none : List (List ℕ)
     none = []
 
-    nothing : (place : ℕ) → length (slice_index_or none place []) ≤ most_block
+    nothing : (place : ℕ) → length (slice_index_or none place []) ≤ MOST_BLOCK_BYTES
     nothing zero = lit≤ tt
     nothing (suc place) = lit≤ tt
 
 -- and stay so with a short block more
-push_short : (blocks : List (List ℕ)) (block : List ℕ) (place : ℕ) → ((p : ℕ) → length (slice_index_or blocks p []) ≤ most_block)
-    → length block ≤ most_block
-    → length (slice_index_or (blocks ++ block ∷ []) place []) ≤ most_block
+push_short : (blocks : List (List ℕ)) (block : List ℕ) (place : ℕ) → ((p : ℕ) → length (slice_index_or blocks p []) ≤ MOST_BLOCK_BYTES)
+    → length block ≤ MOST_BLOCK_BYTES
+    → length (slice_index_or (blocks ++ block ∷ []) place []) ≤ MOST_BLOCK_BYTES
 push_short [] block zero each short = short
 push_short [] block (suc place) each short = each place
 push_short (b ∷ blocks) block zero each short = each 0
@@ -66,10 +67,10 @@ appended_is_short pool plp block inside short few list place =
     (λ (same : list ≡ plp).
     let a : list_at (slice_set lists plp more) list ≡ more = ap (list_at (slice_set lists plp more)) same
     ∙ get_or-set_same lists plp more [] inside in
-    subst (λ (l : List (List ℕ)). length (slice_index_or l place []) ≤ most_block) (sym a)
+    subst (λ (l : List (List ℕ)). length (slice_index_or l place []) ≤ MOST_BLOCK_BYTES) (sym a)
     (push_short (list_at lists plp) block place (short plp) few))
     (λ (other : list ≡ plp → ⊥).
-    subst (λ (l : List (List ℕ)). length (slice_index_or l place []) ≤ most_block)
+    subst (λ (l : List (List ℕ)). length (slice_index_or l place []) ≤ MOST_BLOCK_BYTES)
     (sym (get_or-set_other lists plp list more [] other)) (short list place))
     (cases_eq list plp)
 
