@@ -3,7 +3,7 @@ use Rattle.std.proofs.Common.{◌≡◌, ◌≢◌, ℕ, zero, suc, ◌+◌, ◌
 use Rattle.std.proofs.Common.{set, replicate, refl, ap, sym, ◌∙◌, subst, arith, length-append, length-set, length-drop}
 use Rattle.std.proofs.lemmas.Bool.{eqb-true, eqb-false, ltb-true, ltb-false}
 use Rattle.std.proofs.lemmas.List.{get_or-set_same, get_or-set_other, take-append-drop, length-take-le, nil_from_length}
-use Rattle.std.proofs.lemmas.List.{drop-append-le, drop-drop, get_or-drop, get_or_append_left, get_or-append-add}
+use Rattle.std.proofs.lemmas.List.{drop-append-le, get_or_append_left, get_or-append-add}
 use Rattle.linked_pool.specs.Chains.{count, moved}
 use Rattle.linked_pool.specs.Pool.{chunks_for}
 use Rattle.linked_pool.specs.Blocks.{front_chunks, uses, IsPool, Ends, AreEnds}
@@ -18,26 +18,6 @@ pub ends_rest : (lens lasts : List ℕ) (n : ℕ) (chain : List ℕ) → 0 < n �
     → Ends lens lasts (n - 1) (drop (front_chunks lens chain) chain)
 ends_rest lens lasts zero chain some e = absurd (omega arith)
 ends_rest lens lasts (suc n) chain some e = let less : suc n - 1 ≡ n = omega arith in rw less e.1
-
--- the last chunk of a block by the blocks before it
-pub at_end : (lens lasts : List ℕ) (n : ℕ) (chain : List ℕ) (p : ℕ) → Ends lens lasts n chain → p < n
-    → get_or lasts (get_or chain (uses lens p chain) 0) 0
-    ≡ get_or chain (uses lens p chain + front_chunks lens (drop (uses lens p chain) chain) - 1) 0
-at_end lens lasts zero chain p e lt = absurd (omega arith)
-at_end lens lasts (suc n) chain zero e lt =
-    let k : front_chunks lens chain - 1 ≡ 0 + front_chunks lens chain - 1 = omega arith in
-    e.0 ∙ ap (λ (v : ℕ). get_or chain v 0) k
-at_end lens lasts (suc n) chain (suc p) e lt =
-    let k : ℕ = front_chunks lens chain in
-    let o : ℕ = uses lens p (drop k chain) in
-    let f : ℕ = front_chunks lens (drop o (drop k chain)) in
-    let r = at_end lens lasts n (drop k chain) p e.1 (omega arith) in
-    let here = get_or-drop k chain o 0 in
-    let there = get_or-drop k chain (o + f - 1) 0 in
-    let rest : drop o (drop k chain) ≡ drop (k + o) chain = drop-drop o k chain in
-    let sum : k + (o + f - 1) ≡ k + o + f - 1 = omega arith in
-    ap (λ (v : ℕ). get_or lasts v 0) (sym here) ∙ r ∙ there ∙ ap (λ (v : ℕ). get_or chain v 0) sum
-    ∙ ap (λ (l : List ℕ). get_or chain (k + o + front_chunks lens l - 1) 0) rest
 
 pub ends_kept : (lens lens' lasts lasts' : List ℕ) (n : ℕ) (chain : List ℕ)
     → ((c : ℕ) → 0 < count c chain → get_or lens' c 0 ≡ get_or lens c 0)

@@ -2,16 +2,15 @@
 use Rattle.std.proofs.Common.{◌≡◌, ◌≢◌, ℕ, zero, suc, ◌+◌, ◌-◌, ◌*◌, ◌<◌, ◌≤◌, min, List, [], ◌∷◌, ◌++◌, length, take, drop}
 use Rattle.std.proofs.Common.{get_or, set, refl, ap, sym, ◌∙◌, subst, arith, length-append, length-set, append_assoc, length-drop}
 use Rattle.std.proofs.lemmas.List.{get_or-set_same, get_or-set_other, take-append-drop, length-take, length-take-le, take_all}
-use Rattle.std.proofs.lemmas.List.{take_at, take_more, drop_at, take_min, drop-drop, get_or-drop, take-append-le}
+use Rattle.std.proofs.lemmas.List.{take_at, take_more, drop_at, take_min, take-append-le}
 use Rattle.linked_pool.specs.Chains.{count, occurs, moved}
-use Rattle.linked_pool.specs.Pool.{State, chunks_for, appended, list_at}
-use Rattle.linked_pool.specs.Blocks.{joined, Fills, piece_of, IsPool, view_of, IsRef, ref_bytes, IsRest, rest_bytes, blocks_of}
-use Rattle.linked_pool.specs.Blocks.{front_chunks, uses, all_of}
+use Rattle.linked_pool.specs.Pool.{State, chunks_for, appended}
+use Rattle.linked_pool.specs.Blocks.{joined, Fills, piece_of, IsPool, view_of, IsRef, ref_bytes, IsRest, rest_bytes}
 use Rattle.std.proofs.Common.{eqb, ltb}
 use Rattle.std.proofs.lemmas.Bool.{eqb-true, eqb-false, ltb-true, ltb-false}
 use Rattle.terms.proofs.CaseLemmas.{bool_cases}
 use Rattle.linked_pool.proofs.WalkLemmas.{count-append, count_one, occurs-at}
-use Rattle.linked_pool.proofs.BlockLemmas.{Whole, length-joined, whole_take, whole_drop, list_inside, list_is, all-at}
+use Rattle.linked_pool.proofs.BlockLemmas.{Whole, length-joined, whole_take, whole_drop}
 use Rattle.linked_pool.proofs.AppendLemmas.{joined_kept, append_law}
 
 take_add : (n m : ℕ) (xs : List ℕ) → take (n + m) xs ≡ take n xs ++ take m (drop n xs)
@@ -172,110 +171,6 @@ length-ref chains chunks i offset first len r =
     let size = length-take-le (chunks_for len) chain r.enough in
     sym (length-take-le len (joined chunks (take (chunks_for len) chain)) (omega (arith, part, size)))
 
-pub record AtBlock (chunks : List (List ℕ)) (lens : List ℕ) (n : ℕ) (chain : List ℕ) (p : ℕ) : Type 0 where
-  pub fits : front_chunks lens (drop (uses lens p chain) chain) ≤ length (drop (uses lens p chain) chain)
-  pub more : uses lens (p + 1) chain ≡ uses lens p chain + front_chunks lens (drop (uses lens p chain) chain)
-  pub is : get_or (blocks_of chunks lens n chain) p [] ≡ take (get_or lens (get_or (drop (uses lens p chain) chain) 0 0) 0)
-      (joined chunks (take (front_chunks lens (drop (uses lens p chain) chain)) (drop (uses lens p chain) chain)))
-
-pub at_block : (chunks : List (List ℕ)) (lens : List ℕ) (n : ℕ) (chain : List ℕ) (p : ℕ) → uses lens n chain ≡ length chain
-    → p < n → AtBlock chunks lens n chain p
-at_block chunks lens zero chain p u h = absurd (omega arith)
-at_block chunks lens (suc m) chain zero u h = record { fits = omega (arith, u); more = omega arith; is = refl }
-at_block chunks lens (suc m) chain (suc p) u h =
-    let k : ℕ = front_chunks lens chain in
-    let rest : uses lens m (drop k chain) ≡ length (drop k chain) = omega (arith, u, length-drop k chain) in
-    let r = at_block chunks lens m (drop k chain) p rest (omega arith) in
-    let o : ℕ = uses lens p (drop k chain) in
-    let e : drop o (drop k chain) ≡ drop (k + o) chain = drop-drop o k chain in
-    let fits = r.fits in
-    let more = r.more in
-    let is = r.is in
-    record {
-      fits = rw (← e) fits;
-      more = (let n1 : suc p + 1 ≡ suc (p + 1) = omega arith in rw (n1, ← e) (omega (arith, more)));
-      is = rw (← e) is;
-    }
-
-pub record Step (chains : List (List ℕ)) (lens counts : List ℕ) (i p offset chunk : ℕ) : Type 0 where
-  pub inside : offset < length (get_or chains (i + 1) [])
-  pub there : chunk < length lens
-  pub next : uses lens (p + 1) (get_or chains (i + 1) []) ≡ offset + chunks_for (get_or lens chunk 0)
-  pub fits : offset + chunks_for (get_or lens chunk 0) ≤ all_of chains
-
--- a block's first chunk, by the blocks before it
-pub step : (chains chunks : List (List ℕ)) (lens counts : List ℕ) (i p offset chunk : ℕ) → IsPool chains chunks lens counts
-    → i < length counts → p < get_or counts i 0 →
-    offset ≡ uses lens p (get_or chains (i + 1) []) → chunk ≡ get_or (get_or chains (i + 1) []) offset 0
-    → Step chains lens counts i p offset chunk
-step chains chunks lens counts i p offset chunk pool h lt o c =
-    let chain : List ℕ = get_or chains (i + 1) [] in
-    let lists = pool.lists in
-    let same = pool.lens_too in
-    let hi : i + 1 < length chains = omega (arith, lists, h) in
-    let r = at_block chunks lens (get_or counts i 0) chain p (pool.used i h) lt in
-    let fits = r.fits in
-    let gone = length-drop (uses lens p chain) chain in
-    let inside : offset < length chain = omega (arith, fits, gone, o) in
-    let head : get_or (drop (uses lens p chain) chain) 0 0 ≡ chunk = get_or-drop (uses lens p chain) chain 0 0
-    ∙ ap (λ (n : ℕ). get_or chain n 0) (omega (arith, o)) ∙ sym c in
-    let has : 0 < occurs (get_or chain offset 0) chains =
-    (let a = in_chain chain offset inside in let m = occurs-at (get_or chain offset 0) chains (i + 1) hi in
-    omega (arith, a, m)) in
-    let there : get_or chain offset 0 < length lens =
-    bool_cases (ltb (get_or chain offset 0) (length chunks))
-    (λ z. let l = ltb-true (get_or chain offset 0) (length chunks) z in omega (arith, l, same))
-    (λ z. let none = pool.within (get_or chain offset 0) (ltb-false (get_or chain offset 0) (length chunks) z) in
-    absurd (omega (arith, none, has))) in
-    let size : front_chunks lens (drop (uses lens p chain) chain) ≡ chunks_for (get_or lens chunk 0) =
-    ap (λ (x : ℕ). chunks_for (get_or lens x 0)) head in
-    let more = r.more in
-    record {
-      inside = inside;
-      there = rw c there;
-      next = omega (arith, more, size, o);
-      fits = (let m = all-at chains (i + 1) hi in omega (arith, m, fits, size, gone, o, inside));
-    }
-
-pub block_is : (view : State) (chains chunks : List (List ℕ)) (lens counts : List ℕ) (i p offset chunk len : ℕ)
-    → view ≡ view_of chains chunks lens counts → IsPool chains chunks lens counts → i < length view.lists → p < get_or counts i 0
-    →
-    offset ≡ uses lens p (get_or chains (i + 1) []) → chunk ≡ get_or (get_or chains (i + 1) []) offset 0
-    → len ≡ get_or lens chunk 0 →
-    IsRef chains chunks (i + 1) offset chunk len × (ref_bytes chains chunks (i + 1) offset len ≡ get_or (list_at view i) p [])
-block_is view chains chunks lens counts i p offset chunk len e pool h lt o c size =
-    let inside = list_inside view chains chunks lens counts i e pool h in
-    let lists = pool.lists in
-    let chain : List ℕ = get_or chains (i + 1) [] in
-    let is = list_is view chains chunks lens counts i e pool inside in
-    let r = at_block chunks lens (get_or counts i 0) chain p (pool.used i inside) lt in
-    let fits = r.fits in
-    let bytes = r.is in
-    let head : get_or (drop (uses lens p chain) chain) 0 0 ≡ chunk = get_or-drop (uses lens p chain) chain 0 0
-    ∙ ap (λ (n : ℕ). get_or chain n 0) (omega (arith, o)) ∙ sym c in
-    let len_is : len ≡ get_or lens (get_or (drop (uses lens p chain) chain) 0 0) 0 =
-    size ∙ ap (λ (x : ℕ). get_or lens x 0) (sym head) in (
-      record {
-        inside = omega (arith, lists, inside);
-        enough = rw (o, len_is) fits;
-        at = c;
-        there = λ x s. bool_cases (ltb x (length chunks)) (λ z. ltb-true x (length chunks) z)
-            (λ z. let none = pool.within x (ltb-false x (length chunks) z) in absurd (omega (arith, none, s)));
-        whole = pool.size;
-        few = (let m = all-at chains (i + 1) (omega (arith, lists, inside)) in omega (arith, m, pool.all, pool.few_chunks));
-      },
-      rw (o, len_is) (sym bytes ∙ ap (λ (bs : List (List ℕ)). get_or bs p []) (sym is)),
-    )
-
-pub begins : (chains chunks : List (List ℕ)) (lens counts : List ℕ) (i p : ℕ) → IsPool chains chunks lens counts
-    → i < length counts → p < get_or counts i 0 → uses lens p (get_or chains (i + 1) []) < length (get_or chains (i + 1) [])
-begins chains chunks lens counts i p pool h lt =
-    let chain : List ℕ = get_or chains (i + 1) [] in
-    let r = at_block chunks lens (get_or counts i 0) chain p (pool.used i h) lt in
-    let fits = r.fits in
-    let gone = length-drop (uses lens p chain) chain in
-    omega (arith, fits, gone)
-
 -- the bytes from an offset on
 pub joined_take : (chunks : List (List ℕ)) (chain : List ℕ) (k n : ℕ) → Whole chunks chain → k ≤ length chain → n ≤ 256 * k
     → take n (joined chunks (take k chain)) ≡ take n (joined chunks chain)
@@ -366,13 +261,3 @@ length-rest chains chunks i offset chunk left r =
     record { at = λ c s. r.whole c (r.there c (let m = occurs-at c chains i r.inside in omega (arith, m, s))) } in
     let size = length-joined chunks (drop offset chain) (whole_drop chunks offset chain all) in
     sym (length-take-le left (joined chunks (drop offset chain)) (omega (arith, size, r.enough)))
-
-pub front_chunks_is : (chains chunks : List (List ℕ)) (lens counts : List ℕ) (i p offset chunk : ℕ)
-    → IsPool chains chunks lens counts → i < length counts → p < get_or counts i 0 →
-    offset ≡ uses lens p (get_or chains (i + 1) []) → chunk ≡ get_or (get_or chains (i + 1) []) offset 0
-    → front_chunks lens (drop (uses lens p (get_or chains (i + 1) [])) (get_or chains (i + 1) []))
-    ≡ chunks_for (get_or lens chunk 0)
-front_chunks_is chains chunks lens counts i p offset chunk pool h lt o c =
-    let chain : List ℕ = get_or chains (i + 1) [] in
-    ap (λ (x : ℕ). chunks_for (get_or lens x 0)) (get_or-drop (uses lens p chain) chain 0 0
-    ∙ ap (λ (n : ℕ). get_or chain n 0) (omega (arith, o)) ∙ sym c)

@@ -8,3 +8,4 @@ pub mod OpenLemmas
 pub mod EndsLemmas
 pub mod FitsLemmas
 pub mod PoolLemmas
+pub mod NextLemmas

@@ -108,3 +108,19 @@ Ends lens lasts (suc n) chain =
 pub record AreEnds (chains : List (List ℕ)) (lens lasts counts : List ℕ) : Type 0 where
   pub lasts_too : length lasts ≡ length lens
   pub each : (i : ℕ) → i < length counts → Ends lens lasts (get_or counts i 0) (get_or chains (i + 1) [])
+
+-- so many blocks, from an offset of a chain on
+abbrev pub walk_blocks : List (List ℕ) → List (List ℕ) → List ℕ → ℕ → ℕ → ℕ → List (List ℕ)
+walk_blocks chains chunks lens i offset left = blocks_of chunks lens left (drop offset (get_or chains i []))
+
+-- They fill the rest of the chain.
+pub record IsWalk (chains chunks : List (List ℕ)) (lens lasts : List ℕ) (i offset chunk left : ℕ) : Type 0 where
+  pub inside : i < length chains
+  pub lens_too : length lens ≡ length chunks
+  pub lasts_too : length lasts ≡ length lens
+  pub used : uses lens left (drop offset (get_or chains i [])) ≡ length (drop offset (get_or chains i []))
+  pub ends : Ends lens lasts left (drop offset (get_or chains i []))
+  pub at : 0 < left → chunk ≡ get_or (get_or chains i []) offset 0
+  pub there : (c : ℕ) → 0 < occurs c chains → c < length chunks
+  pub whole : (c : ℕ) → c < length chunks → length (get_or chunks c []) ≡ chunk_len
+  pub few : length (get_or chains i []) < 2 ^ 32

@@ -150,6 +150,15 @@ impl Chains {
         read(heads, place)
     }
 
+    /// The first chunk of a chain, if it has one.
+    pub fn first_if_any(&self, place: usize) -> u32
+        requires { place < length self.now }
+        ensures { 0 < length (slice_index_or self.now place []) → result ≡ slice_index (slice_index_or self.now place []) 0 }
+    {
+        let heads = self.heads.as_slice();
+        read(heads, place)
+    }
+
     /// The last chunk of a chain that has one.
     pub fn last(&self, place: usize) -> u32
         requires place { place < length self.now }

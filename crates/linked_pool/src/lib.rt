@@ -2,6 +2,7 @@
 #![tactic(auto)]
 
 mod block;
+mod blocks;
 mod chains;
 mod chunk;
 mod laws;
@@ -11,6 +12,7 @@ mod sizes;
 mod tables;
 
 pub use block::BlockRef;
+pub use blocks::Blocks;
 pub use chunk::{CHUNK, CHUNKS_OF_CELLS, FEWEST_CELLS};
 pub use laws::{alone_law, plan_fits_law};
 pub use pieces::Pieces;

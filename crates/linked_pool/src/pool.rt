@@ -1,12 +1,13 @@
 // The pool.
 ghost use Rattle.std.specs.Prelude.{ℕ, [], ◌≡◌, ◌≢◌, ◌<◌, ◌≤◌, ◌↔◌, IsTrue, IsErr, IsNone, length, IfOk, IfErr, OnOk, OnErr};
-ghost use Rattle.std.specs.Prelude.{IfSome, slice_index_or};
+ghost use Rattle.std.specs.Prelude.{IfSome, slice_index_or, drop};
 ghost use Rattle.linked_pool.specs.Pool.{chunks_for as chunks_for_len, list_at, empty, appended, popped, cleared, IsWhole};
 
 use crate::block::BlockRef;
+use crate::blocks::Blocks;
 use crate::chains::Chains;
 use crate::chunk::{CHUNK, chunks_for, fill};
-use crate::tables::{count_at, filled, read};
+use crate::tables::{count_at, filled};
 use bit_slice::OutOfMemory;
 use std::alloc::Global;
 use std::marker::Model;
@@ -172,27 +173,36 @@ impl Pool {
         ensures none { IsNone result ↔ (length (list_at self.now list) ≤ place) }
         ensures some { IfSome result (λ block. block ≡ slice_index_or (list_at self.now list) place []) }
     {
-        let count = count_at(self.counts.as_slice(), list as usize);
-        if place as usize >= count {
-            return None;
+        self.blocks(list, place).next()
+    }
+
+    /// The blocks of a list from a place on. It takes as many steps as there are blocks before that place.
+    pub fn blocks(&self, list: u32, place: u32) -> Blocks<'_>
+        requires { list < length self.now.lists }
+        ensures { result ≡ drop place (list_at self.now list) }
+    {
+        let before = place.min(self.count(list));
+        let mut blocks = self.all_blocks(list);
+        for _p in 0..before {
+            let _ = blocks.next();
         }
-        let lens = self.lens.as_slice();
-        let lasts = self.lasts.as_slice();
-        let mut chunk = self.chains.first(list as usize + 1);
-        let mut offset = 0;
-        for _p in 0..place {
-            let size = chunks_for(count_at(lens, chunk as usize));
-            chunk = self.chains.after(read(lasts, chunk as usize));
-            offset += size;
-        }
-        let len = count_at(lens, chunk as usize);
-        Some(BlockRef {
+        blocks
+    }
+
+    // The blocks of a list.
+    fn all_blocks(&self, list: u32) -> Blocks<'_>
+        requires { list < length self.now.lists }
+        ensures { result ≡ list_at self.now list }
+    {
+        Blocks {
             chains: &self.chains,
             chunks: self.chunks.as_slice(),
+            lens: self.lens.as_slice(),
+            lasts: self.lasts.as_slice(),
             chain: list as usize + 1,
-            offset,
-            first: chunk,
-            len,
-        })
+            offset: 0,
+            chunk: self.chains.first_if_any(list as usize + 1),
+            left: count_at(self.counts.as_slice(), list as usize),
+        }
     }
 }
