@@ -4,6 +4,7 @@ ghost use Rattle.linked_pool.specs.Pool.{list_at};
 ghost use Rattle.plp_config.specs.declared.config.Config.{Config};
 ghost use Rattle.pool_frame.specs.Left.{blocks_left};
 
+use crate::walk::PoolWalk;
 use bit_slice::{BitSlice, FixedBits};
 use frame_writer::{
     FrameSource, FrameStep, first_step, write_block, write_l1_current, write_timestamp,
@@ -53,17 +54,19 @@ fn next_block(pool: &Pool, plp: u32, place: u32, end: u32) -> (u32, u32)
 }
 
 // The block of a list at a place.
-fn block_at(pool: &Pool, list: u32, place: u32) -> BlockRef<'_>
-    requires list { list < length pool.now.lists }
-    requires there { place < length (list_at pool.now list) }
-    ensures { result ≡ slice_index_or (list_at pool.now list) place [] }
+fn block_at<'g>(walk: &mut PoolWalk<'g>, list: u32, place: u32) -> BlockRef<'g>
+    requires list { list < length walk.old.lists }
+    requires there { place < length (list_at walk.old list) }
+    ensures block { result ≡ slice_index_or (list_at walk.old list) place [] }
+    ensures walk { walk.new ≡ walk.old }
 {
-    pool.block(list, place).unwrap()
+    walk.block(list, place).unwrap()
 }
 
 impl PoolPlace {
     ghost use Rattle.std.specs.Prelude.{◌≡◌, ◌<◌, ◌≤◌, [], true, false};
     ghost use Rattle.plp_config.specs.declared.config.Config.{Config};
+    ghost use Rattle.plp_config.specs.declared.moment.TheConstants.{MOST_FRAMES};
     ghost use Rattle.frame_writer.specs.Builds.{Builds};
     ghost use Rattle.pool_frame.specs.Left.{IsOver, CanBeSent, bodies_of, left_of};
     ghost use Rattle.pool_frame.specs.declared.frame.PoolFrame.{PoolFrame};
@@ -101,10 +104,12 @@ impl PoolPlace {
     fn build_block(
         &mut self,
         frame: &PoolFrame<'_>,
+        walk: &mut PoolWalk<'_>,
         plan: &Plan,
         packet_count: u8,
         out: &mut FixedBits<LARGEST>,
     ) -> bool
+        requires walk { walk.old ≡ frame.now.blocks.now }
         requires step { self.old.step ≡ FrameStep.Blocks }
         requires can { CanBeSent plan.now frame.now }
         requires inside { self.old.plp ≤ length plan.now.plps }
@@ -115,6 +120,7 @@ impl PoolPlace {
         ensures stays { result ≡ false → out.new ≡ out.old }
         ensures number { self.new.number ≡ self.old.number }
         ensures inside { self.new.plp ≤ length plan.now.plps }
+        ensures walk { walk.new ≡ walk.old }
     {
         plan.rules_law();
         let end = plan.config().plps.len() as u32;
@@ -123,7 +129,7 @@ impl PoolPlace {
             self.step = FrameStep::Over;
             return false;
         }
-        let block = block_at(frame.blocks, plp, place);
+        let block = block_at(walk, plp, place);
         write_block(
             out,
             plan,
@@ -136,6 +142,52 @@ impl PoolPlace {
         self.plp = plp;
         self.place = place + 1;
         true
+    }
+
+    // Builds the next packet, if there is one. The walk is over the pool of the frame.
+    fn build_next(
+        &mut self,
+        frame: &PoolFrame<'_>,
+        walk: &mut PoolWalk<'_>,
+        plan: &Plan,
+        packet_count: u8,
+        out: &mut FixedBits<LARGEST>,
+    ) -> bool
+        requires walk { walk.old ≡ frame.now.blocks.now }
+        requires can { CanBeSent plan.now frame.now }
+        requires early { self.old.number < MOST_FRAMES }
+        requires inside { self.old.plp ≤ length plan.now.plps }
+        ensures some { result ≡ true → Builds plan.now self.old.number packet_count (left_of plan.now self.old frame.now)
+            (left_of plan.now self.new frame.now) out.new }
+        ensures none { result ≡ false → left_of plan.now self.old frame.now ≡ [] }
+        ensures over { result ≡ false → IsOver self.new }
+        ensures stays { result ≡ false → out.new ≡ out.old }
+        ensures number { self.new.number ≡ self.old.number }
+        ensures inside { self.new.plp ≤ length plan.now.plps }
+        ensures walk { walk.new ≡ walk.old }
+    {
+        match self.step {
+            FrameStep::Stamp => {
+                write_timestamp(out, plan, packet_count, self.number);
+                self.step = FrameStep::Signal;
+                true
+            }
+            FrameStep::Signal => {
+                write_l1_current(
+                    out,
+                    plan,
+                    packet_count,
+                    self.number,
+                    frame.pre.sub(0, frame.pre.len()),
+                    frame.conf.sub(0, frame.conf.len()),
+                    frame.dynamic.sub(0, frame.dynamic.len()),
+                );
+                self.step = FrameStep::Blocks;
+                true
+            }
+            FrameStep::Blocks => self.build_block(frame, walk, plan, packet_count, out),
+            FrameStep::Over => false,
+        }
     }
 }
 
@@ -161,27 +213,44 @@ impl<'g> FrameSource<PoolFrame<'g>> for PoolPlace {
         packet_count: u8,
         out: &mut FixedBits<LARGEST>,
     ) -> bool {
-        match self.step {
-            FrameStep::Stamp => {
-                write_timestamp(out, plan, packet_count, self.number);
-                self.step = FrameStep::Signal;
-                true
-            }
-            FrameStep::Signal => {
-                write_l1_current(
-                    out,
-                    plan,
-                    packet_count,
-                    self.number,
-                    frame.pre.sub(0, frame.pre.len()),
-                    frame.conf.sub(0, frame.conf.len()),
-                    frame.dynamic.sub(0, frame.dynamic.len()),
-                );
-                self.step = FrameStep::Blocks;
-                true
-            }
-            FrameStep::Blocks => self.build_block(frame, plan, packet_count, out),
-            FrameStep::Over => false,
-        }
+        let mut walk = PoolWalk::new(frame.blocks);
+        self.build_next(frame, &mut walk, plan, packet_count, out)
+    }
+}
+
+/// A place among the packets of a frame, and a walk over its blocks. It builds what the place builds, and finds the block behind
+/// the last one in a fixed number of steps.
+#[derive(Drop)]
+pub struct WalkedPlace<'g> {
+    pub place: PoolPlace,
+    pub walk: PoolWalk<'g>,
+}
+
+impl<'g> FrameSource<PoolFrame<'g>> for WalkedPlace<'g> {
+    ghost use Rattle.std.specs.Prelude.{◌≡◌, ◌<◌, ◌≤◌, length};
+    ghost use Rattle.plp_config.specs.declared.moment.TheConstants.{MOST_FRAMES};
+    ghost use Rattle.pool_frame.specs.Left.{IsOver, CanBeSent, left_of};
+
+    ghost number = { λ p. p.place.number };
+
+    ghost left = { λ p f c. left_of c p.place f };
+
+    // The walk is over the pool of the frame.
+    ghost IsFor = { λ p f c. (CanBeSent c f × ((p.place.number < MOST_FRAMES) × (p.place.plp ≤ length c.plps)))
+        × (p.walk ≡ f.blocks.now) };
+
+    ghost IsOver = { λ p. IsOver p.place };
+
+    ghost kept = { λ _ _. tt };
+
+    fn build(
+        &mut self,
+        frame: &PoolFrame<'g>,
+        plan: &Plan,
+        packet_count: u8,
+        out: &mut FixedBits<LARGEST>,
+    ) -> bool {
+        self.place
+            .build_next(frame, &mut self.walk, plan, packet_count, out)
     }
 }

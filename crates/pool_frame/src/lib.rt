@@ -3,6 +3,8 @@
 
 mod frame;
 mod signalling;
+mod walk;
 
-pub use frame::{PoolFrame, PoolPlace};
+pub use frame::{PoolFrame, PoolPlace, WalkedPlace};
 pub use signalling::Signalling;
+pub use walk::PoolWalk;
