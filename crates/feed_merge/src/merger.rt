@@ -5,7 +5,8 @@ ghost use Rattle.pool_frame.specs.Left.{IsOver};
 
 use frame_writer::Flow;
 use plp_config::Plan;
-use pool_frame::{PoolFrame, PoolPlace};
+use pool_frame::{PoolFrame, PoolPlace, PoolWalk, WalkedPlace};
+use std::mem;
 use ts_packet::SIZE;
 
 /// Makes one T2-MI stream of frames: begin a frame, take the units, each with the same frame; behind the last frame finish, and take
@@ -78,7 +79,14 @@ impl<'p> Merger<'p> {
 
     /// Gives the next unit of the frames begun, if it is complete, and behind the last one also the rest. The frame is the last one
     /// that was begun. Else nothing changes.
-    pub fn next_ts(&mut self, frame: &PoolFrame<'_>, out: &mut [u8; SIZE]) -> bool
+    pub fn next_ts<'g>(
+        &mut self,
+        frame: &PoolFrame<'g>,
+        walk: &mut PoolWalk<'g>,
+        out: &mut [u8; SIZE],
+    ) -> bool
+        // The walk is over the pool of the frame.
+        requires walk { walk.old ≡ frame.now.blocks.now }
         requires can { CanBeSent (config_of self.old) frame.now }
         // Each unit is the next one of all, whatever frames follow; after the end none follows.
         ensures unit { result ≡ true → (all : List (ℕ × Body)) (given : ℕ)
@@ -111,10 +119,15 @@ impl<'p> Merger<'p> {
         ensures config { config_of self.new ≡ config_of self.old }
         ensures frame { frame_of self.new ≡ frame_of self.old }
         ensures finished { has_finished self.new ≡ has_finished self.old }
+        ensures walk { walk.new ≡ walk.old }
     {
-        let mut place = self.place;
-        let given = self.flow.next(frame, self.plan, &mut place, out);
-        self.place = place;
+        let mut source = WalkedPlace {
+            place: self.place,
+            walk: mem::replace(walk, PoolWalk::new(frame.blocks)),
+        };
+        let given = self.flow.next(frame, self.plan, &mut source, out);
+        self.place = source.place;
+        *walk = source.walk;
         given
     }
 

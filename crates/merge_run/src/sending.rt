@@ -13,7 +13,7 @@ use feed_merge::Merger;
 use formed_frames::shown_law;
 use held_feed::FrameFeed;
 use modulator::due_records_law;
-use pool_frame::PoolFrame;
+use pool_frame::{PoolFrame, PoolWalk};
 use ts_packet::SIZE;
 
 /// Begins the frame that waits in a feed of the same network.
@@ -32,22 +32,36 @@ pub fn begin_frame(merger: &mut Merger<'_>, feed: &FrameFeed<'_>, number: u64)
 }
 
 // Gives the next unit of the frames begun, if it is complete.
-fn next_unit(merger: &mut Merger<'_>, frame: &PoolFrame<'_>, unit: &mut [u8; SIZE]) -> bool
+fn next_unit<'g>(
+    merger: &mut Merger<'_>,
+    frame: &PoolFrame<'g>,
+    walk: &mut PoolWalk<'g>,
+    unit: &mut [u8; SIZE],
+) -> bool
+    requires walk { walk.old ≡ frame.now.blocks.now }
     requires can { CanBeSent (config_of merger.old) frame.now }
     ensures nexts { Nexts merger.old merger.new frame.now result unit.new }
+    ensures walk { walk.new ≡ walk.old }
     ensures whole { length unit.new ≡ SIZE }
 {
-    merger.next_ts(frame, unit)
+    merger.next_ts(frame, walk, unit)
 }
 
 // The same to the front of these bytes.
-fn next_front(merger: &mut Merger<'_>, frame: &PoolFrame<'_>, out: &mut [u8]) -> bool
+fn next_front<'g>(
+    merger: &mut Merger<'_>,
+    frame: &PoolFrame<'g>,
+    walk: &mut PoolWalk<'g>,
+    out: &mut [u8],
+) -> bool
+    requires walk { walk.old ≡ frame.now.blocks.now }
     requires can { CanBeSent (config_of merger.old) frame.now }
     requires room { SIZE ≤ length out.old }
     ensures nexts { Nexts merger.old merger.new frame.now result (take SIZE out.new) }
+    ensures walk { walk.new ≡ walk.old }
     ensures size { length out.new ≡ length out.old }
 {
-    next_unit(merger, frame, out.first_chunk_mut().unwrap())
+    next_unit(merger, frame, walk, out.first_chunk_mut().unwrap())
 }
 
 // Gives units of the frames begun, to the front of these bytes, as long as one is complete and there is room: how many bytes, and
@@ -59,9 +73,10 @@ fn next_units(merger: &mut Merger<'_>, frame: &PoolFrame<'_>, out: &mut [u8]) ->
     ensures count { result.0 ≤ length out.old }
     ensures size { length out.new ≡ length out.old }
 {
+    let mut walk = PoolWalk::new(frame.blocks);
     let mut len = 0;
     while out.len() - len >= SIZE {
-        if !next_front(merger, frame, &mut out[len..]) {
+        if !next_front(merger, frame, &mut walk, &mut out[len..]) {
             return (len, false);
         }
         len += SIZE;

@@ -16,6 +16,7 @@ loop-out-init c = record {
   bytes = refl;
   count = refl;
   gives = refl;
+  walk = c.new-walk.ensures;
   config = refl;
 }
 
@@ -41,6 +42,7 @@ loop-out-preserved c =
           ∙ ap (λ (l : List ℕ). l ++ unit) i.bytes ∙ sym (joined_push i.units unit);
       count = (let e = i.count in let s = length-append i.units (unit ∷ []) in omega (arith, e, s));
       gives = gives_push frame c.args.merger.now now.merger u.new.merger i.units unit i.gives n;
+      walk = u.ensures.walk ∙ i.walk;
       config = n.config ∙ i.config;
     }
 

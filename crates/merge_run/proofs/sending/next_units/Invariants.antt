@@ -13,6 +13,7 @@ invariant-loop-out l = record {
   bytes : take l.len l.out ≡ joined units;
   count : l.len ≡ SIZE * length units;
   gives : GivesAll l.frame l.initial.merger units l.merger;
+  walk : l.walk ≡ l.frame.blocks.now;
   config : config_of l.merger ≡ config_of l.initial.merger;
 }
 

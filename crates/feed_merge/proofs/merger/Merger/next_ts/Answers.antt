@@ -3,7 +3,7 @@ use Rattle.frame_writer.specs.Flowing.{gives_unit}
 use Rattle.frame_writer.specs.declared.flow.Flow.{Flow}
 use Rattle.frame_writer.proofs.FlowLemmas.{dry_when}
 use Rattle.pool_frame.specs.Left.{left_of}
-use Rattle.pool_frame.specs.declared.frame.PoolPlace.{PoolPlace}
+use Rattle.pool_frame.specs.declared.frame.WalkedPlace.{WalkedPlace}
 use Rattle.feed_merge.specs.StandsFor.{MergerStandsFor}
 use Rattle.feed_merge.proofs.MergerLemmas.{over_left}
 use Rattle.feed_merge.proofs.merger.Merger.next_ts.Goals as goal
@@ -31,7 +31,7 @@ returns-clause-kept c = λ none left all given h. let s = c.next-given.ensures.s
 pub returns-clause-left : goal.returns-clause-left
 returns-clause-left c = λ none.
     let s = c.next-given.ensures.stays none in
-    ap (λ (p : PoolPlace). left_of c.args.self.now.plan.now p c.args.frame.now) s.1
+    ap (λ (p : WalkedPlace). left_of c.args.self.now.plan.now p.place c.args.frame.now) s.1
 
 pub returns-clause-idle : goal.returns-clause-idle
 returns-clause-idle c = λ none.
