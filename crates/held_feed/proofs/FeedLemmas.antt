@@ -22,13 +22,13 @@ use Rattle.frame_groups.specs.Waits.{waiting_of as next_of}
 use Rattle.frame_groups.specs.declared.cause.MuteCause.{MuteCause}
 use Rattle.frame_groups.specs.declared.waiting.Progress.{Progress}
 use Rattle.frame_groups.specs.declared.waiting.Waiting.{Waiting}
-use Rattle.frame_tests.specs.Tests.{rules, group_fault}
+use Rattle.frame_tests.specs.Tests.{rules}
 use Rattle.open_group.specs.Holds.{Holds}
 use Rattle.modulator.specs.Laws.{DueFront}
 use Rattle.modulator.specs.Modulating.{StandsAt}
 use Rattle.modulator.specs.StandsFor.{records_due}
 use Rattle.modulator.specs.declared.modulating.Modulating.{Modulating}
-use Rattle.modulator.proofs.BeginLemmas.{waits_for, passes}
+use Rattle.modulator.proofs.BeginLemmas.{waits_for}
 use Rattle.modulator.proofs.MuteLemmas.{mute_told}
 use Rattle.modulator.proofs.TookLemmas.{IsNow, now_of}
 use Rattle.held_feed.specs.StandsFor.{FrameFeedStandsFor, Skipped, IsFirst, config_of, waiting_of, fed_of, is_whole}
@@ -235,12 +235,10 @@ own_now at o is e =
     let own = (waits_for at k.0 (sym is ∙ k.1)).own k.2 in
     record { closing = own.closing; number = ap is_some own.number; fault = ap is_some (own.fault ∙ k.2) }
 
--- the packets of the frame that waits, which pass
+-- the packets of the frame that waits
 pub record IsShown (m : Modulating) (g : Group) : Type 0 where
   pub past : List Numbered
-  pub number : ℕ
   pub holds : Holds m.sequence.group past (Some g)
-  pub passes : group_fault m.sequence.group.network past g number ≡ None
 
 group_in : Group → Content → Group
 group_in h (Whole g) = g
@@ -268,10 +266,7 @@ shown f bytes over given x later g whole told s all content =
     let has : s.stands.keeps.group ≡ Some g = n.has ∙ ap Some group in
     record {
       past = s.stands.keeps.past;
-      number = w.frame;
       holds = subst (Holds f.inner.sequence.group s.stands.keeps.past) has s.stands.keeps.holds;
-      passes = passes (rules (config_of f)) s.stands.keeps.past s.stands.keeps.group f.inner.sequence.progress _ given g w
-          s.stands.keeps.sequenced has ((waits_for f.inner.sequence.progress w waits).own k.2) k.2;
     }
   where
     first_or : FrameRecord → List FrameRecord → FrameRecord

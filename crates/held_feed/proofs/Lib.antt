@@ -1,1 +1,3 @@
 pub mod FeedLemmas
+pub mod GroupsLemmas
+pub mod CameLemmas

@@ -13,7 +13,7 @@ use open_group::PooledGroup;
 use plp_config::{MOST_FRAMES, Plan};
 use pool_frame::{PoolFrame, Signalling};
 use std::alloc::Global;
-use t2mi_stream::Unpiper;
+use t2mi_stream::{Unpiper, accepted_front_law};
 
 /// The frames of a T2-MI stream, however it is cut and damaged: feed it until a record waits, look at its frame, and skip it. All
 /// memory is taken in `open`.
@@ -35,17 +35,19 @@ pub struct FrameFeed<'p> {
 }
 
 impl<'p> FrameFeed<'p> {
-    ghost use Rattle.std.specs.Prelude.{◌≡◌, ◌<◌, ◌≤◌, ◌+◌, ◌^◌, ◌++◌, ◌∷◌, ℕ, Bool, List, [], IfOk, IfSome, IsSome, Some, None, length, take};
-    ghost use Rattle.std.specs.Prelude.{true, false};
+    ghost use Rattle.std.specs.Prelude.{◌≡◌, ◌<◌, ◌≤◌, ◌+◌, ◌^◌, ◌++◌, ◌∷◌, ℕ, Bool, List, [], IfOk, IfSome, IfNone, IsSome, Some, None, length};
+    ghost use Rattle.std.specs.Prelude.{take, true, false};
     ghost use Rattle.plp_config.specs.declared.moment.TheConstants.{MOST_FRAMES};
     ghost use Rattle.frame_groups.specs.Groups.{Group};
-    ghost use Rattle.frame_groups.specs.Modulated.{FrameRecord};
+    ghost use Rattle.frame_groups.specs.Modulated.{FrameRecord, Numbered};
     ghost use Rattle.frame_groups.specs.Modulated.Content.{Whole};
     ghost use Rattle.frame_groups.specs.declared.waiting.Waiting.{Waiting};
+    ghost use Rattle.frame_tests.specs.Begun.{packets_at};
     ghost use Rattle.modulator.specs.StandsFor.{records_due};
     ghost use Rattle.open_group.specs.Shown.{Shows, AreBlocks};
     ghost use Rattle.held_feed.specs.StandsFor.{FrameFeedStandsFor, Skipped, config_of, waiting_of, is_whole, has_ended, fed_of, left_of};
     ghost use Rattle.held_feed.specs.Frames.{IsFrameOf, dynamic_of, lists_of};
+    ghost use Rattle.held_feed.specs.Groups.{AreGroups, HasRoom, CarriesRoom};
 
     /// A feed of a network, to which no byte was fed.
     pub fn open(alloc: Global, plan: &'p Plan) -> Result<FrameFeed<'p>, OutOfMemory>
@@ -128,8 +130,17 @@ impl<'p> FrameFeed<'p> {
             → (x : FrameRecord) (later : List FrameRecord) → records_due (config_of self.now) ended bytes ≡ given ++ x ∷ later
             → (g : Group) → x.content ≡ Whole g
             → Shows (config_of self.now) g.packets (dynamic_of self.now) (lists_of self.now) }
+        // So it is by the group of its number, whatever follows; and the blocks that it carries have room.
+        ensures came { (bytes : List ℕ) (ended : Bool) (given : List FrameRecord) → FrameFeedStandsFor self.now bytes ended given
+            → (w : Waiting) → waiting_of self.now ≡ Some w → (gs : List Numbered) → AreGroups (config_of self.now) bytes ended gs
+            → Shows (config_of self.now) (packets_at gs w.frame) (dynamic_of self.now) (lists_of self.now) }
+        ensures room { (bytes : List ℕ) (ended : Bool) (given : List FrameRecord) → FrameFeedStandsFor self.now bytes ended given
+            → (w : Waiting) → waiting_of self.now ≡ Some w → (gs : List Numbered) → AreGroups (config_of self.now) bytes ended gs
+            → CarriesRoom (config_of self.now) gs w.frame }
         ensures is { IsFrameOf self.now result }
     {
+        accepted_front_law();
+        let _ready = self.inner.unpiper.is_ready();
         let _waiting = self.inner.waiting();
         let group = &self.inner.sequence.group;
         PoolFrame {
@@ -144,11 +155,19 @@ impl<'p> FrameFeed<'p> {
     /// no room.
     pub fn blocks(&self) -> Option<&Pool>
         requires waits { IsSome (waiting_of self.now) }
+        // They are those of the whole stream, whatever follows.
         ensures some { IfSome result (λ pool. (bytes : List ℕ) (ended : Bool) (given : List FrameRecord)
-            → (s : FrameFeedStandsFor self.now bytes ended given) → (g : Group) → s.stands.keeps.group ≡ Some g
-            → AreBlocks (config_of self.now) g.packets pool.now.lists) }
-        ensures own { IsSome result → self.now.inner.sequence.progress.number ≡ Some self.now.inner.sequence.progress.next }
+            → FrameFeedStandsFor self.now bytes ended given
+            → (w : Waiting) → waiting_of self.now ≡ Some w → (gs : List Numbered) → AreGroups (config_of self.now) bytes ended gs
+            → AreBlocks (config_of self.now) (packets_at gs w.frame) pool.now.lists) }
+        ensures none { IfNone result ((bytes : List ℕ) (ended : Bool) (given : List FrameRecord)
+            → FrameFeedStandsFor self.now bytes ended given
+            → (w : Waiting) → waiting_of self.now ≡ Some w → (gs : List Numbered) → AreGroups (config_of self.now) bytes ended gs
+            → HasRoom (config_of self.now) gs w.frame → packets_at gs w.frame ≡ []) }
+        ensures plps { IfSome result (λ pool. length pool.now.lists ≡ length (config_of self.now).plps) }
     {
+        accepted_front_law();
+        let _ready = self.inner.unpiper.is_ready();
         let Some(number) = self.inner.sequence.progress.number else {
             return None;
         };

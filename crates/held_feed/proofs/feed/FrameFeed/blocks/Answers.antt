@@ -1,14 +1,24 @@
-use Rattle.std.proofs.Common.{rules, ◌≡◌, true, ap, sym, subst, ◌∙◌}
-use Rattle.std.specs.Prelude.{is_some}
-use Rattle.modulator.specs.Modulating.{has_record}
-use Rattle.open_group.specs.Holds.{Holds}
-use Rattle.held_feed.proofs.FeedLemmas.{some_is}
+use Rattle.std.proofs.Common.{◌∙◌, sym}
+use Rattle.held_feed.proofs.CameLemmas.{came, gap_waits, blocks_held, lacks_room}
 use Rattle.held_feed.proofs.feed.FrameFeed.blocks.Goals as goal
 
+pub returns-then-number-self-clause-none : goal.returns-then-number-self-clause-none
+returns-then-number-self-clause-none c = λ bytes ended given s w is gs are room.
+    let x = came c.accepted_front_law.ensures c.args.self.now bytes ended given w gs
+    (λ off. c.is_ready-ready.ensures.none (c.is_ready-ready.ensures.is ∙ off)) s is are in
+    gap_waits c.args.self.now w gs is x c.in-Some.number c.in-Some.is c.if-number-self.true
+
+pub returns-then-not-has_room-clause-none : goal.returns-then-not-has_room-clause-none
+returns-then-not-has_room-clause-none c = λ bytes ended given s w is gs are room.
+    let x = came c.accepted_front_law.ensures c.args.self.now bytes ended given w gs
+    (λ off. c.is_ready-ready.ensures.none (c.is_ready-ready.ensures.is ∙ off)) s is are in
+    lacks_room c.args.self.now w gs is x c.in-Some.number c.in-Some.is c.if-number-self.false
+    (sym c.has_room.ensures ∙ c.if-not-has_room.true) room
+
 pub returns-clause-some : goal.returns-clause-some
-returns-clause-some c = λ bytes ended given s g has.
-    let f = c.args.self.now in
-    let k = some_is f.waiting c.requires.waits in
-    let waits : has_record f.inner ≡ true = ap is_some (sym f.waits ∙ k.1) in
-    c.blocks-2.ensures.blocks s.stands.keeps.past g (f.intact waits)
-    (subst (Holds f.inner.sequence.group s.stands.keeps.past) has s.stands.keeps.holds) (search rules)
+returns-clause-some c = λ bytes ended given s w is gs are.
+    let x = came c.accepted_front_law.ensures c.args.self.now bytes ended given w gs
+    (λ off. c.is_ready-ready.ensures.none (c.is_ready-ready.ensures.is ∙ off)) s is are in
+    blocks_held c.args.self.now w gs c.blocks-2.result.now.lists is x c.in-Some.number c.in-Some.is c.if-number-self.false
+    (λ past h intact holds. c.blocks-2.ensures.blocks past h intact holds
+    (sym c.has_room.ensures ∙ c.if-not-has_room.false))

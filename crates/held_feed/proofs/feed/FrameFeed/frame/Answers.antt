@@ -1,10 +1,9 @@
-use Rattle.std.proofs.Common.{◌≡◌, ℕ, ◌∙◌, List, [], length, true, ap, sym}
-use Rattle.std.specs.Prelude.{nat_le, is_some, slice_index_or}
-use Rattle.std.proofs.lemmas.Bool.{and_parts}
-use Rattle.frame_tests.specs.Tests.{has_map}
-use Rattle.modulator.specs.Modulating.{has_record}
-use Rattle.open_group.specs.FrameBytes.{is_frame, shape_of}
-use Rattle.held_feed.proofs.FeedLemmas.{shown, told, own_now, whole_is, IsOwnNow}
+use Rattle.std.proofs.Common.{◌∙◌, sym, subst}
+use Rattle.open_group.specs.Shown.{Shows}
+use Rattle.held_feed.specs.Frames.{dynamic_of, lists_of}
+use Rattle.held_feed.specs.StandsFor.{config_of}
+use Rattle.held_feed.proofs.CameLemmas.{came, whole_came, room_came, shows_held}
+use Rattle.held_feed.proofs.FeedLemmas.{shown, told, own_now, IsOwnNow}
 use Rattle.held_feed.proofs.feed.FrameFeed.frame.Goals as goal
 
 pub dynamic-requires : goal.dynamic-requires
@@ -16,18 +15,24 @@ dynamic-requires c =
 pub returns-clause-shows : goal.returns-clause-shows
 returns-clause-shows c = λ bytes ended given s x later all g content.
     let f = c.args.self.now in
-    let group = f.inner.sequence.group in
     let t = told f c.waiting-waiting.result (c.waiting-waiting.ensures.is ∙ sym f.waits)
     (c.waiting-waiting.ensures.some, c.waiting-waiting.ensures.none) in
     let h = shown f bytes ended given x later g c.requires.whole t s all content in
-    let o : IsOwnNow f.inner.sequence.progress = own_now f.inner.sequence.progress f.waiting f.waits c.requires.whole in
-    let frame : is_frame group ≡ true = f.inner.sequence.frame o.closing o.number o.fault in
-    let room = (and_parts (nat_le group.blocks.need group.blocks.chunks) (has_map group.network (shape_of group)) frame).0 in
-    let k = whole_is f.waiting c.requires.whole in
-    let waits : has_record f.inner ≡ true = ap is_some (sym f.waits ∙ k.1) in
-    record {
-      dynamic_is = sym c.dynamic.ensures.held ∙ c.dynamic.ensures.value h.past g (f.intact waits) h.holds;
-      plps = sym (ap length c.blocks-2.ensures.held) ∙ c.blocks-2.ensures.plps;
-      blocks = λ plp inside. sym (ap (λ (l : List (List (List ℕ))). slice_index_or l plp []) c.blocks-2.ensures.held)
-          ∙ c.blocks-2.ensures.blocks h.past g (f.intact waits) h.holds room plp inside;
-    }
+    shows_held f c.dynamic.result c.blocks-2.result.now.lists h.past g c.requires.whole c.dynamic.ensures.held
+    c.blocks-2.ensures.held c.blocks-2.ensures.plps c.dynamic.ensures.value c.blocks-2.ensures.blocks h.holds
+
+pub returns-clause-came : goal.returns-clause-came
+returns-clause-came c = λ bytes ended given s w is gs are.
+    let f = c.args.self.now in
+    let x = came c.accepted_front_law.ensures f bytes ended given w gs
+    (λ off. c.is_ready-ready.ensures.none (c.is_ready-ready.ensures.is ∙ off)) s is are in
+    subst (λ ps. Shows (config_of f) ps (dynamic_of f) (lists_of f))
+    (sym (whole_came f w gs c.requires.whole is x))
+    (shows_held f c.dynamic.result c.blocks-2.result.now.lists x.past x.group c.requires.whole c.dynamic.ensures.held
+    c.blocks-2.ensures.held c.blocks-2.ensures.plps c.dynamic.ensures.value c.blocks-2.ensures.blocks x.holds)
+
+pub returns-clause-room : goal.returns-clause-room
+returns-clause-room c = λ bytes ended given s w is gs are.
+    let f = c.args.self.now in
+    room_came f w gs c.requires.whole is (came c.accepted_front_law.ensures f bytes ended given w gs
+    (λ off. c.is_ready-ready.ensures.none (c.is_ready-ready.ensures.is ∙ off)) s is are)
