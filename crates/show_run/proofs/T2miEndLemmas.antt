@@ -1,11 +1,11 @@
 -- What of a stream is wanted, and what is known once it has ended.
-use Rattle.std.proofs.Common.{◌≡◌, ℕ, ◌+◌, ◌-◌, ◌<◌, ◌≤◌, Bool, true, false, cond, List, [], ◌∷◌, ◌++◌, length, take, drop, map}
-use Rattle.std.proofs.Common.{refl, ap, sym, subst, ◌∙◌, inl, inr, arith, append_assoc, append-nil, length-append}
+use Rattle.std.proofs.Common.{◌≡◌, ℕ, ◌+◌, ◌-◌, ◌/◌, ◌<◌, ◌≤◌, Bool, true, false, cond, List, [], ◌∷◌, ◌++◌, length, take, drop, map}
+use Rattle.std.proofs.Common.{refl, ap, ap₂, sym, subst, ◌∙◌, inl, inr, arith, append_assoc, append-nil, length-append}
 use Rattle.std.specs.Prelude.{◌⊎◌, nat_lt}
-use Rattle.std.proofs.lemmas.List.{length-map, nil_from_length}
+use Rattle.std.proofs.lemmas.List.{length-map, length-take-le, nil_from_length}
 use Rattle.std.proofs.lemmas.Bool.{ltb-false}
 use Rattle.std.proofs.Math.ListN.{drop_of_length-le}
-use Rattle.std.proofs.Math.Seq.{take-length, take-append_seam}
+use Rattle.std.proofs.Math.Seq.{take-length, take-append_seam, take-append-add}
 use Rattle.desk_io.specs.Reading.{longest_file}
 use Rattle.desk_io.specs.declared.input.TheConstants.{BUFFER}
 use Rattle.ts_packet.specs.declared.sizes.TheConstants.{SIZE}
@@ -13,15 +13,17 @@ use Rattle.ts_packet.specs.FieldsIn.{fields_in}
 use Rattle.t2mi_stream.specs.Events as stream
 use Rattle.t2mi_stream.specs.FirstPid.{pid_of, PacketsBehind, NoPackets, t2mi_packets_in}
 use Rattle.t2mi_stream.specs.Skipping.{further}
-use Rattle.t2mi_stream.specs.Units.{accepted_of}
+use Rattle.t2mi_stream.specs.Units.{Cut, accepted_in, accepted_of}
+use Rattle.t2mi_stream.proofs.UnitLemmas.{runs_same}
 use Rattle.t2mi_stream.specs.UnpiperStandsFor.{UnpiperStandsFor, is_ready, AllReleased}
 use Rattle.file_run.specs.Events.{Event, Fed, Ended, fed, has_ended, gave}
+use Rattle.file_run.specs.FileRun.{IsFed}
 use Rattle.file_run.specs.Laws.{EventsTell}
 use Rattle.file_run.specs.Steps.{Suffices, FallsShort, Needs}
 use Rattle.file_run.specs.declared.machine.Step.{Step}
 use Rattle.file_run.specs.declared.machine.Step.TheVariants.{Read, Give, End}
 use Rattle.show_run.specs.SaidLines.{count_line}
-use Rattle.show_run.specs.T2miLines.{next_in, next_of, packets_from, Unpiping, Comes}
+use Rattle.show_run.specs.T2miLines.{next_in, next_of, packets_from, Seeking, Unpiping, Comes}
 use Rattle.show_run.specs.T2miText.{place_lines}
 use Rattle.show_run.specs.declared.t2mi_lines.T2miLines.{T2miLines}
 use Rattle.show_run.specs.declared.t2mi_lines.Search.{Search}
@@ -181,26 +183,89 @@ all_given none behind start m events least size released c s =
           (drop_of_length-le m.unit (let l = unpipes.2 in omega (arith, l, size))) (released unpipes.1)).1
     ]
 
--- what was not gone through of a file that is too long is less than a unit
-pub near_needed : (start m : T2miLines) (events : List Event) → Comes start events m
-    → Needs (next_of m) 0 (longest_file - length (fed 0 events)) → longest_file < length (fed 0 events) + SIZE
-near_needed start m events c s =
-    elim (needs_in m.search (is_ready m.unpiper) (SIZE - m.from) m.line (longest_file - length (fed 0 events)) s) [
+-- units that tell no PID, and bytes behind them that are no unit, hold no packet
+same_seeking : NoPackets → (m : T2miLines) (all text more : List ℕ) (ended : Bool) → Seeking m all text ended
+    → length more < SIZE → t2mi_packets_in (all ++ more) ≡ t2mi_packets_in all
+same_seeking none m all text more ended f few =
+    none all more f.none few ∙ sym (ap t2mi_packets_in (sym (append-nil all)) ∙ none all [] f.none (omega arith))
+
+-- bytes that make no further unit whole bring no packet
+same_unpiping : PacketsBehind → (m : T2miLines) (all text more : List ℕ) (ended : Bool) → Unpiping m all text ended
+    → (length all + length more) / SIZE ≡ length all / SIZE → t2mi_packets_in (all ++ more) ≡ t2mi_packets_in all
+same_unpiping behind m all text more ended f within =
+    let rest = f.bytes ++ drop m.from m.unit in
+    let w = f.none.whole in
+    let size = ap length f.parts in
+    let parts = length-append f.front rest in
+    let sum = length-append rest more in
+    let units : length (rest ++ more) / SIZE ≡ length rest / SIZE = omega (arith, w, size, parts, sum, within) in
+    behind_all behind m all text ended f more
+    ∙ ap (λ (c : Cut). map (further (length f.front)) (accepted_in c)) (runs_same f.pid rest more units)
+    ∙ sym (ap t2mi_packets_in (sym (append-nil all)) ∙ behind_all behind m all text ended f []
+    ∙ ap (λ (l : List ℕ). map (further (length f.front)) (accepted_of f.pid l)) (append-nil rest))
+
+-- 2^40 bytes end 36 bytes behind a unit, so the last of them, at which nobody may have looked, ends none
+same_needed : NoPackets → PacketsBehind → (start m : T2miLines) (events : List Event) (more : List ℕ) → Comes start events m
+    → length (fed 0 events) + length more ≡ longest_file → Needs (next_of m) 0 (length more)
+    → t2mi_packets_in (fed 0 events ++ more) ≡ t2mi_packets_in (fed 0 events)
+same_needed none behind start m events more c all s =
+    elim (needs_in m.search (is_ready m.unpiper) (SIZE - m.from) m.line (length more) s) [
       | inl seeks ↦
           let f = found_in m _ _ _ Seeks seeks.0 c.shown.found in
           let w = f.none.whole in
           let few = seeks.1 in
-          omega (arith, w, few)
-      | inr unpipes ↦ (let few = unpipes.3 in omega (arith, few))
+          same_seeking none m (fed 0 events) (gave events) more (has_ended 0 events) f (omega (arith, w, few, all))
+      | inr unpipes ↦
+          let f = found_in m _ _ _ Unpipes unpipes.0 c.shown.found in
+          let few = unpipes.3 in
+          same_unpiping behind m (fed 0 events) (gave events) more (has_ended 0 events) f (omega (arith, few, all))
     ]
 
--- and of one that could not be read on
-pub near_short : (m : T2miLines) (place taken : ℕ) → FallsShort (next_of m) 0 (place - taken) → place < taken + SIZE
-near_short m place taken s =
-    elim (short_in m.search (is_ready m.unpiper) (SIZE - m.from) m.line 0 (place - taken) s).1 [
-      | inl seeks ↦ (let few = seeks.1 in omega (arith, few))
-      | inr unpipes ↦ (let none = unpipes.3 in omega (arith, none))
+-- of a file that could not be read on, only bytes that are no whole unit were not looked at
+same_short : NoPackets → PacketsBehind → (start m : T2miLines) (events : List Event) (more : List ℕ) → Comes start events m
+    → FallsShort (next_of m) 0 (length more) → t2mi_packets_in (fed 0 events ++ more) ≡ t2mi_packets_in (fed 0 events)
+same_short none behind start m events more c s =
+    elim (short_in m.search (is_ready m.unpiper) (SIZE - m.from) m.line 0 (length more) s).1 [
+      | inl seeks ↦
+          same_seeking none m (fed 0 events) (gave events) more (has_ended 0 events)
+          (found_in m _ _ _ Seeks seeks.0 c.shown.found) seeks.1
+      | inr unpipes ↦
+          ap (λ (l : List ℕ). t2mi_packets_in (fed 0 events ++ l)) (nil_from_length more unpipes.3)
+          ∙ ap t2mi_packets_in (append-nil (fed 0 events))
     ]
+
+-- what was read is what was fed, and so many bytes behind it
+read_parts : (file front : List ℕ) (given : ℕ) (ended : Bool) → IsFed file given front ended
+    → (more : List ℕ) × (take given file ≡ front ++ more) × (length more ≡ given - length front)
+read_parts file front given ended f =
+    let a = f.ahead in
+    let w = f.within in
+    let size = ap length f.parts in
+    let sum = length-append front f.more in
+    let least : given ≡ length front + (given - length front) = omega (arith, a) in (
+      take (given - length front) f.more,
+      ap₂ (λ (n : ℕ) (l : List ℕ). take n l) least f.parts ∙ take-append-add front f.more (given - length front),
+      length-take-le (given - length front) f.more (omega (arith, a, w, size, sum)),
+    )
+
+-- the packets in all that was read of a file that is too long are those in what was fed
+pub read_needed : NoPackets → PacketsBehind → (start m : T2miLines) (events : List Event) (file : List ℕ) → Comes start events m
+    → IsFed file longest_file (fed 0 events) (has_ended 0 events) → Needs (next_of m) 0 (longest_file - length (fed 0 events))
+    → t2mi_packets_in (take longest_file file) ≡ t2mi_packets_in (fed 0 events)
+read_needed none behind start m events file c f s =
+    let r = read_parts file (fed 0 events) longest_file (has_ended 0 events) f in
+    let a = f.ahead in
+    let n = r.2 in
+    ap t2mi_packets_in r.1
+    ∙ same_needed none behind start m events r.0 c (omega (arith, a, n)) (subst (Needs (next_of m) 0) (sym r.2) s)
+
+-- and of one that could not be read on
+pub read_short : NoPackets → PacketsBehind → (start m : T2miLines) (events : List Event) (file : List ℕ) (given : ℕ)
+    → Comes start events m → IsFed file given (fed 0 events) (has_ended 0 events)
+    → FallsShort (next_of m) 0 (given - length (fed 0 events)) → t2mi_packets_in (take given file) ≡ t2mi_packets_in (fed 0 events)
+read_short none behind start m events file given c f s =
+    let r = read_parts file (fed 0 events) given (has_ended 0 events) f in
+    ap t2mi_packets_in r.1 ∙ same_short none behind start m events r.0 c (subst (FallsShort (next_of m) 0) (sym r.2) s)
 
 -- what falls short is needed
 pub short_needs : (step : Step) (count : ℕ) → FallsShort step 0 count → Needs step 0 count

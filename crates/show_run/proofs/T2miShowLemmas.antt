@@ -36,7 +36,7 @@ use Rattle.show_run.specs.declared.t2mi_lines.T2miLines.{T2miLines}
 use Rattle.show_run.specs.declared.t2mi_lines.Search.{Search}
 use Rattle.show_run.specs.declared.t2mi_lines.Search.TheVariants.{Seeks, Unpipes, Finished}
 use Rattle.show_run.proofs.PacketMetLemmas.{closed_counted, opened_counted, starts_fed, count_some}
-use Rattle.show_run.proofs.T2miEndLemmas.{behind_all, near_needed, near_short, short_needs}
+use Rattle.show_run.proofs.T2miEndLemmas.{behind_all, read_needed, read_short, short_needs}
 
 -- the lines of packets that were given are those of the first packets of the file
 first_unpiped : AcceptedFront → PacketsBehind → (file : List ℕ) (m : T2miLines) (all text : List ℕ) (ended : Bool)
@@ -239,13 +239,9 @@ t2mi_stop nothing front behind start now old new name (run.Files (TooLong input)
       lines = if_both old.held _ _ _ (λ held f first. (
         (let w = f.within in w),
         (
-          record {
-            front = fed 0 x.events;
-            more = f.more;
-            parts = f.parts;
-            near = near_needed start now x.events x.came t.wants;
-          },
-          sym (x.parts ∙ append-nil (gave x.early)) ∙ all x.events _ x.came t.wants,
+          f.within,
+          sym (x.parts ∙ append-nil (gave x.early)) ∙ all x.events _ x.came t.wants
+              ∙ ap place_lines (sym (read_needed nothing behind start now x.events (bytes_of held.files name) x.came f t.wants)),
         ),
         first,
       )) x.inputs
@@ -264,7 +260,7 @@ t2mi_stop nothing front behind start now old new name (run.Files (ReadFault inpu
     lines = if_any old.held _
         (λ held. (
           (
-            record { front = []; more = bytes_of held.files name; parts = refl; near = omega arith },
+            omega arith,
             no_text nothing,
             omega arith,
           ),
@@ -284,13 +280,9 @@ t2mi_stop nothing front behind start now old new name (run.Files (ReadFault inpu
         grew = x.said;
         lines = if_both old.held _ _ _ (λ held f first. (
           (
-            record {
-              front = fed 0 x.events;
-              more = f.more;
-              parts = f.parts;
-              near = near_short now t.place (length (fed 0 x.events)) t.wants;
-            },
-            sym (all x.events _ x.came (short_needs (next_of now) _ t.wants)) ∙ x.parts,
+            f.within,
+            ap place_lines (read_short nothing behind start now x.events (bytes_of held.files name) t.place x.came f t.wants)
+                ∙ sym (all x.events _ x.came (short_needs (next_of now) _ t.wants)) ∙ x.parts,
             x.waits.few,
           ),
           first,

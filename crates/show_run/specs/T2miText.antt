@@ -1,7 +1,6 @@
 -- The text of the T2-MI packets in a file of units.
-use Rattle.std.specs.Prelude.{◌≡◌, ◌≢◌, ◌⊎◌, ℕ, ◌+◌, ◌<◌, ◌≤◌, List, [], ◌++◌, length, flat_map, codes, Result, Ok, Err}
+use Rattle.std.specs.Prelude.{◌≡◌, ◌≢◌, ◌⊎◌, ℕ, ◌≤◌, List, [], ◌++◌, length, take, flat_map, codes, Result, Ok, Err}
 use Rattle.desk_io.specs.Reading.{longest_file}
-use Rattle.ts_packet.specs.declared.sizes.TheConstants.{SIZE}
 use Rattle.file_run.specs.Telling.{most_waiting}
 use Rattle.file_run.specs.declared.stop.RunFault.TheVariants.{TooLong, ReadFault, WriteFault}
 use Rattle.t2mi_packet.specs.T2miPacket.{view_of}
@@ -25,21 +24,14 @@ abbrev pub AreFirstLines : List AcceptedPacket → List ℕ → Type 0
 AreFirstLines packets text = (first : List AcceptedPacket) × (others : List AcceptedPacket) × (packets ≡ first ++ others)
     × (text ≡ place_lines first)
 
--- Of so many bytes that were read, all but less than a unit were gone through.
-pub record GoneThrough (file : List ℕ) (given : ℕ) : Type 0 where
-  pub front : List ℕ
-  pub more : List ℕ
-  pub parts : file ≡ front ++ more
-  pub near : given < length front + SIZE
-
--- The text is the lines of the packets in what was gone through.
+-- The text is the lines of the packets in all that was read.
 abbrev pub SaysThrough : List ℕ → ℕ → List ℕ → Type 0
-SaysThrough file given text = (through : GoneThrough file given) × (text ≡ place_lines (t2mi_packets_in through.front))
+SaysThrough file given text = (given ≤ length file) × (text ≡ place_lines (t2mi_packets_in (take given file)))
 
 -- The same packets, and the text is the first of their lines: what is left of these is no more than may wait to be said.
 abbrev pub LacksFewLines : List ℕ → ℕ → List ℕ → List ℕ → Type 0
-LacksFewLines file given text unsaid = (through : GoneThrough file given)
-    × (place_lines (t2mi_packets_in through.front) ≡ text ++ unsaid) × (length unsaid ≤ most_waiting)
+LacksFewLines file given text unsaid = (given ≤ length file)
+    × (place_lines (t2mi_packets_in (take given file)) ≡ text ++ unsaid) × (length unsaid ≤ most_waiting)
 
 -- The text is the first of the lines that were due, and not all of them: of the packets in what was read, and behind these, if
 -- that is the whole file, of their number.
