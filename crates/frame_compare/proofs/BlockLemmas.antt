@@ -1,15 +1,12 @@
--- How many blocks are the same in two records, and of which PLP they are.
-use Rattle.std.proofs.Common.{◌≡◌, ℕ, suc, ◌+◌, ◌-◌, ◌<◌, ◌≤◌, ◌==◌, Bool, true, false, cond, List, [], ◌∷◌, ◌++◌, length, take}
-use Rattle.std.proofs.lemmas.List.Elements.{filter-append}
-use Rattle.std.proofs.Common.{refl, ap, sym, ◌∙◌, arith}
-use Rattle.std.specs.Prelude.{◌↔◌, IsTrue, filter}
+-- Where two lists of blocks differ first.
+use Rattle.std.proofs.Common.{◌≡◌, ℕ, ◌+◌, ◌<◌, ◌==◌, ◌&&◌, not, min, Bool, true, false, List, [], ◌∷◌, ◌++◌, length}
+use Rattle.std.proofs.Common.{Option, Some, None, refl, ap, ap₂, sym, ◌∙◌, arith, option_map}
+use Rattle.std.specs.Prelude.{◌↔◌, IsTrue, bytes_eq, if◌then◌else◌}
 use Rattle.std.proofs.lemmas.Bool.{true≢false, false_from_ne_true}
-use Rattle.std.proofs.lemmas.Slice.Eq.{slice_eq-Decides}
-use Rattle.site_frame.specs.Record.{Block}
-use Rattle.std.specs.Prelude.{slice_get, Option, Some, None, if◌then◌else◌}
-use Rattle.terms.proofs.OptionLemmas.{some_injective, none_some}
-use Rattle.frame_compare.specs.Comparing.{same_bit, same_bits, same_block, same_front, place_behind, blocks_place, plp_behind}
-use Rattle.frame_compare.specs.declared.answer.Place.TheVariants as place
+use Rattle.std.proofs.lemmas.List.{length-append}
+use Rattle.std.proofs.lemmas.Slice.Eq.{slice_eq-Decides, bytes_eq-Decides}
+use Rattle.linked_pool.specs.Pool.{chunk_len}
+use Rattle.frame_compare.specs.Comparing.{same_bit, same_bits, first_other}
 
 bit_true : (a b : Bool) → same_bit a b ≡ true → a ≡ b
 bit_true true b e = sym e
@@ -30,91 +27,110 @@ bits_told r a b h = go (same_bits a b) refl
     go false e = false_from_ne_true r
         (λ t. true≢false (sym ((slice_eq-Decides (λ x y. (bit_true x y, bit_same x y)) a b (same_bits a b) refl).1 (h.0 t)) ∙ e))
 
+pub bits_same : (a b : List Bool) → a ≡ b → same_bits a b ≡ true
+bits_same a b e = (slice_eq-Decides (λ x y. (bit_true x y, bit_same x y)) a b (same_bits a b) refl).1 e
+
+-- ---- piece by piece
+
+fronts_same : (p q xs ys : List ℕ) → length p ≡ length q → bytes_eq (p ++ xs) (q ++ ys) ≡ (bytes_eq p q && bytes_eq xs ys)
+fronts_same [] [] xs ys l = refl
+fronts_same [] (y ∷ q) xs ys l = absurd (omega (arith, l))
+fronts_same (x ∷ p) [] xs ys l = absurd (omega (arith, l))
+fronts_same (x ∷ p) (y ∷ q) xs ys l =
+    ap (λ (t : Bool). (x == y) && t) (fronts_same p q xs ys (omega (arith, l)))
+    ∙ go (x == y)
+  where
+    go : (t : Bool) → (t && (bytes_eq p q && bytes_eq xs ys)) ≡ ((t && bytes_eq p q) && bytes_eq xs ys)
+    go true = refl
+    go false = refl
+
+-- two strings of one length are the same if their first pieces are, and what is left
+pub pieces_same : (a b left right p q xs ys : List ℕ) → length left ≡ length right → bytes_eq a b ≡ bytes_eq left right → left ≡ p ++ xs
+    → right ≡ q ++ ys → length p ≡ min (length left) chunk_len → length q ≡ min (length right) chunk_len
+    → (length xs ≡ length ys) × (bytes_eq a b ≡ (bytes_eq p q && bytes_eq xs ys))
+pieces_same a b left right p q xs ys size same e f m n =
+    let one : length p ≡ length q = omega (arith, m, n, size) in
+    let whole = ap length e ∙ length-append p xs in
+    let other = ap length f ∙ length-append q ys in (
+      omega (arith, size, whole, other, one),
+      same ∙ ap₂ bytes_eq e f ∙ fronts_same p q xs ys one,
+    )
+
+pub not_false : (t : Bool) → true ≡ not t → t ≡ false
+not_false true e = e
+not_false false e = refl
+
+pub not_true : (t : Bool) → false ≡ not t → t ≡ true
+not_true true e = refl
+not_true false e = e
+
 -- ---- one block more that is the same
 
-pub front_more : (a b blocks others : List Block) (x y : Block) (xs ys : List Block) (count : ℕ) → blocks ≡ x ∷ xs → others ≡ y ∷ ys
-    → same_block x y ≡ true → same_front a b ≡ count + same_front blocks others → same_front a b ≡ count + 1 + same_front xs ys
-front_more a b blocks others x y xs ys count p q on was =
-    let one : same_front blocks others ≡ suc (same_front xs ys) =
-    rw (p, q) (ap (λ (t : Bool). cond t (suc (same_front xs ys)) 0) on) in
-    omega (arith, was, one)
+abbrev pub shifted : ℕ → Option ℕ → Option ℕ
+shifted k None = None
+shifted k (Some j) = Some (k + j)
 
-pub front_differs : (a b blocks others : List Block) (x y : Block) (xs ys : List Block) (count : ℕ) → blocks ≡ x ∷ xs → others ≡ y ∷ ys
-    → same_block x y ≡ false → same_front a b ≡ count + same_front blocks others → count ≡ same_front a b
-front_differs a b blocks others x y xs ys count p q off was =
-    let none : same_front blocks others ≡ 0 =
-    rw (p, q) (ap (λ (t : Bool). cond t (suc (same_front xs ys)) 0) off) in
-    omega (arith, was, none)
+-- The first k are the same, and these are left.
+abbrev pub AreSame : List (List ℕ) → List (List ℕ) → ℕ → List (List ℕ) → List (List ℕ) → Type 0
+AreSame a b k xs ys = first_other a b ≡ shifted k (first_other xs ys)
 
-pub front_ends : (a b blocks others : List Block) (count : ℕ) → blocks ≡ [] → same_front a b ≡ count + same_front blocks others
-    → count ≡ same_front a b
-front_ends a b blocks others count p was =
-    let none : same_front blocks others ≡ 0 = rw p refl in
-    omega (arith, was, none)
-
-pub other_ends : (a b blocks others : List Block) (x : Block) (xs : List Block) (count : ℕ) → blocks ≡ x ∷ xs → others ≡ []
-    → same_front a b ≡ count + same_front blocks others → count ≡ same_front a b
-other_ends a b blocks others x xs count p q was =
-    let none : same_front blocks others ≡ 0 = rw (p, q) refl in
-    omega (arith, was, none)
-
-pub front_few : (a b : List Block) → same_front a b ≤ length a
-front_few [] b = omega arith
-front_few (x ∷ a) [] = omega arith
-front_few (x ∷ a) (y ∷ b) = go (same_block x y) (front_few a b)
+pub none_yet : (a b : List (List ℕ)) → AreSame a b 0 a b
+none_yet a b = go (first_other a b)
   where
-    go : (t : Bool) → same_front a b ≤ length a → cond t (suc (same_front a b)) 0 ≤ suc (length a)
-    go true r = omega (arith, r)
-    go false r = omega arith
+    go : (o : Option ℕ) → o ≡ shifted 0 o
+    go None = refl
+    go (Some j) = let e : j ≡ 0 + j = omega arith in ap Some e
 
--- ---- of which PLP they are
+-- what two blocks and what follows them make of the first that differs
+abbrev by_front : Bool → Option ℕ → Option ℕ
+by_front same rest = if same then option_map (λ j. j + 1) rest else Some 0
 
-abbrev pub of_plp : ℕ → Block → Bool
-of_plp plp_id b = b.plp_id == plp_id
+module _ (a b : List (List ℕ)) (k : ℕ) (left rest : List (List ℕ)) (same : AreSame a b k left rest) where
+  at_none : Some k ≡ shifted k (Some 0)
+  at_none = let e : k ≡ k + 0 = omega arith in ap Some e
 
--- how many are counted, one more looked at
-pub one_counted : (plp_id : ℕ) (rest : List Block) (b : Block) (bs : List Block) (left : ℕ) → rest ≡ b ∷ bs → of_plp plp_id b ≡ true
-    → length (filter (of_plp plp_id) (take (suc left) rest)) ≡ suc (length (filter (of_plp plp_id) (take left bs)))
-one_counted plp_id rest b bs left p on =
-    ap (λ (l : List Block). length (filter (of_plp plp_id) (take (suc left) l))) p
-    ∙ ap length (filter-append (of_plp plp_id) (b ∷ []) (take left bs))
-    ∙ ap (λ (t : Bool). length (cond t (b ∷ []) [] ++ filter (of_plp plp_id) (take left bs))) on
+  here : first_other left rest ≡ Some 0 → Some k ≡ first_other a b
+  here e = at_none ∙ sym (same ∙ ap (shifted k) e)
 
-pub none_counted : (plp_id : ℕ) (rest : List Block) (b : Block) (bs : List Block) (left : ℕ) → rest ≡ b ∷ bs → of_plp plp_id b ≡ false
-    → length (filter (of_plp plp_id) (take (suc left) rest)) ≡ length (filter (of_plp plp_id) (take left bs))
-none_counted plp_id rest b bs left p off =
-    ap (λ (l : List Block). length (filter (of_plp plp_id) (take (suc left) l))) p
-    ∙ ap length (filter-append (of_plp plp_id) (b ∷ []) (take left bs))
-    ∙ ap (λ (t : Bool). length (cond t (b ∷ []) [] ++ filter (of_plp plp_id) (take left bs))) off
+  pub same_more : (x y : List ℕ) (xs ys : List (List ℕ)) → left ≡ x ∷ xs → rest ≡ y ∷ ys → bytes_eq x y ≡ true → AreSame a b (k + 1) xs ys
+  same_more x y xs ys e f t =
+      same ∙ ap (shifted k) (ap₂ first_other e f ∙ ap (λ (s : Bool). by_front s (first_other xs ys)) t) ∙ go (first_other xs ys)
+    where
+      go : (o : Option ℕ) → shifted k (by_front true o) ≡ shifted (k + 1) o
+      go None = refl
+      go (Some j) = let e : k + (j + 1) ≡ k + 1 + j = omega arith in ap Some e
 
--- behind blocks that are the same stands what either has
-pub place_so : (a b : List Block) (count : ℕ) → count ≡ same_front a b → blocks_place a b
-    ≡ place_behind (take count a) (slice_get a count) (slice_get b count)
-place_so a b count e = ap (λ (k : ℕ). place_behind (take k a) (slice_get a k) (slice_get b k)) (sym e)
+  pub other_here : (x y : List ℕ) (xs ys : List (List ℕ)) → left ≡ x ∷ xs → rest ≡ y ∷ ys → bytes_eq x y ≡ false → Some k ≡ first_other a b
+  other_here x y xs ys e f t = here (ap₂ first_other e f ∙ ap (λ (s : Bool). by_front s (first_other xs ys)) t)
 
-pub plp_found : (before : List Block) (o p : Option Block) (id : ℕ) → plp_behind o p ≡ Some id
-    → place_behind before o p ≡ place.Block id (length (filter (of_plp id) before))
-plp_found before (Some b) p id e =
-    ap (λ (k : ℕ). place.Block k (length (filter (of_plp k) before))) (some_injective b.plp_id id e)
-plp_found before None (Some b) id e =
-    ap (λ (k : ℕ). place.Block k (length (filter (of_plp k) before))) (some_injective b.plp_id id e)
-plp_found before None None id e = none_some id e
+  pub ends_here : (x : List ℕ) (xs : List (List ℕ)) → left ≡ x ∷ xs → rest ≡ [] → Some k ≡ first_other a b
+  ends_here x xs e f = here (ap₂ first_other e f)
 
-pub none_left : (before : List Block) (o p : Option Block) → plp_behind o p ≡ None → place_behind before o p ≡ place.Map
-none_left before (Some b) p e = none_some b.plp_id (sym e)
-none_left before None (Some b) e = none_some b.plp_id (sym e)
-none_left before None None e = refl
+  pub goes_on : (y : List ℕ) (ys : List (List ℕ)) → left ≡ [] → rest ≡ y ∷ ys → Some k ≡ first_other a b
+  goes_on y ys e f = here (ap₂ first_other e f)
 
--- one more looked at
-pub looked_on : (plp_id : ℕ) (rest : List Block) (b : Block) (bs : List Block) (count at found more all : ℕ) (same : Bool) → at < count
-    → rest ≡ b ∷ bs → of_plp plp_id b ≡ same → more ≡ found + (if same then 1 else 0)
-    → found + length (filter (of_plp plp_id) (take (count - at) rest)) ≡ all
-    → more + length (filter (of_plp plp_id) (take (count - (at + 1)) bs)) ≡ all
-looked_on plp_id rest b bs count at found more all true lt p e m was =
-    let left : count - at ≡ suc (count - (at + 1)) = omega (arith, lt) in
-    let one = ap (λ (k : ℕ). length (filter (of_plp plp_id) (take k rest))) left ∙ one_counted plp_id rest b bs (count - (at + 1)) p e in
-    omega (arith, was, one, m)
-looked_on plp_id rest b bs count at found more all false lt p e m was =
-    let left : count - at ≡ suc (count - (at + 1)) = omega (arith, lt) in
-    let one = ap (λ (k : ℕ). length (filter (of_plp plp_id) (take k rest))) left ∙ none_counted plp_id rest b bs (count - (at + 1)) p e in
-    omega (arith, was, one, m)
+  pub all_same : left ≡ [] → rest ≡ [] → None ≡ first_other a b
+  all_same e f = sym (same ∙ ap (shifted k) (ap₂ first_other e f))
+
+pub none_left : (xs : List (List ℕ)) → length xs ≡ 0 → xs ≡ []
+none_left [] e = refl
+none_left (x ∷ xs) e = absurd (omega (arith, e))
+
+-- no list, no block
+pub none_there : (b : List (List ℕ)) → length b ≡ 0 → None ≡ first_other [] b
+none_there [] e = refl
+none_there (y ∷ b) e = absurd (omega (arith, e))
+
+pub some_there : (b : List (List ℕ)) → 0 < length b → Some 0 ≡ first_other [] b
+some_there [] l = absurd (omega (arith, l))
+some_there (y ∷ b) l = refl
+
+pub either_none : (a : List (List ℕ)) → first_other [] a ≡ first_other a []
+either_none [] = refl
+either_none (x ∷ a) = refl
+
+-- ---- all blocks that are the same
+
+pub other_none : (a : List (List ℕ)) → first_other a a ≡ None
+other_none [] = refl
+other_none (x ∷ a) = ap₂ by_front ((bytes_eq-Decides x x).1 refl) (other_none a)

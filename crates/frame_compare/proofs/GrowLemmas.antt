@@ -9,12 +9,12 @@ use Rattle.std.proofs.lemmas.List.Concat.{flat_map-append}
 use Rattle.std.proofs.lemmas.List.Folds.{find-append}
 use Rattle.terms.proofs.RangeLemmas.{range_append, places_more, flat_same}
 use Rattle.plp_config.specs.declared.config.Config.{Config}
-use Rattle.frame_groups.specs.Modulated.{FrameRecord}
+use Rattle.frame_groups.specs.Modulated.{FrameRecord, Numbered}
 use Rattle.feed_merge.specs.Laws.{AllBelow, AreOf}
 use Rattle.feed_merge.specs.Picks.{above_all}
 use Rattle.feed_merge.proofs.GrowLemmas.{or_none, below_more, above_is, above_least, all_push}
 use Rattle.frame_compare.specs.Comparing.{record_at, Answered, answered_by, answered_at, answers_below, answers}
-use Rattle.frame_compare.specs.Laws.{AnswersGrow}
+use Rattle.frame_compare.specs.Laws.{frames_by, AnswersGrow}
 
 abbrev pub has_number : ℕ → FrameRecord → Bool
 has_number n x = x.number == n
@@ -49,55 +49,59 @@ nothing f a zero h = refl
 nothing f a (suc n) h =
     ap₂ (λ (x y : List Answered). x ++ y) (h a (omega arith)) (nothing f (a + 1) n (λ k le. h k (omega (arith, le))))
 
-abbrev pub listed : Config → List FrameRecord → List FrameRecord → ℕ → List Answered
-listed c ra rb n = option_to_list (answered_at c ra rb n)
+-- by the same groups
+module _ (c : Config) (ga gb : List Numbered) where
+  abbrev pub listed : List FrameRecord → List FrameRecord → ℕ → List Answered
+  listed ra rb n = option_to_list (answered_at c (frames_by ra ga) (frames_by rb gb) n)
 
--- what is said of a number depends on its records
-pub listed_same : (c : Config) (n : ℕ) (ra rb sa sb : List FrameRecord) → record_at n ra ≡ record_at n sa → record_at n rb ≡ record_at n sb
-    → listed c ra rb n ≡ listed c sa sb n
-listed_same c n ra rb sa sb a b = ap₂ (λ (o p : Option FrameRecord). option_to_list (answered_by c n o p)) a b
+  abbrev below : List FrameRecord → List FrameRecord → ℕ → List Answered
+  below ra rb end = answers_below c (frames_by ra ga) (frames_by rb gb) end
 
-listed_none : (c : Config) (ra rb : List FrameRecord) (n m : ℕ) → AllBelow n ra → AllBelow n rb → n ≤ m → listed c ra rb m ≡ []
-listed_none c ra rb n m a b l =
-    ap₂ (λ (o p : Option FrameRecord). option_to_list (answered_by c m o p)) (none_found n m ra a l) (none_found n m rb b l)
+  -- what is said of a number depends on its records
+  pub listed_same : (n : ℕ) (ra rb sa sb : List FrameRecord) → record_at n ra ≡ record_at n sa → record_at n rb ≡ record_at n sb
+      → listed ra rb n ≡ listed sa sb n
+  listed_same n ra rb sa sb a b = ap₂ (λ (o p : Option FrameRecord). option_to_list (answered_by c n ga gb o p)) a b
 
--- the frames below a number that is above all, or below another such
-longer : (c : Config) (ra rb : List FrameRecord) (n more : ℕ) → AllBelow n ra → AllBelow n rb
-    → answers_below c ra rb (n + more) ≡ answers_below c ra rb n
-longer c ra rb n more a b =
-    ap (flat_map (listed c ra rb)) (range_append 0 n more)
-    ∙ flat_map-append (listed c ra rb) (range_with_len 0 n) (range_with_len (0 + n) more)
-    ∙ ap (λ (l : List Answered). answers_below c ra rb n ++ l)
-    (nothing (listed c ra rb) (0 + n) more (λ k le. listed_none c ra rb n k a b (omega (arith, le))))
-    ∙ append-nil (answers_below c ra rb n)
+  listed_none : (ra rb : List FrameRecord) (n m : ℕ) → AllBelow n ra → AllBelow n rb → n ≤ m → listed ra rb m ≡ []
+  listed_none ra rb n m a b l =
+      ap₂ (λ (o p : Option FrameRecord). option_to_list (answered_by c m ga gb o p)) (none_found n m ra a l) (none_found n m rb b l)
 
--- all are those below a number that none reaches
-pub all_below : (c : Config) (ra rb : List FrameRecord) (n : ℕ) → AllBelow n ra → AllBelow n rb
-    → answers c ra rb ≡ answers_below c ra rb n
-unfolding answers
-all_below c ra rb n a b =
-    let end : ℕ = max (above_all ra) (above_all rb) in
-    let inside : end ≤ n = omega (arith, above_least n ra a, above_least n rb b) in
-    let sum : end + (n - end) ≡ n = omega (arith, inside) in
-    sym (longer c ra rb end (n - end) (below_more (above_all ra) end ra (omega arith) (above_is ra))
-    (below_more (above_all rb) end rb (omega arith) (above_is rb)))
-    ∙ ap (answers_below c ra rb) sum
+  -- the frames below a number that is above all, or below another such
+  longer : (ra rb : List FrameRecord) (n more : ℕ) → AllBelow n ra → AllBelow n rb → below ra rb (n + more) ≡ below ra rb n
+  longer ra rb n more a b =
+      ap (flat_map (listed ra rb)) (range_append 0 n more)
+      ∙ flat_map-append (listed ra rb) (range_with_len 0 n) (range_with_len (0 + n) more)
+      ∙ ap (λ (l : List Answered). below ra rb n ++ l)
+      (nothing (listed ra rb) (0 + n) more (λ k le. listed_none ra rb n k a b (omega (arith, le))))
+      ∙ append-nil (below ra rb n)
+
+  -- all are those below a number that none reaches
+  pub all_below : (ra rb : List FrameRecord) (n : ℕ) → AllBelow n ra → AllBelow n rb
+      → answers c (frames_by ra ga) (frames_by rb gb) ≡ answers_below c (frames_by ra ga) (frames_by rb gb) n
+  unfolding answers
+  all_below ra rb n a b =
+      let end : ℕ = max (above_all ra) (above_all rb) in
+      let inside : end ≤ n = omega (arith, above_least n ra a, above_least n rb b) in
+      let sum : end + (n - end) ≡ n = omega (arith, inside) in
+      sym (longer ra rb end (n - end) (below_more (above_all ra) end ra (omega arith) (above_is ra))
+      (below_more (above_all rb) end rb (omega arith) (above_is rb)))
+      ∙ ap (below ra rb) sum
 
 -- ---- one number more
 
 pub answers_grow : AnswersGrow
-answers_grow c ra rb xs ys n a b x y =
-    all_below c (ra ++ xs) (rb ++ ys) (n + 1) (all_push n ra xs a x) (all_push n rb ys b y)
-    ∙ ap (flat_map (listed c (ra ++ xs) (rb ++ ys))) (places_more n)
-    ∙ flat_map-append (listed c (ra ++ xs) (rb ++ ys)) (range_with_len 0 n) (n ∷ [])
+answers_grow c ga gb ra rb xs ys n a b x y =
+    all_below c ga gb (ra ++ xs) (rb ++ ys) (n + 1) (all_push n ra xs a x) (all_push n rb ys b y)
+    ∙ ap (flat_map (listed c ga gb (ra ++ xs) (rb ++ ys))) (places_more n)
+    ∙ flat_map-append (listed c ga gb (ra ++ xs) (rb ++ ys)) (range_with_len 0 n) (n ∷ [])
     ∙ ap₂ (λ (p q : List Answered). p ++ q)
-    (flat_same (listed c (ra ++ xs) (rb ++ ys)) (listed c ra rb) 0 n
-    (λ k le lt. listed_same c k (ra ++ xs) (rb ++ ys) ra rb (at_front k ra xs (none_of n k xs x (omega (arith, lt))))
+    (flat_same (listed c ga gb (ra ++ xs) (rb ++ ys)) (listed c ga gb ra rb) 0 n
+    (λ k le lt. listed_same c ga gb k (ra ++ xs) (rb ++ ys) ra rb (at_front k ra xs (none_of n k xs x (omega (arith, lt))))
     (at_front k rb ys (none_of n k ys y (omega (arith, lt)))))
-    ∙ sym (all_below c ra rb n a b))
-    (append-nil (listed c (ra ++ xs) (rb ++ ys) n)
-    ∙ listed_same c n (ra ++ xs) (rb ++ ys) xs ys (at_back n ra xs a) (at_back n rb ys b))
+    ∙ sym (all_below c ga gb ra rb n a b))
+    (append-nil (listed c ga gb (ra ++ xs) (rb ++ ys) n)
+    ∙ listed_same c ga gb n (ra ++ xs) (rb ++ ys) xs ys (at_back n ra xs a) (at_back n rb ys b))
 
-pub answers_nothing : (c : Config) → answers c [] [] ≡ []
+pub answers_nothing : (c : Config) (ga gb : List Numbered) → answers c (frames_by [] ga) (frames_by [] gb) ≡ []
 unfolding answers
-answers_nothing c = refl
+answers_nothing c ga gb = refl

@@ -1,26 +1,51 @@
--- What two lists of records have of each frame, number by number (EN 302 755, clauses 5 to 8, by the records of both).
-use Rattle.std.specs.Prelude.{◌≡◌, ℕ, suc, ◌==◌, ◌&&◌, not, max, Bool, true, false, List, [], ◌∷◌, length, take, slice_get, find, filter}
-use Rattle.std.specs.Prelude.{bytes_eq, option_map, option_to_list, Option, Some, None, if◌then◌else◌}
+-- What two streams make of each frame, number by number: its L1 and all blocks that it carries (EN 302 755, clauses 5 to 8).
+use Rattle.std.specs.Prelude.{ℕ, ◌+◌, ◌==◌, not, max, Bool, true, false, List, [], ◌∷◌, map, find, bytes_eq, option_map}
+use Rattle.std.specs.Prelude.{option_to_list, Option, Some, None, if◌then◌else◌}
 use Rattle.std.specs.Cmp.Lexicographic.{pointwise}
 use Rattle.std.specs.List.{flat_map, range_with_len}
+use Rattle.std.specs.Option.{option_or}
+use Rattle.plp_config.specs.InterleavingFrames.{begin_of}
+use Rattle.plp_config.specs.Places.{places}
+use Rattle.plp_config.specs.Plps.{plp_at}
 use Rattle.plp_config.specs.declared.config.Config.{Config}
-use Rattle.frame_groups.specs.Modulated.{Content, FrameRecord}
+use Rattle.frame_groups.specs.Modulated.{Content, FrameRecord, Numbered}
 use Rattle.frame_groups.specs.Modulated.Content.{Whole, Muted}
-use Rattle.open_group.specs.Written.{content_view}
-use Rattle.site_frame.specs.Record.{Block}
-use Rattle.site_frame.specs.Whole.{Spells, record_bytes}
-use Rattle.site_frame.specs.declared.reading.RecordView.{RecordView}
-use Rattle.site_frame.specs.declared.reading.RecordView.TheVariants.{Frame, Muted as MutedRecord}
+use Rattle.frame_tests.specs.Begun.{packets_at}
+use Rattle.frame_tests.specs.Carried.{right_blocks}
+use Rattle.open_group.specs.Sent.{held_bytes}
+use Rattle.open_group.specs.Written.{dynamic_in}
+use Rattle.modulator.specs.StandsFor.{records_of}
+use Rattle.held_feed.specs.Groups.{groups_of}
 use Rattle.feed_merge.specs.Picks.{above_all}
 use Rattle.frame_compare.specs.declared.answer.Answer.{Answer}
 use Rattle.frame_compare.specs.declared.answer.Answer.TheVariants.{Same, MutedA, MutedB, MutedBoth, OnlyA, OnlyB, Differs}
 use Rattle.frame_compare.specs.declared.answer.Place.{Place}
-use Rattle.frame_compare.specs.declared.answer.Place.TheVariants.{L1, Map}
+use Rattle.frame_compare.specs.declared.answer.Place.TheVariants.{L1}
 use Rattle.frame_compare.specs.declared.answer.Place.TheVariants as place
 use Rattle.frame_compare.specs.declared.answer.Side.{Side}
 use Rattle.frame_compare.specs.declared.answer.Side.TheVariants as side
 
--- ---- where two records differ
+-- what a stream makes: the records of its frames, and the groups that have numbers, the last one in front
+pub record Frames : Type 0 where
+  pub records : List FrameRecord
+  pub groups : List Numbered
+
+-- those of a whole stream
+abbrev pub frames_of : Config → List ℕ → Frames
+frames_of c bytes = record { records = records_of c bytes; groups = groups_of c bytes }
+
+-- ---- what a frame carries
+
+-- the baseband frames of a PLP that frame n carries: those of the group in which its interleaving frame begins, whether that frame
+-- is muted or not (EN 302 755, clause 6.5)
+abbrev pub carried : Config → List Numbered → ℕ → ℕ → List (List ℕ)
+carried c gs plp n = map held_bytes (right_blocks c plp (packets_at gs (begin_of c plp n)))
+
+-- the dynamic part of L1 of frame n
+abbrev pub dynamic_at : List Numbered → ℕ → List Bool
+dynamic_at gs n = dynamic_in (packets_at gs n)
+
+-- ---- where two frames differ
 
 abbrev pub same_bit : Bool → Bool → Bool
 same_bit true b = b
@@ -29,53 +54,38 @@ same_bit false b = not b
 abbrev pub same_bits : List Bool → List Bool → Bool
 same_bits a b = pointwise same_bit a b
 
-abbrev pub same_block : Block → Block → Bool
-same_block a b = (a.plp_id == b.plp_id) && bytes_eq a.bytes b.bytes
+-- the first place, from 0, at which two lists do not have the same; one of them may have none there
+abbrev pub first_other : List (List ℕ) → List (List ℕ) → Option ℕ
+first_other [] [] = None
+first_other [] (y ∷ ys) = Some 0
+first_other (x ∷ xs) [] = Some 0
+first_other (x ∷ xs) (y ∷ ys) = if bytes_eq x y then option_map (λ k. k + 1) (first_other xs ys) else Some 0
 
--- how many blocks at the front are the same in both
-abbrev pub same_front : List Block → List Block → ℕ
-same_front [] others = 0
-same_front (b ∷ blocks) [] = 0
-same_front (b ∷ blocks) (o ∷ others) = if same_block b o then suc (same_front blocks others) else 0
+-- the first answer in a list
+abbrev pub first_some : {X Y : Type 0} → (X → Option Y) → List X → Option Y
+first_some answer [] = None
+first_some answer (x ∷ xs) = option_or (answer x) (first_some answer xs)
 
--- a block behind others, by its number among those of its PLP
-abbrev pub block_place : List Block → Block → Place
-block_place before b = place.Block b.plp_id (length (filter (λ o. o.plp_id == b.plp_id) before))
+-- the first block that differs, PLP by PLP in the order of the configuration, by the number of the first one of each PLP
+abbrev pub block_place : Config → (ℕ → Option ℕ) → Option Place
+block_place c other = first_some (λ plp. option_map (place.Block (plp_at c.plps plp).id) (other plp)) (places c)
 
--- what stands in one record, and in the other, behind blocks that are the same
-abbrev pub place_behind : List Block → Option Block → Option Block → Place
-place_behind before (Some b) other = block_place before b
-place_behind before None (Some b) = block_place before b
-place_behind before None None = Map
+-- the first part in which two frames of a number differ: L1, or else a block that they carry. L1-pre and the configurable part are
+-- the configuration's in both, if both are whole
+unfoldable pub place_of : Config → ℕ → List Numbered → List Numbered → Option Place
+place_of c n ga gb =
+    if same_bits (dynamic_at ga n) (dynamic_at gb n)
+    then block_place c (λ plp. first_other (carried c ga plp n) (carried c gb plp n)) else Some L1
 
--- the PLP of that, if there is any
-abbrev pub plp_behind : Option Block → Option Block → Option ℕ
-plp_behind (Some b) other = Some b.plp_id
-plp_behind None (Some b) = Some b.plp_id
-plp_behind None None = None
+-- what two whole frames are to each other, by that
+abbrev pub place_answer : Option Place → Answer
+place_answer None = Same
+place_answer (Some at) = Differs at
 
--- the first block that is not the same in both, or the map if each is
-abbrev pub blocks_place : List Block → List Block → Place
-blocks_place a b = place_behind (take (same_front a b) a) (slice_get a (same_front a b)) (slice_get b (same_front a b))
+abbrev pub whole_answer : Config → ℕ → List Numbered → List Numbered → Answer
+whole_answer c n ga gb = place_answer (place_of c n ga gb)
 
--- the first part in which two frames differ: L1, their blocks, or the cells by their addresses. Frames of one number leave at one
--- moment.
-abbrev pub place_of : RecordView → RecordView → Place
-place_of (Frame moment pre post blocks cells) (Frame moment2 pre2 post2 blocks2 cells2) =
-    if same_bits pre pre2 && same_bits post post2 then blocks_place blocks blocks2 else L1
-place_of (Frame moment pre post blocks cells) (MutedRecord moment2) = Map
-place_of (MutedRecord moment) other = Map
-
--- Two frames are the same if their records are, byte for byte.
-unfoldable pub views_answer : RecordView → RecordView → Answer
-views_answer a b = if bytes_eq (record_bytes a) (record_bytes b) then Same else Differs (place_of a b)
-
--- Bytes are a record, as it is written.
-pub record HoldsRecord (view : RecordView) (bytes : List ℕ) : Type 0 where
-  pub is : bytes ≡ record_bytes view
-  pub spells : Spells view bytes
-
--- ---- what either list has of a frame
+-- ---- what either stream has of a frame
 
 abbrev pub content_side : Content → Side
 content_side (Whole g) = side.Whole
@@ -101,19 +111,9 @@ sides_answer side.Whole side.Whole whole = Some whole
 abbrev pub record_at : ℕ → List FrameRecord → Option FrameRecord
 record_at n records = find (λ x. x.number == n) records
 
--- what two whole frames of a number are to each other
-abbrev pub whole_answer : Config → ℕ → Option FrameRecord → Option FrameRecord → Answer
-whole_answer c n None other = Same
-whole_answer c n (Some x) None = Same
-whole_answer c n (Some x) (Some y) = views_answer (content_view c n x.content) (content_view c n y.content)
-
--- by the records of a number, if there are any
-abbrev pub records_answer : Config → ℕ → Option FrameRecord → Option FrameRecord → Option Answer
-records_answer c n a b = sides_answer (side_of a) (side_of b) (whole_answer c n a b)
-
 -- ---- number by number
 
--- a frame, and what both lists have of it
+-- a frame, and what both streams have of it
 pub record Answered : Type 0 where
   pub frame : ℕ
   pub answer : Answer
@@ -121,17 +121,17 @@ pub record Answered : Type 0 where
 abbrev pub answered : ℕ → Answer → Answered
 answered n a = record { frame = n; answer = a }
 
--- frame n, if one of them has it
-abbrev pub answered_by : Config → ℕ → Option FrameRecord → Option FrameRecord → Option Answered
-answered_by c n a b = option_map (answered n) (records_answer c n a b)
+-- frame n, by the groups of both streams and by its records, if one of them has it
+abbrev pub answered_by : Config → ℕ → List Numbered → List Numbered → Option FrameRecord → Option FrameRecord → Option Answered
+answered_by c n ga gb a b = option_map (answered n) (sides_answer (side_of a) (side_of b) (whole_answer c n ga gb))
 
-abbrev pub answered_at : Config → List FrameRecord → List FrameRecord → ℕ → Option Answered
-answered_at c ra rb n = answered_by c n (record_at n ra) (record_at n rb)
+abbrev pub answered_at : Config → Frames → Frames → ℕ → Option Answered
+answered_at c a b n = answered_by c n a.groups b.groups (record_at n a.records) (record_at n b.records)
 
 -- the frames below a number, in order
-abbrev pub answers_below : Config → List FrameRecord → List FrameRecord → ℕ → List Answered
-answers_below c ra rb end = flat_map (λ n. option_to_list (answered_at c ra rb n)) (range_with_len 0 end)
+abbrev pub answers_below : Config → Frames → Frames → ℕ → List Answered
+answers_below c a b end = flat_map (λ n. option_to_list (answered_at c a b n)) (range_with_len 0 end)
 
 -- all of them
-unfoldable pub answers : Config → List FrameRecord → List FrameRecord → List Answered
-answers c ra rb = answers_below c ra rb (max (above_all ra) (above_all rb))
+unfoldable pub answers : Config → Frames → Frames → List Answered
+answers c a b = answers_below c a b (max (above_all a.records) (above_all b.records))

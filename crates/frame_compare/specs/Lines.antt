@@ -7,14 +7,13 @@ use Rattle.frame_compare.specs.Runs.{runs_of, known, counts_of}
 use Rattle.frame_compare.specs.declared.answer.Answer.{Answer}
 use Rattle.frame_compare.specs.declared.answer.Answer.TheVariants.{Same, MutedA, MutedB, MutedBoth, OnlyA, OnlyB, Differs}
 use Rattle.frame_compare.specs.declared.answer.Place.{Place}
-use Rattle.frame_compare.specs.declared.answer.Place.TheVariants.{L1, Block, Map}
+use Rattle.frame_compare.specs.declared.answer.Place.TheVariants.{L1, Block}
 use Rattle.frame_compare.specs.declared.counts.Counts.{Counts}
 use Rattle.frame_compare.specs.declared.run.Run.{Run}
 
 abbrev pub place_text : Place → List ℕ
 place_text L1 = codes "l1"
 place_text (Block plp_id number) = codes "block plp=" ++ decimal plp_id ++ codes " block=" ++ decimal number
-place_text Map = codes "map"
 
 -- the line of frames from one to another, with a word
 abbrev pub span_line : ℕ → ℕ → List ℕ → List ℕ

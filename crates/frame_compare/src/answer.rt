@@ -2,22 +2,19 @@
 ghost use Rattle.std.specs.Prelude.{◌≡◌};
 ghost use Rattle.frame_compare.specs.Runs.{kind as kind_of, is_one as is_one_by, is_same as is_same_by, is_differing as differs_by};
 
-/// Where two frames differ first, in the order of their records. Frames of one number leave at one moment, and their L1-pre is
-/// the configuration's.
+/// The first part in which two frames that both send differ.
 #[derive(Clone, Copy, Debug, PartialEq, Eq)]
 pub enum Place {
-    /// In L1 signalling.
+    /// L1 signalling.
     L1,
-    /// In a block, by its number among those of its PLP whose interleaving frame begins in the frame, counted from 0.
+    /// A block, by its number, from 0, in the interleaving frame of its PLP that the frame carries.
     Block { plp_id: u8, number: u32 },
-    /// In the cells by their addresses.
-    Map,
 }
 
 /// What two streams, A and B, have of a frame.
 #[derive(Clone, Copy, Debug, PartialEq, Eq)]
 pub enum Answer {
-    /// Both send it, and the same.
+    /// Both send it, and the same: L1 and all blocks that it carries.
     Same,
     /// It is muted in A, and B sends it.
     MutedA,

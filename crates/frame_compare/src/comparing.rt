@@ -1,15 +1,24 @@
-// Comparing two records of a frame.
-ghost use Rattle.std.specs.Prelude.{◌≡◌, ◌≤◌, ◌==◌, ◌&&◌, length, take, slice_get, filter, bytes_eq, if◌then◌else◌};
-ghost use Rattle.site_frame.specs.Reading.{Gives};
-ghost use Rattle.site_frame.specs.declared.reading.RecordView.{RecordView};
-ghost use Rattle.frame_compare.specs.Comparing.{same_bits as same_by, same_front as same_by_front, plp_behind};
-ghost use Rattle.frame_compare.specs.Comparing.{blocks_place as place_of_blocks, place_of, views_answer, HoldsRecord, sides_answer};
-ghost use Rattle.frame_compare.specs.declared.answer.Answer.{Answer};
-ghost use Rattle.frame_compare.specs.declared.answer.Side.TheVariants.{Whole};
+// Comparing what two streams have of a frame.
+ghost use Rattle.std.specs.Prelude.{◌≡◌, ◌<◌, ◌≤◌, ◌+◌, ℕ, List, [], bytes_eq, length, slice_index_or};
+ghost use Rattle.std.specs.Prelude.{Option, Some, None, IfSome, option_map};
+ghost use Rattle.std.specs.Option.{option_copied};
+ghost use Rattle.frame_groups.specs.Modulated.{Numbered};
+ghost use Rattle.linked_pool.specs.Pool.{list_at};
+ghost use Rattle.frame_compare.specs.Comparing.{same_bits as same_by, first_other as first_other_by, block_place as block_place_by};
+ghost use Rattle.frame_compare.specs.Comparing.{place_answer as answer_at, sides_answer};
+ghost use Rattle.frame_compare.specs.StandsFor.{lists_in, blocks_in, Brings, NothingBetween, IsOther};
 
 use crate::answer::{Answer, Place, Side};
-use bit_slice::{BitSlice, same_bits};
-use site_frame::{Blocks, RecordView, read_record, reading_law};
+use bit_slice::{BitSlice, OutOfMemory, same_bits};
+use linked_pool::{BlockRef, Pool};
+use plp_config::{Plan, interleaving_law};
+use std::alloc::Global;
+
+/// Of each PLP, the first baseband frame of its interleaving frame under way that two streams do not have the same.
+#[derive(Drop)]
+pub struct Carried {
+    others: Vec<Option<u32>>,
+}
 
 // Whether two runs of bits are the same.
 fn same(a: &BitSlice<'_>, b: &BitSlice<'_>) -> bool
@@ -18,148 +27,195 @@ fn same(a: &BitSlice<'_>, b: &BitSlice<'_>) -> bool
     same_bits(a, b)
 }
 
-// Whether two blocks are the same.
-fn same_block(plp_id: u8, bytes: &[u8], other_id: u8, other: &[u8]) -> bool
-    ensures { result ≡ ((plp_id == other_id) && bytes_eq bytes.now other.now) }
+// Whether two blocks are the same. The pieces of blocks of one length have the same lengths.
+fn same_block(a: &BlockRef<'_>, b: &BlockRef<'_>) -> bool
+    ensures { result ≡ bytes_eq a.now b.now }
 {
-    plp_id == other_id && bytes == other
-}
-
-// How many blocks at the front are the same in both.
-fn same_front(a: &Blocks<'_>, b: &Blocks<'_>) -> u32
-    ensures { result ≡ same_by_front a.now b.now }
-{
-    let mut blocks = a.iter();
-    let mut others = b.iter();
-    for place in 0..a.len() {
-        let Some((plp_id, block)) = blocks.next() else {
-            return place;
+    if a.len() != b.len() {
+        return false;
+    }
+    let mut left = a.pieces();
+    let mut right = b.pieces();
+    while let Some(piece) = left.next() {
+        let Some(other) = right.next() else {
+            return false;
         };
-        let Some((other_id, other)) = others.next() else {
-            return place;
-        };
-        if !same_block(plp_id, block, other_id, other) {
-            return place;
+        if piece != other {
+            return false;
         }
     }
-    a.len()
+    true
 }
 
-// What one block adds to a count.
-fn one_if(counts: bool) -> u32
-    ensures value { result ≡ (if counts then 1 else 0) }
-    ensures few { result ≤ 1 }
+// The first place at which a list does not have the same block in two pools.
+fn first_between(a: &Pool, b: &Pool, list: u32) -> Option<u32>
+    requires first { list < length a.now.lists }
+    requires second { list < length b.now.lists }
+    ensures { result ≡ first_other_by (list_at a.now list) (list_at b.now list) }
 {
-    if counts {
-        return 1;
-    }
-    0
-}
-
-// How many of so many blocks at the front are of a PLP.
-fn plp_count(blocks: &Blocks<'_>, count: u32, plp_id: u8) -> u32
-    requires { count ≤ length blocks.now }
-    ensures { result ≡ length (filter (λ b. b.plp_id == plp_id) (take count blocks.now)) }
-{
-    let mut rest = blocks.iter();
-    let mut found = 0;
-    for _ in 0..count {
-        let Some((id, _)) = rest.next() else {
-            return found;
+    let mut blocks = a.blocks(list, 0);
+    let mut others = b.blocks(list, 0);
+    for place in 0..a.count(list) {
+        let Some(block) = blocks.next() else {
+            return None;
         };
-        found += one_if(id == plp_id);
+        let Some(other) = others.next() else {
+            return Some(place);
+        };
+        if !same_block(&block, &other) {
+            return Some(place);
+        }
     }
-    found
+    if others.next().is_some() {
+        return Some(a.count(list));
+    }
+    None
 }
 
-// The PLP of what stands in one record, or else in the other, at a place.
-fn plp_at(a: &Blocks<'_>, b: &Blocks<'_>, place: u32) -> Option<u8>
-    ensures { Gives (λ id. id) result (plp_behind (slice_get a.now place) (slice_get b.now place)) }
+// The first place of a list, if it has a block.
+fn first_place(pool: &Pool, list: u32) -> Option<u32>
+    requires { list < length pool.now.lists }
+    ensures { result ≡ first_other_by [] (list_at pool.now list) }
 {
-    match a.get(place) {
-        Some((plp_id, _)) => Some(plp_id),
-        None => match b.get(place) {
-            Some((plp_id, _)) => Some(plp_id),
-            None => None,
-        },
+    if pool.count(list) > 0 {
+        return Some(0);
     }
+    None
 }
 
-// Where the blocks of two records differ first.
-fn blocks_place(a: &Blocks<'_>, b: &Blocks<'_>) -> Place
-    ensures { result ≡ place_of_blocks a.now b.now }
-{
-    let count = same_front(a, b);
-    match plp_at(a, b, count) {
-        Some(plp_id) => Place::Block {
-            plp_id,
-            number: plp_count(a, count, plp_id),
-        },
-        None => Place::Map,
-    }
-}
-
-// Where two records differ first.
-fn place(a: &RecordView<'_>, b: &RecordView<'_>) -> Place
-    ensures { result ≡ place_of a.now b.now }
+// The first place at which a list does not have the same block in both; without a pool it has none.
+fn first_other(a: Option<&Pool>, b: Option<&Pool>, list: u32) -> Option<u32>
+    requires first { IfSome a (λ pool. list < length pool.now.lists) }
+    requires second { IfSome b (λ pool. list < length pool.now.lists) }
+    ensures { result ≡ first_other_by (blocks_in (lists_in (option_copied a.entry)) list)
+        (blocks_in (lists_in (option_copied b.entry)) list) }
 {
     match (a, b) {
-        (
-            RecordView::Frame {
-                pre,
-                post,
-                blocks,
-                ..
-            },
-            RecordView::Frame {
-                pre: other_pre,
-                post: other_post,
-                blocks: others,
-                ..
-            },
-        ) => {
-            if same(pre, other_pre) && same(post, other_post) {
-                return blocks_place(blocks, others);
-            }
-            Place::L1
+        (Some(a), Some(b)) => first_between(a, b, list),
+        (Some(a), None) => first_place(a, list),
+        (None, Some(b)) => first_place(b, list),
+        (None, None) => None,
+    }
+}
+
+// What is noted for a PLP with frame `number`. If its interleaving frame began in a frame that was noted, it stays; if it began in one
+// behind those, no packet of that frame came, and both have no block.
+fn noted(
+    before: Option<u32>,
+    plan: &Plan,
+    plp: usize,
+    next: u64,
+    number: u64,
+    a: Option<&Pool>,
+    b: Option<&Pool>,
+) -> Option<u32>
+    requires inside { plp < length plan.now.plps }
+    requires forward { next ≤ number }
+    requires first { IfSome a (λ pool. length pool.now.lists ≡ length plan.now.plps) }
+    requires second { IfSome b (λ pool. length pool.now.lists ≡ length plan.now.plps) }
+    ensures { (ga gb : List Numbered) → IsOther plan.now plp next ga gb before
+        → Brings plan.now ga number (lists_in (option_copied a.entry)) → Brings plan.now gb number (lists_in (option_copied b.entry))
+        → NothingBetween ga next number → NothingBetween gb next number → IsOther plan.now plp (number + 1) ga gb result }
+{
+    interleaving_law();
+    plan.rules_law();
+    let begin = plan.begin_of(plp, number);
+    if begin == number {
+        return first_other(a, b, plp as u32);
+    }
+    if begin >= next {
+        return None;
+    }
+    before
+}
+
+// The first block that differs, by what is noted of the PLPs.
+fn block_place(others: &[Option<u32>], plan: &Plan) -> Option<Place>
+    requires { length others.now ≡ length plan.now.plps }
+    ensures { result ≡ block_place_by plan.now (λ plp. slice_index_or others.now plp None) }
+{
+    for plp in 0..others.len() {
+        if let Some(number) = others[plp] {
+            return Some(Place::Block {
+                plp_id: plan.plp_id(plp),
+                number,
+            });
         }
-        (RecordView::Frame { .. }, RecordView::Muted { .. }) => Place::Map,
-        (RecordView::Muted { .. }, _) => Place::Map,
+    }
+    None
+}
+
+impl Carried {
+    ghost use Rattle.std.specs.Prelude.{◌≡◌, ◌≤◌, ◌+◌, ℕ, List, length, IfOk, IfSome};
+    ghost use Rattle.std.specs.Option.{option_copied};
+    ghost use Rattle.frame_groups.specs.Modulated.{Numbered};
+    ghost use Rattle.held_feed.specs.Groups.{CarriesRoom};
+    ghost use Rattle.frame_compare.specs.Comparing.{dynamic_at, place_of};
+    ghost use Rattle.frame_compare.specs.StandsFor.{lists_in, Brings, NothingBetween, CarriedStandsFor, plps_in};
+
+    /// Takes the memory for a plan. No frame was noted.
+    pub fn open(alloc: Global, plan: &Plan) -> Result<Carried, OutOfMemory>
+        ensures stands { IfOk result (λ x. (ga gb : List Numbered) → CarriedStandsFor x plan.now 0 ga gb) }
+        ensures plps { IfOk result (λ x. plps_in x ≡ length plan.now.plps) }
+    {
+        let none: Option<u32> = None;
+        Ok(Carried {
+            others: vec![in alloc; none; plan.config().plps.len()]?,
+        })
+    }
+
+    /// Notes frame `number`: the blocks that came of it in both streams, a list for each PLP. `None` if no packet of it came, or if
+    /// they have no room. The frames below `next` were noted, and of those between no packet came.
+    pub fn note(&mut self, plan: &Plan, next: u64, number: u64, a: Option<&Pool>, b: Option<&Pool>)
+        requires plps { plps_in self.old ≡ length plan.now.plps }
+        requires forward { next ≤ number }
+        requires first { IfSome a (λ pool. length pool.now.lists ≡ length plan.now.plps) }
+        requires second { IfSome b (λ pool. length pool.now.lists ≡ length plan.now.plps) }
+        ensures stands { (ga gb : List Numbered) → CarriedStandsFor self.old plan.now next ga gb
+            → Brings plan.now ga number (lists_in (option_copied a.entry))
+            → Brings plan.now gb number (lists_in (option_copied b.entry))
+            → NothingBetween ga next number → NothingBetween gb next number
+            → CarriedStandsFor self.new plan.now (number + 1) ga gb }
+        ensures plps { plps_in self.new ≡ plps_in self.old }
+    {
+        for plp in 0..plan.config().plps.len() {
+            self.others[plp] = noted(self.others[plp], plan, plp, next, number, a, b);
+        }
+    }
+
+    /// Where the frame that was noted last differs first, which is frame `number`, by the dynamic parts of its L1 in both streams.
+    pub fn place(
+        &self,
+        plan: &Plan,
+        number: u64,
+        a: &BitSlice<'_>,
+        b: &BitSlice<'_>,
+    ) -> Option<Place>
+        requires plps { plps_in self.now ≡ length plan.now.plps }
+        ensures { (ga gb : List Numbered) → CarriedStandsFor self.now plan.now (number + 1) ga gb → CarriesRoom plan.now ga number
+            → CarriesRoom plan.now gb number → a.now ≡ dynamic_at ga number → b.now ≡ dynamic_at gb number
+            → result ≡ place_of plan.now number ga gb }
+    {
+        if !same(a, b) {
+            return Some(Place::L1);
+        }
+        block_place(self.others.as_slice(), plan)
     }
 }
 
-// Where two records differ first; of bytes that are none nothing is said.
-fn bytes_place(a: &[u8], b: &[u8]) -> Place
-    ensures { (v w : RecordView) → HoldsRecord v a.now → HoldsRecord w b.now → result ≡ place_of v w }
+// What two whole frames are to each other.
+fn place_answer(place: Option<Place>) -> Answer
+    ensures { result ≡ answer_at place }
 {
-    reading_law();
-    let Ok((first, _)) = read_record(a) else {
-        return Place::Map;
-    };
-    let Ok((second, _)) = read_record(b) else {
-        return Place::Map;
-    };
-    place(&first, &second)
-}
-
-/// What two whole frames are to each other, by the bytes of their records; of bytes that are none nothing is said.
-pub fn compare_records(a: &[u8], b: &[u8]) -> Answer
-    ensures { (v w : RecordView) → HoldsRecord v a.now → HoldsRecord w b.now → result ≡ views_answer v w }
-{
-    if a == b {
-        return Answer::Same;
-    }
-    Answer::Differs {
-        at: bytes_place(a, b),
+    match place {
+        Some(at) => Answer::Differs { at },
+        None => Answer::Same,
     }
 }
 
-/// What two sides of a frame are to each other, by the bytes of their records where both are whole. `None` if it is in neither.
-pub fn answer_by(a: Side, b: Side, first: &[u8], second: &[u8]) -> Option<Answer>
-    ensures { (whole : Answer)
-        → (a ≡ Whole → b ≡ Whole → (v : RecordView) × (w : RecordView) × HoldsRecord v first.now × HoldsRecord w second.now
-        × (whole ≡ views_answer v w))
-        → result ≡ sides_answer a b whole }
+/// What two sides of a frame are to each other, by where it differs first if both are whole. `None` if it is in neither.
+pub fn answer_by(a: Side, b: Side, place: Option<Place>) -> Option<Answer>
+    ensures { result ≡ sides_answer a b (answer_at place) }
 {
     match (a, b) {
         (Side::Absent, Side::Absent) => None,
@@ -168,6 +224,6 @@ pub fn answer_by(a: Side, b: Side, first: &[u8], second: &[u8]) -> Option<Answer
         (Side::Muted, Side::Muted) => Some(Answer::MutedBoth),
         (Side::Muted, Side::Whole) => Some(Answer::MutedA),
         (Side::Whole, Side::Muted) => Some(Answer::MutedB),
-        (Side::Whole, Side::Whole) => Some(compare_records(first, second)),
+        (Side::Whole, Side::Whole) => Some(place_answer(place)),
     }
 }

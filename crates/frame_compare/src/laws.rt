@@ -1,7 +1,9 @@
 // Laws of the definitions. Their functions do nothing.
-ghost use Rattle.frame_compare.specs.Laws.{AnswersGrow, KnownBegins, NoneDiffers};
+ghost use Rattle.frame_compare.specs.Laws.{AnswersGrow, KnownBegins, NoneDiffers, CarriesOwn};
 
-use feed_merge::picks_law;
+use damage_laws::{honest_law, whole_law};
+use frame_laws::{sent_law, stream_law, tests_law};
+use plp_config::interleaving_law;
 
 /// What is said of the frames of one number more.
 pub fn answers_law()
@@ -17,5 +19,17 @@ pub fn known_law()
 pub fn none_differs_law()
     ensures { NoneDiffers }
 {
-    picks_law();
+    sent_law();
+    stream_law();
+    tests_law();
+    honest_law();
+    whole_law();
+    interleaving_law();
+}
+
+/// If every interleaving frame is carried by one frame, a frame carries the blocks of its own group.
+pub fn own_law()
+    ensures { CarriesOwn }
+{
+    interleaving_law();
 }

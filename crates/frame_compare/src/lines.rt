@@ -32,7 +32,6 @@ fn place_line(at: Place) -> Line
             line.push_field(b"block plp=", u64::from(plp_id));
             line.push_field(b" block=", u64::from(number));
         }
-        Place::Map => line.push(b"map"),
     }
     line
 }
