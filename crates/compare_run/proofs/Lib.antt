@@ -1,9 +1,9 @@
 pub mod BeginLemmas
 pub mod LawLemmas
-pub mod OldLemmas
 pub mod RunLemmas
 pub mod ShownLemmas
 pub mod SplitLemmas
 pub mod StepLemmas
 pub mod TakeLemmas
 pub mod WantLemmas
+pub mod NoteLemmas

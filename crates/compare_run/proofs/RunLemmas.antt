@@ -4,43 +4,42 @@ use Rattle.std.proofs.Common.{length, take, Option, Some, None, refl, ap, ap₂,
 use Rattle.std.proofs.Common.{eqb-true}
 use Rattle.std.specs.Prelude.{Err, slice_index}
 use Rattle.std.proofs.lemmas.Bool.{true≢false, eqb-false}
-use Rattle.std.proofs.lemmas.List.{take_at, take-append-le}
+use Rattle.std.proofs.lemmas.List.{take-append-le}
 use Rattle.terms.proofs.CaseLemmas.{bool_cases}
 use Rattle.desk_io.specs.Reading.{longest_file}
 use Rattle.plp_config.specs.declared.config.Config.{Config}
 use Rattle.plp_config.specs.declared.moment.TheConstants.{MOST_FRAMES}
 use Rattle.frame_groups.specs.Laws.{IsPrefix}
-use Rattle.frame_groups.specs.Modulated.{FrameRecord}
+use Rattle.frame_groups.specs.Modulated.{FrameRecord, Numbered}
 use Rattle.frame_groups.specs.declared.waiting.Waiting.{Waiting}
 use Rattle.modulator.specs.Laws.{DueFront, DueFollow}
 use Rattle.modulator.specs.StandsFor.{records_due, records_of}
 use Rattle.feed_merge.specs.Picks.{above_all}
-use Rattle.frame_feed.specs.StandsFor.{waiting_of}
-use Rattle.held_feed.specs.StandsFor.{IsFirst}
-use Rattle.frame_feed.specs.StandsFor as feed
-use Rattle.frame_feed.specs.declared.feed.FrameFeed.{FrameFeed}
+use Rattle.held_feed.specs.StandsFor.{waiting_of}
+use Rattle.held_feed.specs.Groups.{AreGroups, groups_of}
+use Rattle.held_feed.specs.StandsFor as feed
+use Rattle.held_feed.specs.declared.feed.FrameFeed.{FrameFeed}
 use Rattle.file_run.specs.Events.{Event, fed, has_ended, gave}
 use Rattle.file_run.specs.FileRun.{AreFed, IsFed}
 use Rattle.file_run.specs.Steps.{Needs, FallsShort}
-use Rattle.file_run.specs.Work.{AreWhole, IsRightAtEnd, GaveSome, DoesWork}
+use Rattle.file_run.specs.Work.{AreWhole, AreWithin, IsRightAtEnd, GaveSome, DoesWork}
 use Rattle.file_run.specs.declared.machine.Step.TheVariants.{End}
 use Rattle.file_run.specs.declared.stop.RunFault.TheVariants.{TooLong, ReadFault}
 use Rattle.file_run.specs.declared.stop.RunStop.TheVariants.{Files}
 use Rattle.file_run.proofs.StandsLemmas.{fed_since}
 use Rattle.file_run.proofs.WorkLemmas.{are_whole}
-use Rattle.merge_run.specs.MergeRun.{AreEarly, end_by}
-use Rattle.record_feeds.specs.Fed.{IsFedWith, IsBehind, NoneComes}
+use Rattle.two_feeds.specs.Fed.{AreEarly, end_by, ReadsAhead, IsFedWith, IsBehind, NoneComes}
 use Rattle.two_feeds.specs.Reading.{is_idle, fed_at}
 use Rattle.two_feeds.specs.Reading.{least_of}
-use Rattle.record_feeds.proofs.FeedLemmas.{due_of}
-use Rattle.merge_run.proofs.NumberLemmas.{above_append, below_of, nothing_above}
-use Rattle.merge_run.proofs.PickLemmas.{least_first, least_second}
-use Rattle.merge_run.proofs.FilesLemmas.{two}
-use Rattle.merge_run.proofs.SplitLemmas.{IsSplit}
-use Rattle.record_feeds.proofs.SplitLemmas.{all_given, split_at, late_waits}
-use Rattle.merge_run.proofs.StepLemmas.{Wants, First, Second, IsLate}
+use Rattle.two_feeds.proofs.FeedLemmas.{ends_at}
+use Rattle.two_feeds.proofs.NumberLemmas.{above_append, below_of, nothing_above}
+use Rattle.two_feeds.proofs.LeastLemmas.{least_first, least_second}
+use Rattle.two_feeds.proofs.FilesLemmas.{two}
+use Rattle.two_feeds.proofs.SplitLemmas.{IsSplit}
+use Rattle.two_feeds.proofs.SplitLemmas.{all_given, split_at, late_waits}
+use Rattle.two_feeds.proofs.StepLemmas.{Wants, First, Second, IsLate}
 use Rattle.frame_compare.specs.Comparing.{Answered, answers, answers_below}
-use Rattle.frame_compare.specs.Laws.{KnownBegins}
+use Rattle.frame_compare.specs.Laws.{KnownBegins, frames_by}
 use Rattle.frame_compare.specs.Lines.{known_text, text_of}
 use Rattle.frame_compare.specs.Runs.{counts_of}
 use Rattle.frame_compare.specs.StandsFor.{counts_in}
@@ -50,8 +49,8 @@ use Rattle.frame_compare.proofs.LineLemmas.{nothing_told, known_front}
 use Rattle.compare_run.specs.AsMachine.{Becomes, ending_by, ending_in, ending_of}
 use Rattle.compare_run.specs.CompareRun.{compared_below, compared_of, HaveRecords, AreAlike, AreOther, HasNone}
 use Rattle.compare_run.specs.CompareRun.{IsKnownBelow, HasLate, HasSaid, MaySay, HasSome}
-use Rattle.compare_run.specs.CompareWork.{compare_work}
-use Rattle.compare_run.specs.Shown.{Shown, text_in}
+use Rattle.compare_run.specs.CompareRun.{compare_work, HasRead}
+use Rattle.compare_run.specs.Shown.{Shown, IsTold, text_in}
 use Rattle.compare_run.specs.Steps.{step_of, reach_of}
 use Rattle.compare_run.specs.declared.comparing.Comparing.{Comparing}
 use Rattle.compare_run.specs.declared.machine.CompareMachine.{CompareMachine}
@@ -68,14 +67,28 @@ module _ (front : DueFront) (follow : DueFollow) (law : KnownBegins) (c : Config
   abbrev gb : List FrameRecord
   gb = s.given_b
 
+  -- the groups of both files
+  abbrev groups_a : List Numbered
+  groups_a = groups_of c (files 0)
+
+  abbrev groups_b : List Numbered
+  groups_b = groups_of c (files 1)
+
   abbrev told : List Answered
-  told = answers c ga gb
+  told = answers c (frames_by ga groups_a) (frames_by gb groups_b)
 
   fed_a : IsFed (files 0) (slice_index places 0) (fed 0 events) (has_ended 0 events)
   fed_a = are 0 (omega arith)
 
   fed_b : IsFed (files 1) (slice_index places 1) (fed 1 events) (has_ended 1 events)
   fed_b = are 1 (omega arith)
+
+  groups_fed : (file : List ℕ) (place : ℕ) (bytes : List ℕ) (ended : Bool) → IsFed file place bytes ended
+      → AreGroups c bytes ended (groups_of c file)
+  groups_fed file place bytes ended f = record { more = f.more; none = f.end; are = ap (groups_of c) f.parts }
+
+  is_told : IsTold c m ga gb (gave events) groups_a groups_b
+  is_told = s.told groups_a groups_b (groups_fed (files 0) _ _ _ fed_a) (groups_fed (files 1) _ _ _ fed_b)
 
   above_a : above_all ga ≤ m.next
   above_a = let n = s.next_is in omega (arith, n)
@@ -94,14 +107,14 @@ module _ (front : DueFront) (follow : DueFollow) (law : KnownBegins) (c : Config
   told_is n le x y =
       let p = split_a n x in
       let q = split_b n y in
-      ap₂ (λ (ra rb : List FrameRecord). answers_below c ra rb n) p.all q.all
-      ∙ answers_split c ga p.after gb q.after n (let a = above_a in omega (arith, a, le)) (let b = above_b in omega (arith, b, le))
+      ap₂ (λ (ra rb : List FrameRecord). answers_below c (frames_by ra groups_a) (frames_by rb groups_b) n) p.all q.all
+      ∙ answers_split c groups_a groups_b ga p.after gb q.after n (let a = above_a in omega (arith, a, le)) (let b = above_b in omega (arith, b, le))
       p.from q.from
 
   -- so the lines that are known by these were said
   known_below : (n : ℕ) → m.next ≤ n → IsBehind n m.a ga → IsBehind n m.b gb → m.done ≡ false → IsKnownBelow c files n (gave events)
   known_below n le x y going =
-      s.said ∙ ap (λ (d : Bool). text_in d told) going ∙ ap known_text (sym (told_is n le x y))
+      is_told.said_is ∙ ap (λ (d : Bool). text_in d told) going ∙ ap known_text (sym (told_is n le x y))
 
   -- ---- all was given
 
@@ -114,10 +127,10 @@ module _ (front : DueFront) (follow : DueFollow) (law : KnownBegins) (c : Config
   told_all : m.done ≡ true → compared_of c files ≡ told
   told_all done =
       let none = s.over done in
-      ap₂ (λ (ra rb : List FrameRecord). answers c ra rb) (all_a none.0) (all_b none.1)
+      ap₂ (λ (ra rb : List FrameRecord). answers c (frames_by ra groups_a) (frames_by rb groups_b)) (all_a none.0) (all_b none.1)
 
   said_all : m.done ≡ true → gave events ≡ text_of (compared_of c files)
-  said_all done = s.said ∙ ap (λ (d : Bool). text_in d told) done ∙ ap text_of (sym (told_all done))
+  said_all done = is_told.said_is ∙ ap (λ (d : Bool). text_in d told) done ∙ ap text_of (sym (told_all done))
 
   early_all : m.done ≡ true → (input : ℕ) → input < 2 → AreEarly (records_of c (files input))
   early_all done =
@@ -149,7 +162,7 @@ module _ (front : DueFront) (follow : DueFollow) (law : KnownBegins) (c : Config
           go (x ∷ xs) ys is y = inl (λ none. absurd (let e = ap length (sym (all_a (s.over done).0 ∙ is) ∙ none) in omega (arith, e)))
 
   counts_all : m.done ≡ true → counts_in m.tally ≡ counts_of (compared_of c files)
-  counts_all done = s.tallied.counts ∙ ap counts_of (sym (told_all done))
+  counts_all done = is_told.tallied.counts ∙ ap counts_of (sym (told_all done))
 
   are_alike : m.done ≡ true → (m.next == 0) ≡ false → (counts_in m.tally).first ≡ None → AreAlike c files (counts_in m.tally) (gave events)
   are_alike done some none = record {
@@ -175,10 +188,11 @@ module _ (front : DueFront) (follow : DueFollow) (law : KnownBegins) (c : Config
       let a : ga ≡ [] = nothing_above ga (omega (arith, n, z)) in
       let b : gb ≡ [] = nothing_above gb (omega (arith, n, z)) in
       let nothing : told ≡ [] =
-      ap₂ (λ (ra rb : List FrameRecord). answers c ra rb) a b ∙ answers_nothing c in
+      ap₂ (λ (ra rb : List FrameRecord). answers c (frames_by ra groups_a) (frames_by rb groups_b)) a b
+      ∙ answers_nothing c groups_a groups_b in
       record {
         none = two (λ (input : ℕ). records_of c (files input) ≡ []) (all_a none.0 ∙ a) (all_b none.1 ∙ b);
-        empty = s.said ∙ ap (λ (d : Bool). text_in d told) done ∙ ap text_of nothing ∙ nothing_told;
+        empty = is_told.said_is ∙ ap (λ (d : Bool). text_in d told) done ∙ ap text_of nothing ∙ nothing_told;
       }
 
   -- ---- a late record waits
@@ -219,47 +233,24 @@ module _ (front : DueFront) (follow : DueFollow) (law : KnownBegins) (c : Config
 
   -- ---- an input is wanted
 
-  -- the bytes that were taken of a file
-  abbrev EndsAt : ℕ → Type 0
-  EndsAt input = (taken : ℕ) → taken ≡ length (fed input events) → end_by c (files input) taken ≡ m.next
-
-  -- all that is due was given
-  due_given : (f : FrameFeed) (bytes : List ℕ) (ended : Bool) (given : List FrameRecord) → waiting_of f ≡ None → feed.has_ended f ≡ false
-      → IsFedWith c f bytes ended given → records_due c false bytes ≡ given
-  due_given f bytes ended given none going h =
-      let d = due_of c f bytes ended given h in
-      let later : d.later ≡ [] = subst (λ (o : Option Waiting). IsFirst o d.later) none d.first in
-      ap (λ (e : Bool). records_due c e bytes) (sym going ∙ h.stands.end) ∙ d.all ∙ ap (λ (l : List FrameRecord). given ++ l) later
-      ∙ append-nil given
-
-  ends_at : (input : ℕ) (f : FrameFeed) (given : List FrameRecord) (place : ℕ)
-      → IsFed (files input) place (fed input events) (has_ended input events)
-      → IsFedWith c f (fed input events) (has_ended input events) given → IsBehind m.next f given → above_all given ≤ m.next
-      → waiting_of f ≡ None → feed.has_ended f ≡ false → EndsAt input
-  ends_at input f given place taken h b above none going = λ count is.
-      let low = b.idle none going in
-      let same : above_all given ≡ m.next = omega (arith, low, above) in
-      ap (λ (k : ℕ). above_all (records_due c false (take k (files input)))) is
-      ∙ ap (λ (l : List ℕ). above_all (records_due c false l))
-      (ap (take (length (fed input events))) taken.parts ∙ take_at (fed input events) taken.more (length (fed input events)) refl)
-      ∙ ap above_all (due_given f (fed input events) (has_ended input events) given none going h) ∙ same
-
-  has_said : (input taken : ℕ) → Wants (waiting_of m.a) (feed.has_ended m.a) (waiting_of m.b) (feed.has_ended m.b) input
-      → m.done ≡ false → taken ≡ length (fed input events) → HasSaid c input taken files (gave events)
-  has_said input taken wants going is = by (end input wants taken is)
+  -- the records that are due by what was taken of the input that is wanted are those up to the next number
+  ends_next : (input taken : ℕ) → Wants (waiting_of m.a) (feed.has_ended m.a) (waiting_of m.b) (feed.has_ended m.b) input
+      → taken ≡ length (fed input events) → end_by c (files input) taken ≡ m.next
+  ends_next input taken wants is = ap (end_by c (files input)) is ∙ end input wants
     where
-      end : (input : ℕ) → Wants (waiting_of m.a) (feed.has_ended m.a) (waiting_of m.b) (feed.has_ended m.b) input → EndsAt input
-      end input (First at idle) = subst EndsAt at
-          (ends_at 0 m.a ga _ fed_a s.of_a s.behind_a above_a idle.none idle.going)
-      end input (Second at idle) = subst EndsAt at
-          (ends_at 1 m.b gb _ fed_b s.of_b s.behind_b above_b idle.none idle.going)
+      end : (input : ℕ) → Wants (waiting_of m.a) (feed.has_ended m.a) (waiting_of m.b) (feed.has_ended m.b) input
+          → end_by c (files input) (length (fed input events)) ≡ m.next
+      end input (First at idle) = subst (λ (i : ℕ). end_by c (files i) (length (fed i events)) ≡ m.next) at
+          (ends_at c m.next (files 0) _ m.a _ _ ga fed_a s.of_a s.behind_a above_a idle.none idle.going)
+      end input (Second at idle) = subst (λ (i : ℕ). end_by c (files i) (length (fed i events)) ≡ m.next) at
+          (ends_at c m.next (files 1) _ m.b _ _ gb fed_b s.of_b s.behind_b above_b idle.none idle.going)
 
-      by : end_by c (files input) taken ≡ m.next → HasSaid c input taken files (gave events)
-      by same = record {
-        early = (let e = s.early in omega (arith, same, e));
-        is = subst (λ (n : ℕ). IsKnownBelow c files n (gave events)) (sym same)
-            (known_below m.next (omega arith) s.behind_a s.behind_b going);
-      }
+  has_said : (input taken : ℕ) → m.done ≡ false → end_by c (files input) taken ≡ m.next → HasSaid c input taken files (gave events)
+  has_said input taken going same = record {
+    early = (let e = s.early in omega (arith, same, e));
+    is = subst (λ (n : ℕ). IsKnownBelow c files n (gave events)) (sym same)
+        (known_below m.next (omega arith) s.behind_a s.behind_b going);
+  }
 
   -- ---- some were said
 
@@ -274,13 +265,13 @@ module _ (front : DueFront) (follow : DueFollow) (law : KnownBegins) (c : Config
       going off =
           let e = s.early in
           let sum : m.next + (MOST_FRAMES - m.next) ≡ MOST_FRAMES = omega (arith, e) in
-          let p = answers_front c (records_of c (files 0)) (records_of c (files 1)) m.next (MOST_FRAMES - m.next) in
+          let p = answers_front c groups_a groups_b (records_of c (files 0)) (records_of c (files 1)) m.next (MOST_FRAMES - m.next) in
           let all : compared_below c files MOST_FRAMES ≡ told ++ p.0 =
           ap (compared_below c files) (sym sum) ∙ p.1
           ∙ ap (λ (l : List Answered). l ++ p.0) (told_is m.next (omega arith) s.behind_a s.behind_b) in
           let k = known_front told p.0 in (
             k.0,
-            inr (ap (λ (l : List ℕ). l ++ k.0) (s.said ∙ ap (λ (d : Bool). text_in d told) off) ∙ sym k.1 ∙ ap known_text (sym all)),
+            inr (ap (λ (l : List ℕ). l ++ k.0) (is_told.said_is ∙ ap (λ (d : Bool). text_in d told) off) ∙ sym k.1 ∙ ap known_text (sym all)),
           )
 
   -- ---- how far the inputs were read
@@ -290,12 +281,12 @@ module _ (front : DueFront) (follow : DueFollow) (law : KnownBegins) (c : Config
   said_since end le =
       let early = s.early in
       let sum : end + (m.next - end) ≡ m.next = omega (arith, le) in
-      let p = answers_front c (records_of c (files 0)) (records_of c (files 1)) end (m.next - end) in
+      let p = answers_front c groups_a groups_b (records_of c (files 0)) (records_of c (files 1)) end (m.next - end) in
       let all : told ≡ compared_below c files end ++ p.0 =
       sym (told_is m.next (omega arith) s.behind_a s.behind_b) ∙ ap (compared_below c files) (sym sum) ∙ p.1 in
       let k = begins m.done (compared_below c files end) p.0 in (
         omega (arith, le, early),
-        (k.0, s.said ∙ ap (λ (l : List Answered). text_in m.done l) all ∙ k.1),
+        (k.0, is_told.said_is ∙ ap (λ (l : List Answered). text_in m.done l) all ∙ k.1),
       )
     where
       begins : (done : Bool) (xs ys : List Answered) → IsPrefix (known_text xs) (text_in done (xs ++ ys))
@@ -328,11 +319,30 @@ module _ (front : DueFront) (follow : DueFollow) (law : KnownBegins) (c : Config
   fed_count input lt = two (λ (input : ℕ). fed_at (feed.fed_of m.a) (feed.fed_of m.b) input ≡ length (fed input events))
       s.of_a.stands.count s.of_b.stands.count input lt
 
+  -- no input was read further than by what is read ahead
+  reads_ahead : (n : ℕ) → m.next ≤ n → AreWithin 2 places (reach_of m) → ReadsAhead c n files places
+  reads_ahead n le near input taken lt less =
+      let within = near input lt in
+      let count = fed_count input lt in
+      let d = ends_before input taken lt (omega (arith, less, within, count)) in
+      omega (arith, d, le)
+
+  -- so it is when an input is to be read on
+  has_read : (input taken : ℕ) → Wants (waiting_of m.a) (feed.has_ended m.a) (waiting_of m.b) (feed.has_ended m.b) input
+      → m.done ≡ false → taken ≡ length (fed input events) → AreWithin 2 places (reach_of m)
+      → HasRead c input taken files places (gave events)
+  has_read input taken wants going is near =
+      let same = ends_next input taken wants is in
+      record {
+        said = has_said input taken going same;
+        ahead = reads_ahead (end_by c (files input) taken) (omega (arith, same)) near;
+      }
+
 -- ---- what the machine does
 
 module _ (front : DueFront) (follow : DueFollow) (law : KnownBegins) (start now : CompareMachine) (files : ℕ → List ℕ)
     (places : List ℕ) (events : List Event) (all : length places ≡ 2) (are : AreFed 2 files places events)
-    (s : Shown start.comparing.plan.now events now.comparing) where
+    (within : AreWithin 2 places (reach_of now.comparing)) (s : Shown start.comparing.plan.now events now.comparing) where
   abbrev k : Config
   k = start.comparing.plan.now
 
@@ -352,8 +362,10 @@ module _ (front : DueFront) (follow : DueFollow) (law : KnownBegins) (start now 
 
   ends_in : (done : Bool) → now.comparing.done ≡ done → step_of now.comparing ≡ End
       → IsRightAtEnd (compare_work k) files places (gave events) (ending_in done now.comparing.next (counts_in now.comparing.tally))
-  ends_in false is end =
-      has_late front follow law k now.comparing events s files places are is (late_so now.comparing.done _ _ _ _ is end)
+  ends_in false is end = (
+    has_late front follow law k now.comparing events s files places are is (late_so now.comparing.done _ _ _ _ is end),
+    reads_ahead front follow law k now.comparing events s files places are MOST_FRAMES s.early within,
+  )
   ends_in true is end =
       bool_cases (now.comparing.next == 0)
       (λ none. rw none (whole is, has_none front follow law k now.comparing events s files places are is none))
@@ -371,7 +383,7 @@ module _ (front : DueFront) (follow : DueFollow) (law : KnownBegins) (start now 
         taken = length (fed input events);
         near = omega (arith, few, most);
         within = omega (arith, ahead, most);
-        has = has_said front follow law k now.comparing events s files places are input (length (fed input events)) w.wants w.going refl;
+        has = has_read front follow law k now.comparing events s files places are input (length (fed input events)) w.wants w.going refl within;
       }
 
   unread : (input : ℕ) → input < 2
@@ -382,8 +394,8 @@ module _ (front : DueFront) (follow : DueFollow) (law : KnownBegins) (start now 
       (feed.has_ended now.comparing.b) input _ wants in
       let none = w.few in
       let ahead = (are input lt).ahead in
-      has_said front follow law k now.comparing events s files places are input (slice_index places input) w.wants w.going
-      (omega (arith, ahead, none))
+      has_read front follow law k now.comparing events s files places are input (slice_index places input) w.wants w.going
+      (omega (arith, ahead, none)) within
 
 unsaid : DueFront → DueFollow → KnownBegins → (start now : CompareMachine) (files : ℕ → List ℕ) (places : List ℕ) (events : List Event)
     (bytes : List ℕ) → AreFed 2 files places events
@@ -414,11 +426,11 @@ unsaid front follow law start now files places events bytes are g =
 pub compare_does : DueFront → DueFollow → KnownBegins → (start : CompareMachine) → DoesWork (compare_work start.comparing.plan.now) 2
     (λ m. reach_of m.comparing) (λ m. step_of m.comparing) (Becomes start) ending_of
 compare_does front follow law start = record {
-  ends = λ files places events now all are came end.
-      ends_in front follow law start now files places events all are came now.comparing.done refl end;
-  too_long = λ files places events now input all are came lt most wants.
-      too_long front follow law start now files places events all are came input lt most wants;
-  unread = λ files places events now input all are came lt wants.
-      unread front follow law start now files places events all are came input lt wants;
+  ends = λ files places events now all are within came end.
+      ends_in front follow law start now files places events all are within came now.comparing.done refl end;
+  too_long = λ files places events now input all are within came lt most wants.
+      too_long front follow law start now files places events all are within came input lt most wants;
+  unread = λ files places events now input all are within came lt wants.
+      unread front follow law start now files places events all are within came input lt wants;
   unwritten = λ files places events now bytes all are g. unsaid front follow law start now files places events bytes are g;
 }

@@ -6,10 +6,11 @@ use Rattle.std.proofs.lemmas.List.Concat.{flat_map-append}
 use Rattle.terms.proofs.RangeLemmas.{range_append, flat_same}
 use Rattle.plp_config.specs.declared.config.Config.{Config}
 use Rattle.frame_groups.specs.Laws.{IsPrefix}
-use Rattle.frame_groups.specs.Modulated.{FrameRecord}
+use Rattle.frame_groups.specs.Modulated.{FrameRecord, Numbered}
 use Rattle.feed_merge.specs.Picks.{above_all}
-use Rattle.merge_run.proofs.NumberLemmas.{AllFrom, below_of}
+use Rattle.two_feeds.proofs.NumberLemmas.{AllFrom, below_of}
 use Rattle.frame_compare.specs.Comparing.{record_at, answers_below, answers}
+use Rattle.frame_compare.specs.Laws.{frames_by}
 use Rattle.frame_compare.proofs.GrowLemmas.{at_front, listed, listed_same, all_below}
 
 none_above : (n m : ℕ) (records : List FrameRecord) → AllFrom n records → m < n → record_at m records ≡ None
@@ -19,18 +20,19 @@ none_above n m (x ∷ records) h l =
     rw (ne_eqb x.number m (λ e. absurd (omega (arith, e, above, l)))) (none_above n m records h.1 l)
 
 -- what is said of the frames below a greater number begins with what is said of those below a number
-pub answers_front : (c : Config) (ra rb : List FrameRecord) (n more : ℕ)
-    → IsPrefix (answers_below c ra rb n) (answers_below c ra rb (n + more))
-answers_front c ra rb n more = (
-  flat_map (listed c ra rb) (range_with_len (0 + n) more),
-  ap (flat_map (listed c ra rb)) (range_append 0 n more)
-      ∙ flat_map-append (listed c ra rb) (range_with_len 0 n) (range_with_len (0 + n) more),
-)
+module _ (c : Config) (ga gb : List Numbered) where
+  pub answers_front : (ra rb : List FrameRecord) (n more : ℕ)
+      → IsPrefix (answers_below c (frames_by ra ga) (frames_by rb gb) n) (answers_below c (frames_by ra ga) (frames_by rb gb) (n + more))
+  answers_front ra rb n more = (
+    flat_map (listed c ga gb ra rb) (range_with_len (0 + n) more),
+    ap (flat_map (listed c ga gb ra rb)) (range_append 0 n more)
+        ∙ flat_map-append (listed c ga gb ra rb) (range_with_len 0 n) (range_with_len (0 + n) more),
+  )
 
-pub answers_split : (c : Config) (ga la gb lb : List FrameRecord) (n : ℕ) → above_all ga ≤ n → above_all gb ≤ n → AllFrom n la
-    → AllFrom n lb → answers_below c (ga ++ la) (gb ++ lb) n ≡ answers c ga gb
-answers_split c ga la gb lb n a b x y =
-    flat_same (listed c (ga ++ la) (gb ++ lb)) (listed c ga gb) 0 n
-    (λ k le lt. listed_same c k (ga ++ la) (gb ++ lb) ga gb (at_front k ga la (none_above n k la x (omega (arith, lt))))
-    (at_front k gb lb (none_above n k lb y (omega (arith, lt)))))
-    ∙ sym (all_below c ga gb n (below_of n ga a) (below_of n gb b))
+  pub answers_split : (ra la rb lb : List FrameRecord) (n : ℕ) → above_all ra ≤ n → above_all rb ≤ n → AllFrom n la → AllFrom n lb
+      → answers_below c (frames_by (ra ++ la) ga) (frames_by (rb ++ lb) gb) n ≡ answers c (frames_by ra ga) (frames_by rb gb)
+  answers_split ra la rb lb n a b x y =
+      flat_same (listed c ga gb (ra ++ la) (rb ++ lb)) (listed c ga gb ra rb) 0 n
+      (λ k le lt. listed_same c ga gb k (ra ++ la) (rb ++ lb) ra rb (at_front k ra la (none_above n k la x (omega (arith, lt))))
+      (at_front k rb lb (none_above n k lb y (omega (arith, lt)))))
+      ∙ sym (all_below c ga gb ra rb n (below_of n ra a) (below_of n rb b))

@@ -5,9 +5,7 @@ use Rattle.frame_groups.specs.declared.waiting.Waiting.{Waiting}
 use Rattle.file_run.specs.Steps.{Needs, Suffices, FallsShort}
 use Rattle.file_run.specs.declared.machine.Step.TheVariants.{Give, End}
 use Rattle.two_feeds.specs.Reading.{step_by}
-use Rattle.merge_run.specs.declared.phase.Phase.TheVariants.{Reads}
-use Rattle.merge_run.proofs.StepLemmas.{Wants, GoesOn, goes_on, IsLate, is_late}
-use Rattle.merge_run.proofs.StepLemmas as merge
+use Rattle.two_feeds.proofs.StepLemmas.{Wants, GoesOn, goes_on, IsLate, is_late, needs_by, short_by, suffices_by}
 
 -- What is wanted: so many bytes of an input.
 pub record WantsSo (done : Bool) (v : Option Waiting) (e : Bool) (w : Option Waiting) (f : Bool) (input : ℕ) (Few : Type 0) : Type 0 where
@@ -19,19 +17,19 @@ pub needs_so : (done : Bool) (v : Option Waiting) (e : Bool) (w : Option Waiting
     → Needs (cond done End (step_by v e w f)) input count → WantsSo done v e w f input (count ≤ 1)
 needs_so true v e w f input count h = absurd h
 needs_so false v e w f input count h =
-    let n = merge.needs_at Reads v e w f input count h in record { going = refl; wants = n.wants; few = n.few }
+    let n = needs_by v e w f input count h in record { going = refl; wants = n.0; few = n.1 }
 
 pub short_so : (done : Bool) (v : Option Waiting) (e : Bool) (w : Option Waiting) (f : Bool) (input count : ℕ)
     → FallsShort (cond done End (step_by v e w f)) input count → WantsSo done v e w f input (count ≡ 0)
 short_so true v e w f input count h = absurd h
 short_so false v e w f input count h =
-    let n = merge.short_at Reads v e w f input count h in record { going = refl; wants = n.wants; few = n.few }
+    let n = short_by v e w f input count h in record { going = refl; wants = n.0; few = n.1 }
 
 pub suffices_so : (done : Bool) (v : Option Waiting) (e : Bool) (w : Option Waiting) (f : Bool) (input count : ℕ)
     → Suffices (cond done End (step_by v e w f)) input count → WantsSo done v e w f input (0 < count)
 suffices_so true v e w f input count h = absurd h
 suffices_so false v e w f input count h =
-    let n = merge.suffices_at Reads v e w f input count h in record { going = refl; wants = n.wants; few = n.few }
+    let n = suffices_by v e w f input count h in record { going = refl; wants = n.0; few = n.1 }
 
 -- ---- it gives
 

@@ -8,12 +8,12 @@ use Rattle.desk_io.specs.Reading.{longest_file}
 use Rattle.file_run.specs.Events.{Event, fed}
 use Rattle.file_run.specs.Steps.{IsWanted, CanBeRead}
 use Rattle.file_run.specs.declared.machine.Step.TheVariants.{Give, End}
-use Rattle.frame_feed.specs.StandsFor.{waiting_of, fed_of}
-use Rattle.frame_feed.specs.StandsFor as feed
+use Rattle.held_feed.specs.StandsFor.{waiting_of, fed_of}
+use Rattle.held_feed.specs.StandsFor as feed
 use Rattle.file_run.specs.FileRun.{read_ahead}
 use Rattle.two_feeds.specs.Reading.{is_idle, wants_of, step_at, step_by, fed_at}
 use Rattle.two_feeds.specs.Reading.{least_of}
-use Rattle.merge_run.proofs.StepLemmas.{Wants, First, Second, idle_is}
+use Rattle.two_feeds.proofs.StepLemmas.{Wants, First, Second, idle_is}
 use Rattle.compare_run.specs.Shown.{Shown}
 use Rattle.compare_run.specs.Steps.{step_of, reach_of}
 use Rattle.compare_run.specs.declared.comparing.Comparing.{Comparing}

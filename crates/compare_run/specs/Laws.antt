@@ -2,7 +2,7 @@
 use Rattle.std.specs.Prelude.{◌≡◌, ◌⊎◌, ◌<◌, ℕ, List, [], Result, Ok, Err, Some, None}
 use Rattle.plp_config.specs.declared.config.Config.{Config}
 use Rattle.modulator.specs.StandsFor.{records_of}
-use Rattle.merge_run.specs.MergeRun.{AreEarly}
+use Rattle.two_feeds.specs.Fed.{AreEarly}
 use Rattle.frame_compare.specs.Runs.{counts_of, first_differing}
 use Rattle.frame_compare.specs.declared.counts.Counts.{Counts}
 use Rattle.compare_run.specs.CompareRun.{compared_of, HaveRecords}

@@ -1,5 +1,4 @@
 pub mod CompareRun
-pub mod CompareWork
 pub mod Laws
 -- inner: no public clause cites these
 pub mod AsMachine

@@ -1,16 +1,16 @@
 -- What was done to two feeds that are compared. No public clause cites this module.
 use Rattle.std.specs.Prelude.{◌≡◌, ℕ, ◌≤◌, max, Bool, true, false, List, length}
-use Rattle.plp_config.specs.Capacity.{IsPlan}
 use Rattle.plp_config.specs.declared.config.Config.{Config}
 use Rattle.plp_config.specs.declared.moment.TheConstants.{MOST_FRAMES}
-use Rattle.frame_groups.specs.Modulated.{FrameRecord}
-use Rattle.record_laws.specs.Frames.{HasByteIds}
+use Rattle.frame_groups.specs.Modulated.{FrameRecord, Numbered}
 use Rattle.file_run.specs.Events.{Event, fed, has_ended, gave}
+use Rattle.held_feed.specs.Groups.{AreGroups}
 use Rattle.feed_merge.specs.Picks.{above_all}
-use Rattle.record_feeds.specs.Fed.{IsFedWith, IsBehind, NoneComes}
+use Rattle.two_feeds.specs.Fed.{IsFedWith, IsBehind, NoneComes}
 use Rattle.frame_compare.specs.Comparing.{Answered, answers}
 use Rattle.frame_compare.specs.Lines.{known_text, text_of}
-use Rattle.frame_compare.specs.StandsFor.{TallyStandsFor}
+use Rattle.frame_compare.specs.Laws.{frames_by}
+use Rattle.frame_compare.specs.StandsFor.{TallyStandsFor, CarriedStandsFor, plps_in}
 use Rattle.compare_run.specs.declared.comparing.Comparing.{Comparing}
 
 -- the text of some frames: what is known by them, or all
@@ -18,11 +18,17 @@ abbrev pub text_in : Bool → List Answered → List ℕ
 text_in true xs = text_of xs
 text_in false xs = known_text xs
 
+-- What was said of the frames that came is by the groups of both streams.
+pub record IsTold (c : Config) (m : Comparing) (given_a given_b : List FrameRecord) (said : List ℕ) (ga gb : List Numbered) : Type 0 where
+  pub carried : CarriedStandsFor m.carried c m.next ga gb
+  pub tallied : TallyStandsFor m.tally (answers c (frames_by given_a ga) (frames_by given_b gb))
+  pub few : length (answers c (frames_by given_a ga) (frames_by given_b gb)) ≤ m.next
+  pub said_is : said ≡ text_in m.done (answers c (frames_by given_a ga) (frames_by given_b gb))
+
 -- What was done, and where two feeds of a network are then.
 pub record Shown (c : Config) (events : List Event) (m : Comparing) : Type 0 where
   pub config : m.plan.now ≡ c
-  pub plan : IsPlan c
-  pub ids : HasByteIds c
+  pub plps : plps_in m.carried ≡ length c.plps
   pub given_a : List FrameRecord
   pub given_b : List FrameRecord
   pub of_a : IsFedWith c m.a (fed 0 events) (has_ended 0 events) given_a
@@ -31,9 +37,9 @@ pub record Shown (c : Config) (events : List Event) (m : Comparing) : Type 0 whe
   pub behind_b : IsBehind m.next m.b given_b
   pub next_is : m.next ≡ max (above_all given_a) (above_all given_b)
   pub early : m.next ≤ MOST_FRAMES
-  pub tallied : TallyStandsFor m.tally (answers c given_a given_b)
-  pub few : length (answers c given_a given_b) ≤ m.next
-  pub said : gave events ≡ text_in m.done (answers c given_a given_b)
+  -- Whatever follows in both streams, it is so by their groups.
+  pub told : (ga gb : List Numbered) → AreGroups c (fed 0 events) (has_ended 0 events) ga
+      → AreGroups c (fed 1 events) (has_ended 1 events) gb → IsTold c m given_a given_b (gave events) ga gb
   pub over : m.done ≡ true → NoneComes m.a × NoneComes m.b
 
 -- Something was done, and then they are there.

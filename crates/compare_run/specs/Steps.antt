@@ -2,8 +2,8 @@
 use Rattle.std.specs.Prelude.{ℕ, ◌+◌, if◌then◌else◌}
 use Rattle.file_run.specs.declared.machine.Step.{Step}
 use Rattle.file_run.specs.declared.machine.Step.TheVariants.{End}
-use Rattle.frame_feed.specs.StandsFor.{waiting_of, has_ended, fed_of}
-use Rattle.frame_feed.specs.StandsFor as feed
+use Rattle.held_feed.specs.StandsFor.{waiting_of, has_ended, fed_of}
+use Rattle.held_feed.specs.StandsFor as feed
 use Rattle.file_run.specs.FileRun.{read_ahead}
 use Rattle.two_feeds.specs.Reading.{step_by, fed_at}
 use Rattle.compare_run.specs.declared.comparing.Comparing.{Comparing}

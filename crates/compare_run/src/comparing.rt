@@ -1,29 +1,18 @@
 // Two feeds that are compared.
-ghost use Rattle.std.specs.Prelude.{◌≡◌, ◌<◌, ◌≤◌, ◌+◌, ◌^◌, ◌++◌, ◌∷◌, ℕ, List, [], false, Some, None, length, take, IfOk};
-ghost use Rattle.plp_config.specs.declared.config.Config.{Config};
-ghost use Rattle.plp_config.specs.declared.moment.TheConstants.{MOST_FRAMES};
-ghost use Rattle.file_run.specs.Events.{Event, Fed, Ended, Gave};
-ghost use Rattle.file_run.specs.Steps.{Suffices, FallsShort};
+ghost use Rattle.std.specs.Prelude.{◌≡◌, ◌≤◌, length, take};
 ghost use Rattle.file_run.specs.declared.machine.TheConstants.{PIECE};
-ghost use Rattle.file_run.specs.declared.machine.Step.TheVariants.{Give};
-ghost use Rattle.frame_feed.specs.StandsFor.{waiting_of, has_ended, fed_of};
 ghost use Rattle.frame_compare.specs.declared.tally.TheConstants.{LONGEST_TEXT};
-ghost use Rattle.two_feeds.specs.Reading.{is_idle as is_idle_by, fed_at};
-ghost use Rattle.two_feeds.specs.Reading.{least_of};
-ghost use Rattle.compare_run.specs.Shown.{Shown, HasShown};
-ghost use Rattle.compare_run.specs.Steps.{step_of, reach_of, left_of};
 
-use crate::taking::{is_at, side_at};
+use crate::taking::{answer_at, is_at, note};
 use bit_slice::OutOfMemory;
 use desk_io::Line;
 use file_run::{Step, events_law};
-use frame_compare::{Tally, answer_by, answers_law};
-use frame_feed::{FrameFeed, RecordBuffer};
+use frame_compare::{Carried, Tally, answers_law};
+use held_feed::FrameFeed;
 use modulator::due_records_law;
 use plp_config::Plan;
-use record_feeds::{least_number, next_step, take_left};
-use record_laws::id_law;
 use std::alloc::Global;
+use two_feeds::{least_number, next_step, skip_if};
 
 /// Two feeds of a network, and what was said of their frames.
 #[derive(Drop)]
@@ -31,9 +20,8 @@ pub struct Comparing<'p> {
     pub plan: &'p Plan,
     pub a: FrameFeed<'p>,
     pub b: FrameFeed<'p>,
-    // The records that were taken last.
-    pub first: RecordBuffer,
-    pub second: RecordBuffer,
+    // Of each PLP, where what the frame before carries differs.
+    pub carried: Carried,
     pub tally: Tally,
     // The number behind those of all records that were taken.
     pub next: u64,
@@ -54,23 +42,32 @@ fn copy_line(line: &Line, out: &mut [u8]) -> usize
 }
 
 impl<'p> Comparing<'p> {
+    ghost use Rattle.std.specs.Prelude.{◌≡◌, ◌<◌, ◌≤◌, ◌+◌, ◌^◌, ◌++◌, ◌∷◌, ℕ, List, [], false, Some, None, length, take, IfOk};
+    ghost use Rattle.plp_config.specs.declared.config.Config.{Config};
+    ghost use Rattle.plp_config.specs.declared.moment.TheConstants.{MOST_FRAMES};
+    ghost use Rattle.file_run.specs.Events.{Event, Fed, Ended, Gave};
+    ghost use Rattle.file_run.specs.Steps.{Suffices, FallsShort};
+    ghost use Rattle.file_run.specs.declared.machine.TheConstants.{PIECE};
+    ghost use Rattle.file_run.specs.declared.machine.Step.TheVariants.{Give};
+    ghost use Rattle.held_feed.specs.StandsFor.{waiting_of, has_ended, fed_of};
+    ghost use Rattle.frame_compare.specs.declared.tally.TheConstants.{LONGEST_TEXT};
+    ghost use Rattle.two_feeds.specs.Reading.{is_idle as is_idle_by, least_of, fed_at};
+    ghost use Rattle.compare_run.specs.Shown.{Shown, HasShown};
+    ghost use Rattle.compare_run.specs.Steps.{step_of, reach_of, left_of};
+
     /// Two feeds of a network to which nothing was fed, and all their memory.
     pub fn open(alloc: Global, plan: &'p Plan) -> Result<Comparing<'p>, OutOfMemory>
         ensures plan { IfOk result (λ m. m.plan.now ≡ plan.now) }
         ensures shown { IfOk result (λ m. Shown plan.now [] m) }
     {
-        plan.rules_law();
-        id_law(plan);
         let a = FrameFeed::open(alloc, plan)?;
         let b = FrameFeed::open(alloc, plan)?;
-        let first = RecordBuffer::open(alloc)?;
-        let second = RecordBuffer::open(alloc)?;
+        let carried = Carried::open(alloc, plan)?;
         Ok(Comparing {
             plan,
             a,
             b,
-            first,
-            second,
+            carried,
             tally: Tally::new(),
             next: 0,
             done: false,
@@ -120,7 +117,7 @@ impl<'p> Comparing<'p> {
         self.b.finish();
     }
 
-    // Takes the records of the least number, and says what is known by its frame.
+    // Leaves the records of the least number behind, and says what is known by its frame.
     fn compare(&mut self, number: u64) -> Line
         requires came { ∥ HasShown self.old ∥₁ }
         requires going { self.old.done ≡ false }
@@ -137,19 +134,20 @@ impl<'p> Comparing<'p> {
         events_law();
         due_records_law();
         answers_law();
-        let first_side = side_at(number, self.a.waiting());
-        let second_side = side_at(number, self.b.waiting());
+        note(
+            &mut self.carried,
+            self.plan,
+            self.next,
+            number,
+            &self.a,
+            &self.b,
+        );
+        let answer = answer_at(&self.carried, self.plan, number, &self.a, &self.b);
         let takes_first = is_at(number, self.a.waiting());
         let takes_second = is_at(number, self.b.waiting());
-        take_left(&mut self.a, takes_first, &mut self.first);
-        take_left(&mut self.b, takes_second, &mut self.second);
+        skip_if(&mut self.a, takes_first);
+        skip_if(&mut self.b, takes_second);
         self.next = number + 1;
-        let answer = answer_by(
-            first_side,
-            second_side,
-            self.first.as_bytes(),
-            self.second.as_bytes(),
-        );
         match answer {
             Some(answer) => self.tally.add(number, answer),
             None => Line::new(),

@@ -1,9 +1,8 @@
 // A comparison of two files by a plan.
-ghost use Rattle.std.specs.Prelude.{◌≡◌, [], ◌∷◌, IfOk, IfErr};
+ghost use Rattle.std.specs.Prelude.{◌≡◌, [], ◌∷◌};
 ghost use Rattle.line_run.specs.Speaking.{SpeaksOnce};
 ghost use Rattle.file_run.specs.Work.{Ends, Aloud};
-ghost use Rattle.compare_run.specs.CompareRun.{FindsAlike, Stops};
-ghost use Rattle.compare_run.specs.CompareWork.{compare_work};
+ghost use Rattle.compare_run.specs.CompareRun.{compare_work};
 
 use crate::machine::CompareMachine;
 use crate::stop::CompareStop;
@@ -45,8 +44,6 @@ pub fn run<D: Desk>(
     desk: &mut D,
 ) -> Result<Counts, RunStop<CompareStop>>
     ensures ends { Ends (compare_work plan.now) (D.state desk.old) (D.state desk.new) Aloud (a.now ∷ b.now ∷ []) result }
-    ensures ok { IfOk result (FindsAlike plan.now (D.state desk.old) (D.state desk.new) a.now b.now) }
-    ensures err { IfErr result (Stops plan.now (D.state desk.old) (D.state desk.new) a.now b.now) }
 {
     due_records_law();
     known_law();

@@ -1,11 +1,21 @@
 // What the feeds have of a frame, by the records that wait.
-ghost use Rattle.std.specs.Prelude.{◌≡◌};
+ghost use Rattle.std.specs.Prelude.{◌≡◌, ◌≤◌, ◌+◌, ◌↔◌, IsTrue, List, [], None, IfSome, length, true, false};
+ghost use Rattle.std.specs.Option.{option_copied};
+ghost use Rattle.frame_groups.specs.Modulated.{Numbered};
+ghost use Rattle.frame_tests.specs.Begun.{packets_at};
+ghost use Rattle.held_feed.specs.StandsFor.{config_of, waiting_of};
 ghost use Rattle.feed_merge.specs.Picking.{is_at as is_at_by};
-ghost use Rattle.merge_run.specs.Taking.{seen_of};
-ghost use Rattle.compare_run.specs.Taking.{side_at as side_at_by};
+ghost use Rattle.two_feeds.specs.Seen.{seen_of};
+ghost use Rattle.frame_compare.specs.Comparing.{place_of, sides_answer, whole_answer};
+ghost use Rattle.frame_compare.specs.StandsFor.{lists_in, Brings, NothingBetween, CarriedStandsFor, plps_in};
+ghost use Rattle.frame_compare.specs.declared.answer.Side.TheVariants.{Whole};
+ghost use Rattle.compare_run.specs.Taking.{side_at as side_at_by, IsOfFeed};
 
-use frame_compare::Side;
+use frame_compare::{Answer, Carried, Place, Side, answer_by};
 use frame_groups::Waiting;
+use held_feed::FrameFeed;
+use linked_pool::Pool;
+use plp_config::Plan;
 
 /// Whether the record that waits is of a frame.
 pub fn is_at(number: u64, waiting: Option<Waiting>) -> bool
@@ -17,8 +27,8 @@ pub fn is_at(number: u64, waiting: Option<Waiting>) -> bool
     }
 }
 
-/// What a feed has of a frame, by the record that waits.
-pub fn side_at(number: u64, waiting: Option<Waiting>) -> Side
+// What a feed has of a frame, by the record that waits.
+fn side_at(number: u64, waiting: Option<Waiting>) -> Side
     ensures { result ≡ side_at_by number waiting }
 {
     let Some(record) = waiting else {
@@ -31,4 +41,93 @@ pub fn side_at(number: u64, waiting: Option<Waiting>) -> Side
         return Side::Muted;
     }
     Side::Whole
+}
+
+// Whether a frame is sent.
+fn is_sent(side: Side) -> bool
+    ensures { IsTrue result ↔ (side ≡ Whole) }
+{
+    matches!(side, Side::Whole)
+}
+
+// The blocks that came of a frame, if its record waits.
+fn shown_at<'f>(feed: &'f FrameFeed<'_>, number: u64) -> Option<&'f Pool>
+    ensures brings { is_at_by number (seen_of (waiting_of feed.now)) ≡ true → (gs : List Numbered) → IsOfFeed feed.now gs
+        → Brings (config_of feed.now) gs number (lists_in (option_copied result)) }
+    ensures none { is_at_by number (seen_of (waiting_of feed.now)) ≡ false → lists_in (option_copied result) ≡ None }
+    ensures lists { IfSome result (λ pool. length pool.now.lists ≡ length (config_of feed.now).plps) }
+{
+    if !is_at(number, feed.waiting()) {
+        return None;
+    }
+    feed.blocks()
+}
+
+/// Notes what came of a frame in both feeds. Those below `next` were noted, and of those between no packet came.
+pub fn note(
+    carried: &mut Carried,
+    plan: &Plan,
+    next: u64,
+    number: u64,
+    a: &FrameFeed<'_>,
+    b: &FrameFeed<'_>,
+)
+    requires plps { plps_in carried.old ≡ length plan.now.plps }
+    requires plps_a { length (config_of a.now).plps ≡ length plan.now.plps }
+    requires plps_b { length (config_of b.now).plps ≡ length plan.now.plps }
+    requires forward { next ≤ number }
+    ensures stands { config_of a.now ≡ plan.now → config_of b.now ≡ plan.now
+        → (ga gb : List Numbered) → CarriedStandsFor carried.old plan.now next ga gb → IsOfFeed a.now ga → IsOfFeed b.now gb
+        → (is_at_by number (seen_of (waiting_of a.now)) ≡ false → packets_at ga number ≡ [])
+        → (is_at_by number (seen_of (waiting_of b.now)) ≡ false → packets_at gb number ≡ [])
+        → NothingBetween ga next number → NothingBetween gb next number
+        → CarriedStandsFor carried.new plan.now (number + 1) ga gb }
+    ensures plps { plps_in carried.new ≡ plps_in carried.old }
+{
+    let first = shown_at(a, number);
+    let second = shown_at(b, number);
+    carried.note(plan, next, number, first, second);
+}
+
+// Where a frame that both send differs first.
+fn place_at(
+    carried: &Carried,
+    plan: &Plan,
+    number: u64,
+    a: &FrameFeed<'_>,
+    b: &FrameFeed<'_>,
+) -> Option<Place>
+    requires plps { plps_in carried.now ≡ length plan.now.plps }
+    requires whole_a { side_at_by number (waiting_of a.now) ≡ Whole }
+    requires whole_b { side_at_by number (waiting_of b.now) ≡ Whole }
+    ensures { config_of a.now ≡ plan.now → config_of b.now ≡ plan.now
+        → (ga gb : List Numbered) → CarriedStandsFor carried.now plan.now (number + 1) ga gb → IsOfFeed a.now ga → IsOfFeed b.now gb
+        → result ≡ place_of plan.now number ga gb }
+{
+    let first = a.frame();
+    let second = b.frame();
+    carried.place(plan, number, &first.dynamic, &second.dynamic)
+}
+
+/// What both feeds have of a frame that was noted.
+pub fn answer_at(
+    carried: &Carried,
+    plan: &Plan,
+    number: u64,
+    a: &FrameFeed<'_>,
+    b: &FrameFeed<'_>,
+) -> Option<Answer>
+    requires plps { plps_in carried.now ≡ length plan.now.plps }
+    ensures { config_of a.now ≡ plan.now → config_of b.now ≡ plan.now
+        → (ga gb : List Numbered) → CarriedStandsFor carried.now plan.now (number + 1) ga gb → IsOfFeed a.now ga → IsOfFeed b.now gb
+        → result ≡ sides_answer (side_at_by number (waiting_of a.now)) (side_at_by number (waiting_of b.now))
+        (whole_answer plan.now number ga gb) }
+{
+    let first = side_at(number, a.waiting());
+    let second = side_at(number, b.waiting());
+    if !is_sent(first) || !is_sent(second) {
+        return answer_by(first, second, None);
+    }
+    let place = place_at(carried, plan, number, a, b);
+    answer_by(first, second, place)
 }

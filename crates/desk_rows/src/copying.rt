@@ -56,21 +56,21 @@ fn copy_over(alloc: Global, desk: &mut MemoryDesk) -> Option<Result<(), RunFault
 }
 
 fn tell_copy<D: Desk>(
-    mut reader: ReadAhead,
+    reader: &mut ReadAhead,
     page: &mut OutBuffer,
     desk: &mut D,
 ) -> Result<(), RunFault>
     requires { page.old ≡ [] }
 {
     let mut machine = CopyMachine::new();
-    tell(&mut machine, &mut reader, page, "in", desk)
+    tell(&mut machine, reader, page, "in", desk)
 }
 
 // The same aloud.
 fn tell_over(alloc: Global, desk: &mut MemoryDesk) -> Option<Result<(), RunFault>> {
-    let reader = ReadAhead::open(alloc).ok()?;
+    let mut reader = ReadAhead::open(alloc).ok()?;
     let mut page = OutBuffer::open(alloc).ok()?;
-    Some(tell_copy(reader, &mut page, desk))
+    Some(tell_copy(&mut reader, &mut page, desk))
 }
 
 // A file of so many bytes is copied.

@@ -6,12 +6,13 @@ use std::fmt::Display;
 use std::fs::{File, Files, Metadata, OpenFile, OpenOptions};
 use std::io::{self, ErrorKind, Print, Read, Seek, SeekFrom, Write};
 
-/// A file of which each call moves one byte at most, and is interrupted so often before.
+/// A file of which each call moves one byte at most, and is interrupted so often before. Behind its end it cannot be read again.
 #[derive(Drop)]
 pub struct ShortFile<F: Drop> {
     file: F,
     times: u32,
     left: u32,
+    ended: bool,
 }
 
 impl<F: Drop> ShortFile<F> {
@@ -35,8 +36,13 @@ impl<F: Read + Drop> Read for ShortFile<F> {
         if self.is_cut() {
             return Err(interrupted());
         }
+        if self.ended {
+            return Err(io::Error::from(ErrorKind::Other));
+        }
         let few = buffer.len().min(1);
-        self.file.read(&mut buffer[..few])
+        let count = self.file.read(&mut buffer[..few])?;
+        self.ended = few > 0 && count == 0;
+        Ok(count)
     }
 }
 
@@ -115,6 +121,7 @@ impl<R: Files + Print + Drop> Files for ShortFiles<R> {
             file,
             times: self.times,
             left: self.times,
+            ended: false,
         })
     }
 

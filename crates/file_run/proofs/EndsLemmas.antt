@@ -17,6 +17,11 @@ use Rattle.file_run.specs.declared.stop.RunStop.TheVariants.{Refused, Files, Out
 
 -- ---- what it leaves alone
 
+-- how many files a run creates at most
+abbrev pub creates : Sink → ℕ
+creates (Into out) = 1
+creates Aloud = 0
+
 -- No file has changed but the one that is written, which is created once at most; no more files were opened than are read; and what
 -- was said before stands.
 abbrev pub OthersOf : Sink → Option Held → Option Held → Type 0
@@ -25,7 +30,7 @@ OthersOf Aloud old new = SameFiles old new
 
 pub record LeavesAlone (old new : State) (sink : Sink) (ins : List (List ℕ)) : Type 0 where
   pub files : OthersOf sink old.held new.held
-  pub created : new.created ≤ old.created + 1
+  pub created : new.created ≤ old.created + creates sink
   pub places : List ℕ
   pub opened : new.opened ≡ old.opened ++ places
   pub few : length places ≤ length ins

@@ -1,16 +1,15 @@
 -- A run of a machine that does a work ends as one must that does it.
-use Rattle.std.proofs.Common.{◌≡◌, ℕ, ◌+◌, ◌-◌, ◌<◌, true, List, [], ◌∷◌, ◌++◌, length, Option, Some, None, refl, ap, sym, subst, ◌∙◌}
+use Rattle.std.proofs.Common.{◌≡◌, ℕ, ◌-◌, ◌<◌, true, List, [], ◌++◌, length, Option, Some, None, refl, ap, sym, subst, ◌∙◌}
 use Rattle.std.proofs.Common.{inl, inr, arith, length-append, append_assoc}
 use Rattle.std.specs.Prelude.{Result, Ok, Err, IfSome, IsSome, slice_index, slice_index_or, replicate}
 use Rattle.std.specs.FinMap.{get}
 use Rattle.std.proofs.lemmas.List.{length-replicate}
 use Rattle.std.proofs.lemmas.Option.{IfSome_then}
 use Rattle.terms.proofs.OptionLemmas.{if_both}
-use Rattle.terms.proofs.RangeLemmas.{one_listed}
-use Rattle.ports.specs.Desk.{State, Held, bytes_of}
+use Rattle.ports.specs.Desk.{State, Held}
 use Rattle.desk_io.specs.Reading.{longest_file}
 use Rattle.file_run.specs.Events.{Event, fed, has_ended, gave}
-use Rattle.file_run.specs.FileRun.{file_at, AreFed, AreTaken, Works, Writes, Stands, AllShort, Stops}
+use Rattle.file_run.specs.FileRun.{file_at, AreFed, AreTaken, Works, Stands, AllShort, Stops}
 use Rattle.file_run.specs.OneRun.{ComesToEnd, RunsOnce}
 use Rattle.file_run.specs.Work.{Work, AreWhole, Sink, Into, Passes, Does, Ends, IsRightAtEnd, DoesWork}
 use Rattle.file_run.specs.declared.machine.Step.{Step}
@@ -139,7 +138,7 @@ module _ {A R E : Type 0} (work : Work R E) (old new : State) (out : List ℕ)
       (λ files all are. (
         e.runs.short,
         same files s.places (gave s.events)
-            (subst (IsRightAtEnd work files s.places (gave s.events)) e.told_is (m.ends files s.places s.events now all are s.came e.end)),
+            (subst (IsRightAtEnd work files s.places (gave s.events)) e.told_is (m.ends files s.places s.events now all are s.within s.came e.end)),
       ))
 
   stopped : (why : RunFault) → Stops old new out ins reach next Came now why → Ends work old new (Into out) ins (Err (Files why))
@@ -149,7 +148,7 @@ module _ {A R E : Type 0} (work : Work R E) (old new : State) (out : List ℕ)
         g.place,
         does_by (λ files places bytes. (slice_index places input ≡ longest_file)
             × work files (Err (Files (TooLong input))) places bytes) s (gave s.events) (λ is h. h)
-            (λ files all are. (g.gave, m.too_long files s.places s.events now input all are s.came g.place g.gave g.wants)),
+            (λ files all are. (g.gave, m.too_long files s.places s.events now input all are s.within s.came g.place g.gave g.wants)),
       )
   stopped (ReadFault input) (counts, inl o) = (counts, inl o)
   stopped (ReadFault input) (counts, inr g) =
@@ -159,7 +158,7 @@ module _ {A R E : Type 0} (work : Work R E) (old new : State) (out : List ℕ)
           g.place,
           does_by (λ files places bytes. AllShort places × work files (Err (Files (ReadFault input))) places bytes)
               s (gave s.events) (λ is h. h)
-              (λ files all are. (g.short, m.unread files s.places s.events now input all are s.came g.place g.wants)),
+              (λ files all are. (g.short, m.unread files s.places s.events now input all are s.within s.came g.place g.wants)),
         ),
       )
   stopped WriteFault (counts, inl o) = (counts, inl o)
@@ -224,11 +223,3 @@ works_of {old = old} {new = new} {out = out} {ins = ins} Is d is = record {
         ),
       )) d.told d.passes.holds;
 }
-
--- the same of one input
-pub writes_of : {old new : State} {out name : List ℕ} {work : (ℕ → List ℕ) → List ℕ → List ℕ → Type 0}
-    (Has : List ℕ → List ℕ → Type 0) (d : Does work old new (Into out) (name ∷ [])) → Has (d.files 0) d.bytes
-    → Writes old new name out (slice_index d.places 0) Has
-writes_of {old = old} {new = new} {out = out} {name = name} Has d has =
-    subst (λ (places : List ℕ). Works old new out (name ∷ []) places (λ h bytes. Has (bytes_of h.files name) bytes))
-    (one_listed d.places d.all) (works_of (λ files bytes. Has (files 0) bytes) d has)

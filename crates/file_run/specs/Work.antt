@@ -1,5 +1,5 @@
 -- What a command does by the bytes of its files alone, and how a run over a desk ends that does it.
-use Rattle.std.specs.Prelude.{◌≡◌, ◌≢◌, ◌⊎◌, ℕ, ◌+◌, ◌-◌, ◌<◌, ◌≤◌, List, [], ◌++◌, length, slice_index, slice_index_or, Result}
+use Rattle.std.specs.Prelude.{◌≡◌, ◌≢◌, ◌⊎◌, ℕ, ◌-◌, ◌<◌, ◌≤◌, List, [], ◌++◌, length, slice_index, slice_index_or, Result}
 use Rattle.std.specs.Prelude.{Ok, Err, IsSome, IfSome}
 use Rattle.std.specs.FinMap.{get}
 use Rattle.ports.specs.Desk.{State, SameCounts}
@@ -91,6 +91,10 @@ abbrev pub IsRightAtEnd : {R E : Type 0} → Work R E → (ℕ → List ℕ) →
 IsRightAtEnd work files places bytes (Ok ran) = work files (Ok ran) places bytes
 IsRightAtEnd work files places bytes (Err why) = work files (Err (Refused why)) places bytes
 
+-- No input was read further than is the machine's reach.
+abbrev pub AreWithin : ℕ → List ℕ → (ℕ → ℕ) → Type 0
+AreWithin inputs places reach = (input : ℕ) → input < inputs → slice_index places input ≤ reach input
+
 -- It gave since the last reading, and of that a front was written, but not all.
 pub record GaveSome {A : Type 0} (reach : A → ℕ → ℕ) (next : A → Step) (Came : List Event → A → Type 0) (inputs : ℕ) (places : List ℕ)
     (events : List Event) (now : A) (bytes : List ℕ) : Type 0 where
@@ -100,7 +104,7 @@ pub record GaveSome {A : Type 0} (reach : A → ℕ → ℕ) (next : A → Step)
   pub late : List Event
   pub only : OnlyGave late
   pub came_late : Came (events ++ late) now
-  pub within : (input : ℕ) → input < inputs → slice_index places input ≤ reach mid input
+  pub within : AreWithin inputs places (reach mid)
   pub front : List ℕ
   pub is : bytes ≡ gave events ++ front
   pub more : List ℕ
@@ -112,14 +116,15 @@ pub record GaveSome {A : Type 0} (reach : A → ℕ → ℕ) (next : A → Step)
 pub record DoesWork {A R E : Type 0} (work : Work R E) (inputs : ℕ)
     (reach : A → ℕ → ℕ) (next : A → Step) (Came : List Event → A → Type 0) (ending : A → Result R E) : Type 0 where
   pub ends : (files : ℕ → List ℕ) (places : List ℕ) (events : List Event) (now : A) → length places ≡ inputs
-      → AreFed inputs files places events → Came events now → next now ≡ End
+      → AreFed inputs files places events → AreWithin inputs places (reach now) → Came events now → next now ≡ End
       → IsRightAtEnd work files places (gave events) (ending now)
   pub too_long : (files : ℕ → List ℕ) (places : List ℕ) (events : List Event) (now : A) (input : ℕ) → length places ≡ inputs
-      → AreFed inputs files places events → Came events now → input < inputs → slice_index places input ≡ longest_file
+      → AreFed inputs files places events → AreWithin inputs places (reach now) → Came events now → input < inputs
+      → slice_index places input ≡ longest_file
       → Needs (next now) input (slice_index places input - length (fed input events))
       → work files (Err (Files (TooLong input))) places (gave events)
   pub unread : (files : ℕ → List ℕ) (places : List ℕ) (events : List Event) (now : A) (input : ℕ) → length places ≡ inputs
-      → AreFed inputs files places events → Came events now → input < inputs
+      → AreFed inputs files places events → AreWithin inputs places (reach now) → Came events now → input < inputs
       → FallsShort (next now) input (slice_index places input - length (fed input events))
       → work files (Err (Files (ReadFault input))) places (gave events)
   pub unwritten : (files : ℕ → List ℕ) (places : List ℕ) (events : List Event) (now : A) (bytes : List ℕ) → length places ≡ inputs

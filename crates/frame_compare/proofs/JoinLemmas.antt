@@ -62,13 +62,13 @@ own_survive all c sent survival n len w =
     ap packets_of (all c sent survival n (λ s. s.frame == n) len w (own_carried c n))
 
 -- no group is there before the first
-none_met : (n : ℕ) (survivors : List Sent) → AreMet n n survivors []
-none_met n survivors = record { there = λ b low high. absurd (omega (arith, low, high)); none = λ b l. refl }
+met_first : (n : ℕ) (survivors : List Sent) → AreMet n n survivors []
+met_first n survivors = record { there = λ b low high. absurd (omega (arith, low, high)); none = λ b l. refl }
 
 -- a fault is no number
-no_number : (n : ℕ) (fault : Option MuteCause) → is_some fault ≡ true → unless_fault n fault ≡ None
-no_number n None e = absurd (true≢false (sym e))
-no_number n (Some cause) e = refl
+none_with : (n : ℕ) (fault : Option MuteCause) → is_some fault ≡ true → unless_fault n fault ≡ None
+none_with n None e = absurd (true≢false (sym e))
+none_with n (Some cause) e = refl
 
 module _ (all : WholeIsAll) (c : Config) (count : ℕ) (sent : List Sent) (survival : List Bool) (len : length survival ≡ length sent)
     (some : (n : ℕ) → n < count → frame_packets n sent ≢ []) (meet : RulesMeet (rules c) count sent survival) where
@@ -98,7 +98,7 @@ module _ (all : WholeIsAll) (c : Config) (count : ℕ) (sent : List Sent) (survi
       ∙ ap (passing (rules c) g) (meet.names n l begins parts.0)
       ∙ ap (unless_fault n)
       (meet.passes n n [] l
-      (record { before = omega arith; begins = begins; groups = none_met n left; some = some_left n l parts.0 }) parts.0)
+      (record { before = omega arith; begins = begins; groups = met_first n left; some = some_left n l parts.0 }) parts.0)
     where
       group_of : ℕ → List Packet → Group
       group_of n ps = record { key = (left_group n).key; packets = ps }
@@ -108,7 +108,7 @@ module _ (all : WholeIsAll) (c : Config) (count : ℕ) (sent : List Sent) (survi
       → (rules c).named (left_group n) ≡ o → passing (rules c) (left_group n) o ≡ None
   fails n l begins there w None e = refl
   fails n l begins there w (Some m) e =
-      no_number m ((rules c).fault [] (left_group n) m) (meet.fails n m l begins (meet.key (left_group n) m e) w there)
+      none_with m ((rules c).fault [] (left_group n) m) (meet.fails n m l begins (meet.key (left_group n) m e) w there)
 
   not_joined : (n : ℕ) → n < count → frame_packets n left ≢ [] → joins n ≡ false → join_number (rules c) (left_group n) ≡ None
   not_joined n l there t = ⊎_elim

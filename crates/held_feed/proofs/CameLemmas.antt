@@ -35,7 +35,7 @@ use Rattle.held_feed.specs.Frames.{dynamic_of, lists_of}
 use Rattle.held_feed.specs.Groups.{AreGroups, HasRoom, CarriesRoom}
 use Rattle.held_feed.specs.StandsFor.{FrameFeedStandsFor, config_of, waiting_of, is_whole}
 use Rattle.held_feed.specs.declared.feed.FrameFeed.{FrameFeed}
-use Rattle.held_feed.proofs.FeedLemmas.{now, some_is, whole_is, own_now}
+use Rattle.held_feed.proofs.FeedLemmas.{now, some_of, whole_is, own_now}
 use Rattle.held_feed.proofs.GroupsLemmas.{GoesAhead, open_ahead, ended_ahead, last_ahead, worked_on, drop_next, Follower, follower}
 use Rattle.held_feed.proofs.GroupsLemmas.{own_at, below_at, gap_at, carries, room_needs}
 
@@ -126,7 +126,7 @@ came front f bytes ended given w gs idle s is are =
     let q : Sequenced (rules c) past (Some h) at.number at.next at.closing at.fault (worked c.pid s.stands.events) given =
     subst (λ (g : Option Group). Sequenced (rules c) past g at.number at.next at.closing at.fault
     (worked c.pid s.stands.events) given) n.has s.stands.keeps.sequenced in
-    let number = some_is at.number (waits_for at w waits).some in
+    let number = some_of at.number (waits_for at w waits).some in
     let follows : Follows (rules c) q.0 past h (Some number.0) at.next at.closing at.fault given =
     subst (λ (o : Option ℕ). Follows (rules c) q.0 past h o at.next at.closing at.fault given) number.1 q.2 in
     let on = ahead front f.inner bytes are.more given s.stands q.0 h idle (λ over. are.none (sym s.end ∙ over)) q.1 holds.key in

@@ -277,9 +277,9 @@ shown f bytes over given x later g whole told s all content =
 pub told : (f : FrameFeed) (o : Option Waiting) → o ≡ f.waiting → Tells f.inner o → Tells f.inner f.waiting
 told f o same t = subst (Tells f.inner) same t
 
-pub some_is : {X : Type 0} (o : Option X) → is_some o ≡ true → (x : X) × (o ≡ Some x)
-some_is None e = absurd (false≢true e)
-some_is (Some x) e = (x, refl)
+pub some_of : {X : Type 0} (o : Option X) → is_some o ≡ true → (x : X) × (o ≡ Some x)
+some_of None e = absurd (false≢true e)
+some_of (Some x) e = (x, refl)
 
 -- the number of the next record stays small
 pub early_on : (old new : Progress) (w : Waiting) → next_of old ≡ Some w → w.frame < MOST_FRAMES

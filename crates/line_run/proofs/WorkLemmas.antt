@@ -43,7 +43,7 @@ module _ {A R E : Type 0} (work : Work R E) (old new : State) (ins : List (List 
         e.runs.short,
         same files s.places (gave s.events)
             (subst (IsRightAtEnd work files s.places (gave s.events)) e.told_is
-            (m.ends files s.places s.events now s.speaks.all are s.came e.end)),
+            (m.ends files s.places s.events now s.speaks.all are s.within s.came e.end)),
       ))
 
   stopped : (why : RunFault) → StopsSpeaking old new ins reach next Came now why → Ends work old new Aloud ins (Err (Files why))
@@ -53,7 +53,7 @@ module _ {A R E : Type 0} (work : Work R E) (old new : State) (ins : List (List 
         g.place,
         does_said (λ files places bytes. (slice_index places input ≡ longest_file)
             × work files (Err (Files (TooLong input))) places bytes) s (gave s.events) s.holds
-            (λ files are. (g.gave, m.too_long files s.places s.events now input s.speaks.all are s.came g.place g.gave g.wants)),
+            (λ files are. (g.gave, m.too_long files s.places s.events now input s.speaks.all are s.within s.came g.place g.gave g.wants)),
       )
   stopped (ReadFault input) (counts, inl o) = (counts, inl o)
   stopped (ReadFault input) (counts, inr g) =
@@ -63,7 +63,7 @@ module _ {A R E : Type 0} (work : Work R E) (old new : State) (ins : List (List 
           g.place,
           does_said (λ files places bytes. AllShort places × work files (Err (Files (ReadFault input))) places bytes)
               s (gave s.events) s.holds
-              (λ files are. (g.short, m.unread files s.places s.events now input s.speaks.all are s.came g.place g.wants)),
+              (λ files are. (g.short, m.unread files s.places s.events now input s.speaks.all are s.within s.came g.place g.wants)),
         ),
       )
   stopped WriteFault (counts, g) =

@@ -29,19 +29,22 @@ use Rattle.feed_merge.specs.Laws.{PicksGrow}
 use Rattle.feed_merge.specs.Picking.{is_at, is_there, source_at, pick_at}
 use Rattle.feed_merge.specs.Picks.{Picked, pick_of, picks, above_all, frames_of}
 use Rattle.two_feeds.specs.Reading.{is_idle, least_of}
-use Rattle.two_feeds.specs.Skips.{one_if, AreTaken, Takes, IsSameFeed}
+use Rattle.two_feeds.specs.Skips.{one_if, Takes, IsSameFeed}
 use Rattle.held_feed.specs.StandsFor.{FrameFeedStandsFor, waiting_of, is_whole}
 use Rattle.held_feed.specs.StandsFor as feed
 use Rattle.held_feed.specs.declared.feed.FrameFeed.{FrameFeed}
 use Rattle.feed_merge.specs.StandsFor.{MergerStandsFor, has_unit, has_finished, is_fed, bytes_left}
 use Rattle.feed_merge.specs.StandsFor as merger
 use Rattle.feed_merge.specs.declared.merger.Merger.{Merger}
+use Rattle.two_feeds.proofs.LeastLemmas.{above_taken}
 use Rattle.merge_run.specs.Counted.{counted, added}
 use Rattle.merge_run.specs.Sending.{numbered, frame_by, left_for, BeginsAs, Begins}
-use Rattle.merge_run.specs.Shown.{IsFedWith, IsHeld, OfFeed, IsPast, NoneComes, Sends, IsReading, IsLive, IsIn, is_held}
+use Rattle.merge_run.specs.Shown.{IsHeld, OfFeed, IsPast, Sends, IsReading, IsLive, IsIn, is_held}
+use Rattle.two_feeds.specs.Fed.{IsFedWith, NoneComes}
 use Rattle.merge_run.specs.Shown.{feed_of, left_at, more_units, frame_bytes, CountsFrames, Shown}
 use Rattle.merge_run.specs.Steps.{left_in, left_of}
-use Rattle.merge_run.specs.Taking.{seen_of, is_from, leaves, feed_in}
+use Rattle.merge_run.specs.Taking.{is_from, leaves, feed_in}
+use Rattle.two_feeds.specs.Seen.{seen_of}
 use Rattle.merge_run.specs.declared.merging.Merging.{Merging}
 use Rattle.merge_run.specs.declared.phase.Phase.{Phase}
 use Rattle.merge_run.specs.declared.phase.Phase.TheVariants.{Reads, Gives, Rests}
@@ -49,8 +52,9 @@ use Rattle.merge_run.specs.declared.stop.Ran.{Ran}
 use Rattle.merge_run.proofs.LiveLemmas.{live_taken}
 use Rattle.merge_run.proofs.FeedLemmas.{TookFor, took_of, took_past, there_at, due_held, formed_due}
 use Rattle.merge_run.proofs.BoundLemmas.{few_bodies}
-use Rattle.merge_run.proofs.NumberLemmas.{above_append, below_of}
-use Rattle.merge_run.proofs.PickLemmas.{least_first, least_second, least_most, least_none, some_taken, are_of, PickIs, pick_first}
+use Rattle.two_feeds.proofs.NumberLemmas.{above_append, below_of}
+use Rattle.merge_run.proofs.PickLemmas.{PickIs, pick_first}
+use Rattle.two_feeds.proofs.LeastLemmas.{least_first, least_second, least_most, least_none, some_taken, are_of}
 use Rattle.merge_run.proofs.PickLemmas.{pick_second, pick_none}
 use Rattle.merge_run.proofs.SendLemmas.{frames_append, sends_begun, sends_over, counted_push}
 use Rattle.merge_run.proofs.ShownLemmas.{read_a, read_b, past_a, past_b}
@@ -63,21 +67,6 @@ idle_left g idle =
   where
     less : (n : ℕ) → nat_le PAYLOAD n ≡ false → n + 0 < 184
     less n e = grind (arith)
-
-pub above_taken : (o : Option Waiting) (n : ℕ) (xs : List FrameRecord) → AreTaken (is_at n (seen_of o)) o xs
-    → (above_all xs ≤ n + 1) × (1 ≤ one_if (is_at n (seen_of o)) → above_all xs ≡ n + 1)
-above_taken None n xs t = (let e = ap above_all t in omega (arith, e), λ l. absurd (omega (arith, l)))
-above_taken (Some w) n xs t = go (w.frame == n) refl t
-  where
-    go : (b : Bool) → (w.frame == n) ≡ b → AreTaken b (Some w) xs → (above_all xs ≤ n + 1) × (1 ≤ one_if b → above_all xs ≡ n + 1)
-    go true e k =
-        let a = ap above_all k.only in
-        let number : k.one.number ≡ n = k.first.0 ∙ eqb-true w.frame n e in
-        let same : above_all xs ≡ n + 1 = omega (arith, a, number) in
-        (omega (arith, same), λ _. same)
-    go false e k = (let a = ap above_all k in omega (arith, a), λ l. absurd (omega (arith, l)))
-
--- ---- what becomes of both feeds
 
 -- what is known of the records that were left behind
 pub record Takings (m : Merging) (a b : FrameFeed) (n : ℕ) (p : Pick) : Type 0 where

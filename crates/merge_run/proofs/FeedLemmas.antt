@@ -6,7 +6,6 @@ use Rattle.std.specs.List.{AllByRecursion}
 use Rattle.std.proofs.lemmas.Bool.{true≢false, eqb-false, eqb-true, and_parts}
 use Rattle.plp_config.specs.Capacity.{IsPlan}
 use Rattle.plp_config.specs.declared.config.Config.{Config}
-use Rattle.frame_groups.specs.Laws.{AreFrom}
 use Rattle.frame_groups.specs.Modulated.{FrameRecord}
 use Rattle.frame_groups.specs.declared.waiting.Waiting.{Waiting}
 use Rattle.open_group.specs.Written.{content_view}
@@ -22,54 +21,13 @@ use Rattle.two_feeds.specs.Skips.{AreTaken, IsOnly, Takes}
 use Rattle.held_feed.specs.StandsFor.{IsFirst, waiting_of}
 use Rattle.held_feed.specs.StandsFor as feed
 use Rattle.held_feed.specs.declared.feed.FrameFeed.{FrameFeed}
-use Rattle.merge_run.specs.Shown.{IsFedWith, IsBehind, IsHeld, OfFeed, IsPast}
-use Rattle.merge_run.specs.Taking.{seen_of, is_from, leaves}
-use Rattle.merge_run.proofs.NumberLemmas.{above_append, above_before}
+use Rattle.merge_run.specs.Shown.{IsHeld, OfFeed, IsPast}
+use Rattle.two_feeds.specs.Fed.{IsFedWith}
+use Rattle.merge_run.specs.Taking.{is_from, leaves}
+use Rattle.two_feeds.specs.Seen.{seen_of}
+use Rattle.two_feeds.proofs.FeedLemmas.{due_of, waits_above, idle_none, one_of}
+use Rattle.two_feeds.proofs.NumberLemmas.{above_append}
 use Rattle.merge_run.proofs.PickLemmas.{PickIs}
-
--- ---- the records that are due
-
--- Those that were given are the first of them, and the one that waits is the next.
-pub record IsDue (c : Config) (f : FrameFeed) (bytes : List ℕ) (ended : Bool) (given : List FrameRecord) : Type 0 where
-  pub later : List FrameRecord
-  pub all : records_due c ended bytes ≡ given ++ later
-  pub first : IsFirst (waiting_of f) later
-
-pub due_of : (c : Config) (f : FrameFeed) (bytes : List ℕ) (ended : Bool) (given : List FrameRecord) → IsFedWith c f bytes ended given
-    → IsDue c f bytes ended given
-due_of c f bytes ended given w = record {
-  later = w.stands.later;
-  all = ap (λ (k : Config). records_due k ended bytes) (sym w.network) ∙ w.stands.all;
-  first = w.stands.first;
-}
-
--- what waits has a number above those that were given
-pub waits_above : DueFollow → (c : Config) (f : FrameFeed) (bytes : List ℕ) (ended : Bool) (given : List FrameRecord)
-    → IsFedWith c f bytes ended given → (w : Waiting) → waiting_of f ≡ Some w → above_all given ≤ w.frame
-waits_above follow c f bytes ended given h w is = go d.later d.all (subst (λ (o : Option Waiting). IsFirst o d.later) is d.first)
-  where
-    d : IsDue c f bytes ended given
-    d = due_of c f bytes ended given h
-
-    go : (later : List FrameRecord) → records_due c ended bytes ≡ given ++ later → IsFirst (Some w) later → above_all given ≤ w.frame
-    go [] all first = absurd first
-    go (y ∷ later) all first =
-        let from = follow c ended bytes in
-        let a = above_before from.0 given y later (subst (AreFrom from.0) all from.1) in
-        let n = first.0 in
-        omega (arith, a, n)
-
--- ---- bytes came, or the end
-
-pub behind_more : DueFollow → (c : Config) (next : ℕ) (f g : FrameFeed) (bytes : List ℕ) (ended : Bool) (given : List FrameRecord)
-    → waiting_of f ≡ None → feed.has_ended f ≡ false → IsBehind next f given → IsFedWith c g bytes ended given → IsBehind next g given
-behind_more follow c next f g bytes ended given none going was h = record {
-  waits = λ w is.
-      let low = was.idle none going in
-      let high = waits_above follow c g bytes ended given h w is in
-      omega (arith, low, high);
-  idle = λ _ _. was.idle none going;
-}
 
 -- ---- a record was taken, or none: its frame is sent, or it was left behind
 
@@ -143,10 +101,6 @@ took_of c from source n f g bytes ended given there config stays takes h =
     took_by (is_from from source) (is_at n (seen_of (waiting_of f))) c f g bytes ended given
     (λ on. (there_at n (waiting_of f) (there on), waits_there n (waiting_of f) (there on))) config stays takes h
 
-idle_none : (e : Bool) → is_idle None e ≡ false → e ≡ true
-idle_none true off = refl
-idle_none false off = absurd (true≢false off)
-
 pub took_past : DueFollow → (c : Config) (n : ℕ) (held : Bool) (f g : FrameFeed) (bytes : List ℕ) (ended : Bool)
     (given : List FrameRecord) → is_idle (waiting_of f) (feed.has_ended f) ≡ false
     → ((w : Waiting) → waiting_of f ≡ Some w → n ≤ w.frame) → feed.has_ended g ≡ feed.has_ended f
@@ -193,10 +147,6 @@ took_past follow c n held f g bytes ended given busy least end here stays t =
             omega (arith, low, apart)
 
 -- ---- the record of a frame that is picked
-
-pub one_of : {X : Type 0} (P : X → Type 0) (xs : List X) (x : X) (ys : List X) → AllByRecursion P (xs ++ x ∷ ys) → P x
-one_of P [] x ys all = all.0
-one_of P (y ∷ xs) x ys all = one_of P xs x ys all.1
 
 -- it is due behind those before
 pub due_held : (c : Config) (f : FrameFeed) (bytes : List ℕ) (ended : Bool) (given records : List FrameRecord) (x : FrameRecord)

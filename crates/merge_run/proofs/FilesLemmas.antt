@@ -1,10 +1,9 @@
 -- What is known of two files by what was fed of them.
-use Rattle.std.proofs.Common.{◌≡◌, ◌≢◌, ◌⊎◌, ℕ, zero, suc, ◌+◌, ◌-◌, ◌<◌, ◌≤◌, ◌==◌, Bool, true, false, List, [], ◌∷◌, ◌++◌}
+use Rattle.std.proofs.Common.{◌≡◌, ◌≢◌, ◌⊎◌, ℕ, ◌+◌, ◌-◌, ◌<◌, ◌≤◌, ◌==◌, Bool, true, false, List, [], ◌∷◌, ◌++◌}
 use Rattle.std.proofs.Common.{length, take, Option, Some, None, refl, ap, ap₂, sym, subst, ◌∙◌, inl, inr, arith, append-nil, append_assoc}
 use Rattle.std.proofs.Common.{eqb-true}
 use Rattle.std.specs.Prelude.{slice_index}
 use Rattle.std.proofs.lemmas.Bool.{true≢false, eqb-false}
-use Rattle.std.proofs.lemmas.List.{take_at}
 use Rattle.terms.proofs.CaseLemmas.{bool_cases}
 use Rattle.ts_packet.proofs.JoinedLemmas.{joined_append}
 use Rattle.plp_config.specs.declared.config.Config.{Config}
@@ -22,36 +21,36 @@ use Rattle.feed_merge.specs.Picks.{Picked, picks, picks_below, above_all, frames
 use Rattle.feed_merge.specs.StandsFor.{has_finished}
 use Rattle.held_feed.specs.StandsFor.{IsFirst, waiting_of}
 use Rattle.held_feed.specs.StandsFor as feed
-use Rattle.held_feed.specs.declared.feed.FrameFeed.{FrameFeed}
 use Rattle.file_run.specs.Events.{Event, fed, has_ended, gave}
 use Rattle.file_run.specs.FileRun.{AreFed, IsFed}
+use Rattle.file_run.specs.Work.{AreWithin}
 use Rattle.merge_run.specs.Counted.{counted}
-use Rattle.merge_run.specs.MergeRun.{complete_by, picked_below, picked_of, packets_of, units_of, AreEarly, MergesAll}
-use Rattle.merge_run.specs.MergeRun.{HasNone, AreCompleteBelow, HasLate, end_by, HasWritten, MayWrite}
+use Rattle.merge_run.specs.MergeRun.{complete_by, picked_below, picked_of, packets_of, units_of, MergesAll}
+use Rattle.merge_run.specs.MergeRun.{HasNone, AreCompleteBelow, HasLate, HasWritten, MayWrite}
+use Rattle.merge_run.specs.MergeRun.{HasRead}
+use Rattle.merge_run.specs.Steps.{reach_of}
 use Rattle.feed_merge.specs.declared.seen.Feed.TheVariants.{A, B}
-use Rattle.merge_run.specs.Shown.{Shown, IsFedWith, IsBehind, IsPast, IsDueBelow, NoneComes, IsReading, IsDone, IsIn, is_held}
+use Rattle.merge_run.specs.Shown.{Shown, IsPast, IsDueBelow, IsReading, IsDone, IsIn, is_held}
 use Rattle.two_feeds.specs.Reading.{is_idle, fed_at}
 use Rattle.two_feeds.specs.Reading.{least_of}
 use Rattle.merge_run.specs.declared.merging.Merging.{Merging}
 use Rattle.merge_run.specs.declared.phase.Phase.{Phase}
 use Rattle.merge_run.specs.declared.phase.Phase.TheVariants as phase
-use Rattle.merge_run.proofs.FeedLemmas.{due_of}
-use Rattle.merge_run.proofs.NumberLemmas.{below_of, nothing_above}
-use Rattle.merge_run.proofs.PickLemmas.{least_first, least_second}
+use Rattle.two_feeds.specs.Fed.{AreEarly, end_by, ReadsAhead, IsBehind, NoneComes}
+use Rattle.two_feeds.proofs.FeedLemmas.{ends_at}
+use Rattle.two_feeds.proofs.FilesLemmas.{two}
+use Rattle.two_feeds.proofs.LeastLemmas.{least_first, least_second}
+use Rattle.two_feeds.proofs.NumberLemmas.{below_of, nothing_above}
+use Rattle.two_feeds.proofs.SplitLemmas.{IsSplit, late_waits}
+use Rattle.two_feeds.proofs.StepLemmas.{Wants, First, Second, IsLate}
 use Rattle.merge_run.proofs.SendLemmas.{frames_append, packets_more, gave_complete, given_front, gave_all}
-use Rattle.merge_run.proofs.SplitLemmas.{IsSplit, picks_front, below_split, picks_split, picks_nothing, late_waits}
+use Rattle.merge_run.proofs.SplitLemmas.{picks_front, below_split, picks_split, picks_nothing}
 use Rattle.merge_run.proofs.HeldLemmas.{all_of, split_of, count_of}
 use Rattle.merge_run.proofs.ShownLemmas.{read_a, read_b, past_a, past_b}
-use Rattle.merge_run.proofs.StepLemmas.{Wants, First, Second, IsLate}
 use Rattle.frame_groups.specs.Laws.{IsPrefix}
 use Rattle.std.proofs.lemmas.List.{take-append-le}
 use Rattle.feed_merge.proofs.GrowLemmas.{all_below}
 use Rattle.t2mi_stream.proofs.CompleteLemmas.{shorter_front}
-
-pub two : (P : ℕ → Type 0) → P 0 → P 1 → (input : ℕ) → input < 2 → P input
-two P a b zero lt = a
-two P a b (suc zero) lt = b
-two P a b (suc (suc n)) lt = absurd (omega (arith, lt))
 
 nothing_sent : (k : Config) → joined (pipe k.pid (packets_of k [])) ≡ []
 unfolding remade_packets units_in
@@ -218,47 +217,25 @@ module _ (front : DueFront) (follow : DueFollow) (law : CompleteLaw) (c : Config
 
   -- ---- an input is wanted
 
-  -- the bytes that were taken of a file
-  abbrev EndsAt : ℕ → Type 0
-  EndsAt input = (taken : ℕ) → taken ≡ length (fed input events) → end_by c (files input) taken ≡ m.next
-
-  -- all that is due was given
-  due_given : (f : FrameFeed) (bytes : List ℕ) (ended : Bool) (given : List FrameRecord) → waiting_of f ≡ None → feed.has_ended f ≡ false
-      → IsFedWith c f bytes ended given → records_due c false bytes ≡ given
-  due_given f bytes ended given none going h =
-      let d = due_of c f bytes ended given h in
-      let later : d.later ≡ [] = subst (λ (o : Option Waiting). IsFirst o d.later) none d.first in
-      ap (λ (e : Bool). records_due c e bytes) (sym going ∙ h.stands.end) ∙ d.all ∙ ap (λ (l : List FrameRecord). given ++ l) later
-      ∙ append-nil given
-
-  ends_at : (input : ℕ) (f : FrameFeed) (given : List FrameRecord) (place : ℕ)
-      → IsFed (files input) place (fed input events) (has_ended input events)
-      → IsFedWith c f (fed input events) (has_ended input events) given → IsBehind m.next f given → above_all given ≤ m.next
-      → waiting_of f ≡ None → feed.has_ended f ≡ false → EndsAt input
-  ends_at input f given place taken h b above none going = λ count is.
-      let low = b.idle none going in
-      let same : above_all given ≡ m.next = omega (arith, low, above) in
-      ap (λ (k : ℕ). above_all (records_due c false (take k (files input)))) is
-      ∙ ap (λ (l : List ℕ). above_all (records_due c false l))
-      (ap (take (length (fed input events))) taken.parts ∙ take_at (fed input events) taken.more (length (fed input events)) refl)
-      ∙ ap above_all (due_given f (fed input events) (has_ended input events) given none going h) ∙ same
-
-  pub has_written : (input taken : ℕ) → Wants (waiting_of m.a) (feed.has_ended m.a) (waiting_of m.b) (feed.has_ended m.b) input
-      → m.phase ≡ phase.Reads → taken ≡ length (fed input events) → HasWritten c input taken files (gave events)
-  has_written input taken wants reads is = by (end input wants taken is)
+  -- the records that are due by what was taken of the input that is wanted are those up to the next number
+  pub ends_next : (input taken : ℕ) → Wants (waiting_of m.a) (feed.has_ended m.a) (waiting_of m.b) (feed.has_ended m.b) input
+      → m.phase ≡ phase.Reads → taken ≡ length (fed input events) → end_by c (files input) taken ≡ m.next
+  ends_next input taken wants reads is = ap (end_by c (files input)) is ∙ end input wants
     where
-      end : (input : ℕ) → Wants (waiting_of m.a) (feed.has_ended m.a) (waiting_of m.b) (feed.has_ended m.b) input → EndsAt input
-      end input (First at idle) = subst EndsAt at
-          (ends_at 0 m.a ga _ fed_a (read_a c m events s reads) (past_a c m events s reads) above_a idle.none idle.going)
-      end input (Second at idle) = subst EndsAt at
-          (ends_at 1 m.b gb _ fed_b (read_b c m events s reads) (past_b c m events s reads) above_b idle.none idle.going)
+      end : (input : ℕ) → Wants (waiting_of m.a) (feed.has_ended m.a) (waiting_of m.b) (feed.has_ended m.b) input
+          → end_by c (files input) (length (fed input events)) ≡ m.next
+      end input (First at idle) = subst (λ (i : ℕ). end_by c (files i) (length (fed i events)) ≡ m.next) at
+          (ends_at c m.next (files 0) _ m.a _ _ ga fed_a (read_a c m events s reads) (past_a c m events s reads) above_a idle.none idle.going)
+      end input (Second at idle) = subst (λ (i : ℕ). end_by c (files i) (length (fed i events)) ≡ m.next) at
+          (ends_at c m.next (files 1) _ m.b _ _ gb fed_b (read_b c m events s reads) (past_b c m events s reads) above_b idle.none idle.going)
 
-      by : end_by c (files input) taken ≡ m.next → HasWritten c input taken files (gave events)
-      by same = record {
-        early = (let e = s.early in omega (arith, same, e));
-        is = subst (λ (n : ℕ). AreCompleteBelow c files n (gave events)) (sym same)
-            (complete_below m.next (omega arith) (past_a c m events s reads) (past_b c m events s reads) reads);
-      }
+  has_written : (input taken : ℕ) → m.phase ≡ phase.Reads → end_by c (files input) taken ≡ m.next
+      → HasWritten c input taken files (gave events)
+  has_written input taken reads same = record {
+    early = (let e = s.early in omega (arith, same, e));
+    is = subst (λ (n : ℕ). AreCompleteBelow c files n (gave events)) (sym same)
+        (complete_below m.next (omega arith) (past_a c m events s reads) (past_b c m events s reads) reads);
+  }
 
   -- ---- some were given
 
@@ -372,3 +349,23 @@ module _ (front : DueFront) (follow : DueFollow) (law : CompleteLaw) (c : Config
   fed_count input lt = two (λ (input : ℕ). fed_at (feed.fed_of m.a) (feed.fed_of m.b) input ≡ length (fed input events))
       (count_of c m.a (fed 0 events) (has_ended 0 events) ga held_a s.of_a) (count_of c m.b (fed 1 events) (has_ended 1 events) gb held_b s.of_b)
       input lt
+
+  -- no input was read further than by what is read ahead
+  pub reads_ahead : (n : ℕ) → m.next ≤ n → AreWithin 2 places (reach_of m) → ReadsAhead c n files places
+  reads_ahead n le near input taken lt less =
+      let within = near input lt in
+      let count = fed_count input lt in
+      let d = ends_before input taken lt (omega (arith, less, within, count)) in
+      let low = s.live.within in
+      omega (arith, d, low, le)
+
+  -- so it is when an input is to be read on
+  pub has_read : (input taken : ℕ) → Wants (waiting_of m.a) (feed.has_ended m.a) (waiting_of m.b) (feed.has_ended m.b) input
+      → m.phase ≡ phase.Reads → taken ≡ length (fed input events) → AreWithin 2 places (reach_of m)
+      → HasRead c input taken files places (gave events)
+  has_read input taken wants reads is near =
+      let same = ends_next input taken wants reads is in
+      record {
+        written = has_written input taken reads same;
+        ahead = reads_ahead (end_by c (files input) taken) (omega (arith, same)) near;
+      }

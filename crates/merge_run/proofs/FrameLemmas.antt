@@ -26,7 +26,7 @@ use Rattle.held_feed.specs.declared.feed.FrameFeed.{FrameFeed}
 use Rattle.formed_frames.specs.Laws.{ShownIsSent}
 use Rattle.formed_frames.specs.Remade.{NumberedView, view_bodies, frame_pairs, remade_bodies}
 use Rattle.merge_run.specs.Sending.{frame_by}
-use Rattle.merge_run.proofs.FeedLemmas.{one_of}
+use Rattle.two_feeds.proofs.FeedLemmas.{one_of}
 
 -- one frame more
 pub pushed : (c : Config) (frames : List NumberedView) (f : NumberedView) (bodies : List Body)

@@ -28,7 +28,8 @@ use Rattle.feed_merge.specs.StandsFor.{MergerStandsFor, has_finished, is_fed, by
 use Rattle.feed_merge.specs.StandsFor as merger
 use Rattle.feed_merge.specs.declared.merger.Merger.{Merger}
 use Rattle.merge_run.specs.Sending.{left_for, GivesUnit, GivesNone, Nexts}
-use Rattle.merge_run.specs.Shown.{IsFedWith, IsBehind, OfFeed, IsPast, Sends, IsGiving, IsResting, IsIn, is_held, feed_of, left_at}
+use Rattle.merge_run.specs.Shown.{OfFeed, IsPast, Sends, IsGiving, IsResting, IsIn, is_held, feed_of, left_at}
+use Rattle.two_feeds.specs.Fed.{IsFedWith, IsBehind}
 use Rattle.merge_run.specs.Shown.{more_units, frame_bytes, Shown}
 use Rattle.merge_run.specs.Steps.{left_in, left_of}
 use Rattle.merge_run.specs.Taking.{is_same, feed_in}

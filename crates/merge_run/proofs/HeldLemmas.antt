@@ -14,10 +14,11 @@ use Rattle.two_feeds.specs.Skips.{IsOnly, Takes}
 use Rattle.held_feed.specs.StandsFor.{FrameFeedStandsFor, IsFirst, waiting_of}
 use Rattle.held_feed.specs.StandsFor as feed
 use Rattle.held_feed.specs.declared.feed.FrameFeed.{FrameFeed}
-use Rattle.merge_run.specs.Shown.{IsFedWith, IsBehind, OfFeed, IsPast, NoneComes}
-use Rattle.merge_run.proofs.FeedLemmas.{waits_above}
-use Rattle.merge_run.proofs.NumberLemmas.{AllFrom, above_before, from_rest, from_more}
-use Rattle.merge_run.proofs.SplitLemmas.{IsSplit, split_at, all_given}
+use Rattle.merge_run.specs.Shown.{OfFeed, IsPast}
+use Rattle.two_feeds.specs.Fed.{IsFedWith, IsBehind, NoneComes}
+use Rattle.two_feeds.proofs.FeedLemmas.{waits_above}
+use Rattle.two_feeds.proofs.NumberLemmas.{AllFrom, above_before, from_rest, from_more}
+use Rattle.two_feeds.proofs.SplitLemmas.{IsSplit, split_at, all_given}
 
 -- ---- what is so of both
 

@@ -1,35 +1,23 @@
 -- Two files decide how a run over them ends.
-use Rattle.std.proofs.Common.{◌≡◌, ◌≢◌, ◌⊎◌, ℕ, ◌<◌, List, [], ◌∷◌, length, refl, ap, sym, subst, ◌∙◌, inl, inr, arith}
+use Rattle.std.proofs.Common.{◌≡◌, ◌≢◌, ◌⊎◌, ℕ, ◌<◌, List, [], ◌∷◌, length, refl, ap, sym, ◌∙◌, inl, inr, arith}
 use Rattle.std.specs.Prelude.{Result, Ok, Err}
-use Rattle.std.proofs.lemmas.Bool.{cases_lt}
 use Rattle.modulator.specs.StandsFor.{records_of}
 use Rattle.plp_config.specs.declared.config.Config.{Config}
-use Rattle.plp_config.specs.declared.moment.TheConstants.{MOST_FRAMES}
 use Rattle.frame_groups.specs.Modulated.{FrameRecord}
 use Rattle.merge_run.specs.Counted.{counted}
 use Rattle.merge_run.specs.Laws.{MustRun, OneRun, RunEnds}
-use Rattle.merge_run.specs.MergeRun.{picked_of, units_of, AreEarly}
+use Rattle.merge_run.specs.MergeRun.{picked_of, units_of}
+use Rattle.two_feeds.specs.Fed.{AreEarly}
 use Rattle.merge_run.specs.declared.stop.MergeStop.{MergeStop}
 use Rattle.merge_run.specs.declared.stop.MergeStop.TheVariants.{NoSuperframe, TooManyFrames}
 use Rattle.merge_run.specs.declared.stop.Ran.{Ran}
-use Rattle.merge_run.proofs.FilesLemmas.{two}
-
-none_early : (records : List FrameRecord) → records ≡ [] → AreEarly records
-none_early records e = subst AreEarly (sym e) tt
+use Rattle.two_feeds.proofs.EarlyLemmas.{not_late, early_none, early_or_late, some_is}
+use Rattle.two_feeds.proofs.FilesLemmas.{two}
 
 none_some : (c : Config) (files : ℕ → List ℕ) → ((input : ℕ) → input < 2 → records_of c (files input) ≡ [])
     → (records_of c (files 0) ≢ []) ⊎ (records_of c (files 1) ≢ []) → ⊥
 none_some c files none (inl some) = some (none 0 (omega arith))
 none_some c files none (inr some) = some (none 1 (omega arith))
-
-pub not_late : (c : Config) (files : ℕ → List ℕ) → ((input : ℕ) → input < 2 → AreEarly (records_of c (files input)))
-    → (¬ (AreEarly (records_of c (files 0)))) ⊎ (¬ (AreEarly (records_of c (files 1)))) → ⊥
-not_late c files early (inl late) = late (early 0 (omega arith))
-not_late c files early (inr late) = late (early 1 (omega arith))
-
-pub early_none : (c : Config) (files : ℕ → List ℕ) → ((input : ℕ) → input < 2 → records_of c (files input) ≡ [])
-    → (input : ℕ) → input < 2 → AreEarly (records_of c (files input))
-early_none c files none input lt = none_early (records_of c (files input)) (none input lt)
 
 pub one_run : OneRun
 one_run c files (Ok ran) (Ok other) a b = ap Ok (a.2 ∙ sym b.2)
@@ -41,20 +29,6 @@ one_run c files (Err NoSuperframe) (Err TooManyFrames) a b = absurd (not_late c 
 one_run c files (Err TooManyFrames) (Ok other) a b = absurd (not_late c files b.1 a)
 one_run c files (Err TooManyFrames) (Err NoSuperframe) a b = absurd (not_late c files (early_none c files b) a)
 one_run c files (Err TooManyFrames) (Err TooManyFrames) a b = refl
-
-pub early_or_late : (xs : List FrameRecord) → AreEarly xs ⊎ (¬ (AreEarly xs))
-early_or_late [] = inl tt
-early_or_late (x ∷ xs) =
-    elim (cases_lt x.number MOST_FRAMES) [
-      | inl less ↦ elim (early_or_late xs) [
-        | inl early ↦ inl (less, early)
-        | inr late ↦ inr (λ all. late all.1)
-      ]
-      | inr more ↦ inr (λ all. let less = all.0 in absurd (omega (arith, less, more)))
-    ]
-
-pub some_is : (x : FrameRecord) (xs : List FrameRecord) → x ∷ xs ≢ []
-some_is x xs e = absurd (let n = ap length e in omega (arith, n))
 
 pub run_ends : RunEnds
 run_ends c files = go (records_of c (files 0)) (records_of c (files 1)) refl refl

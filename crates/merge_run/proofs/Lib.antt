@@ -1,6 +1,5 @@
 pub mod BeginLemmas
 pub mod BoundLemmas
-pub mod CameLemmas
 pub mod FeedLemmas
 pub mod FilesLemmas
 pub mod FrameLemmas
@@ -8,9 +7,7 @@ pub mod GiveLemmas
 pub mod HeldLemmas
 pub mod LawLemmas
 pub mod LiveLemmas
-pub mod NumberLemmas
 pub mod PickLemmas
-pub mod OldLemmas
 pub mod WorkLemmas
 pub mod SendLemmas
 pub mod ShownLemmas

@@ -12,8 +12,9 @@ use Rattle.held_feed.specs.declared.feed.FrameFeed.{FrameFeed}
 use Rattle.feed_merge.specs.Laws.{AreOf}
 use Rattle.feed_merge.specs.Picks.{Picked, picks, above_all, frames_of}
 use Rattle.feed_merge.proofs.GrowLemmas.{all_below}
-use Rattle.merge_run.specs.Shown.{IsFedWith, IsDueBelow, IsLive}
-use Rattle.merge_run.proofs.NumberLemmas.{AllFrom, above_append, below_of}
+use Rattle.merge_run.specs.Shown.{IsDueBelow, IsLive}
+use Rattle.two_feeds.specs.Fed.{IsFedWith}
+use Rattle.two_feeds.proofs.NumberLemmas.{AllFrom, above_append, below_of}
 use Rattle.merge_run.proofs.SplitLemmas.{picks_split}
 
 -- By fewer bytes than were fed, no record is due but those that were given.

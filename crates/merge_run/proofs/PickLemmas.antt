@@ -1,12 +1,11 @@
 -- What is picked of the records that wait.
-use Rattle.std.proofs.Common.{◌≡◌, ℕ, ◌+◌, ◌<◌, ◌≤◌, ◌==◌, ◌&&◌, not, min, Bool, true, false, cond, List, [], ◌∷◌, Option, Some, None}
-use Rattle.std.proofs.Common.{is_some, refl, ap, sym, subst, ◌∙◌, arith, eqb-true}
+use Rattle.std.proofs.Common.{◌≡◌, ℕ, ◌==◌, ◌&&◌, not, min, Bool, true, false, cond, List, [], ◌∷◌, Option, Some, None}
+use Rattle.std.proofs.Common.{is_some, refl, ap, sym, subst, ◌∙◌, eqb-true}
 use Rattle.std.specs.Option.{option_or}
-use Rattle.std.proofs.lemmas.Bool.{true≢false, eqb-false, eq-eqb}
+use Rattle.std.proofs.lemmas.Bool.{true≢false, eq-eqb}
 use Rattle.terms.proofs.CaseLemmas.{both}
 use Rattle.terms.proofs.OptionLemmas.{some_injective, none_some}
 use Rattle.plp_config.specs.declared.config.Config.{Config}
-use Rattle.plp_config.specs.declared.moment.TheConstants.{MOST_FRAMES}
 use Rattle.frame_groups.specs.Groups.{Group}
 use Rattle.frame_groups.specs.Modulated.{Content, FrameRecord}
 use Rattle.frame_groups.specs.Modulated.Content.{Whole, Muted}
@@ -16,13 +15,12 @@ use Rattle.open_group.specs.Written.{content_view}
 use Rattle.modulator.specs.StandsFor.{mute_of}
 use Rattle.feed_merge.specs.declared.seen.Feed.{Feed}
 use Rattle.feed_merge.specs.declared.seen.Feed.TheVariants.{A, B}
-use Rattle.feed_merge.specs.Laws.{AreOf}
 use Rattle.feed_merge.specs.Picking.{is_at, is_there, source_at, pick_at, picked}
 use Rattle.feed_merge.specs.Picks.{is_frame, Picked, frame_from, pick_of}
 use Rattle.merge_run.specs.Sending.{numbered}
 use Rattle.two_feeds.specs.Reading.{least_of}
-use Rattle.two_feeds.specs.Skips.{one_if, IsOnly, AreTaken}
-use Rattle.merge_run.specs.Taking.{seen_of}
+use Rattle.two_feeds.specs.Skips.{IsOnly, AreTaken}
+use Rattle.two_feeds.specs.Seen.{seen_of}
 
 -- the least number is the one that is picked
 pub picked_at : (v w : Option Waiting) (n : ℕ) → least_of v w ≡ Some n → picked (seen_of v) (seen_of w)
@@ -32,76 +30,6 @@ picked_at (Some v) None n e = ap (λ (k : ℕ). pick_at k (seen_of (Some v)) Non
 picked_at None (Some w) n e = ap (λ (k : ℕ). pick_at k None (seen_of (Some w))) (some_injective w.frame n e)
 picked_at (Some v) (Some w) n e =
     ap (λ (k : ℕ). pick_at k (seen_of (Some v)) (seen_of (Some w))) (some_injective (min v.frame w.frame) n e)
-
--- it is no greater than either
-pub least_first : (v w : Option Waiting) (n : ℕ) → least_of v w ≡ Some n → (x : Waiting) → v ≡ Some x → n ≤ x.frame
-least_first None w n e x is = none_some x is
-least_first (Some v) None n e x is =
-    let a = some_injective v.frame n e in
-    let b = ap (λ (y : Waiting). y.frame) (some_injective v x is) in
-    omega (arith, a, b)
-least_first (Some v) (Some w) n e x is =
-    let a = some_injective (min v.frame w.frame) n e in
-    let b = ap (λ (y : Waiting). y.frame) (some_injective v x is) in
-    omega (arith, a, b)
-
-pub least_second : (v w : Option Waiting) (n : ℕ) → least_of v w ≡ Some n → (x : Waiting) → w ≡ Some x → n ≤ x.frame
-least_second v None n e x is = none_some x is
-least_second None (Some w) n e x is =
-    let a = some_injective w.frame n e in
-    let b = ap (λ (y : Waiting). y.frame) (some_injective w x is) in
-    omega (arith, a, b)
-least_second (Some v) (Some w) n e x is =
-    let a = some_injective (min v.frame w.frame) n e in
-    let b = ap (λ (y : Waiting). y.frame) (some_injective w x is) in
-    omega (arith, a, b)
-
--- what is no greater than either is no greater than it
-pub least_most : (v w : Option Waiting) (n m : ℕ) → least_of v w ≡ Some n → ((x : Waiting) → v ≡ Some x → m ≤ x.frame)
-    → ((x : Waiting) → w ≡ Some x → m ≤ x.frame) → m ≤ n
-least_most None None n m e a b = none_some n e
-least_most (Some v) None n m e a b = let s = some_injective v.frame n e in let l = a v refl in omega (arith, s, l)
-least_most None (Some w) n m e a b = let s = some_injective w.frame n e in let l = b w refl in omega (arith, s, l)
-least_most (Some v) (Some w) n m e a b =
-    let s = some_injective (min v.frame w.frame) n e in
-    let l = a v refl in
-    let k = b w refl in
-    omega (arith, s, l, k)
-
--- none waits
-pub least_none : (v w : Option Waiting) → least_of v w ≡ None → (v ≡ None) × (w ≡ None)
-least_none None None e = (refl, refl)
-least_none (Some v) None e = none_some v.frame (sym e)
-least_none None (Some w) e = none_some w.frame (sym e)
-least_none (Some v) (Some w) e = none_some (min v.frame w.frame) (sym e)
-
-one_at : (v : Waiting) (n : ℕ) → v.frame ≡ n → one_if (is_at n (seen_of (Some v))) ≡ 1
-one_at v n e = ap one_if (eq-eqb v.frame n e)
-
--- a record of it waits
-pub some_taken : (v w : Option Waiting) (n : ℕ) → least_of v w ≡ Some n
-    → 1 ≤ one_if (is_at n (seen_of v)) + one_if (is_at n (seen_of w))
-some_taken None None n e = none_some n e
-some_taken (Some v) None n e = let o = one_at v n (some_injective v.frame n e) in omega (arith, o)
-some_taken None (Some w) n e = let o = one_at w n (some_injective w.frame n e) in omega (arith, o)
-some_taken (Some v) (Some w) n e = go (v.frame == n) refl
-  where
-    go : (b : Bool) → (v.frame == n) ≡ b → 1 ≤ one_if (is_at n (seen_of (Some v))) + one_if (is_at n (seen_of (Some w)))
-    go true t = let o = one_at v n (eqb-true v.frame n t) in omega (arith, o)
-    go false f =
-        let s = some_injective (min v.frame w.frame) n e in
-        let differ = eqb-false v.frame n f in
-        let o = one_at w n (omega (arith, s, differ)) in
-        omega (arith, o)
-
--- what was taken is of that number
-pub are_of : (o : Option Waiting) (n : ℕ) (xs : List FrameRecord) → AreTaken (is_at n (seen_of o)) o xs → AreOf n xs
-are_of None n xs t = subst (AreOf n) (sym t) tt
-are_of (Some w) n xs t = go (w.frame == n) refl t
-  where
-    go : (b : Bool) → (w.frame == n) ≡ b → AreTaken b (Some w) xs → AreOf n xs
-    go true e t = subst (AreOf n) (sym t.only) (t.first.0 ∙ eqb-true w.frame n e)
-    go false e t = subst (AreOf n) (sym t) tt
 
 -- ---- a frame is picked
 

@@ -6,7 +6,7 @@ use Rattle.frame_groups.specs.declared.waiting.Waiting.{Waiting}
 use Rattle.feed_merge.specs.declared.seen.Feed.{Feed}
 use Rattle.two_feeds.specs.Skips.{CanBeLeft}
 use Rattle.held_feed.specs.StandsFor.{is_whole}
-use Rattle.merge_run.proofs.CameLemmas.{less_of, nothing_of}
+use Rattle.two_feeds.proofs.CameLemmas.{less_of, nothing_of}
 
 -- if fewer are left behind
 pub can_less : (b t : Bool) (o : Option Waiting) → CanBeLeft b o → CanBeLeft (b && t) o

@@ -16,7 +16,7 @@ use Rattle.held_feed.specs.declared.feed.FrameFeed.{FrameFeed}
 use Rattle.feed_merge.specs.StandsFor.{MergerStandsFor, config_of, left_in, has_unit, has_finished, bytes_left}
 use Rattle.feed_merge.specs.declared.merger.Merger.{Merger}
 use Rattle.merge_run.specs.Sending.{left_for, GivesSo}
-use Rattle.merge_run.proofs.CameLemmas.{number_of}
+use Rattle.two_feeds.proofs.CameLemmas.{number_of}
 
 pub gives_so : (old new : Merger) (frame : PoolFrame) (b : Bool) (unit : List ℕ)
     → (b ≡ true → (all : List (ℕ × Body)) (given : ℕ) → MergerStandsFor old (left_in old frame) all given

@@ -20,7 +20,7 @@ use Rattle.two_feeds.specs.Reading.{least_of}
 use Rattle.merge_run.specs.declared.merging.Merging.{Merging}
 use Rattle.merge_run.specs.declared.phase.Phase.{Phase}
 use Rattle.merge_run.specs.declared.phase.Phase.TheVariants.{Reads, Gives, Rests, Done}
-use Rattle.merge_run.proofs.StepLemmas.{Wants, First, Second, idle_is}
+use Rattle.two_feeds.proofs.StepLemmas.{Wants, First, Second, idle_is}
 
 pub wanted_by : (c : Config) (events : List Event) (m : Merging) → Shown c events m → IsWanted 2 events (reach_of m) (step_of m)
 wanted_by c events m s = by m.phase

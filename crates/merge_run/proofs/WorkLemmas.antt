@@ -1,9 +1,10 @@
 -- What a merger does by its files.
-use Rattle.std.proofs.Common.{◌≡◌, ℕ, ◌+◌, ◌-◌, ◌<◌, ◌==◌, true, List, [], ◌∷◌, ◌++◌}
+use Rattle.std.proofs.Common.{◌≡◌, ℕ, ◌-◌, ◌<◌, ◌==◌, true, List, [], ◌∷◌, ◌++◌}
 use Rattle.std.proofs.Common.{length, refl, ap, sym, subst, ◌∙◌, arith, append_assoc}
 use Rattle.std.specs.Prelude.{Err, slice_index}
 use Rattle.terms.proofs.CaseLemmas.{bool_cases}
 use Rattle.plp_config.specs.declared.config.Config.{Config}
+use Rattle.plp_config.specs.declared.moment.TheConstants.{MOST_FRAMES}
 use Rattle.desk_io.specs.Reading.{longest_file}
 use Rattle.modulator.specs.Laws.{DueFront, DueFollow}
 use Rattle.t2mi_stream.specs.CompleteLaws.{CompleteLaw}
@@ -13,7 +14,7 @@ use Rattle.held_feed.specs.StandsFor as feed
 use Rattle.file_run.specs.Events.{Event, fed, has_ended, gave}
 use Rattle.file_run.specs.FileRun.{AreFed}
 use Rattle.file_run.specs.Steps.{Needs, FallsShort}
-use Rattle.file_run.specs.Work.{AreWhole, IsRightAtEnd, GaveSome, DoesWork}
+use Rattle.file_run.specs.Work.{AreWhole, AreWithin, IsRightAtEnd, GaveSome, DoesWork}
 use Rattle.file_run.specs.declared.machine.Step.TheVariants.{Give, End}
 use Rattle.file_run.specs.declared.stop.RunFault.TheVariants.{TooLong, ReadFault}
 use Rattle.file_run.specs.declared.stop.RunStop.TheVariants.{Files}
@@ -21,7 +22,7 @@ use Rattle.file_run.proofs.StandsLemmas.{fed_since}
 use Rattle.file_run.proofs.WorkLemmas.{are_whole}
 use Rattle.merge_run.specs.AsMachine.{Becomes, ending_in, ending_of}
 use Rattle.merge_run.specs.MergeRun.{MayWrite, HasSome}
-use Rattle.merge_run.specs.MergeWork.{merge_work}
+use Rattle.merge_run.specs.MergeRun.{merge_work}
 use Rattle.merge_run.specs.Shown.{Shown, IsDone, IsIn, is_held}
 use Rattle.feed_merge.specs.declared.seen.Feed.TheVariants.{A, B}
 use Rattle.merge_run.proofs.HeldLemmas.{end_of}
@@ -30,12 +31,14 @@ use Rattle.merge_run.specs.Steps.{step_in, step_of, reach_of}
 use Rattle.merge_run.specs.declared.machine.MergeMachine.{MergeMachine}
 use Rattle.merge_run.specs.declared.phase.Phase.{Phase}
 use Rattle.merge_run.specs.declared.phase.Phase.TheVariants as phase
-use Rattle.merge_run.proofs.StepLemmas.{needs_at, short_at, is_late}
-use Rattle.merge_run.proofs.FilesLemmas.{two, merges_all, has_none, has_late, has_written, gave_front, since, fed_count}
+use Rattle.merge_run.proofs.StepLemmas.{needs_at, short_at}
+use Rattle.two_feeds.proofs.StepLemmas.{is_late}
+use Rattle.merge_run.proofs.FilesLemmas.{merges_all, has_none, has_late, has_read, reads_ahead, gave_front, since, fed_count}
+use Rattle.two_feeds.proofs.FilesLemmas.{two}
 
 module _ (front : DueFront) (follow : DueFollow) (law : CompleteLaw) (start now : MergeMachine) (files : ℕ → List ℕ)
     (places : List ℕ) (events : List Event) (all : length places ≡ 2) (are : AreFed 2 files places events)
-    (s : Shown start.merging.plan.now events now.merging) where
+    (within : AreWithin 2 places (reach_of now.merging)) (s : Shown start.merging.plan.now events now.merging) where
   abbrev k : Config
   k = start.merging.plan.now
 
@@ -51,7 +54,10 @@ module _ (front : DueFront) (follow : DueFollow) (law : CompleteLaw) (start now 
   ends_in : (p : Phase) → now.merging.phase ≡ p
       → step_in p (step_by (waiting_of now.merging.a) (feed.has_ended now.merging.a) (waiting_of now.merging.b) (feed.has_ended now.merging.b))
       ≡ End → IsRightAtEnd (merge_work k) files places (gave events) (ending_in p now.merging.next now.merging.ran)
-  ends_in phase.Reads is end = has_late front follow law k now.merging events s files places are is (is_late _ _ _ _ end)
+  ends_in phase.Reads is end = (
+    has_late front follow law k now.merging events s files places are is (is_late _ _ _ _ end),
+    reads_ahead front follow law k now.merging events s files places are MOST_FRAMES s.early within,
+  )
   ends_in phase.Gives is end = absurd (let z : Give ≡ End = end in cc)
   ends_in phase.Rests is end = absurd (let z : Give ≡ End = end in cc)
   ends_in phase.Done is end =
@@ -71,7 +77,7 @@ module _ (front : DueFront) (follow : DueFollow) (law : CompleteLaw) (start now 
         taken = length (fed input events);
         near = omega (arith, few, most);
         within = omega (arith, ahead, most);
-        has = has_written front follow law k now.merging events s files places are input (length (fed input events)) w.wants w.reads refl;
+        has = has_read front follow law k now.merging events s files places are input (length (fed input events)) w.wants w.reads refl within;
       }
 
   unread : (input : ℕ) → input < 2
@@ -82,8 +88,8 @@ module _ (front : DueFront) (follow : DueFollow) (law : CompleteLaw) (start now 
       (feed.has_ended now.merging.b) input _ wants in
       let none = w.few in
       let ahead = (are input lt).ahead in
-      has_written front follow law k now.merging events s files places are input (slice_index places input) w.wants w.reads
-      (omega (arith, ahead, none))
+      has_read front follow law k now.merging events s files places are input (slice_index places input) w.wants w.reads
+      (omega (arith, ahead, none)) within
 
 unwritten : DueFront → DueFollow → CompleteLaw → (start now : MergeMachine) (files : ℕ → List ℕ) (places : List ℕ) (events : List Event)
     (bytes : List ℕ) → AreFed 2 files places events
@@ -114,11 +120,11 @@ unwritten front follow law start now files places events bytes are g =
 pub merge_does : DueFront → DueFollow → CompleteLaw → (start : MergeMachine) → DoesWork (merge_work start.merging.plan.now) 2
     (λ m. reach_of m.merging) (λ m. step_of m.merging) (Becomes start) ending_of
 merge_does front follow law start = record {
-  ends = λ files places events now all are came end.
-      ends_in front follow law start now files places events all are came now.merging.phase refl end;
-  too_long = λ files places events now input all are came lt most wants.
-      too_long front follow law start now files places events all are came input lt most wants;
-  unread = λ files places events now input all are came lt wants.
-      unread front follow law start now files places events all are came input lt wants;
+  ends = λ files places events now all are within came end.
+      ends_in front follow law start now files places events all are within came now.merging.phase refl end;
+  too_long = λ files places events now input all are within came lt most wants.
+      too_long front follow law start now files places events all are within came input lt most wants;
+  unread = λ files places events now input all are within came lt wants.
+      unread front follow law start now files places events all are within came input lt wants;
   unwritten = λ files places events now bytes all are g. unwritten front follow law start now files places events bytes are g;
 }

@@ -1,7 +1,6 @@
 pub mod Counted
 pub mod Laws
 pub mod MergeRun
-pub mod MergeWork
 -- inner: no public clause cites these
 pub mod AsMachine
 pub mod Sending

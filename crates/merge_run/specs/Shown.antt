@@ -1,5 +1,5 @@
 -- What was done to two feeds and the merger of their frames. No public clause cites this module.
-use Rattle.std.specs.Prelude.{◌≡◌, ℕ, ◌+◌, ◌*◌, ◌^◌, ◌<◌, ◌≤◌, max, Bool, true, false, List, [], ◌∷◌, ◌++◌, length, take, Some, None}
+use Rattle.std.specs.Prelude.{◌≡◌, ℕ, ◌+◌, ◌*◌, ◌^◌, ◌<◌, ◌≤◌, max, Bool, true, false, List, [], ◌∷◌, ◌++◌, length, take, Some}
 use Rattle.plp_config.specs.Capacity.{IsPlan}
 use Rattle.plp_config.specs.declared.config.Config.{Config}
 use Rattle.plp_config.specs.declared.moment.TheConstants.{MOST_FRAMES}
@@ -16,28 +16,18 @@ use Rattle.file_run.specs.Events.{Event, fed, has_ended, gave}
 use Rattle.feed_merge.specs.Picks.{picks, picks_below, above_all, frames_of}
 use Rattle.feed_merge.specs.declared.seen.Feed.{Feed}
 use Rattle.feed_merge.specs.declared.seen.Feed.TheVariants.{A, B}
-use Rattle.held_feed.specs.StandsFor.{FrameFeedStandsFor, IsFirst, waiting_of, is_whole}
-use Rattle.held_feed.specs.StandsFor as feed
+use Rattle.held_feed.specs.StandsFor.{IsFirst, waiting_of, is_whole}
 use Rattle.held_feed.specs.declared.feed.FrameFeed.{FrameFeed}
 use Rattle.feed_merge.specs.StandsFor.{MergerStandsFor, has_unit, has_finished, is_fed, bytes_left}
 use Rattle.feed_merge.specs.StandsFor as merger
 use Rattle.feed_merge.specs.declared.merger.Merger.{Merger}
+use Rattle.two_feeds.specs.Fed.{IsFedWith, IsBehind, NoneComes}
 use Rattle.merge_run.specs.Counted.{counted}
 use Rattle.merge_run.specs.Sending.{left_for}
 use Rattle.merge_run.specs.Taking.{is_same, feed_in}
 use Rattle.merge_run.specs.declared.merging.Merging.{Merging}
 use Rattle.merge_run.specs.declared.phase.Phase.{Phase}
 use Rattle.merge_run.specs.declared.phase.Phase.TheVariants.{Reads, Gives, Rests, Done}
-
--- A feed of a network was fed with an input, and gave these records.
-pub record IsFedWith (c : Config) (f : FrameFeed) (bytes : List ℕ) (ended : Bool) (given : List FrameRecord) : Type 0 where
-  pub network : feed.config_of f ≡ c
-  pub stands : FrameFeedStandsFor f bytes ended given
-
--- What waits has a number that is no lower; and if nothing waits and the stream has not ended, no record that follows has one.
-pub record IsBehind (next : ℕ) (f : FrameFeed) (given : List FrameRecord) : Type 0 where
-  pub waits : (w : Waiting) → waiting_of f ≡ Some w → next ≤ w.frame
-  pub idle : waiting_of f ≡ None → feed.has_ended f ≡ false → next ≤ above_all given
 
 -- The frame of the last record is under way: it waits still.
 pub record IsHeld (c : Config) (f : FrameFeed) (bytes : List ℕ) (ended : Bool) (given : List FrameRecord) : Type 0 where
@@ -58,11 +48,6 @@ OfFeed false c f bytes ended given = IsFedWith c f bytes ended given
 abbrev pub IsPast : Bool → ℕ → FrameFeed → List FrameRecord → Type 0
 IsPast true next f given = next ≤ above_all given
 IsPast false next f given = IsBehind next f given
-
--- No record comes.
-pub record NoneComes (f : FrameFeed) : Type 0 where
-  pub none : waiting_of f ≡ None
-  pub ended : feed.has_ended f ≡ true
 
 -- Of these frames units were given, the first ones whatever packets follow, and before the end only complete ones. Of the last one
 -- these bodies are left.

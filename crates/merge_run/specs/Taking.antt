@@ -1,15 +1,8 @@
 -- What becomes of the records that wait in two feeds. No clause of a run cites this module.
-use Rattle.std.specs.Prelude.{◌&&◌, Bool, true, false, not, is_some, Option, Some, None}
-use Rattle.frame_groups.specs.declared.waiting.Waiting.{Waiting}
+use Rattle.std.specs.Prelude.{◌&&◌, Bool, true, false, not, Option, Some, None}
 use Rattle.feed_merge.specs.declared.seen.Feed.{Feed}
 use Rattle.feed_merge.specs.declared.seen.Feed.TheVariants.{A, B}
-use Rattle.feed_merge.specs.declared.seen.Seen.{Seen}
 use Rattle.held_feed.specs.declared.feed.FrameFeed.{FrameFeed}
-
--- a record that waits, as it is seen
-abbrev pub seen_of : Option Waiting → Option Seen
-seen_of None = None
-seen_of (Some w) = Some (record { frame = w.frame; whole = not (is_some w.mute) })
 
 -- whether two are the same feed
 abbrev pub is_same : Feed → Feed → Bool

@@ -1,8 +1,8 @@
 // A run of the merger of a plan.
-ghost use Rattle.std.specs.Prelude.{◌≢◌, IfOk, IfErr};
+ghost use Rattle.std.specs.Prelude.{◌≢◌};
 ghost use Rattle.file_run.specs.Work.{Ends, Into};
-ghost use Rattle.merge_run.specs.MergeRun.{names_of, RunsAll, Stops};
-ghost use Rattle.merge_run.specs.MergeWork.{merge_work};
+ghost use Rattle.two_feeds.specs.Fed.{names_of};
+ghost use Rattle.merge_run.specs.MergeRun.{merge_work};
 
 use crate::machine::MergeMachine;
 use crate::stop::{MergeStop, Ran};
@@ -27,8 +27,6 @@ pub fn run<D: Desk>(
     requires apart_a { a.now ≢ out.now }
     requires apart_b { b.now ≢ out.now }
     ensures ends { Ends (merge_work plan.now) (D.state desk.old) (D.state desk.new) (Into out.now) (names_of a.now b.now) result }
-    ensures ok { IfOk result (RunsAll plan.now (D.state desk.old) (D.state desk.new) a.now b.now out.now) }
-    ensures err { IfErr result (Stops plan.now (D.state desk.old) (D.state desk.new) a.now b.now out.now) }
 {
     due_records_law();
     complete_law();

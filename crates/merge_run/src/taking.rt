@@ -5,7 +5,8 @@ ghost use Rattle.feed_merge.specs.Picking.{picked};
 ghost use Rattle.feed_merge.specs.declared.seen.Feed.TheVariants.{A, B};
 ghost use Rattle.held_feed.specs.StandsFor.{FrameFeedStandsFor, waiting_of, left_of};
 ghost use Rattle.two_feeds.specs.Skips.{CanBeLeft, Takes, IsSameFeed, one_if};
-ghost use Rattle.merge_run.specs.Taking.{seen_of, is_same, is_from, leaves, feed_in};
+ghost use Rattle.merge_run.specs.Taking.{is_same, is_from, leaves, feed_in};
+ghost use Rattle.two_feeds.specs.Seen.{seen_of};
 
 use feed_merge::{Feed, Pick, Seen, pick};
 use frame_groups::Waiting;

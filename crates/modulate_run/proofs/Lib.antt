@@ -2,5 +2,4 @@ pub mod CountLemmas
 pub mod FrontLemmas
 pub mod LawLemmas
 pub mod MachineLemmas
-pub mod OldLemmas
 pub mod WorkLemmas

@@ -1,7 +1,7 @@
 -- What a machine does by its file.
 use Rattle.std.proofs.Common.{◌≡◌, ◌≢◌, ℕ, ◌+◌, ◌-◌, ◌<◌, ◌≤◌, ◌==◌, Bool, true, false, cond, List, [], ◌∷◌, ◌++◌, length, take}
 use Rattle.std.proofs.Common.{Option, Some, None, refl, ap, sym, subst, ◌∙◌, arith, append_assoc, append-nil, eqb-true}
-use Rattle.std.specs.Prelude.{Result, Ok, Err, nat_lt, slice_index, flat_map}
+use Rattle.std.specs.Prelude.{Err, nat_lt, slice_index, flat_map}
 use Rattle.std.proofs.lemmas.Bool.{eqb-false, ltb-false, ltb-true}
 use Rattle.std.proofs.lemmas.List.{take_at, take-append-le, nil_from_length}
 use Rattle.std.proofs.lemmas.List.Concat.{flat_map-append}
@@ -21,19 +21,17 @@ use Rattle.file_run.specs.FileRun.{IsFed, AreFed, read_ahead}
 use Rattle.file_run.specs.Steps.{Needs, FallsShort}
 use Rattle.file_run.specs.Work.{AreWhole, IsRightAtEnd, GaveSome, DoesWork}
 use Rattle.file_run.specs.declared.machine.Step.TheVariants.{Read, Give, End}
-use Rattle.file_run.specs.declared.stop.RunFault.TheVariants.{TooLong, ReadFault, WriteFault}
-use Rattle.file_run.specs.declared.stop.RunStop.{RunStop}
-use Rattle.file_run.specs.declared.stop.RunStop.TheVariants.{Refused, Files}
+use Rattle.file_run.specs.declared.stop.RunFault.TheVariants.{TooLong, ReadFault}
+use Rattle.file_run.specs.declared.stop.RunStop.TheVariants.{Files}
 use Rattle.file_run.proofs.OneInputLemmas.{whole_file}
 use Rattle.file_run.proofs.StandsLemmas.{fed_since}
 use Rattle.file_run.proofs.WorkLemmas.{are_whole}
 use Rattle.modulate_run.specs.AsMachine.{step_of, Behind, IsNext, IsAll, Becomes, ending_of}
 use Rattle.modulate_run.specs.Counted.{counted}
 use Rattle.modulate_run.specs.ModulateRun.{output_of, AreEarly, HasWritten, HasEarly, HasSome}
-use Rattle.modulate_run.specs.ModulateWork.{modulate_work}
+use Rattle.modulate_run.specs.ModulateRun.{modulate_work}
 use Rattle.modulate_run.specs.declared.machine.ModulatorMachine.{ModulatorMachine}
 use Rattle.modulate_run.specs.declared.stop.Ran.{Ran}
-use Rattle.modulate_run.specs.declared.stop.ModulateStop.{ModulateStop}
 use Rattle.modulate_run.proofs.CountLemmas.{early_one}
 use Rattle.modulate_run.proofs.MachineLemmas.{falls_short}
 
@@ -178,7 +176,7 @@ module _ (law : DueFront) (start now : ModulatorMachine) (files : ℕ → List �
       (λ zero.
       let few : length (records_of c got) ≡ 0 = sym (ap (λ (x : Ran). x.records) a.ran_is) ∙ eqb-true now.ran.records 0 zero in
       let empty : records_of c got ≡ [] = nil_from_length _ few in
-      rw zero (ends, (sym records ∙ empty), sym a.all ∙ ap (flat_map (spelled c)) empty))
+      rw zero (ends, record { none = sym records ∙ empty; empty = sym a.all ∙ ap (flat_map (spelled c)) empty }))
       (λ some. rw some (
         ends,
         record {
@@ -277,13 +275,13 @@ unwritten law start now files places events bytes all are g =
 pub modulate_does : DueFront → (start : ModulatorMachine) → DoesWork (modulate_work (config_of start.modulator)) 1 reach_of
     (λ m. step_of m.waiting m.ended) (Becomes start) (λ m. ending_of m.waiting m.ran)
 modulate_does law start = record {
-  ends = λ files places events now all are came end.
+  ends = λ files places events now all are within came end.
       subst (λ (k : Config). IsRightAtEnd (modulate_work k) files places (gave events) (ending_of now.waiting now.ran)) came.0
       (ends_in law start now files places events all are came now.waiting now.ended refl refl end);
-  too_long = λ files places events now input all are came lt most wants.
+  too_long = λ files places events now input all are within came lt most wants.
       subst (λ (k : Config). modulate_work k files (Err (Files (TooLong input))) places (gave events)) came.0
       (too_long law start now files places events all are came input lt most wants);
-  unread = λ files places events now input all are came lt wants.
+  unread = λ files places events now input all are within came lt wants.
       subst (λ (k : Config). modulate_work k files (Err (Files (ReadFault input))) places (gave events)) came.0
       (unread law start now files places events all are came input wants);
   unwritten = λ files places events now bytes all are g. unwritten law start now files places events bytes all are g;

@@ -3,4 +3,3 @@ pub mod Counted
 pub mod GivenRecord
 pub mod Laws
 pub mod ModulateRun
-pub mod ModulateWork

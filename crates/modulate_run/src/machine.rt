@@ -110,7 +110,7 @@ impl<'p> Ending for ModulatorMachine<'p> {
 
 impl<'p> Working for ModulatorMachine<'p> {
     ghost use Rattle.modulator.specs.StandsFor.{config_of};
-    ghost use Rattle.modulate_run.specs.ModulateWork.{modulate_work};
+    ghost use Rattle.modulate_run.specs.ModulateRun.{modulate_work};
 
     ghost work = { λ m. modulate_work (config_of m.modulator) };
 

@@ -1,8 +1,7 @@
 // A run of the modulator of a plan.
-ghost use Rattle.std.specs.Prelude.{◌≢◌, [], ◌∷◌, IfOk, IfErr};
-ghost use Rattle.modulate_run.specs.ModulateRun.{RunsAll, Stops};
+ghost use Rattle.std.specs.Prelude.{◌≢◌, [], ◌∷◌};
 ghost use Rattle.file_run.specs.Work.{Ends, Into};
-ghost use Rattle.modulate_run.specs.ModulateWork.{modulate_work};
+ghost use Rattle.modulate_run.specs.ModulateRun.{modulate_work};
 
 use crate::machine::ModulatorMachine;
 use crate::stop::{ModulateStop, Ran};
@@ -23,8 +22,6 @@ pub fn run<D: Desk>(
 ) -> Result<Ran, RunStop<ModulateStop>>
     requires apart { input.now ≢ out.now }
     ensures ends { Ends (modulate_work plan.now) (D.state desk.old) (D.state desk.new) (Into out.now) (input.now ∷ []) result }
-    ensures ok { IfOk result (RunsAll plan.now (D.state desk.old) (D.state desk.new) input.now out.now) }
-    ensures err { IfErr result (Stops plan.now (D.state desk.old) (D.state desk.new) input.now out.now) }
 {
     let mut machine = ModulatorMachine::open(alloc, plan)?;
     let ended = run_work_over(alloc, &mut machine, input, out, desk);

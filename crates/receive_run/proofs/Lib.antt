@@ -7,8 +7,6 @@ pub mod WantedLemmas
 pub mod GivenLemmas
 pub mod FewLemmas
 pub mod SameLemmas
-pub mod MetLemmas
-pub mod UnwrittenLemmas
-pub mod RunLemmas
+pub mod WorkLemmas
 pub mod OnceLemmas
 pub mod EndLemmas

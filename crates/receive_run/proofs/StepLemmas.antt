@@ -1,19 +1,18 @@
 -- What a call of the machine leaves as it was.
-use Rattle.std.proofs.Common.{◌≡◌, ◌≢◌, ℕ, ◌<◌, List, [], Option, None, false, length, refl, ap, sym, subst, ◌∙◌, arith}
+use Rattle.std.proofs.Common.{◌≡◌, ◌≢◌, ℕ, ◌<◌, List, Option, None, length, ap, sym, subst, ◌∙◌, arith}
 use Rattle.plp_config.specs.Capacity.{IsPlan}
 use Rattle.plp_config.specs.declared.config.Config.{Config}
-use Rattle.site_frame.specs.Record.{head_len}
 use Rattle.site_frame.specs.declared.fault.RecordWhy.{RecordWhy}
 use Rattle.record_feed.specs.Behind.{Behind}
-use Rattle.record_feed.specs.StandsFor.{RecordFeedStandsFor, coming_of, left_of}
+use Rattle.record_feed.specs.StandsFor.{RecordFeedStandsFor, coming_of}
 use Rattle.record_feed.specs.declared.coming.Coming.{Coming}
-use Rattle.record_feed.specs.declared.coming.Coming.TheVariants.{Head, Whole}
+use Rattle.record_feed.specs.declared.coming.Coming.TheVariants.{Whole}
 use Rattle.joined_receiver.specs.JoinedBack.{MayJoin}
-use Rattle.joined_receiver.specs.StandsFor.{IsFresh, network_of, plp_of, joins_of, due_of}
+use Rattle.joined_receiver.specs.StandsFor.{network_of, plp_of, joins_of, due_of}
 use Rattle.joined_receiver.specs.declared.receiver.JoinedReceiver.{JoinedReceiver}
 use Rattle.file_run.specs.Events.{Event, fed, has_ended, gave}
 use Rattle.receive_run.specs.Received.{expected_after}
-use Rattle.receive_run.specs.AsMachine.{SameTaken, Judged, Given, first_of, Shown, Becomes}
+use Rattle.receive_run.specs.AsMachine.{SameTaken, Judged, Given, first_of, Shown}
 use Rattle.receive_run.specs.Taking.{expected_by, SamePlp}
 use Rattle.receive_run.specs.declared.machine.ReceiverMachine.{ReceiverMachine}
 

@@ -1,14 +1,15 @@
 // A run of the receiver of a PLP.
-ghost use Rattle.std.specs.Prelude.{◌≢◌, ◌<◌, length, IfOk, IfErr};
+ghost use Rattle.std.specs.Prelude.{◌≢◌, ◌<◌, [], ◌∷◌, length};
 ghost use Rattle.common_plp.specs.Groups.{common_of};
 ghost use Rattle.joined_receiver.specs.JoinedBack.{MayJoin};
+ghost use Rattle.file_run.specs.Work.{Ends, Into};
 ghost use Rattle.receive_run.specs.JoinedRun as joined;
-ghost use Rattle.receive_run.specs.ReceiveRun.{RunsAll, Stops};
+ghost use Rattle.receive_run.specs.ReceiveRun.{receive_work};
 
 use crate::machine::ReceiverMachine;
 use crate::stop::{Ran, ReceiveStop};
 use common_plp::common_of;
-use file_run::{RunStop, events_law, run_over};
+use file_run::{RunStop, run_over};
 use plp_config::Plan;
 use ports::Desk;
 use record_feed::stands_law;
@@ -28,10 +29,9 @@ fn run_with<D: Desk>(
     requires plp { plp < length plan.now.plps }
     requires may { MayJoin plan.now plp joins }
     requires apart { input.now ≢ out.now }
-    ensures ok { IfOk result (joined.RunsAll joins plan.now plp (D.state desk.old) (D.state desk.new) input.now out.now) }
-    ensures err { IfErr result (joined.Stops joins plan.now plp (D.state desk.old) (D.state desk.new) input.now out.now) }
+    ensures ends { Ends (joined.receive_work joins plan.now plp) (D.state desk.old) (D.state desk.new) (Into out.now)
+        (input.now ∷ []) result }
 {
-    events_law();
     reading_law();
     refusal_law();
     place_law();
@@ -44,7 +44,7 @@ fn run_with<D: Desk>(
 /// Runs the receiver of the PLP at a place of a plan: opens the input, creates the output, and writes the packets of all slots
 /// that are due behind a record before it reads the next one. It reads no further than the record under way, and no further than
 /// a head with which no record begins. All memory is taken before the input is opened.
-#[tactic(auto, using(crate::proofs::RunLemmas::may_none))]
+#[tactic(auto, using(crate::proofs::WorkLemmas::may_none))]
 pub fn run<D: Desk>(
     alloc: Global,
     plan: &Plan,
@@ -55,15 +55,14 @@ pub fn run<D: Desk>(
 ) -> Result<Ran, RunStop<ReceiveStop>>
     requires plp { plp < length plan.now.plps }
     requires apart { input.now ≢ out.now }
-    ensures ok { IfOk result (RunsAll plan.now plp (D.state desk.old) (D.state desk.new) input.now out.now) }
-    ensures err { IfErr result (Stops plan.now plp (D.state desk.old) (D.state desk.new) input.now out.now) }
+    ensures ends { Ends (receive_work plan.now plp) (D.state desk.old) (D.state desk.new) (Into out.now) (input.now ∷ []) result }
 {
     run_with(alloc, plan, plp, None, input, out, desk)
 }
 
 /// The same with the packets of the common PLP of its group, if it has one: in each slot where the PLP has a null packet the packet
 /// of the common one.
-#[tactic(auto, using(crate::proofs::RunLemmas::may_common))]
+#[tactic(auto, using(crate::proofs::WorkLemmas::may_common))]
 pub fn run_joined<D: Desk>(
     alloc: Global,
     plan: &Plan,
@@ -74,10 +73,8 @@ pub fn run_joined<D: Desk>(
 ) -> Result<Ran, RunStop<ReceiveStop>>
     requires plp { plp < length plan.now.plps }
     requires apart { input.now ≢ out.now }
-    ensures ok { IfOk result
-        (joined.RunsAll (common_of plan.now plp) plan.now plp (D.state desk.old) (D.state desk.new) input.now out.now) }
-    ensures err { IfErr result
-        (joined.Stops (common_of plan.now plp) plan.now plp (D.state desk.old) (D.state desk.new) input.now out.now) }
+    ensures ends { Ends (joined.receive_work (common_of plan.now plp) plan.now plp) (D.state desk.old) (D.state desk.new)
+        (Into out.now) (input.now ∷ []) result }
 {
     let joins = common_of(plan.config(), plp);
     run_with(alloc, plan, plp, joins, input, out, desk)

@@ -153,7 +153,7 @@ pub const COMMANDS: [Command; 14] = [
     Command {
         name: "compare",
         words: "compare CONFIG A B",
-        what: "says of each frame of two T2-MI streams of a network, A and B, whether both send it with the same L1 and the same blocks that begin in it",
+        what: "says of each frame of two T2-MI streams of a network, A and B, whether both send it with the same L1 and the same blocks",
         example: "compare small.txt stream.ts late.ts",
         rule: None,
     },

@@ -1,5 +1,5 @@
 -- Every command is complete: if nothing outside fails, it ends as its files say.
-use Rattle.std.proofs.Common.{◌≡◌, ◌≢◌, ◌⊎◌, ℕ, ◌<◌, ◌≤◌, ◌^◌, inl, inr, ⊎_elim, List, [], ◌∷◌, length, Option, Some, None, refl}
+use Rattle.std.proofs.Common.{◌≡◌, ◌⊎◌, ℕ, zero, suc, ◌<◌, ◌≤◌, ◌^◌, inl, inr, ⊎_elim, List, [], ◌∷◌, length, Option, Some, None, refl}
 use Rattle.std.proofs.Common.{ap, sym, subst, ◌∙◌, arith}
 use Rattle.std.specs.Prelude.{IfSome, option_map, nat_lt, Result, Ok, Err}
 use Rattle.std.specs.List.{list_all}
@@ -20,29 +20,33 @@ use Rattle.config_file.specs.ConfigFile.{GivesNone, GivesNoPlan}
 use Rattle.config_file.specs.Laws.{GivesConfig, GivesPlan, OnePlan}
 use Rattle.config_file.specs.declared.stop.ConfigStop.{ConfigStop}
 use Rattle.config_file.specs.declared.stop.ConfigStop.TheVariants as config
+use Rattle.desk_io.specs.Reading.{longest_file}
 use Rattle.file_run.specs.FileRun.{file_at}
+use Rattle.file_run.specs.Work.{Work, Sink, Into, Aloud, IsRightAtEnd, Ends as RunEnds}
 use Rattle.file_run.specs.declared.stop.RunFault.TheVariants as run_fault
 use Rattle.file_run.specs.declared.stop.RunStop.{RunStop}
 use Rattle.file_run.specs.declared.stop.RunStop.TheVariants as run
+use Rattle.file_run.proofs.EndsLemmas.{decides}
 use Rattle.gateway_run.specs.SharedRun.{frames_of, units_of}
 use Rattle.gateway_run.specs.Laws.{MustRun, OneRun}
 use Rattle.gateway_run.specs.declared.stop.Ran.{Ran}
 use Rattle.gateway_run.specs.declared.stop.GatewayStop.{GatewayStop}
 use Rattle.gateway_run.specs.declared.stop.GatewayStop.TheVariants as gateway
-use Rattle.modulate_run.specs.Counted.{counted}
 use Rattle.modulate_run.specs.Laws.{OneRun as OneModulation}
-use Rattle.modulate_run.specs.ModulateRun.{AreEarly, HasEarly}
+use Rattle.modulate_run.specs.ModulateRun.{AreEarly, HasEarly, modulate_work}
 use Rattle.modulate_run.specs.declared.stop.Ran.{Ran as Modulated}
 use Rattle.modulate_run.specs.declared.stop.ModulateStop.{ModulateStop}
 use Rattle.modulate_run.specs.declared.stop.ModulateStop.TheVariants as modulate
 use Rattle.common_plp.specs.Inputs.{input_count}
 use Rattle.common_plp.specs.Sharing.{Sharing, joined_with, IsPlaceBy}
 use Rattle.receive_run.specs.JoinedLaws.{OneRun as OneReception}
+use Rattle.receive_run.specs.JoinedRun.{receive_work}
 use Rattle.receive_run.specs.declared.stop.Ran.{Ran as Received}
 use Rattle.receive_run.specs.declared.stop.ReceiveStop.{ReceiveStop}
 use Rattle.receive_run.specs.declared.stop.ReceiveStop.TheVariants as receive
 use Rattle.merge_run.specs.Laws.{OneRun as OneMerging}
-use Rattle.merge_run.specs.MergeRun.{names_of}
+use Rattle.merge_run.specs.MergeRun.{merge_work}
+use Rattle.two_feeds.specs.Fed.{names_of}
 use Rattle.merge_run.specs.declared.stop.Ran.{Ran as Merged}
 use Rattle.merge_run.specs.declared.stop.MergeStop.{MergeStop}
 use Rattle.merge_run.specs.declared.stop.MergeStop.TheVariants as merge
@@ -50,6 +54,7 @@ use Rattle.swap_run.specs.Laws.{OneRun as OneSwapping}
 use Rattle.swap_run.specs.declared.stop.Ran.{Ran as Swapped}
 use Rattle.swap_run.specs.declared.stop.SwapStop.{SwapStop}
 use Rattle.swap_run.specs.declared.stop.SwapStop.TheVariants as swap
+use Rattle.compare_run.specs.CompareRun.{compare_work}
 use Rattle.compare_run.specs.Laws.{OneRun as OneComparison}
 use Rattle.compare_run.specs.declared.stop.CompareStop.{CompareStop}
 use Rattle.compare_run.specs.declared.stop.CompareStop.TheVariants as compare
@@ -277,6 +282,35 @@ ways Ends Stops line cause Must stops ends old mid new outcome same (inr (ran, a
     ⊎_elim (λ (done : outcome ≡ Done). inl (subst (Must mid) (sym done) x.0)) inr
     (told old after new (line ran) outcome (x.1 ∙ same) tells)
 
+-- A run that does a work ended as something must be of the files of the desk, or a call failed: if it must be by what its work is at
+-- the end, and by a file that is too long.
+asked : {R E : Type 0} (work : Work R E) (sink : Sink) (ins : List (List ℕ)) (cause : E → Outcome) (Must : Held → Outcome → Type 0)
+    → ((h : Held) (result : Result R E) (places bytes : List ℕ) → IsRightAtEnd work (file_at h ins) places bytes result
+    → Must h (run_outcome cause result))
+    → ((h : Held) (input : ℕ) (outcome : Outcome) → input < length ins → longest_file ≤ length (file_at h ins input) → Must h outcome)
+    → (mid new : State) (result : Result R (RunStop E)) → RunEnds work mid new sink ins result
+    → IfSome mid.held (λ h. Must h (run_outcome (stop_outcome cause) result)) ⊎ By mid new (run_outcome (stop_outcome cause) result)
+asked work sink ins cause Must right long mid new (Ok ran) ends =
+    let why = decides work mid new sink ins (Ok ran) ends in
+    inl (IfSome_then mid.held why.1 (λ h w. right h (Ok ran) w.0 w.1 w.2))
+asked work sink ins cause Must right long mid new (Err (run.Refused stop)) ends =
+    let why = decides work mid new sink ins (Err (run.Refused stop)) ends in
+    inl (IfSome_then mid.held why.1 (λ h w. right h (Err stop) w.0 w.1 w.2))
+asked work sink ins cause Must right long mid new (Err (run.Files (run_fault.TooLong input))) ends =
+    let why = decides work mid new sink ins (Err (run.Files (run_fault.TooLong input))) ends in
+    inl (IfSome_then mid.held why.1 (λ h most. long h input _ why.0 most))
+asked work sink ins cause Must right long mid new (Err (run.Files (run_fault.ReadFault input))) ends = inr (inl ends.0.rose)
+asked work sink ins cause Must right long mid new (Err (run.Files run_fault.WriteFault)) ends = inr (inr (inl ends.0.rose))
+asked work sink ins cause Must right long mid new (Err run.OutOfMemory) ends = inr (inr (inr refl))
+
+asked_at_end : {R E : Type 0} (work : Work R E) (sink : Sink) (ins : List (List ℕ)) (cause : E → Outcome) (Must : Held → Outcome → Type 0)
+    → ((h : Held) (result : Result R E) (places bytes : List ℕ) → IsRightAtEnd work (file_at h ins) places bytes result
+    → Must h (run_outcome cause result))
+    → (mid new : State) (ran : R) → RunEnds work mid new sink ins (Ok ran) → IfSome mid.held (λ h. Must h Done) × SameCounts mid new
+asked_at_end work sink ins cause Must right mid new ran ends =
+    let why = decides work mid new sink ins (Ok ran) ends in
+    (IfSome_then mid.held why.1 (λ h w. right h (Ok ran) w.0 w.1 w.2), why.0)
+
 -- A command by the plan of CONFIG is complete if what follows is what must be over the plan.
 by_plan : OnePlan → (command : Command) (config : List ℕ) (Follows : Config → State → State → Outcome → Type 0)
     (Mine Must : Held → Config → Outcome → Type 0)
@@ -366,33 +400,18 @@ not_early c file bytes h all =
     let n = h.number in
     absurd (omega (arith, less, n))
 
-modulate_stops : (file out : List ℕ) (c : Config) (mid new : State) (stop : RunStop ModulateStop)
-    → modulates.StopsSo file out c mid new stop → ModulationMust file c mid (stop_outcome modulate_cause stop)
-    ⊎ By mid new (stop_outcome modulate_cause stop)
-modulate_stops file out c mid new (run.Refused modulate.NoSuperframe) s =
-    inl (IfSome_then mid.held s.0.none (λ h none. λ short. (Err modulate.NoSuperframe, none, refl)))
-modulate_stops file out c mid new (run.Refused modulate.TooManyFrames) s =
-    inl (IfSome_then mid.held s.0.works.holds
-    (λ h w. λ short. (Err modulate.TooManyFrames, not_early c (bytes_of h.files file) w.2.0 w.2.2, refl)))
-modulate_stops file out c mid new (run.Files (run_fault.TooLong input)) s =
-    inl (IfSome_then mid.held s.0.1.long (λ h long. λ short. let most = long.1 in absurd (omega (arith, most, short))))
-modulate_stops file out c mid new (run.Files (run_fault.ReadFault input)) s = inr (inl s.0.1.rose)
-modulate_stops file out c mid new (run.Files run_fault.WriteFault) s = inr (inr (inl s.0.0.rose))
-modulate_stops file out c mid new run.OutOfMemory s = inr (inr (inr refl))
+modulated_so : (file : List ℕ) (c : Config) (h : Held) (result : Result Modulated ModulateStop) (places bytes : List ℕ)
+    → IsRightAtEnd (modulate_work c) (file_at h (file ∷ [])) places bytes result
+    → ModulatesIfShort (bytes_of h.files file) c (run_outcome modulate_cause result)
+modulated_so file c h (Ok ran) places bytes (whole, all) = λ short. (Ok ran, (all.some, all.early, all.ran_is), refl)
+modulated_so file c h (Err modulate.NoSuperframe) places bytes (whole, has) = λ short. (Err modulate.NoSuperframe, has.none, refl)
+modulated_so file c h (Err modulate.TooManyFrames) places bytes early =
+    λ short. (Err modulate.TooManyFrames, not_early c (bytes_of h.files file) bytes early, refl)
 
-modulate_ends : (file out : List ℕ) (c : Config) (mid after : State) (ran : Modulated)
-    → modulates.Ends file out c mid after ran → ModulationMust file c mid Done × SameCounts mid after
-modulate_ends file out c mid after ran (r, holds) = (
-  if_both mid.held (λ h. AreEarly (records_of c (bytes_of h.files file))
-      × (ran ≡ counted (records_of c (bytes_of h.files file)))) (λ h. records_of c (bytes_of h.files file) ≢ [])
-      (λ h. ModulatesIfShort (bytes_of h.files file) c Done) (λ h more some. λ short. (Ok ran, (some, more.0, more.1), refl))
-      (if_both mid.held (λ h. AreEarly (records_of c (bytes_of h.files file)))
-      (λ h. ran ≡ counted (records_of c (bytes_of h.files file)))
-      (λ h. AreEarly (records_of c (bytes_of h.files file)) × (ran ≡ counted (records_of c (bytes_of h.files file))))
-      (λ h early is. (early, is)) r.early r.ran_is)
-      r.some,
-  r.counts,
-)
+modulated_long : (file : List ℕ) (c : Config) (h : Held) (input : ℕ) (outcome : Outcome) → input < 1
+    → longest_file ≤ length (file_at h (file ∷ []) input) → ModulatesIfShort (bytes_of h.files file) c outcome
+modulated_long file c h zero outcome lt most = λ short. absurd (omega (arith, most, short))
+modulated_long file c h (suc input) outcome lt most = absurd (omega (arith, lt))
 
 modulate_so : OnePlan → OneModulation → (old new : State) (config file out : List ℕ) (result : Outcome)
     → modulates.Modulates old new config file out result → IsComplete (Modulate config file out) old new result
@@ -400,8 +419,13 @@ modulate_so one run old new config file out result does =
     by_plan one (Modulate config file out) config (modulates.Follows file out) (λ held. ModulatesIfShort (bytes_of held.files file))
     (λ held. ModulateMustEnd (bytes_of held.files file)) (λ held outcome m. m) (λ held c outcome m. m)
     (λ held c mine outcome plan. modulate_one run (bytes_of held.files file) c mine outcome)
-    (λ c old mid new result same runs. ways (modulates.Ends file out c) (modulates.StopsSo file out c) modulates.modulate_line
-    modulate_cause (ModulationMust file c) (modulate_stops file out c) (modulate_ends file out c) old mid new result same runs)
+    (λ c old mid new result same runs.
+    let must = λ (h : Held). ModulatesIfShort (bytes_of h.files file) c in
+    ways (modulates.Ends file out c) (modulates.StopsSo file out c) modulates.modulate_line modulate_cause (ModulationMust file c)
+    (λ x y stop e. asked (modulate_work c) (Into out) (file ∷ []) modulate_cause must (modulated_so file c) (modulated_long file c) x y
+    (Err stop) e.0)
+    (λ x y ran e. asked_at_end (modulate_work c) (Into out) (file ∷ []) modulate_cause must (modulated_so file c) x y ran e.0)
+    old mid new result same runs)
     old new result does
 
 -- ---- `receive`
@@ -409,31 +433,32 @@ modulate_so one run old new config file out result does =
 abbrev ReceptionMust : Sharing → ℕ → List ℕ → Config → State → Outcome → Type 0
 ReceptionMust sharing id file c mid outcome = IfSome mid.held (λ h. ReceivesIfShort sharing (bytes_of h.files file) id c outcome)
 
-receive_stops : (sharing : Sharing) (id : ℕ) (file out : List ℕ) (c : Config) (plp : ℕ) → IsPlaceBy sharing c id plp
-    → (mid new : State) (stop : RunStop ReceiveStop) → receives.StopsSo sharing file out c plp mid new stop
-    → ReceptionMust sharing id file c mid (stop_outcome receive_cause stop) ⊎ By mid new (stop_outcome receive_cause stop)
-receive_stops sharing id file out c plp at mid new (run.Refused (receive.RecordRefused number why)) s =
-    inl (IfSome_then mid.held s.works.holds
-    (λ h w. inr (plp, at, λ short. (Err (receive.RecordRefused number why), (w.2.0, w.2.2.before), refl))))
-receive_stops sharing id file out c plp at mid new (run.Files (run_fault.TooLong input)) s =
-    inl (IfSome_then mid.held s.1.long (λ h long. inr (plp, at, λ short. absurd (omega (arith, long, short)))))
-receive_stops sharing id file out c plp at mid new (run.Files (run_fault.ReadFault input)) s = inr (inl s.1.rose)
-receive_stops sharing id file out c plp at mid new (run.Files run_fault.WriteFault) s = inr (inr (inl s.0.rose))
-receive_stops sharing id file out c plp at mid new run.OutOfMemory s = inr (inr (inr refl))
+received_so : (sharing : Sharing) (id : ℕ) (file : List ℕ) (c : Config) (plp : ℕ) → IsPlaceBy sharing c id plp → (h : Held)
+    (result : Result Received ReceiveStop) (places bytes : List ℕ)
+    → IsRightAtEnd (receive_work (joined_with sharing c plp) c plp) (file_at h (file ∷ [])) places bytes result
+    → ReceivesIfShort sharing (bytes_of h.files file) id c (run_outcome receive_cause result)
+received_so sharing id file c plp at h (Ok ran) places bytes (whole, all) = inr (plp, at, λ short. (Ok ran, (bytes, all), refl))
+received_so sharing id file c plp at h (Err (receive.RecordRefused number why)) places bytes met =
+    inr (plp, at, λ short. (Err (receive.RecordRefused number why), (bytes, met.before), refl))
 
-receive_ends : (sharing : Sharing) (id : ℕ) (file out : List ℕ) (c : Config) (plp : ℕ) → IsPlaceBy sharing c id plp
-    → (mid after : State) (ran : Received) → receives.Ends sharing file out c plp mid after ran
-    → ReceptionMust sharing id file c mid Done × SameCounts mid after
-receive_ends sharing id file out c plp at mid after ran (r, holds) =
-    (IfSome_then mid.held r.works.holds (λ h w. inr (plp, at, λ short. (Ok ran, (w.2.0, w.2.2), refl))), r.counts)
+received_long : (sharing : Sharing) (id : ℕ) (file : List ℕ) (c : Config) (plp : ℕ) → IsPlaceBy sharing c id plp → (h : Held) (input : ℕ)
+    (outcome : Outcome) → input < 1 → longest_file ≤ length (file_at h (file ∷ []) input)
+    → ReceivesIfShort sharing (bytes_of h.files file) id c outcome
+received_long sharing id file c plp at h zero outcome lt most = inr (plp, at, λ short. absurd (omega (arith, most, short)))
+received_long sharing id file c plp at h (suc input) outcome lt most = absurd (omega (arith, lt))
 
 receive_follows : (sharing : Sharing) (id : ℕ) (file out : List ℕ) (c : Config) (old mid new : State) (result : Outcome)
     → SameCounts old mid → receives.Follows sharing id file out c mid new result
     → ReceptionMust sharing id file c mid result ⊎ By old new result
 receive_follows sharing id file out c old mid new result same (inl (none, stay, is)) = inl (if_any mid.held _ (λ h. inl (none, is)))
 receive_follows sharing id file out c old mid new result same (inr (plp, at, runs)) =
+    let work = receive_work (joined_with sharing c plp) c plp in
+    let must = λ (h : Held). ReceivesIfShort sharing (bytes_of h.files file) id c in
     ways (receives.Ends sharing file out c plp) (receives.StopsSo sharing file out c plp) receive_line receive_cause
-    (ReceptionMust sharing id file c) (receive_stops sharing id file out c plp at) (receive_ends sharing id file out c plp at)
+    (ReceptionMust sharing id file c)
+    (λ x y stop e. asked work (Into out) (file ∷ []) receive_cause must (received_so sharing id file c plp at)
+    (received_long sharing id file c plp at) x y (Err stop) e)
+    (λ x y ran e. asked_at_end work (Into out) (file ∷ []) receive_cause must (received_so sharing id file c plp at) x y ran e.0)
     old mid new result same runs
 
 receive_so : OnePlan → OneReception → (sharing : Sharing) (old new : State) (config : List ℕ) (id : ℕ) (file out : List ℕ)
@@ -451,25 +476,15 @@ receive_so one run sharing old new config id file out result does =
 abbrev MergingMust : List (List ℕ) → Config → State → Outcome → Type 0
 MergingMust ins c mid outcome = IfSome mid.held (λ h. MergesIfShort h ins c outcome)
 
-merge_stops : (a b out : List ℕ) (c : Config) (mid new : State) (stop : RunStop MergeStop) → merges.StopsSo a b out c mid new stop
-    → MergingMust (names_of a b) c mid (stop_outcome merge_cause stop) ⊎ By mid new (stop_outcome merge_cause stop)
-merge_stops a b out c mid new (run.Refused merge.NoSuperframe) s =
-    inl (IfSome_then mid.held s.works.holds (λ h w. λ short. (Err merge.NoSuperframe, w.2.2.none, refl)))
-merge_stops a b out c mid new (run.Refused merge.TooManyFrames) s =
-    inl (IfSome_then mid.held s.works.holds (λ h w. λ short. (Err merge.TooManyFrames, w.2.2.late, refl)))
-merge_stops a b out c mid new (run.Files (run_fault.TooLong input)) s =
-    inl (IfSome_then mid.held s.long
-    (λ h long. λ short. let most = long.1 in let few = short input s.place in absurd (omega (arith, most, few))))
-merge_stops a b out c mid new (run.Files (run_fault.ReadFault input)) s = inr (inl s.0.rose)
-merge_stops a b out c mid new (run.Files run_fault.WriteFault) s = inr (inr (inl s.0.rose))
-merge_stops a b out c mid new run.OutOfMemory s = inr (inr (inr refl))
+merged_so : (ins : List (List ℕ)) (c : Config) (h : Held) (result : Result Merged MergeStop) (places bytes : List ℕ)
+    → IsRightAtEnd (merge_work c) (file_at h ins) places bytes result → MergesIfShort h ins c (run_outcome merge_cause result)
+merged_so ins c h (Ok ran) places bytes (whole, all) = λ short. (Ok ran, (all.some, all.early, all.ran_is), refl)
+merged_so ins c h (Err merge.NoSuperframe) places bytes (whole, has) = λ short. (Err merge.NoSuperframe, has.none, refl)
+merged_so ins c h (Err merge.TooManyFrames) places bytes (has, ahead) = λ short. (Err merge.TooManyFrames, has.late, refl)
 
-merge_ends : (a b out : List ℕ) (c : Config) (mid after : State) (ran : Merged) → merges.Ends a b out c mid after ran
-    → MergingMust (names_of a b) c mid Done × SameCounts mid after
-merge_ends a b out c mid after ran (r, holds) = (
-  IfSome_then mid.held r.works.holds (λ h w. λ short. (Ok ran, (w.2.2.some, w.2.2.early, w.2.2.ran_is), refl)),
-  r.counts,
-)
+merged_long : (ins : List (List ℕ)) (c : Config) (h : Held) (input : ℕ) (outcome : Outcome) → input < length ins
+    → longest_file ≤ length (file_at h ins input) → MergesIfShort h ins c outcome
+merged_long ins c h input outcome lt most = λ short. let few = short input lt in absurd (omega (arith, most, few))
 
 merge_so : OnePlan → OneMerging → (old new : State) (config a b out : List ℕ) (result : Outcome)
     → merges.Merges old new config a b out result → IsComplete (Merge config a b out) old new result
@@ -477,8 +492,13 @@ merge_so one run old new config a b out result does =
     by_plan one (Merge config a b out) config (merges.Follows a b out) (λ held. MergesIfShort held (names_of a b))
     (λ held. MergeMustEnd held (names_of a b)) (λ held outcome m. m) (λ held c outcome m. m)
     (λ held c mine outcome plan. merge_one run held (names_of a b) c mine outcome)
-    (λ c old mid new result same runs. ways (merges.Ends a b out c) (merges.StopsSo a b out c) merges.merge_line merge_cause
-    (MergingMust (names_of a b) c) (merge_stops a b out c) (merge_ends a b out c) old mid new result same runs)
+    (λ c old mid new result same runs.
+    let must = λ (h : Held). MergesIfShort h (names_of a b) c in
+    ways (merges.Ends a b out c) (merges.StopsSo a b out c) merges.merge_line merge_cause (MergingMust (names_of a b) c)
+    (λ x y stop e. asked (merge_work c) (Into out) (names_of a b) merge_cause must (merged_so (names_of a b) c)
+    (merged_long (names_of a b) c) x y (Err stop) e)
+    (λ x y ran e. asked_at_end (merge_work c) (Into out) (names_of a b) merge_cause must (merged_so (names_of a b) c) x y ran e.0)
+    old mid new result same runs)
     old new result does
 
 -- ---- `swap`
@@ -533,31 +553,25 @@ swap_so one run old new config id t2mi file out result does =
 abbrev ComparisonMust : List (List ℕ) → Config → State → Outcome → Type 0
 ComparisonMust ins c mid outcome = IfSome mid.held (λ h. ComparesIfShort h ins c outcome)
 
-compare_ways : (a b : List ℕ) (c : Config) (mid new : State) (result : Result Compared (RunStop CompareStop))
-    → compares.Runs c mid new a b result
-    → ComparisonMust (names_of a b) c mid (run_outcome (stop_outcome compare_cause) result)
-    ⊎ By mid new (run_outcome (stop_outcome compare_cause) result)
-compare_ways a b c mid new (Ok counts) r =
-    inl (IfSome_then mid.held r.speaks.holds (λ h w. λ short. (Ok counts, (w.have, w.none, w.counts_are), refl)))
-compare_ways a b c mid new (Err (run.Refused compare.NoSuperframe)) s =
-    inl (IfSome_then mid.held s.speaks.holds (λ h w. λ short. (Err compare.NoSuperframe, w.none, refl)))
-compare_ways a b c mid new (Err (run.Refused compare.TooManyFrames)) s =
-    inl (IfSome_then mid.held s.speaks.holds (λ h w. λ short. (Err compare.TooManyFrames, w.late, refl)))
-compare_ways a b c mid new (Err (run.Refused (compare.Differs frame))) s =
-    inl (IfSome_then mid.held s.speaks.holds (λ h w. λ short. (Err (compare.Differs frame), (w.have, w.first), refl)))
-compare_ways a b c mid new (Err (run.Files (run_fault.TooLong input))) s =
-    inl (IfSome_then mid.held s.long
-    (λ h long. λ short. let most = long.1 in let few = short input s.place in absurd (omega (arith, most, few))))
-compare_ways a b c mid new (Err (run.Files (run_fault.ReadFault input))) s = inr (inl s.0.rose)
-compare_ways a b c mid new (Err (run.Files run_fault.WriteFault)) s = inr (inr (inl s.0.rose))
-compare_ways a b c mid new (Err run.OutOfMemory) s = inr (inr (inr refl))
+compared_so : (ins : List (List ℕ)) (c : Config) (h : Held) (result : Result Compared CompareStop) (places bytes : List ℕ)
+    → IsRightAtEnd (compare_work c) (file_at h ins) places bytes result → ComparesIfShort h ins c (run_outcome compare_cause result)
+compared_so ins c h (Ok counts) places bytes (whole, all) = λ short. (Ok counts, (all.have, all.none, all.counts_are), refl)
+compared_so ins c h (Err (compare.Differs frame)) places bytes (whole, other) =
+    λ short. (Err (compare.Differs frame), (other.have, other.first), refl)
+compared_so ins c h (Err compare.NoSuperframe) places bytes (whole, has) = λ short. (Err compare.NoSuperframe, has.none, refl)
+compared_so ins c h (Err compare.TooManyFrames) places bytes (has, ahead) = λ short. (Err compare.TooManyFrames, has.late, refl)
+
+compared_long : (ins : List (List ℕ)) (c : Config) (h : Held) (input : ℕ) (outcome : Outcome) → input < length ins
+    → longest_file ≤ length (file_at h ins input) → ComparesIfShort h ins c outcome
+compared_long ins c h input outcome lt most = λ short. let few = short input lt in absurd (omega (arith, most, few))
 
 compare_follows : (a b : List ℕ) (c : Config) (old mid new : State) (result : Outcome) → SameCounts old mid
     → compares.Follows a b c mid new result → ComparisonMust (names_of a b) c mid result ⊎ By old new result
 compare_follows a b c old mid new result same (told, runs, is, never) =
     ⊎_elim (λ m. inl (subst (ComparisonMust (names_of a b) c mid) (sym is) m))
     (λ by. inr (by_before old mid new result same (subst (By mid new) (sym is) by)))
-    (compare_ways a b c mid new told runs)
+    (asked (compare_work c) Aloud (names_of a b) compare_cause (λ h. ComparesIfShort h (names_of a b) c) (compared_so (names_of a b) c)
+    (compared_long (names_of a b) c) mid new told runs)
 
 compare_so : OnePlan → OneComparison → (old new : State) (config a b : List ℕ) (result : Outcome)
     → compares.Compares old new config a b result → IsComplete (Compare config a b) old new result

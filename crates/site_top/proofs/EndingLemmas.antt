@@ -21,7 +21,7 @@ use Rattle.receive_run.specs.JoinedLaws.{MustRun as ReceiveMust, OneRun as OneRe
 use Rattle.receive_run.specs.declared.stop.Ran.{Ran as Received}
 use Rattle.receive_run.specs.declared.stop.ReceiveStop.{ReceiveStop}
 use Rattle.merge_run.specs.Laws.{MustRun as MergeMust, OneRun as OneMerging}
-use Rattle.merge_run.specs.MergeRun.{names_of}
+use Rattle.two_feeds.specs.Fed.{names_of}
 use Rattle.merge_run.specs.declared.stop.Ran.{Ran as Merged}
 use Rattle.merge_run.specs.declared.stop.MergeStop.{MergeStop}
 use Rattle.swap_run.specs.Laws.{MustRun as SwapMust, OneRun as OneSwapping}

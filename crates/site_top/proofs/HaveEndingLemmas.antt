@@ -16,7 +16,7 @@ use Rattle.common_plp.specs.Inputs.{input_count}
 use Rattle.common_plp.specs.Sharing.{Sharing, joined_with}
 use Rattle.receive_run.specs.JoinedLaws.{RunEnds as ReceptionEnds}
 use Rattle.merge_run.specs.Laws.{RunEnds as MergingEnds}
-use Rattle.merge_run.specs.MergeRun.{names_of}
+use Rattle.two_feeds.specs.Fed.{names_of}
 use Rattle.swap_run.specs.Laws.{RunEnds as SwappingEnds}
 use Rattle.compare_run.specs.Laws.{RunEnds as ComparisonEnds}
 use Rattle.show_run.specs.Laws.{EachEnds, EachRecordsEnd}

@@ -1,5 +1,6 @@
 -- What comes back of a file of the records of a run's frames, with what goes in common PLPs.
-use Rattle.std.proofs.Common.{◌≡◌, ◌<◌, ℕ, List, length, Option, None, ap, subst, ◌∙◌}
+use Rattle.std.proofs.Common.{◌<◌, ℕ, List, [], ◌∷◌, length, Option, ap, subst, ◌∙◌}
+use Rattle.std.specs.Prelude.{Ok}
 use Rattle.std.specs.List.{concat}
 use Rattle.ports.specs.Desk.{State}
 use Rattle.plp_config.specs.Capacity.{IsPlan}
@@ -9,8 +10,9 @@ use Rattle.common_plp.specs.Split.{split}
 use Rattle.joined_receiver.specs.JoinedBack.{JoinedBack}
 use Rattle.common_laws.specs.Laws.{CommonComesBack}
 use Rattle.frame_laws.specs.Types.{TypesFit}
+use Rattle.file_run.specs.Work.{Ends, Into}
 use Rattle.receive_run.specs.JoinedReceived.{Received}
-use Rattle.receive_run.specs.JoinedRun.{RunsAll}
+use Rattle.receive_run.specs.JoinedRun.{receive_work}
 use Rattle.receive_run.specs.declared.stop.Ran.{Ran}
 use Rattle.site_top.specs.CommonReceiveCommand.{JoinedComesBack, HoldsWhatIsJoined, ReceivedIsJoined}
 use Rattle.site_top.specs.ReceiveCommand.{ReceivedComesBack}
@@ -28,7 +30,8 @@ is_joined laws law c plan types alone plp file bytes views inside records r = re
 }
 
 pub holds_joined : (c : Config) (plp : ℕ) (old new : State) (file out : List ℕ) (ran : Ran) → ReceivedIsJoined c
-    → plp < length c.plps → RunsAll (common_of c plp) c plp old new file out ran → HoldsWhatIsJoined c plp old new file out
+    → plp < length c.plps → Ends (receive_work (common_of c plp) c plp) old new (Into out) (file ∷ []) (Ok ran)
+    → HoldsWhatIsJoined c plp old new file out
 holds_joined c plp old new file out ran law inside r =
     holds_with (JoinedComesBack c plp) (common_of c plp) c plp old new file out ran
     (λ from bytes views records given. law plp from bytes views inside records given) r

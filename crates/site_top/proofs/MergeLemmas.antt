@@ -1,7 +1,7 @@
 -- What holds of two streams that were merged.
 use Rattle.std.proofs.Common.{◌≡◌, ℕ, zero, suc, ◌+◌, ◌-◌, ◌<◌, ◌≤◌, true, List, [], ◌∷◌, ◌++◌, map, max, Option, Some, None, refl}
 use Rattle.std.proofs.Common.{ap, ap₂, sym, ◌∙◌, arith, append-nil}
-use Rattle.std.specs.Prelude.{IsSome, IfSome, unwrap_or, option_map, option_to_list}
+use Rattle.std.specs.Prelude.{Ok, IsSome, IfSome, unwrap_or, option_map, option_to_list}
 use Rattle.std.specs.FinMap.{get}
 use Rattle.std.specs.List.{flat_map, find, range_with_len}
 use Rattle.std.specs.Option.{option_or}
@@ -30,9 +30,12 @@ use Rattle.feed_merge.specs.Laws.{PicksAreFrames}
 use Rattle.feed_merge.specs.Picks.{Picked, frame_from, pick_of, picks_below, above_all, picks, frames_of}
 use Rattle.feed_merge.proofs.GrowLemmas.{test, pick, nothing, below_more, above_is, all_below}
 use Rattle.merge_laws.specs.Merged.{merged, MergedComesBack}
-use Rattle.merge_run.specs.MergeRun.{names_of, MergesAll, RunsAll}
+use Rattle.merge_run.specs.MergeRun.{MergesAll, merge_work}
+use Rattle.two_feeds.specs.Fed.{names_of}
 use Rattle.merge_run.specs.declared.stop.Ran.{Ran}
 use Rattle.file_run.specs.FileRun.{file_at}
+use Rattle.file_run.specs.Work.{Ends, Into}
+use Rattle.file_run.proofs.WorkLemmas.{works_of}
 use Rattle.site_top.specs.MergeCommand.{picked_at, AreDamaged, ComesOfMerged, HoldsMerged, UnitsAreMerged}
 
 -- ---- the frame that is picked of a number
@@ -127,8 +130,9 @@ are_merged c plan fit come law again a b bytes early_a early_b is = record {
 
 -- OUT is all units of the frames that are picked.
 pub holds_merged : (c : Config) (old new : State) (a b out : List ℕ) (ran : Ran) → UnitsAreMerged c
-    → RunsAll c old new a b out ran → HoldsMerged c old new a b out
-holds_merged c old new a b out ran law r = go old.held new.held r.works.holds
+    → Ends (merge_work c) old new (Into out) (names_of a b) (Ok ran) → HoldsMerged c old new a b out
+holds_merged c old new a b out ran law (counts, d) =
+    go old.held new.held (works_of (λ files bytes. MergesAll c files ran bytes) d d.does.1.1).holds
   where
     go : (h k : Option Held)
         → IfSome h (λ x. (y : Held) × (k ≡ Some y)

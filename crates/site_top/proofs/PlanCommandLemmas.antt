@@ -12,9 +12,14 @@ pub if_ok : {R E : Type 0} (r : Result R E) (P Q : R → Type 0) → ((x : R) �
 if_ok (Ok x) P Q f p = f x p
 if_ok (Err e) P Q f p = tt
 
-pub if_err : {R E : Type 0} (r : Result R E) (P Q : E → Type 0) → ((e : E) → P e → Q e) → IfErr r P → IfErr r Q
-if_err (Ok x) P Q f p = tt
-if_err (Err e) P Q f p = f e p
+-- what follows of its end, and of a stop
+pub of_ok : {R E : Type 0} (P : Result R E → Type 0) (Q : R → Type 0) (r : Result R E) → ((x : R) → P (Ok x) → Q x) → P r → IfOk r Q
+of_ok P Q (Ok x) f p = f x p
+of_ok P Q (Err e) f p = tt
+
+pub of_err : {R E : Type 0} (P : Result R E → Type 0) (Q : E → Type 0) (r : Result R E) → ((e : E) → P (Err e) → Q e) → P r → IfErr r Q
+of_err P Q (Ok x) f p = tt
+of_err P Q (Err e) f p = f e p
 
 -- what was told of it
 pub run_told : {R E : Type 0} (Ends : State → State → R → Type 0) (Stops : State → State → RunStop E → Type 0) (line : R → List ℕ)

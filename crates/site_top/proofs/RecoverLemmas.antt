@@ -1,7 +1,7 @@
 -- What comes back of a file of the records of a run's frames.
 use Rattle.std.proofs.Common.{◌≡◌, ℕ, zero, suc, ◌+◌, ◌*◌, ◌<◌, ◌≤◌, Bool, true, not, List, [], ◌∷◌, ◌++◌, map, length, Option}
 use Rattle.std.proofs.Common.{Some, None, refl, ap, sym, subst, ◌∙◌, arith}
-use Rattle.std.specs.Prelude.{IfSome, unwrap_or, replicate}
+use Rattle.std.specs.Prelude.{Ok, IfSome, unwrap_or, replicate}
 use Rattle.std.specs.FinMap.{get}
 use Rattle.std.specs.List.{AllByRecursion, concat, range_with_len}
 use Rattle.std.proofs.Math.Seq.{drop-append_seam}
@@ -32,9 +32,10 @@ use Rattle.frame_laws.specs.SentFrames.{run_length}
 use Rattle.frame_laws.specs.Types.{TypesFit}
 use Rattle.plp_receiver.specs.Epochs.{Readback}
 use Rattle.joined_receiver.specs.JoinedBack.{JoinedBackWith}
+use Rattle.file_run.specs.Work.{Ends, Into}
+use Rattle.file_run.proofs.WorkLemmas.{works_of}
 use Rattle.receive_run.specs.JoinedReceived as joined
 use Rattle.receive_run.specs.JoinedRun as run
-use Rattle.receive_run.specs.ReceiveRun.{RunsAll}
 use Rattle.receive_run.specs.Received.{Received}
 use Rattle.receive_run.specs.declared.stop.Ran.{Ran}
 use Rattle.recover_laws.specs.Laws.{RunRecovers, RunComesBack, IsCanonical}
@@ -153,9 +154,10 @@ comes_back laws c plan types plp file bytes views inside records r = record {
 pub holds_with : (P : List ℕ → List ℕ → Type 0) (joins : Option ℕ) (c : Config) (plp : ℕ) (old new : State) (file out : List ℕ)
     (ran : Ran) → ((from bytes : List ℕ) (views : List RecordView) → AreRecords from views []
     → joined.Received joins c plp views bytes → P from bytes)
-    → run.RunsAll joins c plp old new file out ran
+    → Ends (run.receive_work joins c plp) old new (Into out) (file ∷ []) (Ok ran)
     → IfSome old.held (λ h. IfSome new.held (λ k. P (bytes_of h.files file) (bytes_of k.files out)))
-holds_with P joins c plp old new file out ran law r = go old.held new.held r.works.holds
+holds_with P joins c plp old new file out ran law (counts, d) =
+    go old.held new.held (works_of (λ files bytes. run.HasAll joins c plp ran (files 0) bytes) d d.does.1.1).holds
   where
     go : (h k : Option Held)
         → IfSome h (λ x. (y : Held) × (k ≡ Some y)
@@ -170,7 +172,8 @@ holds_with P joins c plp old new file out ran law r = go old.held new.held r.wor
         subst (P (bytes_of x.files file)) here (law (bytes_of x.files file) w.2.0 w.2.2.views w.2.2.records w.2.2.received)
 
 pub holds_back : (c : Config) (plp : ℕ) (old new : State) (file out : List ℕ) (ran : Ran) → ReceivedComesBack c
-    → plp < length c.plps → RunsAll c plp old new file out ran → HoldsWhatComesBack c plp old new file out
+    → plp < length c.plps → Ends (run.receive_work None c plp) old new (Into out) (file ∷ []) (Ok ran)
+    → HoldsWhatComesBack c plp old new file out
 holds_back c plp old new file out ran law inside r =
     holds_with (ComesBack c plp) None c plp old new file out ran
     (λ from bytes views records given. law plp from bytes views inside records given) r

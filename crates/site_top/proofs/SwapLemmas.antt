@@ -18,7 +18,7 @@ use Rattle.damage_laws.specs.Streams.{Honest}
 use Rattle.frame_laws.specs.SentFrames.{run_length, run_stream, stream_bytes}
 use Rattle.frame_laws.specs.Types.{TypesFit}
 use Rattle.file_run.specs.FileRun.{file_at}
-use Rattle.merge_run.specs.MergeRun.{names_of}
+use Rattle.two_feeds.specs.Fed.{names_of}
 use Rattle.swap_laws.specs.Region.{region_frames, region_of_run, RegionIsOfRun, RegionComesBack, WholeIsReplaced}
 use Rattle.swap_run.specs.SwapRun.{SwapsAll, RunsAll}
 use Rattle.swap_run.specs.declared.stop.Ran.{Ran}

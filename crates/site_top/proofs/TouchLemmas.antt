@@ -13,30 +13,23 @@ use Rattle.config_file.specs.declared.stop.ConfigStop.TheVariants as config
 use Rattle.desk_io.specs.Opening.{Opened, Unopened}
 use Rattle.file_run.specs.FileRun as running
 use Rattle.file_run.specs.FileRun.{SameFiles, OpensInputs, FailsToCreateOutput, Works}
+use Rattle.file_run.specs.Work.{Work, Sink, Into, Aloud, Ends as RunEnds}
 use Rattle.file_run.specs.declared.stop.RunFault.TheVariants as run_fault
 use Rattle.file_run.specs.declared.stop.RunStop.{RunStop}
 use Rattle.file_run.specs.declared.stop.RunStop.TheVariants as run
+use Rattle.file_run.proofs.EndsLemmas.{OthersOf, creates, leaves_alone}
 use Rattle.gateway_run.specs.SharedRun as gateway
 use Rattle.gateway_run.specs.declared.stop.GatewayStop.{GatewayStop}
 use Rattle.gateway_run.specs.declared.stop.GatewayStop.TheVariants as gateway_stop
-use Rattle.modulate_run.specs.ModulateRun as modulating
-use Rattle.modulate_run.specs.declared.stop.ModulateStop.{ModulateStop}
-use Rattle.modulate_run.specs.declared.stop.ModulateStop.TheVariants as modulate
+use Rattle.modulate_run.specs.ModulateRun.{modulate_work}
 use Rattle.common_plp.specs.Sharing.{Sharing, joined_with}
-use Rattle.receive_run.specs.JoinedRun as receiving
-use Rattle.receive_run.specs.declared.stop.ReceiveStop.{ReceiveStop}
-use Rattle.receive_run.specs.declared.stop.ReceiveStop.TheVariants as receive
-use Rattle.merge_run.specs.MergeRun as merging
-use Rattle.merge_run.specs.MergeRun.{names_of}
-use Rattle.merge_run.specs.declared.stop.MergeStop.{MergeStop}
-use Rattle.merge_run.specs.declared.stop.MergeStop.TheVariants as merge
+use Rattle.receive_run.specs.JoinedRun.{receive_work}
+use Rattle.two_feeds.specs.Fed.{names_of}
+use Rattle.merge_run.specs.MergeRun.{merge_work}
 use Rattle.swap_run.specs.SwapRun as swapping
 use Rattle.swap_run.specs.declared.stop.SwapStop.{SwapStop}
 use Rattle.swap_run.specs.declared.stop.SwapStop.TheVariants as swap
-use Rattle.line_run.specs.Speaking.{Speaks}
-use Rattle.compare_run.specs.declared.stop.CompareStop.{CompareStop}
-use Rattle.compare_run.specs.declared.stop.CompareStop.TheVariants as compare
-use Rattle.frame_compare.specs.declared.counts.Counts.{Counts as Compared}
+use Rattle.compare_run.specs.CompareRun.{compare_work}
 use Rattle.show_run.specs.Shows.{Shows, ReadsFile}
 use Rattle.show_run.specs.declared.stop.ShowStop.{ShowStop}
 use Rattle.site_top.specs.declared.outcome.Outcome.{Outcome}
@@ -274,62 +267,58 @@ gateway_follows sharing out ins c mid new result f = ⊎_elim
     (length ins) (λ a b stop s. gateway_stops sharing c a b out ins stop s) (λ a b ran r. run_works a b out ins r.places _ r.works)
     mid new result all.1) f
 
--- that of a modulator
-modulate_stops : (c : Config) (old new : State) (name out : List ℕ) (stop : RunStop ModulateStop)
-    → modulating.Stops c old new name out stop → Touches (Some out) 1 old new
-modulate_stops c old new name out (run.Refused modulate.NoSuperframe) s = run_works old new out (name ∷ []) _ _ s.works
-modulate_stops c old new name out (run.Refused modulate.TooManyFrames) s = run_works old new out (name ∷ []) _ _ s.works
-modulate_stops c old new name out (run.Files (run_fault.TooLong input)) s = run_works old new out (name ∷ []) _ _ s.1.works
-modulate_stops c old new name out (run.Files (run_fault.ReadFault input)) s =
-    ⊎_elim (λ o. run_opens old new out (name ∷ []) 0 o) (λ w. run_works old new out (name ∷ []) _ _ w.works) s.2
-modulate_stops c old new name out (run.Files run_fault.WriteFault) s =
-    ⊎_elim (λ f. run_creates old new out (name ∷ []) f) (λ w. run_works old new out (name ∷ []) _ _ w.works) s.1
-modulate_stops c old new name out run.OutOfMemory s = untouched (Some out) 1 old new s
+-- a run that does a work
+abbrev written_by : Sink → Option (List ℕ)
+written_by (Into out) = Some out
+written_by Aloud = None
 
+others_stay : (sink : Sink) (old new : Option Held) → OthersOf sink old new → OthersStay (written_by sink) old new
+others_stay (Into out) old new same = out_files out old new same
+others_stay Aloud old new same = nothing_files None old new same
+
+as_many : (sink : Sink) → creates sink ≡ outs (written_by sink)
+as_many (Into out) = refl
+as_many Aloud = refl
+
+work_touches : {R E : Type 0} (work : Work R E) (sink : Sink) (ins : List (List ℕ)) (old new : State) (result : Result R (RunStop E))
+    → RunEnds work old new sink ins result → Touches (written_by sink) (length ins) old new
+work_touches work sink ins old new result ends =
+    let left = leaves_alone work old new sink ins result ends in
+    record {
+      files = others_stay sink old.held new.held left.files;
+      created = subst (λ (n : ℕ). new.created ≤ old.created + n) (as_many sink) left.created;
+      places = left.places;
+      opened = left.opened;
+      few = left.few;
+      texts = left.said.texts;
+      said = left.said.said;
+    }
+
+-- that of a modulator
 modulate_follows : (file out : List ℕ) (c : Config) (mid new : State) (result : Outcome)
     → modulates.Follows file out c mid new result → Touches (Some out) 1 mid new
 modulate_follows file out c mid new result f =
+    let touches = work_touches (modulate_work c) (Into out) (file ∷ []) in
     runs_touch (modulates.Ends file out c) (modulates.StopsSo file out c) modulates.modulate_line modulate_cause (Some out) 1
-    (λ a b stop s. modulate_stops c a b file out stop s.0) (λ a b ran r. run_works a b out (file ∷ []) _ _ r.0.works) mid new result
-    f
+    (λ a b stop s. touches a b (Err stop) s.0) (λ a b ran r. touches a b (Ok ran) r.0) mid new result f
 
 -- that of a receiver
-receive_stops : (joins : Option ℕ) (c : Config) (plp : ℕ) (old new : State) (name out : List ℕ) (stop : RunStop ReceiveStop)
-    → receiving.Stops joins c plp old new name out stop → Touches (Some out) 1 old new
-receive_stops joins c plp old new name out (run.Refused (receive.RecordRefused number why)) s = run_works old new out (name ∷ []) _ _ s.works
-receive_stops joins c plp old new name out (run.Files (run_fault.TooLong input)) s = run_works old new out (name ∷ []) _ _ s.1.works
-receive_stops joins c plp old new name out (run.Files (run_fault.ReadFault input)) s =
-    ⊎_elim (λ o. run_opens old new out (name ∷ []) 0 o) (λ w. run_works old new out (name ∷ []) _ _ w.works) s.2
-receive_stops joins c plp old new name out (run.Files run_fault.WriteFault) s =
-    ⊎_elim (λ f. run_creates old new out (name ∷ []) f) (λ w. run_works old new out (name ∷ []) _ _ w.works) s.1
-receive_stops joins c plp old new name out run.OutOfMemory s = untouched (Some out) 1 old new s
-
 receive_follows : (sharing : Sharing) (id : ℕ) (file out : List ℕ) (c : Config) (mid new : State) (result : Outcome)
     → receives.Follows sharing id file out c mid new result → Touches (Some out) 1 mid new
 receive_follows sharing id file out c mid new result f = ⊎_elim
     (λ none. untouched (Some out) 1 mid new none.1)
-    (λ all. runs_touch (receives.Ends sharing file out c all.0) (receives.StopsSo sharing file out c all.0) receive_line receive_cause
-    (Some out) 1 (λ a b stop s. receive_stops (joined_with sharing c all.0) c all.0 a b file out stop s)
-    (λ a b ran r. run_works a b out (file ∷ []) _ _ r.0.works) mid new result all.2) f
+    (λ all.
+    let touches = work_touches (receive_work (joined_with sharing c all.0) c all.0) (Into out) (file ∷ []) in
+    runs_touch (receives.Ends sharing file out c all.0) (receives.StopsSo sharing file out c all.0) receive_line receive_cause
+    (Some out) 1 (λ a b stop s. touches a b (Err stop) s) (λ a b ran r. touches a b (Ok ran) r.0) mid new result all.2) f
 
 -- that of a merger
-merge_stops : (c : Config) (old new : State) (a b out : List ℕ) (stop : RunStop MergeStop) → merging.Stops c old new a b out stop
-    → Touches (Some out) 2 old new
-merge_stops c old new a b out (run.Refused merge.NoSuperframe) s = run_works old new out (names_of a b) s.places _ s.works
-merge_stops c old new a b out (run.Refused merge.TooManyFrames) s = run_works old new out (names_of a b) s.places _ s.works
-merge_stops c old new a b out (run.Files (run_fault.TooLong input)) s = run_works old new out (names_of a b) s.places _ s.works
-merge_stops c old new a b out (run.Files (run_fault.ReadFault input)) s =
-    ⊎_elim (λ o. run_opens old new out (names_of a b) input o) (λ w. run_works old new out (names_of a b) w.places _ w.works) s.1
-merge_stops c old new a b out (run.Files run_fault.WriteFault) s =
-    ⊎_elim (λ f. run_creates old new out (names_of a b) f) (λ w. run_works old new out (names_of a b) w.places _ w.works) s.1
-merge_stops c old new a b out run.OutOfMemory s = untouched (Some out) 2 old new s
-
 merge_follows : (a b out : List ℕ) (c : Config) (mid new : State) (result : Outcome) → merges.Follows a b out c mid new result
     → Touches (Some out) 2 mid new
 merge_follows a b out c mid new result f =
+    let touches = work_touches (merge_work c) (Into out) (names_of a b) in
     runs_touch (merges.Ends a b out c) (merges.StopsSo a b out c) merges.merge_line merge_cause (Some out) 2
-    (λ x y stop s. merge_stops c x y a b out stop s) (λ x y ran r. run_works x y out (names_of a b) r.0.places _ r.0.works)
-    mid new result f
+    (λ x y stop s. touches x y (Err stop) s) (λ x y ran r. touches x y (Ok ran) r.0) mid new result f
 
 -- that of a swapper
 swap_stops : (c : Config) (plp : ℕ) (old new : State) (t2mi file out : List ℕ) (stop : RunStop SwapStop)
@@ -356,46 +345,10 @@ swap_follows id t2mi file out c mid new result f = ⊎_elim
     (Some out) 2 (λ a b stop s. swap_stops c all.0 a b t2mi file out stop s)
     (λ a b ran r. run_works a b out (names_of t2mi file) r.0.places _ r.0.works) mid new result all.2) f
 
--- a run over files that says what comes of them
-says_opens : (old new : State) (ins : List (List ℕ)) (count : ℕ) → OpensInputs old new ins count → Touches None (length ins) old new
-says_opens old new ins count o = record {
-  files = nothing_files None old.held new.held o.files;
-  created = subst (λ (n : ℕ). n ≤ old.created + 0) (sym o.created) (omega arith);
-  places = o.places;
-  opened = o.opened;
-  few = omega (arith, o.some, o.few);
-  texts = [];
-  said = o.said ∙ append-none old.said;
-}
-
-says_touches : (old new : State) (ins : List (List ℕ)) (places : List ℕ) (Holds : Held → List ℕ → Type 0)
-    → Speaks old new ins places Holds → Touches None (length ins) old new
-says_touches old new ins places Holds s = record {
-  files = nothing_files None old.held new.held s.files;
-  created = subst (λ (n : ℕ). n ≤ old.created + 0) (sym s.created) (omega arith);
-  places = places;
-  opened = s.opened;
-  few = omega (arith, s.all);
-  texts = s.said.texts;
-  said = s.said.said;
-}
-
 -- that of a comparison
-compare_runs : (c : Config) (old new : State) (a b : List ℕ) (result : Result Compared (RunStop CompareStop))
-    → compares.Runs c old new a b result → Touches None 2 old new
-compare_runs c old new a b (Ok counts) r = says_touches old new (names_of a b) r.places _ r.speaks
-compare_runs c old new a b (Err (run.Refused compare.NoSuperframe)) s = says_touches old new (names_of a b) s.places _ s.speaks
-compare_runs c old new a b (Err (run.Refused compare.TooManyFrames)) s = says_touches old new (names_of a b) s.places _ s.speaks
-compare_runs c old new a b (Err (run.Refused (compare.Differs frame))) s = says_touches old new (names_of a b) s.places _ s.speaks
-compare_runs c old new a b (Err (run.Files (run_fault.TooLong input))) s = says_touches old new (names_of a b) s.places _ s.speaks
-compare_runs c old new a b (Err (run.Files (run_fault.ReadFault input))) s =
-    ⊎_elim (λ o. says_opens old new (names_of a b) input o) (λ w. says_touches old new (names_of a b) w.places _ w.speaks) s.1
-compare_runs c old new a b (Err (run.Files run_fault.WriteFault)) s = says_touches old new (names_of a b) s.1.places _ s.1.speaks
-compare_runs c old new a b (Err run.OutOfMemory) s = untouched None 2 old new s
-
 compare_follows : (a b : List ℕ) (c : Config) (mid new : State) (result : Outcome) → compares.Follows a b c mid new result
     → Touches None 2 mid new
-compare_follows a b c mid new result f = compare_runs c mid new a b f.0 f.1
+compare_follows a b c mid new result f = work_touches (compare_work c) Aloud (names_of a b) mid new f.0 f.1
 
 -- a file that is shown
 file_read : (old new : State) (name : List ℕ) (given : ℕ) (texts : List (List ℕ)) (result : Result ℕ (RunStop ShowStop))

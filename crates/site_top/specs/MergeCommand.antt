@@ -1,5 +1,5 @@
 -- What `merge CONFIG A B OUT` does, up to its last line.
-use Rattle.std.specs.Prelude.{◌≡◌, ◌<◌, ◌≤◌, ℕ, true, List, ◌++◌, map, codes, Option, Some, IsSome, IfSome}
+use Rattle.std.specs.Prelude.{◌≡◌, ◌<◌, ◌≤◌, ℕ, true, List, ◌++◌, map, codes, Option, Some, IsSome, IfSome, Ok, Err}
 use Rattle.std.specs.Fmt.{decimal}
 use Rattle.ports.specs.Desk.{State, bytes_of}
 use Rattle.plp_config.specs.declared.config.Config.{Config}
@@ -16,8 +16,10 @@ use Rattle.damage_laws.specs.Streams.{Honest}
 use Rattle.frame_laws.specs.SentFrames.{run_length, run_stream, stream_bytes}
 use Rattle.feed_merge.specs.Picks.{Picked, pick_of}
 use Rattle.merge_laws.specs.Merged.{merged, must_come}
+use Rattle.file_run.specs.Work.{Ends as RunEnds, Into}
 use Rattle.file_run.specs.declared.stop.RunStop.{RunStop}
-use Rattle.merge_run.specs.MergeRun.{AreEarly, RunsAll, Stops}
+use Rattle.merge_run.specs.MergeRun.{merge_work}
+use Rattle.two_feeds.specs.Fed.{names_of, AreEarly}
 use Rattle.merge_run.specs.declared.stop.Ran.{Ran}
 use Rattle.merge_run.specs.declared.stop.MergeStop.{MergeStop}
 use Rattle.site_top.specs.declared.outcome.Outcome.{Outcome}
@@ -70,10 +72,10 @@ UnitsAreMerged c = (a b bytes : List ℕ) → AreEarly (records_due c true a) �
 
 -- a run to its end, and one that stops
 abbrev pub Ends : List ℕ → List ℕ → List ℕ → Config → State → State → Ran → Type 0
-Ends a b out c mid after ran = RunsAll c mid after a b out ran × HoldsMerged c mid after a b out
+Ends a b out c mid after ran = RunEnds (merge_work c) mid after (Into out) (names_of a b) (Ok ran) × HoldsMerged c mid after a b out
 
 abbrev pub StopsSo : List ℕ → List ℕ → List ℕ → Config → State → State → RunStop MergeStop → Type 0
-StopsSo a b out c mid new stop = Stops c mid new a b out stop
+StopsSo a b out c mid new stop = RunEnds (merge_work c) mid new (Into out) (names_of a b) (Err stop)
 
 -- the run
 abbrev pub Follows : List ℕ → List ℕ → List ℕ → Config → State → State → Outcome → Type 0

@@ -1,5 +1,5 @@
 -- What `modulate CONFIG IN OUT` does, up to its last line.
-use Rattle.std.specs.Prelude.{◌≡◌, ◌≤◌, List, ℕ, ◌++◌, codes, IfSome}
+use Rattle.std.specs.Prelude.{◌≡◌, ◌≤◌, List, [], ◌∷◌, ℕ, ◌++◌, codes, IfSome, Ok, Err}
 use Rattle.std.specs.Fmt.{decimal}
 use Rattle.ports.specs.Desk.{State, bytes_of}
 use Rattle.plp_config.specs.declared.config.Config.{Config}
@@ -8,9 +8,10 @@ use Rattle.t2mi_stream.specs.Received.{Fate}
 use Rattle.record_laws.specs.Records.{file_bytes}
 use Rattle.damage_laws.specs.Streams.{Honest}
 use Rattle.frame_laws.specs.SentFrames.{run_length, run_stream, stream_bytes, all_kept, run_records}
+use Rattle.file_run.specs.Work.{Ends as RunEnds, Into}
 use Rattle.file_run.specs.declared.stop.RunStop.{RunStop}
 use Rattle.file_run.specs.declared.stop.RunStop.TheVariants.{Refused, Files, OutOfMemory}
-use Rattle.modulate_run.specs.ModulateRun.{RunsAll, Stops}
+use Rattle.modulate_run.specs.ModulateRun.{modulate_work}
 use Rattle.modulate_run.specs.declared.stop.Ran.{Ran}
 use Rattle.modulate_run.specs.declared.stop.ModulateStop.{ModulateStop}
 use Rattle.modulate_run.specs.declared.stop.ModulateStop.TheVariants.{NoSuperframe, TooManyFrames}
@@ -50,10 +51,12 @@ StopsWith c old new file out OutOfMemory = Unit {0}
 
 -- a run to its end, and one that stops
 abbrev pub Ends : List ℕ → List ℕ → Config → State → State → Ran → Type 0
-Ends file out c mid after ran = RunsAll c mid after file out ran × HoldsWhatMustCome c mid after file out
+Ends file out c mid after ran = RunEnds (modulate_work c) mid after (Into out) (file ∷ []) (Ok ran)
+    × HoldsWhatMustCome c mid after file out
 
 abbrev pub StopsSo : List ℕ → List ℕ → Config → State → State → RunStop ModulateStop → Type 0
-StopsSo file out c mid new stop = Stops c mid new file out stop × StopsWith c mid new file out stop
+StopsSo file out c mid new stop = RunEnds (modulate_work c) mid new (Into out) (file ∷ []) (Err stop)
+    × StopsWith c mid new file out stop
 
 -- the run
 abbrev pub Follows : List ℕ → List ℕ → Config → State → State → Outcome → Type 0

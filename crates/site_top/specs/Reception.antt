@@ -1,10 +1,11 @@
 -- What `receive CONFIG PLP IN OUT` and `common receive CONFIG PLP IN OUT` do, up to their last line.
-use Rattle.std.specs.Prelude.{◌≡◌, ◌⊎◌, ℕ, List}
+use Rattle.std.specs.Prelude.{◌≡◌, ◌⊎◌, ℕ, List, [], ◌∷◌, Ok, Err}
 use Rattle.ports.specs.Desk.{State}
 use Rattle.plp_config.specs.declared.config.Config.{Config}
 use Rattle.common_plp.specs.Sharing.{Sharing, Apart, Joint, joined_with, IsPlaceBy, HasNoPlaceBy}
+use Rattle.file_run.specs.Work.{Ends as RunEnds, Into}
 use Rattle.file_run.specs.declared.stop.RunStop.{RunStop}
-use Rattle.receive_run.specs.JoinedRun.{RunsAll, Stops}
+use Rattle.receive_run.specs.JoinedRun.{receive_work}
 use Rattle.receive_run.specs.declared.stop.Ran.{Ran}
 use Rattle.receive_run.specs.declared.stop.ReceiveStop.{ReceiveStop}
 use Rattle.site_top.specs.declared.outcome.Outcome.{Outcome}
@@ -22,10 +23,12 @@ HoldsBack Joint c plp old new file out = HoldsWhatIsJoined c plp old new file ou
 -- a run to its end, and one that stops
 abbrev pub Ends : Sharing → List ℕ → List ℕ → Config → ℕ → State → State → Ran → Type 0
 Ends sharing file out c plp mid after ran =
-    RunsAll (joined_with sharing c plp) c plp mid after file out ran × HoldsBack sharing c plp mid after file out
+    RunEnds (receive_work (joined_with sharing c plp) c plp) mid after (Into out) (file ∷ []) (Ok ran)
+    × HoldsBack sharing c plp mid after file out
 
 abbrev pub StopsSo : Sharing → List ℕ → List ℕ → Config → ℕ → State → State → RunStop ReceiveStop → Type 0
-StopsSo sharing file out c plp mid new stop = Stops (joined_with sharing c plp) c plp mid new file out stop
+StopsSo sharing file out c plp mid new stop =
+    RunEnds (receive_work (joined_with sharing c plp) c plp) mid new (Into out) (file ∷ []) (Err stop)
 
 -- No PLP that can be asked for has the identifier, and nothing else is done; or the run follows.
 abbrev pub Follows : Sharing → ℕ → List ℕ → List ℕ → Config → State → State → Outcome → Type 0

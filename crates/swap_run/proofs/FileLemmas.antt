@@ -27,24 +27,24 @@ use Rattle.frame_feed.specs.StandsFor.{waiting_of}
 use Rattle.held_feed.specs.StandsFor.{IsFirst}
 use Rattle.frame_feed.specs.StandsFor as feed
 use Rattle.file_run.specs.Events.{Event, fed, has_ended, gave}
-use Rattle.file_run.specs.FileRun.{AreFed, IsFed}
+use Rattle.file_run.specs.FileRun.{AreFed, IsFed, read_ahead}
 use Rattle.file_run.specs.declared.machine.Step.TheVariants.{Give, End}
 use Rattle.gateway_core.specs.InputSoFar.{Continues}
 use Rattle.gateway_run.proofs.FileLemmas.{NextIsBad}
-use Rattle.merge_run.specs.MergeRun.{AreEarly}
-use Rattle.record_feeds.specs.Fed.{NoneComes}
+use Rattle.two_feeds.specs.Fed.{AreEarly}
+use Rattle.swap_run.specs.Fed.{NoneComes}
 use Rattle.two_feeds.specs.Reading.{is_idle}
-use Rattle.record_feeds.proofs.FeedLemmas.{IsDue, due_of, waits_above}
-use Rattle.merge_run.proofs.NumberLemmas.{below_of, above_append, below_append}
+use Rattle.swap_run.proofs.FeedLemmas.{IsDue, due_of, waits_above}
+use Rattle.two_feeds.proofs.NumberLemmas.{below_of, above_append, below_append}
 use Rattle.merge_run.proofs.SendLemmas.{given_front}
-use Rattle.record_feeds.proofs.SplitLemmas as split
+use Rattle.swap_run.proofs.SplitLemmas as split
 use Rattle.t2mi_stream.proofs.CompleteLemmas.{shorter_front}
 use Rattle.region_swap.specs.StandsFor.{Status, status_of, wants_of}
 use Rattle.region_swap.specs.Swapped.{swapped}
 use Rattle.swap_run.specs.Shown.{Read, Shown, HasCaughtUp, WereGiven, IsIn, IsDone, IsBehindAll, IsWanted, finished_in}
 use Rattle.swap_run.specs.Shown as shown
 use Rattle.swap_run.specs.SwapRun.{frames_in, packets_of, units_of, complete_of, slots_of, counted, WantBad, SwapsAll, HasNone, MeetsBad}
-use Rattle.swap_run.specs.SwapRun.{ReadsNoFurther, HasLate, HasSwapped, WantsMore, AreWritten, MayWrite, ReadsAhead}
+use Rattle.swap_run.specs.SwapRun.{ReadsNoFurther, TakesNoFurther, HasLate, HasSwapped, WantsMore, AreWritten, MayWrite, ReadsAhead}
 use Rattle.swap_run.specs.Steps.{step_in, step_of, wanted_in, input_reach, drained}
 use Rattle.swap_run.specs.declared.phase.Phase.{Phase}
 use Rattle.swap_run.specs.declared.phase.Phase.TheVariants as phase
@@ -254,9 +254,22 @@ module _ (front : DueFront) (follow : DueFollow) (law : CompleteLaw) (rises : Co
         let above = above_append r.given (f.next ∷ []) in
         slots_rise rises slot c plp m.number (above_all (r.given ++ f.next ∷ []) - 1) s.plan s.place (omega (arith, above, number, behind))
 
-  pub meets_bad : slice_index places 1 ≤ input_reach m → (n : ℕ) → m.phase ≡ phase.Stopped (InputRefused n)
+  -- by fewer bytes of the first file than were taken, no record is due but those that were given
+  takes_no_further : slice_index places 0 ≤ feed.fed_of m.feed + read_ahead → TakesNoFurther c places files r.given
+  takes_no_further near taken lt =
+      let count = s.of_feed.stands.count in
+      let inside : taken < length (fed 0 events) = omega (arith, near, count, lt) in
+      let same : take taken (files 0) ≡ take taken (fed 0 events) =
+      ap (take taken) fed_t2mi.parts ∙ take-append-le taken (fed 0 events) fed_t2mi.more (omega (arith, inside)) in
+      subst (λ (l : List ℕ). IsPrefix (records_due c false l) r.given) (sym same)
+      (subst (λ (k : Config). IsPrefix (records_due k false (take taken (fed 0 events))) r.given) s.of_feed.network
+      (s.of_feed.stands.front taken inside))
+
+  pub meets_bad : slice_index places 0 ≤ feed.fed_of m.feed + read_ahead → slice_index places 1 ≤ input_reach m → (n : ℕ)
+      → m.phase ≡ phase.Stopped (InputRefused n)
       → (meets : MeetsBad c plp files n (gave events)) × ReadsNoFurther c plp places meets.before meets.after
-  meets_bad near n e = go i.met
+      × TakesNoFurther c places files meets.before
+  meets_bad at near n e = go i.met
     where
       i : shown.StopsAtBad c plp m r (has_ended 1 events) n
       i = subst (IsIn c plp m r (has_ended 1 events)) e s.is_in
@@ -267,6 +280,7 @@ module _ (front : DueFront) (follow : DueFollow) (law : CompleteLaw) (rises : Co
 
       go : IsWanted c plp m r ⊎ IsBehindAll c plp m r
           → (meets : MeetsBad c plp files n (gave events)) × ReadsNoFurther c plp places meets.before meets.after
+          × TakesNoFurther c places files meets.before
       go (inl w) =
           let f = follows w.waiting w.waits in
           let number = next.number in
@@ -287,7 +301,8 @@ module _ (front : DueFront) (follow : DueFollow) (law : CompleteLaw) (rises : Co
               wanted = λ _. (next.bad, omega (arith, number, sum, none, less, slots));
               output = complete i.caught (finished_is (phase.Stopped (InputRefused n)) e);
             },
-            λ _. omega (arith, read, slots),
+            (λ _. omega (arith, read, slots)),
+            takes_no_further at,
           )
       go (inr b) = (
         record {
@@ -302,7 +317,8 @@ module _ (front : DueFront) (follow : DueFollow) (law : CompleteLaw) (rises : Co
           wanted = λ some. absurd (some refl);
           output = complete i.caught (finished_is (phase.Stopped (InputRefused n)) e);
         },
-        λ some. absurd (some refl),
+        (λ some. absurd (some refl)),
+        takes_no_further at,
       )
 
   -- ---- an input is to be read on
@@ -338,9 +354,9 @@ module _ (front : DueFront) (follow : DueFollow) (law : CompleteLaw) (rises : Co
       let sum = length-append r.told.packets r.rest in
       omega (arith, had, count, sum, read)
 
-  pub wants_packets : slice_index places 1 ≤ input_reach m → (place : ℕ) → (e : m.phase ≡ phase.Packets) → 0 < wants_of m.swapper
+  pub wants_packets : slice_index places 0 ≤ feed.fed_of m.feed + read_ahead → slice_index places 1 ≤ input_reach m → (place : ℕ) → (e : m.phase ≡ phase.Packets) → 0 < wants_of m.swapper
       → SIZE * m.taken ≤ place → place < SIZE * (m.taken + 1) → WantsMore c plp places place files (gave events)
-  wants_packets reach place e some read near =
+  wants_packets at reach place e some read near =
       let i = in_packets c plp events m s e in
       let w = i.waiting in
       let f = follows w i.waits in
@@ -361,13 +377,14 @@ module _ (front : DueFront) (follow : DueFollow) (law : CompleteLaw) (rises : Co
         had = had_read place h.off read;
         wanted = λ _. omega (arith, near, less, slots, count, sum, none);
         no_further = λ _. omega (arith, to, slots);
+        ahead = takes_no_further at;
         unread = omega (arith, near, most, count);
         output = complete i.caught (finished_is phase.Packets e);
       }
 
-  pub wants_rest : (place : ℕ) → (e : m.phase ≡ phase.Drains) → m.ended ≡ false → SIZE * m.taken ≤ place → place < SIZE * (m.taken + 1)
+  pub wants_rest : slice_index places 0 ≤ feed.fed_of m.feed + read_ahead → (place : ℕ) → (e : m.phase ≡ phase.Drains) → m.ended ≡ false → SIZE * m.taken ≤ place → place < SIZE * (m.taken + 1)
       → WantsMore c plp places place files (gave events)
-  wants_rest place e going read near =
+  wants_rest at place e going read near =
       let i = in_drains c plp events m s e in
       let most = few in
       let count = s.of_input.count in
@@ -380,6 +397,7 @@ module _ (front : DueFront) (follow : DueFollow) (law : CompleteLaw) (rises : Co
         had = had_read place open_still read;
         wanted = λ some. absurd (some refl);
         no_further = λ some. absurd (some refl);
+        ahead = takes_no_further at;
         unread = omega (arith, near, most, count);
         output = complete i.caught (finished_is phase.Drains e);
       }

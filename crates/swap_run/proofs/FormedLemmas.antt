@@ -18,7 +18,7 @@ use Rattle.site_frame.specs.declared.reading.RecordView.TheVariants.{Frame, Mute
 use Rattle.frame_tests.specs.Readable.{told_dynamic, coming, block_sizes, has_size}
 use Rattle.formed_frames.specs.Formed.{Forms, IsFormed}
 use Rattle.swap_run.specs.Record.{HoldsFrame}
-use Rattle.merge_run.proofs.CameLemmas.{test_of, most_of, less_of, nothing_of, number_of}
+use Rattle.two_feeds.proofs.CameLemmas.{test_of, most_of, less_of, nothing_of, number_of}
 use Rattle.feed_merge.proofs.RecordLemmas.{begins_so}
 
 pub formed_back : (c : Config) (n : ℕ) (view : RecordView) → ∥ IsFormed c n view ∥₁ → IsFormed c n view

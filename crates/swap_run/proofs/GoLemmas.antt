@@ -33,11 +33,11 @@ use Rattle.feed_merge.specs.Picks.{above_all}
 use Rattle.gateway_core.specs.InputSoFar.{Told, in_next, Continues}
 use Rattle.merge_run.specs.Sending.{numbered}
 use Rattle.swap_run.specs.Record.{HoldsFrame, frame_at}
-use Rattle.record_feeds.specs.Fed.{IsFedWith}
+use Rattle.swap_run.specs.Fed.{IsFedWith}
 use Rattle.held_feed.specs.StandsFor.{IsFirst}
-use Rattle.record_feeds.proofs.FeedLemmas.{IsDue, due_of, waits_above}
+use Rattle.swap_run.proofs.FeedLemmas.{IsDue, due_of, waits_above}
 use Rattle.swap_run.proofs.RecordLemmas.{view_is}
-use Rattle.merge_run.proofs.NumberLemmas.{above_append}
+use Rattle.two_feeds.proofs.NumberLemmas.{above_append}
 use Rattle.region_swap.specs.StandsFor.{SwapperStandsFor, Status, status_of, wants_of, frame_of, has_unit, is_fed, bytes_left}
 use Rattle.region_swap.specs.declared.swapper.Swapper.{Swapper}
 use Rattle.region_swap.specs.Swapped.{swapped, swapped_view}

@@ -1,4 +1,5 @@
 pub mod BoundLemmas
+pub mod FeedLemmas
 pub mod FileLemmas
 pub mod FormedLemmas
 pub mod GoLemmas
@@ -10,6 +11,7 @@ pub mod RecordLemmas
 pub mod RunLemmas
 pub mod SendLemmas
 pub mod ShownLemmas
+pub mod SplitLemmas
 pub mod StepLemmas
 pub mod UnitLemmas
 pub mod UnitsLemmas

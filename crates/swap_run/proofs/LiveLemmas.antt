@@ -6,7 +6,7 @@ use Rattle.frame_groups.specs.Modulated.{FrameRecord}
 use Rattle.modulator.specs.StandsFor.{records_due}
 use Rattle.frame_feed.specs.declared.feed.FrameFeed.{FrameFeed}
 use Rattle.gateway_core.specs.InputSoFar.{Told, Continues}
-use Rattle.record_feeds.specs.Fed.{IsFedWith}
+use Rattle.swap_run.specs.Fed.{IsFedWith}
 use Rattle.region_swap.specs.declared.swapper.Swapper.{Swapper}
 use Rattle.swap_run.specs.Shown.{HasCaughtUp, IsLive}
 use Rattle.swap_run.specs.SwapRun.{frames_in}

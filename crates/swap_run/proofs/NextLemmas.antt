@@ -14,9 +14,9 @@ use Rattle.file_run.specs.Laws.{EventsTell}
 use Rattle.frame_feed.specs.StandsFor.{fed_of}
 use Rattle.frame_feed.specs.declared.feed.FrameFeed.{FrameFeed}
 use Rattle.frame_groups.specs.Modulated.{FrameRecord}
-use Rattle.record_feeds.specs.Fed.{IsFedWith}
+use Rattle.swap_run.specs.Fed.{IsFedWith}
 use Rattle.frame_feed.specs.StandsFor as feed
-use Rattle.merge_run.proofs.CameLemmas.{test_of, most_of, less_of, number_of, nothing_of}
+use Rattle.two_feeds.proofs.CameLemmas.{test_of, most_of, less_of, number_of, nothing_of}
 use Rattle.terms.proofs.CaseLemmas.{bool_cases}
 use Rattle.terms.proofs.OptionLemmas.{some_injective, none_some}
 use Rattle.two_feeds.specs.Reading.{is_idle}

@@ -25,14 +25,14 @@ use Rattle.file_run.specs.declared.stop.RunStop.{RunStop}
 use Rattle.file_run.specs.declared.stop.RunStop.TheVariants.{Refused, Files, OutOfMemory}
 use Rattle.file_run.proofs.StandsLemmas.{works_by, fed_since, all_read}
 use Rattle.two_feeds.specs.Reading.{is_idle}
-use Rattle.merge_run.proofs.FilesLemmas.{two}
+use Rattle.two_feeds.proofs.FilesLemmas.{two}
 use Rattle.region_swap.specs.StandsFor.{status_of, wants_of}
 use Rattle.swap_run.specs.AsMachine.{Becomes, ending_in, ending_of}
 use Rattle.swap_run.specs.Shown.{Shown, IsIn, IsDone}
 use Rattle.swap_run.specs.Shown as shown
 use Rattle.swap_run.specs.Steps.{step_in, step_of, reach_of, input_reach, drained, record_step, packet_step, drain_step, most_packets}
 use Rattle.swap_run.specs.SwapRun.{names_of, SwapsAll, RunsAll, HasNone, FindsNone, MeetsBad, StopsAtBad, HasLate, MeetsLate, HasWritten}
-use Rattle.swap_run.specs.SwapRun.{slots_of, ReadsNoFurther, GivesTooMuch, StopsReading, AreWritten, MayWrite, HasSome, StopsWriting, Stops}
+use Rattle.swap_run.specs.SwapRun.{slots_of, ReadsNoFurther, TakesNoFurther, GivesTooMuch, StopsReading, AreWritten, MayWrite, HasSome, StopsWriting, Stops}
 use Rattle.swap_run.specs.declared.machine.SwapMachine.{SwapMachine}
 use Rattle.swap_run.specs.declared.phase.Phase.{Phase}
 use Rattle.swap_run.specs.declared.phase.Phase.TheVariants as phase
@@ -128,10 +128,13 @@ module _ (law : Laws) (start now : SwapMachine) (old new : State) (t2mi input ou
       let s = r.stands in
       record {
         places = s.places;
-        works = works_by (λ files bytes. (meets : MeetsBad k plp files n bytes) × ReadsNoFurther k plp s.places meets.before meets.after) s
+        works = works_by (λ files bytes. (meets : MeetsBad k plp files n bytes) × ReadsNoFurther k plp s.places meets.before meets.after
+            × TakesNoFurther k s.places files meets.before) s
             (λ files are bytes is.
-            subst (λ (l : List ℕ). (meets : MeetsBad k plp files n l) × ReadsNoFurther k plp s.places meets.before meets.after) (sym is)
-            (meets_bad law.front law.follow law.complete law.rises law.slot k plp m s.events s.came files s.places are (s.within 1 (omega arith)) n e));
+            subst (λ (l : List ℕ). (meets : MeetsBad k plp files n l) × ReadsNoFurther k plp s.places meets.before meets.after
+            × TakesNoFurther k s.places files meets.before) (sym is)
+            (meets_bad law.front law.follow law.complete law.rises law.slot k plp m s.events s.came files s.places are (s.within 0 (omega arith))
+            (s.within 1 (omega arith)) n e));
         short = r.short;
         counts = r.counts;
       }
@@ -184,9 +187,9 @@ module _ (law : Laws) (start now : SwapMachine) (old new : State) (t2mi input ou
 
   -- what is written when an input is to be read on
   written : (events : List Event) (s : Shown k plp events m) (files : ℕ → List ℕ) (places : List ℕ) → AreFed 2 files places events
-      → slice_index places 1 ≤ input_reach m → (place taken at : ℕ) → HowRead m place → (0 ≡ place → taken ≡ length (fed 0 events))
+      → slice_index places 0 ≤ feed.fed_of m.feed + read_ahead → slice_index places 1 ≤ input_reach m → (place taken at : ℕ) → HowRead m place → (0 ≡ place → taken ≡ length (fed 0 events))
       → (1 ≡ place → (length (fed 1 events) ≤ at) × (at < length (fed 1 events) + SIZE)) → HasWritten k plp places place taken at files (gave events)
-  written events s files places are near place taken at how first second = go how
+  written events s files places are close near place taken at how first second = go how
     where
       bytes : m.phase ≡ phase.Packets ⊎ (m.phase ≡ phase.Drains) → length (fed 1 events) ≡ SIZE * m.taken
       bytes (inl e) =
@@ -203,11 +206,11 @@ module _ (law : Laws) (start now : SwapMachine) (old new : State) (t2mi input ou
           (has_swapped law.front law.follow law.complete law.rises law.slot k plp m events s files places are near taken e w.none w.going
           (first w.at))
       go (OfPackets e w) = subst (λ (p : ℕ). HasWritten k plp places p taken at files (gave events)) w.at
-          (wants_packets law.front law.follow law.complete law.rises law.slot k plp m events s files places are near at e w.some
+          (wants_packets law.front law.follow law.complete law.rises law.slot k plp m events s files places are close near at e w.some
           (let n = (second w.at).0 in let b = bytes (inl e) in omega (arith, n, b))
           (let n = (second w.at).1 in let b = bytes (inl e) in omega (arith, n, b)))
       go (OfRest e w) = subst (λ (p : ℕ). HasWritten k plp places p taken at files (gave events)) w.at
-          (wants_rest law.front law.follow law.complete law.rises law.slot k plp m events s files places are at e w.going
+          (wants_rest law.front law.follow law.complete law.rises law.slot k plp m events s files places are close at e w.going
           (let n = (second w.at).0 in let b = bytes (inr e) in omega (arith, n, b))
           (let n = (second w.at).1 in let b = bytes (inr e) in omega (arith, n, b)))
 
@@ -226,7 +229,7 @@ module _ (law : Laws) (start now : SwapMachine) (old new : State) (t2mi input ou
         near = omega (arith, few, gave_is);
         works = works_by (λ files bytes. HasWritten k plp s.places place (length (fed place s.events)) (length (fed place s.events)) files bytes) s
             (λ files are bytes is. subst (HasWritten k plp s.places place (length (fed place s.events)) (length (fed place s.events)) files) (sym is)
-            (written s.events s.came files s.places are (s.within 1 (omega arith)) place (length (fed place s.events)) (length (fed place s.events)) w.0
+            (written s.events s.came files s.places are (s.within 0 (omega arith)) (s.within 1 (omega arith)) place (length (fed place s.events)) (length (fed place s.events)) w.0
             (λ e. ap (λ (n : ℕ). length (fed n s.events)) (sym e))
             (λ e. let n = ap (λ (n : ℕ). length (fed n s.events)) e in (omega (arith, n), omega (arith, n)))));
         gave = g.gave;
@@ -246,7 +249,7 @@ module _ (law : Laws) (start now : SwapMachine) (old new : State) (t2mi input ou
         inside = g.place;
         works = works_by (λ files bytes. HasWritten k plp s.places place (slice_index s.places place) (slice_index s.places place) files bytes) s
             (λ files are bytes is. subst (HasWritten k plp s.places place (slice_index s.places place) (slice_index s.places place) files) (sym is)
-            (written s.events s.came files s.places are (s.within 1 (omega arith)) place (slice_index s.places place) (slice_index s.places place) w.0
+            (written s.events s.came files s.places are (s.within 0 (omega arith)) (s.within 1 (omega arith)) place (slice_index s.places place) (slice_index s.places place) w.0
             (λ e. let n = ap (λ (n : ℕ). length (fed n s.events)) e in let f = are place g.place in let ahead = f.ahead in
             let few = w.1 e in omega (arith, n, ahead, few))
             (λ e. let n = ap (λ (n : ℕ). length (fed n s.events)) e in let few = w.2 in let ahead = (are place g.place).ahead in (

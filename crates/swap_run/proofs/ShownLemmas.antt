@@ -13,7 +13,7 @@ use Rattle.formed_frames.specs.Remade.{NumberedView}
 use Rattle.file_run.specs.Events.{Event, fed, has_ended, gave}
 use Rattle.frame_feed.specs.declared.feed.FrameFeed.{FrameFeed}
 use Rattle.gateway_core.specs.InputSoFar.{Told, with_packet, at_end, Continues}
-use Rattle.record_feeds.specs.Fed.{IsFedWith}
+use Rattle.swap_run.specs.Fed.{IsFedWith}
 use Rattle.region_swap.specs.StandsFor.{SwapperStandsFor, Status, status_of, wants_of, wants_by, has_unit}
 use Rattle.region_swap.specs.declared.swapper.Swapper.{Swapper}
 use Rattle.region_swap.proofs.SwapLemmas.{wants_told}

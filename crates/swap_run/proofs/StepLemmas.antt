@@ -8,7 +8,7 @@ use Rattle.file_run.specs.declared.machine.Step.{Step}
 use Rattle.file_run.specs.declared.machine.Step.TheVariants.{Read, Give, End}
 use Rattle.frame_feed.specs.StandsFor.{waiting_of, has_ended}
 use Rattle.two_feeds.specs.Reading.{is_idle}
-use Rattle.merge_run.proofs.StepLemmas.{idle_is}
+use Rattle.two_feeds.proofs.StepLemmas.{idle_is}
 use Rattle.region_swap.specs.StandsFor.{wants_of}
 use Rattle.swap_run.specs.Steps.{record_step, packet_step, drain_step, step_in, step_of, most_packets}
 use Rattle.file_run.specs.FileRun.{read_ahead}

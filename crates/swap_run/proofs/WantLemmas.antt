@@ -20,7 +20,7 @@ use Rattle.feed_merge.specs.Picks.{above_all}
 use Rattle.gateway_core.specs.InputSoFar.{Told}
 use Rattle.gateway_run.proofs.FileLemmas.{joined_length}
 use Rattle.two_feeds.specs.Reading.{is_idle}
-use Rattle.merge_run.proofs.StepLemmas.{idle_is}
+use Rattle.two_feeds.proofs.StepLemmas.{idle_is}
 use Rattle.region_swap.specs.StandsFor.{Status, status_of, wants_of}
 use Rattle.region_swap.specs.Swapped.{swapped}
 use Rattle.swap_run.specs.Shown as shown

@@ -25,7 +25,7 @@ use Rattle.gateway_core.specs.InputSoFar.{Told, Continues}
 use Rattle.gateway_run.specs.Holds.{ArePackets}
 use Rattle.merge_run.specs.Sending.{numbered}
 use Rattle.swap_run.specs.Record.{view_at, frame_at}
-use Rattle.record_feeds.specs.Fed.{IsFedWith, NoneComes}
+use Rattle.swap_run.specs.Fed.{IsFedWith, NoneComes}
 use Rattle.region_swap.specs.StandsFor.{SwapperStandsFor, status_of, frame_of, has_unit, is_fed, bytes_left}
 use Rattle.region_swap.specs.Swapped.{swapped}
 use Rattle.region_swap.specs.declared.swapper.Swapper.{Swapper}

@@ -19,7 +19,7 @@ use Rattle.open_group.specs.Written.{content_view}
 use Rattle.modulator.specs.StandsFor.{records_due, records_of}
 use Rattle.formed_frames.specs.Remade.{NumberedView, remade_packets}
 use Rattle.feed_merge.specs.Picks.{above_all}
-use Rattle.merge_run.specs.MergeRun.{AreEarly}
+use Rattle.two_feeds.specs.Fed.{AreEarly}
 use Rattle.region_swap.specs.Swapped.{swapped}
 use Rattle.desk_io.specs.Faults.{ReadsFail, WritesFail}
 use Rattle.desk_io.specs.Reading.{longest_file}
@@ -112,6 +112,11 @@ pub record FindsNone (c : Config) (old new : State) (t2mi input out : List ℕ) 
 abbrev pub ReadsNoFurther : Config → ℕ → List ℕ → List FrameRecord → List FrameRecord → Type 0
 ReadsNoFurther c plp places before after = after ≢ [] → slice_index places 1 ≤ SIZE * slots_of c plp (before ++ take 1 after)
 
+-- The first file was read by no more than is read ahead behind bytes by which a record is due that is none of these.
+abbrev pub TakesNoFurther : Config → List ℕ → (ℕ → List ℕ) → List FrameRecord → Type 0
+TakesNoFurther c places files before = (taken : ℕ) → taken + read_ahead < slice_index places 0
+    → IsPrefix (records_due c false (take taken (files 0))) before
+
 -- The first file has a record, and the first bad packet of the second is this: the first of some records wants it, whose frame may have
 -- its number, or all were sent and the rest has it. The output is the complete units of the frames before.
 pub record MeetsBad (c : Config) (plp : ℕ) (files : ℕ → List ℕ) (packet : ℕ) (bytes : List ℕ) : Type 0 where
@@ -130,7 +135,9 @@ pub record MeetsBad (c : Config) (plp : ℕ) (files : ℕ → List ℕ) (packet 
 pub record StopsAtBad (c : Config) (plp : ℕ) (old new : State) (t2mi input out : List ℕ) (packet : ℕ) : Type 0 where
   pub places : List ℕ
   pub works : Works old new out (names_of t2mi input) places
-      (λ h bytes. (meets : MeetsBad c plp (file_at h (names_of t2mi input)) packet bytes) × ReadsNoFurther c plp places meets.before meets.after)
+      (λ h bytes. (meets : MeetsBad c plp (file_at h (names_of t2mi input)) packet bytes)
+      × ReadsNoFurther c plp places meets.before meets.after
+      × TakesNoFurther c places (file_at h (names_of t2mi input)) meets.before)
   pub short : AllShort places
   pub counts : SameCounts old new
 
@@ -163,7 +170,8 @@ pub record HasSwapped (c : Config) (plp : ℕ) (places : List ℕ) (taken : ℕ)
   pub output : bytes ≡ joined (complete_of c plp files (records_due c false (take taken (files 0))))
 
 -- The next frame is the first that wants more of the second file than so many bytes, and no more was read than it wants, or all frames
--- were sent; in these bytes no bad packet is whole. The output is the complete units of the frames before.
+-- were sent; of the first file no more was read than its record wants; in these bytes no bad packet is whole. The output is the complete
+-- units of the frames before.
 pub record WantsMore (c : Config) (plp : ℕ) (places : List ℕ) (place : ℕ) (files : ℕ → List ℕ) (bytes : List ℕ) : Type 0 where
   pub before : List FrameRecord
   pub after : List FrameRecord
@@ -173,6 +181,7 @@ pub record WantsMore (c : Config) (plp : ℕ) (places : List ℕ) (place : ℕ) 
   pub had : SIZE * slots_of c plp before ≤ place
   pub wanted : after ≢ [] → place < SIZE * slots_of c plp (before ++ take 1 after)
   pub no_further : ReadsNoFurther c plp places before after
+  pub ahead : TakesNoFurther c places files before
   pub unread : ReadsNoBad (files 1) place
   pub output : bytes ≡ joined (complete_of c plp files before)
 

@@ -26,7 +26,6 @@ use frame_groups::Waiting;
 use gateway_run::front_packet;
 use modulator::due_records_law;
 use plp_config::{MOST_FRAMES, Plan, block_law, length_law, slot_time_law};
-use record_feeds::is_idle;
 use record_laws::{fit_law, id_law};
 use region_swap::Swapper;
 use std::alloc::Global;
@@ -58,6 +57,13 @@ pub struct Swapping<'p> {
     pub draining: bool,
     pub phase: Phase,
     pub ran: Ran,
+}
+
+// No record waits, and the stream has not ended.
+fn is_idle(feed: &FrameFeed<'_>) -> bool
+    ensures { result ≡ is_idle (waiting_of feed.now) (has_ended feed.now) }
+{
+    feed.waiting().is_none() && !feed.is_ended()
 }
 
 // It wants bytes of the T2-MI stream until a record waits or it ends.

@@ -4,14 +4,14 @@ use Rattle.std.proofs.Common.{length-append, ◌<◌}
 use Rattle.std.specs.Prelude.{not, ◌||◌, slice_index_or}
 use Rattle.std.specs.List.{filter, range_with_len}
 use Rattle.std.specs.Str.{bytes_eq}
-use Rattle.std.proofs.lemmas.List.{at_drop_more, take_more}
+use Rattle.std.proofs.lemmas.List.{at_drop_more}
 use Rattle.std.proofs.lemmas.List.Elements.{filter-append}
 use Rattle.terms.proofs.RangeLemmas.{places_more}
 use Rattle.site_frame.specs.Whole.{BeginsWith}
 use Rattle.site_frame.specs.declared.reading.RecordView.{RecordView}
 use Rattle.t2mi_stream.specs.Units.{unit_at}
 use Rattle.ts_packet.specs.Null.{is_null}
-use Rattle.trial_run.specs.Counts.{is_frame, AreCut, filled_of_first, stand_in, is_among, same_count}
+use Rattle.trial_run.specs.Counts.{is_frame, AreCut, filled_of_first, stand_in}
 use Rattle.trial_run.specs.declared.counts.Piece.{Piece}
 
 -- one element more behind others counts if it passes

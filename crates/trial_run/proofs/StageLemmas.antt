@@ -1,7 +1,7 @@
 -- Runs over desks in memory: what such a desk holds at first, and what a run leaves on it.
 use Rattle.std.proofs.Common.{◌≡◌, ℕ, zero, suc, ◌<◌, List, [], ◌∷◌, codes, length, Option, Some, refl, ap, sym, subst, ◌∙◌}
 use Rattle.std.proofs.Common.{arith, ◌≢◌, map, get_or, Vec, Global}
-use Rattle.std.specs.Prelude.{unwrap_or, option_and_then, slice_index_or}
+use Rattle.std.specs.Prelude.{Ok, IfSome, unwrap_or, option_and_then, slice_index_or}
 use Rattle.std.specs.List.{range_with_len}
 use Rattle.std.proofs.lemmas.List.{get_or-map, length-map}
 use Rattle.std.proofs.lemmas.List.FromFn.{length-map-range_with_len, get_or-map-range_with_len}
@@ -18,11 +18,13 @@ use Rattle.t2mi_stream.specs.Pipe.{pipe}
 use Rattle.gateway_core.specs.Laws.{FrontsDecided}
 use Rattle.gateway_core.specs.Packets.{front_packets}
 use Rattle.file_run.specs.FileRun.{Works, file_at}
+use Rattle.file_run.specs.Work.{Ends, Into}
+use Rattle.file_run.proofs.WorkLemmas.{told_of, works_of}
 use Rattle.gateway_run.specs.GatewayRun.{RunsAll as GatewayRuns, frames_of, units_of, inputs_of}
 use Rattle.modulate_run.specs.Counted.{counted}
-use Rattle.modulate_run.specs.ModulateRun.{RunsAll as ModulatorRuns, output_of}
+use Rattle.modulate_run.specs.ModulateRun.{modulate_work, output_of}
 use Rattle.modulate_run.specs.declared.stop.Ran.{Ran}
-use Rattle.receive_run.specs.ReceiveRun.{RunsAll as ReceiverRuns, HasAll}
+use Rattle.receive_run.specs.ReceiveRun.{HasAll, receive_work}
 use Rattle.receive_run.specs.declared.stop.Ran.{Ran as Received}
 use Rattle.trial_run.specs.Stages.{HasFile, HasInputs, IsSent, input_names}
 use Rattle.trial_run.specs.Trial.{ComesOf}
@@ -110,12 +112,27 @@ written old new out ins places Has h holds works =
     }
 
 pub modulated : (c : Config) (old new : State) (name out stream records : List ℕ) (ran : Ran) → HasFile old name stream
-    → ModulatorRuns c old new name out ran → records ≡ unwrap_or (file_of new out) []
+    → Ends (modulate_work c) old new (Into out) (name ∷ []) (Ok ran) → records ≡ unwrap_or (file_of new out) []
     → (records ≡ output_of c stream) × (ran ≡ counted (records_of c stream))
-modulated c old new name out stream records ran has runs is =
-    let left = written old new out (name ∷ []) _ _ has.held has.holds runs.works in
-    let counts = rw has.holds at runs.ran_is in
+modulated c old new name out stream records ran has (same, d) is =
+    let all = d.does.1.1 in
+    let works = works_of (λ files bytes. bytes ≡ output_of c (files 0)) d all.output in
+    let left = written old new out (name ∷ []) _ _ has.held has.holds works in
+    let ran_is : IfSome old.held (λ h. ran ≡ counted (records_of c (file_at h (name ∷ []) 0))) =
+    told_of (λ files. ran ≡ counted (records_of c (files 0))) d all.ran_is in
+    let counts = rw has.holds at ran_is in
     (is ∙ left.is ∙ left.has ∙ ap (output_of c) has.is, counts ∙ ap (λ (s : List ℕ). counted (records_of c s)) has.is)
+
+pub received : (c : Config) (plp : ℕ) (old new : State) (name out records bytes : List ℕ) (ran : Received) → HasFile old name records
+    → Ends (receive_work c plp) old new (Into out) (name ∷ []) (Ok ran) → bytes ≡ unwrap_or (file_of new out) []
+    → ComesOf c plp records bytes
+received c plp old new name out records bytes ran has (same, d) is =
+    let works = works_of (λ files is. HasAll c plp ran (files 0) is) d d.does.1.1 in
+    let left = written old new out (name ∷ []) _ _ has.held has.holds works in (
+      ran,
+      subst (HasAll c plp ran records) (sym (is ∙ left.is))
+          (subst (λ (file : List ℕ). HasAll c plp ran file left.bytes) has.is left.has),
+    )
 
 -- ---- the same inputs, the same stream
 

@@ -1,13 +1,14 @@
 // The commands' own runs, each over a desk in memory. On such a desk only a file that is too long, a record that is refused, or a
 // stream in which no superframe begins can stop one beside want of memory. None of these is likely, since of the first half of the
 // stream the second modulator loses unit 0 alone, but that none comes is not proved: a trial tells it as a defect.
-ghost use Rattle.std.specs.Prelude.{◌≡◌, ◌≢◌, ◌<◌, ℕ, List, [], ◌∷◌, codes, length, unwrap_or, IfOk};
+ghost use Rattle.std.specs.Prelude.{◌≡◌, ◌≢◌, ◌<◌, ℕ, List, [], ◌∷◌, codes, length, unwrap_or, Ok, IfOk};
 ghost use Rattle.ports.specs.Desk.{file_of};
 ghost use Rattle.gateway_run.specs.GatewayRun.{RunsAll as GatewayRuns};
 ghost use Rattle.modulate_run.specs.Counted.{counted};
-ghost use Rattle.modulate_run.specs.ModulateRun.{RunsAll as ModulatorRuns, output_of};
+ghost use Rattle.file_run.specs.Work.{Ends, Into};
+ghost use Rattle.modulate_run.specs.ModulateRun.{modulate_work, output_of};
 ghost use Rattle.modulator.specs.StandsFor.{records_of};
-ghost use Rattle.receive_run.specs.ReceiveRun.{RunsAll as ReceiverRuns};
+ghost use Rattle.receive_run.specs.ReceiveRun.{receive_work};
 ghost use Rattle.trial_run.specs.Stages.{HasFile, HasInputs, AreFiles, IsSent, input_names};
 ghost use Rattle.trial_run.specs.Trial.{ComesOf};
 
@@ -108,7 +109,8 @@ fn run_modulator(
     plan: &Plan,
     desk: &mut MemoryDesk,
 ) -> Result<modulate_run::Ran, TrialStop>
-    ensures { IfOk result (λ ran. ModulatorRuns plan.now desk.old.state desk.new.state (codes "in") (codes "out") ran) }
+    ensures { IfOk result (λ ran.
+        Ends (modulate_work plan.now) desk.old.state desk.new.state (Into (codes "out")) (codes "in" ∷ []) (Ok ran)) }
 {
     Ok(modulate_run::run(alloc, plan, IN, OUT, desk)?)
 }
@@ -131,7 +133,8 @@ fn run_receiver(
     desk: &mut MemoryDesk,
 ) -> Result<receive_run::Ran, TrialStop>
     requires inside { plp < length plan.now.plps }
-    ensures { IfOk result (λ ran. ReceiverRuns plan.now plp desk.old.state desk.new.state (codes "in") (codes "out") ran) }
+    ensures { IfOk result (λ ran.
+        Ends (receive_work plan.now plp) desk.old.state desk.new.state (Into (codes "out")) (codes "in" ∷ []) (Ok ran)) }
 {
     Ok(receive_run::run(alloc, plan, plp, IN, OUT, desk)?)
 }

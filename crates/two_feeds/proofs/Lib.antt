@@ -1,1 +1,11 @@
+pub mod CameLemmas
+pub mod EarlyLemmas
+pub mod EventLemmas
+pub mod FeedLemmas
+pub mod FilesLemmas
+pub mod GroupsLemmas
+pub mod LeastLemmas
+pub mod NumberLemmas
 pub mod SkipLemmas
+pub mod SplitLemmas
+pub mod StepLemmas

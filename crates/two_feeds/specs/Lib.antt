@@ -1,2 +1,4 @@
+pub mod Fed
 pub mod Reading
+pub mod Seen
 pub mod Skips

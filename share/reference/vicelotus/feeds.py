@@ -3,7 +3,7 @@
 from . import packets
 from .blocks import Queue
 from .frames import made_frame, packets_of
-from .modulator import is_shown
+from .modulator import begins, is_shown
 
 
 def merged(one, other):
@@ -34,34 +34,40 @@ def piped(plan, frames, is_whole=True):
     return packets.pipe(plan.config.pid, packets_of(frames), is_whole)
 
 
-def first_block(plan, one, other):
-    """The first block in which two frames differ, by its PLP and its place among that PLP's."""
+def carried(frames, chain, number):
+    """The blocks of a PLP that a frame carries: those of the group in which its interleaving frame begins, muted or not."""
+    first = frames.get(begins(chain, number))
+    return [packet.block for packet in first.group.right(chain)] if first and first.group else []
+
+
+def first_block(plan, first, second, number):
+    """The first block that a frame does not carry in both streams, by its PLP and its place in the interleaving frame."""
     for chain in plan.chains:
-        pair = [[block for plp_id, block in frame.blocks if plp_id == chain.id] for frame in (one, other)]
-        for place in range(max(map(len, pair))):
-            if pair[0][place : place + 1] != pair[1][place : place + 1]:
+        one, other = carried(first, chain, number), carried(second, chain, number)
+        for place in range(max(len(one), len(other))):
+            if one[place : place + 1] != other[place : place + 1]:
                 return f"block plp={chain.id} block={place}"
     return None
 
 
-def answer(plan, one, other):
+def answer(plan, first, second, number):
     """What is said of a frame of which either stream has a record."""
+    one, other = first.get(number), second.get(number)
     if one is None or other is None:
         return "only-b" if one is None else "only-a"
     if not is_shown(one) or not is_shown(other):
         return "muted-b" if is_shown(one) else "muted-a" if is_shown(other) else "muted-both"
-    if one.record() == other.record():
-        return "same"
-    if (one.pre, one.post()) != (other.pre, other.post()):
+    if one.post() != other.post():
         return "differs at=l1"
-    return f"differs at={first_block(plan, one, other) or 'map'}"
+    place = first_block(plan, first, second, number)
+    return f"differs at={place}" if place else "same"
 
 
 def compared(plan, one, other):
     """What `compare` says of two streams, and the first frame that differs."""
     first, second = ({frame.number: frame for frame in frames} for frames in (one, other))
     numbers = sorted(first.keys() | second.keys())
-    answers = [(number, answer(plan, first.get(number), second.get(number))) for number in numbers]
+    answers = [(number, answer(plan, first, second, number)) for number in numbers]
     lines, runs = [], []
     for number, is_what in answers:
         if runs and runs[-1][1] + 1 == number and runs[-1][2] == is_what and not is_what.startswith("differs"):

@@ -137,6 +137,8 @@ def next_number(plan, before, key):
 
 
 class Muted:
+    group = None
+
     def __init__(self, plan, number, cause):
         self.plan, self.number, self.cause = plan, number, cause
 
@@ -158,6 +160,7 @@ def modulated(plan, data):
         numbered[number] = group
         cause = first_cause(plan, group, number, numbered)
         made.append(Muted(plan, number, cause) if cause else shown(plan, group, number))
+        made[-1].group = group
     return made
 
 

@@ -2,24 +2,15 @@ use Rattle.std.proofs.Common.{[], ◌∷◌, subst}
 use Rattle.plp_config.specs.declared.config.Config.{Config}
 use Rattle.file_run.specs.Work.{Ends, Aloud}
 use Rattle.line_run.proofs.WorkLemmas.{ends_aloud}
-use Rattle.compare_run.specs.CompareWork.{compare_work}
-use Rattle.compare_run.proofs.OldLemmas.{old_forms}
+use Rattle.compare_run.specs.CompareRun.{compare_work}
 use Rattle.compare_run.proofs.RunLemmas.{compare_does}
 use Rattle.compare_run.proofs.running.run.Goals as goal
 
-pub returns-clause-ends : goal.returns-clause-ends
-returns-clause-ends g c =
-    subst (λ (k : Config). Ends (compare_work k) (g.D.Desk.state c.args.desk.now) (g.D.Desk.state c.speak_two.new.desk) Aloud
-    (c.args.a.now ∷ c.args.b.now ∷ []) c.speak_two.result) c.in_ok-machine.ensures.plan
-    (ends_aloud _ _ _ _ _ _ _ _ _ (compare_does c.due_records_law.ensures.front c.due_records_law.ensures.follow c.known_law.ensures
-    c.in_ok-machine.machine) c.speak_two.result c.speak_two.ensures)
-
-pub returns-clause-ok : goal.returns-clause-ok
-returns-clause-ok g c =
-    (old_forms c.args.plan.now (g.D.Desk.state c.args.desk.now) _ c.args.a.now c.args.b.now c.speak_two.result
-    (returns-clause-ends g c)).0
-
-pub returns-clause-err : goal.returns-clause-err
-returns-clause-err g c =
-    (old_forms c.args.plan.now (g.D.Desk.state c.args.desk.now) _ c.args.a.now c.args.b.now c.speak_two.result
-    (returns-clause-ends g c)).1
+pub returns : goal.returns
+returns g c = record {
+  ends =
+      subst (λ (k : Config). Ends (compare_work k) (g.D.Desk.state c.args.desk.now) (g.D.Desk.state c.speak_two.new.desk) Aloud
+      (c.args.a.now ∷ c.args.b.now ∷ []) c.speak_two.result) c.in_ok-machine.ensures.plan
+      (ends_aloud _ _ _ _ _ _ _ _ _ (compare_does c.due_records_law.ensures.front c.due_records_law.ensures.follow c.known_law.ensures
+      c.in_ok-machine.machine) c.speak_two.result c.speak_two.ensures);
+}

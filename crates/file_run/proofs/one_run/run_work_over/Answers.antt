@@ -1,4 +1,4 @@
-use Rattle.std.proofs.Common.{◌≡◌, ℕ, subst}
+use Rattle.std.proofs.Common.{ℕ, subst}
 use Rattle.file_run.specs.Work.{DoesWork}
 use Rattle.file_run.proofs.WorkLemmas.{ends_so}
 use Rattle.file_run.proofs.one_run.run_work_over.Goals as goal

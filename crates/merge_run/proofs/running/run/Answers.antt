@@ -2,25 +2,16 @@ use Rattle.std.proofs.Common.{subst}
 use Rattle.plp_config.specs.declared.config.Config.{Config}
 use Rattle.file_run.specs.Work.{Ends, Into}
 use Rattle.file_run.proofs.WorkLemmas.{ends_so}
-use Rattle.merge_run.specs.MergeRun.{names_of}
-use Rattle.merge_run.specs.MergeWork.{merge_work}
-use Rattle.merge_run.proofs.OldLemmas.{old_forms}
+use Rattle.two_feeds.specs.Fed.{names_of}
+use Rattle.merge_run.specs.MergeRun.{merge_work}
 use Rattle.merge_run.proofs.WorkLemmas.{merge_does}
 use Rattle.merge_run.proofs.running.run.Goals as goal
 
-pub returns-clause-ends : goal.returns-clause-ends
-returns-clause-ends g c =
-    subst (λ (k : Config). Ends (merge_work k) (g.D.Desk.state c.args.desk.now) (g.D.Desk.state c.run_over_two.new.desk)
-    (Into c.args.out.now) (names_of c.args.a.now c.args.b.now) c.run_over_two.result) c.in_ok-machine.ensures.plan
-    (ends_so _ _ _ _ _ _ _ _ _ _ (merge_does c.due_records_law.ensures.front c.due_records_law.ensures.follow
-    c.complete_law.ensures.stays c.in_ok-machine.machine) c.run_over_two.result c.run_over_two.ensures)
-
-pub returns-clause-ok : goal.returns-clause-ok
-returns-clause-ok g c =
-    (old_forms c.args.plan.now (g.D.Desk.state c.args.desk.now) _ c.args.a.now c.args.b.now c.args.out.now c.run_over_two.result
-    (returns-clause-ends g c)).0
-
-pub returns-clause-err : goal.returns-clause-err
-returns-clause-err g c =
-    (old_forms c.args.plan.now (g.D.Desk.state c.args.desk.now) _ c.args.a.now c.args.b.now c.args.out.now c.run_over_two.result
-    (returns-clause-ends g c)).1
+pub returns : goal.returns
+returns g c = record {
+  ends =
+      subst (λ (k : Config). Ends (merge_work k) (g.D.Desk.state c.args.desk.now) (g.D.Desk.state c.run_over_two.new.desk)
+      (Into c.args.out.now) (names_of c.args.a.now c.args.b.now) c.run_over_two.result) c.in_ok-machine.ensures.plan
+      (ends_so _ _ _ _ _ _ _ _ _ _ (merge_does c.due_records_law.ensures.front c.due_records_law.ensures.follow
+      c.complete_law.ensures.stays c.in_ok-machine.machine) c.run_over_two.result c.run_over_two.ensures);
+}

@@ -1,4 +1,4 @@
-use Rattle.std.proofs.Common.{◌≡◌, ℕ, List, [], ◌∷◌, ◌++◌, ◌-◌, Bool, true, false, take, refl, ap, sym, subst, ◌∙◌, rules, arith}
+use Rattle.std.proofs.Common.{◌≡◌, ℕ, List, [], ◌∷◌, ◌++◌, Bool, true, take, refl, ap, sym, subst, ◌∙◌, rules, arith}
 use Rattle.std.proofs.Common.{length-append}
 use Rattle.ts_packet.proofs.JoinedLemmas.{joined_push}
 use Rattle.plp_config.specs.declared.config.Config.{Config}

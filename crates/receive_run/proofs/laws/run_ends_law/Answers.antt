@@ -1,6 +1,6 @@
 use Rattle.std.proofs.Common.{None}
 use Rattle.receive_run.proofs.EndLemmas.{run_ends}
-use Rattle.receive_run.proofs.RunLemmas.{may_none}
+use Rattle.receive_run.proofs.WorkLemmas.{may_none}
 use Rattle.receive_run.proofs.laws.run_ends_law.Goals as goal
 
 pub returns-clause-joined : goal.returns-clause-joined

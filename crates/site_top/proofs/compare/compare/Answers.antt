@@ -1,5 +1,5 @@
 use Rattle.std.proofs.Common.{inr}
-use Rattle.site_top.proofs.CompareLemmas.{never_differs, runs_so}
+use Rattle.site_top.proofs.CompareLemmas.{never_differs}
 use Rattle.site_top.proofs.compare.compare.Goals as goal
 
 pub returns : goal.returns
@@ -7,7 +7,6 @@ returns g c =
     let plan = c.in-Ok.plan in
     let a = c.args.a.now in
     let b = c.args.b.now in
-    let runs = runs_so plan _ _ a b c.run.result c.run.ensures.ok c.run.ensures.err in
     inr (
       _,
       _,
@@ -15,8 +14,8 @@ returns g c =
       c.in-Ok.ensures.ok.1,
       (
         c.run.result,
-        runs,
+        c.run.ensures.ends,
         c.outcome_of-2.ensures,
-        never_differs plan _ _ a b c.run.result _ c.alike_law.ensures runs c.outcome_of-2.ensures,
+        never_differs plan _ _ a b c.run.result _ c.alike_law.ensures c.run.ensures.ends c.outcome_of-2.ensures,
       ),
     )

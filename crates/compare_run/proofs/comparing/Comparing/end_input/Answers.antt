@@ -1,6 +1,6 @@
 use Rattle.std.proofs.Common.{arith}
-use Rattle.frame_feed.specs.StandsFor.{fed_of}
-use Rattle.merge_run.proofs.StepLemmas.{first_wanted, second_wanted, fed_more}
+use Rattle.held_feed.specs.StandsFor.{fed_of}
+use Rattle.two_feeds.proofs.StepLemmas.{first_wanted, second_wanted, fed_more}
 use Rattle.compare_run.proofs.ShownLemmas.{shown_ended_first, shown_ended_second}
 use Rattle.compare_run.proofs.StepLemmas.{short_so}
 use Rattle.compare_run.proofs.comparing.Comparing.end_input.Goals as goal

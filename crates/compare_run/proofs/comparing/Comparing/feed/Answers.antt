@@ -1,8 +1,8 @@
 use Rattle.std.proofs.Common.{ℕ, ◌+◌, ◌^◌, ◌<◌, length, subst, arith}
-use Rattle.frame_feed.specs.StandsFor.{fed_of}
+use Rattle.held_feed.specs.StandsFor.{fed_of}
 use Rattle.two_feeds.specs.Reading.{fed_at}
 use Rattle.compare_run.proofs.ShownLemmas.{shown_fed_first, shown_fed_second}
-use Rattle.merge_run.proofs.StepLemmas.{first_wanted, second_wanted, fed_more}
+use Rattle.two_feeds.proofs.StepLemmas.{first_wanted, second_wanted, fed_more}
 use Rattle.compare_run.proofs.StepLemmas.{suffices_so}
 use Rattle.compare_run.proofs.comparing.Comparing.feed.Goals as goal
 

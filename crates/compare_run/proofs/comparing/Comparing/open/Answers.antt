@@ -10,11 +10,9 @@ returns-clause-shown c =
     let a = c.in_ok-a.ensures in
     let b = c.in_ok-b.ensures in
     let k = c.args.plan.now in
-    let none = answers_nothing k in
     record {
       config = refl;
-      plan = c.rules_law.ensures.plan;
-      ids = c.id_law.ensures;
+      plps = c.in_ok-carried.ensures.plps;
       given_a = [];
       given_b = [];
       of_a = record { network = a.config; stands = a.stands };
@@ -23,8 +21,13 @@ returns-clause-shown c =
       behind_b = record { waits = λ w is. omega arith; idle = λ _ _. omega arith };
       next_is = refl;
       early = omega arith;
-      tallied = subst (TallyStandsFor c.new.result) (sym none) c.new.ensures;
-      few = (let e = ap length none in omega (arith, e));
-      said = sym (ap known_text none ∙ nothing_known);
+      told = λ ga gb are_a are_b.
+          let none = answers_nothing k ga gb in
+          record {
+            carried = c.in_ok-carried.ensures.stands ga gb;
+            tallied = subst (TallyStandsFor c.new.result) (sym none) c.new.ensures;
+            few = (let e = ap length none in omega (arith, e));
+            said_is = sym (ap known_text none ∙ nothing_known);
+          };
       over = λ on. absurd cc;
     }

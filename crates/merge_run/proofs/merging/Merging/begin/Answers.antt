@@ -6,7 +6,7 @@ use Rattle.held_feed.specs.declared.feed.FrameFeed.{FrameFeed}
 use Rattle.merge_run.specs.Sending.{Begins}
 use Rattle.merge_run.specs.Shown.{HasShown}
 use Rattle.merge_run.proofs.BeginLemmas.{fewer_left, passed, begun, begun_left, left_passed, reading_of, waits_now, network_in}
-use Rattle.merge_run.proofs.CameLemmas.{test_of, less_of, number_of}
+use Rattle.two_feeds.proofs.CameLemmas.{test_of, less_of, number_of}
 use Rattle.merge_run.proofs.PickLemmas.{picked_at}
 use Rattle.merge_run.proofs.TakeLemmas.{none_picked_is}
 use Rattle.merge_run.proofs.merging.Merging.begin.Goals as goal

@@ -1,7 +1,8 @@
 use Rattle.std.proofs.Common.{arith}
 use Rattle.held_feed.specs.StandsFor.{fed_of}
 use Rattle.merge_run.proofs.ShownLemmas.{shown_ended_first, shown_ended_second}
-use Rattle.merge_run.proofs.StepLemmas.{short_at, first_wanted, second_wanted, fed_more}
+use Rattle.merge_run.proofs.StepLemmas.{short_at}
+use Rattle.two_feeds.proofs.StepLemmas.{first_wanted, second_wanted, fed_more}
 use Rattle.merge_run.proofs.merging.Merging.end_input.Goals as goal
 
 pub returns-then-input-eq0-clause-shown : goal.returns-then-input-eq0-clause-shown

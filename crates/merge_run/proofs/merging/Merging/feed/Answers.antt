@@ -2,7 +2,8 @@ use Rattle.std.proofs.Common.{ℕ, ◌+◌, ◌^◌, ◌<◌, length, subst, ari
 use Rattle.held_feed.specs.StandsFor.{fed_of}
 use Rattle.two_feeds.specs.Reading.{fed_at}
 use Rattle.merge_run.proofs.ShownLemmas.{shown_fed_first, shown_fed_second}
-use Rattle.merge_run.proofs.StepLemmas.{suffices_at, first_wanted, second_wanted, fed_more}
+use Rattle.merge_run.proofs.StepLemmas.{suffices_at}
+use Rattle.two_feeds.proofs.StepLemmas.{first_wanted, second_wanted, fed_more}
 use Rattle.merge_run.proofs.merging.Merging.feed.Goals as goal
 
 pub returns-then-input-eq0-clause-shown : goal.returns-then-input-eq0-clause-shown

@@ -10,7 +10,7 @@ use Rattle.merge_run.specs.Taking.{is_same, feed_in}
 use Rattle.merge_run.specs.declared.phase.Phase.TheVariants.{Reads}
 use Rattle.merge_run.specs.declared.stop.Ran.{Ran}
 use Rattle.feed_merge.specs.declared.seen.Feed.TheVariants.{A, B}
-use Rattle.merge_run.proofs.CameLemmas.{test_of, less_of}
+use Rattle.two_feeds.proofs.CameLemmas.{test_of, less_of}
 use Rattle.merge_run.proofs.GiveLemmas.{giving, same_network, left_behind, whole_first, whole_second, early_first, early_second}
 use Rattle.merge_run.proofs.TakeLemmas.{can_whole}
 use Rattle.merge_run.proofs.UnitsLemmas.{few_more, shown_full, left_full, shown_behind, counted_units}

@@ -1,4 +1,4 @@
-use Rattle.receive_run.proofs.RunLemmas.{first_early}
+use Rattle.receive_run.proofs.WorkLemmas.{first_early}
 use Rattle.receive_run.proofs.machine.ReceiverMachineEnding.ending.Goals as goal
 
 pub first_slot-requires : goal.first_slot-requires

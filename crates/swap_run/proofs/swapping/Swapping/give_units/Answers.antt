@@ -3,7 +3,7 @@ use Rattle.std.proofs.Math.Logic.{∥∥₁_map}
 use Rattle.site_frame.specs.Whole.{Spells}
 use Rattle.file_run.specs.Events.{Gave}
 use Rattle.swap_run.specs.Record.{HoldsFrame}
-use Rattle.merge_run.proofs.CameLemmas.{less_of}
+use Rattle.two_feeds.proofs.CameLemmas.{less_of}
 use Rattle.region_swap.specs.StandsFor.{Status, status_of, frame_of}
 use Rattle.swap_run.specs.Shown.{Shown, HasShown}
 use Rattle.swap_run.specs.declared.phase.Phase.TheVariants as phase

@@ -5,7 +5,7 @@ use Rattle.plp_config.specs.declared.config.Config.{Config}
 use Rattle.site_frame.specs.Whole.{Spells}
 use Rattle.file_run.specs.Events.{fed, has_ended}
 use Rattle.swap_run.specs.Record.{HoldsFrame}
-use Rattle.merge_run.proofs.CameLemmas.{most_of}
+use Rattle.two_feeds.proofs.CameLemmas.{most_of}
 use Rattle.region_swap.specs.StandsFor.{Status, status_of, frame_of}
 use Rattle.swap_run.specs.Shown.{HasShown, more_units, frame_bytes}
 use Rattle.swap_run.specs.declared.phase.Phase.TheVariants as phase

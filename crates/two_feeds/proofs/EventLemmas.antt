@@ -1,4 +1,4 @@
--- What a feed of records stands for by one event more.
+-- What a feed stands for by one event more.
 use Rattle.std.proofs.Common.{◌≡◌, ◌≢◌, ℕ, Bool, true, false, List, [], ◌∷◌, ◌++◌, length}
 use Rattle.std.proofs.Common.{ap, sym, subst, ◌∙◌, append-nil}
 use Rattle.std.proofs.lemmas.List.{nil_from_length}
@@ -6,13 +6,11 @@ use Rattle.plp_config.specs.declared.config.Config.{Config}
 use Rattle.frame_groups.specs.Modulated.{FrameRecord}
 use Rattle.file_run.specs.Events.{Event, Fed, Ended, Gave, fed, has_ended}
 use Rattle.file_run.specs.Laws.{EventsTell}
-use Rattle.frame_feed.specs.StandsFor.{FrameFeedStandsFor, waiting_of}
-use Rattle.frame_feed.specs.StandsFor as feed
-use Rattle.frame_feed.specs.declared.feed.FrameFeed.{FrameFeed}
-use Rattle.merge_run.proofs.StepLemmas.{IsIdle}
-use Rattle.record_feeds.specs.Fed.{IsFedWith}
-
--- ---- by one event more
+use Rattle.held_feed.specs.StandsFor.{FrameFeedStandsFor, waiting_of}
+use Rattle.held_feed.specs.StandsFor as feed
+use Rattle.held_feed.specs.declared.feed.FrameFeed.{FrameFeed}
+use Rattle.two_feeds.specs.Fed.{IsFedWith}
+use Rattle.two_feeds.proofs.StepLemmas.{IsIdle}
 
 pub fed_here : EventsTell → (c : Config) (f : FrameFeed) (events : List Event) (input : ℕ) (bytes : List ℕ) (given : List FrameRecord)
     → IsFedWith c f (fed input events ++ bytes) (has_ended input events) given
@@ -56,7 +54,7 @@ gave_there tell c f events input bytes given h =
     subst (λ (e : Bool). IsFedWith c f (fed input (events ++ Gave bytes ∷ [])) e given) (sym (t.ended input))
     (subst (λ (l : List ℕ). IsFedWith c f l (has_ended input events) given) (sym (t.fed input)) h)
 
--- of a feed that is idle, by what its call gives
+-- whether its last frame is under way or not
 pub fed_with : (c : Config) (f g : FrameFeed) (bytes piece : List ℕ) (ended : Bool) (given : List FrameRecord)
     → IsIdle (waiting_of f) (feed.has_ended f) → feed.config_of g ≡ feed.config_of f
     → ((bytes : List ℕ) (given : List FrameRecord) → FrameFeedStandsFor f bytes false given

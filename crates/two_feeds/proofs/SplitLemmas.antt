@@ -10,15 +10,17 @@ use Rattle.frame_groups.specs.declared.waiting.Waiting.{Waiting}
 use Rattle.modulator.specs.Laws.{DueFront, DueFollow}
 use Rattle.modulator.specs.StandsFor.{records_due, records_of}
 use Rattle.file_run.specs.FileRun.{IsFed}
-use Rattle.frame_feed.specs.StandsFor.{waiting_of}
-use Rattle.frame_feed.specs.StandsFor as feed
-use Rattle.frame_feed.specs.declared.feed.FrameFeed.{FrameFeed}
-use Rattle.held_feed.specs.StandsFor.{IsFirst}
-use Rattle.merge_run.specs.MergeRun.{AreEarly}
-use Rattle.merge_run.proofs.NumberLemmas.{AllFrom, above_before, from_rest, from_more}
-use Rattle.merge_run.proofs.SplitLemmas.{IsSplit}
-use Rattle.record_feeds.specs.Fed.{IsFedWith, IsBehind, NoneComes}
-use Rattle.record_feeds.proofs.FeedLemmas.{IsDue, due_of}
+use Rattle.held_feed.specs.StandsFor.{IsFirst, waiting_of}
+use Rattle.held_feed.specs.StandsFor as feed
+use Rattle.held_feed.specs.declared.feed.FrameFeed.{FrameFeed}
+use Rattle.two_feeds.specs.Fed.{AreEarly, IsFedWith, IsBehind, NoneComes}
+use Rattle.two_feeds.proofs.FeedLemmas.{IsDue, due_of}
+use Rattle.two_feeds.proofs.NumberLemmas.{AllFrom, above_before, from_rest, from_more}
+
+pub record IsSplit (c : Config) (file : List ℕ) (given : List FrameRecord) (n : ℕ) : Type 0 where
+  pub after : List FrameRecord
+  pub all : records_of c file ≡ given ++ after
+  pub from : AllFrom n after
 
 module _ (law : DueFront) (follow : DueFollow) (c : Config) (f : FrameFeed) (file : List ℕ) (place : ℕ) (bytes : List ℕ) (ended : Bool)
     (given : List FrameRecord) (fed : IsFed file place bytes ended) (h : IsFedWith c f bytes ended given) where

@@ -1,9 +1,7 @@
--- What a feed of records was fed with, and what it gave.
-use Rattle.std.specs.Prelude.{◌≡◌, ℕ, ◌≤◌, Bool, true, false, List, Some, None}
+-- What a feed of records was fed with, and what it gave. No public clause cites this module.
+use Rattle.std.specs.Prelude.{◌≡◌, ℕ, Bool, true, List, None}
 use Rattle.plp_config.specs.declared.config.Config.{Config}
 use Rattle.frame_groups.specs.Modulated.{FrameRecord}
-use Rattle.frame_groups.specs.declared.waiting.Waiting.{Waiting}
-use Rattle.feed_merge.specs.Picks.{above_all}
 use Rattle.frame_feed.specs.StandsFor.{FrameFeedStandsFor, waiting_of}
 use Rattle.frame_feed.specs.StandsFor as feed
 use Rattle.frame_feed.specs.declared.feed.FrameFeed.{FrameFeed}
@@ -12,11 +10,6 @@ use Rattle.frame_feed.specs.declared.feed.FrameFeed.{FrameFeed}
 pub record IsFedWith (c : Config) (f : FrameFeed) (bytes : List ℕ) (ended : Bool) (given : List FrameRecord) : Type 0 where
   pub network : feed.config_of f ≡ c
   pub stands : FrameFeedStandsFor f bytes ended given
-
--- What waits has a number that is no lower; and if nothing waits and the stream has not ended, no record that follows has one.
-pub record IsBehind (next : ℕ) (f : FrameFeed) (given : List FrameRecord) : Type 0 where
-  pub waits : (w : Waiting) → waiting_of f ≡ Some w → next ≤ w.frame
-  pub idle : waiting_of f ≡ None → feed.has_ended f ≡ false → next ≤ above_all given
 
 -- No record comes.
 pub record NoneComes (f : FrameFeed) : Type 0 where

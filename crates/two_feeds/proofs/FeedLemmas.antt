@@ -1,26 +1,30 @@
 -- What one of the feeds stands for, and which number comes next of it.
-use Rattle.std.proofs.Common.{◌≡◌, ℕ, ◌+◌, ◌≤◌, ◌==◌, Bool, true, false, List, [], ◌∷◌, ◌++◌, Option, Some, None}
-use Rattle.std.proofs.Common.{refl, ap, sym, subst, ◌∙◌, arith}
+use Rattle.std.proofs.Common.{◌≡◌, ℕ, ◌+◌, ◌≤◌, ◌==◌, Bool, true, false, List, [], ◌∷◌, ◌++◌, take, length, Option, Some, None}
+use Rattle.std.proofs.Common.{refl, ap, sym, subst, ◌∙◌, arith, append-nil}
+use Rattle.std.specs.List.{AllByRecursion}
 use Rattle.std.proofs.lemmas.Bool.{true≢false, eqb-false, eqb-true}
+use Rattle.std.proofs.lemmas.List.{take_at}
 use Rattle.plp_config.specs.declared.config.Config.{Config}
 use Rattle.frame_groups.specs.Laws.{AreFrom}
 use Rattle.frame_groups.specs.Modulated.{FrameRecord}
 use Rattle.frame_groups.specs.declared.waiting.Waiting.{Waiting}
 use Rattle.modulator.specs.Laws.{DueFollow}
 use Rattle.modulator.specs.StandsFor.{records_due}
-use Rattle.frame_feed.specs.StandsFor.{waiting_of}
-use Rattle.held_feed.specs.StandsFor.{IsFirst}
-use Rattle.frame_feed.specs.StandsFor as feed
-use Rattle.frame_feed.specs.declared.feed.FrameFeed.{FrameFeed}
-use Rattle.feed_merge.specs.declared.seen.Feed.{Feed}
 use Rattle.feed_merge.specs.Picking.{is_at}
 use Rattle.feed_merge.specs.Picks.{above_all}
-use Rattle.record_feeds.specs.Fed.{IsFedWith, IsBehind}
+use Rattle.file_run.specs.FileRun.{IsFed}
+use Rattle.held_feed.specs.StandsFor.{IsFirst, waiting_of}
+use Rattle.held_feed.specs.StandsFor as feed
+use Rattle.held_feed.specs.declared.feed.FrameFeed.{FrameFeed}
+use Rattle.two_feeds.specs.Fed.{IsFedWith, IsBehind, end_by}
 use Rattle.two_feeds.specs.Reading.{is_idle}
-use Rattle.two_feeds.specs.Skips.{AreTaken}
-use Rattle.merge_run.specs.Taking.{seen_of}
-use Rattle.record_feeds.specs.Taking.{TookFrom}
-use Rattle.merge_run.proofs.NumberLemmas.{above_append, above_before}
+use Rattle.two_feeds.specs.Seen.{seen_of}
+use Rattle.two_feeds.specs.Skips.{AreTaken, Takes}
+use Rattle.two_feeds.proofs.NumberLemmas.{above_append, above_before}
+
+pub one_of : {X : Type 0} (P : X → Type 0) (xs : List X) (x : X) (ys : List X) → AllByRecursion P (xs ++ x ∷ ys) → P x
+one_of P [] x ys all = all.0
+one_of P (y ∷ xs) x ys all = one_of P xs x ys all.1
 
 -- ---- the records that are due
 
@@ -68,34 +72,26 @@ behind_more follow c next f g bytes ended given none going was h = record {
 
 -- ---- a record was taken, or none
 
-pub took_with : (c : Config) (from : Feed) (source : Option Feed) (taken : Bool) (f g : FrameFeed) (bytes : List ℕ) (ended : Bool)
-    (given : List FrameRecord) (out : List ℕ) → feed.config_of g ≡ feed.config_of f → IsFedWith c f bytes ended given
-    → (t : TookFrom from source taken f g bytes ended given out) → IsFedWith c g bytes ended (given ++ t.takes.records)
-took_with c from source taken f g bytes ended given out config h t = record {
-  network = config ∙ h.network;
-  stands = t.takes.stands;
-}
-
-idle_none : (e : Bool) → is_idle None e ≡ false → e ≡ true
+pub idle_none : (e : Bool) → is_idle None e ≡ false → e ≡ true
 idle_none true off = refl
 idle_none false off = absurd (true≢false off)
 
-pub took_behind : DueFollow → (c : Config) (n : ℕ) (from : Feed) (source : Option Feed) (f g : FrameFeed) (bytes : List ℕ) (ended : Bool)
-    (given : List FrameRecord) (out : List ℕ) → is_idle (waiting_of f) (feed.has_ended f) ≡ false
+pub took_behind : DueFollow → (c : Config) (n : ℕ) (f g : FrameFeed) (bytes : List ℕ) (ended : Bool)
+    (given : List FrameRecord) → is_idle (waiting_of f) (feed.has_ended f) ≡ false
     → ((w : Waiting) → waiting_of f ≡ Some w → n ≤ w.frame) → feed.has_ended g ≡ feed.has_ended f
     → (is_at n (seen_of (waiting_of f)) ≡ false → waiting_of g ≡ waiting_of f)
-    → (t : TookFrom from source (is_at n (seen_of (waiting_of f))) f g bytes ended given out)
-    → IsFedWith c g bytes ended (given ++ t.takes.records) → IsBehind (n + 1) g (given ++ t.takes.records)
-took_behind follow c n from source f g bytes ended given out busy least end stays t h =
-    go (is_at n (seen_of (waiting_of f))) refl t.takes.are
+    → (t : Takes (is_at n (seen_of (waiting_of f))) f g bytes ended given)
+    → IsFedWith c g bytes ended (given ++ t.records) → IsBehind (n + 1) g (given ++ t.records)
+took_behind follow c n f g bytes ended given busy least end stays t h =
+    go (is_at n (seen_of (waiting_of f))) refl t.are
   where
-    go : (b : Bool) → is_at n (seen_of (waiting_of f)) ≡ b → AreTaken b (waiting_of f) t.takes.records → IsBehind (n + 1) g (given ++ t.takes.records)
+    go : (b : Bool) → is_at n (seen_of (waiting_of f)) ≡ b → AreTaken b (waiting_of f) t.records → IsBehind (n + 1) g (given ++ t.records)
     go true same are =
         let number : are.one.number ≡ n = taken_number (waiting_of f) are.one same are.first in
         let size = ap above_all are.only in
-        let high : n + 1 ≤ above_all (given ++ t.takes.records) = omega (arith, above_append given t.takes.records, size, number) in
+        let high : n + 1 ≤ above_all (given ++ t.records) = omega (arith, above_append given t.records, size, number) in
         record {
-          waits = λ w is. let l = waits_above follow c g bytes ended (given ++ t.takes.records) h w is in omega (arith, l, high);
+          waits = λ w is. let l = waits_above follow c g bytes ended (given ++ t.records) h w is in omega (arith, l, high);
           idle = λ _ _. high;
         }
       where
@@ -115,3 +111,25 @@ took_behind follow c n from source f g bytes ended given out busy least end stay
             let off : (w.frame == n) ≡ false = sym (ap (λ (o : Option Waiting). is_at n (seen_of o)) is) ∙ differ in
             let apart = eqb-false w.frame n off in
             omega (arith, low, apart)
+
+-- ---- how far its records have come
+
+-- all that is due was given
+pub due_given : (c : Config) (f : FrameFeed) (bytes : List ℕ) (ended : Bool) (given : List FrameRecord) → waiting_of f ≡ None
+    → feed.has_ended f ≡ false → IsFedWith c f bytes ended given → records_due c false bytes ≡ given
+due_given c f bytes ended given none going h =
+    let d = due_of c f bytes ended given h in
+    let later : d.later ≡ [] = subst (λ (o : Option Waiting). IsFirst o d.later) none d.first in
+    ap (λ (e : Bool). records_due c e bytes) (sym going ∙ h.stands.end) ∙ d.all ∙ ap (λ (l : List FrameRecord). given ++ l) later
+    ∙ append-nil given
+
+-- so by what was taken of a file they end with the last number
+pub ends_at : (c : Config) (next : ℕ) (file : List ℕ) (place : ℕ) (f : FrameFeed) (bytes : List ℕ) (ended : Bool) (given : List FrameRecord)
+    → IsFed file place bytes ended → IsFedWith c f bytes ended given → IsBehind next f given → above_all given ≤ next
+    → waiting_of f ≡ None → feed.has_ended f ≡ false → end_by c file (length bytes) ≡ next
+ends_at c next file place f bytes ended given taken h b above none going =
+    let low = b.idle none going in
+    let same : above_all given ≡ next = omega (arith, low, above) in
+    ap (λ (l : List ℕ). above_all (records_due c false l))
+    (ap (take (length bytes)) taken.parts ∙ take_at bytes taken.more (length bytes) refl)
+    ∙ ap above_all (due_given c f bytes ended given none going h) ∙ same

@@ -1,4 +1,0 @@
-pub mod FeedLemmas
-pub mod ShownLemmas
-pub mod SplitLemmas
-pub mod TakeLemmas
