@@ -90,7 +90,7 @@ def again(config, after, utco):
     count = -(-late // step) * PERIOD
     begin = config.begin + count * config.superframe * config.tick
     alike = config.alike()
-    tell(f"frame 0 leaves at {clock(config, begin, utco)}: superframe {count} of CONFIG, whose modulators go on with it")
+    tell(f"frame 0 leaves at {clock(config, begin, utco)}: superframe {count} of CONFIG, with which modulators that are started anew may go on")
     span = Fraction(alike * config.superframe * config.tick, config.second)
     fits = "fits" if count % alike == 0 else "does not fit: give receivers the new CONFIG"
     tell(f"the slots of a receiver with CONFIG itself fit behind each {alike} superframes ({float(span):.1f} s); this one {fits}")

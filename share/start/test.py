@@ -85,7 +85,7 @@ def told():
 
 def main():
     goes_on, came, alike = again(1_000_000, 16)
-    holds = row("modulators go on at a sixteenth superframe", goes_on, f"a receiver with the first CONFIG has {came} of 60 packets")
+    holds = row("modulators take it at a sixteenth superframe", goes_on, f"a receiver with the first CONFIG has {came} of 60 packets")
     goes_on, came, _ = again(1_000_000, alike)
     holds &= row("receivers go on where slots fit", goes_on and came == 60, f"behind {alike} superframes")
     holds &= row("a region joins", joins())
