@@ -27,6 +27,9 @@ bits_told r a b h = go (same_bits a b) refl
     go false e = false_from_ne_true r
         (λ t. true≢false (sym ((slice_eq-Decides (λ x y. (bit_true x y, bit_same x y)) a b (same_bits a b) refl).1 (h.0 t)) ∙ e))
 
+pub bits_equal : (a b : List Bool) → same_bits a b ≡ true → a ≡ b
+bits_equal a b e = (slice_eq-Decides (λ x y. (bit_true x y, bit_same x y)) a b (same_bits a b) refl).0 e
+
 pub bits_same : (a b : List Bool) → a ≡ b → same_bits a b ≡ true
 bits_same a b e = (slice_eq-Decides (λ x y. (bit_true x y, bit_same x y)) a b (same_bits a b) refl).1 e
 
@@ -112,7 +115,7 @@ module _ (a b : List (List ℕ)) (k : ℕ) (left rest : List (List ℕ)) (same :
   pub all_same : left ≡ [] → rest ≡ [] → None ≡ first_other a b
   all_same e f = sym (same ∙ ap (shifted k) (ap₂ first_other e f))
 
-pub none_left : (xs : List (List ℕ)) → length xs ≡ 0 → xs ≡ []
+pub none_left : {X : Type 0} (xs : List X) → length xs ≡ 0 → xs ≡ []
 none_left [] e = refl
 none_left (x ∷ xs) e = absurd (omega (arith, e))
 
@@ -134,3 +137,15 @@ either_none (x ∷ a) = refl
 pub other_none : (a : List (List ℕ)) → first_other a a ≡ None
 other_none [] = refl
 other_none (x ∷ a) = ap₂ by_front ((bytes_eq-Decides x x).1 refl) (other_none a)
+
+pub none_other : (a b : List (List ℕ)) → first_other a b ≡ None → a ≡ b
+none_other [] [] e = refl
+none_other [] (y ∷ b) e = absurd (let z : ◌≡◌ {A = Option ℕ} (Some 0) None = e in cc)
+none_other (x ∷ a) [] e = absurd (let z : ◌≡◌ {A = Option ℕ} (Some 0) None = e in cc)
+none_other (x ∷ a) (y ∷ b) e = go (bytes_eq x y) (first_other a b) refl refl e (none_other a b)
+  where
+    go : (t : Bool) (o : Option ℕ) → bytes_eq x y ≡ t → first_other a b ≡ o → by_front t o ≡ None
+        → (first_other a b ≡ None → a ≡ b) → x ∷ a ≡ y ∷ b
+    go true None t o e rest = ap₂ (λ (z : List ℕ) (l : List (List ℕ)). z ∷ l) ((bytes_eq-Decides x y).0 t) (rest o)
+    go true (Some k) t o e rest = absurd (let z : ◌≡◌ {A = Option ℕ} (Some (k + 1)) None = e in cc)
+    go false s t o e rest = absurd (let z : ◌≡◌ {A = Option ℕ} (Some 0) None = e in cc)

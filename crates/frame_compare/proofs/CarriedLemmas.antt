@@ -18,11 +18,11 @@ use Rattle.open_group.specs.Sent.{held_bytes}
 use Rattle.held_feed.specs.Groups.{HasRoom, CarriesRoom}
 use Rattle.frame_compare.specs.Comparing.{carried, dynamic_at, same_bits, first_other, first_some, block_place, place_of}
 use Rattle.frame_compare.specs.Laws.{CarriesOwn}
-use Rattle.frame_compare.specs.StandsFor.{blocks_in, Brings, NothingBetween, IsOther, CarriedStandsFor}
+use Rattle.frame_compare.specs.StandsFor.{blocks_in, Brings, IsOther, CarriedStandsFor}
 use Rattle.frame_compare.specs.declared.answer.Place.{Place}
 use Rattle.frame_compare.specs.declared.answer.Place.TheVariants as place
 use Rattle.frame_compare.specs.declared.comparing.Carried.{Carried}
-use Rattle.frame_compare.proofs.BlockLemmas.{bits_same, other_none}
+use Rattle.frame_compare.proofs.BlockLemmas.{bits_equal, bits_same, other_none, none_other}
 
 -- ---- one frame more
 
@@ -53,12 +53,6 @@ pub noted_here : (c : Config) (plp n : ℕ) (ga gb : List Numbered) (la lb : Opt
 noted_here c plp n ga gb la lb other inside begin is a b =
     is_other c plp n n ga gb other begin
     (λ ra rb. is ∙ ap₂ first_other (brought c ga n plp la inside a ra) (brought c gb n plp lb inside b rb))
-
-pub noted_nothing : (c : Config) (plp next n begin : ℕ) (ga gb : List Numbered) → begin_of c plp n ≡ begin → next ≤ begin → begin < n
-    → NothingBetween ga next n → NothingBetween gb next n → IsOther c plp (n + 1) ga gb None
-noted_nothing c plp next n begin ga gb is low high a b =
-    is_other c plp n begin ga gb None is
-    (λ ra rb. sym (ap₂ first_other (ap (held c plp) (a begin low high)) (ap (held c plp) (b begin low high))))
 
 -- the frames from the one in which an interleaving frame begins on up to one that carries it carry it
 same_begin : BeginIsFirst → BeginIsLast → (c : Config) (plp m n : ℕ) → AllRules c → plp < length c.plps → begin_of c plp n ≤ m
@@ -94,6 +88,19 @@ first_none f a zero none = refl
 first_none f a (suc len) none =
     ap₂ option_or (none a (omega arith) (omega arith))
     (first_none f (a + 1) len (λ j low high. none j (omega (arith, low)) (omega (arith, high))))
+
+each_none : {Y : Type 0} (f : ℕ → Option Y) (a len k : ℕ) → first_some f (range_with_len a len) ≡ None → a ≤ k → k < a + len
+    → f k ≡ None
+each_none f a zero k e low high = absurd (omega (arith, low, high))
+each_none {Y} f a (suc len) k e low high =
+    let both = neither (f a) (first_some f (range_with_len (a + 1) len)) e in
+    ⊎_elim (λ (s : a ≡ k). sym (ap f s) ∙ both.0)
+    (λ (ne : a ≡ k → ⊥). each_none f (a + 1) len k both.1 (omega (arith, low, ne)) (omega (arith, high)))
+    (cases_eq a k)
+  where
+    neither : (o p : Option Y) → option_or o p ≡ None → (o ≡ None) × (p ≡ None)
+    neither None p e = (refl, e)
+    neither (Some y) p e = absurd (let z : ◌≡◌ {A = Option Y} (Some y) None = e in cc)
 
 first_same : {Y : Type 0} (f g : ℕ → Option Y) (a len : ℕ) → ((j : ℕ) → a ≤ j → j < a + len → f j ≡ g j)
     → first_some f (range_with_len a len) ≡ first_some g (range_with_len a len)
@@ -149,6 +156,32 @@ nothing_differs c n ga gb dynamic blocks =
     same_by c n ga gb (dynamic_at ga n) (dynamic_at gb n) refl refl true (bits_same (dynamic_at ga n) (dynamic_at gb n) dynamic)
     ∙ no_block c (λ plp. first_other (carried c ga plp n) (carried c gb plp n))
     (λ plp inside. ap (first_other (carried c ga plp n)) (sym (blocks plp inside)) ∙ other_none (carried c ga plp n))
+
+pub same_parts : (c : Config) (n : ℕ) (ga gb : List Numbered) → place_of c n ga gb ≡ None
+    → (dynamic_at ga n ≡ dynamic_at gb n) × ((plp : ℕ) → plp < length c.plps → carried c ga plp n ≡ carried c gb plp n)
+same_parts c n ga gb none = go (same_bits da db) refl
+  where
+    da : List Bool
+    da = dynamic_at ga n
+
+    db : List Bool
+    db = dynamic_at gb n
+
+    unmapped : (plp : ℕ) (o : Option ℕ) → place_at c plp o ≡ None → o ≡ None
+    unmapped plp None e = refl
+    unmapped plp (Some k) e = absurd (let z : ◌≡◌ {A = Option Place} (Some (place.Block (plp_at c.plps plp).id k)) None = e in cc)
+
+    go : (t : Bool) → same_bits da db ≡ t
+        → (da ≡ db) × ((plp : ℕ) → plp < length c.plps → carried c ga plp n ≡ carried c gb plp n)
+    go false e = absurd (let z : ◌≡◌ {A = Option Place} (Some place.L1) None = sym (same_by c n ga gb da db refl refl false e) ∙ none in cc)
+    go true e = (
+      bits_equal da db e,
+      λ plp inside.
+          none_other (carried c ga plp n) (carried c gb plp n)
+          (unmapped plp (first_other (carried c ga plp n) (carried c gb plp n))
+          (each_none (λ k. place_at c k (first_other (carried c ga k n) (carried c gb k n))) 0 (length c.plps) plp
+          (sym (same_by c n ga gb da db refl refl true e) ∙ none) (omega arith) (omega (arith, inside)))),
+    )
 
 -- interleaving frames of single frames
 pub carries_own : BeginAlone → CarriesOwn

@@ -5,4 +5,6 @@ pub mod JoinLemmas
 pub mod LawLemmas
 pub mod LineLemmas
 pub mod PastLemmas
+pub mod RecordLemmas
 pub mod RunLemmas
+pub mod SameLemmas

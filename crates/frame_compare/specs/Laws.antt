@@ -1,9 +1,11 @@
 -- Laws of the frames of two streams.
-use Rattle.std.specs.Prelude.{◌≡◌, ◌<◌, ◌≤◌, ℕ, List, ◌++◌, map, length, None, option_to_list}
+use Rattle.std.specs.Prelude.{◌≡◌, ◌↔◌, ◌<◌, ◌≤◌, ◌^◌, ℕ, true, List, ◌++◌, map, length, Some, None, option_to_list}
 use Rattle.plp_config.specs.Capacity.{IsPlan}
+use Rattle.plp_config.specs.InterleavingFrames.{is_first}
 use Rattle.plp_config.specs.Places.{FramesStandAlone}
 use Rattle.plp_config.specs.declared.config.Config.{Config}
 use Rattle.plp_config.specs.declared.moment.TheConstants.{MOST_FRAMES}
+use Rattle.t2mi_packet.specs.declared.packet.Packet.{Packet}
 use Rattle.t2mi_stream.specs.Received.{Fate}
 use Rattle.damage_laws.specs.Streams.{Honest}
 use Rattle.frame_laws.specs.SentFrames.{frames_stream, stream_bytes}
@@ -11,11 +13,18 @@ use Rattle.frame_laws.specs.Types.{TypesFit}
 use Rattle.frame_groups.specs.Modulated.{FrameRecord, Numbered}
 use Rattle.frame_tests.specs.Begun.{packets_at}
 use Rattle.frame_tests.specs.Carried.{right_blocks}
+use Rattle.record_laws.specs.Frames.{HasByteIds}
 use Rattle.open_group.specs.Sent.{held_bytes}
+use Rattle.open_group.specs.Written.{dynamic_in, spelled}
+use Rattle.modulator.specs.StandsFor.{records_of}
+use Rattle.held_feed.specs.Groups.{groups_of}
 use Rattle.feed_merge.specs.Laws.{AllBelow, AreOf}
-use Rattle.frame_compare.specs.Comparing.{Frames, frames_of, carried, Answered, answered_at, answers}
+use Rattle.feed_merge.specs.Picks.{is_frame}
+use Rattle.frame_compare.specs.Comparing.{Frames, frames_of, carried, whole_answer, record_at, Answered, answered_at}
+use Rattle.frame_compare.specs.Comparing.{answers}
 use Rattle.frame_compare.specs.Lines.{known_text, text_of}
 use Rattle.frame_compare.specs.Runs.{first_differing}
+use Rattle.frame_compare.specs.declared.answer.Answer.TheVariants.{Same}
 
 -- records, and groups with numbers
 abbrev pub frames_by : List FrameRecord → List Numbered → Frames
@@ -43,3 +52,36 @@ NoneDiffers = (c : Config) (inputs : ℕ → List (List ℕ)) (n from later : �
 abbrev pub CarriesOwn : Type 0
 CarriesOwn = (c : Config) (gs : List Numbered) (plp n : ℕ) → FramesStandAlone c → plp < length c.plps
     → carried c gs plp n ≡ map held_bytes (right_blocks c plp (packets_at gs n))
+
+-- ---- what `same` says of the records that a modulator writes
+
+-- Frame n is whole in both streams: these are its records.
+pub record BothWhole (c : Config) (a b : List ℕ) (n : ℕ) (x y : FrameRecord) : Type 0 where
+  pub first : record_at n (records_of c a) ≡ Some x
+  pub second : record_at n (records_of c b) ≡ Some y
+  pub whole_first : is_frame x.content ≡ true
+  pub whole_second : is_frame y.content ≡ true
+
+-- Packets of frame n have the same dynamic part of L1, and the same blocks of each PLP of which an interleaving frame begins there
+-- (EN 302 755, clauses 6.5 and 7.2.3.2).
+pub record BeginSame (c : Config) (n : ℕ) (pa pb : List Packet) : Type 0 where
+  pub dynamic : dynamic_in pa ≡ dynamic_in pb
+  pub blocks : (plp : ℕ) → plp < length c.plps → is_first c plp n ≡ true → right_blocks c plp pa ≡ right_blocks c plp pb
+
+-- If a frame that is whole in both streams is called the same, a modulator writes the same record of it for both, whatever the
+-- spreads are.
+abbrev pub SameIsWritten : Type 0
+SameIsWritten = (c : Config) (a b : List ℕ) (n : ℕ) (x y : FrameRecord) → IsPlan c → BothWhole c a b n x y
+    → whole_answer c n (groups_of c a) (groups_of c b) ≡ Same → spelled c x ≡ spelled c y
+
+-- It writes the same record for both exactly if L1 and the blocks are the same that begin there. L1-pre and the configurable part
+-- are the configuration's in each record, with zeros in their reserved fields, whatever the packets have there.
+abbrev pub WrittenIsBegun : Type 0
+WrittenIsBegun = (c : Config) (a b : List ℕ) (n : ℕ) (x y : FrameRecord) → IsPlan c → HasByteIds c → n < 2 ^ 32
+    → BothWhole c a b n x y → (spelled c x ≡ spelled c y) ↔ BeginSame c n (packets_at (groups_of c a) n) (packets_at (groups_of c b) n)
+
+-- So if every interleaving frame is carried by one frame, a frame is called the same exactly if its records are.
+abbrev pub SameIsExact : Type 0
+SameIsExact = (c : Config) (a b : List ℕ) (n : ℕ) (x y : FrameRecord) → IsPlan c → HasByteIds c → n < 2 ^ 32
+    → FramesStandAlone c → BothWhole c a b n x y
+    → (whole_answer c n (groups_of c a) (groups_of c b) ≡ Same) ↔ (spelled c x ≡ spelled c y)

@@ -1,9 +1,15 @@
 // Laws of the definitions. Their functions do nothing.
 ghost use Rattle.frame_compare.specs.Laws.{AnswersGrow, KnownBegins, NoneDiffers, CarriesOwn};
+ghost use Rattle.frame_compare.specs.Laws.{SameIsWritten, WrittenIsBegun, SameIsExact};
 
+use bb_frame::{bit_counts_law, scramble_twice_law};
 use damage_laws::{honest_law, whole_law};
 use frame_laws::{sent_law, stream_law, tests_law};
+use frame_tests::parts_law;
+use l1_signal::{conf_law, dyn_law, post_law, pre_law};
+use modulator::due_records_law;
 use plp_config::interleaving_law;
+use site_frame::reading_law;
 
 /// What is said of the frames of one number more.
 pub fn answers_law()
@@ -31,5 +37,24 @@ pub fn none_differs_law()
 pub fn own_law()
     ensures { CarriesOwn }
 {
+    interleaving_law();
+}
+
+/// A frame that is whole in both streams: its records are the same if it is called the same; and exactly if L1 and the blocks that
+/// begin there are the same. If every interleaving frame is carried by one frame, `same` says no less and no more.
+pub fn same_law()
+    ensures written { SameIsWritten }
+    ensures begun { WrittenIsBegun }
+    ensures exact { SameIsExact }
+{
+    bit_counts_law();
+    scramble_twice_law();
+    parts_law();
+    pre_law();
+    conf_law();
+    dyn_law();
+    post_law();
+    due_records_law();
+    reading_law();
     interleaving_law();
 }

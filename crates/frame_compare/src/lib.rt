@@ -12,6 +12,6 @@ mod tally;
 pub use answer::{Answer, Place, Side};
 pub use comparing::{Carried, answer_by};
 pub use counts::Counts;
-pub use laws::{answers_law, known_law, none_differs_law, own_law};
+pub use laws::{answers_law, known_law, none_differs_law, own_law, same_law};
 pub use run::Run;
 pub use tally::{LONGEST_TEXT, Tally};
