@@ -19,6 +19,7 @@ NO_CELL = 0xFFFFFFFF
 CELLS_OF_BLOCK = 1 << 15  # a word is the number of its block times this, plus the number of its cell
 CONF_BITS, CONF_PLP_BITS = 102, 89  # the configurable part of L1-post, and what it has for each PLP
 DYN_BITS, DYN_PLP_BITS = 71, 48  # the dynamic part in front of its PLPs, and what it has for each
+KINDS = {0: "common", 1: "type 1", 2: "type 2"}  # PLP_TYPE, EN 302 755, clause 7.2.3.1
 GREY = (205, 205, 205)
 COLOURS = [(31, 119, 180), (255, 127, 14), (44, 160, 44), (214, 39, 40), (148, 103, 189), (140, 86, 75), (227, 119, 194), (188, 189, 34), (23, 190, 207)]
 
@@ -89,7 +90,7 @@ def draw_frame(frame, number, out):
     lines = [f"record {number}: {len(frame.words)} cells, {width} in a row, {len(frame.blocks)} blocks"]
     for plp, kind, start, blocks in frame.plps:
         sub_slices = f", sub-slices every {frame.interval} cells" if kind == 2 else ""
-        lines.append(f"PLP {plp}: type {kind}, from cell {start}, {blocks} blocks{sub_slices}")
+        lines.append(f"PLP {plp}: {KINDS.get(kind, f'of kind {kind}')}, from cell {start}, {blocks} blocks{sub_slices}")
     cells = cells.convert("RGB").resize((width * scale, rows * scale), Image.NEAREST)
     width, rows = cells.size
     image = Image.new("RGB", (max(640, width), rows + 18 * (len(lines) + 1) + 10), "white")
@@ -123,7 +124,7 @@ def draw_panel(pen, box, colour, title, total, muted, series):
     """The blocks of one PLP: a bar in each column of pixels, from the fewest to the most of its frames, with a point at their mean."""
     left, top, right, low = box
     most = max([1] + list(series.values()))
-    x = lambda number: left + (right - left) * number // max(1, total - 1)
+    x = lambda number: left + (right - left) * number // max(1, total)
     y = lambda blocks: low - (low - top) * blocks / most
     columns = {}
     for number, blocks in series.items():
@@ -172,4 +173,7 @@ def main(words):
 
 
 if __name__ == "__main__":
-    main(sys.argv[1:])
+    try:
+        main(sys.argv[1:])
+    except OSError as error:
+        sys.exit(f"{error.filename or 'picture.py'}: {error.strerror or error}")
