@@ -166,6 +166,9 @@ def accepted(pid, data):
             while before[place_of + 1] <= at:
                 place_of += 1
             packet.place = run[place_of][0] + at - before[place_of]
+            # The unit with which it has come.
+            last = at + len(packet.bytes) - 1
+            packet.unit = run[bisect_left(before, last + 1, place_of) - 1][0] // ts.UNIT
             ahead = [end]
             found.append(packet)
     return found
