@@ -164,12 +164,18 @@ def most_rate(band, ticks, capacity, nulls, spread):
     return capacity * 1504 * second // (packet * spread * ticks * tick)
 
 
+KINDS = ("common", "type1", "type2")  # in the order in which PLPs stand
+
+
 class Plp:
-    """A PLP of type 1, by words that are parted by commas: a rate, a modulation, and if they are wanted normal or short, delete or keep, blocks."""
+    """A PLP, by words that are parted by commas: a rate and a modulation; and if they are wanted normal or short, delete or keep, a kind,
+    blocks of a frame as a number, or the bit rate that they carry, a group and a spread, as bits=2000000, group=1, spread=2."""
 
     def __init__(self, text):
-        self.rate, self.modulation, self.length, self.nulls, self.blocks = None, None, "normal", "delete", None
+        self.rate, self.modulation, self.length, self.nulls, self.kind = None, None, "normal", "delete", "type1"
+        self.blocks, self.bits, self.group, self.spread = None, None, None, 1
         for word in text.split(","):
+            name, told, number = word.partition("=")
             if word in RATES:
                 self.rate = word
             elif word in MODULATIONS:
@@ -178,44 +184,88 @@ class Plp:
                 self.length = word
             elif word in ("delete", "keep"):
                 self.nulls = word
+            elif word in KINDS:
+                self.kind = word
             elif word.isdecimal():
                 self.blocks = int(word)
+            elif told and name in ("bits", "group", "spread") and number.isdecimal():
+                setattr(self, name, int(number))
             else:
                 raise Refused(f"{word or 'an empty word'} is no word of a PLP")
         if self.rate is None or self.modulation is None:
             raise Refused("a PLP wants a rate and a modulation, as 2/3,256qam")
+        if self.blocks is not None and self.bits is not None:
+            raise Refused("a PLP has a number of blocks or a bit rate, and not both")
+        if self.spread < 1:
+            raise Refused("a spread is 1 at least")
 
     def cells(self):
         return block_cells(self.modulation, self.length)
 
+    def most_bits(self, band, ticks, blocks):
+        """The most bit/s of so many blocks of an interleaving frame."""
+        return most_rate(band, ticks, blocks * field_bytes(self.rate, self.length), self.nulls, self.spread)
+
+    def need(self, band, ticks):
+        """The blocks of an interleaving frame that carry the bit rate."""
+        blocks = 1
+        while self.most_bits(band, ticks, blocks) < self.bits:
+            blocks += 1
+            if blocks > MOST_BLOCKS:
+                raise Refused(f"{self.bits} bit/s want more than {MOST_BLOCKS} blocks of a PLP")
+        return blocks
+
     def line(self, place, band, ticks):
         per_ti = MOST_TI_CELLS // self.cells()
-        rate = most_rate(band, ticks, self.blocks * field_bytes(self.rate, self.length), self.nulls, 1)
-        return f"plp {place} type1 {place + 1} {self.rate} {self.modulation} {self.length} 0 {self.blocks} {-(-self.blocks // per_ti)} {self.nulls} {rate} 1"
+        ti_blocks = 1 if self.spread > 1 else -(-self.blocks // per_ti)
+        bits = self.bits or self.most_bits(band, ticks, self.blocks)
+        group = place + 1 if self.group is None else self.group
+        return (f"plp {place} {self.kind} {group} {self.rate} {self.modulation} {self.length} 0 {self.blocks} {ti_blocks} {self.nulls}"
+                f" {bits} {self.spread}")
 
 
-def share_out(plps, cells):
-    """Gives the PLP without a number of blocks all that fit beside the others."""
-    left = cells - sum((plp.blocks or 0) * plp.cells() for plp in plps)
+def share_out(plps, cells, band, ticks):
+    """Gives each PLP with a bit rate its blocks, and the one with neither all that fit beside the others."""
+    for plp in plps:
+        if plp.bits is not None:
+            plp.blocks = plp.need(band, ticks)
+    left = cells - sum(Fraction((plp.blocks or 0) * plp.cells(), plp.spread) for plp in plps)
     open_ones = [plp for plp in plps if plp.blocks is None]
     if len(open_ones) > 1:
-        raise Refused("one PLP may be without a number of blocks, and not several")
+        raise Refused("one PLP may be without a number of blocks and without a bit rate, and not several")
     for plp in open_ones:
-        plp.blocks = max(0, min(left // plp.cells(), MOST_BLOCKS))
-        left -= plp.blocks * plp.cells()
+        plp.blocks = max(0, min(math.floor(left * plp.spread / plp.cells()), MOST_BLOCKS))
+        left -= Fraction(plp.blocks * plp.cells(), plp.spread)
     if left < 0:
-        raise Refused(f"the blocks want {-left} cells more than a frame has for PLPs, {cells}")
+        raise Refused(f"the blocks want {math.ceil(-left)} cells more than a frame has for PLPs, {cells}")
     if any(not 1 <= plp.blocks <= MOST_BLOCKS for plp in plps):
         raise Refused(f"a PLP has 1 to {MOST_BLOCKS} blocks")
 
 
-def configuration(mode, modulation, plps, frames=2):
+def check_parts(plps, frames, sub_slices):
+    """What the rules and the third test of docs/FORMATS.md ask of kinds, spreads and sub-slices."""
+    kinds = [KINDS.index(plp.kind) for plp in plps]
+    if kinds != sorted(kinds):
+        raise Refused("common PLPs stand first, then those of type 1, then those of type 2")
+    has_type2 = KINDS.index("type2") in kinds
+    if has_type2 != (2 <= sub_slices <= 6480):
+        raise Refused("with a PLP of type 2 there are 2 to 6480 sub-slices, and without one there is 1")
+    for plp in plps:
+        parts = plp.spread * (sub_slices if plp.kind == "type2" else 1)
+        if plp.cells() % parts:
+            raise Refused(f"a block of {plp.cells()} cells is not of {parts} parts of one length")
+        if frames % plp.spread:
+            raise Refused(f"a spread of {plp.spread} does not divide the {frames} frames of a superframe")
+
+
+def configuration(mode, modulation, plps, frames=2, sub_slices=1):
     """The lines of a configuration."""
     if not 2 <= frames <= 255:
         raise Refused("a superframe has 2 to 255 frames")
     free = mode.free_cells(modulation, len(plps))
-    share_out(plps, free)
+    check_parts(plps, frames, sub_slices)
     ticks, post = mode.ticks(), mode.post_cells(modulation, len(plps))
+    share_out(plps, free, mode.band, ticks)
     normal = mode.symbols - mode.closes
     closing = f" + {mode.closing_cells} of the closing one" if mode.closes else ""
     return [
@@ -231,7 +281,7 @@ def configuration(mode, modulation, plps, frames=2):
         "pid 256",
         "network 1 2 3 474000000",
         mode.l1_line(modulation, len(plps)),
-        "subslices 1",
+        f"subslices {sub_slices}",
     ] + [plp.line(place, mode.band, ticks) for place, plp in enumerate(plps)]
 
 
@@ -326,7 +376,9 @@ def arguments(words):
     parser.add_argument("--symbols", type=int, help="data symbols, P2 aside; if not given, the most that 250 ms hold")
     parser.add_argument("--l1", choices=L1_MODULATIONS, default="qpsk", help="modulation of L1-post (qpsk)")
     parser.add_argument("--frames", type=int, default=2, help="frames of a superframe (2)")
-    parser.add_argument("--plp", action="append", metavar="WORDS", help="as 2/3,256qam or 1/2,qpsk,short,keep,100; one may be without a number of blocks")
+    parser.add_argument("--plp", action="append", metavar="WORDS", help="as 2/3,256qam or 1/2,qpsk,short,keep,100 or common,1/2,qpsk,group=1,bits=2000000,spread=2; one may be without"
+                        " a number of blocks and a bit rate")
+    parser.add_argument("--subslices", type=int, default=1, help="of a frame, with PLPs of type 2 (1)")
     return parser.parse_args(words)
 
 
@@ -337,7 +389,7 @@ def main():
             sys.exit(0 if tell(asked.tell) else 1)
         mode = Mode(asked.bandwidth, asked.fft, asked.extended, asked.guard, int(asked.pilots[2:]), asked.symbols)
         plps = [Plp(text) for text in asked.plp or ["2/3,256qam"]]
-        print("\n".join(configuration(mode, asked.l1, plps, asked.frames)))
+        print("\n".join(configuration(mode, asked.l1, plps, asked.frames, asked.subslices)))
     except Refused as why:
         sys.exit(f"modes.py: {why}")
     except OSError as error:

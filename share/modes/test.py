@@ -7,7 +7,10 @@ import sys
 import tempfile
 
 sys.dont_write_bytecode = True
+sys.path.insert(0, os.path.join(os.path.dirname(os.path.abspath(__file__)), "../reference"))
 import modes  # noqa: E402
+from vicelotus.plan import Plan  # noqa: E402
+from vicelotus.text import read  # noqa: E402
 
 RATES = list(modes.RATES)
 
@@ -114,10 +117,23 @@ def test_own_text():
     return 2
 
 
+def test_plps():
+    """A group with a common PLP, one of type 2 with sub-slices and one over two frames: the reference of the commands takes them."""
+    words = [("common,1/2,qpsk,short,group=1,bits=1000000", "type1,1/2,qpsk,short,group=1,bits=1000000", "type2,2/3,16qam,short,20"),
+             ("1/2,16qam,short,spread=2,bits=3000000", "type2,3/5,64qam,short,12"), ("2/3,256qam,spread=2",)]
+    for texts in words:
+        sub_slices = 5 if any("type2" in text for text in texts) else 1
+        mode = modes.Mode("8", "32K", True, "1/128", 7, 59)
+        text = "\n".join(modes.configuration(mode, "qpsk", [modes.Plp(words) for words in texts], 2, sub_slices)) + "\n"
+        Plan(read(text.encode())).fits()
+    return len(words)
+
+
 def main():
     for test in (test_longest, test_bit_rates, test_blocks, test_post_cells):
         print(f"{test.__name__[5:]}: {test()} as in the tables")
     print(f"own text: {test_own_text()} as they should be")
+    print(f"PLPs: {test_plps()} that fit")
 
 
 main()
