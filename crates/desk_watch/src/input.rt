@@ -61,6 +61,30 @@ impl<'a> Input<'a> {
         }
     }
 
+    /// The records, if it has some.
+    pub fn records(&self) -> Option<&RecordCounts<'a>> {
+        match &self.counts {
+            InputCounts::Records(records) => Some(records),
+            _ => None,
+        }
+    }
+
+    /// How many units of a T2-MI stream were lost or passed over, as far as they tell it.
+    pub fn damaged_units(&self) -> u64 {
+        match &self.counts {
+            InputCounts::Units(units) => units.damaged(),
+            _ => 0,
+        }
+    }
+
+    /// Says it, if some were.
+    pub fn say_damaged_units(&self, rt: &impl Eprint) -> io::Result<()> {
+        if self.damaged_units() == 0 {
+            return Ok(());
+        }
+        self.say_damage(rt)
+    }
+
     /// Says that units do not tell what was damaged, if it is so.
     pub fn say_whole(&self, rt: &impl Eprint) -> io::Result<()> {
         match &self.counts {

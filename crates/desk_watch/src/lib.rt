@@ -2,6 +2,7 @@
 //! the bytes that pass. Words for people, on standard error: no clause tells them.
 #![tactic(auto)]
 
+mod alarm;
 mod counts;
 mod input;
 mod l1_test;

@@ -47,6 +47,16 @@ impl Runs {
         self.count
     }
 
+    /// The last number, 0 if there is none.
+    pub fn last(&self) -> u64 {
+        self.last.last
+    }
+
+    /// Where the last run begins.
+    pub fn last_begins(&self) -> u64 {
+        self.last.first
+    }
+
     // Whether a number is the last one.
     fn ends_with(&self, number: u64) -> bool {
         self.count > 0 && self.last.last == number

@@ -202,6 +202,12 @@ impl UnitCounts {
         self.came == 0 && self.no_sync.count == 0 && self.unread.count == 0 && self.jumps.count == 0
     }
 
+    /// How many of those that can be T2-MI were passed over, and jumps of the counter.
+    pub fn damaged(&self) -> u64 {
+        let passed_over = self.no_sync.count.saturating_add(self.unread.count);
+        passed_over.saturating_add(self.jumps.count)
+    }
+
     /// Why no superframe was found in them, as far as they tell it.
     pub fn why_none(&self) -> &'static str {
         if self.units() == 0 {

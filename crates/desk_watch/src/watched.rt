@@ -14,7 +14,8 @@ fn lines_in(text: &[u8]) -> u64 {
     text.iter().filter(|byte| **byte == b'\n').count() as u64
 }
 
-/// A desk whose moves are told on standard error, in one line that is renewed twice a second at most, and counted.
+/// A desk whose moves are counted and told on standard error: how far they are in one line that is renewed twice a second at most,
+/// and what is wrong at once, in one line a second at most.
 #[derive(Drop)]
 pub struct Watched<'a, D, R> {
     pub desk: D,
@@ -26,7 +27,7 @@ pub struct Watched<'a, D, R> {
 }
 
 impl<'a, D, R: Clock + Eprint> Watched<'a, D, R> {
-    /// A desk whose moves are counted from now on, and told if this is wanted.
+    /// A desk whose moves are counted from now on. How far they are is told if this is wanted.
     pub fn new(desk: D, rt: &'a R, wanted: bool, counts: RunCounts<'a>) -> Watched<'a, D, R> {
         Watched {
             desk,
@@ -52,8 +53,8 @@ impl<D: Desk, R: Clock + Eprint> Desk for Watched<'_, D, R> {
 
     fn read(&mut self, handle: u32, buffer: &mut [u8]) -> Result<usize, DeskFault> {
         let count = self.desk.read(handle, buffer)?;
-        self.progress.read(count, &self.counts);
         self.counts.read(handle, buffer.get(..count).unwrap_or(&[]));
+        self.progress.read(count, &self.counts);
         Ok(count)
     }
 

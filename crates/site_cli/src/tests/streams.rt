@@ -21,6 +21,18 @@ fn tells<R: Files + AllocGlobal + Drop>(
     Ok(outcome == Outcome::Done && outside.has_heard(told))
 }
 
+// Whether a line tells how far a command is, and begins so.
+fn begins<R: Files + AllocGlobal + Drop>(
+    rt: R,
+    words: &[&str],
+    told: &str,
+) -> Result<bool, OutOfMemory> {
+    let words = words_from(rt.alloc(), words)?;
+    let outside = Outside::new(rt, true);
+    let outcome = carry_out(&outside, "site_cli", &words, true);
+    Ok(outcome == Outcome::Done && outside.has_begun(told))
+}
+
 // What a run over the files of `make_files` is told as.
 struct Heard {
     words: &'static [&'static str],
@@ -70,6 +82,18 @@ static DAMAGED: [Damaged; 2] = [
 // More bytes than the records of `HEARD` have.
 const RECORDS: usize = 1 << 20;
 
+// The unit that is lost of the stream of one packet: it is in the block, which frame 1 has.
+const LOST: usize = 4;
+
+// What is told of it by a clock that is a second on at each look: what is wrong as the run goes on, and at the end all.
+const LOSS: &str = "two.damaged: 6 units; jumps of the continuity counter: 1, first at byte 752
+frames are muted now; the first of them is record 1
+frames come again behind record 1; muted so far: 1
+two.damaged: 6 units; jumps of the continuity counter: 1, first at byte 752
+muted frames: 1 of 4, records 1, counted from 0 as `show frames` does
+of these 1 lack a packet, or have one too many: frame 1 of CONFIG
+";
+
 // Makes the damaged records.
 fn damage(rt: &(impl Files + AllocGlobal), place: usize) -> io::Result<()> {
     let mut records = front_of(rt, "two.records", RECORDS)?;
@@ -77,6 +101,16 @@ fn damage(rt: &(impl Files + AllocGlobal), place: usize) -> io::Result<()> {
         *byte ^= 1;
     }
     fs::write(rt, "two.damaged", &records)
+}
+
+// Makes the stream without a unit.
+fn lose(rt: &(impl Files + AllocGlobal)) -> io::Result<()> {
+    let mut units = front_of(rt, "two.ts", RECORDS)?;
+    for place in LOST * SIZE..units.len().saturating_sub(SIZE) {
+        units[place] = units[place + SIZE];
+    }
+    let len = units.len().saturating_sub(SIZE);
+    fs::write(rt, "two.damaged", units.get(..len).unwrap_or(&[]))
 }
 
 // A packet of a PID.
@@ -115,6 +149,14 @@ fn it_is_told_what_came_of_each_file(rt: HostRuntime) -> Result<(), Fail> {
         let words = ["receive", "two.txt", "0", "two.damaged", "two.out"];
         assert!(rt; tells(&rt, &words, damaged.told)?, "damage {at}");
     }
+    lose(&rt)?;
+    let words = ["modulate", "two.txt", "two.damaged", "two.out"];
+    assert!(rt; tells(&rt, &words, LOSS)?, "loss");
+    let words = ["modulate", "two.txt", "two.ts", "two.out"];
+    assert!(rt;
+        begins(&rt, &words, "\r\x1b[K0 frames, 0 kB/s, 0:00:00\r\x1b[K")?,
+        "progress"
+    );
     remove_files(&rt)?;
     Ok(())
 }

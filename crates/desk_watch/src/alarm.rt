@@ -1,0 +1,94 @@
+// What is told of a run while it goes on: that frames begin to be muted and come again, and that units are damaged.
+use crate::counts::{OutCounts, RunCounts};
+use crate::records::RecordCounts;
+use std::io::{self, Eprint};
+
+/// What is worth a line at once.
+#[derive(Clone, Copy, PartialEq, Eq)]
+pub struct Alarm {
+    /// How many frames are muted.
+    pub muted: u64,
+    /// Whether the last one is.
+    pub is_muted: bool,
+    /// How many units were lost or passed over, as far as they tell it.
+    pub damaged: u64,
+}
+
+impl Alarm {
+    /// Nothing was wrong.
+    pub fn new() -> Alarm {
+        Alarm {
+            muted: 0,
+            is_muted: false,
+            damaged: 0,
+        }
+    }
+}
+
+impl RunCounts<'_> {
+    // The records that are written, or else read.
+    fn records(&self) -> Option<&RecordCounts<'_>> {
+        match &self.out {
+            OutCounts::Records(records) => Some(records),
+            _ => self.inputs.first()?.records(),
+        }
+    }
+
+    /// How many frames were written or read, if they are counted.
+    pub fn frames(&self) -> Option<u64> {
+        match &self.out {
+            OutCounts::T2mi(sent) => Some(sent.frames()),
+            _ => self.records().map(|records| records.count()),
+        }
+    }
+
+    fn damaged(&self) -> u64 {
+        let mut sum: u64 = 0;
+        for input in self.inputs.as_slice() {
+            sum = sum.saturating_add(input.damaged_units());
+        }
+        sum
+    }
+
+    /// What is wrong by now.
+    pub fn alarm(&self) -> Alarm {
+        let records = self.records();
+        Alarm {
+            muted: records.map_or(0, |records| records.muted().count()),
+            is_muted: records.map_or(false, |records| records.ends_muted(1)),
+            damaged: self.damaged(),
+        }
+    }
+
+    // Says that frames begin to be muted, or come again.
+    fn say_muting(&self, rt: &impl Eprint, before: Alarm, now: Alarm) -> io::Result<()> {
+        let Some(records) = self.records() else {
+            return Ok(());
+        };
+        let last = records.muted().last();
+        if now.is_muted && !before.is_muted {
+            return eprintln!(rt;
+                "frames are muted now; the first of them is record {}",
+                records.muted().last_begins()
+            );
+        }
+        if !now.is_muted && (before.is_muted || now.muted > before.muted) {
+            return eprintln!(rt;
+                "frames come again behind record {last}; muted so far: {}",
+                now.muted
+            );
+        }
+        Ok(())
+    }
+
+    /// Says what is new since this was wrong.
+    pub fn say_news(&self, rt: &impl Eprint, before: Alarm) -> io::Result<()> {
+        let now = self.alarm();
+        if now.damaged > before.damaged {
+            for input in self.inputs.as_slice() {
+                input.say_damaged_units(rt)?;
+            }
+        }
+        self.say_muting(rt, before, now)
+    }
+}
