@@ -1,8 +1,8 @@
 -- The records of the least number are left behind, and its frame is compared; or no more come.
 use Rattle.std.proofs.Common.{◌≡◌, ℕ, ◌+◌, ◌^◌, ◌<◌, ◌≤◌, Bool, true, false, cond, List, [], ◌∷◌, ◌++◌, length, max}
-use Rattle.std.proofs.Common.{Option, Some, None, refl, ap, ap₂, sym, subst, ◌∙◌, inl, inr, arith, append-nil, length-append}
+use Rattle.std.proofs.Common.{Option, Some, None, refl, ap, ap₂, sym, subst, ◌∙◌, arith, length-append}
 use Rattle.std.specs.Prelude.{option_map, option_to_list}
-use Rattle.std.proofs.lemmas.Bool.{true≢false, cases_lt}
+use Rattle.std.proofs.lemmas.Bool.{true≢false}
 use Rattle.plp_config.specs.declared.config.Config.{Config}
 use Rattle.plp_config.specs.declared.moment.TheConstants.{MOST_FRAMES}
 use Rattle.frame_groups.specs.Modulated.{FrameRecord, Numbered}
@@ -12,20 +12,21 @@ use Rattle.modulator.specs.Laws.{DueFront, DueFollow}
 use Rattle.file_run.specs.Events.{Event, Gave, fed, has_ended, gave}
 use Rattle.file_run.specs.Laws.{EventsTell}
 use Rattle.held_feed.specs.Groups.{AreGroups, groups_of}
-use Rattle.held_feed.specs.StandsFor.{FrameFeedStandsFor, waiting_of}
+use Rattle.held_feed.specs.StandsFor.{waiting_of}
 use Rattle.held_feed.specs.StandsFor as feed
 use Rattle.held_feed.specs.declared.feed.FrameFeed.{FrameFeed}
 use Rattle.feed_merge.specs.Picking.{is_at}
 use Rattle.feed_merge.specs.Picks.{above_all}
-use Rattle.two_feeds.specs.Fed.{IsFedWith, IsBehind, NoneComes}
+use Rattle.two_feeds.specs.Both.{AreFedWith}
+use Rattle.two_feeds.specs.Fed.{IsFedWith, IsBehind}
 use Rattle.two_feeds.specs.Reading.{is_idle, least_of}
 use Rattle.two_feeds.specs.Seen.{seen_of}
-use Rattle.two_feeds.specs.Skips.{one_if, Takes, IsSameFeed}
-use Rattle.two_feeds.proofs.EventLemmas.{gave_there}
+use Rattle.two_feeds.specs.Skips.{one_if, Takes, SkipsIf}
+use Rattle.two_feeds.proofs.EventLemmas.{gave_both}
 use Rattle.two_feeds.proofs.FeedLemmas.{took_behind}
 use Rattle.two_feeds.proofs.GroupsLemmas.{behind_busy, behind_absent, nothing_between}
-use Rattle.two_feeds.proofs.LeastLemmas.{least_first, least_second, least_most, least_none, some_taken, are_of, above_taken}
-use Rattle.two_feeds.proofs.NumberLemmas.{above_append, below_of}
+use Rattle.two_feeds.proofs.LeastLemmas.{least_first, least_second, least_most, least_none, some_taken, are_of, next_taken, none_comes}
+use Rattle.two_feeds.proofs.NumberLemmas.{below_of}
 use Rattle.frame_compare.specs.Comparing.{Answered, answered, record_at, side_of, sides_answer, whole_answer}
 use Rattle.frame_compare.specs.Comparing.{answered_at, answers}
 use Rattle.frame_compare.specs.Laws.{AnswersGrow, frames_by}
@@ -51,16 +52,8 @@ pub record Takings (m : Comparing) (a b : FrameFeed) (n : ℕ) (p q : Bool) : Ty
   pub least : least_of (waiting_of m.a) (waiting_of m.b) ≡ Some n
   pub busy_a : is_idle (waiting_of m.a) (feed.has_ended m.a) ≡ false
   pub busy_b : is_idle (waiting_of m.b) (feed.has_ended m.b) ≡ false
-  pub took_a : (bytes : List ℕ) (ended : Bool) (given : List FrameRecord) → FrameFeedStandsFor m.a bytes ended given
-      → Takes p m.a a bytes ended given
-  pub took_b : (bytes : List ℕ) (ended : Bool) (given : List FrameRecord) → FrameFeedStandsFor m.b bytes ended given
-      → Takes q m.b b bytes ended given
-  pub stays_a : p ≡ false → a ≡ m.a
-  pub stays_b : q ≡ false → b ≡ m.b
-  pub same_a : IsSameFeed m.a a
-  pub same_b : IsSameFeed m.b b
-  pub left_a : feed.left_of a + one_if p ≤ feed.left_of m.a
-  pub left_b : feed.left_of b + one_if q ≤ feed.left_of m.b
+  pub took_a : SkipsIf p m.a a
+  pub took_b : SkipsIf q m.b b
 
 -- one of them was
 pub fewer_left : (m : Comparing) (a b : FrameFeed) (n : ℕ) (p q : Bool) → Takings m a b n p q
@@ -69,14 +62,13 @@ fewer_left m a b n p q t =
     let some = some_taken (waiting_of m.a) (waiting_of m.b) n t.least in
     let x = ap one_if t.is_a in
     let y = ap one_if t.is_b in
-    let u = t.left_a in
-    let v = t.left_b in
+    let u = t.took_a.left in
+    let v = t.took_b.left in
     omega (arith, some, x, y, u, v)
 
 -- What a tally is told of a frame, and the line of it.
-abbrev pub Tallies : Tally → Tally → ℕ → Option Answer → List ℕ → Type 0
-Tallies old new n None line = (new ≡ old) × (line ≡ [])
-Tallies old new n (Some a) line =
+abbrev pub Tallies : Tally → Tally → ℕ → Answer → List ℕ → Type 0
+Tallies old new n a line =
     ((xs : List Answered) → TallyStandsFor old xs → TallyStandsFor new (xs ++ answered n a ∷ []))
     × ((xs : List Answered) → TallyStandsFor old xs → known_text (xs ++ answered n a ∷ []) ≡ known_text xs ++ line)
 
@@ -88,25 +80,25 @@ Notes_at m new c n ga gb = CarriedStandsFor m.carried c m.next ga gb → IsOfFee
     → NothingBetween ga m.next n → NothingBetween gb m.next n → CarriedStandsFor new c (n + 1) ga gb
 
 -- And what it answers.
-abbrev pub Answers_at : Comparing → Carried → Config → ℕ → Option Answer → List Numbered → List Numbered → Type 0
+abbrev pub Answers_at : Comparing → Carried → Config → ℕ → Answer → List Numbered → List Numbered → Type 0
 Answers_at m new c n result ga gb = CarriedStandsFor new c (n + 1) ga gb → IsOfFeed m.a ga → IsOfFeed m.b gb
-    → result ≡ sides_answer (side_at n (waiting_of m.a)) (side_at n (waiting_of m.b)) (whole_answer c n ga gb)
+    → Some result ≡ sides_answer (side_at n (waiting_of m.a)) (side_at n (waiting_of m.b)) (whole_answer c n ga gb)
 
 abbrev pub Notes : Comparing → Carried → Config → ℕ → Type 0
 Notes m new c n = (ga gb : List Numbered) → Notes_at m new c n ga gb
 
-abbrev pub AnswersBy : Comparing → Carried → Config → ℕ → Option Answer → Type 0
+abbrev pub AnswersBy : Comparing → Carried → Config → ℕ → Answer → Type 0
 AnswersBy m new c n result = (ga gb : List Numbered) → Answers_at m new c n result ga gb
 
 module _ (front : DueFront) (follow : DueFollow) (grow : AnswersGrow) (c : Config) (m : Comparing) (a b : FrameFeed) (events : List Event)
     (n : ℕ) (p q : Bool) (t : Takings m a b n p q) (s : Shown c events m) where
   abbrev pub ta : Takes (is_at n (seen_of (waiting_of m.a))) m.a a (fed 0 events) (has_ended 0 events) s.given_a
   ta = subst (λ (l : Bool). Takes l m.a a (fed 0 events) (has_ended 0 events) s.given_a) t.is_a
-      (t.took_a (fed 0 events) (has_ended 0 events) s.given_a s.of_a.stands)
+      (t.took_a.takes (fed 0 events) (has_ended 0 events) s.given_a s.both.of_a.stands)
 
   abbrev pub tb : Takes (is_at n (seen_of (waiting_of m.b))) m.b b (fed 1 events) (has_ended 1 events) s.given_b
   tb = subst (λ (l : Bool). Takes l m.b b (fed 1 events) (has_ended 1 events) s.given_b) t.is_b
-      (t.took_b (fed 1 events) (has_ended 1 events) s.given_b s.of_b.stands)
+      (t.took_b.takes (fed 1 events) (has_ended 1 events) s.given_b s.both.of_b.stands)
 
   abbrev pub xs : List FrameRecord
   xs = ta.records
@@ -121,10 +113,10 @@ module _ (front : DueFront) (follow : DueFollow) (grow : AnswersGrow) (c : Confi
   now_b = s.given_b ++ ys
 
   pub of_a : IsFedWith c a (fed 0 events) (has_ended 0 events) now_a
-  of_a = record { network = t.same_a.network ∙ s.of_a.network; stands = ta.stands }
+  of_a = record { network = t.took_a.same.network ∙ s.both.of_a.network; stands = ta.stands }
 
   pub of_b : IsFedWith c b (fed 1 events) (has_ended 1 events) now_b
-  of_b = record { network = t.same_b.network ∙ s.of_b.network; stands = tb.stands }
+  of_b = record { network = t.took_b.same.network ∙ s.both.of_b.network; stands = tb.stands }
 
   least_a : (w : Waiting) → waiting_of m.a ≡ Some w → n ≤ w.frame
   least_a = least_first (waiting_of m.a) (waiting_of m.b) n t.least
@@ -133,37 +125,24 @@ module _ (front : DueFront) (follow : DueFollow) (grow : AnswersGrow) (c : Confi
   least_b = least_second (waiting_of m.a) (waiting_of m.b) n t.least
 
   pub behind_a : IsBehind (n + 1) a now_a
-  behind_a = took_behind follow c n m.a a _ _ s.given_a t.busy_a least_a t.same_a.ended
-      (λ off. ap waiting_of (t.stays_a (t.is_a ∙ off))) ta of_a
+  behind_a = took_behind follow c n m.a a _ _ s.given_a t.busy_a least_a t.took_a.same.ended
+      (λ off. ap waiting_of (t.took_a.stays (t.is_a ∙ off))) ta of_a
 
   pub behind_b : IsBehind (n + 1) b now_b
-  behind_b = took_behind follow c n m.b b _ _ s.given_b t.busy_b least_b t.same_b.ended
-      (λ off. ap waiting_of (t.stays_b (t.is_b ∙ off))) tb of_b
+  behind_b = took_behind follow c n m.b b _ _ s.given_b t.busy_b least_b t.took_b.same.ended
+      (λ off. ap waiting_of (t.took_b.stays (t.is_b ∙ off))) tb of_b
 
   pub next_low : m.next ≤ n
-  next_low = least_most (waiting_of m.a) (waiting_of m.b) n m.next t.least s.behind_a.waits s.behind_b.waits
+  next_low = least_most (waiting_of m.a) (waiting_of m.b) n m.next t.least s.both.behind_a.waits s.both.behind_b.waits
 
   pub next_now : n + 1 ≡ max (above_all now_a) (above_all now_b)
-  next_now =
-      let x = above_taken (waiting_of m.a) n xs ta.are in
-      let y = above_taken (waiting_of m.b) n ys tb.are in
-      let few_a = x.0 in
-      let few_b = y.0 in
-      let some = some_taken (waiting_of m.a) (waiting_of m.b) n t.least in
-      let was = s.next_is in
-      let low = next_low in
-      elim (cases_lt 0 (one_if (is_at n (seen_of (waiting_of m.a))))) [
-        | inl one ↦ (let e = x.1 (omega (arith, one)) in
-            omega (arith, e, few_b, was, low, above_append s.given_a xs, above_append s.given_b ys))
-        | inr none ↦ (let e = y.1 (omega (arith, none, some)) in
-            omega (arith, e, few_a, was, low, above_append s.given_a xs, above_append s.given_b ys))
-      ]
+  next_now = next_taken (waiting_of m.a) (waiting_of m.b) n m.next s.given_a s.given_b xs ys t.least next_low s.both.next_is ta.are tb.are
 
   above_a : above_all s.given_a ≤ m.next
-  above_a = let w = s.next_is in omega (arith, w)
+  above_a = let w = s.both.next_is in omega (arith, w)
 
   above_b : above_all s.given_b ≤ m.next
-  above_b = let w = s.next_is in omega (arith, w)
+  above_b = let w = s.both.next_is in omega (arith, w)
 
   -- ---- by the groups of two streams
 
@@ -177,8 +156,8 @@ module _ (front : DueFront) (follow : DueFollow) (grow : AnswersGrow) (c : Confi
       bytes = fed 0 events;
       ended = has_ended 0 events;
       given = s.given_a;
-      stands = s.of_a.stands;
-      groups = subst (λ (k : Config). AreGroups k (fed 0 events) (has_ended 0 events) ga) (sym s.of_a.network) are_a;
+      stands = s.both.of_a.stands;
+      groups = subst (λ (k : Config). AreGroups k (fed 0 events) (has_ended 0 events) ga) (sym s.both.of_a.network) are_a;
     }
 
     feed_b : IsOfFeed m.b gb
@@ -186,26 +165,26 @@ module _ (front : DueFront) (follow : DueFollow) (grow : AnswersGrow) (c : Confi
       bytes = fed 1 events;
       ended = has_ended 1 events;
       given = s.given_b;
-      stands = s.of_b.stands;
-      groups = subst (λ (k : Config). AreGroups k (fed 1 events) (has_ended 1 events) gb) (sym s.of_b.network) are_b;
+      stands = s.both.of_b.stands;
+      groups = subst (λ (k : Config). AreGroups k (fed 1 events) (has_ended 1 events) gb) (sym s.both.of_b.network) are_b;
     }
 
     -- of the frames between no packet came
     between_a : NothingBetween ga m.next n
-    between_a = nothing_between front follow c m.a _ _ s.given_a m.next n ga s.of_a above_a
+    between_a = nothing_between front follow c m.a _ _ s.given_a m.next n ga s.both.of_a above_a
         (behind_busy n m.a s.given_a t.busy_a least_a) are_a
 
     between_b : NothingBetween gb m.next n
-    between_b = nothing_between front follow c m.b _ _ s.given_b m.next n gb s.of_b above_b
+    between_b = nothing_between front follow c m.b _ _ s.given_b m.next n gb s.both.of_b above_b
         (behind_busy n m.b s.given_b t.busy_b least_b) are_b
 
     -- nor of one of which no record waits
     absent_a : is_at n (seen_of (waiting_of m.a)) ≡ false → packets_at ga n ≡ []
-    absent_a off = nothing_between front follow c m.a _ _ s.given_a m.next (n + 1) ga s.of_a above_a
+    absent_a off = nothing_between front follow c m.a _ _ s.given_a m.next (n + 1) ga s.both.of_a above_a
         (behind_absent n m.a s.given_a t.busy_a least_a off) are_a n next_low (omega arith)
 
     absent_b : is_at n (seen_of (waiting_of m.b)) ≡ false → packets_at gb n ≡ []
-    absent_b off = nothing_between front follow c m.b _ _ s.given_b m.next (n + 1) gb s.of_b above_b
+    absent_b off = nothing_between front follow c m.b _ _ s.given_b m.next (n + 1) gb s.both.of_b above_b
         (behind_absent n m.b s.given_b t.busy_b least_b off) are_b n next_low (omega arith)
 
     pub carried_now : (new : Carried) → Notes m new c n → CarriedStandsFor new c (n + 1) ga gb
@@ -219,50 +198,37 @@ module _ (front : DueFront) (follow : DueFollow) (grow : AnswersGrow) (c : Confi
 
     grown : now_said ≡ was_said ++ option_to_list (answered_at c (frames_by xs ga) (frames_by ys gb) n)
     grown =
-        let was = s.next_is in
+        let was = s.both.next_is in
         let low = next_low in
         grow c ga gb s.given_a s.given_b xs ys n (below_of n s.given_a (omega (arith, was, low))) (below_of n s.given_b (omega (arith, was, low)))
         (are_of (waiting_of m.a) n xs ta.are) (are_of (waiting_of m.b) n ys tb.are)
 
     -- what both sides are to each other is what the call says of them
-    answer_is : (new : Carried) (result : Option Answer) → Notes m new c n → AnswersBy m new c n result
-        → result ≡ sides_answer (side_of (record_at n xs)) (side_of (record_at n ys)) (whole_answer c n ga gb)
+    answer_is : (new : Carried) (result : Answer) → Notes m new c n → AnswersBy m new c n result
+        → Some result ≡ sides_answer (side_of (record_at n xs)) (side_of (record_at n ys)) (whole_answer c n ga gb)
     answer_is new result notes says =
         says ga gb (carried_now new notes) feed_a feed_b
         ∙ ap₂ (λ (x y : Side). sides_answer x y (whole_answer c n ga gb)) (sym (side_is n (waiting_of m.a) xs ta.are))
         (sym (side_is n (waiting_of m.b) ys tb.are))
 
     -- so the frame is told
-    told_by : (old new : Tally) (result : Option Answer) (line : List ℕ)
-        → result ≡ sides_answer (side_of (record_at n xs)) (side_of (record_at n ys)) (whole_answer c n ga gb)
-        → TallyStandsFor old was_said → Tallies old new n result line
-        → TallyStandsFor new now_said × (known_text now_said ≡ known_text was_said ++ line) × (length now_said ≤ length was_said + 1)
-    told_by old new None line is stands (same, none) =
-        let now : now_said ≡ was_said =
-        grown ∙ ap (λ (o : Option Answer). was_said ++ option_to_list (option_map (answered n) o)) (sym is) ∙ append-nil was_said in (
-          subst (TallyStandsFor new) (sym now) (subst (λ (x : Tally). TallyStandsFor x was_said) (sym same) stands),
-          ap known_text now ∙ sym (append-nil (known_text was_said)) ∙ ap (λ (l : List ℕ). known_text was_said ++ l) (sym none),
-          (let e = ap length now in omega (arith, e)),
-        )
-    told_by old new (Some x) line is stands (adds, says) =
-        let now : now_said ≡ was_said ++ answered n x ∷ [] =
-        grown ∙ ap (λ (o : Option Answer). was_said ++ option_to_list (option_map (answered n) o)) (sym is) in (
-          subst (TallyStandsFor new) (sym now) (adds was_said stands),
-          ap known_text now ∙ says was_said stands,
-          (let e = ap length now in omega (arith, e, length-append was_said (answered n x ∷ []))),
-        )
+    now_is : (result : Answer) → Some result ≡ sides_answer (side_of (record_at n xs)) (side_of (record_at n ys)) (whole_answer c n ga gb)
+        → now_said ≡ was_said ++ answered n result ∷ []
+    now_is result is = grown ∙ ap (λ (o : Option Answer). was_said ++ option_to_list (option_map (answered n) o)) (sym is)
 
-    pub told_now : (new : Comparing) (result : Option Answer) (line : List ℕ) → m.done ≡ false → new.done ≡ m.done → new.next ≡ n + 1
+    pub told_now : (new : Comparing) (result : Answer) (line : List ℕ) → m.done ≡ false → new.done ≡ m.done → new.next ≡ n + 1
         → Notes m new.carried c n → AnswersBy m new.carried c n result → Tallies m.tally new.tally n result line
         → IsTold c new now_a now_b (gave events ++ line) ga gb
     told_now new result line going same next notes says tallies =
-        let x = told_by m.tally new.tally result line (answer_is new.carried result notes says) told.tallied tallies in
+        let now = now_is result (answer_is new.carried result notes says) in
         let low = next_low in
         record {
           carried = subst (λ (k : ℕ). CarriedStandsFor new.carried c k ga gb) (sym next) (carried_now new.carried notes);
-          tallied = x.0;
-          few = (let e = next in let l = x.2 in let w = told.few in omega (arith, e, l, w, low));
-          said_is = ap (λ (l : List ℕ). l ++ line) (told.said_is ∙ ap (λ (d : Bool). text_in d was_said) going) ∙ sym x.1
+          tallied = subst (TallyStandsFor new.tally) (sym now) (tallies.0 was_said told.tallied);
+          few = (let e = next in let l = ap length now in let w = told.few in
+              omega (arith, e, l, length-append was_said (answered n result ∷ []), w, low));
+          said_is = ap (λ (l : List ℕ). l ++ line) (told.said_is ∙ ap (λ (d : Bool). text_in d was_said) going)
+              ∙ sym (tallies.1 was_said told.tallied) ∙ ap known_text (sym now)
               ∙ ap (λ (d : Bool). text_in d now_said) (sym (same ∙ going));
         }
 
@@ -280,7 +246,7 @@ groups_gave tell c events input line gs g =
 pub shown_compared : EventsTell → DueFront → DueFollow → AnswersGrow → (c : Config) (m new : Comparing) (events : List Event) (n : ℕ)
     (p q : Bool) (t : Takings m new.a new.b n p q) (s : Shown c events m) → new.plan.now ≡ m.plan.now
     → plps_in new.carried ≡ plps_in m.carried → m.done ≡ false → new.done ≡ m.done → new.next ≡ n + 1 → n < MOST_FRAMES
-    → (result : Option Answer) → Notes m new.carried c n → AnswersBy m new.carried c n result
+    → (result : Answer) → Notes m new.carried c n → AnswersBy m new.carried c n result
     → (line : List ℕ) → Tallies m.tally new.tally n result line
     → Shown c (events ++ Gave line ∷ []) new
 shown_compared tell front follow grow c m new events n p q t s config counted going same next early result notes says line tallies =
@@ -291,12 +257,15 @@ shown_compared tell front follow grow c m new events n p q t s config counted go
       plps = counted ∙ s.plps;
       given_a = xs;
       given_b = ys;
-      of_a = gave_there tell c new.a events 0 line xs (of_a front follow grow c m new.a new.b events n p q t s);
-      of_b = gave_there tell c new.b events 1 line ys (of_b front follow grow c m new.a new.b events n p q t s);
-      behind_a = subst (λ (k : ℕ). IsBehind k new.a xs) (sym next) (behind_a front follow grow c m new.a new.b events n p q t s);
-      behind_b = subst (λ (k : ℕ). IsBehind k new.b ys) (sym next) (behind_b front follow grow c m new.a new.b events n p q t s);
-      next_is = next ∙ next_now front follow grow c m new.a new.b events n p q t s;
-      early = (let e = next in omega (arith, e, early));
+      both = gave_both tell c events line false false new.next new.a new.b xs ys
+          (subst (λ (k : ℕ). AreFedWith c events false false k new.a new.b xs ys) (sym next) (record {
+            of_a = of_a front follow grow c m new.a new.b events n p q t s;
+            of_b = of_b front follow grow c m new.a new.b events n p q t s;
+            behind_a = behind_a front follow grow c m new.a new.b events n p q t s;
+            behind_b = behind_b front follow grow c m new.a new.b events n p q t s;
+            next_is = next_now front follow grow c m new.a new.b events n p q t s;
+            early = omega (arith, early);
+          }));
       told = λ ga gb are_a are_b.
           subst (λ (l : List ℕ). IsTold c new xs ys l ga gb) (sym (tell.given line events).gave)
           (told_now front follow grow c m new.a new.b events n p q t s ga gb (groups_gave tell c events 0 line ga are_a)
@@ -330,25 +299,15 @@ few_said c m events s =
     let t = told_here c m events s in
     let e = ap (λ (n : Counts). n.frames) t.tallied.counts in
     let f = t.few in
-    let l = s.early in
+    let l = s.both.early in
     omega (arith, e, f, l)
 
 -- the next number is no greater than the least
 pub next_least : (c : Config) (m : Comparing) (events : List Event) (n : ℕ) → Shown c events m
     → least_of (waiting_of m.a) (waiting_of m.b) ≡ Some n → m.next ≤ n
-next_least c m events n s least = least_most (waiting_of m.a) (waiting_of m.b) n m.next least s.behind_a.waits s.behind_b.waits
+next_least c m events n s least = least_most (waiting_of m.a) (waiting_of m.b) n m.next least s.both.behind_a.waits s.both.behind_b.waits
 
 -- ---- no more frames come
-
-none_comes : (f : FrameFeed) → waiting_of f ≡ None → is_idle (waiting_of f) (feed.has_ended f) ≡ false → NoneComes f
-none_comes f none busy = record {
-  none = none;
-  ended = over (feed.has_ended f) (subst (λ (o : Option Waiting). is_idle o (feed.has_ended f) ≡ false) none busy);
-}
-  where
-    over : (e : Bool) → is_idle None e ≡ false → e ≡ true
-    over true off = refl
-    over false off = absurd (true≢false off)
 
 pub shown_finished : EventsTell → (c : Config) (m : Comparing) (events : List Event) (line : List ℕ) → Shown c events m → m.done ≡ false
     → least_of (waiting_of m.a) (waiting_of m.b) ≡ None → is_idle (waiting_of m.a) (feed.has_ended m.a) ≡ false
@@ -362,12 +321,7 @@ shown_finished tell c m events line s going least busy_a busy_b says =
       plps = s.plps;
       given_a = s.given_a;
       given_b = s.given_b;
-      of_a = gave_there tell c m.a events 0 line s.given_a s.of_a;
-      of_b = gave_there tell c m.b events 1 line s.given_b s.of_b;
-      behind_a = s.behind_a;
-      behind_b = s.behind_b;
-      next_is = s.next_is;
-      early = s.early;
+      both = gave_both tell c events line false false m.next m.a m.b s.given_a s.given_b s.both;
       told = λ ga gb are_a are_b.
           let t = s.told ga gb (groups_gave tell c events 0 line ga are_a) (groups_gave tell c events 1 line gb are_b) in
           let xs : List Answered = answers c (frames_by s.given_a ga) (frames_by s.given_b gb) in

@@ -1,25 +1,19 @@
 -- What a comparison does by its files.
-use Rattle.std.proofs.Common.{◌≡◌, ◌≢◌, ◌⊎◌, ℕ, ◌+◌, ◌-◌, ◌<◌, ◌≤◌, ◌==◌, Bool, true, false, List, [], ◌∷◌, ◌++◌}
-use Rattle.std.proofs.Common.{length, take, Option, Some, None, refl, ap, ap₂, sym, subst, ◌∙◌, inl, inr, arith, append_assoc, append-nil}
-use Rattle.std.proofs.Common.{eqb-true}
+use Rattle.std.proofs.Common.{◌≡◌, ℕ, ◌+◌, ◌-◌, ◌<◌, ◌≤◌, ◌==◌, Bool, true, false, List, [], ◌∷◌, ◌++◌}
+use Rattle.std.proofs.Common.{length, Option, Some, None, refl, ap, ap₂, sym, subst, ◌∙◌, inl, inr, arith, append_assoc, append-nil}
 use Rattle.std.specs.Prelude.{Err, slice_index}
-use Rattle.std.proofs.lemmas.Bool.{true≢false, eqb-false}
-use Rattle.std.proofs.lemmas.List.{take-append-le}
 use Rattle.terms.proofs.CaseLemmas.{bool_cases}
 use Rattle.desk_io.specs.Reading.{longest_file}
 use Rattle.plp_config.specs.declared.config.Config.{Config}
 use Rattle.plp_config.specs.declared.moment.TheConstants.{MOST_FRAMES}
 use Rattle.frame_groups.specs.Laws.{IsPrefix}
 use Rattle.frame_groups.specs.Modulated.{FrameRecord, Numbered}
-use Rattle.frame_groups.specs.declared.waiting.Waiting.{Waiting}
 use Rattle.modulator.specs.Laws.{DueFront, DueFollow}
-use Rattle.modulator.specs.StandsFor.{records_due, records_of}
-use Rattle.feed_merge.specs.Picks.{above_all}
+use Rattle.modulator.specs.StandsFor.{records_of}
 use Rattle.held_feed.specs.StandsFor.{waiting_of}
 use Rattle.held_feed.specs.Groups.{AreGroups, groups_of}
 use Rattle.held_feed.specs.StandsFor as feed
-use Rattle.held_feed.specs.declared.feed.FrameFeed.{FrameFeed}
-use Rattle.file_run.specs.Events.{Event, fed, has_ended, gave}
+use Rattle.file_run.specs.Events.{Event, fed, gave}
 use Rattle.file_run.specs.FileRun.{AreFed, IsFed}
 use Rattle.file_run.specs.Steps.{Needs, FallsShort}
 use Rattle.file_run.specs.Work.{AreWhole, AreWithin, IsRightAtEnd, GaveSome, DoesWork}
@@ -27,17 +21,12 @@ use Rattle.file_run.specs.declared.machine.Step.TheVariants.{End}
 use Rattle.file_run.specs.declared.stop.RunFault.TheVariants.{TooLong, ReadFault}
 use Rattle.file_run.specs.declared.stop.RunStop.TheVariants.{Files}
 use Rattle.file_run.proofs.StandsLemmas.{fed_since}
-use Rattle.file_run.proofs.WorkLemmas.{are_whole}
-use Rattle.two_feeds.specs.Fed.{AreEarly, end_by, ReadsAhead, IsFedWith, IsBehind, NoneComes}
-use Rattle.two_feeds.specs.Reading.{is_idle, fed_at}
-use Rattle.two_feeds.specs.Reading.{least_of}
-use Rattle.two_feeds.proofs.FeedLemmas.{ends_at}
-use Rattle.two_feeds.proofs.NumberLemmas.{above_append, below_of, nothing_above}
-use Rattle.two_feeds.proofs.LeastLemmas.{least_first, least_second}
-use Rattle.two_feeds.proofs.FilesLemmas.{two}
-use Rattle.two_feeds.proofs.SplitLemmas.{IsSplit}
-use Rattle.two_feeds.proofs.SplitLemmas.{all_given, split_at, late_waits}
-use Rattle.two_feeds.proofs.StepLemmas.{Wants, First, Second, IsLate}
+use Rattle.two_feeds.specs.Both.{IsDueBelow}
+use Rattle.two_feeds.specs.Fed.{AreEarly, end_by, ReadsAhead, IsBehind}
+use Rattle.two_feeds.proofs.BothLemmas.{above_a, above_b, none_given, split_a, split_b, ends_before, reads_ahead, all_a, all_b, whole_all}
+use Rattle.two_feeds.proofs.BothLemmas.{early_all, none_all, some_all, due_below, ends_next, late_a, late_b, late_is}
+use Rattle.two_feeds.proofs.StepLemmas.{Wants, IsLate, is_late, needs_by, short_by}
+use Rattle.two_feeds.proofs.WantLemmas.{fed_count}
 use Rattle.frame_compare.specs.Comparing.{Answered, answers, answers_below}
 use Rattle.frame_compare.specs.Laws.{KnownBegins, frames_by}
 use Rattle.frame_compare.specs.Lines.{known_text, text_of}
@@ -55,7 +44,7 @@ use Rattle.compare_run.specs.Steps.{step_of, reach_of}
 use Rattle.compare_run.specs.declared.comparing.Comparing.{Comparing}
 use Rattle.compare_run.specs.declared.machine.CompareMachine.{CompareMachine}
 use Rattle.compare_run.proofs.SplitLemmas.{answers_front, answers_split}
-use Rattle.compare_run.proofs.StepLemmas.{needs_so, short_so, late_so}
+use Rattle.compare_run.proofs.StepLemmas.{asked, ends}
 
 -- ---- what is known of two files by what was fed of them
 
@@ -77,39 +66,21 @@ module _ (front : DueFront) (follow : DueFollow) (law : KnownBegins) (c : Config
   abbrev told : List Answered
   told = answers c (frames_by ga groups_a) (frames_by gb groups_b)
 
-  fed_a : IsFed (files 0) (slice_index places 0) (fed 0 events) (has_ended 0 events)
-  fed_a = are 0 (omega arith)
-
-  fed_b : IsFed (files 1) (slice_index places 1) (fed 1 events) (has_ended 1 events)
-  fed_b = are 1 (omega arith)
-
   groups_fed : (file : List ℕ) (place : ℕ) (bytes : List ℕ) (ended : Bool) → IsFed file place bytes ended
       → AreGroups c bytes ended (groups_of c file)
   groups_fed file place bytes ended f = record { more = f.more; none = f.end; are = ap (groups_of c) f.parts }
 
   is_told : IsTold c m ga gb (gave events) groups_a groups_b
-  is_told = s.told groups_a groups_b (groups_fed (files 0) _ _ _ fed_a) (groups_fed (files 1) _ _ _ fed_b)
-
-  above_a : above_all ga ≤ m.next
-  above_a = let n = s.next_is in omega (arith, n)
-
-  above_b : above_all gb ≤ m.next
-  above_b = let n = s.next_is in omega (arith, n)
-
-  split_a : (n : ℕ) → IsBehind n m.a ga → IsSplit c (files 0) ga n
-  split_a n b = split_at front follow c m.a (files 0) _ _ _ ga fed_a s.of_a n b
-
-  split_b : (n : ℕ) → IsBehind n m.b gb → IsSplit c (files 1) gb n
-  split_b n b = split_at front follow c m.b (files 1) _ _ _ gb fed_b s.of_b n b
+  is_told = s.told groups_a groups_b (groups_fed (files 0) _ _ _ (are 0 (omega arith))) (groups_fed (files 1) _ _ _ (are 1 (omega arith)))
 
   -- the frames that were compared are those below a number that is behind both
   told_is : (n : ℕ) → m.next ≤ n → IsBehind n m.a ga → IsBehind n m.b gb → compared_below c files n ≡ told
   told_is n le x y =
-      let p = split_a n x in
-      let q = split_b n y in
+      let p = split_a front follow c events false false m.next m.a m.b ga gb s.both files places are n x in
+      let q = split_b front follow c events false false m.next m.a m.b ga gb s.both files places are n y in
+      let is = s.both.next_is in
       ap₂ (λ (ra rb : List FrameRecord). answers_below c (frames_by ra groups_a) (frames_by rb groups_b) n) p.all q.all
-      ∙ answers_split c groups_a groups_b ga p.after gb q.after n (let a = above_a in omega (arith, a, le)) (let b = above_b in omega (arith, b, le))
-      p.from q.from
+      ∙ answers_split c groups_a groups_b ga p.after gb q.after n (omega (arith, is, le)) (omega (arith, is, le)) p.from q.from
 
   -- so the lines that are known by these were said
   known_below : (n : ℕ) → m.next ≤ n → IsBehind n m.a ga → IsBehind n m.b gb → m.done ≡ false → IsKnownBelow c files n (gave events)
@@ -118,48 +89,33 @@ module _ (front : DueFront) (follow : DueFollow) (law : KnownBegins) (c : Config
 
   -- ---- all was given
 
-  all_a : NoneComes m.a → records_of c (files 0) ≡ ga
-  all_a none = all_given front follow c m.a (files 0) _ _ _ ga fed_a s.of_a none
-
-  all_b : NoneComes m.b → records_of c (files 1) ≡ gb
-  all_b none = all_given front follow c m.b (files 1) _ _ _ gb fed_b s.of_b none
+  all_is : m.done ≡ true → (records_of c (files 0) ≡ ga) × (records_of c (files 1) ≡ gb)
+  all_is done =
+      let none = s.over done in (
+        all_a front follow c events false false m.next m.a m.b ga gb s.both files places are none.0 none.1,
+        all_b front follow c events false false m.next m.a m.b ga gb s.both files places are none.0 none.1,
+      )
 
   told_all : m.done ≡ true → compared_of c files ≡ told
   told_all done =
-      let none = s.over done in
-      ap₂ (λ (ra rb : List FrameRecord). answers c (frames_by ra groups_a) (frames_by rb groups_b)) (all_a none.0) (all_b none.1)
+      let all = all_is done in
+      ap₂ (λ (ra rb : List FrameRecord). answers c (frames_by ra groups_a) (frames_by rb groups_b)) all.0 all.1
 
   said_all : m.done ≡ true → gave events ≡ text_of (compared_of c files)
   said_all done = is_told.said_is ∙ ap (λ (d : Bool). text_in d told) done ∙ ap text_of (sym (told_all done))
 
-  early_all : m.done ≡ true → (input : ℕ) → input < 2 → AreEarly (records_of c (files input))
-  early_all done =
+  early : m.done ≡ true → (input : ℕ) → input < 2 → AreEarly (records_of c (files input))
+  early done =
       let none = s.over done in
-      let e = s.early in
-      let x = above_a in
-      let y = above_b in
-      two (λ (input : ℕ). AreEarly (records_of c (files input)))
-      (subst AreEarly (sym (all_a none.0)) (below_of MOST_FRAMES ga (omega (arith, x, e))))
-      (subst AreEarly (sym (all_b none.1)) (below_of MOST_FRAMES gb (omega (arith, y, e))))
+      early_all front follow c events false false m.next m.a m.b ga gb s.both files places are none.0 none.1
 
   have : m.done ≡ true → (m.next == 0) ≡ false → HaveRecords c files
   have done some =
-      record { some = there; early = early_all done }
-    where
-      there : (records_of c (files 0) ≢ []) ⊎ (records_of c (files 1) ≢ [])
-      there = go ga gb refl refl
-        where
-          differ : m.next ≢ 0
-          differ = eqb-false m.next 0 some
-
-          go : (xs ys : List FrameRecord) → ga ≡ xs → gb ≡ ys → (records_of c (files 0) ≢ []) ⊎ (records_of c (files 1) ≢ [])
-          go [] [] x y =
-              let n = s.next_is in
-              let p = ap above_all x in
-              let q = ap above_all y in
-              absurd (differ (omega (arith, n, p, q)))
-          go [] (y ∷ ys) x is = inr (λ none. absurd (let e = ap length (sym (all_b (s.over done).1 ∙ is) ∙ none) in omega (arith, e)))
-          go (x ∷ xs) ys is y = inl (λ none. absurd (let e = ap length (sym (all_a (s.over done).0 ∙ is) ∙ none) in omega (arith, e)))
+      let none = s.over done in
+      record {
+        some = some_all front follow c events false false m.next m.a m.b ga gb s.both files places are none.0 none.1 some;
+        early = early done;
+      }
 
   counts_all : m.done ≡ true → counts_in m.tally ≡ counts_of (compared_of c files)
   counts_all done = is_told.tallied.counts ∙ ap counts_of (sym (told_all done))
@@ -183,15 +139,12 @@ module _ (front : DueFront) (follow : DueFollow) (law : KnownBegins) (c : Config
   has_none : m.done ≡ true → (m.next == 0) ≡ true → HasNone c files (gave events)
   has_none done zero =
       let none = s.over done in
-      let n = s.next_is in
-      let z = eqb-true m.next 0 zero in
-      let a : ga ≡ [] = nothing_above ga (omega (arith, n, z)) in
-      let b : gb ≡ [] = nothing_above gb (omega (arith, n, z)) in
+      let given = none_given c events false false m.next m.a m.b ga gb s.both zero in
       let nothing : told ≡ [] =
-      ap₂ (λ (ra rb : List FrameRecord). answers c (frames_by ra groups_a) (frames_by rb groups_b)) a b
+      ap₂ (λ (ra rb : List FrameRecord). answers c (frames_by ra groups_a) (frames_by rb groups_b)) given.0 given.1
       ∙ answers_nothing c groups_a groups_b in
       record {
-        none = two (λ (input : ℕ). records_of c (files input) ≡ []) (all_a none.0 ∙ a) (all_b none.1 ∙ b);
+        none = none_all front follow c events false false m.next m.a m.b ga gb s.both files places are none.0 none.1 zero;
         empty = is_told.said_is ∙ ap (λ (d : Bool). text_in d told) done ∙ ap text_of nothing ∙ nothing_told;
       }
 
@@ -200,56 +153,18 @@ module _ (front : DueFront) (follow : DueFollow) (law : KnownBegins) (c : Config
   has_late : m.done ≡ false → IsLate (waiting_of m.a) (feed.has_ended m.a) (waiting_of m.b) (feed.has_ended m.b)
       → HasLate c files (gave events)
   has_late going l = record {
-    late = go (waiting_of m.a) (waiting_of m.b) refl refl;
-    is = known_below MOST_FRAMES s.early behind_a behind_b going;
+    late = late_is front follow c events m.next m.a m.b ga gb s.both files places are l;
+    is = known_below MOST_FRAMES s.both.early (late_a front follow c events m.next m.a m.b ga gb s.both files places are l)
+        (late_b front follow c events m.next m.a m.b ga gb s.both files places are l) going;
   }
-    where
-      low_a : (w : Waiting) → waiting_of m.a ≡ Some w → MOST_FRAMES ≤ w.frame
-      low_a w is = let x = least_first (waiting_of m.a) (waiting_of m.b) l.least l.is w is in let y = l.late in omega (arith, x, y)
-
-      low_b : (w : Waiting) → waiting_of m.b ≡ Some w → MOST_FRAMES ≤ w.frame
-      low_b w is = let x = least_second (waiting_of m.a) (waiting_of m.b) l.least l.is w is in let y = l.late in omega (arith, x, y)
-
-      behind_a : IsBehind MOST_FRAMES m.a ga
-      behind_a = record {
-        waits = low_a;
-        idle = λ none open_still.
-            let i : is_idle (waiting_of m.a) (feed.has_ended m.a) ≡ true = ap₂ is_idle none open_still in absurd (true≢false (sym i ∙ l.first));
-      }
-
-      behind_b : IsBehind MOST_FRAMES m.b gb
-      behind_b = record {
-        waits = low_b;
-        idle = λ none open_still.
-            let i : is_idle (waiting_of m.b) (feed.has_ended m.b) ≡ true = ap₂ is_idle none open_still in absurd (true≢false (sym i ∙ l.second));
-      }
-
-      go : (v w : Option Waiting) → waiting_of m.a ≡ v → waiting_of m.b ≡ w
-          → (¬ (AreEarly (records_of c (files 0)))) ⊎ (¬ (AreEarly (records_of c (files 1))))
-      go (Some v) w x y = inl (late_waits front follow c m.a (files 0) _ _ _ ga fed_a s.of_a v x (low_a v x))
-      go None (Some w) x y = inr (late_waits front follow c m.b (files 1) _ _ _ gb fed_b s.of_b w y (low_b w y))
-      go None None x y =
-          absurd (let z : None ≡ Some l.least = sym (ap₂ least_of x y) ∙ l.is in cc)
 
   -- ---- an input is wanted
 
-  -- the records that are due by what was taken of the input that is wanted are those up to the next number
-  ends_next : (input taken : ℕ) → Wants (waiting_of m.a) (feed.has_ended m.a) (waiting_of m.b) (feed.has_ended m.b) input
-      → taken ≡ length (fed input events) → end_by c (files input) taken ≡ m.next
-  ends_next input taken wants is = ap (end_by c (files input)) is ∙ end input wants
-    where
-      end : (input : ℕ) → Wants (waiting_of m.a) (feed.has_ended m.a) (waiting_of m.b) (feed.has_ended m.b) input
-          → end_by c (files input) (length (fed input events)) ≡ m.next
-      end input (First at idle) = subst (λ (i : ℕ). end_by c (files i) (length (fed i events)) ≡ m.next) at
-          (ends_at c m.next (files 0) _ m.a _ _ ga fed_a s.of_a s.behind_a above_a idle.none idle.going)
-      end input (Second at idle) = subst (λ (i : ℕ). end_by c (files i) (length (fed i events)) ≡ m.next) at
-          (ends_at c m.next (files 1) _ m.b _ _ gb fed_b s.of_b s.behind_b above_b idle.none idle.going)
-
   has_said : (input taken : ℕ) → m.done ≡ false → end_by c (files input) taken ≡ m.next → HasSaid c input taken files (gave events)
   has_said input taken going same = record {
-    early = (let e = s.early in omega (arith, same, e));
+    early = (let e = s.both.early in omega (arith, same, e));
     is = subst (λ (n : ℕ). IsKnownBelow c files n (gave events)) (sym same)
-        (known_below m.next (omega arith) s.behind_a s.behind_b going);
+        (known_below m.next (omega arith) s.both.behind_a s.both.behind_b going);
   }
 
   -- ---- some were said
@@ -259,16 +174,16 @@ module _ (front : DueFront) (follow : DueFollow) (law : KnownBegins) (c : Config
   gave_front = bool_cases m.done ended going
     where
       ended : m.done ≡ true → (rest : List ℕ) × MaySay c files (gave events ++ rest)
-      ended done = ([], inl (early_all done, append-nil (gave events) ∙ said_all done))
+      ended done = ([], inl (early done, append-nil (gave events) ∙ said_all done))
 
       going : m.done ≡ false → (rest : List ℕ) × MaySay c files (gave events ++ rest)
       going off =
-          let e = s.early in
+          let e = s.both.early in
           let sum : m.next + (MOST_FRAMES - m.next) ≡ MOST_FRAMES = omega (arith, e) in
           let p = answers_front c groups_a groups_b (records_of c (files 0)) (records_of c (files 1)) m.next (MOST_FRAMES - m.next) in
           let all : compared_below c files MOST_FRAMES ≡ told ++ p.0 =
           ap (compared_below c files) (sym sum) ∙ p.1
-          ∙ ap (λ (l : List Answered). l ++ p.0) (told_is m.next (omega arith) s.behind_a s.behind_b) in
+          ∙ ap (λ (l : List Answered). l ++ p.0) (told_is m.next (omega arith) s.both.behind_a s.both.behind_b) in
           let k = known_front told p.0 in (
             k.0,
             inr (ap (λ (l : List ℕ). l ++ k.0) (is_told.said_is ∙ ap (λ (d : Bool). text_in d told) off) ∙ sym k.1 ∙ ap known_text (sym all)),
@@ -279,11 +194,11 @@ module _ (front : DueFront) (follow : DueFollow) (law : KnownBegins) (c : Config
   -- what is known by the frames below a lower number was said
   said_since : (end : ℕ) → end ≤ m.next → (end ≤ MOST_FRAMES) × IsPrefix (known_text (compared_below c files end)) (gave events)
   said_since end le =
-      let early = s.early in
+      let early = s.both.early in
       let sum : end + (m.next - end) ≡ m.next = omega (arith, le) in
       let p = answers_front c groups_a groups_b (records_of c (files 0)) (records_of c (files 1)) end (m.next - end) in
       let all : told ≡ compared_below c files end ++ p.0 =
-      sym (told_is m.next (omega arith) s.behind_a s.behind_b) ∙ ap (compared_below c files) (sym sum) ∙ p.1 in
+      sym (told_is m.next (omega arith) s.both.behind_a s.both.behind_b) ∙ ap (compared_below c files) (sym sum) ∙ p.1 in
       let k = begins m.done (compared_below c files end) p.0 in (
         omega (arith, le, early),
         (k.0, is_told.said_is ∙ ap (λ (l : List Answered). text_in m.done l) all ∙ k.1),
@@ -293,49 +208,34 @@ module _ (front : DueFront) (follow : DueFollow) (law : KnownBegins) (c : Config
       begins true xs ys = law xs ys
       begins false xs ys = known_front xs ys
 
-  -- the records that are due by fewer bytes than were fed were given
-  ends_before : (input taken : ℕ) → input < 2 → taken < length (fed input events) → end_by c (files input) taken ≤ m.next
-  ends_before input taken lt = two (λ (input : ℕ). taken < length (fed input events) → end_by c (files input) taken ≤ m.next)
-      (λ less. by (files 0) _ m.a _ _ ga fed_a s.of_a above_a less) (λ less. by (files 1) _ m.b _ _ gb fed_b s.of_b above_b less) input lt
-    where
-      by : (file : List ℕ) (place : ℕ) (f : FrameFeed) (bytes : List ℕ) (ended : Bool) (given : List FrameRecord)
-          → IsFed file place bytes ended → IsFedWith c f bytes ended given → above_all given ≤ m.next → taken < length bytes
-          → above_all (records_due c false (take taken file)) ≤ m.next
-      by file place f bytes ended given t h above less =
-          let same = ap (λ (l : List ℕ). above_all (records_due c false l))
-          (ap (take taken) t.parts ∙ take-append-le taken bytes t.more (omega (arith, less))) in
-          let p = subst (λ (k : Config). IsPrefix (records_due k false (take taken bytes)) given) h.network (h.stands.front taken less) in
-          let all = ap above_all p.1 in
-          let sum = above_append (records_due c false (take taken bytes)) p.0 in
-          omega (arith, same, all, sum, above)
+  -- so all was said that is known by fewer bytes than were fed
+  due_a : IsDueBelow c m.next (fed 0 events)
+  due_a = due_below c m.a _ _ ga m.next (above_a c events false false m.next m.a m.b ga gb s.both) s.both.of_a
 
-  -- so all was said that is known by them
+  due_b : IsDueBelow c m.next (fed 1 events)
+  due_b = due_below c m.b _ _ gb m.next (above_b c events false false m.next m.a m.b ga gb s.both) s.both.of_b
+
   since : (input taken : ℕ) → input < 2 → taken < length (fed input events)
       → (end_by c (files input) taken ≤ MOST_FRAMES)
       × IsPrefix (known_text (compared_below c files (end_by c (files input) taken))) (gave events)
-  since input taken lt less = said_since (end_by c (files input) taken) (ends_before input taken lt less)
-
-  fed_count : (input : ℕ) → input < 2 → fed_at (feed.fed_of m.a) (feed.fed_of m.b) input ≡ length (fed input events)
-  fed_count input lt = two (λ (input : ℕ). fed_at (feed.fed_of m.a) (feed.fed_of m.b) input ≡ length (fed input events))
-      s.of_a.stands.count s.of_b.stands.count input lt
+  since input taken lt less =
+      said_since (end_by c (files input) taken)
+      (ends_before front follow c events false false m.next m.a m.b ga gb s.both files places are m.next due_a due_b input taken lt less)
 
   -- no input was read further than by what is read ahead
-  reads_ahead : (n : ℕ) → m.next ≤ n → AreWithin 2 places (reach_of m) → ReadsAhead c n files places
-  reads_ahead n le near input taken lt less =
-      let within = near input lt in
-      let count = fed_count input lt in
-      let d = ends_before input taken lt (omega (arith, less, within, count)) in
-      omega (arith, d, le)
+  ahead : (n : ℕ) → m.next ≤ n → AreWithin 2 places (reach_of m) → ReadsAhead c n files places
+  ahead n le near = reads_ahead front follow c events false false m.next m.a m.b ga gb s.both files places are m.next n due_a due_b le near
 
   -- so it is when an input is to be read on
   has_read : (input taken : ℕ) → Wants (waiting_of m.a) (feed.has_ended m.a) (waiting_of m.b) (feed.has_ended m.b) input
       → m.done ≡ false → taken ≡ length (fed input events) → AreWithin 2 places (reach_of m)
       → HasRead c input taken files places (gave events)
   has_read input taken wants going is near =
-      let same = ends_next input taken wants is in
+      let same = ap (end_by c (files input)) is
+      ∙ ends_next front follow c events m.next m.a m.b ga gb s.both files places are input wants in
       record {
         said = has_said input taken going same;
-        ahead = reads_ahead (end_by c (files input) taken) (omega (arith, same)) near;
+        ahead = ahead (end_by c (files input) taken) (omega (arith, same)) near;
       }
 
 -- ---- what the machine does
@@ -348,9 +248,9 @@ module _ (front : DueFront) (follow : DueFollow) (law : KnownBegins) (start now 
 
   whole : now.comparing.done ≡ true → AreWhole files places
   whole done =
+      let m = now.comparing in
       let none = s.over done in
-      are_whole 2 files places events all are
-      (two (λ (input : ℕ). has_ended input events ≡ true) (sym s.of_a.stands.end ∙ none.0.ended) (sym s.of_b.stands.end ∙ none.1.ended))
+      whole_all front follow k events false false m.next m.a m.b s.given_a s.given_b s.both files places are none.0 none.1 all
 
   ends_by : now.comparing.done ≡ true → (now.comparing.next == 0) ≡ false → (first : Option ℕ)
       → (counts_in now.comparing.tally).first ≡ first
@@ -363,8 +263,8 @@ module _ (front : DueFront) (follow : DueFollow) (law : KnownBegins) (start now 
   ends_in : (done : Bool) → now.comparing.done ≡ done → step_of now.comparing ≡ End
       → IsRightAtEnd (compare_work k) files places (gave events) (ending_in done now.comparing.next (counts_in now.comparing.tally))
   ends_in false is end = (
-    has_late front follow law k now.comparing events s files places are is (late_so now.comparing.done _ _ _ _ is end),
-    reads_ahead front follow law k now.comparing events s files places are MOST_FRAMES s.early within,
+    has_late front follow law k now.comparing events s files places are is (is_late _ _ _ _ (ends now.comparing.done _ is end)),
+    ahead front follow law k now.comparing events s files places are MOST_FRAMES s.both.early within,
   )
   ends_in true is end =
       bool_cases (now.comparing.next == 0)
@@ -375,27 +275,27 @@ module _ (front : DueFront) (follow : DueFollow) (law : KnownBegins) (start now 
       → Needs (step_of now.comparing) input (slice_index places input - length (fed input events))
       → compare_work k files (Err (Files (TooLong input))) places (gave events)
   too_long input lt most wants =
-      let w = needs_so now.comparing.done (waiting_of now.comparing.a) (feed.has_ended now.comparing.a) (waiting_of now.comparing.b)
-      (feed.has_ended now.comparing.b) input _ wants in
-      let few = w.few in
-      let ahead = (are input lt).ahead in
+      let w = asked Needs (λ i k h. h) now.comparing.done _ input _ wants in
+      let n = needs_by _ _ _ _ input _ w.1 in
+      let few = n.1 in
+      let most_fed = (are input lt).ahead in
       record {
         taken = length (fed input events);
         near = omega (arith, few, most);
-        within = omega (arith, ahead, most);
-        has = has_read front follow law k now.comparing events s files places are input (length (fed input events)) w.wants w.going refl within;
+        within = omega (arith, most_fed, most);
+        has = has_read front follow law k now.comparing events s files places are input (length (fed input events)) n.0 w.0 refl within;
       }
 
   unread : (input : ℕ) → input < 2
       → FallsShort (step_of now.comparing) input (slice_index places input - length (fed input events))
       → compare_work k files (Err (Files (ReadFault input))) places (gave events)
   unread input lt wants =
-      let w = short_so now.comparing.done (waiting_of now.comparing.a) (feed.has_ended now.comparing.a) (waiting_of now.comparing.b)
-      (feed.has_ended now.comparing.b) input _ wants in
-      let none = w.few in
-      let ahead = (are input lt).ahead in
-      has_read front follow law k now.comparing events s files places are input (slice_index places input) w.wants w.going
-      (omega (arith, ahead, none)) within
+      let w = asked FallsShort (λ i k h. h) now.comparing.done _ input _ wants in
+      let n = short_by _ _ _ _ input _ w.1 in
+      let none = n.1 in
+      let most_fed = (are input lt).ahead in
+      has_read front follow law k now.comparing events s files places are input (slice_index places input) n.0 w.0
+      (omega (arith, most_fed, none)) within
 
 unsaid : DueFront → DueFollow → KnownBegins → (start now : CompareMachine) (files : ℕ → List ℕ) (places : List ℕ) (events : List Event)
     (bytes : List ℕ) → AreFed 2 files places events
@@ -411,7 +311,8 @@ unsaid front follow law start now files places events bytes are g =
       begins = subst (MaySay k files) (ap (λ (l : List ℕ). l ++ p.0) g.parts ∙ append_assoc bytes g.more p.0) p.1;
       since = λ input taken lt less.
           let within = g.within input lt in
-          let count = fed_count front follow law k g.mid.comparing events g.came files places are input lt in
+          let m = g.mid.comparing in
+          let count = fed_count k events false false m.next m.a m.b g.came.given_a g.came.given_b g.came.both input lt in
           let d = since front follow law k g.mid.comparing events g.came files places are input taken lt
           (omega (arith, less, within, count)) in (
             d.0,

@@ -11,9 +11,7 @@ use Rattle.held_feed.specs.StandsFor.{is_whole}
 use Rattle.feed_merge.specs.Picking.{is_at}
 use Rattle.two_feeds.specs.Seen.{seen_of}
 use Rattle.two_feeds.specs.Skips.{AreTaken}
-use Rattle.frame_compare.specs.Comparing.{content_side, side_of, record_at, sides_answer}
-use Rattle.frame_compare.specs.declared.answer.Answer.{Answer}
-use Rattle.frame_compare.specs.declared.answer.Side.{Side}
+use Rattle.frame_compare.specs.Comparing.{content_side, side_of, record_at}
 use Rattle.frame_compare.specs.declared.answer.Side.TheVariants.{Absent, Muted, Whole}
 use Rattle.compare_run.specs.Taking.{side_by, side_at}
 
@@ -37,20 +35,6 @@ side_is n (Some w) xs t = go (w.frame == n) refl t
         ap (λ (l : List FrameRecord). side_of (record_at n l)) k.only
         ∙ ap side_of (found_here n k.one (k.first.0 ∙ eqb-true w.frame n e)) ∙ content_is k.one.content w.mute k.first.1
     go false e k = ap (λ (l : List FrameRecord). side_of (record_at n l)) k
-
--- ---- what both sides are to each other
-
--- it is by what they are if both are whole, and else by the sides alone
-pub sides_same : (u v : Side) (p q : Answer) → (u ≡ Whole → v ≡ Whole → p ≡ q) → sides_answer u v p ≡ sides_answer u v q
-sides_same Absent Absent p q e = refl
-sides_same Absent Muted p q e = refl
-sides_same Absent Whole p q e = refl
-sides_same Muted Absent p q e = refl
-sides_same Muted Muted p q e = refl
-sides_same Muted Whole p q e = refl
-sides_same Whole Absent p q e = refl
-sides_same Whole Muted p q e = refl
-sides_same Whole Whole p q e = ap Some (e refl refl)
 
 -- a whole side is of a record that waits, of that number, and is not muted
 pub record WaitsWhole (n : ℕ) (o : Option Waiting) : Type 0 where

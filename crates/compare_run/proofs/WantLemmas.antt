@@ -1,76 +1,18 @@
--- What the machine wants can be read, and there is room for it.
-use Rattle.std.proofs.Common.{◌≡◌, ℕ, ◌+◌, ◌^◌, ◌<◌, ◌≤◌, Bool, true, false, cond, List, length, Option, Some, None, refl, sym, subst, ◌∙◌}
-use Rattle.std.proofs.Common.{arith}
-use Rattle.std.specs.Prelude.{nat_lt}
+-- What the machine wants can be read.
+use Rattle.std.proofs.Common.{Bool, true, false, cond, List}
 use Rattle.plp_config.specs.declared.config.Config.{Config}
-use Rattle.plp_config.specs.declared.moment.TheConstants.{MOST_FRAMES}
-use Rattle.desk_io.specs.Reading.{longest_file}
-use Rattle.file_run.specs.Events.{Event, fed}
-use Rattle.file_run.specs.Steps.{IsWanted, CanBeRead}
-use Rattle.file_run.specs.declared.machine.Step.TheVariants.{Give, End}
-use Rattle.held_feed.specs.StandsFor.{waiting_of, fed_of}
-use Rattle.held_feed.specs.StandsFor as feed
-use Rattle.file_run.specs.FileRun.{read_ahead}
-use Rattle.two_feeds.specs.Reading.{is_idle, wants_of, step_at, step_by, fed_at}
-use Rattle.two_feeds.specs.Reading.{least_of}
-use Rattle.two_feeds.proofs.StepLemmas.{Wants, First, Second, idle_is}
+use Rattle.file_run.specs.Events.{Event}
+use Rattle.file_run.specs.Steps.{IsWanted}
+use Rattle.file_run.specs.declared.machine.Step.TheVariants.{End}
+use Rattle.two_feeds.specs.Reading.{step_for}
+use Rattle.two_feeds.proofs.WantLemmas.{wanted_by}
 use Rattle.compare_run.specs.Shown.{Shown}
 use Rattle.compare_run.specs.Steps.{step_of, reach_of}
 use Rattle.compare_run.specs.declared.comparing.Comparing.{Comparing}
 
-pub wanted_by : (c : Config) (events : List Event) (m : Comparing) → Shown c events m → IsWanted 2 events (reach_of m) (step_of m)
-wanted_by c events m s = by m.done
+pub wanted : (c : Config) (events : List Event) (m : Comparing) → Shown c events m → IsWanted 2 events (reach_of m) (step_of m)
+wanted c events m s = by m.done
   where
-    none : (o : Option ℕ) → IsWanted 2 events (reach_of m) (step_at o)
-    none None = tt
-    none (Some n) = go (nat_lt n MOST_FRAMES)
-      where
-        go : (b : Bool) → IsWanted 2 events (reach_of m) (cond b Give End)
-        go true = tt
-        go false = tt
-
-    first : is_idle (waiting_of m.a) (feed.has_ended m.a) ≡ true → CanBeRead 2 events (reach_of m) 0 1 read_ahead
-    first on = record {
-      place = omega arith;
-      is_open = sym s.of_a.stands.end ∙ (idle_is (waiting_of m.a) (feed.has_ended m.a) on).1;
-      some = omega arith;
-      few = omega arith;
-      order = omega arith;
-      near = (let e = s.of_a.stands.count in omega (arith, e));
-    }
-
-    second : is_idle (waiting_of m.b) (feed.has_ended m.b) ≡ true → CanBeRead 2 events (reach_of m) 1 1 read_ahead
-    second on = record {
-      place = omega arith;
-      is_open = sym s.of_b.stands.end ∙ (idle_is (waiting_of m.b) (feed.has_ended m.b) on).1;
-      some = omega arith;
-      few = omega arith;
-      order = omega arith;
-      near = (let e = s.of_b.stands.count in omega (arith, e));
-    }
-
-    reads : (t u : Bool) → is_idle (waiting_of m.a) (feed.has_ended m.a) ≡ t → is_idle (waiting_of m.b) (feed.has_ended m.b) ≡ u
-        → IsWanted 2 events (reach_of m) (cond t (wants_of 0) (cond u (wants_of 1) (step_at (least_of (waiting_of m.a) (waiting_of m.b)))))
-    reads true u on over = first on
-    reads false true off on = second on
-    reads false false off over = none (least_of (waiting_of m.a) (waiting_of m.b))
-
-    by : (done : Bool) → IsWanted 2 events (reach_of m)
-        (cond done End (step_by (waiting_of m.a) (feed.has_ended m.a) (waiting_of m.b) (feed.has_ended m.b)))
+    by : (done : Bool) → IsWanted 2 events (reach_of m) (cond done End (step_for m.a m.b))
     by true = tt
-    by false = reads (is_idle (waiting_of m.a) (feed.has_ended m.a)) (is_idle (waiting_of m.b) (feed.has_ended m.b)) refl refl
-
--- so many bytes have room
-pub room_of : (c : Config) (events : List Event) (m : Comparing) (input count : ℕ) → Shown c events m
-    → Wants (waiting_of m.a) (feed.has_ended m.a) (waiting_of m.b) (feed.has_ended m.b) input
-    → length (fed input events) + count ≤ longest_file → fed_at (fed_of m.a) (fed_of m.b) input + count < 2 ^ 60
-room_of c events m input count s (First at idle) few =
-    subst (λ (k : ℕ). fed_at (fed_of m.a) (fed_of m.b) k + count < 2 ^ 60) at
-    (let e = s.of_a.stands.count in
-    let l = subst (λ (k : ℕ). length (fed k events) + count ≤ longest_file) (sym at) few in
-    omega (arith, e, l))
-room_of c events m input count s (Second at idle) few =
-    subst (λ (k : ℕ). fed_at (fed_of m.a) (fed_of m.b) k + count < 2 ^ 60) at
-    (let e = s.of_b.stands.count in
-    let l = subst (λ (k : ℕ). length (fed k events) + count ≤ longest_file) (sym at) few in
-    omega (arith, e, l))
+    by false = wanted_by c events false false m.next m.a m.b s.given_a s.given_b s.both

@@ -1,12 +1,11 @@
 -- What was done to two feeds that are compared. No public clause cites this module.
-use Rattle.std.specs.Prelude.{◌≡◌, ℕ, ◌≤◌, max, Bool, true, false, List, length}
+use Rattle.std.specs.Prelude.{◌≡◌, ℕ, ◌≤◌, Bool, true, false, List, length}
 use Rattle.plp_config.specs.declared.config.Config.{Config}
-use Rattle.plp_config.specs.declared.moment.TheConstants.{MOST_FRAMES}
 use Rattle.frame_groups.specs.Modulated.{FrameRecord, Numbered}
 use Rattle.file_run.specs.Events.{Event, fed, has_ended, gave}
 use Rattle.held_feed.specs.Groups.{AreGroups}
-use Rattle.feed_merge.specs.Picks.{above_all}
-use Rattle.two_feeds.specs.Fed.{IsFedWith, IsBehind, NoneComes}
+use Rattle.two_feeds.specs.Both.{AreFedWith}
+use Rattle.two_feeds.specs.Fed.{NoneComes}
 use Rattle.frame_compare.specs.Comparing.{Answered, answers}
 use Rattle.frame_compare.specs.Lines.{known_text, text_of}
 use Rattle.frame_compare.specs.Laws.{frames_by}
@@ -31,12 +30,7 @@ pub record Shown (c : Config) (events : List Event) (m : Comparing) : Type 0 whe
   pub plps : plps_in m.carried ≡ length c.plps
   pub given_a : List FrameRecord
   pub given_b : List FrameRecord
-  pub of_a : IsFedWith c m.a (fed 0 events) (has_ended 0 events) given_a
-  pub of_b : IsFedWith c m.b (fed 1 events) (has_ended 1 events) given_b
-  pub behind_a : IsBehind m.next m.a given_a
-  pub behind_b : IsBehind m.next m.b given_b
-  pub next_is : m.next ≡ max (above_all given_a) (above_all given_b)
-  pub early : m.next ≤ MOST_FRAMES
+  pub both : AreFedWith c events false false m.next m.a m.b given_a given_b
   -- Whatever follows in both streams, it is so by their groups.
   pub told : (ga gb : List Numbered) → AreGroups c (fed 0 events) (has_ended 0 events) ga
       → AreGroups c (fed 1 events) (has_ended 1 events) gb → IsTold c m given_a given_b (gave events) ga gb

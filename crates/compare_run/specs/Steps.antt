@@ -2,17 +2,15 @@
 use Rattle.std.specs.Prelude.{ℕ, ◌+◌, if◌then◌else◌}
 use Rattle.file_run.specs.declared.machine.Step.{Step}
 use Rattle.file_run.specs.declared.machine.Step.TheVariants.{End}
-use Rattle.held_feed.specs.StandsFor.{waiting_of, has_ended, fed_of}
 use Rattle.held_feed.specs.StandsFor as feed
-use Rattle.file_run.specs.FileRun.{read_ahead}
-use Rattle.two_feeds.specs.Reading.{step_by, fed_at}
+use Rattle.two_feeds.specs.Reading.{reach_by, step_for}
 use Rattle.compare_run.specs.declared.comparing.Comparing.{Comparing}
 
 abbrev pub step_of : Comparing → Step
-step_of m = if m.done then End else step_by (waiting_of m.a) (has_ended m.a) (waiting_of m.b) (has_ended m.b)
+step_of m = if m.done then End else step_for m.a m.b
 
 abbrev pub reach_of : Comparing → ℕ → ℕ
-reach_of m input = fed_at (fed_of m.a) (fed_of m.b) input + read_ahead
+reach_of m = reach_by m.a m.b
 
 -- It gives no more often before it wants bytes: so many records may come, and then the end.
 abbrev pub left_of : Comparing → ℕ

@@ -12,7 +12,7 @@ use held_feed::FrameFeed;
 use modulator::due_records_law;
 use plp_config::Plan;
 use std::alloc::Global;
-use two_feeds::{least_number, next_step, skip_if};
+use two_feeds::{end_one, feed_one, least_number, next_step, skip_if};
 
 /// Two feeds of a network, and what was said of their frames.
 #[derive(Drop)]
@@ -93,12 +93,7 @@ impl<'p> Comparing<'p> {
             → Shown c (events ++ Fed input (take result bytes.now) ∷ []) self.new }
         ensures reach { (other : ℕ) → reach_of self.old other ≤ reach_of self.new other }
     {
-        events_law();
-        due_records_law();
-        if input == 0 {
-            return self.a.feed(bytes);
-        }
-        self.b.feed(bytes)
+        feed_one(&mut self.a, &mut self.b, input, bytes)
     }
 
     /// The input that it wants has ended.
@@ -108,13 +103,7 @@ impl<'p> Comparing<'p> {
             → Shown c (events ++ Ended input bytes.now ∷ []) self.new }
         ensures reach { (other : ℕ) → reach_of self.old other ≤ reach_of self.new other }
     {
-        events_law();
-        due_records_law();
-        if input == 0 {
-            self.a.finish();
-            return;
-        }
-        self.b.finish();
+        end_one(&mut self.a, &mut self.b, input, bytes);
     }
 
     // Leaves the records of the least number behind, and says what is known by its frame.
@@ -148,10 +137,7 @@ impl<'p> Comparing<'p> {
         skip_if(&mut self.a, takes_first);
         skip_if(&mut self.b, takes_second);
         self.next = number + 1;
-        match answer {
-            Some(answer) => self.tally.add(number, answer),
-            None => Line::new(),
-        }
+        self.tally.add(number, answer)
     }
 
     // Both have ended: says what is left.

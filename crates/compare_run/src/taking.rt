@@ -1,10 +1,11 @@
 // What the feeds have of a frame, by the records that wait.
-ghost use Rattle.std.specs.Prelude.{◌≡◌, ◌≤◌, ◌+◌, ◌↔◌, IsTrue, List, [], None, IfSome, length, true, false};
+ghost use Rattle.std.specs.Prelude.{◌≡◌, ◌≤◌, ◌+◌, ◌↔◌, IsTrue, List, [], Some, None, IfSome, length, true, false};
 ghost use Rattle.std.specs.Option.{option_copied};
 ghost use Rattle.frame_groups.specs.Modulated.{Numbered};
 ghost use Rattle.frame_tests.specs.Begun.{packets_at};
 ghost use Rattle.held_feed.specs.StandsFor.{config_of, waiting_of};
 ghost use Rattle.feed_merge.specs.Picking.{is_at as is_at_by};
+ghost use Rattle.two_feeds.specs.Reading.{least_of};
 ghost use Rattle.two_feeds.specs.Seen.{seen_of};
 ghost use Rattle.frame_compare.specs.Comparing.{place_of, sides_answer, whole_answer};
 ghost use Rattle.frame_compare.specs.StandsFor.{lists_in, Brings, NothingBetween, CarriedStandsFor, plps_in};
@@ -89,7 +90,7 @@ pub fn note(
     carried.note(plan, next, number, first, second);
 }
 
-// Where a frame that both send differs first.
+// Where a frame that was noted differs first, if both send it.
 fn place_at(
     carried: &Carried,
     plan: &Plan,
@@ -98,36 +99,36 @@ fn place_at(
     b: &FrameFeed<'_>,
 ) -> Option<Place>
     requires plps { plps_in carried.now ≡ length plan.now.plps }
-    requires whole_a { side_at_by number (waiting_of a.now) ≡ Whole }
-    requires whole_b { side_at_by number (waiting_of b.now) ≡ Whole }
     ensures { config_of a.now ≡ plan.now → config_of b.now ≡ plan.now
         → (ga gb : List Numbered) → CarriedStandsFor carried.now plan.now (number + 1) ga gb → IsOfFeed a.now ga → IsOfFeed b.now gb
+        → side_at_by number (waiting_of a.now) ≡ Whole → side_at_by number (waiting_of b.now) ≡ Whole
         → result ≡ place_of plan.now number ga gb }
 {
+    if !is_sent(side_at(number, a.waiting())) || !is_sent(side_at(number, b.waiting())) {
+        return None;
+    }
     let first = a.frame();
     let second = b.frame();
-    carried.place(plan, number, &first.dynamic, &second.dynamic)
+    carried.place(plan, &first.dynamic, &second.dynamic)
 }
 
-/// What both feeds have of a frame that was noted.
+/// What both feeds have of a frame that was noted, of the least number that waits.
 pub fn answer_at(
     carried: &Carried,
     plan: &Plan,
     number: u64,
     a: &FrameFeed<'_>,
     b: &FrameFeed<'_>,
-) -> Option<Answer>
+) -> Answer
     requires plps { plps_in carried.now ≡ length plan.now.plps }
+    requires least { least_of (waiting_of a.now) (waiting_of b.now) ≡ Some number }
     ensures { config_of a.now ≡ plan.now → config_of b.now ≡ plan.now
         → (ga gb : List Numbered) → CarriedStandsFor carried.now plan.now (number + 1) ga gb → IsOfFeed a.now ga → IsOfFeed b.now gb
-        → result ≡ sides_answer (side_at_by number (waiting_of a.now)) (side_at_by number (waiting_of b.now))
+        → Some result ≡ sides_answer (side_at_by number (waiting_of a.now)) (side_at_by number (waiting_of b.now))
         (whole_answer plan.now number ga gb) }
 {
+    let place = place_at(carried, plan, number, a, b);
     let first = side_at(number, a.waiting());
     let second = side_at(number, b.waiting());
-    if !is_sent(first) || !is_sent(second) {
-        return answer_by(first, second, None);
-    }
-    let place = place_at(carried, plan, number, a, b);
-    answer_by(first, second, place)
+    answer_by(first, second, place).unwrap()
 }

@@ -1,5 +1,5 @@
 -- Where two lists of blocks differ first.
-use Rattle.std.proofs.Common.{◌≡◌, ℕ, ◌+◌, ◌<◌, ◌==◌, ◌&&◌, not, min, Bool, true, false, List, [], ◌∷◌, ◌++◌, length}
+use Rattle.std.proofs.Common.{◌≡◌, ℕ, ◌+◌, ◌==◌, ◌&&◌, not, min, Bool, true, false, List, [], ◌∷◌, ◌++◌, length}
 use Rattle.std.proofs.Common.{Option, Some, None, refl, ap, ap₂, sym, ◌∙◌, arith, option_map}
 use Rattle.std.specs.Prelude.{◌↔◌, IsTrue, bytes_eq, if◌then◌else◌}
 use Rattle.std.proofs.lemmas.Bool.{true≢false, false_from_ne_true}
@@ -77,56 +77,13 @@ shifted k (Some j) = Some (k + j)
 abbrev pub AreSame : List (List ℕ) → List (List ℕ) → ℕ → List (List ℕ) → List (List ℕ) → Type 0
 AreSame a b k xs ys = first_other a b ≡ shifted k (first_other xs ys)
 
-pub none_yet : (a b : List (List ℕ)) → AreSame a b 0 a b
-none_yet a b = go (first_other a b)
-  where
-    go : (o : Option ℕ) → o ≡ shifted 0 o
-    go None = refl
-    go (Some j) = let e : j ≡ 0 + j = omega arith in ap Some e
-
 -- what two blocks and what follows them make of the first that differs
 abbrev by_front : Bool → Option ℕ → Option ℕ
 by_front same rest = if same then option_map (λ j. j + 1) rest else Some 0
 
-module _ (a b : List (List ℕ)) (k : ℕ) (left rest : List (List ℕ)) (same : AreSame a b k left rest) where
-  at_none : Some k ≡ shifted k (Some 0)
-  at_none = let e : k ≡ k + 0 = omega arith in ap Some e
-
-  here : first_other left rest ≡ Some 0 → Some k ≡ first_other a b
-  here e = at_none ∙ sym (same ∙ ap (shifted k) e)
-
-  pub same_more : (x y : List ℕ) (xs ys : List (List ℕ)) → left ≡ x ∷ xs → rest ≡ y ∷ ys → bytes_eq x y ≡ true → AreSame a b (k + 1) xs ys
-  same_more x y xs ys e f t =
-      same ∙ ap (shifted k) (ap₂ first_other e f ∙ ap (λ (s : Bool). by_front s (first_other xs ys)) t) ∙ go (first_other xs ys)
-    where
-      go : (o : Option ℕ) → shifted k (by_front true o) ≡ shifted (k + 1) o
-      go None = refl
-      go (Some j) = let e : k + (j + 1) ≡ k + 1 + j = omega arith in ap Some e
-
-  pub other_here : (x y : List ℕ) (xs ys : List (List ℕ)) → left ≡ x ∷ xs → rest ≡ y ∷ ys → bytes_eq x y ≡ false → Some k ≡ first_other a b
-  other_here x y xs ys e f t = here (ap₂ first_other e f ∙ ap (λ (s : Bool). by_front s (first_other xs ys)) t)
-
-  pub ends_here : (x : List ℕ) (xs : List (List ℕ)) → left ≡ x ∷ xs → rest ≡ [] → Some k ≡ first_other a b
-  ends_here x xs e f = here (ap₂ first_other e f)
-
-  pub goes_on : (y : List ℕ) (ys : List (List ℕ)) → left ≡ [] → rest ≡ y ∷ ys → Some k ≡ first_other a b
-  goes_on y ys e f = here (ap₂ first_other e f)
-
-  pub all_same : left ≡ [] → rest ≡ [] → None ≡ first_other a b
-  all_same e f = sym (same ∙ ap (shifted k) (ap₂ first_other e f))
-
 pub none_left : {X : Type 0} (xs : List X) → length xs ≡ 0 → xs ≡ []
 none_left [] e = refl
 none_left (x ∷ xs) e = absurd (omega (arith, e))
-
--- no list, no block
-pub none_there : (b : List (List ℕ)) → length b ≡ 0 → None ≡ first_other [] b
-none_there [] e = refl
-none_there (y ∷ b) e = absurd (omega (arith, e))
-
-pub some_there : (b : List (List ℕ)) → 0 < length b → Some 0 ≡ first_other [] b
-some_there [] l = absurd (omega (arith, l))
-some_there (y ∷ b) l = refl
 
 pub either_none : (a : List (List ℕ)) → first_other [] a ≡ first_other a []
 either_none [] = refl

@@ -183,18 +183,11 @@ impl Carried {
         }
     }
 
-    /// Where the frame that was noted last differs first, which is frame `number`, by the dynamic parts of its L1 in both streams.
-    pub fn place(
-        &self,
-        plan: &Plan,
-        number: u64,
-        a: &BitSlice<'_>,
-        b: &BitSlice<'_>,
-    ) -> Option<Place>
+    /// Where the frame that was noted last differs first, by the dynamic parts of its L1 in both streams.
+    pub fn place(&self, plan: &Plan, a: &BitSlice<'_>, b: &BitSlice<'_>) -> Option<Place>
         requires plps { plps_in self.now ≡ length plan.now.plps }
-        ensures { (ga gb : List Numbered) → CarriedStandsFor self.now plan.now (number + 1) ga gb → CarriesRoom plan.now ga number
-            → CarriesRoom plan.now gb number → a.now ≡ dynamic_at ga number → b.now ≡ dynamic_at gb number
-            → result ≡ place_of plan.now number ga gb }
+        ensures { (n : ℕ) (ga gb : List Numbered) → CarriedStandsFor self.now plan.now (n + 1) ga gb → CarriesRoom plan.now ga n
+            → CarriesRoom plan.now gb n → a.now ≡ dynamic_at ga n → b.now ≡ dynamic_at gb n → result ≡ place_of plan.now n ga gb }
     {
         if !same(a, b) {
             return Some(Place::L1);

@@ -1,8 +1,8 @@
 -- The records of the least number are left behind but for the one whose frame is begun, if one is picked; or no more come.
 use Rattle.std.proofs.Common.{◌≡◌, ℕ, ◌+◌, ◌*◌, ◌<◌, ◌≤◌, ◌==◌, ◌&&◌, Bool, true, false, cond, List, [], ◌∷◌, ◌++◌, length, max}
-use Rattle.std.proofs.Common.{Option, Some, None, refl, ap, ap₂, sym, subst, ◌∙◌, inl, inr, arith, append-nil, eqb-true}
+use Rattle.std.proofs.Common.{Option, Some, None, refl, ap, ap₂, sym, subst, ◌∙◌, arith, append-nil, eqb-true}
 use Rattle.std.specs.Prelude.{option_to_list, nat_le, nat_lt, not, is_some}
-use Rattle.std.proofs.lemmas.Bool.{true≢false, cases_lt, or_parts, and_parts}
+use Rattle.std.proofs.lemmas.Bool.{true≢false, or_parts, and_parts}
 use Rattle.terms.proofs.OptionLemmas.{some_injective}
 use Rattle.plp_config.specs.Capacity.{IsPlan}
 use Rattle.plp_config.specs.Laws.{FieldRange}
@@ -29,18 +29,19 @@ use Rattle.feed_merge.specs.Laws.{PicksGrow}
 use Rattle.feed_merge.specs.Picking.{is_at, is_there, source_at, pick_at}
 use Rattle.feed_merge.specs.Picks.{Picked, pick_of, picks, above_all, frames_of}
 use Rattle.two_feeds.specs.Reading.{is_idle, least_of}
-use Rattle.two_feeds.specs.Skips.{one_if, Takes, IsSameFeed}
-use Rattle.held_feed.specs.StandsFor.{FrameFeedStandsFor, waiting_of, is_whole}
+use Rattle.two_feeds.specs.Skips.{one_if, Takes, SkipsIf}
+use Rattle.held_feed.specs.StandsFor.{waiting_of, is_whole}
 use Rattle.held_feed.specs.StandsFor as feed
 use Rattle.held_feed.specs.declared.feed.FrameFeed.{FrameFeed}
 use Rattle.feed_merge.specs.StandsFor.{MergerStandsFor, has_unit, has_finished, is_fed, bytes_left}
 use Rattle.feed_merge.specs.StandsFor as merger
 use Rattle.feed_merge.specs.declared.merger.Merger.{Merger}
-use Rattle.two_feeds.proofs.LeastLemmas.{above_taken}
+use Rattle.two_feeds.proofs.LeastLemmas.{next_taken, none_comes}
 use Rattle.merge_run.specs.Counted.{counted, added}
 use Rattle.merge_run.specs.Sending.{numbered, frame_by, left_for, BeginsAs, Begins}
-use Rattle.merge_run.specs.Shown.{IsHeld, OfFeed, IsPast, Sends, IsReading, IsLive, IsIn, is_held}
-use Rattle.two_feeds.specs.Fed.{IsFedWith, NoneComes}
+use Rattle.merge_run.specs.Shown.{Sends, IsReading, IsLive, IsIn, is_held}
+use Rattle.two_feeds.specs.Both.{IsHeld, OfFeed, IsPast, AreFedWith}
+use Rattle.two_feeds.specs.Fed.{IsFedWith}
 use Rattle.merge_run.specs.Shown.{feed_of, left_at, more_units, frame_bytes, CountsFrames, Shown}
 use Rattle.merge_run.specs.Steps.{left_in, left_of}
 use Rattle.merge_run.specs.Taking.{is_from, leaves, feed_in}
@@ -52,12 +53,12 @@ use Rattle.merge_run.specs.declared.stop.Ran.{Ran}
 use Rattle.merge_run.proofs.LiveLemmas.{live_taken}
 use Rattle.merge_run.proofs.FeedLemmas.{TookFor, took_of, took_past, there_at, due_held, formed_due}
 use Rattle.merge_run.proofs.BoundLemmas.{few_bodies}
-use Rattle.two_feeds.proofs.NumberLemmas.{above_append, below_of}
+use Rattle.two_feeds.proofs.NumberLemmas.{below_of}
 use Rattle.merge_run.proofs.PickLemmas.{PickIs, pick_first}
 use Rattle.two_feeds.proofs.LeastLemmas.{least_first, least_second, least_most, least_none, some_taken, are_of}
 use Rattle.merge_run.proofs.PickLemmas.{pick_second, pick_none}
 use Rattle.merge_run.proofs.SendLemmas.{frames_append, sends_begun, sends_over, counted_push}
-use Rattle.merge_run.proofs.ShownLemmas.{read_a, read_b, past_a, past_b}
+use Rattle.merge_run.proofs.ShownLemmas.{reading}
 
 pub idle_left : (g : Merger) → has_unit g ≡ false → bytes_left g [] < 184
 idle_left g idle =
@@ -74,21 +75,13 @@ pub record Takings (m : Merging) (a b : FrameFeed) (n : ℕ) (p : Pick) : Type 0
   pub least : least_of (waiting_of m.a) (waiting_of m.b) ≡ Some n
   pub busy_a : is_idle (waiting_of m.a) (feed.has_ended m.a) ≡ false
   pub busy_b : is_idle (waiting_of m.b) (feed.has_ended m.b) ≡ false
-  pub took_a : (bytes : List ℕ) (ended : Bool) (given : List FrameRecord) → FrameFeedStandsFor m.a bytes ended given
-      → Takes (leaves A p.leave_a p.source) m.a a bytes ended given
-  pub took_b : (bytes : List ℕ) (ended : Bool) (given : List FrameRecord) → FrameFeedStandsFor m.b bytes ended given
-      → Takes (leaves B p.leave_b p.source) m.b b bytes ended given
-  pub stays_a : leaves A p.leave_a p.source ≡ false → a ≡ m.a
-  pub stays_b : leaves B p.leave_b p.source ≡ false → b ≡ m.b
-  pub same_a : IsSameFeed m.a a
-  pub same_b : IsSameFeed m.b b
-  pub left_a : feed.left_of a + one_if (leaves A p.leave_a p.source) ≤ feed.left_of m.a
-  pub left_b : feed.left_of b + one_if (leaves B p.leave_b p.source) ≤ feed.left_of m.b
+  pub took_a : SkipsIf (leaves A p.leave_a p.source) m.a a
+  pub took_b : SkipsIf (leaves B p.leave_b p.source) m.b b
 
 -- no more records are left, and fewer if none is picked
 pub no_more_left : (m : Merging) (a b : FrameFeed) (n : ℕ) (p : Pick) → Takings m a b n p
     → feed.left_of a + feed.left_of b ≤ feed.left_of m.a + feed.left_of m.b
-no_more_left m a b n p t = let u = t.left_a in let v = t.left_b in omega (arith, u, v)
+no_more_left m a b n p t = let u = t.took_a.left in let v = t.took_b.left in omega (arith, u, v)
 
 all_leave : (from : Feed) (has : Bool) (source : Option Feed) → source ≡ None → leaves from has source ≡ has
 all_leave from true source none = ap (leaves from true) none
@@ -100,8 +93,8 @@ fewer_left m a b n p t none =
     let some = some_taken (waiting_of m.a) (waiting_of m.b) n t.least in
     let x = ap one_if (all_leave A p.leave_a p.source none) ∙ ap (λ (q : Pick). one_if q.leave_a) t.is in
     let y = ap one_if (all_leave B p.leave_b p.source none) ∙ ap (λ (q : Pick). one_if q.leave_b) t.is in
-    let u = t.left_a in
-    let v = t.left_b in
+    let u = t.took_a.left in
+    let v = t.took_b.left in
     omega (arith, some, x, y, u, v)
 
 -- the source has the frame
@@ -152,11 +145,11 @@ pub waits_now : (m : Merging) (a b : FrameFeed) (n : ℕ) (p : Pick) → Takings
     → Waits (waiting_of (feed_in from a b)) n
 waits_now m a b n p t A own =
     let on = from_source A p.source own in
-    subst (λ (f : FrameFeed). Waits (waiting_of f) n) (sym (t.stays_a (leaves_none A p.leave_a p.source on)))
+    subst (λ (f : FrameFeed). Waits (waiting_of f) n) (sym (t.took_a.stays (leaves_none A p.leave_a p.source on)))
     (waits_in n (waiting_of m.a) (there_first n (waiting_of m.a) (waiting_of m.b) (ap (λ (q : Pick). is_from A q.source) (sym t.is) ∙ on)))
 waits_now m a b n p t B own =
     let on = from_source B p.source own in
-    subst (λ (f : FrameFeed). Waits (waiting_of f) n) (sym (t.stays_b (leaves_none B p.leave_b p.source on)))
+    subst (λ (f : FrameFeed). Waits (waiting_of f) n) (sym (t.took_b.stays (leaves_none B p.leave_b p.source on)))
     (waits_in n (waiting_of m.b) (there_second n (waiting_of m.a) (waiting_of m.b) (ap (λ (q : Pick). is_from B q.source) (sym t.is) ∙ on)))
 
 module _ (follow : DueFollow) (grow : PicksGrow) (c : Config) (m : Merging) (a b : FrameFeed) (events : List Event) (n : ℕ) (p : Pick)
@@ -177,20 +170,20 @@ module _ (follow : DueFollow) (grow : PicksGrow) (c : Config) (m : Merging) (a b
   there_b on = there_second n (waiting_of m.a) (waiting_of m.b) on
 
   stay_a : leaves A leave_a source ≡ false → a ≡ m.a
-  stay_a off = t.stays_a (ap (λ (q : Pick). leaves A q.leave_a q.source) t.is ∙ off)
+  stay_a off = t.took_a.stays (ap (λ (q : Pick). leaves A q.leave_a q.source) t.is ∙ off)
 
   stay_b : leaves B leave_b source ≡ false → b ≡ m.b
-  stay_b off = t.stays_b (ap (λ (q : Pick). leaves B q.leave_b q.source) t.is ∙ off)
+  stay_b off = t.took_b.stays (ap (λ (q : Pick). leaves B q.leave_b q.source) t.is ∙ off)
 
   pub ta : TookFor (is_from A source) leave_a c m.a a (fed 0 events) (has_ended 0 events) s.given_a
-  ta = took_of c A source n m.a a (fed 0 events) (has_ended 0 events) s.given_a there_a t.same_a.network stay_a
+  ta = took_of c A source n m.a a (fed 0 events) (has_ended 0 events) s.given_a there_a t.took_a.same.network stay_a
       (subst (λ (q : Pick). Takes (leaves A q.leave_a q.source) m.a a (fed 0 events) (has_ended 0 events) s.given_a) t.is
-      (t.took_a (fed 0 events) (has_ended 0 events) s.given_a (read_a c m events s reads).stands)) (read_a c m events s reads)
+      (t.took_a.takes (fed 0 events) (has_ended 0 events) s.given_a (reading c m events s reads).of_a.stands)) (reading c m events s reads).of_a
 
   pub tb : TookFor (is_from B source) leave_b c m.b b (fed 1 events) (has_ended 1 events) s.given_b
-  tb = took_of c B source n m.b b (fed 1 events) (has_ended 1 events) s.given_b there_b t.same_b.network stay_b
+  tb = took_of c B source n m.b b (fed 1 events) (has_ended 1 events) s.given_b there_b t.took_b.same.network stay_b
       (subst (λ (q : Pick). Takes (leaves B q.leave_b q.source) m.b b (fed 1 events) (has_ended 1 events) s.given_b) t.is
-      (t.took_b (fed 1 events) (has_ended 1 events) s.given_b (read_b c m events s reads).stands)) (read_b c m events s reads)
+      (t.took_b.takes (fed 1 events) (has_ended 1 events) s.given_b (reading c m events s reads).of_b.stands)) (reading c m events s reads).of_b
 
   abbrev pub xs : List FrameRecord
   xs = ta.records
@@ -210,37 +203,34 @@ module _ (follow : DueFollow) (grow : PicksGrow) (c : Config) (m : Merging) (a b
   off_b : leave_b ≡ false → waiting_of b ≡ waiting_of m.b
   off_b off = ap waiting_of (stay_b (ap (λ (x : Bool). x && not (is_from B source)) off))
 
-  pub behind_a : IsPast (is_from A source) (n + 1) a now_a
+  behind_a : IsPast (is_from A source) (n + 1) a now_a
   behind_a = took_past follow c n (is_from A source) m.a a _ _ s.given_a t.busy_a
-      (least_first (waiting_of m.a) (waiting_of m.b) n t.least) t.same_a.ended (λ on. there_at n (waiting_of m.a) (there_a on)) off_a ta
+      (least_first (waiting_of m.a) (waiting_of m.b) n t.least) t.took_a.same.ended (λ on. there_at n (waiting_of m.a) (there_a on)) off_a ta
 
-  pub behind_b : IsPast (is_from B source) (n + 1) b now_b
+  behind_b : IsPast (is_from B source) (n + 1) b now_b
   behind_b = took_past follow c n (is_from B source) m.b b _ _ s.given_b t.busy_b
-      (least_second (waiting_of m.a) (waiting_of m.b) n t.least) t.same_b.ended (λ on. there_at n (waiting_of m.b) (there_b on)) off_b tb
+      (least_second (waiting_of m.a) (waiting_of m.b) n t.least) t.took_b.same.ended (λ on. there_at n (waiting_of m.b) (there_b on)) off_b tb
 
   pub next_low : m.next ≤ n
-  next_low = least_most (waiting_of m.a) (waiting_of m.b) n m.next t.least (past_a c m events s reads).waits
-      (past_b c m events s reads).waits
+  next_low = least_most (waiting_of m.a) (waiting_of m.b) n m.next t.least (reading c m events s reads).behind_a.waits
+      (reading c m events s reads).behind_b.waits
 
-  pub next_now : n + 1 ≡ max (above_all now_a) (above_all now_b)
-  next_now =
-      let x = above_taken (waiting_of m.a) n xs ta.are in
-      let y = above_taken (waiting_of m.b) n ys tb.are in
-      let few_a = x.0 in
-      let few_b = y.0 in
-      let some = some_taken (waiting_of m.a) (waiting_of m.b) n t.least in
-      let was = s.next_is in
-      let low = next_low in
-      elim (cases_lt 0 (one_if leave_a)) [
-        | inl one ↦ (let e = x.1 (omega (arith, one)) in
-            omega (arith, e, few_b, was, low, above_append s.given_a xs, above_append s.given_b ys))
-        | inr none ↦ (let e = y.1 (omega (arith, none, some)) in
-            omega (arith, e, few_a, was, low, above_append s.given_a xs, above_append s.given_b ys))
-      ]
+  next_now : n + 1 ≡ max (above_all now_a) (above_all now_b)
+  next_now = next_taken (waiting_of m.a) (waiting_of m.b) n m.next s.given_a s.given_b xs ys t.least next_low s.both.next_is ta.are tb.are
+
+  pub both : n < MOST_FRAMES → AreFedWith c events (is_from A source) (is_from B source) (n + 1) a b now_a now_b
+  both early = record {
+    of_a = ta.stands;
+    of_b = tb.stands;
+    behind_a = behind_a;
+    behind_b = behind_b;
+    next_is = next_now;
+    early = omega (arith, early);
+  }
 
   pub grown : picks c now_a now_b ≡ picks c s.given_a s.given_b ++ option_to_list (pick_of c xs ys n)
   grown =
-      let was = s.next_is in
+      let was = s.both.next_is in
       let low = next_low in
       grow c s.given_a s.given_b xs ys n (below_of n s.given_a (omega (arith, was, low))) (below_of n s.given_b (omega (arith, was, low)))
       (are_of (waiting_of m.a) n xs ta.are) (are_of (waiting_of m.b) n ys tb.are)
@@ -251,7 +241,7 @@ module _ (follow : DueFollow) (grow : PicksGrow) (c : Config) (m : Merging) (a b
       subst (IsIn c m (frames_of (picks c s.given_a s.given_b))) reads s.is_in in
       let all = i.complete in
       live_taken c m.a m.b (fed 0 events) (fed 1 events) _ _ s.given_a s.given_b xs ys m.next n (n + 1) m.ran.units
-      (read_a c m events s reads) (read_b c m events s reads) s.next_is
+      (reading c m events s reads).of_a (reading c m events s reads).of_b s.both.next_is
       next_low (omega arith) (are_of (waiting_of m.a) n xs ta.are) (are_of (waiting_of m.b) n ys tb.are) (omega (arith, all))
 
   -- ---- none is picked
@@ -294,7 +284,7 @@ module _ (follow : DueFollow) (grow : PicksGrow) (c : Config) (m : Merging) (a b
         let on = from_source A source here in
         let k : PickIs c n A xs (pick_of c xs ys n) = pick_first c n (waiting_of m.a) (waiting_of m.b) xs ys ta.are tb.are here in
         let same = stay_a (leaves_none A leave_a source on) in
-        let h = subst (λ (f : FrameFeed). IsFedWith c f (fed 0 events) (has_ended 0 events) s.given_a) (sym same) (read_a c m events s reads) in
+        let h = subst (λ (f : FrameFeed). IsFedWith c f (fed 0 events) (has_ended 0 events) s.given_a) (sym same) (reading c m events s reads).of_a in
         let held = subst (λ (x : Bool). OfFeed x c a (fed 0 events) (has_ended 0 events) now_a) on ta.stands in
         let x = frame_begun A a _ _ s.given_a xs _ begins h held k in
         record {
@@ -308,7 +298,7 @@ module _ (follow : DueFollow) (grow : PicksGrow) (c : Config) (m : Merging) (a b
         let on = from_source B source here in
         let k : PickIs c n B ys (pick_of c xs ys n) = pick_second c n (waiting_of m.a) (waiting_of m.b) xs ys ta.are tb.are here in
         let same = stay_b (leaves_none B leave_b source on) in
-        let h = subst (λ (f : FrameFeed). IsFedWith c f (fed 1 events) (has_ended 1 events) s.given_b) (sym same) (read_b c m events s reads) in
+        let h = subst (λ (f : FrameFeed). IsFedWith c f (fed 1 events) (has_ended 1 events) s.given_b) (sym same) (reading c m events s reads).of_b in
         let held = subst (λ (x : Bool). OfFeed x c b (fed 1 events) (has_ended 1 events) now_b) on tb.stands in
         let x = frame_begun B b _ _ s.given_b ys _ begins h held k in
         record {
@@ -333,8 +323,8 @@ begun_few field c g h f n view plan formed config idle b =
 pub network_in : (c : Config) (m : Merging) (a b : FrameFeed) (events : List Event) → m.phase ≡ Reads
     → feed.config_of a ≡ feed.config_of m.a → feed.config_of b ≡ feed.config_of m.b → (s : Shown c events m) → (from : Feed)
     → feed.config_of (feed_in from a b) ≡ merger.config_of m.merger
-network_in c m a b events reads same_a same_b s A = same_a ∙ (read_a c m events s reads).network ∙ sym s.sends.network
-network_in c m a b events reads same_a same_b s B = same_b ∙ (read_b c m events s reads).network ∙ sym s.sends.network
+network_in c m a b events reads same_a same_b s A = same_a ∙ (reading c m events s reads).of_a.network ∙ sym s.sends.network
+network_in c m a b events reads same_a same_b s B = same_b ∙ (reading c m events s reads).of_b.network ∙ sym s.sends.network
 
 -- what is known while records are read
 pub reading_of : (c : Config) (m : Merging) (events : List Event) (s : Shown c events m) → m.phase ≡ Reads
@@ -353,10 +343,7 @@ module _ (follow : DueFollow) (grow : PicksGrow) (field : FieldRange) (c : Confi
     (given_a given_b : List FrameRecord) (source : Option Feed) (s : Shown c events m) (config : new.plan.now ≡ m.plan.now)
     (reads : m.phase ≡ Reads) (next : new.next ≡ n + 1) (early : n < MOST_FRAMES) (low : m.next ≤ n)
     (held_a : is_held new.phase new.source A ≡ is_from A source) (held_b : is_held new.phase new.source B ≡ is_from B source)
-    (of_a : OfFeed (is_from A source) c new.a (fed 0 events) (has_ended 0 events) given_a)
-    (of_b : OfFeed (is_from B source) c new.b (fed 1 events) (has_ended 1 events) given_b)
-    (behind_a : IsPast (is_from A source) (n + 1) new.a given_a) (behind_b : IsPast (is_from B source) (n + 1) new.b given_b)
-    (next_is : n + 1 ≡ max (above_all given_a) (above_all given_b))
+    (both : AreFedWith c events (is_from A source) (is_from B source) (n + 1) new.a new.b given_a given_b)
     (live : IsLive c (fed 0 events) (fed 1 events) given_a given_b (n + 1) m.ran.units) where
   abbrev frames : List NumberedView
   frames = frames_of (picks c s.given_a s.given_b)
@@ -364,8 +351,8 @@ module _ (follow : DueFollow) (grow : PicksGrow) (field : FieldRange) (c : Confi
   abbrev now : List NumberedView
   now = frames_of (picks c given_a given_b)
 
-  reading : IsReading c m.merger frames m.ran.units
-  reading = subst (IsIn c m frames) reads s.is_in
+  i : IsReading c m.merger frames m.ran.units
+  i = subst (IsIn c m frames) reads s.is_in
 
   sending : Sends c m.merger [] frames m.ran.units (gave events)
   sending = reading_sends c m events s reads
@@ -373,19 +360,11 @@ module _ (follow : DueFollow) (grow : PicksGrow) (field : FieldRange) (c : Confi
   was_units : m.ran.units + 184 ≤ m.next * frame_bytes + 184
   was_units = subst (λ (p : Phase). m.ran.units + more_units p m.merger (feed_of m) ≤ m.next * frame_bytes + 184) reads s.counts.units
 
-  first : OfFeed (is_held new.phase new.source A) c new.a (fed 0 events) (has_ended 0 events) given_a
-  first = subst (λ (h : Bool). OfFeed h c new.a (fed 0 events) (has_ended 0 events) given_a) (sym held_a) of_a
-
-  second : OfFeed (is_held new.phase new.source B) c new.b (fed 1 events) (has_ended 1 events) given_b
-  second = subst (λ (h : Bool). OfFeed h c new.b (fed 1 events) (has_ended 1 events) given_b) (sym held_b) of_b
-
-  first_past : IsPast (is_held new.phase new.source A) new.next new.a given_a
-  first_past = subst (λ (h : Bool). IsPast h new.next new.a given_a) (sym held_a)
-      (subst (λ (k : ℕ). IsPast (is_from A source) k new.a given_a) (sym next) behind_a)
-
-  second_past : IsPast (is_held new.phase new.source B) new.next new.b given_b
-  second_past = subst (λ (h : Bool). IsPast h new.next new.b given_b) (sym held_b)
-      (subst (λ (k : ℕ). IsPast (is_from B source) k new.b given_b) (sym next) behind_b)
+  both_now : AreFedWith c events (is_held new.phase new.source A) (is_held new.phase new.source B) new.next new.a new.b given_a given_b
+  both_now =
+      subst (λ (h : Bool). AreFedWith c events h (is_held new.phase new.source B) new.next new.a new.b given_a given_b) (sym held_a)
+      (subst (λ (h : Bool). AreFedWith c events (is_from A source) h new.next new.a new.b given_a given_b) (sym held_b)
+      (subst (λ (k : ℕ). AreFedWith c events (is_from A source) (is_from B source) k new.a new.b given_a given_b) (sym next) both))
 
   -- a frame was begun
   pub shown_begun : (from : Feed) (view : RecordView)
@@ -398,16 +377,11 @@ module _ (follow : DueFollow) (grow : PicksGrow) (field : FieldRange) (c : Confi
     plan = s.plan;
     given_a = given_a;
     given_b = given_b;
-    of_a = first;
-    of_b = second;
-    behind_a = first_past;
-    behind_b = second_past;
-    next_is = next ∙ next_is;
-    early = (let e = next in omega (arith, e, early));
+    both = both_now;
     sends = subst (λ (p : Phase). Sends c new.merger (left_at p new.merger (feed_of new)) now new.ran.units (gave events)) (sym gives)
         (subst (λ (l : List NumberedView). Sends c new.merger (left_for new.merger (feed_of new)) l new.ran.units (gave events)) (sym frames_are)
         (subst (λ (k : ℕ). Sends c new.merger (left_for new.merger (feed_of new)) (frames ++ numbered n view ∷ []) k (gave events)) (sym units)
-        (sends_begun c m.merger new.merger (left_for new.merger (feed_of new)) frames (numbered n view) m.ran.units (gave events) network reading.is_open b sending)));
+        (sends_begun c m.merger new.merger (left_for new.merger (feed_of new)) frames (numbered n view) m.ran.units (gave events) network i.is_open b sending)));
     ran_is = ran_now;
     counts = counts_now;
     live = subst (λ (k : ℕ). IsLive c (fed 0 events) (fed 1 events) given_a given_b k new.ran.units) (sym next)
@@ -448,15 +422,15 @@ module _ (follow : DueFollow) (grow : PicksGrow) (field : FieldRange) (c : Confi
       counts_now =
           let w = s.counts in
           let count = ap (λ (r : Ran). r.frames) ran ∙ added_frames m.ran from in
-          let both = ap (λ (r : Ran). r.a + r.b) ran ∙ added_parts m.ran from in
+          let sum = ap (λ (r : Ran). r.a + r.b) ran ∙ added_parts m.ran from in
           let was_frames = w.frames in
           let was_parts = w.parts in
-          let few = begun_few field c m.merger new.merger (feed_of new) n view s.plan formed s.sends.network reading.idle b in
+          let few = begun_few field c m.merger new.merger (feed_of new) n view s.plan formed s.sends.network i.idle b in
           let same = units in
           let e = next in
           record {
             frames = omega (arith, count, was_frames, e, low);
-            parts = omega (arith, count, both, was_parts);
+            parts = omega (arith, count, sum, was_parts);
             units = subst (λ (p : Phase). new.ran.units + more_units p new.merger (feed_of new)
                 ≤ new.next * frame_bytes + 184) (sym gives) (omega (arith, was_units, few, same, e, low));
           }
@@ -469,12 +443,7 @@ module _ (follow : DueFollow) (grow : PicksGrow) (field : FieldRange) (c : Confi
     plan = s.plan;
     given_a = given_a;
     given_b = given_b;
-    of_a = first;
-    of_b = second;
-    behind_a = first_past;
-    behind_b = second_past;
-    next_is = next ∙ next_is;
-    early = (let e = next in omega (arith, e, early));
+    both = both_now;
     sends = subst (λ (p : Phase). Sends c new.merger (left_at p new.merger (feed_of new)) now new.ran.units (gave events)) (sym still)
         (subst (λ (ps : List Picked). Sends c new.merger [] (frames_of ps) new.ran.units (gave events)) (sym picked)
         (subst (λ (g : Merger). Sends c g [] frames new.ran.units (gave events)) (sym same)
@@ -483,14 +452,14 @@ module _ (follow : DueFollow) (grow : PicksGrow) (field : FieldRange) (c : Confi
     counts = (
         let w = s.counts in
         let count = ap (λ (r : Ran). r.frames) ran in
-        let both = ap (λ (r : Ran). r.a + r.b) ran in
+        let sum = ap (λ (r : Ran). r.a + r.b) ran in
         let units = ap (λ (r : Ran). r.units) ran in
         let was_frames = w.frames in
         let was_parts = w.parts in
         let e = next in
         record {
           frames = omega (arith, count, was_frames, e, low);
-          parts = omega (arith, count, both, was_parts);
+          parts = omega (arith, count, sum, was_parts);
           units = subst (λ (p : Phase). new.ran.units + more_units p new.merger (feed_of new)
               ≤ new.next * frame_bytes + 184) (sym still) (omega (arith, was_units, units, e, low));
         });
@@ -498,7 +467,7 @@ module _ (follow : DueFollow) (grow : PicksGrow) (field : FieldRange) (c : Confi
         (subst (IsLive c (fed 0 events) (fed 1 events) given_a given_b (n + 1)) (ap (λ (r : Ran). r.units) (sym ran)) live);
     is_in = subst (IsIn c new now) (sym still) (subst (λ (ps : List Picked). IsReading c new.merger (frames_of ps) new.ran.units) (sym picked)
         (subst (λ (g : Merger). IsReading c g frames new.ran.units) (sym same)
-        (subst (λ (r : Ran). IsReading c m.merger frames r.units) (sym ran) reading)));
+        (subst (λ (r : Ran). IsReading c m.merger frames r.units) (sym ran) i)));
   }
 
 -- ---- it goes on so often
@@ -526,16 +495,6 @@ left_finished m g records f reads few =
 
 -- ---- no more frames come
 
-none_comes : (o : Option Waiting) (f : FrameFeed) → waiting_of f ≡ None → is_idle (waiting_of f) (feed.has_ended f) ≡ false → NoneComes f
-none_comes o f none busy = record {
-  none = none;
-  ended = over (feed.has_ended f) (subst (λ (o : Option Waiting). is_idle o (feed.has_ended f) ≡ false) none busy);
-}
-  where
-    over : (e : Bool) → is_idle None e ≡ false → e ≡ true
-    over true off = refl
-    over false off = absurd (true≢false off)
-
 pub shown_finished : (c : Config) (m : Merging) (g : Merger) (events : List Event) → Shown c events m → m.phase ≡ Reads
     → least_of (waiting_of m.a) (waiting_of m.b) ≡ None → is_idle (waiting_of m.a) (feed.has_ended m.a) ≡ false
     → is_idle (waiting_of m.b) (feed.has_ended m.b) ≡ false
@@ -555,12 +514,7 @@ shown_finished c m g events s reads least busy_a busy_b stands config over all_f
       plan = s.plan;
       given_a = s.given_a;
       given_b = s.given_b;
-      of_a = read_a c m events s reads;
-      of_b = read_b c m events s reads;
-      behind_a = past_a c m events s reads;
-      behind_b = past_b c m events s reads;
-      next_is = s.next_is;
-      early = s.early;
+      both = reading c m events s reads;
       sends = sends_over c m.merger g [] frames m.ran.units (gave events) config i.is_open
           (stands [] (remade_bodies c frames) m.ran.units sending.stands) sending;
       ran_is = s.ran_is;
@@ -573,8 +527,8 @@ shown_finished c m g events s reads least busy_a busy_b stands config over all_f
       is_in = record {
         over = over;
         all_fed = all_fed;
-        none_a = none_comes None m.a none.0 busy_a;
-        none_b = none_comes None m.b none.1 busy_b;
+        none_a = none_comes m.a none.0 busy_a;
+        none_b = none_comes m.b none.1 busy_b;
       };
     }
 
@@ -596,9 +550,7 @@ module _ (follow : DueFollow) (grow : PicksGrow) (field : FieldRange) (c : Confi
       shown_passed follow grow field c m new events n
       (now_a follow grow c m new.a new.b events n p t s reads) (now_b follow grow c m new.a new.b events n p t s reads) now_from
       s config reads next early (next_low follow grow c m new.a new.b events n p t s reads) (held A) (held B)
-      (ta follow grow c m new.a new.b events n p t s reads).stands (tb follow grow c m new.a new.b events n p t s reads).stands
-      (behind_a follow grow c m new.a new.b events n p t s reads) (behind_b follow grow c m new.a new.b events n p t s reads)
-      (next_now follow grow c m new.a new.b events n p t s reads) (live follow grow c m new.a new.b events n p t s reads)
+      (both follow grow c m new.a new.b events n p t s reads early) (live follow grow c m new.a new.b events n p t s reads)
       (none_picked follow grow c m new.a new.b events n p t s reads none) ran still same
 
   pub begun : FramesAreFormed → (from : Feed) → p.source ≡ Some from → new.ran ≡ added m.ran from → new.phase ≡ Gives
@@ -611,9 +563,7 @@ module _ (follow : DueFollow) (grow : PicksGrow) (field : FieldRange) (c : Confi
       shown_begun follow grow field c m new events n
       (now_a follow grow c m new.a new.b events n p t s reads) (now_b follow grow c m new.a new.b events n p t s reads) now_from
       s config reads next early (next_low follow grow c m new.a new.b events n p t s reads) (held A) (held B)
-      (ta follow grow c m new.a new.b events n p t s reads).stands (tb follow grow c m new.a new.b events n p t s reads).stands
-      (behind_a follow grow c m new.a new.b events n p t s reads) (behind_b follow grow c m new.a new.b events n p t s reads)
-      (next_now follow grow c m new.a new.b events n p t s reads) (live follow grow c m new.a new.b events n p t s reads)
+      (both follow grow c m new.a new.b events n p t s reads early) (live follow grow c m new.a new.b events n p t s reads)
       from f.view f.picked ran gives f.formed
       (subst (λ (k : FrameFeed). Waits (waiting_of k) n) feed_is (waits_now m new.a new.b n p t from own))
       b.config b.finished

@@ -3,7 +3,7 @@ use Rattle.std.proofs.Common.{◌≡◌, ℕ, ◌+◌, ◌≤◌, ◌==◌, ◌&
 use Rattle.std.proofs.Common.{is_some, refl, ap, sym, subst, ◌∙◌, arith, append_assoc}
 use Rattle.std.specs.Prelude.{IsSome}
 use Rattle.std.specs.List.{AllByRecursion}
-use Rattle.std.proofs.lemmas.Bool.{true≢false, eqb-false, eqb-true, and_parts}
+use Rattle.std.proofs.lemmas.Bool.{true≢false, and_parts}
 use Rattle.plp_config.specs.Capacity.{IsPlan}
 use Rattle.plp_config.specs.declared.config.Config.{Config}
 use Rattle.frame_groups.specs.Modulated.{FrameRecord}
@@ -15,17 +15,18 @@ use Rattle.formed_frames.specs.Formed.{IsFormed}
 use Rattle.formed_frames.specs.Laws.{FramesAreFormed, IsFormedRecord}
 use Rattle.feed_merge.specs.declared.seen.Feed.{Feed}
 use Rattle.feed_merge.specs.Picking.{is_at, is_there}
-use Rattle.feed_merge.specs.Picks.{Picked, above_all}
+use Rattle.feed_merge.specs.Picks.{Picked}
 use Rattle.two_feeds.specs.Reading.{is_idle}
-use Rattle.two_feeds.specs.Skips.{AreTaken, IsOnly, Takes}
+use Rattle.two_feeds.specs.Skips.{one_if, AreTaken, IsOnly, Takes}
 use Rattle.held_feed.specs.StandsFor.{IsFirst, waiting_of}
 use Rattle.held_feed.specs.StandsFor as feed
 use Rattle.held_feed.specs.declared.feed.FrameFeed.{FrameFeed}
-use Rattle.merge_run.specs.Shown.{IsHeld, OfFeed, IsPast}
+use Rattle.two_feeds.specs.Both.{IsHeld, OfFeed, IsPast}
 use Rattle.two_feeds.specs.Fed.{IsFedWith}
 use Rattle.merge_run.specs.Taking.{is_from, leaves}
 use Rattle.two_feeds.specs.Seen.{seen_of}
-use Rattle.two_feeds.proofs.FeedLemmas.{due_of, waits_above, idle_none, one_of}
+use Rattle.two_feeds.proofs.FeedLemmas.{due_of, took_behind, one_of}
+use Rattle.two_feeds.proofs.LeastLemmas.{above_taken}
 use Rattle.two_feeds.proofs.NumberLemmas.{above_append}
 use Rattle.merge_run.proofs.PickLemmas.{PickIs}
 
@@ -109,42 +110,16 @@ pub took_past : DueFollow → (c : Config) (n : ℕ) (held : Bool) (f g : FrameF
     → (t : TookFor held (is_at n (seen_of (waiting_of f))) c f g bytes ended given)
     → IsPast held (n + 1) g (given ++ t.records)
 took_past follow c n held f g bytes ended given busy least end here stays t =
-    go held (is_at n (seen_of (waiting_of f))) refl refl t.are t.stands
+    go held here t.stands
   where
-    high : (at : Bool) → is_at n (seen_of (waiting_of f)) ≡ at → at ≡ true → AreTaken at (waiting_of f) t.records
-        → n + 1 ≤ above_all (given ++ t.records)
-    high true same on are =
-        let number : are.one.number ≡ n = taken_number (waiting_of f) are.one same are.first in
-        let size = ap above_all are.only in
-        omega (arith, above_append given t.records, size, number)
-      where
-        taken_number : (o : Option Waiting) (x : FrameRecord) → is_at n (seen_of o) ≡ true → IsFirst o (x ∷ []) → x.number ≡ n
-        taken_number None x e first = absurd (true≢false (sym e))
-        taken_number (Some w) x e first = first.0 ∙ eqb-true w.frame n e
-    high false same on are = absurd (true≢false (sym on))
-
-    go : (k at : Bool) → held ≡ k → is_at n (seen_of (waiting_of f)) ≡ at → AreTaken at (waiting_of f) t.records
-        → OfFeed k c g bytes ended (given ++ t.records) → IsPast k (n + 1) g (given ++ t.records)
-    go true at on same are h = high at same (sym same ∙ here on) are
-    go false true off same are h =
-        let up = high true same refl are in
-        record {
-          waits = λ w is. let l = waits_above follow c g bytes ended (given ++ t.records) h w is in omega (arith, l, up);
-          idle = λ _ _. up;
-        }
-    go false false off differ are h = record {
-      waits = λ w is. above w (sym (stays differ) ∙ is) (least w (sym (stays differ) ∙ is));
-      idle = λ none going.
-          let over = idle_none (feed.has_ended f) (subst (λ (o : Option Waiting). is_idle o (feed.has_ended f) ≡ false)
-          (sym (stays differ) ∙ none) busy) in
-          absurd (true≢false (sym over ∙ sym end ∙ going));
-    }
-      where
-        above : (w : Waiting) → waiting_of f ≡ Some w → n ≤ w.frame → n + 1 ≤ w.frame
-        above w is low =
-            let off : (w.frame == n) ≡ false = sym (ap (λ (o : Option Waiting). is_at n (seen_of o)) is) ∙ differ in
-            let apart = eqb-false w.frame n off in
-            omega (arith, low, apart)
+    go : (k : Bool) → (k ≡ true → is_at n (seen_of (waiting_of f)) ≡ true) → OfFeed k c g bytes ended (given ++ t.records)
+        → IsPast k (n + 1) g (given ++ t.records)
+    go true on h =
+        let taken = (above_taken (waiting_of f) n t.records t.are).1 (let e = ap one_if (on refl) in omega (arith, e)) in
+        omega (arith, taken, above_append given t.records)
+    go false on h =
+        took_behind follow c n f g bytes ended given busy least end stays
+        (record { records = t.records; are = t.are; stands = h.stands }) h
 
 -- ---- the record of a frame that is picked
 

@@ -1,28 +1,25 @@
 -- What is known of two files by what was fed of them.
-use Rattle.std.proofs.Common.{◌≡◌, ◌≢◌, ◌⊎◌, ℕ, ◌+◌, ◌-◌, ◌<◌, ◌≤◌, ◌==◌, Bool, true, false, List, [], ◌∷◌, ◌++◌}
-use Rattle.std.proofs.Common.{length, take, Option, Some, None, refl, ap, ap₂, sym, subst, ◌∙◌, inl, inr, arith, append-nil, append_assoc}
-use Rattle.std.proofs.Common.{eqb-true}
-use Rattle.std.specs.Prelude.{slice_index}
-use Rattle.std.proofs.lemmas.Bool.{true≢false, eqb-false}
+use Rattle.std.proofs.Common.{◌≡◌, ℕ, ◌+◌, ◌-◌, ◌<◌, ◌≤◌, ◌==◌, Bool, true, false, List, [], ◌++◌}
+use Rattle.std.proofs.Common.{length, refl, ap, ap₂, sym, subst, ◌∙◌, inl, inr, arith, append-nil, append_assoc}
+use Rattle.std.proofs.lemmas.Bool.{true≢false}
 use Rattle.terms.proofs.CaseLemmas.{bool_cases}
 use Rattle.ts_packet.proofs.JoinedLemmas.{joined_append}
 use Rattle.plp_config.specs.declared.config.Config.{Config}
 use Rattle.plp_config.specs.declared.moment.TheConstants.{MOST_FRAMES}
 use Rattle.ts_packet.specs.TsFile.{joined}
 use Rattle.frame_groups.specs.Modulated.{FrameRecord}
-use Rattle.frame_groups.specs.declared.waiting.Waiting.{Waiting}
 use Rattle.modulator.specs.Laws.{DueFront, DueFollow}
-use Rattle.modulator.specs.StandsFor.{records_due, records_of}
+use Rattle.modulator.specs.StandsFor.{records_of}
 use Rattle.t2mi_stream.specs.Complete.{complete_units}
 use Rattle.t2mi_stream.specs.CompleteLaws.{CompleteLaw}
 use Rattle.t2mi_stream.specs.Pipe.{pipe, units_in}
 use Rattle.formed_frames.specs.Remade.{NumberedView, remade_packets}
-use Rattle.feed_merge.specs.Picks.{Picked, picks, picks_below, above_all, frames_of}
+use Rattle.feed_merge.specs.Picks.{Picked, picks, picks_below, frames_of}
 use Rattle.feed_merge.specs.StandsFor.{has_finished}
-use Rattle.held_feed.specs.StandsFor.{IsFirst, waiting_of}
+use Rattle.held_feed.specs.StandsFor.{waiting_of}
 use Rattle.held_feed.specs.StandsFor as feed
-use Rattle.file_run.specs.Events.{Event, fed, has_ended, gave}
-use Rattle.file_run.specs.FileRun.{AreFed, IsFed}
+use Rattle.file_run.specs.Events.{Event, fed, gave}
+use Rattle.file_run.specs.FileRun.{AreFed}
 use Rattle.file_run.specs.Work.{AreWithin}
 use Rattle.merge_run.specs.Counted.{counted}
 use Rattle.merge_run.specs.MergeRun.{complete_by, picked_below, picked_of, packets_of, units_of, MergesAll}
@@ -30,25 +27,20 @@ use Rattle.merge_run.specs.MergeRun.{HasNone, AreCompleteBelow, HasLate, HasWrit
 use Rattle.merge_run.specs.MergeRun.{HasRead}
 use Rattle.merge_run.specs.Steps.{reach_of}
 use Rattle.feed_merge.specs.declared.seen.Feed.TheVariants.{A, B}
-use Rattle.merge_run.specs.Shown.{Shown, IsPast, IsDueBelow, IsReading, IsDone, IsIn, is_held}
-use Rattle.two_feeds.specs.Reading.{is_idle, fed_at}
-use Rattle.two_feeds.specs.Reading.{least_of}
+use Rattle.two_feeds.specs.Both.{IsPast}
+use Rattle.merge_run.specs.Shown.{Shown, IsReading, IsDone, IsIn, is_held}
 use Rattle.merge_run.specs.declared.merging.Merging.{Merging}
 use Rattle.merge_run.specs.declared.phase.Phase.{Phase}
 use Rattle.merge_run.specs.declared.phase.Phase.TheVariants as phase
 use Rattle.two_feeds.specs.Fed.{AreEarly, end_by, ReadsAhead, IsBehind, NoneComes}
-use Rattle.two_feeds.proofs.FeedLemmas.{ends_at}
-use Rattle.two_feeds.proofs.FilesLemmas.{two}
-use Rattle.two_feeds.proofs.LeastLemmas.{least_first, least_second}
-use Rattle.two_feeds.proofs.NumberLemmas.{below_of, nothing_above}
-use Rattle.two_feeds.proofs.SplitLemmas.{IsSplit, late_waits}
-use Rattle.two_feeds.proofs.StepLemmas.{Wants, First, Second, IsLate}
+use Rattle.two_feeds.proofs.BothLemmas.{none_given, split_a, split_b, ends_before, reads_ahead, all_a, all_b, early_all, none_all, some_all}
+use Rattle.two_feeds.proofs.BothLemmas.{ends_next, late_a, late_b, late_is}
+use Rattle.two_feeds.proofs.NumberLemmas.{below_of}
+use Rattle.two_feeds.proofs.StepLemmas.{Wants, IsLate}
 use Rattle.merge_run.proofs.SendLemmas.{frames_append, packets_more, gave_complete, given_front, gave_all}
 use Rattle.merge_run.proofs.SplitLemmas.{picks_front, below_split, picks_split, picks_nothing}
-use Rattle.merge_run.proofs.HeldLemmas.{all_of, split_of, count_of}
-use Rattle.merge_run.proofs.ShownLemmas.{read_a, read_b, past_a, past_b}
+use Rattle.merge_run.proofs.ShownLemmas.{reading}
 use Rattle.frame_groups.specs.Laws.{IsPrefix}
-use Rattle.std.proofs.lemmas.List.{take-append-le}
 use Rattle.feed_merge.proofs.GrowLemmas.{all_below}
 use Rattle.t2mi_stream.proofs.CompleteLemmas.{shorter_front}
 
@@ -69,38 +61,20 @@ module _ (front : DueFront) (follow : DueFollow) (law : CompleteLaw) (c : Config
   abbrev frames : List NumberedView
   frames = frames_of (picks c ga gb)
 
-  fed_a : IsFed (files 0) (slice_index places 0) (fed 0 events) (has_ended 0 events)
-  fed_a = are 0 (omega arith)
-
-  fed_b : IsFed (files 1) (slice_index places 1) (fed 1 events) (has_ended 1 events)
-  fed_b = are 1 (omega arith)
-
-  above_a : above_all ga ≤ m.next
-  above_a = let n = s.next_is in omega (arith, n)
-
-  above_b : above_all gb ≤ m.next
-  above_b = let n = s.next_is in omega (arith, n)
-
   abbrev held_a : Bool
   held_a = is_held m.phase m.source A
 
   abbrev held_b : Bool
   held_b = is_held m.phase m.source B
 
-  split_a : (n : ℕ) → IsPast held_a n m.a ga → IsSplit c (files 0) ga n
-  split_a n b = split_of front follow c m.a (files 0) _ _ _ ga fed_a held_a n s.of_a b
-
-  split_b : (n : ℕ) → IsPast held_b n m.b gb → IsSplit c (files 1) gb n
-  split_b n b = split_of front follow c m.b (files 1) _ _ _ gb fed_b held_b n s.of_b b
-
   -- the frames that were picked are those below a number that is behind both
   picked_is : (n : ℕ) → m.next ≤ n → IsPast held_a n m.a ga → IsPast held_b n m.b gb → picked_below c files n ≡ picks c ga gb
   picked_is n le x y =
-      let p = split_a n x in
-      let q = split_b n y in
+      let p = split_a front follow c events held_a held_b m.next m.a m.b ga gb s.both files places are n x in
+      let q = split_b front follow c events held_a held_b m.next m.a m.b ga gb s.both files places are n y in
+      let is = s.both.next_is in
       ap₂ (λ (ra rb : List FrameRecord). picks_below c ra rb n) p.all q.all
-      ∙ picks_split c ga p.after gb q.after n (let a = above_a in omega (arith, a, le)) (let b = above_b in omega (arith, b, le))
-      p.from q.from
+      ∙ picks_split c ga p.after gb q.after n (omega (arith, is, le)) (omega (arith, is, le)) p.from q.from
 
   -- so the complete units of these were given
   complete_below : (n : ℕ) → m.next ≤ n → IsBehind n m.a ga → IsBehind n m.b gb → m.phase ≡ phase.Reads
@@ -117,64 +91,41 @@ module _ (front : DueFront) (follow : DueFollow) (law : CompleteLaw) (c : Config
   none_in : m.phase ≡ phase.Done → IsDone c frames m.ran.units m.a m.b
   none_in done = subst (IsIn c m frames) done s.is_in
 
-  all_a : NoneComes m.a → records_of c (files 0) ≡ ga
-  all_a none = all_of front follow c m.a (files 0) _ _ _ ga fed_a held_a s.of_a none
+  all_is : NoneComes m.a → NoneComes m.b → (records_of c (files 0) ≡ ga) × (records_of c (files 1) ≡ gb)
+  all_is none_a none_b = (
+    all_a front follow c events held_a held_b m.next m.a m.b ga gb s.both files places are none_a none_b,
+    all_b front follow c events held_a held_b m.next m.a m.b ga gb s.both files places are none_a none_b,
+  )
 
-  all_b : NoneComes m.b → records_of c (files 1) ≡ gb
-  all_b none = all_of front follow c m.b (files 1) _ _ _ gb fed_b held_b s.of_b none
-
-  early_all : NoneComes m.a → NoneComes m.b → (input : ℕ) → input < 2 → AreEarly (records_of c (files input))
-  early_all none_a none_b =
-      let e = s.early in
-      let x = above_a in
-      let y = above_b in
-      two (λ (input : ℕ). AreEarly (records_of c (files input)))
-      (subst AreEarly (sym (all_a none_a)) (below_of MOST_FRAMES ga (omega (arith, x, e))))
-      (subst AreEarly (sym (all_b none_b)) (below_of MOST_FRAMES gb (omega (arith, y, e))))
+  early : NoneComes m.a → NoneComes m.b → (input : ℕ) → input < 2 → AreEarly (records_of c (files input))
+  early = early_all front follow c events held_a held_b m.next m.a m.b ga gb s.both files places are
 
   units_all : NoneComes m.a → NoneComes m.b → units_of c files ≡ pipe c.pid (remade_packets c frames)
-  units_all none_a none_b = ap₂ (λ (ra rb : List FrameRecord). pipe c.pid (packets_of c (picks c ra rb))) (all_a none_a) (all_b none_b)
+  units_all none_a none_b =
+      let all = all_is none_a none_b in
+      ap₂ (λ (ra rb : List FrameRecord). pipe c.pid (packets_of c (picks c ra rb))) all.0 all.1
 
   pub merges_all : m.phase ≡ phase.Done → (m.next == 0) ≡ false → MergesAll c files m.ran (gave events)
   merges_all done some =
       let i = none_in done in
-      let a = all_a i.none_a in
-      let b = all_b i.none_b in
-      let picked : picked_of c files ≡ picks c ga gb = ap₂ (λ (ra rb : List FrameRecord). picks c ra rb) a b in
+      let all = all_is i.none_a i.none_b in
+      let picked : picked_of c files ≡ picks c ga gb = ap₂ (λ (ra rb : List FrameRecord). picks c ra rb) all.0 all.1 in
       let units = units_all i.none_a i.none_b in
       record {
-        some = there;
-        early = early_all i.none_a i.none_b;
+        some = some_all front follow c events held_a held_b m.next m.a m.b ga gb s.both files places are i.none_a i.none_b some;
+        early = early i.none_a i.none_b;
         output = gave_all c m.merger _ frames m.ran.units (gave events) i.all s.sends ∙ ap joined (sym units);
         ran_is = s.ran_is ∙ ap₂ counted (sym picked) (sym i.all ∙ ap length (sym units));
       }
-    where
-      there : (records_of c (files 0) ≢ []) ⊎ (records_of c (files 1) ≢ [])
-      there = go ga gb refl refl
-        where
-          differ : m.next ≢ 0
-          differ = eqb-false m.next 0 some
-
-          go : (xs ys : List FrameRecord) → ga ≡ xs → gb ≡ ys → (records_of c (files 0) ≢ []) ⊎ (records_of c (files 1) ≢ [])
-          go [] [] x y =
-              let n = s.next_is in
-              let p = ap above_all x in
-              let q = ap above_all y in
-              absurd (differ (omega (arith, n, p, q)))
-          go [] (y ∷ ys) x is = inr (λ none. absurd (let e = ap length (sym (all_b (none_in done).none_b ∙ is) ∙ none) in omega (arith, e)))
-          go (x ∷ xs) ys is y = inl (λ none. absurd (let e = ap length (sym (all_a (none_in done).none_a ∙ is) ∙ none) in omega (arith, e)))
 
   pub has_none : m.phase ≡ phase.Done → (m.next == 0) ≡ true → HasNone c files (gave events)
   has_none done first =
       let i = none_in done in
-      let n = s.next_is in
-      let z = eqb-true m.next 0 first in
-      let a : ga ≡ [] = nothing_above ga (omega (arith, n, z)) in
-      let b : gb ≡ [] = nothing_above gb (omega (arith, n, z)) in
+      let given = none_given c events held_a held_b m.next m.a m.b ga gb s.both first in
       let none : picks c ga gb ≡ [] =
-      ap₂ (λ (ra rb : List FrameRecord). picks c ra rb) a b ∙ picks_nothing c in
+      ap₂ (λ (ra rb : List FrameRecord). picks c ra rb) given.0 given.1 ∙ picks_nothing c in
       record {
-        none = two (λ (input : ℕ). records_of c (files input) ≡ []) (all_a i.none_a ∙ a) (all_b i.none_b ∙ b);
+        none = none_all front follow c events held_a held_b m.next m.a m.b ga gb s.both files places are i.none_a i.none_b first;
         empty = gave_all c m.merger _ frames m.ran.units (gave events) i.all s.sends
             ∙ ap (λ (ps : List Picked). joined (pipe c.pid (packets_of c ps))) none ∙ nothing_sent c;
       }
@@ -183,58 +134,22 @@ module _ (front : DueFront) (follow : DueFollow) (law : CompleteLaw) (c : Config
 
   pub has_late : m.phase ≡ phase.Reads → IsLate (waiting_of m.a) (feed.has_ended m.a) (waiting_of m.b) (feed.has_ended m.b)
       → HasLate c files (gave events)
-  has_late reads l = record {
-    late = go (waiting_of m.a) (waiting_of m.b) refl refl;
-    is = complete_below MOST_FRAMES s.early behind_a behind_b reads;
-  }
-    where
-      low_a : (w : Waiting) → waiting_of m.a ≡ Some w → MOST_FRAMES ≤ w.frame
-      low_a w is = let x = least_first (waiting_of m.a) (waiting_of m.b) l.least l.is w is in let y = l.late in omega (arith, x, y)
-
-      low_b : (w : Waiting) → waiting_of m.b ≡ Some w → MOST_FRAMES ≤ w.frame
-      low_b w is = let x = least_second (waiting_of m.a) (waiting_of m.b) l.least l.is w is in let y = l.late in omega (arith, x, y)
-
-      behind_a : IsBehind MOST_FRAMES m.a ga
-      behind_a = record {
-        waits = low_a;
-        idle = λ none going.
-            let i : is_idle (waiting_of m.a) (feed.has_ended m.a) ≡ true = ap₂ is_idle none going in absurd (true≢false (sym i ∙ l.first));
+  has_late reads l =
+      let r = reading c m events s reads in
+      record {
+        late = late_is front follow c events m.next m.a m.b ga gb r files places are l;
+        is = complete_below MOST_FRAMES s.both.early (late_a front follow c events m.next m.a m.b ga gb r files places are l)
+            (late_b front follow c events m.next m.a m.b ga gb r files places are l) reads;
       }
-
-      behind_b : IsBehind MOST_FRAMES m.b gb
-      behind_b = record {
-        waits = low_b;
-        idle = λ none going.
-            let i : is_idle (waiting_of m.b) (feed.has_ended m.b) ≡ true = ap₂ is_idle none going in absurd (true≢false (sym i ∙ l.second));
-      }
-
-      go : (v w : Option Waiting) → waiting_of m.a ≡ v → waiting_of m.b ≡ w
-          → (¬ (AreEarly (records_of c (files 0)))) ⊎ (¬ (AreEarly (records_of c (files 1))))
-      go (Some v) w x y = inl (late_waits front follow c m.a (files 0) _ _ _ ga fed_a (read_a c m events s reads) v x (low_a v x))
-      go None (Some w) x y = inr (late_waits front follow c m.b (files 1) _ _ _ gb fed_b (read_b c m events s reads) w y (low_b w y))
-      go None None x y =
-          absurd (let z : None ≡ Some l.least = sym (ap₂ least_of x y) ∙ l.is in cc)
 
   -- ---- an input is wanted
-
-  -- the records that are due by what was taken of the input that is wanted are those up to the next number
-  pub ends_next : (input taken : ℕ) → Wants (waiting_of m.a) (feed.has_ended m.a) (waiting_of m.b) (feed.has_ended m.b) input
-      → m.phase ≡ phase.Reads → taken ≡ length (fed input events) → end_by c (files input) taken ≡ m.next
-  ends_next input taken wants reads is = ap (end_by c (files input)) is ∙ end input wants
-    where
-      end : (input : ℕ) → Wants (waiting_of m.a) (feed.has_ended m.a) (waiting_of m.b) (feed.has_ended m.b) input
-          → end_by c (files input) (length (fed input events)) ≡ m.next
-      end input (First at idle) = subst (λ (i : ℕ). end_by c (files i) (length (fed i events)) ≡ m.next) at
-          (ends_at c m.next (files 0) _ m.a _ _ ga fed_a (read_a c m events s reads) (past_a c m events s reads) above_a idle.none idle.going)
-      end input (Second at idle) = subst (λ (i : ℕ). end_by c (files i) (length (fed i events)) ≡ m.next) at
-          (ends_at c m.next (files 1) _ m.b _ _ gb fed_b (read_b c m events s reads) (past_b c m events s reads) above_b idle.none idle.going)
 
   has_written : (input taken : ℕ) → m.phase ≡ phase.Reads → end_by c (files input) taken ≡ m.next
       → HasWritten c input taken files (gave events)
   has_written input taken reads same = record {
-    early = (let e = s.early in omega (arith, same, e));
+    early = (let e = s.both.early in omega (arith, same, e));
     is = subst (λ (n : ℕ). AreCompleteBelow c files n (gave events)) (sym same)
-        (complete_below m.next (omega arith) (past_a c m events s reads) (past_b c m events s reads) reads);
+        (let r = reading c m events s reads in complete_below m.next (omega arith) r.behind_a r.behind_b reads);
   }
 
   -- ---- some were given
@@ -260,16 +175,16 @@ module _ (front : DueFront) (follow : DueFollow) (law : CompleteLaw) (c : Config
           let p = s.sends.front [] (λ _. refl) in
           let all : s.sends.units ++ p.0 ≡ units_of c files =
           sym p.1 ∙ ap (pipe c.pid) (append-nil (remade_packets c frames)) ∙ sym (units_all n.0 n.1) in
-          (joined p.0, inl (early_all n.0 n.1, gave_more p.0 ∙ ap joined all))
+          (joined p.0, inl (early n.0 n.1, gave_more p.0 ∙ ap joined all))
 
       going : has_finished m.merger ≡ false → (rest : List ℕ) × MayWrite c files (gave events ++ rest)
       going off =
-          let e = s.early in
+          let e = s.both.early in
           let sum : m.next + (MOST_FRAMES - m.next) ≡ MOST_FRAMES = omega (arith, e) in
           let more = picks_front c (records_of c (files 0)) (records_of c (files 1)) m.next (MOST_FRAMES - m.next) in
           let picked : picked_below c files MOST_FRAMES ≡ picks c ga gb ++ more.0 =
           ap (picked_below c files) (sym sum) ∙ more.1
-          ∙ ap (λ (l : List Picked). l ++ more.0) (picked_is m.next (omega arith) s.behind_a s.behind_b) in
+          ∙ ap (λ (l : List Picked). l ++ more.0) (picked_is m.next (omega arith) s.both.behind_a s.both.behind_b) in
           let q = packets_more c frames (frames_of more.0) in
           let packets : packets_of c (picked_below c files MOST_FRAMES) ≡ remade_packets c frames ++ q.0 =
           ap (packets_of c) picked ∙ ap (remade_packets c) (frames_append (picks c ga gb) more.0) ∙ q.1 in
@@ -289,8 +204,8 @@ module _ (front : DueFront) (follow : DueFollow) (law : CompleteLaw) (c : Config
   -- the frames below a number are those of the records that were given
   picked_low : picked_below c files s.live.low ≡ picks_below c ga gb s.live.low
   picked_low =
-      let p = split_a m.next s.behind_a in
-      let q = split_b m.next s.behind_b in
+      let p = split_a front follow c events held_a held_b m.next m.a m.b ga gb s.both files places are m.next s.both.behind_a in
+      let q = split_b front follow c events held_a held_b m.next m.a m.b ga gb s.both files places are m.next s.both.behind_b in
       ap₂ (λ (ra rb : List FrameRecord). picks_below c ra rb s.live.low) p.all q.all
       ∙ below_split c ga p.after gb q.after m.next s.live.low s.live.within p.from q.from
 
@@ -300,7 +215,8 @@ module _ (front : DueFront) (follow : DueFollow) (law : CompleteLaw) (c : Config
   given_since end le =
       let low : ℕ = s.live.low in
       let within = s.live.within in
-      let early = s.early in
+      let few_frames = s.both.early in
+      let next_is = s.both.next_is in
       let sum : end + (low - end) ≡ low = omega (arith, le) in
       let u = picks_front c (records_of c (files 0)) (records_of c (files 1)) end (low - end) in
       let low_is : picks_below c ga gb low ≡ picked_below c files end ++ u.0 =
@@ -308,7 +224,7 @@ module _ (front : DueFront) (follow : DueFollow) (law : CompleteLaw) (c : Config
       let top : low + (m.next - low) ≡ m.next = omega (arith, within) in
       let v = picks_front c ga gb low (m.next - low) in
       let all_is : picks c ga gb ≡ picks_below c ga gb low ++ v.0 =
-      all_below c ga gb m.next (below_of m.next ga above_a) (below_of m.next gb above_b)
+      all_below c ga gb m.next (below_of m.next ga (omega (arith, next_is))) (below_of m.next gb (omega (arith, next_is)))
       ∙ ap (picks_below c ga gb) (sym top) ∙ v.1 in
       let few : List (List ℕ) = packets_of c (picked_below c files end) in
       let more = packets_more c (frames_of (picked_below c files end)) (frames_of u.0) in
@@ -323,49 +239,33 @@ module _ (front : DueFront) (follow : DueFollow) (law : CompleteLaw) (c : Config
       let done = subst (λ (l : List (List ℕ)). length (complete_units c.pid l) ≤ m.ran.units) low_packets s.live.done in
       let f = given_front law c.pid few more.0 rest.0 s.sends.units p.0 (omega (arith, done, count))
       (ap (pipe c.pid) (sym packets ∙ sym (append-nil (remade_packets c frames))) ∙ p.1) in (
-        omega (arith, le, within, early),
+        omega (arith, le, within, few_frames),
         (joined f.0, s.sends.gave_is ∙ ap joined f.1 ∙ joined_append (complete_units c.pid few) f.0),
       )
 
-  -- which is behind the records that are due by fewer bytes than were fed
-  ends_before : (input taken : ℕ) → input < 2 → taken < length (fed input events) → end_by c (files input) taken ≤ s.live.low
-  ends_before input taken lt = two (λ (input : ℕ). taken < length (fed input events) → end_by c (files input) taken ≤ s.live.low)
-      (λ less. by (files 0) _ _ _ fed_a s.live.due_a less) (λ less. by (files 1) _ _ _ fed_b s.live.due_b less) input lt
-    where
-      by : (file : List ℕ) (place : ℕ) (bytes : List ℕ) (ended : Bool) → IsFed file place bytes ended → IsDueBelow c s.live.low bytes
-          → taken < length bytes → above_all (records_due c false (take taken file)) ≤ s.live.low
-      by file place bytes ended f due less =
-          let same = ap (λ (l : List ℕ). above_all (records_due c false l))
-          (ap (take taken) f.parts ∙ take-append-le taken bytes f.more (omega (arith, less))) in
-          let d = due taken less in
-          omega (arith, same, d)
-
-  -- so all complete units were given that follow of them
+  -- so all complete units were given that follow of fewer bytes than were fed
   pub since : (input taken : ℕ) → input < 2 → taken < length (fed input events)
       → (end_by c (files input) taken ≤ MOST_FRAMES) × IsPrefix (complete_by c files input taken) (gave events)
-  since input taken lt less = given_since (end_by c (files input) taken) (ends_before input taken lt less)
-
-  pub fed_count : (input : ℕ) → input < 2 → fed_at (feed.fed_of m.a) (feed.fed_of m.b) input ≡ length (fed input events)
-  fed_count input lt = two (λ (input : ℕ). fed_at (feed.fed_of m.a) (feed.fed_of m.b) input ≡ length (fed input events))
-      (count_of c m.a (fed 0 events) (has_ended 0 events) ga held_a s.of_a) (count_of c m.b (fed 1 events) (has_ended 1 events) gb held_b s.of_b)
-      input lt
+  since input taken lt less =
+      given_since (end_by c (files input) taken)
+      (ends_before front follow c events held_a held_b m.next m.a m.b ga gb s.both files places are s.live.low s.live.due_a s.live.due_b
+      input taken lt less)
 
   -- no input was read further than by what is read ahead
-  pub reads_ahead : (n : ℕ) → m.next ≤ n → AreWithin 2 places (reach_of m) → ReadsAhead c n files places
-  reads_ahead n le near input taken lt less =
-      let within = near input lt in
-      let count = fed_count input lt in
-      let d = ends_before input taken lt (omega (arith, less, within, count)) in
+  pub ahead : (n : ℕ) → m.next ≤ n → AreWithin 2 places (reach_of m) → ReadsAhead c n files places
+  ahead n le near =
       let low = s.live.within in
-      omega (arith, d, low, le)
+      reads_ahead front follow c events held_a held_b m.next m.a m.b ga gb s.both files places are s.live.low n s.live.due_a s.live.due_b
+      (omega (arith, low, le)) near
 
   -- so it is when an input is to be read on
   pub has_read : (input taken : ℕ) → Wants (waiting_of m.a) (feed.has_ended m.a) (waiting_of m.b) (feed.has_ended m.b) input
       → m.phase ≡ phase.Reads → taken ≡ length (fed input events) → AreWithin 2 places (reach_of m)
       → HasRead c input taken files places (gave events)
   has_read input taken wants reads is near =
-      let same = ends_next input taken wants reads is in
+      let same = ap (end_by c (files input)) is
+      ∙ ends_next front follow c events m.next m.a m.b ga gb (reading c m events s reads) files places are input wants in
       record {
         written = has_written input taken reads same;
-        ahead = reads_ahead (end_by c (files input) taken) (omega (arith, same)) near;
+        ahead = ahead (end_by c (files input) taken) (omega (arith, same)) near;
       }

@@ -1,5 +1,5 @@
 -- Units are given, one by one.
-use Rattle.std.proofs.Common.{◌≡◌, ℕ, ◌+◌, ◌*◌, ◌^◌, ◌<◌, ◌≤◌, Bool, true, false, List, [], ◌∷◌, ◌++◌, length, Some}
+use Rattle.std.proofs.Common.{◌≡◌, ℕ, ◌+◌, ◌*◌, ◌^◌, ◌<◌, ◌≤◌, true, false, List, [], ◌∷◌, ◌++◌, length, Some}
 use Rattle.std.proofs.Common.{refl, ap, sym, subst, ◌∙◌, arith, append-nil}
 use Rattle.std.specs.Prelude.{slice_get}
 use Rattle.std.proofs.lemmas.Bool.{true≢false}
@@ -9,7 +9,6 @@ use Rattle.frame_groups.specs.declared.waiting.Waiting.{Waiting}
 use Rattle.t2mi_packet.specs.declared.packet.Body.{Body}
 use Rattle.t2mi_stream.specs.Complete.{complete_units}
 use Rattle.t2mi_stream.specs.Pipe.{pipe}
-use Rattle.frame_groups.specs.Modulated.{FrameRecord}
 use Rattle.frame_writer.specs.FramePackets.{packets_from}
 use Rattle.modulator.specs.Laws.{DueFollow}
 use Rattle.formed_frames.specs.Remade.{NumberedView, remade_bodies, remade_packets}
@@ -20,15 +19,16 @@ use Rattle.feed_merge.specs.declared.seen.Feed.{Feed}
 use Rattle.feed_merge.specs.declared.seen.Feed.TheVariants.{A, B}
 use Rattle.pool_frame.specs.declared.frame.PoolFrame.{PoolFrame}
 use Rattle.held_feed.specs.Frames.{IsFrameOf}
-use Rattle.two_feeds.specs.Skips.{one_if, Takes, IsSameFeed}
-use Rattle.held_feed.specs.StandsFor.{FrameFeedStandsFor, waiting_of, is_whole}
+use Rattle.two_feeds.specs.Skips.{one_if, SkipsIf}
+use Rattle.held_feed.specs.StandsFor.{waiting_of, is_whole}
 use Rattle.held_feed.specs.StandsFor as feed
 use Rattle.held_feed.specs.declared.feed.FrameFeed.{FrameFeed}
 use Rattle.feed_merge.specs.StandsFor.{MergerStandsFor, has_finished, is_fed, bytes_left}
 use Rattle.feed_merge.specs.StandsFor as merger
 use Rattle.feed_merge.specs.declared.merger.Merger.{Merger}
 use Rattle.merge_run.specs.Sending.{left_for, GivesUnit, GivesNone, Nexts}
-use Rattle.merge_run.specs.Shown.{OfFeed, IsPast, Sends, IsGiving, IsResting, IsIn, is_held, feed_of, left_at}
+use Rattle.merge_run.specs.Shown.{Sends, IsGiving, IsResting, IsIn, is_held, feed_of, left_at}
+use Rattle.two_feeds.specs.Both.{OfFeed, IsPast, AreFedWith}
 use Rattle.two_feeds.specs.Fed.{IsFedWith, IsBehind}
 use Rattle.merge_run.specs.Shown.{more_units, frame_bytes, Shown}
 use Rattle.merge_run.specs.Steps.{left_in, left_of}
@@ -37,10 +37,10 @@ use Rattle.merge_run.specs.declared.merging.Merging.{Merging}
 use Rattle.merge_run.specs.declared.phase.Phase.{Phase}
 use Rattle.merge_run.specs.declared.phase.Phase.TheVariants.{Reads, Gives, Rests, Done}
 use Rattle.merge_run.specs.declared.stop.Ran.{Ran}
-use Rattle.merge_run.proofs.HeldLemmas as held
+use Rattle.two_feeds.proofs.HeldLemmas as held
+use Rattle.two_feeds.proofs.EventLemmas.{gave_both}
 use Rattle.merge_run.proofs.LiveLemmas.{live_given}
 use Rattle.merge_run.proofs.SendLemmas.{sends_next, sends_none}
-use Rattle.merge_run.proofs.ShownLemmas.{gave_of}
 use Rattle.merge_run.proofs.UnitLemmas.{left_is}
 
 -- ---- what is known while units are given
@@ -69,15 +69,15 @@ module _ (c : Config) (m : Merging) (events : List Event) (s : Shown c events m)
   feed_network = go m.source
     where
       go : (from : Feed) → feed.config_of (feed_in from m.a m.b) ≡ c
-      go A = held.network_of c m.a (fed 0 events) (has_ended 0 events) s.given_a (is_held m.phase m.source A) s.of_a
-      go B = held.network_of c m.b (fed 1 events) (has_ended 1 events) s.given_b (is_held m.phase m.source B) s.of_b
+      go A = held.network_of c m.a (fed 0 events) (has_ended 0 events) s.given_a (is_held m.phase m.source A) s.both.of_a
+      go B = held.network_of c m.b (fed 1 events) (has_ended 1 events) s.given_b (is_held m.phase m.source B) s.both.of_b
 
   pub same_network : feed.config_of (feed_of m) ≡ merger.config_of m.merger
   same_network = feed_network ∙ sym s.sends.network
 
   -- so the units can be counted
   pub few_units : m.ran.units < 2 ^ 62
-  few_units = let u = s.counts.units in let e = s.early in omega (arith, u, e)
+  few_units = let u = s.counts.units in let e = s.both.early in omega (arith, u, e)
 
 -- the record whose frame is under way can be left behind
 module _ (c : Config) (m : Merging) (events : List Event) (s : Shown c events m) (gives : m.phase ≡ Gives) where
@@ -141,12 +141,8 @@ module _ (tell : EventsTell) (c : Config) (m : Merging) (g : Merger) (events : L
         plan = s.plan;
         given_a = s.given_a;
         given_b = s.given_b;
-        of_a = gave_of tell (is_held m.phase m.source A) c m.a events 0 unit s.given_a s.of_a;
-        of_b = gave_of tell (is_held m.phase m.source B) c m.b events 1 unit s.given_b s.of_b;
-        behind_a = s.behind_a;
-        behind_b = s.behind_b;
-        next_is = s.next_is;
-        early = s.early;
+        both = gave_both tell c events unit (is_held m.phase m.source A) (is_held m.phase m.source B) m.next m.a m.b s.given_a s.given_b
+            s.both;
         sends = subst (λ (p : Phase). Sends c g (left_at p g (feed_of m)) fs (m.ran.units + 1) (gave more)) (sym gives)
             (subst (Sends c g (left_for g (feed_of m)) fs (m.ran.units + 1)) (sym (tell.given unit events).gave)
             (sends_next c m.merger g _ (left_for g (feed_of m)) fs m.ran.units (gave events) unit n.config n.finished
@@ -187,16 +183,8 @@ module _ (tell : EventsTell) (c : Config) (m : Merging) (g : Merger) (events : L
 -- ---- the record is left behind whose frame was sent
 
 pub record Skips (m : Merging) (a b : FrameFeed) : Type 0 where
-  pub took_a : (bytes : List ℕ) (ended : Bool) (given : List FrameRecord) → FrameFeedStandsFor m.a bytes ended given
-      → Takes (is_same m.source A) m.a a bytes ended given
-  pub took_b : (bytes : List ℕ) (ended : Bool) (given : List FrameRecord) → FrameFeedStandsFor m.b bytes ended given
-      → Takes (is_same m.source B) m.b b bytes ended given
-  pub stays_a : is_same m.source A ≡ false → a ≡ m.a
-  pub stays_b : is_same m.source B ≡ false → b ≡ m.b
-  pub same_a : IsSameFeed m.a a
-  pub same_b : IsSameFeed m.b b
-  pub left_a : feed.left_of a + one_if (is_same m.source A) ≤ feed.left_of m.a
-  pub left_b : feed.left_of b + one_if (is_same m.source B) ≤ feed.left_of m.b
+  pub took_a : SkipsIf (is_same m.source A) m.a a
+  pub took_b : SkipsIf (is_same m.source B) m.b b
 
 module _ (tell : EventsTell) (c : Config) (m : Merging) (g : Merger) (events : List Event) (unit : List ℕ) (s : Shown c events m)
     (gives : m.phase ≡ Gives) (frame : PoolFrame) (is : IsFrameOf (feed_of m) frame) (follow : DueFollow) (a b : FrameFeed)
@@ -205,22 +193,22 @@ module _ (tell : EventsTell) (c : Config) (m : Merging) (g : Merger) (events : L
   more = events ++ Gave [] ∷ []
 
   of_a : IsFedWith c a (fed 0 events) (has_ended 0 events) s.given_a
-  of_a = held.left_of (is_same m.source A) c m.a a (fed 0 events) (has_ended 0 events) s.given_a t.same_a.network t.stays_a
-      (t.took_a (fed 0 events) (has_ended 0 events))
-      (subst (λ (p : Phase). OfFeed (is_held p m.source A) c m.a (fed 0 events) (has_ended 0 events) s.given_a) gives s.of_a)
+  of_a = held.left_of (is_same m.source A) c m.a a (fed 0 events) (has_ended 0 events) s.given_a t.took_a.same.network t.took_a.stays
+      (t.took_a.takes (fed 0 events) (has_ended 0 events))
+      (subst (λ (p : Phase). OfFeed (is_held p m.source A) c m.a (fed 0 events) (has_ended 0 events) s.given_a) gives s.both.of_a)
 
   of_b : IsFedWith c b (fed 1 events) (has_ended 1 events) s.given_b
-  of_b = held.left_of (is_same m.source B) c m.b b (fed 1 events) (has_ended 1 events) s.given_b t.same_b.network t.stays_b
-      (t.took_b (fed 1 events) (has_ended 1 events))
-      (subst (λ (p : Phase). OfFeed (is_held p m.source B) c m.b (fed 1 events) (has_ended 1 events) s.given_b) gives s.of_b)
+  of_b = held.left_of (is_same m.source B) c m.b b (fed 1 events) (has_ended 1 events) s.given_b t.took_b.same.network t.took_b.stays
+      (t.took_b.takes (fed 1 events) (has_ended 1 events))
+      (subst (λ (p : Phase). OfFeed (is_held p m.source B) c m.b (fed 1 events) (has_ended 1 events) s.given_b) gives s.both.of_b)
 
   past_a : IsBehind m.next a s.given_a
-  past_a = held.left_past follow (is_same m.source A) c m.next m.a a (fed 0 events) (has_ended 0 events) s.given_a t.stays_a
-      (subst (λ (p : Phase). IsPast (is_held p m.source A) m.next m.a s.given_a) gives s.behind_a) of_a
+  past_a = held.left_past follow (is_same m.source A) c m.next m.a a (fed 0 events) (has_ended 0 events) s.given_a t.took_a.stays
+      (subst (λ (p : Phase). IsPast (is_held p m.source A) m.next m.a s.given_a) gives s.both.behind_a) of_a
 
   past_b : IsBehind m.next b s.given_b
-  past_b = held.left_past follow (is_same m.source B) c m.next m.b b (fed 1 events) (has_ended 1 events) s.given_b t.stays_b
-      (subst (λ (p : Phase). IsPast (is_held p m.source B) m.next m.b s.given_b) gives s.behind_b) of_b
+  past_b = held.left_past follow (is_same m.source B) c m.next m.b b (fed 1 events) (has_ended 1 events) s.given_b t.took_b.stays
+      (subst (λ (p : Phase). IsPast (is_held p m.source B) m.next m.b s.given_b) gives s.both.behind_b) of_b
 
   -- none is complete
   pub shown_caught : Nexts m.merger g frame false unit → Shown c more (record m { a = a; b = b; merger = g; phase = Reads })
@@ -236,12 +224,14 @@ module _ (tell : EventsTell) (c : Config) (m : Merging) (g : Merger) (events : L
         plan = s.plan;
         given_a = s.given_a;
         given_b = s.given_b;
-        of_a = gave_of tell false c a events 0 [] s.given_a of_a;
-        of_b = gave_of tell false c b events 1 [] s.given_b of_b;
-        behind_a = past_a;
-        behind_b = past_b;
-        next_is = s.next_is;
-        early = s.early;
+        both = gave_both tell c events [] false false m.next a b s.given_a s.given_b (record {
+          of_a = of_a;
+          of_b = of_b;
+          behind_a = past_a;
+          behind_b = past_b;
+          next_is = s.both.next_is;
+          early = s.both.early;
+        });
         sends = subst (Sends c g [] fs m.ran.units) (sym (tell.given [] events).gave)
             (sends_none c m.merger g _ [] fs m.ran.units (gave events) n.config n.finished
             (subst (λ (l : List Body). MergerStandsFor g l (remade_bodies c fs) m.ran.units) so.spent
@@ -272,8 +262,8 @@ pub left_behind : (m : Merging) (a b f : FrameFeed) (g : Merger) → m.phase ≡
     → left_in Reads (feed.left_of a + feed.left_of b) g f < left_of m
 left_behind m a b f g gives t =
     let was = ap (λ (p : Phase). left_in p (feed.left_of m.a + feed.left_of m.b) m.merger (feed_of m)) gives in
-    let u = t.left_a in
-    let v = t.left_b in
+    let u = t.took_a.left in
+    let v = t.took_b.left in
     omega (arith, was, u, v, one_same m.source)
 
 -- ---- behind the end
@@ -301,12 +291,8 @@ module _ (tell : EventsTell) (c : Config) (m : Merging) (g : Merger) (events : L
         plan = s.plan;
         given_a = s.given_a;
         given_b = s.given_b;
-        of_a = gave_of tell (is_held m.phase m.source A) c m.a events 0 unit s.given_a s.of_a;
-        of_b = gave_of tell (is_held m.phase m.source B) c m.b events 1 unit s.given_b s.of_b;
-        behind_a = s.behind_a;
-        behind_b = s.behind_b;
-        next_is = s.next_is;
-        early = s.early;
+        both = gave_both tell c events unit (is_held m.phase m.source A) (is_held m.phase m.source B) m.next m.a m.b s.given_a s.given_b
+            s.both;
         sends = subst (λ (p : Phase). Sends c g (left_at p g (feed_of m)) fs (m.ran.units + 1) (gave (events ++ Gave unit ∷ []))) (sym rests)
             (subst (Sends c g [] fs (m.ran.units + 1)) (sym (tell.given unit events).gave)
             (sends_next c m.merger g [] [] fs m.ran.units (gave events) unit config over
@@ -342,14 +328,9 @@ module _ (tell : EventsTell) (c : Config) (m : Merging) (g : Merger) (events : L
         plan = s.plan;
         given_a = s.given_a;
         given_b = s.given_b;
-        of_a = gave_of tell false c m.a events 0 [] s.given_a
-            (subst (λ (p : Phase). OfFeed (is_held p m.source A) c m.a (fed 0 events) (has_ended 0 events) s.given_a) rests s.of_a);
-        of_b = gave_of tell false c m.b events 1 [] s.given_b
-            (subst (λ (p : Phase). OfFeed (is_held p m.source B) c m.b (fed 1 events) (has_ended 1 events) s.given_b) rests s.of_b);
-        behind_a = subst (λ (p : Phase). IsPast (is_held p m.source A) m.next m.a s.given_a) rests s.behind_a;
-        behind_b = subst (λ (p : Phase). IsPast (is_held p m.source B) m.next m.b s.given_b) rests s.behind_b;
-        next_is = s.next_is;
-        early = s.early;
+        both = gave_both tell c events [] false false m.next m.a m.b s.given_a s.given_b
+            (subst (λ (p : Phase). AreFedWith c events (is_held p m.source A) (is_held p m.source B) m.next m.a m.b s.given_a s.given_b)
+            rests s.both);
         sends = subst (Sends c g [] fs m.ran.units) (sym (tell.given [] events).gave)
             (sends_none c m.merger g [] [] fs m.ran.units (gave events) config over
             (stands (remade_bodies c fs) m.ran.units ending.stands) ending);

@@ -4,7 +4,6 @@ pub mod FeedLemmas
 pub mod FilesLemmas
 pub mod FrameLemmas
 pub mod GiveLemmas
-pub mod HeldLemmas
 pub mod LawLemmas
 pub mod LiveLemmas
 pub mod PickLemmas

@@ -1,30 +1,21 @@
 -- Of what is read of the inputs no more waits than was looked at last: all complete units that follow of less were given.
-use Rattle.std.proofs.Common.{◌≡◌, ℕ, ◌≤◌, max, Bool, false, List, [], ◌∷◌, ◌++◌, length, take, ap, sym, subst, arith}
+use Rattle.std.proofs.Common.{◌≡◌, ℕ, ◌≤◌, max, Bool, List, [], ◌∷◌, ◌++◌, length, sym, subst, arith}
 use Rattle.plp_config.specs.declared.config.Config.{Config}
 use Rattle.frame_groups.specs.Modulated.{FrameRecord}
-use Rattle.modulator.specs.StandsFor.{records_due}
 use Rattle.t2mi_stream.specs.Complete.{complete_units}
 use Rattle.formed_frames.specs.Remade.{remade_packets}
 use Rattle.file_run.specs.Events.{Event, Gave, fed}
 use Rattle.file_run.specs.Laws.{EventsTell}
-use Rattle.held_feed.specs.StandsFor as feed
 use Rattle.held_feed.specs.declared.feed.FrameFeed.{FrameFeed}
 use Rattle.feed_merge.specs.Laws.{AreOf}
 use Rattle.feed_merge.specs.Picks.{Picked, picks, above_all, frames_of}
 use Rattle.feed_merge.proofs.GrowLemmas.{all_below}
-use Rattle.merge_run.specs.Shown.{IsDueBelow, IsLive}
+use Rattle.merge_run.specs.Shown.{IsLive}
+use Rattle.two_feeds.specs.Both.{IsDueBelow}
 use Rattle.two_feeds.specs.Fed.{IsFedWith}
-use Rattle.two_feeds.proofs.NumberLemmas.{AllFrom, above_append, below_of}
+use Rattle.two_feeds.proofs.BothLemmas.{due_below}
+use Rattle.two_feeds.proofs.NumberLemmas.{AllFrom, below_of}
 use Rattle.merge_run.proofs.SplitLemmas.{picks_split}
-
--- By fewer bytes than were fed, no record is due but those that were given.
-pub due_below : (c : Config) (f : FrameFeed) (bytes : List ℕ) (ended : Bool) (given : List FrameRecord) (low : ℕ) → above_all given ≤ low
-    → IsFedWith c f bytes ended given → IsDueBelow c low bytes
-due_below c f bytes ended given low above h = λ k lt.
-    let p = h.stands.front k lt in
-    let size = ap above_all p.1 in
-    let same = ap (λ (n : Config). above_all (records_due n false (take k bytes))) h.network in
-    omega (arith, above, size, same, above_append (records_due (feed.config_of f) false (take k bytes)) p.0)
 
 -- all complete units of the frames that were picked were given
 pub live_all : (c : Config) (f g : FrameFeed) (fed_a fed_b : List ℕ) (ended_a ended_b : Bool) (ga gb : List FrameRecord) (next count : ℕ)

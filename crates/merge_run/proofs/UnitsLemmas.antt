@@ -23,7 +23,7 @@ use Rattle.merge_run.specs.Shown.{Sends, Shown, is_held, feed_of, left_at}
 use Rattle.merge_run.specs.Steps.{left_of}
 use Rattle.merge_run.specs.declared.merging.Merging.{Merging}
 use Rattle.merge_run.specs.declared.phase.Phase.TheVariants.{Gives, Reads}
-use Rattle.merge_run.proofs.HeldLemmas.{same_of}
+use Rattle.two_feeds.proofs.EventLemmas.{same_both}
 use Rattle.merge_run.proofs.LiveLemmas.{live_same}
 use Rattle.merge_run.proofs.GiveLemmas.{few_units, shown_given, left_given, Skips, shown_caught}
 use Rattle.merge_run.proofs.ShownLemmas.{shown_still}
@@ -93,12 +93,8 @@ shown_once tell c m events first second s = record {
   plan = s.plan;
   given_a = s.given_a;
   given_b = s.given_b;
-  of_a = same_of (is_held m.phase m.source A) c m.a _ _ _ _ s.given_a (fed_twice 0) (ended_twice 0) s.of_a;
-  of_b = same_of (is_held m.phase m.source B) c m.b _ _ _ _ s.given_b (fed_twice 1) (ended_twice 1) s.of_b;
-  behind_a = s.behind_a;
-  behind_b = s.behind_b;
-  next_is = s.next_is;
-  early = s.early;
+  both = same_both c _ _ (is_held m.phase m.source A) (is_held m.phase m.source B) m.next m.a m.b s.given_a s.given_b fed_twice ended_twice
+      s.both;
   sends = subst (Sends c m.merger (left_at m.phase m.merger (feed_of m)) (frames_of (picks c s.given_a s.given_b)) m.ran.units)
       ((tell.given second (events ++ Gave first ∷ [])).gave ∙ ap (λ (l : List ℕ). l ++ second) (tell.given first events).gave
       ∙ append_assoc (gave events) first second ∙ sym (tell.given (first ++ second) events).gave) s.sends;
@@ -150,19 +146,6 @@ left_all tell c frame (u ∷ units) m g events s gives is h =
     let more = left_all tell c frame units (with_units m h.0 1) g (events ++ Gave u ∷ []) one gives is h.2 in
     omega (arith, less, more)
 
--- the record that is left behind is the same
-skips_on : (m : Merging) (g : Merger) (count : ℕ) (a b : FrameFeed) → Skips m a b → Skips (with_units m g count) a b
-skips_on m g count a b t = record {
-  took_a = t.took_a;
-  took_b = t.took_b;
-  stays_a = t.stays_a;
-  stays_b = t.stays_b;
-  same_a = t.same_a;
-  same_b = t.same_b;
-  left_a = t.left_a;
-  left_b = t.left_b;
-}
-
 -- ---- what a call gave
 
 module _ (tell : EventsTell) (c : Config) (m : Merging) (g : Merger) (events : List Event) (s : Shown c events m) (gives : m.phase ≡ Gives)
@@ -204,4 +187,4 @@ module _ (tell : EventsTell) (c : Config) (m : Merging) (g : Merger) (events : L
       subst (λ (l : List ℕ). Shown c (events ++ Gave l ∷ []) new)
       (append-nil (joined n.units) ∙ sym n.bytes_are)
       (shown_once tell c new events (joined n.units) []
-      (shown_caught tell c at g more last.0 all gives frame is follow a b (skips_on m n.mid (length n.units) a b skips) last.1))
+      (shown_caught tell c at g more last.0 all gives frame is follow a b (record { took_a = skips.took_a; took_b = skips.took_b }) last.1))

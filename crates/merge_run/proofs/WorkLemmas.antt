@@ -1,6 +1,6 @@
 -- What a merger does by its files.
-use Rattle.std.proofs.Common.{◌≡◌, ℕ, ◌-◌, ◌<◌, ◌==◌, true, List, [], ◌∷◌, ◌++◌}
-use Rattle.std.proofs.Common.{length, refl, ap, sym, subst, ◌∙◌, arith, append_assoc}
+use Rattle.std.proofs.Common.{◌≡◌, ℕ, ◌-◌, ◌<◌, ◌==◌, List, [], ◌∷◌, ◌++◌}
+use Rattle.std.proofs.Common.{length, refl, ap, subst, ◌∙◌, arith, append_assoc}
 use Rattle.std.specs.Prelude.{Err, slice_index}
 use Rattle.terms.proofs.CaseLemmas.{bool_cases}
 use Rattle.plp_config.specs.declared.config.Config.{Config}
@@ -9,9 +9,7 @@ use Rattle.desk_io.specs.Reading.{longest_file}
 use Rattle.modulator.specs.Laws.{DueFront, DueFollow}
 use Rattle.t2mi_stream.specs.CompleteLaws.{CompleteLaw}
 use Rattle.feed_merge.specs.Picks.{picks, frames_of}
-use Rattle.held_feed.specs.StandsFor.{waiting_of}
-use Rattle.held_feed.specs.StandsFor as feed
-use Rattle.file_run.specs.Events.{Event, fed, has_ended, gave}
+use Rattle.file_run.specs.Events.{Event, fed, gave}
 use Rattle.file_run.specs.FileRun.{AreFed}
 use Rattle.file_run.specs.Steps.{Needs, FallsShort}
 use Rattle.file_run.specs.Work.{AreWhole, AreWithin, IsRightAtEnd, GaveSome, DoesWork}
@@ -19,22 +17,21 @@ use Rattle.file_run.specs.declared.machine.Step.TheVariants.{Give, End}
 use Rattle.file_run.specs.declared.stop.RunFault.TheVariants.{TooLong, ReadFault}
 use Rattle.file_run.specs.declared.stop.RunStop.TheVariants.{Files}
 use Rattle.file_run.proofs.StandsLemmas.{fed_since}
-use Rattle.file_run.proofs.WorkLemmas.{are_whole}
 use Rattle.merge_run.specs.AsMachine.{Becomes, ending_in, ending_of}
 use Rattle.merge_run.specs.MergeRun.{MayWrite, HasSome}
 use Rattle.merge_run.specs.MergeRun.{merge_work}
 use Rattle.merge_run.specs.Shown.{Shown, IsDone, IsIn, is_held}
 use Rattle.feed_merge.specs.declared.seen.Feed.TheVariants.{A, B}
-use Rattle.merge_run.proofs.HeldLemmas.{end_of}
-use Rattle.two_feeds.specs.Reading.{step_by}
+use Rattle.two_feeds.specs.Reading.{step_for}
 use Rattle.merge_run.specs.Steps.{step_in, step_of, reach_of}
 use Rattle.merge_run.specs.declared.machine.MergeMachine.{MergeMachine}
 use Rattle.merge_run.specs.declared.phase.Phase.{Phase}
 use Rattle.merge_run.specs.declared.phase.Phase.TheVariants as phase
-use Rattle.merge_run.proofs.StepLemmas.{needs_at, short_at}
-use Rattle.two_feeds.proofs.StepLemmas.{is_late}
-use Rattle.merge_run.proofs.FilesLemmas.{merges_all, has_none, has_late, has_read, reads_ahead, gave_front, since, fed_count}
-use Rattle.two_feeds.proofs.FilesLemmas.{two}
+use Rattle.two_feeds.proofs.BothLemmas.{whole_all}
+use Rattle.two_feeds.proofs.StepLemmas.{is_late, needs_by, short_by}
+use Rattle.two_feeds.proofs.WantLemmas.{fed_count}
+use Rattle.merge_run.proofs.StepLemmas.{asked}
+use Rattle.merge_run.proofs.FilesLemmas.{merges_all, has_none, has_late, has_read, ahead, gave_front, since}
 
 module _ (front : DueFront) (follow : DueFollow) (law : CompleteLaw) (start now : MergeMachine) (files : ℕ → List ℕ)
     (places : List ℕ) (events : List Event) (all : length places ≡ 2) (are : AreFed 2 files places events)
@@ -46,17 +43,15 @@ module _ (front : DueFront) (follow : DueFollow) (law : CompleteLaw) (start now 
   whole done =
       let i : IsDone k (frames_of (picks k s.given_a s.given_b)) now.merging.ran.units now.merging.a now.merging.b =
       subst (IsIn k now.merging (frames_of (picks k s.given_a s.given_b))) done s.is_in in
-      are_whole 2 files places events all are
-      (two (λ (input : ℕ). has_ended input events ≡ true) (sym (end_of k now.merging.a (fed 0 events) (has_ended 0 events)
-      s.given_a (is_held now.merging.phase now.merging.source A) s.of_a) ∙ i.none_a.ended) (sym (end_of k now.merging.b (fed 1 events)
-      (has_ended 1 events) s.given_b (is_held now.merging.phase now.merging.source B) s.of_b) ∙ i.none_b.ended))
+      let m = now.merging in
+      whole_all front follow k events (is_held m.phase m.source A) (is_held m.phase m.source B) m.next m.a m.b s.given_a s.given_b s.both
+      files places are i.none_a i.none_b all
 
   ends_in : (p : Phase) → now.merging.phase ≡ p
-      → step_in p (step_by (waiting_of now.merging.a) (feed.has_ended now.merging.a) (waiting_of now.merging.b) (feed.has_ended now.merging.b))
-      ≡ End → IsRightAtEnd (merge_work k) files places (gave events) (ending_in p now.merging.next now.merging.ran)
+      → step_in p (step_for now.merging.a now.merging.b) ≡ End → IsRightAtEnd (merge_work k) files places (gave events) (ending_in p now.merging.next now.merging.ran)
   ends_in phase.Reads is end = (
     has_late front follow law k now.merging events s files places are is (is_late _ _ _ _ end),
-    reads_ahead front follow law k now.merging events s files places are MOST_FRAMES s.early within,
+    ahead front follow law k now.merging events s files places are MOST_FRAMES s.both.early within,
   )
   ends_in phase.Gives is end = absurd (let z : Give ≡ End = end in cc)
   ends_in phase.Rests is end = absurd (let z : Give ≡ End = end in cc)
@@ -69,27 +64,27 @@ module _ (front : DueFront) (follow : DueFollow) (law : CompleteLaw) (start now 
       → Needs (step_of now.merging) input (slice_index places input - length (fed input events))
       → merge_work k files (Err (Files (TooLong input))) places (gave events)
   too_long input lt most wants =
-      let w = needs_at now.merging.phase (waiting_of now.merging.a) (feed.has_ended now.merging.a) (waiting_of now.merging.b)
-      (feed.has_ended now.merging.b) input _ wants in
-      let few = w.few in
-      let ahead = (are input lt).ahead in
+      let w = asked Needs (λ i k h. h) (λ i k h. h) now.merging.phase _ input _ wants in
+      let n = needs_by _ _ _ _ input _ w.1 in
+      let few = n.1 in
+      let most_fed = (are input lt).ahead in
       record {
         taken = length (fed input events);
         near = omega (arith, few, most);
-        within = omega (arith, ahead, most);
-        has = has_read front follow law k now.merging events s files places are input (length (fed input events)) w.wants w.reads refl within;
+        within = omega (arith, most_fed, most);
+        has = has_read front follow law k now.merging events s files places are input (length (fed input events)) n.0 w.0 refl within;
       }
 
   unread : (input : ℕ) → input < 2
       → FallsShort (step_of now.merging) input (slice_index places input - length (fed input events))
       → merge_work k files (Err (Files (ReadFault input))) places (gave events)
   unread input lt wants =
-      let w = short_at now.merging.phase (waiting_of now.merging.a) (feed.has_ended now.merging.a) (waiting_of now.merging.b)
-      (feed.has_ended now.merging.b) input _ wants in
-      let none = w.few in
-      let ahead = (are input lt).ahead in
-      has_read front follow law k now.merging events s files places are input (slice_index places input) w.wants w.reads
-      (omega (arith, ahead, none)) within
+      let w = asked FallsShort (λ i k h. h) (λ i k h. h) now.merging.phase _ input _ wants in
+      let n = short_by _ _ _ _ input _ w.1 in
+      let none = n.1 in
+      let most_fed = (are input lt).ahead in
+      has_read front follow law k now.merging events s files places are input (slice_index places input) n.0 w.0
+      (omega (arith, most_fed, none)) within
 
 unwritten : DueFront → DueFollow → CompleteLaw → (start now : MergeMachine) (files : ℕ → List ℕ) (places : List ℕ) (events : List Event)
     (bytes : List ℕ) → AreFed 2 files places events
@@ -105,7 +100,9 @@ unwritten front follow law start now files places events bytes are g =
       begins = subst (MayWrite k files) (ap (λ (l : List ℕ). l ++ p.0) g.parts ∙ append_assoc bytes g.more p.0) p.1;
       since = λ input taken lt less.
           let within = g.within input lt in
-          let count = fed_count front follow law k g.mid.merging events g.came files places are input lt in
+          let m = g.mid.merging in
+          let count = fed_count k events (is_held m.phase m.source A) (is_held m.phase m.source B) m.next m.a m.b g.came.given_a g.came.given_b
+          g.came.both input lt in
           let d = since front follow law k g.mid.merging events g.came files places are input taken lt
           (omega (arith, less, within, count)) in (
             d.0,

@@ -1,5 +1,5 @@
 -- What was done to two feeds and the merger of their frames. No public clause cites this module.
-use Rattle.std.specs.Prelude.{◌≡◌, ℕ, ◌+◌, ◌*◌, ◌^◌, ◌<◌, ◌≤◌, max, Bool, true, false, List, [], ◌∷◌, ◌++◌, length, take, Some}
+use Rattle.std.specs.Prelude.{◌≡◌, ℕ, ◌+◌, ◌*◌, ◌^◌, ◌<◌, ◌≤◌, Bool, true, false, List, [], ◌++◌, length, Some}
 use Rattle.plp_config.specs.Capacity.{IsPlan}
 use Rattle.plp_config.specs.declared.config.Config.{Config}
 use Rattle.plp_config.specs.declared.moment.TheConstants.{MOST_FRAMES}
@@ -10,44 +10,24 @@ use Rattle.frame_groups.specs.Modulated.{FrameRecord}
 use Rattle.frame_groups.specs.declared.waiting.Waiting.{Waiting}
 use Rattle.t2mi_stream.specs.Complete.{complete_units}
 use Rattle.t2mi_stream.specs.Pipe.{pipe}
-use Rattle.modulator.specs.StandsFor.{records_due}
 use Rattle.formed_frames.specs.Remade.{NumberedView, remade_bodies, remade_packets}
-use Rattle.file_run.specs.Events.{Event, fed, has_ended, gave}
-use Rattle.feed_merge.specs.Picks.{picks, picks_below, above_all, frames_of}
+use Rattle.file_run.specs.Events.{Event, fed, gave}
+use Rattle.feed_merge.specs.Picks.{picks, picks_below, frames_of}
 use Rattle.feed_merge.specs.declared.seen.Feed.{Feed}
 use Rattle.feed_merge.specs.declared.seen.Feed.TheVariants.{A, B}
-use Rattle.held_feed.specs.StandsFor.{IsFirst, waiting_of, is_whole}
+use Rattle.held_feed.specs.StandsFor.{waiting_of, is_whole}
 use Rattle.held_feed.specs.declared.feed.FrameFeed.{FrameFeed}
 use Rattle.feed_merge.specs.StandsFor.{MergerStandsFor, has_unit, has_finished, is_fed, bytes_left}
 use Rattle.feed_merge.specs.StandsFor as merger
 use Rattle.feed_merge.specs.declared.merger.Merger.{Merger}
-use Rattle.two_feeds.specs.Fed.{IsFedWith, IsBehind, NoneComes}
+use Rattle.two_feeds.specs.Both.{AreFedWith, IsDueBelow}
+use Rattle.two_feeds.specs.Fed.{NoneComes}
 use Rattle.merge_run.specs.Counted.{counted}
 use Rattle.merge_run.specs.Sending.{left_for}
 use Rattle.merge_run.specs.Taking.{is_same, feed_in}
 use Rattle.merge_run.specs.declared.merging.Merging.{Merging}
 use Rattle.merge_run.specs.declared.phase.Phase.{Phase}
 use Rattle.merge_run.specs.declared.phase.Phase.TheVariants.{Reads, Gives, Rests, Done}
-
--- The frame of the last record is under way: it waits still.
-pub record IsHeld (c : Config) (f : FrameFeed) (bytes : List ℕ) (ended : Bool) (given : List FrameRecord) : Type 0 where
-  pub before : List FrameRecord
-  pub one : FrameRecord
-  pub later : List FrameRecord
-  pub given_is : given ≡ before ++ one ∷ []
-  pub due : records_due c ended bytes ≡ before ++ one ∷ later
-  pub first : IsFirst (waiting_of f) (one ∷ [])
-  pub fed : IsFedWith c f bytes ended before
-
--- A feed of a network was fed with an input, and gave these records, the last one with a frame that is under way or not.
-abbrev pub OfFeed : Bool → Config → FrameFeed → List ℕ → Bool → List FrameRecord → Type 0
-OfFeed true c f bytes ended given = IsHeld c f bytes ended given
-OfFeed false c f bytes ended given = IsFedWith c f bytes ended given
-
--- What comes of it has a number that is no lower.
-abbrev pub IsPast : Bool → ℕ → FrameFeed → List FrameRecord → Type 0
-IsPast true next f given = next ≤ above_all given
-IsPast false next f given = IsBehind next f given
 
 -- Of these frames units were given, the first ones whatever packets follow, and before the end only complete ones. Of the last one
 -- these bodies are left.
@@ -127,11 +107,7 @@ pub record CountsFrames (m : Merging) : Type 0 where
   pub parts : m.ran.a + m.ran.b ≡ m.ran.frames
   pub units : m.ran.units + more_units m.phase m.merger (feed_of m) ≤ m.next * frame_bytes + 184
 
--- By fewer bytes of an input than were fed of it, no record is due of this number or a higher one.
-abbrev pub IsDueBelow : Config → ℕ → List ℕ → Type 0
-IsDueBelow c low bytes = (k : ℕ) → k < length bytes → above_all (records_due c false (take k bytes)) ≤ low
-
--- So it is of both inputs for some number, and the complete units of the frames were given that are picked below it.
+-- By fewer bytes of either input than were fed of it no record is due of some number or a higher one, and the complete units of the frames were given that are picked below it.
 pub record IsLive (c : Config) (fed_a fed_b : List ℕ) (given_a given_b : List FrameRecord) (next count : ℕ) : Type 0 where
   pub low : ℕ
   pub within : low ≤ next
@@ -145,12 +121,7 @@ pub record Shown (c : Config) (events : List Event) (m : Merging) : Type 0 where
   pub plan : IsPlan c
   pub given_a : List FrameRecord
   pub given_b : List FrameRecord
-  pub of_a : OfFeed (is_held m.phase m.source A) c m.a (fed 0 events) (has_ended 0 events) given_a
-  pub of_b : OfFeed (is_held m.phase m.source B) c m.b (fed 1 events) (has_ended 1 events) given_b
-  pub behind_a : IsPast (is_held m.phase m.source A) m.next m.a given_a
-  pub behind_b : IsPast (is_held m.phase m.source B) m.next m.b given_b
-  pub next_is : m.next ≡ max (above_all given_a) (above_all given_b)
-  pub early : m.next ≤ MOST_FRAMES
+  pub both : AreFedWith c events (is_held m.phase m.source A) (is_held m.phase m.source B) m.next m.a m.b given_a given_b
   pub sends : Sends c m.merger (left_at m.phase m.merger (feed_of m)) (frames_of (picks c given_a given_b)) m.ran.units (gave events)
   pub ran_is : m.ran ≡ counted (picks c given_a given_b) m.ran.units
   pub counts : CountsFrames m

@@ -1,10 +1,8 @@
 -- What two feeds and a merger do next. No clause of a run cites this module.
 use Rattle.std.specs.Prelude.{ℕ, ◌+◌, ◌*◌}
-use Rattle.file_run.specs.FileRun.{read_ahead}
 use Rattle.file_run.specs.declared.machine.Step.{Step}
 use Rattle.file_run.specs.declared.machine.Step.TheVariants.{Give, End}
-use Rattle.two_feeds.specs.Reading.{step_by, fed_at}
-use Rattle.held_feed.specs.StandsFor.{waiting_of, has_ended, fed_of}
+use Rattle.two_feeds.specs.Reading.{reach_by, step_for}
 use Rattle.held_feed.specs.StandsFor as feed
 use Rattle.held_feed.specs.declared.feed.FrameFeed.{FrameFeed}
 use Rattle.feed_merge.specs.declared.merger.Merger.{Merger}
@@ -20,11 +18,11 @@ step_in Rests step = Give
 step_in Done step = End
 
 abbrev pub step_of : Merging → Step
-step_of m = step_in m.phase (step_by (waiting_of m.a) (has_ended m.a) (waiting_of m.b) (has_ended m.b))
+step_of m = step_in m.phase (step_for m.a m.b)
 
 -- how far an input may have been read
 abbrev pub reach_of : Merging → ℕ → ℕ
-reach_of m input = fed_at (fed_of m.a) (fed_of m.b) input + read_ahead
+reach_of m = reach_by m.a m.b
 
 -- It gives no more often before it wants bytes: so many records may come, and each has a frame's units.
 abbrev pub left_in : Phase → ℕ → Merger → FrameFeed → ℕ

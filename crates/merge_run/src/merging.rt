@@ -26,7 +26,7 @@ use modulator::due_records_law;
 use plp_config::{Plan, block_law};
 use std::alloc::Global;
 use ts_packet::SIZE;
-use two_feeds::{least_number, next_step};
+use two_feeds::{end_one, feed_one, least_number, next_step};
 
 /// Two feeds of a network, and the merger of their frames.
 #[derive(Drop)]
@@ -89,12 +89,7 @@ impl<'p> Merging<'p> {
             → Shown c (events ++ Fed input (take result bytes.now) ∷ []) self.new }
         ensures reach { (other : ℕ) → reach_of self.old other ≤ reach_of self.new other }
     {
-        events_law();
-        due_records_law();
-        if input == 0 {
-            return self.a.feed(bytes);
-        }
-        self.b.feed(bytes)
+        feed_one(&mut self.a, &mut self.b, input, bytes)
     }
 
     /// The input that it wants has ended.
@@ -104,13 +99,7 @@ impl<'p> Merging<'p> {
             → Shown c (events ++ Ended input bytes.now ∷ []) self.new }
         ensures reach { (other : ℕ) → reach_of self.old other ≤ reach_of self.new other }
     {
-        events_law();
-        due_records_law();
-        if input == 0 {
-            self.a.finish();
-            return;
-        }
-        self.b.finish();
+        end_one(&mut self.a, &mut self.b, input, bytes);
     }
 
     // Leaves the records of the least number behind, but for the one that is picked: its frame is begun.

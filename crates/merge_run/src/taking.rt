@@ -1,10 +1,9 @@
 // What becomes of the records that wait.
-ghost use Rattle.std.specs.Prelude.{◌≡◌, ◌≤◌, ◌+◌, ℕ, Bool, List, false, is_some};
-ghost use Rattle.frame_groups.specs.Modulated.{FrameRecord};
+ghost use Rattle.std.specs.Prelude.{◌≡◌, is_some};
 ghost use Rattle.feed_merge.specs.Picking.{picked};
 ghost use Rattle.feed_merge.specs.declared.seen.Feed.TheVariants.{A, B};
-ghost use Rattle.held_feed.specs.StandsFor.{FrameFeedStandsFor, waiting_of, left_of};
-ghost use Rattle.two_feeds.specs.Skips.{CanBeLeft, Takes, IsSameFeed, one_if};
+ghost use Rattle.held_feed.specs.StandsFor.{waiting_of};
+ghost use Rattle.two_feeds.specs.Skips.{CanBeLeft, SkipsIf};
 ghost use Rattle.merge_run.specs.Taking.{is_same, is_from, leaves, feed_in};
 ghost use Rattle.two_feeds.specs.Seen.{seen_of};
 
@@ -87,16 +86,8 @@ pub fn source_of<'f, 'p>(
 pub fn skip_others(a: &mut FrameFeed<'_>, b: &mut FrameFeed<'_>, pick: Pick)
     requires can_a { CanBeLeft pick.leave_a (waiting_of a.old) }
     requires can_b { CanBeLeft pick.leave_b (waiting_of b.old) }
-    ensures a { (bytes : List ℕ) (ended : Bool) (given : List FrameRecord) → FrameFeedStandsFor a.old bytes ended given
-        → Takes (leaves A pick.leave_a pick.source) a.old a.new bytes ended given }
-    ensures b { (bytes : List ℕ) (ended : Bool) (given : List FrameRecord) → FrameFeedStandsFor b.old bytes ended given
-        → Takes (leaves B pick.leave_b pick.source) b.old b.new bytes ended given }
-    ensures stays_a { leaves A pick.leave_a pick.source ≡ false → a.new ≡ a.old }
-    ensures stays_b { leaves B pick.leave_b pick.source ≡ false → b.new ≡ b.old }
-    ensures left_a { left_of a.new + one_if (leaves A pick.leave_a pick.source) ≤ left_of a.old }
-    ensures left_b { left_of b.new + one_if (leaves B pick.leave_b pick.source) ≤ left_of b.old }
-    ensures same_a { IsSameFeed a.old a.new }
-    ensures same_b { IsSameFeed b.old b.new }
+    ensures a { SkipsIf (leaves A pick.leave_a pick.source) a.old a.new }
+    ensures b { SkipsIf (leaves B pick.leave_b pick.source) b.old b.new }
 {
     skip_if(a, leaves(Feed::A, pick.leave_a, pick.source));
     skip_if(b, leaves(Feed::B, pick.leave_b, pick.source));
@@ -106,16 +97,8 @@ pub fn skip_others(a: &mut FrameFeed<'_>, b: &mut FrameFeed<'_>, pick: Pick)
 pub fn skip_source(a: &mut FrameFeed<'_>, b: &mut FrameFeed<'_>, source: Feed)
     requires can_a { CanBeLeft (is_same source A) (waiting_of a.old) }
     requires can_b { CanBeLeft (is_same source B) (waiting_of b.old) }
-    ensures a { (bytes : List ℕ) (ended : Bool) (given : List FrameRecord) → FrameFeedStandsFor a.old bytes ended given
-        → Takes (is_same source A) a.old a.new bytes ended given }
-    ensures b { (bytes : List ℕ) (ended : Bool) (given : List FrameRecord) → FrameFeedStandsFor b.old bytes ended given
-        → Takes (is_same source B) b.old b.new bytes ended given }
-    ensures stays_a { is_same source A ≡ false → a.new ≡ a.old }
-    ensures stays_b { is_same source B ≡ false → b.new ≡ b.old }
-    ensures left_a { left_of a.new + one_if (is_same source A) ≤ left_of a.old }
-    ensures left_b { left_of b.new + one_if (is_same source B) ≤ left_of b.old }
-    ensures same_a { IsSameFeed a.old a.new }
-    ensures same_b { IsSameFeed b.old b.new }
+    ensures a { SkipsIf (is_same source A) a.old a.new }
+    ensures b { SkipsIf (is_same source B) b.old b.new }
 {
     skip_if(a, is_same(source, Feed::A));
     skip_if(b, is_same(source, Feed::B));

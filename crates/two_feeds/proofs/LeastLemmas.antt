@@ -1,16 +1,21 @@
 -- The least number of the records that wait, and what is taken of it.
-use Rattle.std.proofs.Common.{◌≡◌, ℕ, ◌+◌, ◌≤◌, ◌==◌, min, Bool, true, false, List, Option, Some, None}
-use Rattle.std.proofs.Common.{refl, ap, sym, subst, ◌∙◌, arith, eqb-true}
-use Rattle.std.proofs.lemmas.Bool.{eqb-false, eq-eqb}
+use Rattle.std.proofs.Common.{◌≡◌, ℕ, ◌+◌, ◌≤◌, ◌==◌, min, max, Bool, true, false, List, ◌++◌, Option, Some, None}
+use Rattle.std.proofs.Common.{refl, ap, sym, subst, ◌∙◌, inl, inr, arith, eqb-true}
+use Rattle.std.proofs.lemmas.Bool.{cases_lt, eqb-false, eq-eqb}
 use Rattle.terms.proofs.OptionLemmas.{some_injective, none_some}
 use Rattle.frame_groups.specs.Modulated.{FrameRecord}
 use Rattle.frame_groups.specs.declared.waiting.Waiting.{Waiting}
 use Rattle.feed_merge.specs.Laws.{AreOf}
 use Rattle.feed_merge.specs.Picking.{is_at}
 use Rattle.feed_merge.specs.Picks.{above_all}
-use Rattle.two_feeds.specs.Reading.{least_of}
+use Rattle.held_feed.specs.StandsFor.{waiting_of, has_ended}
+use Rattle.held_feed.specs.declared.feed.FrameFeed.{FrameFeed}
+use Rattle.two_feeds.specs.Fed.{NoneComes}
+use Rattle.two_feeds.specs.Reading.{is_idle, least_of}
 use Rattle.two_feeds.specs.Seen.{seen_of}
 use Rattle.two_feeds.specs.Skips.{one_if, AreTaken}
+use Rattle.two_feeds.proofs.FeedLemmas.{idle_none}
+use Rattle.two_feeds.proofs.NumberLemmas.{above_append}
 
 -- it is no greater than either
 pub least_first : (v w : Option Waiting) (n : ℕ) → least_of v w ≡ Some n → (x : Waiting) → v ≡ Some x → n ≤ x.frame
@@ -96,3 +101,26 @@ above_taken (Some w) n xs t = go (w.frame == n) refl t
     go false e k = (let a = ap above_all k in omega (arith, a), λ l. absurd (omega (arith, l)))
 
 -- ---- what becomes of both feeds
+
+-- the number behind all records that were given, with those of the least number
+pub next_taken : (v w : Option Waiting) (n next : ℕ) (ga gb xs ys : List FrameRecord) → least_of v w ≡ Some n → next ≤ n
+    → next ≡ max (above_all ga) (above_all gb) → AreTaken (is_at n (seen_of v)) v xs → AreTaken (is_at n (seen_of w)) w ys
+    → n + 1 ≡ max (above_all (ga ++ xs)) (above_all (gb ++ ys))
+next_taken v w n next ga gb xs ys least low was a b =
+    let x = above_taken v n xs a in
+    let y = above_taken w n ys b in
+    let few_a = x.0 in
+    let few_b = y.0 in
+    let some = some_taken v w n least in
+    elim (cases_lt 0 (one_if (is_at n (seen_of v)))) [
+      | inl one ↦ (let e = x.1 (omega (arith, one)) in omega (arith, e, few_b, was, low, above_append ga xs, above_append gb ys))
+      | inr none ↦ (let e = y.1 (omega (arith, none, some)) in
+          omega (arith, e, few_a, was, low, above_append ga xs, above_append gb ys))
+    ]
+
+-- no record waits, so none comes
+pub none_comes : (f : FrameFeed) → waiting_of f ≡ None → is_idle (waiting_of f) (has_ended f) ≡ false → NoneComes f
+none_comes f none busy = record {
+  none = none;
+  ended = idle_none (has_ended f) (subst (λ (o : Option Waiting). is_idle o (has_ended f) ≡ false) none busy);
+}

@@ -1,11 +1,14 @@
+pub mod BothLemmas
 pub mod CameLemmas
 pub mod EarlyLemmas
 pub mod EventLemmas
 pub mod FeedLemmas
 pub mod FilesLemmas
 pub mod GroupsLemmas
+pub mod HeldLemmas
 pub mod LeastLemmas
 pub mod NumberLemmas
 pub mod SkipLemmas
 pub mod SplitLemmas
 pub mod StepLemmas
+pub mod WantLemmas

@@ -1,3 +1,4 @@
+pub mod Both
 pub mod Fed
 pub mod Reading
 pub mod Seen

@@ -1,11 +1,13 @@
 -- What two feeds want next, by the records that wait.
-use Rattle.std.specs.Prelude.{ℕ, ◌==◌, nat_lt, min, Bool, true, false, Option, Some, None}
+use Rattle.std.specs.Prelude.{ℕ, ◌+◌, ◌==◌, nat_lt, min, Bool, true, false, Option, Some, None}
 use Rattle.std.specs.Prelude.{if◌then◌else◌}
 use Rattle.plp_config.specs.declared.moment.TheConstants.{MOST_FRAMES}
 use Rattle.frame_groups.specs.declared.waiting.Waiting.{Waiting}
 use Rattle.file_run.specs.FileRun.{read_ahead}
 use Rattle.file_run.specs.declared.machine.Step.{Step}
 use Rattle.file_run.specs.declared.machine.Step.TheVariants.{Read, Give, End}
+use Rattle.held_feed.specs.StandsFor.{waiting_of, has_ended, fed_of}
+use Rattle.held_feed.specs.declared.feed.FrameFeed.{FrameFeed}
 
 -- No record waits, and the stream has not ended.
 abbrev pub is_idle : Option Waiting → Bool → Bool
@@ -36,3 +38,11 @@ step_by v ended w over =
 -- of two inputs
 abbrev pub fed_at : ℕ → ℕ → ℕ → ℕ
 fed_at a b input = if input == 0 then a else b
+
+-- how far each of them may be read
+abbrev pub reach_by : FrameFeed → FrameFeed → ℕ → ℕ
+reach_by a b input = fed_at (fed_of a) (fed_of b) input + read_ahead
+
+-- what two feeds want
+abbrev pub step_for : FrameFeed → FrameFeed → Step
+step_for a b = step_by (waiting_of a) (has_ended a) (waiting_of b) (has_ended b)

@@ -1,9 +1,9 @@
 -- The record that waits is left behind, or not.
-use Rattle.std.specs.Prelude.{◌≡◌, ℕ, ◌<◌, Bool, true, false, List, [], ◌∷◌, ◌++◌, Option, Some, None}
+use Rattle.std.specs.Prelude.{◌≡◌, ℕ, ◌+◌, ◌<◌, ◌≤◌, Bool, true, false, List, [], ◌∷◌, ◌++◌, Option, Some, None}
 use Rattle.plp_config.specs.declared.moment.TheConstants.{MOST_FRAMES}
 use Rattle.frame_groups.specs.Modulated.{FrameRecord}
 use Rattle.frame_groups.specs.declared.waiting.Waiting.{Waiting}
-use Rattle.held_feed.specs.StandsFor.{FrameFeedStandsFor, IsFirst, config_of, waiting_of, has_ended, fed_of}
+use Rattle.held_feed.specs.StandsFor.{FrameFeedStandsFor, IsFirst, config_of, waiting_of, has_ended, fed_of, left_of}
 use Rattle.held_feed.specs.declared.feed.FrameFeed.{FrameFeed}
 
 abbrev pub one_if : Bool → ℕ
@@ -38,3 +38,11 @@ pub record IsSameFeed (old new : FrameFeed) : Type 0 where
   pub fed : fed_of new ≡ fed_of old
   pub ended : has_ended new ≡ has_ended old
   pub network : config_of new ≡ config_of old
+
+-- The record that waits was left behind, if it was to be, and else nothing changed.
+pub record SkipsIf (leaves : Bool) (old new : FrameFeed) : Type 0 where
+  pub takes : (bytes : List ℕ) (ended : Bool) (given : List FrameRecord) → FrameFeedStandsFor old bytes ended given
+      → Takes leaves old new bytes ended given
+  pub stays : leaves ≡ false → new ≡ old
+  pub left : left_of new + one_if leaves ≤ left_of old
+  pub same : IsSameFeed old new

@@ -1,6 +1,6 @@
 // What two feeds want next, by the records that wait.
 ghost use Rattle.std.specs.Prelude.{◌≡◌};
-ghost use Rattle.two_feeds.specs.Reading.{is_idle, least_of, wants_of, step_by};
+ghost use Rattle.two_feeds.specs.Reading.{is_idle, least_of, wants_of, step_for};
 ghost use Rattle.held_feed.specs.StandsFor.{waiting_of, has_ended};
 
 use file_run::{AHEAD, Step};
@@ -48,7 +48,7 @@ pub fn is_idle(feed: &FrameFeed<'_>) -> bool
 /// Bytes of the first input whose feed has no record and has not ended, or else to go on by the records that wait, or to end at one
 /// of frame 2^31 or later.
 pub fn next_step(a: &FrameFeed<'_>, b: &FrameFeed<'_>) -> Step
-    ensures { result ≡ step_by (waiting_of a.now) (has_ended a.now) (waiting_of b.now) (has_ended b.now) }
+    ensures { result ≡ step_for a.now b.now }
 {
     if is_idle(a) {
         return wants(0);

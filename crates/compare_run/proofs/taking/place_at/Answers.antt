@@ -4,10 +4,10 @@ use Rattle.compare_run.proofs.TakeLemmas.{waits_whole}
 use Rattle.compare_run.proofs.taking.place_at.Goals as goal
 
 pub returns : goal.returns
-returns c = λ same_a same_b ga gb stands a b.
-    let first = waits_whole c.args.number _ c.requires.whole_a in
-    let second = waits_whole c.args.number _ c.requires.whole_b in
-    c.place.ensures ga gb stands
+returns c = λ same_a same_b ga gb stands a b whole_a whole_b.
+    let first = waits_whole c.args.number _ whole_a in
+    let second = waits_whole c.args.number _ whole_b in
+    c.place.ensures c.args.number ga gb stands
     (room_by c.args.plan.now c.args.a.now c.args.number ga same_a first c.frame-first.ensures.room a)
     (room_by c.args.plan.now c.args.b.now c.args.number gb same_b second c.frame-second.ensures.room b)
     (c.frame-first.ensures.is.dynamic ∙ dynamic_by c.args.a.now c.args.number ga first c.frame-first.ensures.came a)

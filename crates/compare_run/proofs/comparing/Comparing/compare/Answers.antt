@@ -1,4 +1,4 @@
-use Rattle.std.proofs.Common.{◌≡◌, length, Option, Some, None, refl, ap, sym, subst, ◌∙◌}
+use Rattle.std.proofs.Common.{◌≡◌, length, Option, refl, ap, sym, subst, ◌∙◌}
 use Rattle.plp_config.specs.declared.config.Config.{Config}
 use Rattle.frame_groups.specs.declared.waiting.Waiting.{Waiting}
 use Rattle.feed_merge.specs.Picking.{is_at}
@@ -26,19 +26,22 @@ note-requires-clause-plps c = number_of _ _ c.requires.came (λ (h : HasShown c.
 
 pub note-requires-clause-plps_a : goal.note-requires-clause-plps_a
 note-requires-clause-plps_a c = number_of _ _ c.requires.came
-    (λ (h : HasShown c.args.self.now). ap (λ (k : Config). length k.plps) (h.shown.of_a.network ∙ sym h.shown.config))
+    (λ (h : HasShown c.args.self.now). ap (λ (k : Config). length k.plps) (h.shown.both.of_a.network ∙ sym h.shown.config))
 
 pub note-requires-clause-plps_b : goal.note-requires-clause-plps_b
 note-requires-clause-plps_b c = number_of _ _ c.requires.came
-    (λ (h : HasShown c.args.self.now). ap (λ (k : Config). length k.plps) (h.shown.of_b.network ∙ sym h.shown.config))
+    (λ (h : HasShown c.args.self.now). ap (λ (k : Config). length k.plps) (h.shown.both.of_b.network ∙ sym h.shown.config))
 
 pub answer_at-answer-requires : goal.answer_at-answer-requires
 answer_at-answer-requires c = record {
   plps = c.note.ensures.plps ∙ number_of _ _ c.requires.came (λ (h : HasShown c.args.self.now). plps_fit h);
+  least = c.requires.least;
 }
 
-pub returns-in-Some-clause-shown : goal.returns-in-Some-clause-shown
-returns-in-Some-clause-shown c = λ k events s.
+pub returns-clause-shown : goal.returns-clause-shown
+returns-clause-shown c = λ k events s.
+    let same_a = s.both.of_a.network ∙ sym s.config in
+    let same_b = s.both.of_b.network ∙ sym s.config in
     shown_compared c.events_law.ensures c.due_records_law.ensures.front c.due_records_law.ensures.follow c.answers_law.ensures k
     c.args.self.now _ events c.args.number c.is_at-takes_first.result c.is_at-takes_second.result
     (record {
@@ -47,24 +50,18 @@ returns-in-Some-clause-shown c = λ k events s.
       least = c.requires.least;
       busy_a = c.requires.busy.0;
       busy_b = c.requires.busy.1;
-      took_a = c.skip_if.ensures.takes;
-      took_b = c.skip_if-2.ensures.takes;
-      stays_a = c.skip_if.ensures.stays;
-      stays_b = c.skip_if-2.ensures.stays;
-      same_a = c.skip_if.ensures.same;
-      same_b = c.skip_if-2.ensures.same;
-      left_a = c.skip_if.ensures.left;
-      left_b = c.skip_if-2.ensures.left;
+      took_a = c.skip_if.ensures;
+      took_b = c.skip_if-2.ensures;
     })
-    s refl c.note.ensures.plps c.requires.going refl refl c.requires.early (Some c.in-Some.answer)
+    s refl c.note.ensures.plps c.requires.going refl refl c.requires.early c.answer_at-answer.result
     (λ ga gb. subst (λ (l : Config). Notes_at c.args.self.now c.note.new.carried l c.args.number ga gb) s.config
-    (c.note.ensures.stands (s.of_a.network ∙ sym s.config) (s.of_b.network ∙ sym s.config) ga gb))
-    (λ ga gb. subst (λ (l : Config). Answers_at c.args.self.now c.note.new.carried l c.args.number (Some c.in-Some.answer) ga gb) s.config
-    (λ carried a b. sym c.in-Some.is ∙ c.answer_at-answer.ensures (s.of_a.network ∙ sym s.config) (s.of_b.network ∙ sym s.config) ga gb carried a b))
+    (c.note.ensures.stands same_a same_b ga gb))
+    (λ ga gb. subst (λ (l : Config). Answers_at c.args.self.now c.note.new.carried l c.args.number c.answer_at-answer.result ga gb) s.config
+    (c.answer_at-answer.ensures same_a same_b ga gb))
     c.add.result (c.add.ensures.stands, c.add.ensures.told)
 
-pub returns-in-Some-clause-left : goal.returns-in-Some-clause-left
-returns-in-Some-clause-left c =
+pub returns-clause-left : goal.returns-clause-left
+returns-clause-left c =
     left_compared c.args.self.now c.skip_if.new.feed c.skip_if-2.new.feed c.args.self.now.done c.args.number c.is_at-takes_first.result
     c.is_at-takes_second.result
     (record {
@@ -73,60 +70,7 @@ returns-in-Some-clause-left c =
       least = c.requires.least;
       busy_a = c.requires.busy.0;
       busy_b = c.requires.busy.1;
-      took_a = c.skip_if.ensures.takes;
-      took_b = c.skip_if-2.ensures.takes;
-      stays_a = c.skip_if.ensures.stays;
-      stays_b = c.skip_if-2.ensures.stays;
-      same_a = c.skip_if.ensures.same;
-      same_b = c.skip_if-2.ensures.same;
-      left_a = c.skip_if.ensures.left;
-      left_b = c.skip_if-2.ensures.left;
-    })
-    c.requires.going refl
-
-pub returns-in-None-clause-shown : goal.returns-in-None-clause-shown
-returns-in-None-clause-shown c = λ k events s.
-    shown_compared c.events_law.ensures c.due_records_law.ensures.front c.due_records_law.ensures.follow c.answers_law.ensures k
-    c.args.self.now _ events c.args.number c.is_at-takes_first.result c.is_at-takes_second.result
-    (record {
-      is_a = c.is_at-takes_first.ensures ∙ ap (λ (o : Option Waiting). is_at c.args.number (seen_of o)) c.waiting.ensures;
-      is_b = c.is_at-takes_second.ensures ∙ ap (λ (o : Option Waiting). is_at c.args.number (seen_of o)) c.waiting-2.ensures;
-      least = c.requires.least;
-      busy_a = c.requires.busy.0;
-      busy_b = c.requires.busy.1;
-      took_a = c.skip_if.ensures.takes;
-      took_b = c.skip_if-2.ensures.takes;
-      stays_a = c.skip_if.ensures.stays;
-      stays_b = c.skip_if-2.ensures.stays;
-      same_a = c.skip_if.ensures.same;
-      same_b = c.skip_if-2.ensures.same;
-      left_a = c.skip_if.ensures.left;
-      left_b = c.skip_if-2.ensures.left;
-    })
-    s refl c.note.ensures.plps c.requires.going refl refl c.requires.early None
-    (λ ga gb. subst (λ (l : Config). Notes_at c.args.self.now c.note.new.carried l c.args.number ga gb) s.config
-    (c.note.ensures.stands (s.of_a.network ∙ sym s.config) (s.of_b.network ∙ sym s.config) ga gb))
-    (λ ga gb. subst (λ (l : Config). Answers_at c.args.self.now c.note.new.carried l c.args.number None ga gb) s.config
-    (λ carried a b. sym c.in-None.is ∙ c.answer_at-answer.ensures (s.of_a.network ∙ sym s.config) (s.of_b.network ∙ sym s.config) ga gb carried a b))
-    c.new.result (refl, c.new.ensures)
-
-pub returns-in-None-clause-left : goal.returns-in-None-clause-left
-returns-in-None-clause-left c =
-    left_compared c.args.self.now c.skip_if.new.feed c.skip_if-2.new.feed c.args.self.now.done c.args.number c.is_at-takes_first.result
-    c.is_at-takes_second.result
-    (record {
-      is_a = c.is_at-takes_first.ensures ∙ ap (λ (o : Option Waiting). is_at c.args.number (seen_of o)) c.waiting.ensures;
-      is_b = c.is_at-takes_second.ensures ∙ ap (λ (o : Option Waiting). is_at c.args.number (seen_of o)) c.waiting-2.ensures;
-      least = c.requires.least;
-      busy_a = c.requires.busy.0;
-      busy_b = c.requires.busy.1;
-      took_a = c.skip_if.ensures.takes;
-      took_b = c.skip_if-2.ensures.takes;
-      stays_a = c.skip_if.ensures.stays;
-      stays_b = c.skip_if-2.ensures.stays;
-      same_a = c.skip_if.ensures.same;
-      same_b = c.skip_if-2.ensures.same;
-      left_a = c.skip_if.ensures.left;
-      left_b = c.skip_if-2.ensures.left;
+      took_a = c.skip_if.ensures;
+      took_b = c.skip_if-2.ensures;
     })
     c.requires.going refl

@@ -15,12 +15,14 @@ returns-clause-shown c =
       plps = c.in_ok-carried.ensures.plps;
       given_a = [];
       given_b = [];
-      of_a = record { network = a.config; stands = a.stands };
-      of_b = record { network = b.config; stands = b.stands };
-      behind_a = record { waits = λ w is. omega arith; idle = λ _ _. omega arith };
-      behind_b = record { waits = λ w is. omega arith; idle = λ _ _. omega arith };
-      next_is = refl;
-      early = omega arith;
+      both = record {
+        of_a = record { network = a.config; stands = a.stands };
+        of_b = record { network = b.config; stands = b.stands };
+        behind_a = record { waits = λ w is. omega arith; idle = λ _ _. omega arith };
+        behind_b = record { waits = λ w is. omega arith; idle = λ _ _. omega arith };
+        next_is = refl;
+        early = omega arith;
+      };
       told = λ ga gb are_a are_b.
           let none = answers_nothing k ga gb in
           record {

@@ -1,9 +1,10 @@
-use Rattle.std.proofs.Common.{length, take, [], ◌∷◌, ◌++◌}
+use Rattle.std.proofs.Common.{false, length, take, [], ◌∷◌, ◌++◌}
 use Rattle.std.proofs.Math.Logic.{∥∥₁_map}
 use Rattle.file_run.specs.Events.{Fed}
+use Rattle.file_run.specs.Steps.{Suffices}
 use Rattle.compare_run.specs.Shown.{HasShown}
-use Rattle.compare_run.proofs.StepLemmas.{suffices_so}
-use Rattle.compare_run.proofs.WantLemmas.{room_of}
+use Rattle.two_feeds.proofs.WantLemmas.{room_of}
+use Rattle.compare_run.proofs.StepLemmas.{asked}
 use Rattle.compare_run.proofs.machine.CompareMachineMachine.feed.Goals as goal
 
 pub invariant_of-self : goal.invariant_of-self
@@ -22,8 +23,8 @@ pub feed-requires : goal.feed-requires
 feed-requires c =
     let m = c.args.self.now.comparing in
     let r = c.requires.room in
-    let w = suffices_so m.done _ _ _ _ c.args.input _ c.requires.wanted in
     record {
       wanted = c.requires.wanted;
-      room = room_of _ r.events m c.args.input (length c.args.bytes.now) r.came w.wants r.few;
+      room = room_of _ r.events false false m.next m.a m.b r.came.given_a r.came.given_b r.came.both c.args.input (length c.args.bytes.now)
+          (asked Suffices (λ i k h. h) m.done _ c.args.input _ c.requires.wanted).1 r.few;
     }

@@ -4,11 +4,11 @@ use Rattle.frame_compare.proofs.CarriedLemmas.{l1_differs, block_differs}
 use Rattle.frame_compare.proofs.comparing.Carried.place.Goals as goal
 
 pub returns-then-not-same : goal.returns-then-not-same
-returns-then-not-same c = λ ga gb stands ra rb da db.
-    l1_differs c.args.plan.now c.args.number ga gb c.args.a.now c.args.b.now da db (sym c.if-not-same.ensures)
+returns-then-not-same c = λ n ga gb stands ra rb da db.
+    l1_differs c.args.plan.now n ga gb c.args.a.now c.args.b.now da db (sym c.if-not-same.ensures)
 
 pub returns : goal.returns
-returns c = λ ga gb stands ra rb da db.
+returns c = λ n ga gb stands ra rb da db.
     c.block_place.ensures
     ∙ ap (λ (l : List (Option ℕ)). block_place c.args.plan.now (λ plp. slice_index_or l plp None)) c.as_slice.ensures.value
-    ∙ block_differs c.args.plan.now c.args.number ga gb c.args.a.now c.args.b.now da db (sym c.if-not-same.ensures) c.args.self.now stands ra rb
+    ∙ block_differs c.args.plan.now n ga gb c.args.a.now c.args.b.now da db (sym c.if-not-same.ensures) c.args.self.now stands ra rb

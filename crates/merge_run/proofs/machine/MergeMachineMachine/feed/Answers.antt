@@ -1,9 +1,11 @@
 use Rattle.std.proofs.Common.{length, take, [], ◌∷◌, ◌++◌}
 use Rattle.std.proofs.Math.Logic.{∥∥₁_map}
 use Rattle.file_run.specs.Events.{Fed}
-use Rattle.merge_run.specs.Shown.{HasShown}
-use Rattle.merge_run.proofs.StepLemmas.{suffices_at}
-use Rattle.merge_run.proofs.WantLemmas.{room_of}
+use Rattle.file_run.specs.Steps.{Suffices}
+use Rattle.feed_merge.specs.declared.seen.Feed.TheVariants.{A, B}
+use Rattle.merge_run.specs.Shown.{HasShown, is_held}
+use Rattle.two_feeds.proofs.WantLemmas.{room_of}
+use Rattle.merge_run.proofs.StepLemmas.{asked}
 use Rattle.merge_run.proofs.machine.MergeMachineMachine.feed.Goals as goal
 
 pub invariant_of-self : goal.invariant_of-self
@@ -22,8 +24,9 @@ pub feed-requires : goal.feed-requires
 feed-requires c =
     let m = c.args.self.now.merging in
     let r = c.requires.room in
-    let w = suffices_at m.phase _ _ _ _ c.args.input _ c.requires.wanted in
     record {
       wanted = c.requires.wanted;
-      room = room_of _ r.events m c.args.input (length c.args.bytes.now) r.came w.wants r.few;
+      room = room_of _ r.events (is_held m.phase m.source A) (is_held m.phase m.source B) m.next m.a m.b r.came.given_a r.came.given_b
+          r.came.both c.args.input (length c.args.bytes.now)
+          (asked Suffices (λ i k h. h) (λ i k h. h) m.phase _ c.args.input _ c.requires.wanted).1 r.few;
     }

@@ -1,9 +1,9 @@
 use Rattle.std.proofs.Common.{sym, subst}
 use Rattle.file_run.specs.Steps.{IsWanted}
 use Rattle.merge_run.specs.Steps.{reach_of}
-use Rattle.merge_run.proofs.WantLemmas.{wanted_by}
+use Rattle.merge_run.proofs.WantLemmas.{wanted}
 use Rattle.merge_run.proofs.machine.MergeMachineMachine.step.Goals as goal
 
 pub returns-clause-wanted : goal.returns-clause-wanted
 returns-clause-wanted c = λ start events came.
-    subst (IsWanted 2 events (reach_of c.args.self.now.merging)) (sym c.step.ensures) (wanted_by _ events c.args.self.now.merging came)
+    subst (IsWanted 2 events (reach_of c.args.self.now.merging)) (sym c.step.ensures) (wanted _ events c.args.self.now.merging came)

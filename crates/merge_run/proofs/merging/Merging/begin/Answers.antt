@@ -23,12 +23,6 @@ returns-then-not-is_picked-clause-shown c = λ k events s.
       busy_b = c.requires.busy.1;
       took_a = t.a;
       took_b = t.b;
-      stays_a = t.stays_a;
-      stays_b = t.stays_b;
-      same_a = t.same_a;
-      same_b = t.same_b;
-      left_a = t.left_a;
-      left_b = t.left_b;
     })
     s refl c.requires.reads refl c.requires.early
     (none_picked_is c.pick_next-pick.result.source (sym c.is_picked.ensures ∙ c.if-not-is_picked.true)) refl c.requires.reads refl
@@ -45,12 +39,6 @@ returns-then-not-is_picked-clause-left c =
       busy_b = c.requires.busy.1;
       took_a = t.a;
       took_b = t.b;
-      stays_a = t.stays_a;
-      stays_b = t.stays_b;
-      same_a = t.same_a;
-      same_b = t.same_b;
-      left_a = t.left_a;
-      left_b = t.left_b;
     })
     (none_picked_is c.pick_next-pick.result.source (sym c.is_picked.ensures ∙ c.if-not-is_picked.true)))
 
@@ -66,12 +54,6 @@ returns-clause-shown c = λ k events s.
       busy_b = c.requires.busy.1;
       took_a = t.a;
       took_b = t.b;
-      stays_a = t.stays_a;
-      stays_b = t.stays_b;
-      same_a = t.same_a;
-      same_b = t.same_b;
-      left_a = t.left_a;
-      left_b = t.left_b;
     })
     s refl c.requires.reads refl c.requires.early
     c.formed_law.ensures c.unwrap-source.result c.unwrap-source.ensures c.add.ensures refl refl
@@ -92,12 +74,6 @@ returns-clause-left c =
       busy_b = c.requires.busy.1;
       took_a = t.a;
       took_b = t.b;
-      stays_a = t.stays_a;
-      stays_b = t.stays_b;
-      same_a = t.same_a;
-      same_b = t.same_b;
-      left_a = t.left_a;
-      left_b = t.left_b;
     })
     h.shown c.requires.reads c.unwrap-source.result c.unwrap-source.ensures
     (subst (λ (f : FrameFeed). Begins c.args.self.now.merger c.begin_frame.new.merger f c.args.number) c.source_of.ensures
@@ -115,12 +91,6 @@ begin_frame-requires-clause-whole c =
       busy_b = c.requires.busy.1;
       took_a = t.a;
       took_b = t.b;
-      stays_a = t.stays_a;
-      stays_b = t.stays_b;
-      same_a = t.same_a;
-      same_b = t.same_b;
-      left_a = t.left_a;
-      left_b = t.left_b;
     })
     c.unwrap-source.result c.unwrap-source.ensures).whole
 
@@ -129,8 +99,8 @@ begin_frame-requires-clause-network c =
     let t = c.skip_others.ensures in
     ∥∥₁_map c.requires.came (λ (h : HasShown c.args.self.now).
     ap feed.config_of c.source_of.ensures
-    ∙ network_in h.network c.args.self.now c.skip_others.new.a c.skip_others.new.b h.events c.requires.reads t.same_a.network
-    t.same_b.network h.shown c.unwrap-source.result)
+    ∙ network_in h.network c.args.self.now c.skip_others.new.a c.skip_others.new.b h.events c.requires.reads t.a.same.network
+    t.b.same.network h.shown c.unwrap-source.result)
 
 pub begin_frame-requires-clause-given : goal.begin_frame-requires-clause-given
 begin_frame-requires-clause-given c = test_of _ _ c.requires.came
@@ -142,7 +112,7 @@ begin_frame-requires-clause-open c = test_of _ _ c.requires.came
 
 pub add-requires-clause-frames : goal.add-requires-clause-frames
 add-requires-clause-frames c = less_of _ _ c.requires.came
-    (λ (h : HasShown c.args.self.now). let f = h.shown.counts.frames in let e = h.shown.early in omega (arith, f, e))
+    (λ (h : HasShown c.args.self.now). let f = h.shown.counts.frames in let e = h.shown.both.early in omega (arith, f, e))
 
 pub add-requires-clause-parts : goal.add-requires-clause-parts
 add-requires-clause-parts c = number_of _ _ c.requires.came (λ (h : HasShown c.args.self.now). h.shown.counts.parts)

@@ -69,16 +69,7 @@ returns-then-not-full-clause-shown c = λ k events s.
     (sym (c.add_units.ensures ∙ ap (λ (q : ℕ). record m.ran { units = m.ran.units + q }) e))
     (shown_behind c.events_law.ensures k m u.new.merger events s c.requires.gives n.0 is u.result.1 _ n.2
     c.due_records_law.ensures.follow c.skip_source.new.a c.skip_source.new.b
-    (record {
-      took_a = t.a;
-      took_b = t.b;
-      stays_a = t.stays_a;
-      stays_b = t.stays_b;
-      same_a = t.same_a;
-      same_b = t.same_b;
-      left_a = t.left_a;
-      left_b = t.left_b;
-    })
+    (record { took_a = t.a; took_b = t.b })
     c.if-not-full.true)
 
 pub returns-then-not-full-clause-left : goal.returns-then-not-full-clause-left
@@ -86,16 +77,7 @@ returns-then-not-full-clause-left c =
     let t = c.skip_source.ensures in
     left_behind c.args.self.now c.skip_source.new.a c.skip_source.new.b
     (feed_in c.args.self.now.source c.skip_source.new.a c.skip_source.new.b) c.give_frame-len.new.merger c.requires.gives
-    (record {
-      took_a = t.a;
-      took_b = t.b;
-      stays_a = t.stays_a;
-      stays_b = t.stays_b;
-      same_a = t.same_a;
-      same_b = t.same_b;
-      left_a = t.left_a;
-      left_b = t.left_b;
-    })
+    (record { took_a = t.a; took_b = t.b })
 
 pub returns-else-not-full-clause-shown : goal.returns-else-not-full-clause-shown
 returns-else-not-full-clause-shown c = λ k events s.

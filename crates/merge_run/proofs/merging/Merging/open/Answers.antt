@@ -13,12 +13,14 @@ returns-clause-shown c =
       plan = c.rules_law.ensures.plan;
       given_a = [];
       given_b = [];
-      of_a = record { network = a.config; stands = a.stands };
-      of_b = record { network = b.config; stands = b.stands };
-      behind_a = record { waits = λ w is. omega arith; idle = λ _ _. omega arith };
-      behind_b = record { waits = λ w is. omega arith; idle = λ _ _. omega arith };
-      next_is = refl;
-      early = omega arith;
+      both = record {
+        of_a = record { network = a.config; stands = a.stands };
+        of_b = record { network = b.config; stands = b.stands };
+        behind_a = record { waits = λ w is. omega arith; idle = λ _ _. omega arith };
+        behind_b = record { waits = λ w is. omega arith; idle = λ _ _. omega arith };
+        next_is = refl;
+        early = omega arith;
+      };
       sends = sends_opened k c.new.result g.config g.stands;
       ran_is = ran_opened k;
       counts = record { frames = omega arith; parts = refl; units = omega arith };

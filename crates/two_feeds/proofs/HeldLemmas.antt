@@ -14,7 +14,7 @@ use Rattle.two_feeds.specs.Skips.{IsOnly, Takes}
 use Rattle.held_feed.specs.StandsFor.{FrameFeedStandsFor, IsFirst, waiting_of}
 use Rattle.held_feed.specs.StandsFor as feed
 use Rattle.held_feed.specs.declared.feed.FrameFeed.{FrameFeed}
-use Rattle.merge_run.specs.Shown.{OfFeed, IsPast}
+use Rattle.two_feeds.specs.Both.{OfFeed, IsPast}
 use Rattle.two_feeds.specs.Fed.{IsFedWith, IsBehind, NoneComes}
 use Rattle.two_feeds.proofs.FeedLemmas.{waits_above}
 use Rattle.two_feeds.proofs.NumberLemmas.{AllFrom, above_before, from_rest, from_more}
@@ -64,12 +64,6 @@ module _ (law : DueFront) (follow : DueFollow) (c : Config) (f : FrameFeed) (fil
           let rest = from_rest from.0 given (y ∷ ys) are in
           let number = rest.0 in
           from_more n (from.0 + length given) (y ∷ ys) (omega (arith, low, number, past)) rest
-
--- the same of any bytes and ends that are the same
-pub same_of : (held : Bool) (c : Config) (f : FrameFeed) (bytes other : List ℕ) (ended over : Bool) (given : List FrameRecord)
-    → bytes ≡ other → ended ≡ over → OfFeed held c f bytes ended given → OfFeed held c f other over given
-same_of held c f bytes other ended over given b e h =
-    subst (λ (l : List ℕ). OfFeed held c f l over given) b (subst (λ (k : Bool). OfFeed held c f bytes k given) e h)
 
 -- ---- the frame was sent
 
