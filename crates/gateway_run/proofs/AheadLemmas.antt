@@ -10,7 +10,7 @@ use Rattle.gateway_core.specs.Laws.{UnitsLaw, WaitsThreeFrames}
 use Rattle.gateway_core.specs.Packets.{front_packets}
 use Rattle.common_plp.specs.Inputs.{place_of, streams_by}
 use Rattle.common_plp.specs.Sharing.{Sharing}
-use Rattle.gateway_run.specs.SharedRun.{inputs_of, frames_of, units_of, ReadsNoFurther, ReadsAhead}
+use Rattle.gateway_run.specs.GatewayRun.{inputs_of, frames_of, units_of, ReadsNoFurther, ReadsAhead}
 use Rattle.gateway_run.proofs.MachineLemmas.{reach_more}
 
 module _ (way : Sharing) where

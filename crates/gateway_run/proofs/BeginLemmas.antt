@@ -1,7 +1,6 @@
 -- A frame begins, or none comes.
-use Rattle.std.proofs.Common.{◌≡◌, ℕ, ◌+◌, ◌-◌, ◌*◌, ◌<◌, Bool, true, false, List, [], ◌∷◌, ◌++◌, length, refl, ap, sym, subst}
+use Rattle.std.proofs.Common.{◌≡◌, ℕ, ◌+◌, ◌-◌, ◌*◌, ◌<◌, true, false, List, [], ◌∷◌, ◌++◌, length, refl, ap, sym, subst}
 use Rattle.std.proofs.Common.{◌∙◌, inl, inr, arith, length-append, append-nil}
-use Rattle.std.specs.Prelude.{◌↔◌}
 use Rattle.ts_packet.specs.TsFile.{joined}
 use Rattle.std.proofs.lemmas.Bool.{cases_eq}
 use Rattle.plp_config.specs.SlotTime.{slots_by}
@@ -23,7 +22,7 @@ use Rattle.common_plp.proofs.InputLemmas.{place_inside}
 use Rattle.gateway_run.specs.Inputs.{Continue, IsLastBy, frames_by}
 use Rattle.gateway_run.specs.declared.stop.GatewayStop.TheVariants.{TooManyFrames}
 use Rattle.gateway_run.specs.declared.place.Phase.{Phase}
-use Rattle.gateway_run.specs.declared.place.Phase.TheVariants.{Begins, Gives, Rests, Stopped}
+use Rattle.gateway_run.specs.declared.place.Phase.TheVariants.{Gives, Rests, Stopped}
 use Rattle.gateway_run.specs.declared.place.Place.{Place}
 use Rattle.gateway_run.specs.declared.stop.Ran.{Ran}
 use Rattle.gateway_run.proofs.ContinueLemmas.{back_begun, back_same}
@@ -33,15 +32,15 @@ use Rattle.gateway_run.proofs.StepLemmas.{sends_begun, sends_finished, time_same
 
 module _ (way : Sharing) where
   -- what is known before a frame begins
-  pub record IsBeforeFrame (c : Config) (g : Config → List Event → Type 0) (events : List Event) (tails : ℕ → List ℕ) : Type 0 where
-    pub stands : g c events
+  pub record IsBeforeFrame (c : Config) (g : List Event → Type 0) (events : List Event) (tails : ℕ → List ℕ) : Type 0 where
+    pub stands : g events
     pub none : NoTails tails
     pub complete : AreComplete way c events
     pub is_going : finished events ≡ false
     pub all : (plp : ℕ) → plp < input_count way c → HasAll way c events plp
 
   -- so it is whatever a machine was done
-  abbrev pub IsReadyFor : Config → List run.Event → (Config → List Event → Type 0) → Place → Ran → Type 0
+  abbrev pub IsReadyFor : Config → List run.Event → (List Event → Type 0) → Place → Ran → Type 0
   IsReadyFor c done g place ran = (h : Holds way c done g place ran) → IsBeforeFrame c g h.events h.tails
 
   -- nothing was told of inputs but that a frame began, or no more comes
@@ -59,7 +58,7 @@ module _ (way : Sharing) where
   }
 
   -- the run is longer than the frames begun, if it is not over
-  more_frames : NotYetLast → OwnLength way → (c : Config) (done : List run.Event) (g : Config → List Event → Type 0) (place : Place)
+  more_frames : NotYetLast → OwnLength way → (c : Config) (done : List run.Event) (g : List Event → Type 0) (place : Place)
       (ran : Ran) (h : Holds way c done g place ran) → IsBeforeFrame c g h.events h.tails → (IsLastBy way c h.events → ⊥)
       → (inputs : ℕ → List (List ℕ)) → Continue way c h.events inputs → begun h.events < frames_by way c inputs
   more_frames law own c done g place ran h b not_last inputs k =
@@ -111,10 +110,10 @@ module _ (way : Sharing) where
 
   -- A frame was begun.
   pub frame_begun : NotYetLast → OwnLength way → FrontsGrow → (c : Config) (done : List run.Event)
-      (g next : Config → List Event → Type 0) (place after : Place) (ran now : Ran) → IsReadyFor c done g place ran → after.phase ≡ Gives
+      (g next : List Event → Type 0) (place after : Place) (ran now : Ran) → IsReadyFor c done g place ran → after.phase ≡ Gives
       → now.frames ≡ ran.frames + 1 → now.units ≡ ran.units
-      → ((events : List Event) → g c events → IsLastBy way c events → ⊥)
-      → ((events : List Event) → g c events → next c (events ++ Begun ∷ []))
+      → ((events : List Event) → g events → IsLastBy way c events → ⊥)
+      → ((events : List Event) → g events → next (events ++ Begun ∷ []))
       → Holds way c done g place ran → Holds way c done next after now
   frame_begun law own grow c done g next place after ran now ready to one same not_last stands h =
       let b = ready h in
@@ -125,7 +124,7 @@ module _ (way : Sharing) where
       record {
         plan = h.plan;
         events = h.events ++ Begun ∷ [];
-        stands = subst (λ (p : Phase). StandsIn p next c (h.events ++ Begun ∷ [])) (sym to) (stands h.events b.stands);
+        stands = subst (λ (p : Phase). StandsIn p next (h.events ++ Begun ∷ [])) (sym to) (stands h.events b.stands);
         frames = omega (arith, one, f, n);
         units = same ∙ h.units ∙ sym m;
         tails = h.tails;
@@ -148,10 +147,10 @@ module _ (way : Sharing) where
       }
 
   -- No more frames come.
-  pub frames_ended : (c : Config) (done : List run.Event) (g next : Config → List Event → Type 0) (place after : Place) (ran : Ran)
+  pub frames_ended : (c : Config) (done : List run.Event) (g next : List Event → Type 0) (place after : Place) (ran : Ran)
       → IsReadyFor c done g place ran → after.phase ≡ Rests
-      → ((events : List Event) → g c events → IsLastBy way c events)
-      → ((events : List Event) → g c events → next c (events ++ Finished ∷ []))
+      → ((events : List Event) → g events → IsLastBy way c events)
+      → ((events : List Event) → g events → next (events ++ Finished ∷ []))
       → Holds way c done g place ran → Holds way c done next after ran
   frames_ended c done g next place after ran ready to last stands h =
       let b = ready h in
@@ -162,7 +161,7 @@ module _ (way : Sharing) where
       record {
         plan = h.plan;
         events = h.events ++ Finished ∷ [];
-        stands = subst (λ (p : Phase). StandsIn p next c (h.events ++ Finished ∷ [])) (sym to) (stands h.events b.stands);
+        stands = subst (λ (p : Phase). StandsIn p next (h.events ++ Finished ∷ [])) (sym to) (stands h.events b.stands);
         frames = h.frames ∙ sym n;
         units = h.units ∙ sym m;
         tails = h.tails;
@@ -184,8 +183,8 @@ module _ (way : Sharing) where
       }
 
   -- The same was done, and it goes on elsewhere.
-  pub moved_to : (c : Config) (done : List run.Event) (g next : Config → List Event → Type 0) (place after : Place) (ran : Ran)
-      (h : Holds way c done g place ran) → StandsIn after.phase next c h.events → IsIn way c h.events h.tails after.phase
+  pub moved_to : (c : Config) (done : List run.Event) (g next : List Event → Type 0) (place after : Place) (ran : Ran)
+      (h : Holds way c done g place ran) → StandsIn after.phase next h.events → IsIn way c h.events h.tails after.phase
       → NoTails h.tails → Holds way c done next after ran
   moved_to c done g next place after ran h stands at none = record {
     plan = h.plan;
@@ -202,13 +201,13 @@ module _ (way : Sharing) where
   }
 
   -- Another frame would be one too many.
-  pub too_many : NotYetLast → OwnLength way → (c : Config) (done : List run.Event) (g : Config → List Event → Type 0)
+  pub too_many : NotYetLast → OwnLength way → (c : Config) (done : List run.Event) (g : List Event → Type 0)
       (place after : Place) (ran : Ran) → IsReadyFor c done g place ran → after.phase ≡ Stopped TooManyFrames → ran.frames ≡ MOST_FRAMES
-      → ((events : List Event) → g c events → IsLastBy way c events → ⊥) → Holds way c done g place ran
+      → ((events : List Event) → g events → IsLastBy way c events → ⊥) → Holds way c done g place ran
       → Holds way c done g after ran
   too_many law own c done g place after ran ready to most not_last h =
       let b = ready h in
-      moved_to c done g g place after ran h (subst (λ (p : Phase). StandsIn p g c h.events) (sym to) tt)
+      moved_to c done g g place after ran h (subst (λ (p : Phase). StandsIn p g h.events) (sym to) tt)
       (subst (λ (p : Phase). IsIn way c h.events h.tails p) (sym to)
       (record {
         none = b.none;

@@ -5,7 +5,7 @@ use Rattle.plp_config.specs.declared.config.Config.{Config}
 use Rattle.common_plp.specs.Inputs.{place_of}
 use Rattle.common_plp.specs.Sharing.{Sharing}
 use Rattle.gateway_core.specs.Events.{Event, Offered, Ended, Begun, has_ended}
-use Rattle.gateway_core.specs.InputSoFar.{Told, told, in_next, Continues}
+use Rattle.gateway_core.specs.InputSoFar.{Told, told, Continues}
 use Rattle.gateway_core.proofs.HoldsLemmas.{cont_packet, cont_end, other_offered, other_ended}
 use Rattle.gateway_core.proofs.InputsLemmas.{told_offered, told_ended, told_begun, cont_next}
 use Rattle.gateway_run.specs.Inputs.{Continue}

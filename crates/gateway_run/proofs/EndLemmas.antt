@@ -15,7 +15,7 @@ use Rattle.common_plp.specs.Inputs.{place_of, input_count, streams_by}
 use Rattle.common_plp.specs.Laws.{SplitLength}
 use Rattle.common_plp.specs.Sharing.{Sharing}
 use Rattle.common_plp.proofs.InputLemmas.{place_inside}
-use Rattle.gateway_run.specs.SharedRun.{inputs_of, frames_of, units_of, Wants, WantsBad, MeetsBad, MeetsNone}
+use Rattle.gateway_run.specs.GatewayRun.{inputs_of, frames_of, units_of, Wants, WantsBad, MeetsBad, MeetsNone}
 use Rattle.gateway_run.specs.Laws.{MustRun, RunEnds}
 use Rattle.gateway_run.specs.declared.stop.Ran.{Ran}
 use Rattle.gateway_run.specs.declared.stop.GatewayStop.{GatewayStop}

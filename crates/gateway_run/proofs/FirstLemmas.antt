@@ -30,7 +30,7 @@ first_place = record { input = 0; phase = Gives }
 abbrev pub first_ran : Ran
 first_ran = record { frames = 0; units = 0 }
 
-pub first : (way : Sharing) (c : Config) (g : Config → List Event → Type 0) → IsPlan c → g c []
+pub first : (way : Sharing) (c : Config) (g : List Event → Type 0) → IsPlan c → g []
     → Holds way c [] g first_place first_ran
 first way c g plan stands = record {
   plan = plan;

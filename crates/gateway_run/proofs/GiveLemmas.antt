@@ -15,7 +15,8 @@ use Rattle.gateway_core.proofs.HoldsLemmas.{given_with, begun_same, finished_sam
 use Rattle.gateway_run.specs.Holds.{AreComplete, AreAll, HasGiven, NoTails, IsIn, StandsIn, Holds}
 use Rattle.common_plp.specs.Inputs.{place_of, streams_by}
 use Rattle.common_plp.specs.Sharing.{Sharing}
-use Rattle.gateway_run.specs.Phases.{IsGiving, IsLooking, IsBehind, left_by}
+use Rattle.gateway_run.specs.Seen.{IsNext}
+use Rattle.gateway_run.specs.Phases.{IsGiving, IsLooking, left_by}
 use Rattle.gateway_run.specs.declared.place.Phase.{Phase}
 use Rattle.gateway_run.specs.declared.place.Phase.TheVariants.{Wants, Begins, Gives, Rests, Done, Stopped}
 use Rattle.gateway_run.specs.declared.place.Place.{Place}
@@ -23,28 +24,28 @@ use Rattle.gateway_run.specs.declared.stop.Ran.{Ran}
 use Rattle.gateway_run.proofs.ContinueLemmas.{back_same}
 use Rattle.gateway_run.proofs.PhaseLemmas.{giving_cases}
 use Rattle.gateway_run.proofs.StreamLemmas.{still_last}
-use Rattle.gateway_run.proofs.StepLemmas.{IsNext, sends_gave, time_same}
+use Rattle.gateway_run.proofs.StepLemmas.{sends_gave, time_same}
 use Rattle.gateway_run.proofs.TakeLemmas.{offered_as, looked_in, looked_stands}
 
 module _ (way : Sharing) where
-  stands_giving : (phase : Phase) (g : Config → List Event → Type 0) (c : Config) (events : List Event)
-      → IsGiving phase → StandsIn phase g c events
-      → g c events
-  stands_giving phase g c events i s =
+  stands_giving : (phase : Phase) (g : List Event → Type 0) (events : List Event)
+      → IsGiving phase → StandsIn phase g events
+      → g events
+  stands_giving phase g events i s =
       elim (giving_cases phase i) [
-        | inl gives ↦ subst (λ (p : Phase). StandsIn p g c events) gives s
+        | inl gives ↦ subst (λ (p : Phase). StandsIn p g events) gives s
         | inr rests ↦
-            subst (λ (p : Phase). StandsIn p g c events) rests s
+            subst (λ (p : Phase). StandsIn p g events) rests s
       ]
 
-  giving_stands : (phase : Phase) (g : Config → List Event → Type 0) (c : Config) (events : List Event)
-      → IsGiving phase → g c events
-      → StandsIn phase g c events
-  giving_stands phase g c events i s =
+  giving_stands : (phase : Phase) (g : List Event → Type 0) (events : List Event)
+      → IsGiving phase → g events
+      → StandsIn phase g events
+  giving_stands phase g events i s =
       elim (giving_cases phase i) [
-        | inl gives ↦ subst (λ (p : Phase). StandsIn p g c events) (sym gives) s
+        | inl gives ↦ subst (λ (p : Phase). StandsIn p g events) (sym gives) s
         | inr rests ↦
-            subst (λ (p : Phase). StandsIn p g c events) (sym rests) s
+            subst (λ (p : Phase). StandsIn p g events) (sym rests) s
       ]
 
   no_tails : (phase : Phase) (c : Config) (events : List Event) (tails : ℕ → List ℕ) → IsGiving phase → IsIn way c events tails phase
@@ -93,13 +94,13 @@ module _ (way : Sharing) where
       ]
 
   -- A unit was given.
-  pub unit_gave : EventsTell → (c : Config) (done : List run.Event) (g next : Config → List Event → Type 0) (place : Place) (ran now : Ran)
+  pub unit_gave : EventsTell → (c : Config) (done : List run.Event) (g next : List Event → Type 0) (place : Place) (ran now : Ran)
       (unit bytes : List ℕ) → IsGiving place.phase → bytes ≡ unit → now.frames ≡ ran.frames → now.units ≡ ran.units + 1
-      → ((events : List Event) → g c events → IsNext way c events unit)
-      → ((events : List Event) → g c events → next c (events ++ Gave ∷ []))
+      → ((events : List Event) → g events → IsNext way c events unit)
+      → ((events : List Event) → g events → next (events ++ Gave ∷ []))
       → Holds way c done g place ran → Holds way c (done ++ run.Gave bytes ∷ []) next place now
   unit_gave tell c done g next place ran now unit bytes i is frames units gives stands h =
-      let s = stands_giving place.phase g c h.events i h.stands in
+      let s = stands_giving place.phase g h.events i h.stands in
       let same : (plp : ℕ) → told plp (h.events ++ Gave ∷ []) ≡ told plp h.events =
       λ plp. nothing_told plp h.events Gave refl refl refl in
       let none = no_tails place.phase c h.events h.tails i h.is_in in
@@ -107,7 +108,7 @@ module _ (way : Sharing) where
       record {
         plan = h.plan;
         events = h.events ++ Gave ∷ [];
-        stands = giving_stands place.phase next c (h.events ++ Gave ∷ []) i (stands h.events s);
+        stands = giving_stands place.phase next (h.events ++ Gave ∷ []) i (stands h.events s);
         frames = frames ∙ h.frames ∙ sym (begun_same h.events Gave refl);
         units = (let u = h.units in let m = given_with h.events Gave in omega (arith, units, u, m));
         tails = h.tails;
@@ -125,8 +126,8 @@ module _ (way : Sharing) where
       }
 
   -- what holds of a gateway that stands for the same, if nothing was given
-  moved : EventsTell → (c : Config) (done : List run.Event) (g next : Config → List Event → Type 0) (place after : Place) (ran : Ran)
-      (h : Holds way c done g place ran) → StandsIn after.phase next c h.events → IsIn way c h.events h.tails after.phase
+  moved : EventsTell → (c : Config) (done : List run.Event) (g next : List Event → Type 0) (place after : Place) (ran : Ran)
+      (h : Holds way c done g place ran) → StandsIn after.phase next h.events → IsIn way c h.events h.tails after.phase
       → ((plp : ℕ) → h.tails plp ≢ [] → (slice_index (h.tails plp) 0 ≢ SYNC) ⊎ (run.has_ended plp done ≡ true))
       → Holds way c (done ++ run.Gave [] ∷ []) next after ran
   moved tell c done g next place after ran h stands at cut =
@@ -155,52 +156,38 @@ module _ (way : Sharing) where
         cut = λ plp some. elim (cut plp some) [ inl sync ↦ inl sync | inr on ↦ inr (f.ended plp ∙ on) ];
       }
 
-  pub nothing_gave : EventsTell → (c : Config) (done : List run.Event) (g : Config → List Event → Type 0) (place : Place) (ran : Ran)
+  pub nothing_gave : EventsTell → (c : Config) (done : List run.Event) (g : List Event → Type 0) (place : Place) (ran : Ran)
       → Holds way c done g place ran → Holds way c (done ++ run.Gave [] ∷ []) g place ran
   nothing_gave tell c done g place ran h = moved tell c done g g place place ran h h.stands h.is_in h.cut
 
   -- All units of the run were given.
-  units_over : EventsTell → (c : Config) (done : List run.Event) (g next : Config → List Event → Type 0) (place after : Place) (ran : Ran)
+  pub units_over : EventsTell → (c : Config) (done : List run.Event) (g next : List Event → Type 0) (place after : Place) (ran : Ran)
       → place.phase ≡ Rests → after.phase ≡ Done
-      → ((events : List Event) → g c events → finished events ≡ true → AreAll way c events)
+      → ((events : List Event) → g events → finished events ≡ true → AreAll way c events)
       → Holds way c done g place ran → Holds way c (done ++ run.Gave [] ∷ []) next after ran
   units_over tell c done g next place after ran e to none h =
-      let s : g c h.events = subst (λ (p : Phase). StandsIn p g c h.events) e h.stands in
+      let s : g h.events = subst (λ (p : Phase). StandsIn p g h.events) e h.stands in
       let i : NoTails h.tails × HasGiven way c h.events (begun h.events) × (finished h.events ≡ true) =
       subst (λ (p : Phase). IsIn way c h.events h.tails p) e h.is_in in
-      moved tell c done g next place after ran h (subst (λ (p : Phase). StandsIn p next c h.events) (sym to) tt)
+      moved tell c done g next place after ran h (subst (λ (p : Phase). StandsIn p next h.events) (sym to) tt)
       (subst (λ (p : Phase). IsIn way c h.events h.tails p) (sym to) (i.0, i.2, none h.events s i.2))
       (λ plp some. absurd (some (i.0 plp)))
 
   -- All complete units of the frames begun were given.
-  units_out : EventsTell → (c : Config) (done : List run.Event) (g next : Config → List Event → Type 0) (place after : Place) (ran : Ran)
-      → IsGiving place.phase → IsLooking after.phase
-      → ((events : List Event) → g c events → next c events)
-      → ((events : List Event) → g c events → finished events ≡ false → AreComplete way c events)
-      → ((events : List Event) → g c events → finished events ≡ false)
+  pub units_out : EventsTell → (c : Config) (done : List run.Event) (g next : List Event → Type 0) (place after : Place) (ran : Ran)
+      → place.phase ≡ Gives → IsLooking after.phase
+      → ((events : List Event) → g events → next events)
+      → ((events : List Event) → g events → finished events ≡ false → AreComplete way c events)
+      → ((events : List Event) → g events → finished events ≡ false)
       → Holds way c done g place ran → Holds way c (done ++ run.Gave [] ∷ []) next after ran
-  units_out tell c done g next place after ran i look still caught off h =
-      let s = stands_giving place.phase g c h.events i h.stands in
-      let none = no_tails place.phase c h.events h.tails i h.is_in in
+  units_out tell c done g next place after ran e look still caught off h =
+      let s : g h.events = subst (λ (p : Phase). StandsIn p g h.events) e h.stands in
+      let i : NoTails h.tails × HasGiven way c h.events (begun h.events - 1) =
+      subst (λ (p : Phase). IsIn way c h.events h.tails p) e h.is_in in
       moved tell c done g next place after ran h
-      (looked_stands way next c h.events after.phase look (still h.events s))
-      (looked_in way c h.events h.tails after.phase look none (caught h.events s (off h.events s)))
-      (λ plp some. absurd (some (none plp)))
-
-  -- No unit was given, and what comes behind them.
-  pub gave_none : EventsTell → (c : Config) (done : List run.Event) (g next : Config → List Event → Type 0) (place after : Place) (ran : Ran)
-      → (place.phase ≡ Gives → (events : List Event) → g c events → finished events ≡ false) → IsGiving place.phase
-      → IsBehind place.phase after.phase
-      → ((events : List Event) → g c events → next c events)
-      → ((events : List Event) → g c events → finished events ≡ false → AreComplete way c events)
-      → ((events : List Event) → g c events → finished events ≡ true → AreAll way c events)
-      → Holds way c done g place ran → Holds way c (done ++ run.Gave [] ∷ []) next after ran
-  gave_none tell c done g next place after ran going i b still caught none h =
-      elim (giving_cases place.phase i) [
-        | inl gives ↦ units_out tell c done g next place after ran i (subst (λ (p : Phase). IsBehind p after.phase) gives b) still caught
-            (going gives) h
-        | inr rests ↦ units_over tell c done g next place after ran rests (subst (λ (p : Phase). IsBehind p after.phase) rests b) none h
-      ]
+      (looked_stands way next h.events after.phase look (still h.events s))
+      (looked_in way c h.events h.tails after.phase look i.0 (caught h.events s (off h.events s)))
+      (λ plp some. absurd (some (i.0 plp)))
 
 -- what is left to give is less behind a unit
 pub unit_left : (phase : Phase) (bytes later frames : ℕ) → IsGiving phase → later < bytes
@@ -212,7 +199,8 @@ unit_left Rests bytes later frames i less = omega (arith, less)
 unit_left Done bytes later frames i less = absurd i
 unit_left (Stopped why) bytes later frames i less = absurd i
 
-looked_left : (phase : Phase) (bytes later frames : ℕ) → later ≡ bytes → IsLooking phase
+-- and behind the last one of a frame
+pub looked_left : (phase : Phase) (bytes later frames : ℕ) → later ≡ bytes → IsLooking phase
     → left_by later phase frames < left_by bytes Gives frames
 looked_left Wants bytes later frames kept l = omega (arith, kept)
 looked_left Begins bytes later frames kept l = omega (arith, kept)
@@ -220,15 +208,3 @@ looked_left Gives bytes later frames kept l = absurd l
 looked_left Rests bytes later frames kept l = absurd l
 looked_left Done bytes later frames kept l = absurd l
 looked_left (Stopped why) bytes later frames kept l = absurd l
-
--- and behind the last one
-pub behind_left : (phase : Phase) (bytes later frames : ℕ) (after : Phase) → IsGiving phase → later ≡ bytes → IsBehind phase after
-    → left_by later after frames < left_by bytes phase frames
-behind_left Wants bytes later frames after i kept b = absurd i
-behind_left Begins bytes later frames after i kept b = absurd i
-behind_left Gives bytes later frames after i kept b = looked_left after bytes later frames kept b
-behind_left Rests bytes later frames after i kept b =
-    let less : left_by later Done frames < left_by bytes Rests frames = omega arith in
-    subst (λ (p : Phase). left_by later p frames < left_by bytes Rests frames) (sym b) less
-behind_left Done bytes later frames after i kept b = absurd i
-behind_left (Stopped why) bytes later frames after i kept b = absurd i

@@ -12,7 +12,7 @@ use Rattle.common_plp.specs.Inputs.{place_of}
 use Rattle.common_plp.specs.Sharing.{Sharing}
 use Rattle.gateway_run.specs.Inputs.{IsBefore}
 use Rattle.gateway_run.specs.Laws.{OneRun}
-use Rattle.gateway_run.specs.SharedRun.{WantsBad, MeetsBad, MeetsNone}
+use Rattle.gateway_run.specs.GatewayRun.{WantsBad, MeetsBad, MeetsNone}
 use Rattle.gateway_run.specs.declared.stop.Ran.{Ran}
 use Rattle.gateway_run.specs.declared.stop.GatewayStop.{GatewayStop}
 use Rattle.gateway_run.specs.declared.stop.GatewayStop.TheVariants.{Bad, TooManyFrames}

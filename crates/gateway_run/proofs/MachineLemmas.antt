@@ -30,24 +30,25 @@ pub reach_more : (c : Config) (plp frame later : ℕ) → frame ≤ later → SI
 reach_more c plp frame later le = let s = slots_rise c plp frame later le in omega (arith, s)
 
 -- What a frame wants of the input that is looked at can be read.
-pub wanted_by : (way : Sharing) (c : Config) (done : List run.Event) (g : Config → List Event → Type 0) (place : Place) (ran : Ran)
-    (wants n inputs : ℕ) → inputs ≡ input_count way c → Waits way c done g place ran wants → n ≤ wants → 0 < n
+pub wanted_by : (way : Sharing) (c : Config) (done : List run.Event) (g : List Event → Type 0) (place : Place) (ran : Ran)
+    (wants n inputs : ℕ) → inputs ≡ input_count way c → Waits way c done g place ran wants → n ≤ wants → (0 < wants → 0 < n)
     → Holds way c done g place ran
     → CanBeRead inputs done (λ input. SIZE * slots_by c (place_of way c input) (ran.frames * c.ticks)) place.input SIZE (SIZE * n)
 wanted_by way c done g place ran wants n inputs all wait few some h =
     let x = wait h in
-    let o = h.inputs.each place.input x.inside in
+    let o = h.inputs.each place.input x.first.inside in
     let at = ap (λ (m : ℕ). slots_by c (place_of way c place.input) (m * c.ticks)) h.frames in
-    let l = x.wanted.less in
-    let k = x.wants_are in
+    let l = x.first.less in
+    let k = x.first.wants_are in
     let size = offered_length _ _ _ _ _ (x.none place.input) o in
-    let i = x.inside in
+    let i = x.first.inside in
+    let more : 0 < n = some (omega (arith, k, l)) in
     record {
       place = omega (arith, i, all);
-      is_open = o.end (x.none place.input) ∙ x.wanted.is_open;
+      is_open = o.end (x.none place.input) ∙ x.first.is_open;
       some = omega arith;
       few = omega arith;
-      order = omega (arith, some);
+      order = omega (arith, more);
       near = omega (arith, k, at, l, size, few);
     }
 

@@ -1,11 +1,11 @@
 -- In which order the slots of inputs are looked at.
-use Rattle.std.proofs.Common.{◌≡◌, ◌⊎◌, ℕ, zero, suc, ◌+◌, ◌<◌, ◌≤◌, length, inl, inr, ap, sym, subst, ◌∙◌, arith}
+use Rattle.std.proofs.Common.{◌≡◌, ◌⊎◌, ℕ, zero, suc, ◌<◌, ◌≤◌, inl, inr, sym, subst, arith}
 use Rattle.std.proofs.lemmas.Bool.{cases_lt, cases_eq}
 use Rattle.plp_config.specs.declared.config.Config.{Config}
 use Rattle.common_plp.specs.Inputs.{place_of}
 use Rattle.common_plp.specs.Sharing.{Sharing, Apart, Joint}
 use Rattle.gateway_run.specs.Inputs.{IsBefore}
-use Rattle.split_gateway.specs.Order.{IsEarlier, turn_of}
+use Rattle.split_gateway.specs.Order.{turn_of}
 
 -- The order of three numbers, the first of which tells most.
 abbrev IsLess : ℕ → ℕ → ℕ → ℕ → ℕ → ℕ → Type 0

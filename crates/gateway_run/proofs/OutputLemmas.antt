@@ -21,7 +21,7 @@ use Rattle.gateway_core.specs.Packets.{front_packets, packets_of}
 use Rattle.common_plp.specs.Inputs.{place_of, input_count, streams_by}
 use Rattle.common_plp.specs.Sharing.{Sharing}
 use Rattle.gateway_run.specs.Inputs.{Continue, IsLastBy}
-use Rattle.gateway_run.specs.SharedRun.{inputs_of, frames_of, units_of, ReadsNoBad, MeetsNone, MeetsBad}
+use Rattle.gateway_run.specs.GatewayRun.{inputs_of, frames_of, units_of, ReadsNoBad, MeetsNone, MeetsBad}
 use Rattle.gateway_run.specs.Holds.{IsOffered, AreComplete, AreAll, HasGiven, HasAll, MetBad, NoTails, IsIn, Holds}
 use Rattle.gateway_run.specs.declared.place.Phase.{Phase}
 use Rattle.gateway_run.specs.declared.place.Phase.TheVariants.{Done, Stopped}
@@ -43,14 +43,14 @@ read_of file bytes tail place ended over packets whole f o = record {
 
 module _ (way : Sharing) where
   -- what was read of each file
-  reads : (c : Config) (done : List run.Event) (g : Config → List Event → Type 0) (place : Place) (ran : Ran) (h : Holds way c done g place ran)
+  reads : (c : Config) (done : List run.Event) (g : List Event → Type 0) (place : Place) (ran : Ran) (h : Holds way c done g place ran)
       (files : ℕ → List ℕ) (places : List ℕ) (are : AreFed (input_count way c) files places done) (plp : ℕ) (lt : plp < input_count way c)
       → IsRead (files plp) (offered (place_of way c plp) h.events) (has_ended (place_of way c plp) h.events) (h.tails plp ++ (are plp lt).more)
   reads c done g place ran h files places are plp lt = read_of _ _ (h.tails plp) _ _ _ _ (h.inputs.whole plp) (are plp lt)
       (h.inputs.each plp lt)
 
   -- no more was offered than there is
-  pub offered_few : (c : Config) (done : List run.Event) (g : Config → List Event → Type 0) (place : Place) (ran : Ran)
+  pub offered_few : (c : Config) (done : List run.Event) (g : List Event → Type 0) (place : Place) (ran : Ran)
       (h : Holds way c done g place ran) (files : ℕ → List ℕ) (places : List ℕ) → AreFed (input_count way c) files places done
       → (plp : ℕ) → plp < input_count way c
       → length (offered (place_of way c plp) h.events) ≤ length (packets_in (files plp))
@@ -58,14 +58,14 @@ module _ (way : Sharing) where
       taken_few _ _ _ _ (reads c done g place ran h files places are plp lt)
 
   -- the packets of the files continue what was offered
-  pub continue_files : (c : Config) (done : List run.Event) (g : Config → List Event → Type 0) (place : Place) (ran : Ran) (h : Holds way c done g place ran)
+  pub continue_files : (c : Config) (done : List run.Event) (g : List Event → Type 0) (place : Place) (ran : Ran) (h : Holds way c done g place ran)
       (files : ℕ → List ℕ) (places : List ℕ) → AreFed (input_count way c) files places done → Continue way c h.events (inputs_of files)
   continue_files c done g place ran h files places are =
       λ plp lt. continues (files plp) (offered (place_of way c plp) h.events) (has_ended (place_of way c plp) h.events) _ (begun h.events)
       (reads c done g place ran h files places are plp lt)
 
   -- If so much was offered, no bad packet is wanted of so much.
-  pub never_wanted : (c : Config) (done : List run.Event) (g : Config → List Event → Type 0) (place : Place) (ran : Ran) (h : Holds way c done g place ran)
+  pub never_wanted : (c : Config) (done : List run.Event) (g : List Event → Type 0) (place : Place) (ran : Ran) (h : Holds way c done g place ran)
       (files : ℕ → List ℕ) (places : List ℕ) → AreFed (input_count way c) files places done → (plp slots : ℕ) → plp < input_count way c
       → (has_ended (place_of way c plp) h.events ≡ false → slots ≤ length (offered (place_of way c plp) h.events))
       → ¬ (HasBad (files plp) × length (packets_in (files plp)) < slots)
@@ -74,7 +74,7 @@ module _ (way : Sharing) where
       (reads c done g place ran h files places are plp lt) enough
 
   -- So none was met in the frames before the one under way.
-  pub none_before : (c : Config) (done : List run.Event) (g : Config → List Event → Type 0) (place : Place) (ran : Ran) (h : Holds way c done g place ran)
+  pub none_before : (c : Config) (done : List run.Event) (g : List Event → Type 0) (place : Place) (ran : Ran) (h : Holds way c done g place ran)
       (files : ℕ → List ℕ) (places : List ℕ) → AreFed (input_count way c) files places done → MeetsNone way c files (ran.frames - 1)
   none_before c done g place ran h files places are plp lt =
       never_wanted c done g place ran h files places are plp (slots_by c (place_of way c plp) ((ran.frames - 1) * c.ticks)) lt
@@ -82,7 +82,7 @@ module _ (way : Sharing) where
       omega (arith, t, e))
 
   -- Nor in the one under way, of an input of which it has all.
-  pub none_here : (c : Config) (done : List run.Event) (g : Config → List Event → Type 0) (place : Place) (ran : Ran) (h : Holds way c done g place ran)
+  pub none_here : (c : Config) (done : List run.Event) (g : List Event → Type 0) (place : Place) (ran : Ran) (h : Holds way c done g place ran)
       (files : ℕ → List ℕ) (places : List ℕ) → AreFed (input_count way c) files places done → (plp : ℕ) → plp < input_count way c
       → HasAll way c h.events plp → ¬ (HasBad (files plp) × length (packets_in (files plp)) < slots_by c (place_of way c plp) (ran.frames * c.ticks))
   none_here c done g place ran h files places are plp lt all =
@@ -90,7 +90,7 @@ module _ (way : Sharing) where
       let e = ap (λ (n : ℕ). slots_by c (place_of way c plp) (n * c.ticks)) h.frames in omega (arith, t, e))
 
   -- If less than a packet waits of an input, no bad packet of it was read whole.
-  pub none_whole : (c : Config) (done : List run.Event) (g : Config → List Event → Type 0) (place : Place) (ran : Ran) (h : Holds way c done g place ran)
+  pub none_whole : (c : Config) (done : List run.Event) (g : List Event → Type 0) (place : Place) (ran : Ran) (h : Holds way c done g place ran)
       (files : ℕ → List ℕ) (places : List ℕ) → AreFed (input_count way c) files places done → (plp : ℕ) → plp < input_count way c
       → h.tails plp ≡ [] → slice_index places plp < length (run.fed plp done) + SIZE
       → ReadsNoBad (files plp) (slice_index places plp)
@@ -107,7 +107,7 @@ module _ (way : Sharing) where
     pub count : ran.units ≡ length (units_of way c files)
 
   -- and each file was read to its end
-  ended_read : (c : Config) (done : List run.Event) (g : Config → List Event → Type 0) (place : Place) (ran : Ran)
+  ended_read : (c : Config) (done : List run.Event) (g : List Event → Type 0) (place : Place) (ran : Ran)
       (h : Holds way c done g place ran) (files : ℕ → List ℕ) (places : List ℕ) (are : AreFed (input_count way c) files places done)
       → finished h.events ≡ true → (plp : ℕ) (lt : plp < input_count way c)
       → IsRead (files plp) (offered (place_of way c plp) h.events) true (h.tails plp ++ (are plp lt).more)
@@ -116,7 +116,7 @@ module _ (way : Sharing) where
       ((h.time.last on).ended plp lt) (reads c done g place ran h files places are plp lt)
 
   -- once no more comes, all frames of the files were begun
-  last_frames : (c : Config) (done : List run.Event) (g : Config → List Event → Type 0) (place : Place) (ran : Ran)
+  last_frames : (c : Config) (done : List run.Event) (g : List Event → Type 0) (place : Place) (ran : Ran)
       (h : Holds way c done g place ran) (files : ℕ → List ℕ) (places : List ℕ) → AreFed (input_count way c) files places done
       → finished h.events ≡ true → begun h.events ≡ frames_of way c files
   last_frames c done g place ran h files places are on =
@@ -125,7 +125,7 @@ module _ (way : Sharing) where
       (λ j lt. sym (taken_all (files j) (offered (place_of way c j) h.events) _
       (ended_read c done g place ran h files places are on j lt)))
 
-  pub gave_all : (c : Config) (done : List run.Event) (g : Config → List Event → Type 0) (place : Place) (ran : Ran) → place.phase ≡ Done
+  pub gave_all : (c : Config) (done : List run.Event) (g : List Event → Type 0) (place : Place) (ran : Ran) → place.phase ≡ Done
       → Holds way c done g place ran → (files : ℕ → List ℕ) (places : List ℕ) → AreFed (input_count way c) files places done
       → GaveAll c files ran (run.gave done)
   gave_all c done g place ran e h files places are =
@@ -151,7 +151,7 @@ module _ (way : Sharing) where
       }
 
   -- each input ended
-  pub ended_all : (c : Config) (done : List run.Event) (g : Config → List Event → Type 0) (place : Place) (ran : Ran) → place.phase ≡ Done
+  pub ended_all : (c : Config) (done : List run.Event) (g : List Event → Type 0) (place : Place) (ran : Ran) → place.phase ≡ Done
       → Holds way c done g place ran → (plp : ℕ) → plp < input_count way c → run.has_ended plp done ≡ true
   ended_all c done g place ran e h plp lt =
       let i : NoTails h.tails × (finished h.events ≡ true) × AreAll way c h.events =
@@ -159,7 +159,7 @@ module _ (way : Sharing) where
       (h.inputs.each plp lt).end (i.0 plp) ∙ (h.time.last i.1).ended plp lt
 
   -- The complete units of the frames begun were given, and no more.
-  pub gave_complete : UnitsLaw → (c : Config) (done : List run.Event) (g : Config → List Event → Type 0) (place : Place) (ran : Ran)
+  pub gave_complete : UnitsLaw → (c : Config) (done : List run.Event) (g : List Event → Type 0) (place : Place) (ran : Ran)
       (h : Holds way c done g place ran) (files : ℕ → List ℕ) (places : List ℕ) → AreFed (input_count way c) files places done
       → AreComplete way c h.events
       → run.gave done ≡ joined (complete_units c.pid (front_packets c (streams_by way c (inputs_of files)) ran.frames))
@@ -175,7 +175,7 @@ module _ (way : Sharing) where
       (sym h.frames)
 
   -- The complete units of some frames were given, and then some more.
-  pub gave_since : UnitsLaw → (c : Config) (done : List run.Event) (g : Config → List Event → Type 0) (place : Place) (ran : Ran)
+  pub gave_since : UnitsLaw → (c : Config) (done : List run.Event) (g : List Event → Type 0) (place : Place) (ran : Ran)
       (h : Holds way c done g place ran) (files : ℕ → List ℕ) (places : List ℕ) (frames : ℕ) → AreFed (input_count way c) files places done
       → HasGiven way c h.events frames → (since : List ℕ)
       × (run.gave done ≡ joined (complete_units c.pid (front_packets c (streams_by way c (inputs_of files)) frames)) ++ since)
@@ -194,7 +194,7 @@ module _ (way : Sharing) where
       )
 
   -- What was given is the first of all units.
-  pub gave_front : FrontsGrow → (c : Config) (done : List run.Event) (g : Config → List Event → Type 0) (place : Place) (ran : Ran)
+  pub gave_front : FrontsGrow → (c : Config) (done : List run.Event) (g : List Event → Type 0) (place : Place) (ran : Ran)
       → Holds way c done g place ran → (files : ℕ → List ℕ) (places : List ℕ) → AreFed (input_count way c) files places done
       → (more : List ℕ) × (joined (units_of way c files) ≡ run.gave done ++ more)
   gave_front grow c done g place ran h files places are =
@@ -221,7 +221,7 @@ module _ (way : Sharing) where
       )
 
   -- The bad packet that is met first was met.
-  pub meets_bad : (c : Config) (done : List run.Event) (g : Config → List Event → Type 0) (place : Place) (ran : Ran) (plp packet : ℕ)
+  pub meets_bad : (c : Config) (done : List run.Event) (g : List Event → Type 0) (place : Place) (ran : Ran) (plp packet : ℕ)
       → place.phase ≡ Stopped (Bad plp packet) → Holds way c done g place ran → (files : ℕ → List ℕ) (places : List ℕ)
       → AreFed (input_count way c) files places done → MeetsBad way c files ran.frames plp packet
   meets_bad c done g place ran plp packet e h files places are =

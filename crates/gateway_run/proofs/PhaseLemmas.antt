@@ -1,11 +1,11 @@
 -- The phases of a run.
-use Rattle.std.proofs.Common.{◌≡◌, ◌≢◌, ◌⊎◌, ℕ, ◌*◌, ◌<◌, ◌≤◌, refl, ap, sym, subst, ◌∙◌, arith, inl, inr}
+use Rattle.std.proofs.Common.{◌≡◌, ◌≢◌, ◌⊎◌, ℕ, ◌<◌, ◌≤◌, refl, sym, subst, arith, inl, inr}
 use Rattle.plp_config.specs.declared.config.Config.{Config}
 use Rattle.ts_packet.specs.declared.sizes.TheConstants.{SIZE}
 use Rattle.file_run.specs.Steps.{Suffices, FallsShort}
-use Rattle.file_run.specs.declared.machine.Step.TheVariants.{Read, Give, End}
+use Rattle.file_run.specs.declared.machine.Step.TheVariants.{Give, End}
 use Rattle.plp_config.specs.declared.moment.TheConstants.{MOST_FRAMES}
-use Rattle.gateway_run.specs.Phases.{IsGiving, IsUsed, IsLooking, IsBehind, IsBadAs, step_by, frame_read}
+use Rattle.gateway_run.specs.Phases.{IsGiving, IsUsed, IsLooking, IsBadAs, step_by, frame_read}
 use Rattle.gateway_run.specs.declared.stop.GatewayStop.TheVariants.{Bad, TooManyFrames}
 use Rattle.gateway_run.specs.declared.place.Phase.{Phase}
 use Rattle.gateway_run.specs.declared.place.Phase.TheVariants.{Wants, Begins, Gives, Rests, Done, Stopped}
@@ -75,22 +75,6 @@ bad_read c plp input frames wants Gives b = absurd b
 bad_read c plp input frames wants Rests b = absurd b
 bad_read c plp input frames wants Done b = absurd b
 
--- behind the units
-pub behind_read : (frames : ℕ) (phase after : Phase) → IsGiving phase → IsBehind phase after
-    → frame_read phase frames ≤ frame_read after frames
-behind_read frames phase after i b =
-    elim (giving_cases phase i) [
-      | inl gives ↦
-          let n = looked_read frames after (subst (λ (p : Phase). IsBehind p after) gives b) in
-          let m = ap (λ (p : Phase). frame_read p frames) gives in
-          omega (arith, n, m)
-      | inr rests ↦
-          let done : after ≡ Done = subst (λ (p : Phase). IsBehind p after) rests b in
-          let n = ap (λ (p : Phase). frame_read p frames) done in
-          let m = ap (λ (p : Phase). frame_read p frames) rests in
-          omega (arith, n, m)
-    ]
-
 pub read_early : (p : Phase) (frames : ℕ) → frames ≤ MOST_FRAMES → frame_read p frames ≤ MOST_FRAMES
 read_early Wants frames le = le
 read_early Begins frames le = le
@@ -106,3 +90,6 @@ read_few Gives frames = omega arith
 read_few Rests frames = omega arith
 read_few Done frames = omega arith
 read_few (Stopped why) frames = omega arith
+
+pub gives_at : (phase : Phase) → IsGiving phase → phase ≢ Rests → phase ≡ Gives
+gives_at phase i apart = elim (giving_cases phase i) [ inl gives ↦ gives | inr rests ↦ absurd (apart rests) ]

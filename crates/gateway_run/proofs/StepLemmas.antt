@@ -1,7 +1,7 @@
 -- What events more leave of what was.
 use Rattle.std.proofs.Common.{◌≡◌, ℕ, ◌+◌, ◌-◌, ◌*◌, ◌≤◌, true, false, List, [], ◌∷◌, ◌++◌, length, refl, ap, sym, ◌∙◌, arith}
 use Rattle.std.proofs.Common.{append_assoc}
-use Rattle.std.specs.Prelude.{slice_get, Some}
+use Rattle.std.specs.Prelude.{slice_get}
 use Rattle.std.proofs.lemmas.List.{length_push}
 use Rattle.terms.proofs.ListLemmas.{next_element}
 use Rattle.ts_packet.proofs.JoinedLemmas.{joined_push}
@@ -23,15 +23,10 @@ use Rattle.common_plp.specs.Inputs.{place_of, streams_by}
 use Rattle.common_plp.specs.Sharing.{Sharing}
 use Rattle.gateway_run.specs.Holds.{AreComplete, Sends, IsInTime}
 use Rattle.gateway_run.specs.Inputs.{Continue, IsLastBy}
+use Rattle.gateway_run.specs.Seen.{IsNext}
 use Rattle.gateway_run.proofs.ContinueLemmas.{back_offered, back_ended, back_same, back_begun}
 
 module _ (way : Sharing) where
-  -- The units are the first ones whatever follows.
-  abbrev pub IsFront : Config → List Event → List (List ℕ) → Type 0
-  IsFront c events units = (inputs : ℕ → List (List ℕ)) → Continue way c events inputs → (more : List (List ℕ))
-      → (finished events ≡ true → more ≡ [])
-      → (rest : List (List ℕ)) × (pipe c.pid (front_packets c (streams_by way c inputs) (begun events) ++ more) ≡ units ++ rest)
-
   -- No more frames were begun than the run has.
   abbrev pub IsFew : Config → List Event → Type 0
   IsFew c events = (inputs : ℕ → List (List ℕ)) → Continue way c events inputs
@@ -113,15 +108,9 @@ module _ (way : Sharing) where
         (r.0, ap (λ (n : ℕ). pipe c.pid (front_packets c (streams_by way c inputs) n ++ more)) (begun_same events Finished refl) ∙ r.1);
   }
 
-  -- What is told of a unit that was given: whatever packets follow, it is the next one of all.
-  abbrev pub IsNext : Config → List Event → List ℕ → Type 0
-  IsNext c events unit = (inputs : ℕ → List (List ℕ)) → Continue way c events inputs → (more : List (List ℕ))
-      → (finished events ≡ true → more ≡ [])
-      → slice_get (pipe c.pid (front_packets c (streams_by way c inputs) (begun events) ++ more)) (given events) ≡ Some unit
-
   -- a unit more
   pub sends_gave : (c : Config) (done is : List run.Event) (events : List Event) (unit : List ℕ)
-      → run.gave is ≡ run.gave done ++ unit → IsNext c events unit → Sends way c done events → Sends way c is (events ++ Gave ∷ [])
+      → run.gave is ≡ run.gave done ++ unit → IsNext way c events unit → Sends way c done events → Sends way c is (events ++ Gave ∷ [])
   sends_gave c done is events unit gave gives h = record {
     units = h.units ++ unit ∷ [];
     gave = gave ∙ ap (λ (l : List ℕ). l ++ unit) h.gave ∙ sym (joined_push h.units unit);

@@ -1,10 +1,9 @@
 -- What goes in the PLPs, by the inputs.
-use Rattle.std.proofs.Common.{◌≡◌, ℕ, zero, suc, ◌+◌, ◌-◌, ◌<◌, ◌≤◌, Bool, true, false, List, [], ◌∷◌, ◌++◌, length, refl, ap, sym, subst}
+use Rattle.std.proofs.Common.{◌≡◌, ℕ, zero, suc, ◌+◌, ◌-◌, ◌<◌, true, false, List, [], ◌∷◌, ◌++◌, length, refl, ap, sym, subst}
 use Rattle.std.proofs.Common.{◌∙◌, inl, inr, ◌⊎◌, arith}
 use Rattle.std.proofs.lemmas.Bool.{cases_Bool, cases_eq}
 use Rattle.plp_config.specs.Rules.{AllRules}
 use Rattle.plp_config.specs.declared.config.Config.{Config}
-use Rattle.common_plp.specs.Groups.{is_common}
 use Rattle.common_plp.specs.Inputs.{commons, place_of, input_count, streams_by}
 use Rattle.common_plp.specs.Laws.{SplitLength}
 use Rattle.common_plp.specs.Sharing.{Sharing, Apart, Joint}

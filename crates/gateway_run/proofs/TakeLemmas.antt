@@ -5,7 +5,6 @@ use Rattle.std.specs.Prelude.{◌==◌, ◌⊎◌, slice_index}
 use Rattle.std.proofs.lemmas.Bool.{cases_eq, ne_eqb}
 use Rattle.std.proofs.lemmas.List.{length_push, length-take-le}
 use Rattle.ts_packet.proofs.JoinedLemmas.{joined_push}
-use Rattle.gateway_core.proofs.WantLemmas.{IsWanted}
 use Rattle.common_plp.specs.Inputs.{place_of, input_count}
 use Rattle.common_plp.specs.Sharing.{Sharing}
 use Rattle.common_plp.proofs.InputLemmas.{place_apart}
@@ -19,9 +18,10 @@ use Rattle.gateway_core.specs.Events.{Event, Offered, Ended, offered, has_ended,
 use Rattle.gateway_core.specs.InputSoFar.{Told, told}
 use Rattle.gateway_core.proofs.InputsLemmas.{told_offered, told_ended}
 use Rattle.gateway_core.proofs.HoldsLemmas.{other_offered, other_ended}
-use Rattle.gateway_run.specs.Holds.{ArePackets, IsOffered, IsInTime, AreComplete, HasAll, MetBad, StopsFor, NoTails, IsIn}
+use Rattle.gateway_run.specs.Holds.{ArePackets, IsOffered, IsInTime, AreComplete, MetBad, StopsFor, NoTails, IsIn}
 use Rattle.gateway_run.specs.Holds.{StandsIn, Holds}
 use Rattle.gateway_run.specs.Inputs.{IsBefore, IsLastBy}
+use Rattle.gateway_run.specs.Seen.{WantsFirst}
 use Rattle.gateway_run.specs.Phases.{IsLooking, IsBad, IsBadAs}
 use Rattle.gateway_run.specs.declared.stop.GatewayStop.{GatewayStop}
 use Rattle.gateway_run.specs.declared.stop.GatewayStop.TheVariants.{Bad, TooManyFrames}
@@ -75,10 +75,6 @@ tail_as bytes now ended is over packets tail new e n i o = record {
   end = λ z. i ∙ o.end (sym e ∙ z);
 }
 
-pub open_wants : (ended : Bool) (slots n wants : ℕ) → wants ≡ cond ended 0 (slots - n) → ended ≡ false → wants ≡ slots - n
-open_wants true slots n wants e off = absurd (let z : true ≡ false = off in cc)
-open_wants false slots n wants e off = e
-
 bad_phase : (c : Config) (plp input frames wants : ℕ) (phase : Phase) → IsBadAs c plp input frames wants phase → (packet : ℕ)
     × (phase ≡ Stopped (Bad input packet)) × (packet ≡ slots_by c plp (frames * c.ticks) - wants)
 bad_phase c plp input frames wants (Stopped (Bad of packet)) b = (packet, ap (λ (k : ℕ). Stopped (Bad k packet)) b.0, b.1)
@@ -100,31 +96,26 @@ module _ (way : Sharing) where
   looked_in c events tails Done l t k = absurd l
   looked_in c events tails (Stopped why) l t k = absurd l
 
-  pub looked_stands : (g : Config → List Event → Type 0) (c : Config) (events : List Event) (phase : Phase) → IsLooking phase
-      → g c events → StandsIn phase g c events
-  looked_stands g c events Wants l s = s
-  looked_stands g c events Begins l s = s
-  looked_stands g c events Gives l s = absurd l
-  looked_stands g c events Rests l s = absurd l
-  looked_stands g c events Done l s = absurd l
-  looked_stands g c events (Stopped why) l s = absurd l
+  pub looked_stands : (g : List Event → Type 0) (events : List Event) (phase : Phase) → IsLooking phase
+      → g events → StandsIn phase g events
+  looked_stands g events Wants l s = s
+  looked_stands g events Begins l s = s
+  looked_stands g events Gives l s = absurd l
+  looked_stands g events Rests l s = absurd l
+  looked_stands g events Done l s = absurd l
+  looked_stands g events (Stopped why) l s = absurd l
 
   -- what is known while packets are wanted
-  pub record IsWaiting (c : Config) (g : Config → List Event → Type 0) (events : List Event) (tails : ℕ → List ℕ) (plp wants : ℕ)
+  pub record IsWaiting (c : Config) (g : List Event → Type 0) (events : List Event) (tails : ℕ → List ℕ) (plp wants : ℕ)
       : Type 0 where
-    pub stands : g c events
+    pub stands : g events
     pub none : NoTails tails
     pub complete : AreComplete way c events
-    pub inside : plp < input_count way c
-    pub wanted : IsWanted (has_ended (place_of way c plp) events) (length (offered (place_of way c plp) events)) (slots_by c (place_of way c plp) (begun events * c.ticks))
-    pub wants_are : wants ≡ slots_by c (place_of way c plp) (begun events * c.ticks) - length (offered (place_of way c plp) events)
-    pub below : (other : ℕ) → other < input_count way c
-        → IsBefore way c other (length (offered (place_of way c other) events)) plp (length (offered (place_of way c plp) events))
-        → HasAll way c events other
+    pub first : WantsFirst way c events plp wants
     pub is_going : finished events ≡ false
 
   -- so it is whatever a machine was done
-  abbrev pub Waits : Config → List run.Event → (Config → List Event → Type 0) → Place → Ran → ℕ → Type 0
+  abbrev pub Waits : Config → List run.Event → (List Event → Type 0) → Place → Ran → ℕ → Type 0
   Waits c done g place ran wants = (h : Holds way c done g place ran) → IsWaiting c g h.events h.tails place.input wants
 
   last_none : (c : Config) (old new : List Event) → IsStep way c old new → finished old ≡ false → finished new ≡ true → IsLastBy way c new
@@ -183,21 +174,21 @@ module _ (way : Sharing) where
       }
 
   -- A packet was offered.
-  pub packet_offered : EventsTell → (c : Config) (done : List run.Event) (g next : Config → List Event → Type 0)
+  pub packet_offered : EventsTell → (c : Config) (done : List run.Event) (g next : List Event → Type 0)
       (place after : Place) (ran : Ran) (wants : ℕ) (packet bytes : List ℕ) → Waits c done g place ran wants → IsLooking after.phase
       → packet ≡ bytes → length packet ≡ SIZE → slice_index packet 0 ≡ SYNC
-      → ((events : List Event) → g c events → next c (events ++ Offered (place_of way c place.input) packet ∷ []))
+      → ((events : List Event) → g events → next (events ++ Offered (place_of way c place.input) packet ∷ []))
       → Holds way c done g place ran → Holds way c (done ++ run.Fed place.input bytes ∷ []) next after ran
   packet_offered tell c done g next place after ran wants packet bytes wait look same long sync stands h =
       let w = wait h in
-      let off = w.wanted.is_open in
+      let off = w.first.is_open in
       let s : IsStep way c h.events (h.events ++ Offered (place_of way c place.input) packet ∷ []) = step_offered way c h.events (place_of way c place.input) packet off in
       let f = tell.fed place.input bytes done in
       let t = told_offered (place_of way c place.input) h.events packet in
       record {
         plan = h.plan;
         events = h.events ++ Offered (place_of way c place.input) packet ∷ [];
-        stands = looked_stands next c (h.events ++ Offered (place_of way c place.input) packet ∷ []) after.phase look
+        stands = looked_stands next (h.events ++ Offered (place_of way c place.input) packet ∷ []) after.phase look
             (stands h.events w.stands);
         frames = h.frames ∙ sym s.begun_is;
         units = h.units ∙ sym s.given_is;
@@ -214,7 +205,7 @@ module _ (way : Sharing) where
               (f.others k differ) (f.ended k) (other_offered (place_of way c k) (place_of way c place.input) h.events packet (others_apart c k place.input differ)) (h.inputs.each k lt));
           whole = λ k on. w.none k;
         };
-        time = time_offered c h.events place.input packet off w.wanted.less w.is_going h.time;
+        time = time_offered c h.events place.input packet off w.first.less w.is_going h.time;
         sends = sends_kept way c done (done ++ run.Fed place.input bytes ∷ []) h.events (h.events ++ Offered (place_of way c place.input) packet ∷ []) s
             f.gave h.sends;
         is_in = looked_in c (h.events ++ Offered (place_of way c place.input) packet ∷ []) h.tails after.phase look
@@ -223,10 +214,10 @@ module _ (way : Sharing) where
       }
 
   -- An input ended.
-  pub input_ended : EventsTell → (c : Config) (done : List run.Event) (g next : Config → List Event → Type 0)
+  pub input_ended : EventsTell → (c : Config) (done : List run.Event) (g next : List Event → Type 0)
       (place after : Place) (ran : Ran) (wants : ℕ) (bytes : List ℕ) → Waits c done g place ran wants → IsLooking after.phase
       → bytes ≡ []
-      → ((events : List Event) → g c events → next c (events ++ Ended (place_of way c place.input) ∷ []))
+      → ((events : List Event) → g events → next (events ++ Ended (place_of way c place.input) ∷ []))
       → Holds way c done g place ran → Holds way c (done ++ run.Ended place.input bytes ∷ []) next after ran
   input_ended tell c done g next place after ran wants bytes wait look nothing stands h =
       let w = wait h in
@@ -236,7 +227,7 @@ module _ (way : Sharing) where
       record {
         plan = h.plan;
         events = h.events ++ Ended (place_of way c place.input) ∷ [];
-        stands = looked_stands next c (h.events ++ Ended (place_of way c place.input) ∷ []) after.phase look
+        stands = looked_stands next (h.events ++ Ended (place_of way c place.input) ∷ []) after.phase look
             (stands h.events w.stands);
         frames = h.frames ∙ sym s.begun_is;
         units = h.units ∙ sym s.given_is;
@@ -282,7 +273,7 @@ module _ (way : Sharing) where
     gave : run.gave is ≡ run.gave done
 
   -- These bytes are no packet.
-  stopped_at : (c : Config) (done is : List run.Event) (g next : Config → List Event → Type 0) (place after : Place)
+  stopped_at : (c : Config) (done is : List run.Event) (g next : List Event → Type 0) (place after : Place)
       (ran : Ran) (wants : ℕ) (bytes : List ℕ) (why : GatewayStop) → Waits c done g place ran wants → after.phase ≡ Stopped why → bytes ≢ []
       → (slice_index bytes 0 ≢ SYNC) ⊎ (run.has_ended place.input is ≡ true) → IsTold done is place.input bytes
       → (h : Holds way c done g place ran) → StopsFor way c h.events (one_tail place.input bytes) why → Holds way c is next after ran
@@ -291,7 +282,7 @@ module _ (way : Sharing) where
       record {
         plan = h.plan;
         events = h.events;
-        stands = subst (λ (p : Phase). StandsIn p next c h.events) (sym to) tt;
+        stands = subst (λ (p : Phase). StandsIn p next h.events) (sym to) tt;
         frames = h.frames;
         units = h.units;
         tails = one_tail place.input bytes;
@@ -303,7 +294,7 @@ module _ (way : Sharing) where
               (λ k differ lt. tail_as _ _ _ _ _ _ _ _ (tail_other place.input k bytes differ ∙ sym (w.none k)) (tells.others k differ)
               (tells.ended k differ) (h.inputs.each k lt));
           whole = each_input (λ k. has_ended (place_of way c k) h.events ≡ true → one_tail place.input bytes k ≡ []) place.input
-              (λ on. absurd (let z : true ≡ false = sym on ∙ w.wanted.is_open in cc))
+              (λ on. absurd (let z : true ≡ false = sym on ∙ w.first.is_open in cc))
               (λ k differ on. tail_other place.input k bytes differ);
         };
         time = h.time;
@@ -320,7 +311,7 @@ module _ (way : Sharing) where
             (λ k differ there. absurd (there (tail_other place.input k bytes differ)));
       }
 
-  pub fed_stopped : EventsTell → (c : Config) (done : List run.Event) (g next : Config → List Event → Type 0)
+  pub fed_stopped : EventsTell → (c : Config) (done : List run.Event) (g next : List Event → Type 0)
       (place after : Place) (ran : Ran) (wants : ℕ) (bytes : List ℕ) (why : GatewayStop) → Waits c done g place ran wants → after.phase ≡ Stopped why → bytes ≢ []
       → slice_index bytes 0 ≢ SYNC → (h : Holds way c done g place ran) → StopsFor way c h.events (one_tail place.input bytes) why
       → Holds way c (done ++ run.Fed place.input bytes ∷ []) next after ran
@@ -329,7 +320,7 @@ module _ (way : Sharing) where
       stopped_at c done (done ++ run.Fed place.input bytes ∷ []) g next place after ran wants bytes why wait to some (inl sync)
       (record { here = f.here; others = f.others; ended = λ k differ. f.ended k; gave = f.gave }) h stops
 
-  pub ended_stopped : EventsTell → (c : Config) (done : List run.Event) (g next : Config → List Event → Type 0)
+  pub ended_stopped : EventsTell → (c : Config) (done : List run.Event) (g next : List Event → Type 0)
       (place after : Place) (ran : Ran) (wants : ℕ) (bytes : List ℕ) (why : GatewayStop) → Waits c done g place ran wants → after.phase ≡ Stopped why → bytes ≢ []
       → (h : Holds way c done g place ran) → StopsFor way c h.events (one_tail place.input bytes) why
       → Holds way c (done ++ run.Ended place.input bytes ∷ []) next after ran
@@ -344,7 +335,7 @@ module _ (way : Sharing) where
     pub phase : after.phase ≡ Stopped (Bad plp packet)
     pub met : MetBad way c events tails plp packet
 
-  pub met_bad : (c : Config) (done : List run.Event) (g : Config → List Event → Type 0) (place after : Place) (ran : Ran) (wants : ℕ)
+  pub met_bad : (c : Config) (done : List run.Event) (g : List Event → Type 0) (place after : Place) (ran : Ran) (wants : ℕ)
       (bytes : List ℕ) → Waits c done g place ran wants → IsBad c (place_of way c place.input) place.input ran.frames wants after
       → bytes ≢ [] → begins_with_packet bytes ≡ false → (h : Holds way c done g place ran)
       → IsMet c h.events (one_tail place.input bytes) place.input after
@@ -352,21 +343,21 @@ module _ (way : Sharing) where
       let w = wait h in
       let p = bad_phase c (place_of way c place.input) place.input ran.frames wants after.phase b in
       let same = ap (λ (n : ℕ). slots_by c (place_of way c place.input) (n * c.ticks)) h.frames in
-      let l = w.wanted.less in
-      let k = w.wants_are in
+      let l = w.first.less in
+      let k = w.first.wants_are in
       let n = p.2 in
       let number : p.0 ≡ length (offered (place_of way c place.input) h.events) = omega (arith, k, same, l, n) in
       record {
         packet = p.0;
         phase = p.1;
         met = record {
-          place = w.inside;
+          place = w.first.inside;
           number = number;
-          is_open = w.wanted.is_open;
+          is_open = w.first.is_open;
           wanted = omega (arith, number, l);
           some = λ z. some (sym (tail_here place.input bytes) ∙ z);
           bad = ap begins_with_packet (tail_here place.input bytes) ∙ off;
-          below = λ other lt before. w.below other lt
+          below = λ other lt before. w.first.below other lt
               (subst (λ (n : ℕ). IsBefore way c other (length (offered (place_of way c other) h.events)) place.input n) number before);
           others = λ other differ. tail_other place.input other bytes differ;
           complete = w.complete;

@@ -6,7 +6,7 @@ use Rattle.plp_config.specs.declared.moment.TheConstants.{MOST_FRAMES}
 use Rattle.ts_packet.specs.TsFile.{HasBad}
 use Rattle.common_plp.specs.Inputs.{input_count}
 use Rattle.common_plp.specs.Sharing.{Sharing}
-use Rattle.gateway_run.specs.SharedRun.{frames_of, units_of, MeetsBad, HasTooManyFrames}
+use Rattle.gateway_run.specs.GatewayRun.{frames_of, units_of, MeetsBad, HasTooManyFrames}
 use Rattle.gateway_run.specs.declared.stop.Ran.{Ran}
 use Rattle.gateway_run.specs.declared.stop.GatewayStop.{GatewayStop}
 use Rattle.gateway_run.specs.declared.stop.GatewayStop.TheVariants.{Bad, TooManyFrames}

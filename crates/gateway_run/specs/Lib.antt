@@ -1,9 +1,10 @@
 pub mod GatewayRun
-pub mod Laws
 pub mod Inputs
-pub mod SharedRun
+pub mod Laws
 -- inner: no public clause cites these
-pub mod AsMachine
+pub mod Apart
 pub mod Holds
+pub mod Joint
 pub mod Phases
 pub mod Ready
+pub mod Seen

@@ -42,12 +42,6 @@ IsLooking Rests = ⊥
 IsLooking Done = ⊥
 IsLooking (Stopped why) = ⊥
 
--- what comes behind the units: an input is looked at, or nothing comes
-abbrev pub IsBehind : Phase → Phase → Type 0
-IsBehind Rests after = after ≡ Done
-IsBehind Gives after = IsLooking after
-IsBehind phase after = Unit {0}
-
 -- A packet of the input of a PLP is bad, the first one that the next frame still wants.
 abbrev pub IsBadAs : Config → ℕ → ℕ → ℕ → ℕ → Phase → Type 0
 IsBadAs c plp input frames wants (Stopped (Bad of packet)) = (of ≡ input) × (packet ≡ slots_by c plp (frames * c.ticks) - wants)

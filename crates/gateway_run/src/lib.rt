@@ -1,6 +1,9 @@
 //! A run of the gateway over the files of a desk.
 #![tactic(auto)]
 
+mod apart;
+mod frame_gateway;
+mod joint;
 mod laws;
 mod machine;
 mod place;
@@ -9,7 +12,6 @@ mod steps;
 mod stop;
 
 pub use laws::{one_run_law, run_ends_law};
-pub use place::{Phase, Place};
-pub use running::run;
-pub use steps::{bad_at, front_packet, stopped};
+pub use running::{run, run_joined};
+pub use steps::front_packet;
 pub use stop::{GatewayStop, Ran};

@@ -1,51 +1,50 @@
 // The gateway as a machine between files.
-ghost use Rattle.gateway_run.specs.Ready.{IsReady};
+ghost use Rattle.gateway_run.specs.Ready.{IsReady, IsReady-prop};
 
+use crate::frame_gateway::FrameGateway;
 use crate::place::{Phase, Place};
 use crate::steps::{begin, end_input, give, take_packet};
 use crate::stop::{GatewayStop, Ran};
-use bit_slice::OutOfMemory;
 use file_run::{Ending, Machine, Step, events_law};
-use gateway_core::Gateway;
 use plp_config::Plan;
-use std::alloc::Global;
 use ts_packet::SIZE;
 
 /// A gateway that is fed with the bytes of its inputs and gives the bytes of its units.
 #[derive(Drop)]
-pub struct GatewayMachine<'p> {
+pub struct GatewayMachine<'p, G: FrameGateway + Drop> {
     plan: &'p Plan,
-    gateway: Gateway<'p>,
+    gateway: G,
     place: Place,
     // How many frames were begun, and how many units given.
     ran: Ran,
-    ghost ready: { IsReady gateway plan.now place ran },
+    ghost ready: { IsReady G.sharing plan.now (G.seen gateway plan.now) (G.status gateway) place ran } by { IsReady-prop G.sharing plan.now (G.seen gateway plan.now) (G.status gateway) place ran },
 }
 
 // No more packets than these are to wait.
 const PACKETS: u64 = 1 << 30;
 
-impl<'p> Machine for GatewayMachine<'p> {
-    ghost use Rattle.std.specs.Prelude.{length};
-    ghost use Rattle.gateway_run.specs.AsMachine.{Becomes, next_of, reach_of};
-    ghost use Rattle.gateway_run.specs.Ready.{left_of};
+impl<'p, G: FrameGateway + Drop> Machine for GatewayMachine<'p, G> {
+    ghost use Rattle.common_plp.specs.Inputs.{input_count};
+    ghost use Rattle.gateway_run.specs.Phases.{step_by, reach_by, left_by};
+    ghost use Rattle.gateway_run.specs.Ready.{Becomes};
 
-    ghost Becomes = { Becomes };
+    ghost Becomes = { λ start events m.
+        Becomes G.sharing start.plan.now m.plan.now (G.seen m.gateway m.plan.now) m.place m.ran events };
 
-    ghost inputs = { λ m. length m.plan.now.plps };
+    ghost inputs = { λ m. input_count G.sharing m.plan.now };
 
-    ghost next = { next_of };
+    ghost next = { λ m. step_by ((G.seen m.gateway m.plan.now).wants m.place.input) m.place.input m.place.phase };
 
-    ghost left = { λ m. left_of m.gateway m.place.phase m.ran.frames };
+    ghost left = { λ m. left_by (G.status m.gateway).left m.place.phase m.ran.frames };
 
-    ghost reach = { reach_of };
+    ghost reach = { λ m input. reach_by G.sharing m.plan.now m.place.phase m.ran.frames input };
 
     fn step(&self) -> Step {
         match self.place.phase {
             Phase::Wants => Step::Read {
                 input: self.place.input,
                 least: SIZE,
-                most: SIZE as u64 * self.gateway.wants(self.place.input).min(PACKETS),
+                most: SIZE as u64 * self.gateway.wants(self.plan, self.place.input).min(PACKETS),
             },
             Phase::Begins | Phase::Gives | Phase::Rests => Step::Give,
             Phase::Done | Phase::Stopped(_) => Step::End,
@@ -77,7 +76,7 @@ impl<'p> Machine for GatewayMachine<'p> {
     }
 }
 
-impl<'p> Ending for GatewayMachine<'p> {
+impl<'p, G: FrameGateway + Drop> Ending for GatewayMachine<'p, G> {
     ghost use Rattle.gateway_run.specs.Phases.{ending_of};
 
     type Ran = Ran;
@@ -94,19 +93,24 @@ impl<'p> Ending for GatewayMachine<'p> {
     }
 }
 
-impl<'p> GatewayMachine<'p> {
-    ghost use Rattle.std.specs.Prelude.{◌≡◌, [], IfOk};
-    ghost use Rattle.gateway_run.specs.AsMachine.{Becomes};
+impl<'p, G: FrameGateway + Drop> GatewayMachine<'p, G> {
+    ghost use Rattle.std.specs.Prelude.{◌≡◌, [], length};
+    ghost use Rattle.gateway_core.specs.StandsFor.{new_status};
+    ghost use Rattle.gateway_run.specs.Ready.{Becomes};
 
-    /// A gateway to which nothing was fed, for a plan. Its one refusal is want of memory.
-    pub fn open(alloc: Global, plan: &'p Plan) -> Result<GatewayMachine<'p>, OutOfMemory>
-        ensures plan { IfOk result (λ m. m.plan.now ≡ plan.now) }
-        ensures becomes { IfOk result (λ m. Becomes m [] m) }
+    /// A gateway of a plan to which nothing was fed.
+    pub fn new(plan: &'p Plan, gateway: G) -> GatewayMachine<'p, G>
+        requires is_of { (G.seen gateway plan.now).is_of }
+        requires stands { (G.seen gateway plan.now).stands [] }
+        requires status { G.status gateway ≡ new_status (length plan.now.plps) }
+        ensures plan { result.plan.now ≡ plan.now }
+        ensures becomes { Becomes G.sharing plan.now result.plan.now (G.seen result.gateway result.plan.now)
+            result.place result.ran [] }
     {
         plan.rules_law();
-        Ok(GatewayMachine {
+        GatewayMachine {
             plan,
-            gateway: Gateway::open(alloc, plan)?,
+            gateway,
             place: Place {
                 input: 0,
                 phase: Phase::Gives,
@@ -115,6 +119,6 @@ impl<'p> GatewayMachine<'p> {
                 frames: 0,
                 units: 0,
             },
-        })
+        }
     }
 }

@@ -1,18 +1,21 @@
 // The steps of a gateway between files.
-ghost use Rattle.std.specs.Prelude.{◌≡◌, ◌<◌, ◌≤◌, ◌++◌, ◌∷◌, ◌^◌, ℕ, List, [], length, take};
+ghost use Rattle.std.specs.Prelude.{◌≡◌, ◌<◌, ◌≤◌, ◌++◌, ◌∷◌, List, [], length, take, Some};
+ghost use Rattle.plp_config.specs.declared.moment.TheConstants.{MOST_FRAMES};
+ghost use Rattle.common_plp.specs.Inputs.{place_of};
 ghost use Rattle.file_run.specs.Events.{Event, Fed, Ended, Gave};
-ghost use Rattle.common_plp.specs.Sharing.{Apart};
-ghost use Rattle.gateway_core.specs.StandsFor.{GatewayStandsFor, plps_of, wants_of};
-ghost use Rattle.gateway_run.specs.Ready.{IsReady, IsLooked, IsBehindAs, left_of};
-ghost use Rattle.gateway_run.specs.Phases.{IsBad, IsGiving, frame_read};
 ghost use Rattle.gateway_run.specs.Holds.{Holds};
+ghost use Rattle.gateway_run.specs.Phases.{IsBad, IsGiving, frame_read, left_by};
+ghost use Rattle.gateway_run.specs.Ready.{IsReady, place_by};
+ghost use Rattle.gateway_run.specs.Seen.{Asks};
 ghost use Rattle.gateway_run.specs.declared.place.Place.{Place};
 ghost use Rattle.gateway_run.specs.declared.place.Phase.TheVariants.{Wants, Begins};
 
+use crate::frame_gateway::FrameGateway;
 use crate::place::{Phase, Place};
 use crate::stop::{GatewayStop, Ran};
+use common_plp::split_law;
 use file_run::events_law;
-use gateway_core::{Gateway, front_law, not_yet_last_law};
+use gateway_core::{front_law, not_yet_last_law};
 use plp_config::{MOST_FRAMES, Plan};
 use ts_packet::{SIZE, SYNC, TsPacket};
 
@@ -24,183 +27,155 @@ pub fn front_packet(bytes: &[u8]) -> TsPacket
     TsPacket::from_array(*bytes.first_chunk().unwrap())
 }
 
-// The first input from this one on of which packets are wanted.
-fn look(gateway: &Gateway<'_>, from: usize, count: usize) -> Place
-    requires count { count ≡ plps_of gateway.now }
-    requires within { from ≤ count }
-    ensures { IsLooked gateway.now from count result }
+// The place of a gateway that asks for this input, or for none.
+fn place_by(asked: Option<usize>) -> Place
+    ensures { result ≡ place_by asked }
 {
-    let mut plp = from;
-    while plp < count {
-        if gateway.wants(plp) > 0 {
-            return Place {
-                input: plp,
-                phase: Phase::Wants,
-            };
-        }
-        plp += 1;
-    }
-    Place {
-        input: plp,
-        phase: Phase::Begins,
+    match asked {
+        Some(input) => Place {
+            input,
+            phase: Phase::Wants,
+        },
+        None => Place {
+            input: 0,
+            phase: Phase::Begins,
+        },
     }
 }
 
-/// Where it stops.
-pub fn stopped(why: GatewayStop) -> Place
-    ensures { result ≡ record { input = 0; phase = Phase.Stopped why } }
+// The place of a phase in which no input is looked at.
+fn place_in(phase: Phase) -> Place
+    ensures { result ≡ record { input = 0; phase = phase } }
 {
-    Place {
-        input: 0,
-        phase: Phase::Stopped(why),
-    }
+    Place { input: 0, phase }
 }
 
-/// The next packet of the input of a PLP is bad, of which the next frame still wants so many.
-pub fn bad_at(plan: &Plan, plp: usize, input: usize, frames: u64, wants: u64) -> Place
-    requires place { plp < length plan.now.plps }
-    requires input { input ≤ plp }
+// The next packet of the input that is asked for is bad.
+fn bad<G: FrameGateway>(gateway: &G, plan: &Plan, input: usize, frames: u64) -> Place
+    requires asks { Asks G.sharing plan.now (G.seen gateway.now plan.now) (Some input) }
     requires early { frames ≤ MOST_FRAMES }
-    ensures { IsBad plan.now plp input frames wants result }
+    ensures { IsBad plan.now (place_of G.sharing plan.now input) input frames
+        ((G.seen gateway.now plan.now).wants input) result }
 {
+    let plp = gateway.place_of(plan, input);
     let ticks = u64::from(plan.config().ticks);
-    let packet = plan.slots_by(plp, frames * ticks).saturating_sub(wants);
-    stopped(GatewayStop::Bad {
+    let slots = plan.slots_by(plp, frames * ticks);
+    place_in(Phase::Stopped(GatewayStop::Bad {
         input: input as u8,
-        packet,
-    })
-}
-
-// The same, where each input goes in its own PLP.
-fn bad(gateway: &Gateway<'_>, plan: &Plan, plp: usize, frames: u64) -> Place
-    requires place { plp < length plan.now.plps }
-    requires plps { plps_of gateway.now ≡ length plan.now.plps }
-    requires early { frames ≤ MOST_FRAMES }
-    ensures { IsBad plan.now plp plp frames (wants_of gateway.now plp) result }
-{
-    bad_at(plan, plp, plp, frames, gateway.wants(plp))
+        packet: slots.saturating_sub(gateway.wants(plan, input)),
+    }))
 }
 
 /// Takes the packet at the front of the bytes of the input that is looked at, or stops at it.
-pub fn take_packet(
-    gateway: &mut Gateway<'_>,
+pub fn take_packet<G: FrameGateway>(
+    gateway: &mut G,
     plan: &Plan,
     place: Place,
     ran: Ran,
     bytes: &[u8],
 ) -> Place
-    requires ready { IsReady gateway.old plan.now place ran }
+    requires ready { IsReady G.sharing plan.now (G.seen gateway.old plan.now) (G.status gateway.old) place ran }
     requires wants { place.phase ≡ Wants }
     requires long { SIZE ≤ length bytes.now }
-    ensures ready { IsReady gateway.new plan.now result ran }
+    ensures ready { IsReady G.sharing plan.now (G.seen gateway.new plan.now) (G.status gateway.new) result ran }
     ensures read { frame_read result.phase ran.frames ≡ ran.frames }
-    ensures holds { (done : List Event) → Holds Apart plan.now done (GatewayStandsFor gateway.old) place ran
-        → Holds Apart plan.now (done ++ Fed place.input (take SIZE bytes.now) ∷ []) (GatewayStandsFor gateway.new) result ran }
+    ensures holds { (done : List Event)
+        → Holds G.sharing plan.now done (G.seen gateway.old plan.now).stands place ran
+        → Holds G.sharing plan.now (done ++ Fed place.input (take SIZE bytes.now) ∷ [])
+        (G.seen gateway.new plan.now).stands result ran }
 {
     events_law();
     let packet = front_packet(bytes);
     if packet.as_array()[0] != SYNC {
         return bad(gateway, plan, place.input, ran.frames);
     }
-    gateway.offer(place.input, &packet);
-    look(gateway, place.input, plan.config().plps.len())
+    place_by(gateway.offer(plan, place.input, &packet))
 }
 
 /// The file of the input that is looked at has ended behind these bytes.
-pub fn end_input(
-    gateway: &mut Gateway<'_>,
+pub fn end_input<G: FrameGateway>(
+    gateway: &mut G,
     plan: &Plan,
     place: Place,
     ran: Ran,
     bytes: &[u8],
 ) -> Place
-    requires ready { IsReady gateway.old plan.now place ran }
+    requires ready { IsReady G.sharing plan.now (G.seen gateway.old plan.now) (G.status gateway.old) place ran }
     requires wants { place.phase ≡ Wants }
     requires short { length bytes.now < SIZE }
-    ensures ready { IsReady gateway.new plan.now result ran }
+    ensures ready { IsReady G.sharing plan.now (G.seen gateway.new plan.now) (G.status gateway.new) result ran }
     ensures read { frame_read result.phase ran.frames ≡ ran.frames }
-    ensures holds { (done : List Event) → Holds Apart plan.now done (GatewayStandsFor gateway.old) place ran
-        → Holds Apart plan.now (done ++ Ended place.input bytes.now ∷ []) (GatewayStandsFor gateway.new) result ran }
+    ensures holds { (done : List Event)
+        → Holds G.sharing plan.now done (G.seen gateway.old plan.now).stands place ran
+        → Holds G.sharing plan.now (done ++ Ended place.input bytes.now ∷ []) (G.seen gateway.new plan.now).stands
+        result ran }
 {
     events_law();
     let rest = bytes.len();
     if rest > 0 {
         return bad(gateway, plan, place.input, ran.frames);
     }
-    let count = plan.config().plps.len();
-    gateway.end_input(place.input);
-    look(gateway, place.input, count)
+    place_by(gateway.end_input(plan, place.input))
 }
 
 /// Begins the next frame, or the rest if no frame comes.
-pub fn begin(gateway: &mut Gateway<'_>, plan: &Plan, place: Place, ran: &mut Ran) -> Place
-    requires ready { IsReady gateway.old plan.now place ran.old }
+pub fn begin<G: FrameGateway>(gateway: &mut G, plan: &Plan, place: Place, ran: &mut Ran) -> Place
+    requires ready { IsReady G.sharing plan.now (G.seen gateway.old plan.now) (G.status gateway.old) place ran.old }
     requires begins { place.phase ≡ Begins }
-    ensures ready { IsReady gateway.new plan.now result ran.new }
-    ensures left { left_of gateway.new result.phase ran.new.frames < left_of gateway.old place.phase ran.old.frames }
+    ensures ready { IsReady G.sharing plan.now (G.seen gateway.new plan.now) (G.status gateway.new) result ran.new }
+    ensures left { left_by (G.status gateway.new).left result.phase ran.new.frames
+        < left_by (G.status gateway.old).left place.phase ran.old.frames }
     ensures read { frame_read result.phase ran.new.frames ≡ ran.old.frames }
-    ensures holds { (done : List Event) → Holds Apart plan.now done (GatewayStandsFor gateway.old) place ran.old
-        → Holds Apart plan.now done (GatewayStandsFor gateway.new) result ran.new }
+    ensures holds { (done : List Event)
+        → Holds G.sharing plan.now done (G.seen gateway.old plan.now).stands place ran.old
+        → Holds G.sharing plan.now done (G.seen gateway.new plan.now).stands result ran.new }
 {
     not_yet_last_law();
     front_law();
+    split_law();
     plan.rules_law();
-    if gateway.last() {
-        gateway.finish();
-        return Place {
-            input: 0,
-            phase: Phase::Rests,
-        };
+    if gateway.last(plan) {
+        gateway.finish(plan);
+        return place_in(Phase::Rests);
     }
     if ran.frames == MOST_FRAMES {
-        return stopped(GatewayStop::TooManyFrames);
+        return place_in(Phase::Stopped(GatewayStop::TooManyFrames));
     }
-    gateway.begin_frame();
+    gateway.begin_frame(plan);
     ran.frames += 1;
-    Place {
-        input: 0,
-        phase: Phase::Gives,
-    }
-}
-
-// What comes behind the units.
-fn behind(gateway: &Gateway<'_>, plan: &Plan, place: Place) -> Place
-    requires { plps_of gateway.now ≡ length plan.now.plps }
-    ensures { IsBehindAs place.phase gateway.now (length plan.now.plps) result }
-{
-    match place.phase {
-        Phase::Rests => Place {
-            input: 0,
-            phase: Phase::Done,
-        },
-        _ => look(gateway, 0, plan.config().plps.len()),
-    }
+    place_in(Phase::Gives)
 }
 
 /// Gives the next unit, or goes on behind the units: how many bytes.
-pub fn give(
-    gateway: &mut Gateway<'_>,
+pub fn give<G: FrameGateway>(
+    gateway: &mut G,
     plan: &Plan,
     place: &mut Place,
     ran: &mut Ran,
     unit: &mut [u8; SIZE],
 ) -> usize
-    requires ready { IsReady gateway.old plan.now place.old ran.old }
+    requires ready { IsReady G.sharing plan.now (G.seen gateway.old plan.now) (G.status gateway.old) place.old ran.old }
     requires gives { IsGiving place.old.phase }
     ensures count { result ≤ length unit.new }
     ensures whole { length unit.new ≡ SIZE }
-    ensures ready { IsReady gateway.new plan.now place.new ran.new }
-    ensures frames { ran.new.frames ≡ ran.old.frames }
-    ensures left { left_of gateway.new place.new.phase ran.new.frames < left_of gateway.old place.old.phase ran.old.frames }
+    ensures ready { IsReady G.sharing plan.now (G.seen gateway.new plan.now) (G.status gateway.new) place.new ran.new }
+    ensures left { left_by (G.status gateway.new).left place.new.phase ran.new.frames
+        < left_by (G.status gateway.old).left place.old.phase ran.old.frames }
     ensures read { frame_read place.old.phase ran.old.frames ≤ frame_read place.new.phase ran.new.frames }
-    ensures holds { (done : List Event) → Holds Apart plan.now done (GatewayStandsFor gateway.old) place.old ran.old
-        → Holds Apart plan.now (done ++ Gave (take result unit.new) ∷ []) (GatewayStandsFor gateway.new) place.new ran.new }
+    ensures holds { (done : List Event)
+        → Holds G.sharing plan.now done (G.seen gateway.old plan.now).stands place.old ran.old
+        → Holds G.sharing plan.now (done ++ Gave (take result unit.new) ∷ []) (G.seen gateway.new plan.now).stands
+        place.new ran.new }
 {
     events_law();
-    if gateway.next_ts(unit) {
+    if gateway.next_ts(plan, unit) {
         ran.units += 1;
         return SIZE;
     }
-    *place = behind(gateway, plan, *place);
+    if let Phase::Rests = place.phase {
+        *place = place_in(Phase::Done);
+        return 0;
+    }
+    *place = place_by(gateway.look(plan));
     0
 }

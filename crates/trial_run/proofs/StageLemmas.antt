@@ -17,10 +17,11 @@ use Rattle.ts_packet.specs.TsFile.{packets_in, joined}
 use Rattle.t2mi_stream.specs.Pipe.{pipe}
 use Rattle.gateway_core.specs.Laws.{FrontsDecided}
 use Rattle.gateway_core.specs.Packets.{front_packets}
+use Rattle.common_plp.specs.Sharing.{Apart}
 use Rattle.file_run.specs.FileRun.{Works, file_at}
 use Rattle.file_run.specs.Work.{Ends, Into}
 use Rattle.file_run.proofs.WorkLemmas.{told_of, works_of}
-use Rattle.gateway_run.specs.GatewayRun.{RunsAll as GatewayRuns, frames_of, units_of, inputs_of}
+use Rattle.gateway_run.specs.GatewayRun.{frames_of, units_of, inputs_of, gateway_work}
 use Rattle.modulate_run.specs.Counted.{counted}
 use Rattle.modulate_run.specs.ModulateRun.{modulate_work, output_of}
 use Rattle.modulate_run.specs.declared.stop.Ran.{Ran}
@@ -137,29 +138,35 @@ received c plp old new name out records bytes ran has (same, d) is =
 -- ---- the same inputs, the same stream
 
 module _ (c : Config) (f g : ℕ → List ℕ) (same : (plp : ℕ) → plp < length c.plps → f plp ≡ g plp) where
-  same_frames : frames_of c f ≡ frames_of c g
+  same_frames : frames_of Apart c f ≡ frames_of Apart c g
   same_frames = frame_count_same c _ _ (λ plp lt. ap (λ (file : List ℕ). length (packets_in file)) (same plp lt))
 
-  same_units : FrontsDecided → IsPlan c → units_of c f ≡ units_of c g
+  same_units : FrontsDecided → IsPlan c → units_of Apart c f ≡ units_of Apart c g
   same_units decided plan =
       ap (pipe c.pid)
       (ap (front_packets c (inputs_of f)) same_frames
-      ∙ decided c (inputs_of f) (inputs_of g) (frames_of c g) plan
+      ∙ decided c (inputs_of f) (inputs_of g) (frames_of Apart c g) plan
       (λ plp k lt over. ap (λ (file : List ℕ). packet_at (packets_in file) k) (same plp lt)))
 
 pub was_sent : FrontsDecided → (c : Config) (old new : State) (out : List ℕ) (files : ℕ → List ℕ) (sent : Sent) → IsPlan c
     → length c.plps ≡ 3 → HasInputs old files
-    → GatewayRuns c old new out input_names sent.ran.frames sent.ran.units → sent.stream.items ≡ unwrap_or (file_of new out) []
+    → Ends (gateway_work Apart c) old new (Into out) input_names (Ok sent.ran) → sent.stream.items ≡ unwrap_or (file_of new out) []
     → IsSent c files sent
-was_sent decided c old new out files sent plan three has runs is =
-    let left = written old new out input_names _ _ has.held has.holds runs.works in
-    let frames = rw has.holds at runs.frames_are in
-    let units = rw has.holds at runs.units_are in
+was_sent decided c old new out files sent plan three has (counts, d) is =
+    let all = d.does.1 in
+    let works = works_of (λ files bytes. bytes ≡ joined (units_of Apart c files)) d all.output in
+    let left = written old new out input_names _ _ has.held has.holds works in
+    let frames_are : IfSome old.held (λ h. sent.ran.frames ≡ frames_of Apart c (file_at h input_names)) =
+    told_of (λ files. sent.ran.frames ≡ frames_of Apart c files) d all.frames_are in
+    let units_are : IfSome old.held (λ h. sent.ran.units ≡ length (units_of Apart c (file_at h input_names))) =
+    told_of (λ files. sent.ran.units ≡ length (units_of Apart c files)) d all.units_are in
+    let frames = rw has.holds at frames_are in
+    let units = rw has.holds at units_are in
     let same : (plp : ℕ) → plp < length c.plps → file_at has.held input_names plp ≡ files plp =
     λ plp lt. has.are plp (omega (arith, lt, three)) in
-    let all = same_units c (file_at has.held input_names) files same decided plan in
+    let same_all = same_units c (file_at has.held input_names) files same decided plan in
     record {
-      stream = is ∙ left.is ∙ left.has ∙ ap joined all;
+      stream = is ∙ left.is ∙ left.has ∙ ap joined same_all;
       frames = frames ∙ same_frames c (file_at has.held input_names) files same;
-      units = units ∙ ap (λ (us : List (List ℕ)). length us) all;
+      units = units ∙ ap (λ (us : List (List ℕ)). length us) same_all;
     }

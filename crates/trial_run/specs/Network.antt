@@ -2,7 +2,6 @@
 use Rattle.std.specs.Prelude.{List, [], ◌∷◌, true, false}
 use Rattle.plp_config.specs.declared.band.Band.TheVariants.{Mhz8}
 use Rattle.plp_config.specs.declared.config.Config.{Config}
-use Rattle.plp_config.specs.declared.config.L1Numbers.{L1Numbers}
 use Rattle.plp_config.specs.declared.plp.Plp.{Plp}
 use Rattle.plp_config.specs.declared.plp.PlpType.TheVariants.{Type1, Type2}
 use Rattle.plp_config.specs.declared.plp.FecSize.TheVariants.{Short}

@@ -5,6 +5,7 @@ use Rattle.std.specs.declared.alloc.Global.{Global}
 use Rattle.ports.specs.Desk.{State, Held, bytes_of}
 use Rattle.plp_config.specs.declared.config.Config.{Config}
 use Rattle.ts_packet.specs.TsFile.{joined}
+use Rattle.common_plp.specs.Sharing.{Apart}
 use Rattle.file_run.specs.FileRun.{file_at}
 use Rattle.gateway_run.specs.GatewayRun.{frames_of, units_of}
 use Rattle.trial_run.specs.declared.stages.Sent.{Sent}
@@ -31,6 +32,6 @@ AreFiles files inputs = map (λ input. input.items) inputs ≡ map files (range_
 
 -- The stream of these inputs was sent, and these are its numbers.
 pub record IsSent (c : Config) (files : ℕ → List ℕ) (sent : Sent) : Type 0 where
-  pub stream : sent.stream.items ≡ joined (units_of c files)
-  pub frames : sent.ran.frames ≡ frames_of c files
-  pub units : sent.ran.units ≡ length (units_of c files)
+  pub stream : sent.stream.items ≡ joined (units_of Apart c files)
+  pub frames : sent.ran.frames ≡ frames_of Apart c files
+  pub units : sent.ran.units ≡ length (units_of Apart c files)

@@ -11,6 +11,7 @@ use Rattle.bit_slice.specs.Crc.{crc32_of}
 use Rattle.plp_config.specs.Plps.{plp_at}
 use Rattle.plp_config.specs.declared.config.Config.{Config}
 use Rattle.ts_packet.specs.TsFile.{joined}
+use Rattle.common_plp.specs.Sharing.{Apart}
 use Rattle.gateway_run.specs.GatewayRun.{frames_of, units_of}
 use Rattle.modulate_run.specs.Counted.{counted}
 use Rattle.modulate_run.specs.ModulateRun.{output_of}
@@ -24,7 +25,7 @@ use Rattle.trial_run.specs.declared.counts.Piece.{Piece}
 
 -- the stream of the gateway over the inputs that are drawn
 unfoldable pub stream_of : Config → ℕ → ℕ → List ℕ
-stream_of c frames seed = joined (units_of c (input_of c frames seed))
+stream_of c frames seed = joined (units_of Apart c (input_of c frames seed))
 
 -- what the second modulator reads of it, by the draws behind those of the inputs
 unfoldable pub lossy_of : Config → ℕ → ℕ → List ℕ
@@ -91,7 +92,7 @@ pub record ArePlpLines (c : Config) (frames seed plps : ℕ) (text : List ℕ) :
 pub record IsNetworkText (c : Config) (frames seed : ℕ) (text : List ℕ) : Type 0 where
   pub same : ℕ
   pub is_same : IsSameCount (output_of c (stream_of c frames seed)) (output_of c (lossy_of c frames seed)) same
-  pub text_is : text ≡ stream_line (frames_of c (input_of c frames seed)) (length (units_of c (input_of c frames seed)))
+  pub text_is : text ≡ stream_line (frames_of Apart c (input_of c frames seed)) (length (units_of Apart c (input_of c frames seed)))
       (stream_of c frames seed)
       ++ whole_line (counted (records_of c (stream_of c frames seed))) (output_of c (stream_of c frames seed))
       ++ lossy_line (counted (records_of c (lossy_of c frames seed))) same (output_of c (lossy_of c frames seed))

@@ -3,7 +3,8 @@
 // stream the second modulator loses unit 0 alone, but that none comes is not proved: a trial tells it as a defect.
 ghost use Rattle.std.specs.Prelude.{◌≡◌, ◌≢◌, ◌<◌, ℕ, List, [], ◌∷◌, codes, length, unwrap_or, Ok, IfOk};
 ghost use Rattle.ports.specs.Desk.{file_of};
-ghost use Rattle.gateway_run.specs.GatewayRun.{RunsAll as GatewayRuns};
+ghost use Rattle.common_plp.specs.Sharing.{Apart};
+ghost use Rattle.gateway_run.specs.GatewayRun.{gateway_work};
 ghost use Rattle.modulate_run.specs.Counted.{counted};
 ghost use Rattle.file_run.specs.Work.{Ends, Into};
 ghost use Rattle.modulate_run.specs.ModulateRun.{modulate_work, output_of};
@@ -84,7 +85,7 @@ fn run_gateway(
 ) -> Result<gateway_run::Ran, TrialStop>
     requires plps { length plan.now.plps ≡ 3 }
     ensures { IfOk result (λ ran.
-        GatewayRuns plan.now desk.old.state desk.new.state (codes "out") input_names ran.frames ran.units) }
+        Ends (gateway_work Apart plan.now) desk.old.state desk.new.state (Into (codes "out")) input_names (Ok ran)) }
 {
     let names = names_of_inputs(alloc)?;
     Ok(gateway_run::run(alloc, plan, OUT, &names, desk)?)

@@ -1,48 +1,58 @@
-use Rattle.std.proofs.Common.{ap, ◌∙◌, List, ℕ, take, length, slice_index_or}
+use Rattle.std.proofs.Common.{◌≡◌, ap, subst, sym, ◌∙◌, List, [], ◌∷◌, ◌++◌, ℕ, take, length, slice_index_or}
 use Rattle.std.proofs.lemmas.List.{length-take-le}
 use Rattle.ts_packet.specs.declared.sizes.TheConstants.{SIZE}
-use Rattle.plp_config.specs.declared.config.Config.{Config}
-use Rattle.common_plp.specs.Sharing.{Apart}
-use Rattle.gateway_core.specs.StandsFor.{GatewayStandsFor, wants_of}
+use Rattle.file_run.specs.Events.{Fed}
+use Rattle.gateway_run.specs.Holds.{Holds}
+use Rattle.gateway_run.specs.Phases.{frame_read}
+use Rattle.gateway_run.specs.Ready.{IsReady}
+use Rattle.gateway_run.specs.declared.place.Place.{Place}
 use Rattle.gateway_run.proofs.FileLemmas.{no_sync}
 use Rattle.gateway_run.proofs.TakeLemmas.{packet_offered, fed_stopped, met_bad, some_taken}
 use Rattle.gateway_run.proofs.PhaseLemmas.{looked_read, bad_read}
-use Rattle.gateway_run.proofs.ReadyLemmas.{ready_on}
-use Rattle.gateway_run.proofs.WaitingLemmas.{waits, looking}
+use Rattle.gateway_run.proofs.ReadyLemmas.{ready_on, looking}
+use Rattle.gateway_run.proofs.WaitingLemmas.{waits}
 use Rattle.gateway_run.proofs.steps.take_packet.Goals as goal
 
 pub returns-then-as_array-ne-SYNC-clause-holds : goal.returns-then-as_array-ne-SYNC-clause-holds
-returns-then-as_array-ne-SYNC-clause-holds c = λ done h.
+returns-then-as_array-ne-SYNC-clause-holds g c = λ done h.
+    let way = g.G.FrameGateway.sharing in
+    let s = g.G.FrameGateway.seen c.args.gateway.now c.args.plan.now in
     let first = ap (λ (l : List ℕ). slice_index_or l 0 0) (c.as_array.ensures.bytes ∙ c.front_packet-packet.ensures) in
     let some = some_taken _ c.requires.long in
-    let w = waits c.args.gateway.now _ c.args.place c.args.ran c.requires.ready c.requires.wants done in
-    let wants : ℕ = wants_of c.args.gateway.now c.args.place.input in
-    let m = met_bad Apart c.args.plan.now done (GatewayStandsFor c.args.gateway.now) c.args.place c.bad.result c.args.ran wants
+    let w = waits way c.args.plan.now s _ c.args.place c.args.ran c.requires.ready done c.requires.wants in
+    let m = met_bad way c.args.plan.now done s.stands c.args.place c.bad.result c.args.ran (s.wants c.args.place.input)
     (take SIZE c.args.bytes.now) w
     c.bad.ensures some (no_sync (take SIZE c.args.bytes.now) (λ e. c.if-as_array-ne-SYNC.true (first ∙ e))) h in
-    fed_stopped Apart c.events_law.ensures c.args.plan.now done (GatewayStandsFor c.args.gateway.now)
-    (GatewayStandsFor c.args.gateway.now) c.args.place _ c.args.ran wants (take SIZE c.args.bytes.now) _ w m.phase some
+    fed_stopped way c.events_law.ensures c.args.plan.now done s.stands s.stands c.args.place _ c.args.ran
+    (s.wants c.args.place.input) (take SIZE c.args.bytes.now) _ w m.phase some
     (λ e. c.if-as_array-ne-SYNC.true (first ∙ e)) h m.met
 
 pub returns-clause-holds : goal.returns-clause-holds
-returns-clause-holds c = λ done h.
-    packet_offered Apart c.events_law.ensures c.args.plan.now done (GatewayStandsFor c.args.gateway.now)
-    (GatewayStandsFor c.offer.new.self) c.args.place _ c.args.ran (wants_of c.args.gateway.now c.args.place.input)
-    c.front_packet-packet.result (take SIZE c.args.bytes.now)
-    (waits c.args.gateway.now _ c.args.place c.args.ran c.requires.ready c.requires.wants done)
-    (looking c.offer.new.self _ _ _ c.look.result.phase c.look.ensures) c.front_packet-packet.ensures
+returns-clause-holds g c = λ done h.
+    let way = g.G.FrameGateway.sharing in
+    let s = g.G.FrameGateway.seen c.args.gateway.now c.args.plan.now in
+    let next = g.G.FrameGateway.seen c.offer.new.self c.args.plan.now in
+    subst (λ (p : Place). Holds way c.args.plan.now (done ++ Fed c.args.place.input (take SIZE c.args.bytes.now) ∷ []) next.stands p
+    c.args.ran) (sym c.place_by.ensures)
+    (packet_offered way c.events_law.ensures c.args.plan.now done s.stands next.stands c.args.place _ c.args.ran
+    (s.wants c.args.place.input) c.front_packet-packet.result (take SIZE c.args.bytes.now)
+    (waits way c.args.plan.now s _ c.args.place c.args.ran c.requires.ready done c.requires.wants)
+    (looking c.offer.result) c.front_packet-packet.ensures
     (ap length c.front_packet-packet.ensures ∙ length-take-le SIZE c.args.bytes.now c.requires.long)
-    (let a = c.as_array.ensures.bytes in let f = c.if-as_array-ne-SYNC.false in cc) (c.offer.ensures.stands c.args.plan.now) h
+    (let a = c.as_array.ensures.bytes in let f = c.if-as_array-ne-SYNC.false in cc) c.offer.ensures.stands h)
 
 pub returns-then-as_array-ne-SYNC-clause-read : goal.returns-then-as_array-ne-SYNC-clause-read
-returns-then-as_array-ne-SYNC-clause-read c = bad_read _ _ _ _ _ c.bad.result.phase c.bad.ensures
+returns-then-as_array-ne-SYNC-clause-read g c = bad_read _ _ _ _ _ c.bad.result.phase c.bad.ensures
 
 pub returns-clause-read : goal.returns-clause-read
-returns-clause-read c = looked_read _ c.look.result.phase (looking c.offer.new.self _ _ _ c.look.result.phase c.look.ensures)
+returns-clause-read g c =
+    subst (λ (p : Place). frame_read p.phase c.args.ran.frames ≡ c.args.ran.frames) (sym c.place_by.ensures)
+    (looked_read _ _ (looking c.offer.result))
 
 pub returns-clause-ready : goal.returns-clause-ready
-returns-clause-ready c =
-    let count = c.len.ensures ∙ ap (λ (k : Config). length k.plps) c.config.ensures.value in
-    ready_on c.args.gateway.now c.offer.new.self c.args.plan.now c.args.place c.look.result c.args.ran c.len.result
-    c.requires.ready
-    c.requires.wants c.offer.ensures.status c.offer.ensures.others count c.look.ensures
+returns-clause-ready g c =
+    let next = g.G.FrameGateway.seen c.offer.new.self c.args.plan.now in
+    subst (λ (p : Place). IsReady g.G.FrameGateway.sharing c.args.plan.now next (g.G.FrameGateway.status c.offer.new.self) p
+    c.args.ran) (sym c.place_by.ensures)
+    (ready_on g.G.FrameGateway.sharing c.args.plan.now (g.G.FrameGateway.seen c.args.gateway.now c.args.plan.now) next _ _
+    c.args.place c.offer.result c.args.ran c.requires.ready c.requires.wants c.offer.ensures.status c.offer.ensures.asks)

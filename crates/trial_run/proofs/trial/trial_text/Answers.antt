@@ -1,5 +1,5 @@
 use Rattle.std.proofs.Common.{List, ℕ, ◌++◌, ap, ◌∙◌}
-use Rattle.trial_run.proofs.TrialLemmas.{first_lines, next_line, made_len}
+use Rattle.trial_run.proofs.TrialLemmas.{first_lines, next_line}
 use Rattle.trial_run.proofs.trial.trial_text.Goals as goal
 
 pub loop-plp-init : goal.loop-plp-init

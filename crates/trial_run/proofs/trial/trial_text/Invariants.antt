@@ -1,4 +1,3 @@
-use Rattle.std.proofs.Common.{length}
 use Rattle.trial_run.specs.Made.{HasLines}
 use Rattle.trial_run.proofs.trial.trial_text.Given as goal
 

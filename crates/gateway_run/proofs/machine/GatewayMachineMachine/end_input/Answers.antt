@@ -1,7 +1,6 @@
 use Rattle.std.proofs.Common.{ℕ, subst, ap, ◌++◌, ◌∷◌, [], arith}
+use Rattle.common_plp.specs.Inputs.{place_of}
 use Rattle.file_run.specs.Events.{Ended}
-use Rattle.common_plp.specs.Sharing.{Apart}
-use Rattle.gateway_core.specs.StandsFor.{GatewayStandsFor, wants_of}
 use Rattle.gateway_run.specs.Phases.{frame_read}
 use Rattle.gateway_run.specs.Holds.{Holds}
 use Rattle.gateway_run.specs.declared.place.Phase.{Phase}
@@ -10,17 +9,21 @@ use Rattle.gateway_run.proofs.PhaseLemmas.{falls_short_at}
 use Rattle.gateway_run.proofs.machine.GatewayMachineMachine.end_input.Goals as goal
 
 pub returns-clause-becomes : goal.returns-clause-becomes
-returns-clause-becomes c = λ start events h.
-    let r = falls_short_at (wants_of c.args.self.now.gateway c.args.self.now.place.input) c.args.self.now.place.input c.args.self.now.place.phase _ _
+returns-clause-becomes g c = λ start events h.
+    let m = c.args.self.now in
+    let next = g.G.FrameGateway.seen c.end_input-self.new.gateway m.plan.now in
+    let r = falls_short_at ((g.G.FrameGateway.seen m.gateway m.plan.now).wants m.place.input) m.place.input m.place.phase _ _
     c.requires.wanted in (
       h.0,
-      subst (λ (k : ℕ). Holds Apart c.args.self.now.plan.now (events ++ Ended k c.args.bytes.now ∷ []) (GatewayStandsFor c.end_input-self.new.gateway)
-          c.end_input-self.result c.args.self.now.ran) r.1 (c.end_input-self.ensures.holds events h.1),
+      subst (λ (k : ℕ). Holds g.G.FrameGateway.sharing m.plan.now (events ++ Ended k c.args.bytes.now ∷ []) next.stands
+          c.end_input-self.result m.ran) r.1 (c.end_input-self.ensures.holds events h.1),
     )
 
 pub returns-clause-reach : goal.returns-clause-reach
-returns-clause-reach c = λ other.
-    let r = falls_short_at (wants_of c.args.self.now.gateway c.args.self.now.place.input) c.args.self.now.place.input c.args.self.now.place.phase _ _ c.requires.wanted in
-    let was = ap (λ (p : Phase). frame_read p c.args.self.now.ran.frames) r.0 in
+returns-clause-reach g c = λ other.
+    let m = c.args.self.now in
+    let r = falls_short_at ((g.G.FrameGateway.seen m.gateway m.plan.now).wants m.place.input) m.place.input m.place.phase _ _
+    c.requires.wanted in
+    let was = ap (λ (p : Phase). frame_read p m.ran.frames) r.0 in
     let is = c.end_input-self.ensures.read in
-    reach_more c.args.self.now.plan.now other _ _ (omega (arith, was, is))
+    reach_more m.plan.now (place_of g.G.FrameGateway.sharing m.plan.now other) _ _ (omega (arith, was, is))

@@ -1,8 +1,7 @@
 use Rattle.std.proofs.Common.{ℕ, subst, ap, ◌++◌, ◌∷◌, [], take, arith}
 use Rattle.ts_packet.specs.declared.sizes.TheConstants.{SIZE}
+use Rattle.common_plp.specs.Inputs.{place_of}
 use Rattle.file_run.specs.Events.{Fed}
-use Rattle.common_plp.specs.Sharing.{Apart}
-use Rattle.gateway_core.specs.StandsFor.{GatewayStandsFor, wants_of}
 use Rattle.gateway_run.specs.Phases.{frame_read}
 use Rattle.gateway_run.specs.Holds.{Holds}
 use Rattle.gateway_run.specs.declared.place.Phase.{Phase}
@@ -11,18 +10,21 @@ use Rattle.gateway_run.proofs.PhaseLemmas.{suffices_at}
 use Rattle.gateway_run.proofs.machine.GatewayMachineMachine.feed.Goals as goal
 
 pub returns-clause-becomes : goal.returns-clause-becomes
-returns-clause-becomes c = λ start events h.
-    let r = suffices_at (wants_of c.args.self.now.gateway c.args.self.now.place.input) c.args.self.now.place.input c.args.self.now.place.phase _ _ c.requires.wanted in (
+returns-clause-becomes g c = λ start events h.
+    let m = c.args.self.now in
+    let next = g.G.FrameGateway.seen c.take_packet-self.new.gateway m.plan.now in
+    let r = suffices_at ((g.G.FrameGateway.seen m.gateway m.plan.now).wants m.place.input) m.place.input m.place.phase _ _
+    c.requires.wanted in (
       h.0,
-      subst
-          (λ (k : ℕ). Holds Apart c.args.self.now.plan.now (events ++ Fed k (take SIZE c.args.bytes.now) ∷ [])
-          (GatewayStandsFor c.take_packet-self.new.gateway) c.take_packet-self.result c.args.self.now.ran) r.1
-          (c.take_packet-self.ensures.holds events h.1),
+      subst (λ (k : ℕ). Holds g.G.FrameGateway.sharing m.plan.now (events ++ Fed k (take SIZE c.args.bytes.now) ∷ []) next.stands
+          c.take_packet-self.result m.ran) r.1 (c.take_packet-self.ensures.holds events h.1),
     )
 
 pub returns-clause-reach : goal.returns-clause-reach
-returns-clause-reach c = λ other.
-    let r = suffices_at (wants_of c.args.self.now.gateway c.args.self.now.place.input) c.args.self.now.place.input c.args.self.now.place.phase _ _ c.requires.wanted in
-    let was = ap (λ (p : Phase). frame_read p c.args.self.now.ran.frames) r.0 in
+returns-clause-reach g c = λ other.
+    let m = c.args.self.now in
+    let r = suffices_at ((g.G.FrameGateway.seen m.gateway m.plan.now).wants m.place.input) m.place.input m.place.phase _ _
+    c.requires.wanted in
+    let was = ap (λ (p : Phase). frame_read p m.ran.frames) r.0 in
     let is = c.take_packet-self.ensures.read in
-    reach_more c.args.self.now.plan.now other _ _ (omega (arith, was, is))
+    reach_more m.plan.now (place_of g.G.FrameGateway.sharing m.plan.now other) _ _ (omega (arith, was, is))

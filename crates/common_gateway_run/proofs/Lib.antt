@@ -1,4 +1,0 @@
-pub mod JointLemmas
-pub mod ReadyLemmas
-pub mod RunLemmas
-pub mod WaitingLemmas

@@ -1,3 +1,0 @@
--- inner: no public clause cites these
-pub mod AsMachine
-pub mod Ready
