@@ -1,4 +1,7 @@
-pub mod RegionLemmas
-pub mod TellLemmas
+pub mod BlockLemmas
 pub mod LeftLemmas
+pub mod RegionLemmas
 pub mod SwapLemmas
+pub mod SwappedLemmas
+pub mod TellLemmas
+pub mod UnitsLemmas

@@ -1,14 +1,16 @@
 -- A swapper takes packets, begins frames, gives units and passes on.
 use Rattle.std.proofs.Common.{◌≡◌, ℕ, ◌+◌, ◌-◌, ◌*◌, ◌<◌, Bool, true, false, cond, List, [], ◌∷◌, ◌++◌, Option, Some, None, length, map, is_some}
 use Rattle.std.proofs.Common.{replicate, refl, ap, sym, subst, ◌∙◌, arith, append-nil}
-use Rattle.std.specs.List.{last_or}
+use Rattle.std.specs.Prelude.{slice_set}
 use Rattle.std.proofs.lemmas.Grind.{flat_map-append}
 use Rattle.std.proofs.lemmas.List.{map-append}
-use Rattle.terms.proofs.ListLemmas.{last_is}
+use Rattle.terms.specs.Bits.{bits_of}
 use Rattle.gateway_core.proofs.InputsLemmas.{cont_next}
 use Rattle.gateway_core.proofs.HoldsLemmas.{cont_packet, cont_end}
+use Rattle.plp_config.specs.Capacity.{IsPlan}
 use Rattle.plp_config.specs.SlotTime.{slots_by}
 use Rattle.plp_config.specs.declared.config.Config.{Config}
+use Rattle.linked_pool.specs.Pool.{State}
 use Rattle.ts_packet.specs.Null.{null_packet}
 use Rattle.t2mi_packet.specs.declared.packet.Body.{Body}
 use Rattle.t2mi_stream.specs.PiperStandsFor.{PiperStandsFor, is_finished}
@@ -18,36 +20,25 @@ use Rattle.frame_writer.specs.declared.flow.Flow.{Flow}
 use Rattle.frame_writer.specs.declared.flow.Outlet.{Outlet}
 use Rattle.frame_writer.proofs.CarriedLemmas.{carries_more}
 use Rattle.site_frame.specs.declared.reading.RecordView.{RecordView}
-use Rattle.record_laws.specs.Frames.{sent_block}
-use Rattle.frame_writer.specs.FirstPacket.{first_step}
-use Rattle.formed_frames.specs.Remade.{CanBeSent, NumberedView, frame_pairs, remade_bodies, view_bodies}
+use Rattle.pool_frame.specs.Bodies.{pool_bodies}
+use Rattle.pool_frame.specs.declared.frame.PoolFrame.{PoolFrame}
+use Rattle.formed_frames.specs.Remade.{NumberedView, frame_pairs, remade_bodies, view_bodies}
 use Rattle.gateway_core.specs.InputSoFar.{Told, with_packet, at_end, in_next, Continues}
-use Rattle.region_swap.specs.Left.{own_list, left_of, IsOver, number_of}
-use Rattle.region_swap.specs.Making.{IsMadeFor}
-use Rattle.region_swap.specs.RegionFed.{GivesFrame, RegionStandsFor, region_told, Kept, kept_of}
-use Rattle.region_swap.specs.StandsFor.{wants_by, left_in, Swaps, SwapperStandsFor, wants_of}
 use Rattle.gateway_core.specs.IsFed.{IsFed, wanted}
-use Rattle.region_swap.specs.Swapped.{swapped, swapped_frame, swapped_view}
-use Rattle.region_swap.specs.declared.dynamic.Dynamic.{Dynamic}
 use Rattle.gateway_core.specs.declared.input.Input.{Input}
-use Rattle.region_swap.specs.declared.place.Part.TheVariants.{Before}
+use Rattle.region_swap.specs.Held.{IsHeld}
+use Rattle.region_swap.specs.Laws.{HeldIsSwapped}
+use Rattle.region_swap.specs.Left.{own_list, number_of}
+use Rattle.region_swap.specs.Making.{IsMade}
+use Rattle.region_swap.specs.RegionFed.{GivesFrame, RegionStandsFor, region_told, sent_in}
+use Rattle.region_swap.specs.StandsFor.{wants_by, Swaps, SwapperStandsFor, wants_of}
+use Rattle.region_swap.specs.Swapped.{swapped, swapped_frame, swapped_view}
 use Rattle.region_swap.specs.declared.place.SwapPlace.{SwapPlace}
 use Rattle.region_swap.specs.declared.region.Region.{Region}
 use Rattle.region_swap.specs.declared.swapper.Swapper.{Swapper}
-use Rattle.region_swap.proofs.LeftLemmas.{over_left, first_left, long_of}
 use Rattle.region_swap.proofs.RegionLemmas.{still}
 
 -- ---- frames
-
-pub over_in : (c : Config) (plp : ℕ) (place : SwapPlace) (r : Region) (d : Dynamic) (o : Option NumberedView) → IsOver place
-    → left_in c plp place r d o ≡ []
-over_in c plp place r d None e = refl
-over_in c plp place r d (Some f) e = over_left c place plp (own_list c plp r.sends r.blocks) d.bits f.view e
-
--- a frame that is over has nothing left, whatever its parts
-pub over_same : (c : Config) (plp : ℕ) (place : SwapPlace) (r q : Region) (d e : Dynamic) (o : Option NumberedView) → IsOver place
-    → left_in c plp place r d o ≡ left_in c plp place q e o
-over_same c plp place r q d e o over = over_in c plp place r d o over ∙ sym (over_in c plp place q e o over)
 
 -- one frame more
 pub bodies_push : (c : Config) (plp : ℕ) (input : List (List ℕ)) (frames : List NumberedView) (f : NumberedView)
@@ -92,11 +83,11 @@ wanted_is i c plp t early h =
     (λ off. h.slot_is ∙ ap length (h.given ∙ ap (λ (k : ℕ). t.packets ++ replicate k null_packet) (h.still off) ∙ append-nil t.packets))
 
 -- what is wanted is told by what it stands for
-pub wants_is : (c : Config) (plp : ℕ) (r : Region) (d : Dynamic) (flow : Flow) (place : SwapPlace) (number : ℕ) (b : Bool) (t : Told)
-    (frames : List NumberedView) (given : ℕ) → Swaps c plp r d flow place number b t frames given
+pub wants_is : (c : Config) (plp : ℕ) (r : Region) (flow : Flow) (place : SwapPlace) (number : ℕ) (b : Bool) (t : Told) (left : List Body)
+    (frames : List NumberedView) (given : ℕ) → Swaps c plp r flow place number b t left frames given
     → cond b 0 (wanted r.input) ≡ wants_by c plp t
-wants_is c plp r d flow place number true t frames given h = sym (h.offered refl)
-wants_is c plp r d flow place number false t frames given h = wanted_is r.input c plp t _ h.supplied.fed
+wants_is c plp r flow place number true t left frames given h = sym (h.offered refl)
+wants_is c plp r flow place number false t left frames given h = wanted_is r.input c plp t _ h.supplied.fed
 
 pub record NotBegun (b : Bool) (n : ℕ) : Type 0 where
   pub off : b ≡ false
@@ -108,167 +99,99 @@ not_begun false n lt = record { off = refl; some = lt }
 
 -- ---- packets, and the end
 
-pub swaps_offer : (c : Config) (plp : ℕ) (r q : Region) (d : Dynamic) (flow : Flow) (place : SwapPlace) (number : ℕ) (b : Bool) (t : Told)
-    (packet : List ℕ) (frames : List NumberedView) (given : ℕ) → b ≡ false → 0 < wanted r.input → IsOver place
-    → ((t : Told) → RegionStandsFor r c plp t → RegionStandsFor q c plp (with_packet t packet))
-    → Swaps c plp r d flow place number b t frames given → Swaps c plp q d flow place number b (with_packet t packet) frames given
-swaps_offer c plp r q d flow place number true t packet frames given off some over fed h = absurd (let z : true ≡ false = off in cc)
-swaps_offer c plp r q d flow place number false t packet frames given off some over fed h = record {
-  supplied = fed t h.supplied;
-  number_is = h.number_is;
-  offered = λ on. absurd (let z : false ≡ true = on in cc);
-  flows = λ input more.
-      subst (λ (l : List Body). Flows flow.outlet c (number_of place) l (remade_bodies c (swapped c plp input frames)) given)
-      (over_same c plp place r q d d (last_or None frames) over)
-      (h.flows input (cont_packet t packet input (still r.input c plp t _ some h.supplied.fed) more));
-}
+module _ (c : Config) (plp : ℕ) (r q : Region) (flow : Flow) (place : SwapPlace) (number : ℕ) (t : Told) (left : List Body)
+    (frames : List NumberedView) (given : ℕ) where
+  pub swaps_offer : (b : Bool) (packet : List ℕ) → b ≡ false → 0 < wanted r.input
+      → ((t : Told) → RegionStandsFor r c plp t → RegionStandsFor q c plp (with_packet t packet))
+      → Swaps c plp r flow place number b t left frames given → Swaps c plp q flow place number b (with_packet t packet) left frames given
+  swaps_offer true packet off some fed h = absurd (let z : true ≡ false = off in cc)
+  swaps_offer false packet off some fed h = record {
+    supplied = fed t h.supplied;
+    number_is = h.number_is;
+    offered = λ on. absurd (let z : false ≡ true = on in cc);
+    flows = λ input more. h.flows input (cont_packet t packet input (still r.input c plp t _ some h.supplied.fed) more);
+  }
 
-told_end : (b : Bool) (t : Told) → at_end (region_told b t) ≡ region_told b (at_end t)
-told_end true t = refl
-told_end false t = refl
+  told_end : (b : Bool) → at_end (region_told b t) ≡ region_told b (at_end t)
+  told_end true = refl
+  told_end false = refl
 
-same_left : (c : Config) (plp : ℕ) (place : SwapPlace) (r q : Region) (d : Dynamic) (o : Option NumberedView) → kept_of q ≡ kept_of r
-    → left_in c plp place r d o ≡ left_in c plp place q d o
-same_left c plp place r q d None e = refl
-same_left c plp place r q d (Some f) e =
-    sym (ap (λ (k : Kept). left_of c place plp (own_list c plp k.sends k.blocks) d.bits f.view) e)
+  pub swaps_end : (b : Bool) → ((t : Told) → RegionStandsFor r c plp t → RegionStandsFor q c plp (at_end t))
+      → Swaps c plp r flow place number b t left frames given → Swaps c plp q flow place number b (at_end t) left frames given
+  swaps_end b fed h = record {
+    supplied = subst (RegionStandsFor q c plp) (told_end b) (fed (region_told b t) h.supplied);
+    number_is = h.number_is;
+    offered = λ on. refl;
+    flows = λ input more. h.flows input (cont_end t input more);
+  }
 
-pub swaps_end : (c : Config) (plp : ℕ) (r q : Region) (d : Dynamic) (flow : Flow) (place : SwapPlace) (number : ℕ) (b : Bool) (t : Told)
-    (frames : List NumberedView) (given : ℕ) → kept_of q ≡ kept_of r
-    → ((t : Told) → RegionStandsFor r c plp t → RegionStandsFor q c plp (at_end t))
-    → Swaps c plp r d flow place number b t frames given → Swaps c plp q d flow place number b (at_end t) frames given
-swaps_end c plp r q d flow place number b t frames given kept fed h = record {
-  supplied = subst (RegionStandsFor q c plp) (told_end b t) (fed (region_told b t) h.supplied);
-  number_is = h.number_is;
-  offered = λ on. refl;
-  flows = λ input more.
-      subst (λ (l : List Body). Flows flow.outlet c (number_of place) l (remade_bodies c (swapped c plp input frames)) given)
-      (same_left c plp place r q d (last_or None frames) kept) (h.flows input (cont_end t input more));
-}
+  -- ---- the next frame
 
--- ---- the next frame
-
-pub swaps_pass : (c : Config) (plp : ℕ) (r q : Region) (d : Dynamic) (flow : Flow) (place : SwapPlace) (number : ℕ) (b : Bool) (t : Told)
-    (frames : List NumberedView) (given : ℕ) → IsOver place
-    → ((t : Told) → RegionStandsFor r c plp (region_told b t) → RegionStandsFor q c plp (in_next t))
-    → Swaps c plp r d flow place number b t frames given → Swaps c plp q d flow place (number + 1) false (in_next t) frames given
-swaps_pass c plp r q d flow place number b t frames given over fed h = record {
-  supplied = fed t h.supplied;
-  number_is = ap (λ (n : ℕ). n + 1) h.number_is;
-  offered = λ on. absurd (let z : false ≡ true = on in cc);
-  flows = λ input more.
-      subst (λ (l : List Body). Flows flow.outlet c (number_of place) l (remade_bodies c (swapped c plp input frames)) given)
-      (over_same c plp place r q d d (last_or None frames) over) (h.flows input (cont_next t input more));
-}
+  pub swaps_pass : (b : Bool) → ((t : Told) → RegionStandsFor r c plp (region_told b t) → RegionStandsFor q c plp (in_next t))
+      → Swaps c plp r flow place number b t left frames given
+      → Swaps c plp q flow place (number + 1) false (in_next t) left frames given
+  swaps_pass b fed h = record {
+    supplied = fed t h.supplied;
+    number_is = ap (λ (n : ℕ). n + 1) h.number_is;
+    offered = λ on. absurd (let z : false ≡ true = on in cc);
+    flows = λ input more. h.flows input (cont_next t input more);
+  }
 
 -- ---- units
 
--- with the flow that gave a unit, or another that goes on as it did
-pub swaps_flow : (c : Config) (plp : ℕ) (r : Region) (d : Dynamic) (old new : Flow) (place now : SwapPlace) (number : ℕ) (b : Bool) (t : Told)
-    (frames : List NumberedView) (given next : ℕ)
-    → ((all : List (ℕ × Body)) → Flows old.outlet c (number_of place) (left_in c plp place r d (last_or None frames)) all given
-    → Flows new.outlet c (number_of now) (left_in c plp now r d (last_or None frames)) all next)
-    → Swaps c plp r d old place number b t frames given → Swaps c plp r d new now number b t frames next
-swaps_flow c plp r d old new place now number b t frames given next goes h = record {
+-- with the flow that gave some, or another that goes on as it did
+pub swaps_flow : (c : Config) (plp : ℕ) (r : Region) (old new : Flow) (place now : SwapPlace) (number : ℕ) (b : Bool) (t : Told)
+    (left rest : List Body) (frames : List NumberedView) (given next : ℕ)
+    → ((all : List (ℕ × Body)) → Flows old.outlet c (number_of place) left all given → Flows new.outlet c (number_of now) rest all next)
+    → Swaps c plp r old place number b t left frames given → Swaps c plp r new now number b t rest frames next
+swaps_flow c plp r old new place now number b t left rest frames given next goes h = record {
   supplied = h.supplied;
   number_is = h.number_is;
   offered = h.offered;
   flows = λ input more. goes (remade_bodies c (swapped c plp input frames)) (h.flows input more);
 }
 
--- what the flow says of the frame under way, by its record
-pub flows_at : (c : Config) (plp : ℕ) (r : Region) (d : Dynamic) (flow : Flow) (place : SwapPlace) (number : ℕ) (b : Bool) (t : Told)
-    (before : List NumberedView) (f : NumberedView) (given : ℕ) → Swaps c plp r d flow place number b t (before ++ f ∷ []) given
-    → (input : List (List ℕ)) → Continues t input
-    → Flows flow.outlet c (number_of place) (left_of c place plp (own_list c plp r.sends r.blocks) d.bits f.view)
-    (remade_bodies c (swapped c plp input (before ++ f ∷ []))) given
-flows_at c plp r d flow place number b t before f given h input more =
-    subst (λ (l : Option NumberedView). Flows flow.outlet c (number_of place) (left_in c plp place r d l)
-    (remade_bodies c (swapped c plp input (before ++ f ∷ []))) given) (last_is None before f) (h.flows input more)
-
-pub swaps_unit : (c : Config) (plp : ℕ) (r : Region) (d : Dynamic) (old new : Flow) (place now : SwapPlace) (number : ℕ) (b : Bool) (t : Told)
-    (before : List NumberedView) (f : NumberedView) (given : ℕ)
-    → ((all : List (ℕ × Body)) (given : ℕ)
-    → Flows old.outlet c (number_of place) (left_of c place plp (own_list c plp r.sends r.blocks) d.bits f.view) all given
-    → Flows new.outlet c (number_of now) (left_of c now plp (own_list c plp r.sends r.blocks) d.bits f.view) all (given + 1))
-    → Swaps c plp r d old place number b t (before ++ f ∷ []) given
-    → Swaps c plp r d new now number b t (before ++ f ∷ []) (given + 1)
-swaps_unit c plp r d old new place now number b t before f given goes h = record {
-  supplied = h.supplied;
-  number_is = h.number_is;
-  offered = h.offered;
-  flows = λ input more.
-      subst (λ (l : Option NumberedView). Flows new.outlet c (number_of now) (left_in c plp now r d l)
-      (remade_bodies c (swapped c plp input (before ++ f ∷ []))) (given + 1)) (sym (last_is None before f))
-      (goes (remade_bodies c (swapped c plp input (before ++ f ∷ []))) given
-      (flows_at c plp r d old place number b t before f given h input more));
-}
-
--- nothing is left of a place that is over
-pub none_left : (c : Config) (plp : ℕ) (r : Region) (d : Dynamic) (flow : Flow) (place : SwapPlace) (number : ℕ) (b : Bool) (t : Told)
-    (frames : List NumberedView) (given : ℕ) → IsOver place → Swaps c plp r d flow place number b t frames given
-    → (input : List (List ℕ)) → Continues t input
-    → Flows flow.outlet c (number_of place) [] (remade_bodies c (swapped c plp input frames)) given
-none_left c plp r d flow place number b t frames given over h input more =
-    subst (λ (l : List Body). Flows flow.outlet c (number_of place) l (remade_bodies c (swapped c plp input frames)) given)
-    (over_in c plp place r d (last_or None frames) over) (h.flows input more)
-
-pub swaps_rest : (c : Config) (plp : ℕ) (r : Region) (d : Dynamic) (old new : Flow) (place : SwapPlace) (number : ℕ) (b : Bool) (t : Told)
-    (frames : List NumberedView) (given : ℕ) → IsOver place
-    → ((all : List (ℕ × Body)) (given : ℕ) → Flows old.outlet c (number_of place) [] all given
-    → Flows new.outlet c (number_of place) [] all (given + 1))
-    → Swaps c plp r d old place number b t frames given → Swaps c plp r d new place number b t frames (given + 1)
-swaps_rest c plp r d old new place number b t frames given over goes h = record {
-  supplied = h.supplied;
-  number_is = h.number_is;
-  offered = h.offered;
-  flows = λ input more.
-      subst (λ (l : List Body). Flows new.outlet c (number_of place) l (remade_bodies c (swapped c plp input frames)) (given + 1))
-      (sym (over_in c plp place r d (last_or None frames) over))
-      (goes (remade_bodies c (swapped c plp input frames)) given
-      (none_left c plp r d old place number b t frames given over h input more));
-}
-
 -- ---- a frame is begun
 
-pub swaps_begin : (c : Config) (plp : ℕ) (r q : Region) (d e : Dynamic) (old new : Flow) (place now : SwapPlace) (number n : ℕ) (b : Bool)
-    (t : Told) (frames : List NumberedView) (f : NumberedView) (given : ℕ) (left : List Body) → IsOver place → f.number ≡ number
+pub swaps_begin : (c : Config) (plp : ℕ) (r q : Region) (old new : Flow) (place now : SwapPlace) (number n : ℕ) (b : Bool)
+    (t : Told) (frames : List NumberedView) (f : NumberedView) (given : ℕ) (bodies rest : List Body) → f.number ≡ number
     → b ≡ false → cond b 0 (wanted r.input) ≡ 0
     → ((t : Told) → RegionStandsFor r c plp t → RegionStandsFor q c plp (in_next t))
-    → ((input : List (List ℕ)) → Continues t input → left ≡ view_bodies c f.number (swapped_view c plp input f.number f.view))
+    → ((input : List (List ℕ)) → Continues t input → bodies ≡ view_bodies c f.number (swapped_view c plp input f.number f.view))
     → n ≡ f.number → number_of now ≡ n
-    → ((all : List (ℕ × Body)) (given : ℕ) → Flows old.outlet c n left all given
-    → Flows new.outlet c n (left_of c now plp (own_list c plp q.sends q.blocks) e.bits f.view) all given)
-    → Swaps c plp r d old place number b t frames given → Swaps c plp q e new now number true t (frames ++ f ∷ []) given
-swaps_begin c plp r q d e old new place now number n true t frames f given left over is off none fed made same stays feeds h =
+    → ((all : List (ℕ × Body)) (given : ℕ) → Flows old.outlet c n bodies all given → Flows new.outlet c n rest all given)
+    → Swaps c plp r old place number b t [] frames given → Swaps c plp q new now number true t rest (frames ++ f ∷ []) given
+swaps_begin c plp r q old new place now number n true t frames f given bodies rest is off none fed made same stays feeds h =
     absurd (let z : true ≡ false = off in cc)
-swaps_begin c plp r q d e old new place now number n false t frames f given left over is off none fed made same stays feeds h = record {
+swaps_begin c plp r q old new place now number n false t frames f given bodies rest is off none fed made same stays feeds h = record {
   supplied = fed t h.supplied;
   number_is = h.number_is;
-  offered = λ on. sym (wants_is c plp r d old place number false t frames given h) ∙ none;
+  offered = λ on. sym (wants_is c plp r old place number false t [] frames given h) ∙ none;
   flows = λ input more.
-      subst (λ (l : Option NumberedView). Flows new.outlet c (number_of now) (left_in c plp now q e l)
-      (remade_bodies c (swapped c plp input (frames ++ f ∷ []))) given) (sym (last_is None frames f))
-      (begun c plp old.outlet new.outlet frames f input (number_of place) n (number_of now)
-      (left_in c plp place r d (last_or None frames)) left (left_of c now plp (own_list c plp q.sends q.blocks) e.bits f.view) given
-      (over_in c plp place r d (last_or None frames) over) (h.flows input more) same (made input more) feeds stays);
+      begun c plp old.outlet new.outlet frames f input (number_of place) n (number_of now) [] bodies rest given refl
+      (h.flows input more) same (made input more) feeds stays;
 }
 
+own_bits : (b : Bool) (pool : State) (plp : ℕ) → map bits_of (own_list b pool plp) ≡ sent_in b pool plp
+own_bits true pool plp = refl
+own_bits false pool plp = refl
+
 -- what its packets carry
-pub begin_made : (c : Config) (plp : ℕ) (r q : Region) (d e : Dynamic) (flow : Flow) (place first : SwapPlace) (number : ℕ) (b : Bool)
-    (t : Told) (frames : List NumberedView) (given : ℕ) (view : RecordView) (input : List (List ℕ)) → b ≡ false → CanBeSent c view
-    → first ≡ record { number = number; step = first_step c number; part = Before; block = 0; before = None }
+pub begin_made : HeldIsSwapped → (c : Config) (plp : ℕ) (r q : Region) (dynamic : List Bool) (flow : Flow) (place : SwapPlace)
+    (number : ℕ) (b : Bool) (t : Told) (left : List Body) (frames : List NumberedView) (given : ℕ) (view : RecordView) (f : PoolFrame)
+    (input : List (List ℕ)) → IsPlan c → plp < length c.plps → b ≡ false → IsHeld c number view f
     → ((t : Told) → RegionStandsFor r c plp t → (input : List (List ℕ)) → Continues t input → GivesFrame q c plp t.frame input)
-    → IsMadeFor c number plp q.count view e.bits → Swaps c plp r d flow place number b t frames given → Continues t input
-    → left_of c first plp (own_list c plp q.sends q.blocks) e.bits view ≡ view_bodies c number (swapped_view c plp input number view)
-begin_made c plp r q d e flow place first number true t frames given view input off sent is gives made h more =
+    → IsMade c number plp q.count f.dynamic dynamic → Swaps c plp r flow place number b t left frames given → Continues t input
+    → pool_bodies c number f.pre f.conf dynamic (slice_set f.blocks.now.lists plp (own_list q.sends q.blocks plp))
+    ≡ view_bodies c number (swapped_view c plp input number view)
+begin_made law c plp r q dynamic flow place number true t left frames given view f input plan inside off held gives made h more =
     absurd (let z : true ≡ false = off in cc)
-begin_made c plp r q d e flow place first number false t frames given view input off sent is gives made h more =
+begin_made law c plp r q dynamic flow place number false t left frames given view f input plan inside off held gives made h more =
     let g : GivesFrame q c plp number input =
     subst (λ (n : ℕ). GivesFrame q c plp n input) (sym h.number_is) (gives t h.supplied input more) in
-    ap (λ (p : SwapPlace). left_of c p plp (own_list c plp q.sends q.blocks) e.bits view) is
-    ∙ first_left c plp number q.count (own_list c plp q.sends q.blocks) e.bits input view (ap (map (sent_block c plp)) g.blocks) g.count_is
-    (long_of c view sent) made
+    law c plp number view f input dynamic (own_list q.sends q.blocks plp) plan inside held
+    (subst (λ (k : ℕ). IsMade c number plp k f.dynamic dynamic) g.count_is made)
+    (own_bits q.sends q.blocks plp ∙ g.blocks)
 
 -- what is said of the parts of a swapper is so of the network and the place that it stands for
 pub to_told : (P : Config → ℕ → Type 0) (p c : Config) (j k : ℕ) → p ≡ c → j ≡ k → P p j → P c k
@@ -276,9 +199,9 @@ to_told P p c j k e f x = subst (λ (y : Config). P y k) e (subst (λ (n : ℕ).
 
 -- ---- for who holds a swapper
 
-pub wants_told : (s : Swapper) (c : Config) (plp : ℕ) (t : Told) (frames : List NumberedView) (given : ℕ)
-    → SwapperStandsFor s c plp t frames given → wants_of s ≡ wants_by c plp t
+pub wants_told : (s : Swapper) (c : Config) (plp : ℕ) (t : Told) (left : List Body) (frames : List NumberedView) (given : ℕ)
+    → SwapperStandsFor s c plp t left frames given → wants_of s ≡ wants_by c plp t
 unfolding SwapperStandsFor
-wants_told s c plp t frames given h =
+wants_told s c plp t left frames given h =
     to_told (λ (k : Config) (j : ℕ). wants_of s ≡ wants_by k j t) s.plan.now c s.list plp h.0 h.1
-    (wants_is s.plan.now s.list s.region s.dynamic s.flow s.place s.number s.begun t frames given h.2)
+    (wants_is s.plan.now s.list s.region s.flow s.place s.number s.begun t left frames given h.2)

@@ -22,6 +22,7 @@ pub record AreParts (c : Config) (plp : ℕ) (region : Region) (dynamic : Dynami
   pub next_is : region.next ≡ next_by begun number
   pub early : number ≤ MOST_FRAMES
   pub last : number_of place ≤ MOST_FRAMES
+  pub inside : place.plp ≤ length c.plps
   pub under_way : begun ≡ true → number_of place ≡ number
   pub over : dry ≡ true → IsOver place
   pub idle : begun ≡ false → dry ≡ true

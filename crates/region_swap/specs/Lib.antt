@@ -1,10 +1,13 @@
 pub mod Swapped
+pub mod Held
 pub mod StandsFor
+pub mod Laws
 -- inner: no public clause cites these
 pub mod RegionFed
 pub mod Telling
 pub mod Making
 pub mod Left
+pub mod Units
 pub mod Inside
 -- of the crates below, for those who read this one
 pub use Rattle.gateway_core.specs.InputSoFar

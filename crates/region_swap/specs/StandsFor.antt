@@ -1,18 +1,23 @@
 -- What a swapper stands for.
-use Rattle.std.specs.Prelude.{◌≡◌, ℕ, ◌-◌, ◌*◌, Bool, true, false, List, [], Option, Some, None, length, if◌then◌else◌}
-use Rattle.std.specs.List.{last_or}
+use Rattle.std.specs.Prelude.{◌≡◌, ◌≢◌, ◌≤◌, ℕ, ◌+◌, ◌-◌, ◌*◌, Bool, true, false, List, [], ◌++◌, drop, length, slice_set, if◌then◌else◌}
 use Rattle.plp_config.specs.SlotTime.{slots_by}
 use Rattle.plp_config.specs.declared.config.Config.{Config}
+use Rattle.ts_packet.specs.TsFile.{joined}
+use Rattle.ts_packet.specs.declared.sizes.TheConstants.{SIZE}
 use Rattle.t2mi_packet.specs.declared.packet.Body.{Body}
+use Rattle.t2mi_stream.specs.Complete.{complete_units}
+use Rattle.t2mi_stream.specs.Pipe.{pipe}
+use Rattle.frame_groups.specs.Laws.{IsPrefix}
 use Rattle.frame_writer.specs.Flowing.{Flows, bytes_bound, gives_unit}
 use Rattle.frame_writer.specs.declared.flow.Flow.{Flow}
-use Rattle.formed_frames.specs.Remade.{NumberedView, remade_bodies}
+use Rattle.pool_frame.specs.Signalling.{pre_part, conf_part}
+use Rattle.pool_frame.specs.declared.frame.PoolFrame.{PoolFrame}
+use Rattle.formed_frames.specs.Remade.{NumberedView, remade_bodies, remade_packets}
 use Rattle.gateway_core.specs.InputSoFar.{Told, Continues}
-use Rattle.region_swap.specs.Left.{left_of, own_list, number_of}
-use Rattle.region_swap.specs.RegionFed.{RegionStandsFor, region_told}
 use Rattle.gateway_core.specs.IsFed as supply
+use Rattle.region_swap.specs.Left.{left_by, own_list, number_of}
+use Rattle.region_swap.specs.RegionFed.{RegionStandsFor, region_told}
 use Rattle.region_swap.specs.Swapped.{swapped}
-use Rattle.region_swap.specs.declared.dynamic.Dynamic.{Dynamic}
 use Rattle.region_swap.specs.declared.place.SwapPlace.{SwapPlace}
 use Rattle.region_swap.specs.declared.region.Region.{Region}
 use Rattle.region_swap.specs.declared.swapper.Swapper.{Swapper}
@@ -26,30 +31,37 @@ none_told = record { packets = []; ended = false; frame = 0 }
 abbrev pub wants_by : Config → ℕ → Told → ℕ
 wants_by c plp t = if t.ended then 0 else slots_by c plp (t.frame * c.ticks) - length t.packets
 
--- what is left of the last frame
-abbrev pub left_in : Config → ℕ → SwapPlace → Region → Dynamic → Option NumberedView → List Body
-left_in c plp place r d None = []
-left_in c plp place r d (Some f) = left_of c place plp (own_list c plp r.sends r.blocks) d.bits f.view
+-- what is left of the frame under way, by its parts of L1 and its blocks
+abbrev pub left_with : Swapper → List Bool → List Bool → List (List (List ℕ)) → List Body
+left_with s pre conf lists =
+    left_by s.plan.now s.place pre conf s.dynamic.bits (slice_set lists s.list (own_list s.region.sends s.region.blocks s.list))
 
--- These packets were offered; these frames were begun, by their records; and for every input that continues what was offered, the
--- packets of the frames with the PLP replaced have come so far, and so many units were given.
-pub record Swaps (c : Config) (plp : ℕ) (region : Region) (dynamic : Dynamic) (flow : Flow) (place : SwapPlace) (number : ℕ) (begun : Bool)
-    (t : Told) (frames : List NumberedView) (given : ℕ) : Type 0 where
+abbrev pub left_in : Swapper → PoolFrame → List Body
+left_in s f = left_with s f.pre f.conf f.blocks.now.lists
+
+-- the same of a frame of the network by its blocks
+abbrev pub left_for : Swapper → List (List (List ℕ)) → List Body
+left_for s lists = left_with s (pre_part s.plan.now) (conf_part s.plan.now) lists
+
+-- These packets were offered; these frames were begun, by the records that they make, and of the last one these bodies are left; and
+-- for every input that continues what was offered, the packets of the frames with the PLP replaced have come so far, and so many units
+-- were given.
+pub record Swaps (c : Config) (plp : ℕ) (region : Region) (flow : Flow) (place : SwapPlace) (number : ℕ) (begun : Bool) (t : Told)
+    (left : List Body) (frames : List NumberedView) (given : ℕ) : Type 0 where
   pub supplied : RegionStandsFor region c plp (region_told begun t)
   pub number_is : number ≡ t.frame
   pub offered : begun ≡ true → wants_by c plp t ≡ 0
   pub flows : (input : List (List ℕ)) → Continues t input
-      → Flows flow.outlet c (number_of place) (left_in c plp place region dynamic (last_or None frames))
-      (remade_bodies c (swapped c plp input frames)) given
+      → Flows flow.outlet c (number_of place) left (remade_bodies c (swapped c plp input frames)) given
 
-abbrev pub IsAsTold : Swapper → Told → List NumberedView → ℕ → Type 0
-IsAsTold s t frames given =
-    Swaps s.plan.now s.list s.region s.dynamic s.flow s.place s.number s.begun t frames given
+abbrev pub IsAsTold : Swapper → Told → List Body → List NumberedView → ℕ → Type 0
+IsAsTold s t left frames given =
+    Swaps s.plan.now s.list s.region s.flow s.place s.number s.begun t left frames given
 
--- Its configuration and the place of the PLP; the packets offered, whether they ended and the frame under way; the frames begun, in
--- turn; and how many units it gave.
-unfoldable pub SwapperStandsFor : Swapper → Config → ℕ → Told → List NumberedView → ℕ → Type 0
-SwapperStandsFor s c plp t frames given = (s.plan.now ≡ c) × (s.list ≡ plp) × IsAsTold s t frames given
+-- Its configuration and the place of the PLP; the packets offered, whether they ended and the frame under way; what is left of the last
+-- frame that was begun; the frames begun, in turn; and how many units it gave.
+unfoldable pub SwapperStandsFor : Swapper → Config → ℕ → Told → List Body → List NumberedView → ℕ → Type 0
+SwapperStandsFor s c plp t left frames given = (s.plan.now ≡ c) × (s.list ≡ plp) × IsAsTold s t left frames given
 
 -- how many packets the frame under way still wants; none once it was begun
 abbrev pub wants_of : Swapper → ℕ
@@ -83,6 +95,33 @@ status_of s = record { network = s.plan.now; plp = s.list; frame = s.number; beg
 abbrev pub new_status : Config → ℕ → Status
 new_status c plp = record { network = c; plp = plp; frame = 0; begun = false; finished = false }
 
--- no fewer than the bytes of the frames begun that were not yet given, if the last one has this record
-abbrev pub bytes_left : Swapper → Option NumberedView → ℕ
-bytes_left s last = bytes_bound s.flow.outlet (left_in s.plan.now s.list s.place s.region s.dynamic last)
+-- no fewer than the bytes of the frames begun that were not yet given, if these bodies are left
+abbrev pub bytes_left : Swapper → List Body → ℕ
+bytes_left s left = bytes_bound s.flow.outlet left
+
+-- The bytes are units of the frames begun, of which the last is this one.
+pub record GivesUnits (old new : Swapper) (frame : PoolFrame) (full : Bool) (bytes : List ℕ) : Type 0 where
+  pub units : List (List ℕ)
+  pub bytes_are : bytes ≡ joined units
+  pub size : length bytes ≡ SIZE * length units
+  pub stands : (c : Config) (plp : ℕ) (t : Told) (frames : List NumberedView) (given : ℕ)
+      → SwapperStandsFor old c plp t (left_in old frame) frames given
+      → SwapperStandsFor new c plp t (left_in new frame) frames (given + length units)
+  -- They are the next ones of all, whatever packets and frames follow; after the end none follows.
+  pub next : (c : Config) (plp : ℕ) (t : Told) (frames : List NumberedView) (given : ℕ)
+      → SwapperStandsFor old c plp t (left_in old frame) frames given → (input : List (List ℕ)) → Continues t input
+      → (more : List (List ℕ)) → ((status_of old).finished ≡ true → more ≡ [])
+      → IsPrefix units (drop given (pipe c.pid (remade_packets c (swapped c plp input frames) ++ more)))
+  -- Before the end only complete ones are given;
+  pub complete : (status_of old).finished ≡ false → units ≢ []
+      → (c : Config) (plp : ℕ) (t : Told) (frames : List NumberedView) (given : ℕ)
+      → SwapperStandsFor old c plp t (left_in old frame) frames given → (input : List (List ℕ)) → Continues t input
+      → given + length units ≤ length (complete_units c.pid (remade_packets c (swapped c plp input frames)))
+  -- one at least if the room ended, and else all, and nothing is left of the frame.
+  pub some : full ≡ true → units ≢ []
+  pub all : full ≡ false → (status_of old).finished ≡ false
+      → (c : Config) (plp : ℕ) (t : Told) (frames : List NumberedView) (given : ℕ)
+      → SwapperStandsFor old c plp t (left_in old frame) frames given → (input : List (List ℕ)) → Continues t input
+      → given + length units ≡ length (complete_units c.pid (remade_packets c (swapped c plp input frames)))
+  pub spent : full ≡ false → left_in new frame ≡ []
+  pub less : bytes_left new (left_in new frame) + length units ≤ bytes_left old (left_in old frame)

@@ -1,6 +1,6 @@
 -- Frames of a network of which one PLP carries another input (EN 302 755, clauses 5 to 8).
-use Rattle.std.specs.Prelude.{ℕ, ◌+◌, ◌-◌, ◌%◌, ◌==◌, true, Bool, List, [], ◌++◌, length, map, take, slice_set}
-use Rattle.std.specs.List.{filter, list_any, range_with_len}
+use Rattle.std.specs.Prelude.{ℕ, ◌+◌, ◌-◌, ◌%◌, ◌==◌, true, Bool, List, [], ◌∷◌, ◌++◌, length, map, take, slice_set}
+use Rattle.std.specs.List.{filter, flat_map, list_any, range_with_len}
 use Rattle.std.specs.Option.{option_map_or}
 use Rattle.plp_config.specs.Plps.{plp_at}
 use Rattle.plp_config.specs.declared.config.Config.{Config}
@@ -11,7 +11,10 @@ use Rattle.l1_signal.specs.Laws.{crc_behind}
 use Rattle.l1_signal.specs.Lengths.{conf_len}
 use Rattle.site_frame.specs.Record.{Block}
 use Rattle.site_frame.specs.declared.reading.RecordView.{RecordView}
-use Rattle.site_frame.specs.declared.reading.RecordView.TheVariants.{Frame, Muted}
+use Rattle.site_frame.specs.declared.reading.RecordView.TheVariants.{Frame, Muted as MutedRecord}
+use Rattle.frame_groups.specs.Modulated.{Content, FrameRecord}
+use Rattle.frame_groups.specs.Modulated.Content.{Whole, Muted}
+use Rattle.open_group.specs.Written.{content_view}
 use Rattle.frame_tests.specs.Readable.{told_dynamic}
 use Rattle.record_laws.specs.Frames.{sent_block, frame_cells}
 use Rattle.gateway_core.specs.Signalling.{dyn_part}
@@ -53,11 +56,24 @@ swapped_view c plp input n (Frame moment pre post blocks cells) =
     Frame moment pre (post_with_counts c n (swapped_counts c plp input n post) post)
     (replaced c plp (input_blocks c plp input n) blocks)
     (frame_cells c (shape_of c (swapped_counts c plp input n post)) (n % c.frames))
-swapped_view c plp input n (Muted moment) = Muted moment
+swapped_view c plp input n (MutedRecord moment) = MutedRecord moment
 
--- so each of some frames
+-- a frame by its number
+abbrev pub numbered : ℕ → RecordView → NumberedView
+numbered n view = record { number = n; view = view }
+
+-- the frame of a record, if it is not muted
+abbrev pub frame_in : Config → ℕ → Content → List NumberedView
+frame_in c n (Whole g) = numbered n (content_view c n (Whole g)) ∷ []
+frame_in c n (Muted cause) = []
+
+-- and those of all
+abbrev pub frames_in : Config → List FrameRecord → List NumberedView
+frames_in c records = flat_map (λ x. frame_in c x.number x.content) records
+
+-- each frame with the PLP replaced
 abbrev pub swapped_frame : Config → ℕ → List (List ℕ) → NumberedView → NumberedView
-swapped_frame c plp input f = record { number = f.number; view = swapped_view c plp input f.number f.view }
+swapped_frame c plp input f = numbered f.number (swapped_view c plp input f.number f.view)
 
 abbrev pub swapped : Config → ℕ → List (List ℕ) → List NumberedView → List NumberedView
 swapped c plp input frames = map (swapped_frame c plp input) frames

@@ -1,25 +1,22 @@
 // The dynamic part of a frame, made anew.
-ghost use Rattle.std.specs.Prelude.{◌≡◌, ◌≤◌, ◌+◌, length, vec_len, Some, None, if◌then◌else◌};
+ghost use Rattle.std.specs.Prelude.{◌≡◌, ◌≤◌, length, vec_len};
 ghost use Rattle.scheduler.specs.Laws.{CountsFit};
-ghost use Rattle.l1_signal.specs.Lengths.{conf_len, dyn_len};
 ghost use Rattle.l1_signal.specs.declared.lengths.TheConstants.{MOST_DYN_BITS};
-ghost use Rattle.frame_tests.specs.Readable.{told_dynamic};
-ghost use Rattle.region_swap.specs.Swapped.{counts_in};
-ghost use Rattle.region_swap.specs.Telling.{TellsCounts};
+ghost use Rattle.region_swap.specs.Telling.{counts_told, TellsCounts};
 
 use bit_slice::{BitSlice, FixedBits, OutOfMemory};
 use frame_tests::{read_dynamic, tell_shape};
 use gateway_core::write_dynamic;
-use l1_signal::{L1Dyn, MOST_DYN_BYTES, conf_len, dyn_len};
+use l1_signal::{L1Dyn, MOST_DYN_BYTES};
 use plp_config::Plan;
 use scheduler::{Shape, field_law, shape};
 use std::alloc::Global;
 
-/// The dynamic part of a frame by its record, with another number of blocks of one PLP.
+/// The dynamic part of a frame, with another number of blocks of one PLP.
 #[derive(Drop)]
 pub struct Dynamic {
     pub bits: FixedBits<MOST_DYN_BYTES>,
-    // What is read of the record, and then written.
+    // What is read of the frame's own, and then written.
     rows: L1Dyn,
     shape: Shape,
     counts: Vec<u16>,
@@ -38,45 +35,31 @@ fn copy_counts(shape: &Shape, counts: &mut [u16])
     }
 }
 
-// Reads the dynamic part of an L1-post: whether it is one.
-fn read_part(plan: &Plan, post: &BitSlice<'_>, rows: &mut L1Dyn) -> bool
-    requires rows { length rows.old.plps ≡ length plan.now.plps }
-    requires long { conf_len (length plan.now.plps) + dyn_len (length plan.now.plps) ≤ length post.now }
-    ensures value { told_dynamic plan.now post.now ≡ (if result then Some rows.new else None) }
-    ensures rows { length rows.new.plps ≡ length plan.now.plps }
-{
-    plan.rules_law();
-    let plps = plan.config().plps.len();
-    read_dynamic(&post.sub(conf_len(plps), dyn_len(plps)), rows)
-}
-
-// Reads how many blocks the dynamic part of an L1-post tells of each PLP.
+// Reads how many blocks a dynamic part tells of each PLP.
 fn read_counts(
     plan: &Plan,
-    post: &BitSlice<'_>,
+    dynamic: &BitSlice<'_>,
     rows: &mut L1Dyn,
     told: &mut Shape,
     counts: &mut [u16],
 )
-    requires tells { TellsCounts plan.now post.now }
+    requires tells { TellsCounts plan.now dynamic.now }
     requires rows { length rows.old.plps ≡ length plan.now.plps }
     requires shape { length told.old.counts ≡ length plan.now.plps }
     requires counts { length counts.old ≡ length plan.now.plps }
-    requires long { conf_len (length plan.now.plps) + dyn_len (length plan.now.plps) ≤ length post.now }
-    ensures counts { counts.new ≡ counts_in plan.now post.now }
+    ensures counts { counts.new ≡ counts_told plan.now dynamic.now }
     ensures fit { CountsFit plan.now counts.new }
     ensures rows { length rows.new.plps ≡ length plan.now.plps }
     ensures shape { length told.new.counts ≡ length plan.now.plps }
 {
-    read_part(plan, post, rows);
+    read_dynamic(dynamic, rows);
     tell_shape(rows, told);
     copy_counts(told, counts);
 }
 
 impl Dynamic {
-    ghost use Rattle.std.specs.Prelude.{◌≡◌, ◌<◌, ◌≤◌, ◌+◌, length, IfOk};
+    ghost use Rattle.std.specs.Prelude.{◌≡◌, ◌<◌, ◌≤◌, length, IfOk};
     ghost use Rattle.plp_config.specs.Plps.{plp_at};
-    ghost use Rattle.l1_signal.specs.Lengths.{conf_len, dyn_len};
     ghost use Rattle.region_swap.specs.Making.{IsMade, plps_in};
     ghost use Rattle.region_swap.specs.Telling.{TellsCounts};
 
@@ -93,26 +76,19 @@ impl Dynamic {
         })
     }
 
-    /// Writes that of a frame, by the L1-post of its record: the PLP at a place has so many blocks, and each other as many as before.
+    /// Writes that of a frame, by its own: the PLP at a place has so many blocks, and each other as many as before.
     #[tactic(auto, unfolding(gateway_core::specs::Signalling::dyn_part))]
-    pub fn write(&mut self, plan: &Plan, frame: u64, post: &BitSlice<'_>, plp: usize, count: u16)
+    pub fn write(&mut self, plan: &Plan, frame: u64, own: &BitSlice<'_>, plp: usize, count: u16)
         requires plps { plps_in self.old ≡ length plan.now.plps }
-        requires tells { TellsCounts plan.now post.now }
-        requires long { conf_len (length plan.now.plps) + dyn_len (length plan.now.plps) ≤ length post.now }
+        requires tells { TellsCounts plan.now own.now }
         requires place { plp < length plan.now.plps }
         requires few { count ≤ (plp_at plan.now.plps plp).blocks }
-        ensures made { IsMade plan.now frame plp count post.now self.new.bits }
+        ensures made { IsMade plan.now frame plp count own.now self.new.bits }
         ensures plps { plps_in self.new ≡ length plan.now.plps }
     {
         field_law();
         plan.rules_law();
-        read_counts(
-            plan,
-            post,
-            &mut self.rows,
-            &mut self.shape,
-            &mut self.counts,
-        );
+        read_counts(plan, own, &mut self.rows, &mut self.shape, &mut self.counts);
         self.counts[plp] = count;
         shape(plan, &self.counts, &mut self.shape);
         write_dynamic(plan, frame, &self.shape, &mut self.rows, &mut self.bits);

@@ -2,8 +2,11 @@
 #![tactic(auto)]
 
 mod dynamic;
+mod laws;
 mod place;
 mod region;
 mod swapper;
+mod units;
 
+pub use laws::{swapped_law, told_law};
 pub use swapper::Swapper;

@@ -1,451 +1,239 @@
 // The packets of a frame of which a PLP is replaced.
-ghost use Rattle.std.specs.Prelude.{◌≡◌, ◌<◌, ◌≤◌, ◌+◌, ◌*◌, ◌^◌, ◌%◌, length, true, false, [], Some, None, if◌then◌else◌, ◌==◌};
-ghost use Rattle.std.specs.Prelude.{IfSome, IfNone, slice_get, take, drop};
-ghost use Rattle.bb_frame.specs.Scrambled.{scrambled};
-ghost use Rattle.terms.specs.Bits.{bits_of};
-ghost use Rattle.linked_pool.specs.Pool.{list_at};
-ghost use Rattle.plp_config.specs.declared.plp.TheConstants.{MOST_BLOCK_BYTES};
-ghost use Rattle.l1_signal.specs.Lengths.{conf_len};
-ghost use Rattle.l1_signal.specs.declared.lengths.TheConstants.{PRE_BITS, MOST_DYN_BITS};
-ghost use Rattle.t2mi_packet.specs.T2miPacket.{written_bits};
-ghost use Rattle.t2mi_packet.specs.declared.packet.Body.TheVariants.{Block as BlockBody};
-ghost use Rattle.site_frame.specs.Reading.{block_of};
-ghost use Rattle.frame_writer.specs.FramePackets.{l1_body, packet_with};
-ghost use Rattle.frame_writer.specs.Whole.{IsWhole};
-ghost use Rattle.formed_frames.specs.Remade.{intl_frame_start};
-ghost use Rattle.region_swap.specs.Swapped.{is_among, blocks_among};
-ghost use Rattle.region_swap.specs.Left.{IsNextAmong};
+ghost use Rattle.std.specs.Prelude.{◌≡◌, ◌<◌, ◌≤◌, ◌+◌, ◌^◌, ℕ, [], length, slice_index_or};
+ghost use Rattle.plp_config.specs.declared.config.Config.{Config};
+ghost use Rattle.pool_frame.specs.Left.{blocks_left};
+ghost use Rattle.region_swap.specs.Left.{lists_in, HasLists};
 
-use bb_frame::{bit_counts_law, scramble, scramble_twice_law};
-use bit_slice::{BitSlice, FixedBits};
+use bit_slice::FixedBits;
 use frame_writer::{
-    FrameSource, FrameStep, first_step, write_block, write_block_bytes, write_l1_current,
-    write_timestamp,
+    FrameSource, FrameStep, first_step, write_block, write_l1_current, write_timestamp,
 };
-use l1_signal::{MOST_DYN_BYTES, PRE_BITS, conf_len};
-use linked_pool::Pool;
-use plp_config::{MOST_BLOCK_BYTES, Plan};
-use site_frame::{Blocks, RecordView};
+use l1_signal::MOST_DYN_BYTES;
+use linked_pool::{BlockRef, Pool};
+use plp_config::Plan;
+use pool_frame::{PoolFrame, PoolWalk};
 use t2mi_packet::LARGEST;
 
-/// Which blocks of a frame come next: those of the PLPs before the one replaced, its own, or those of the PLPs behind it.
-#[derive(Clone, Copy)]
-pub enum Part {
-    Before,
-    Own,
-    Behind,
-}
-
-/// What tells of a frame of which a PLP is replaced.
+/// A frame that is held, with another dynamic part, and with the blocks of a region in place of those of one PLP. It
+/// is lent.
 #[derive(Drop)]
-pub struct SwappedFrame<'a, 'b> {
-    // Its record.
-    pub view: &'b RecordView<'a>,
-    // Its dynamic part.
+pub struct SwappedFrame<'g, 'b> {
+    pub frame: &'b PoolFrame<'g>,
     pub dynamic: &'b FixedBits<MOST_DYN_BYTES>,
     // The place of the PLP, the pool whose list at that place has its blocks, and whether they are sent in this frame.
     pub list: u32,
-    pub blocks: &'b Pool,
+    pub region: &'b Pool,
     pub sends: bool,
 }
 
-// Whether one of so many PLPs, from a place on, has this identifier.
-fn is_among(plan: &Plan, from: usize, count: usize, id: u8) -> bool
-    requires { from + count ≤ length plan.now.plps }
-    ensures { result ≡ is_among plan.now from count id }
-{
-    plan.rules_law();
-    for plp in from..from + count {
-        if plan.plp_id(plp) == id {
-            return true;
-        }
-    }
-    false
-}
-
-// The PLP and the bytes of the block at a place.
-fn block_at<'a>(blocks: &Blocks<'a>, place: u32) -> (u8, &'a [u8])
-    requires { place < length blocks.now }
-    ensures { slice_get blocks.now place ≡ Some (block_of result.0 result.1.now) }
-{
-    blocks.get(place).unwrap()
-}
-
-// The place of the first block of such PLPs, from a place on.
-fn next_among(plan: &Plan, blocks: &Blocks<'_>, from: usize, count: usize, at: u32) -> Option<u32>
-    requires { from + count ≤ length plan.now.plps }
-    ensures some { IfSome result (IsNextAmong plan.now from count blocks.now at) }
-    ensures none { IfNone result (blocks_among plan.now from count (drop at blocks.now) ≡ []) }
-{
-    for place in at..blocks.len() {
-        let (plp_id, _) = block_at(blocks, place);
-        if is_among(plan, from, count, plp_id) {
-            return Some(place);
-        }
-    }
-    None
-}
-
-// Whether a block is the first one of its PLP in the frame, behind one of a PLP or behind none.
-fn intl_frame_start(before: Option<u8>, plp_id: u8) -> bool
-    ensures { result ≡ intl_frame_start before plp_id }
-{
-    match before {
-        None => true,
-        Some(before) => before != plp_id,
-    }
-}
-
-// Builds the L1-current by L1-pre and L1-post of a record, with another dynamic part.
-fn write_signal(
-    out: &mut FixedBits<LARGEST>,
-    plan: &Plan,
-    packet_count: u8,
-    frame: u64,
-    pre: &BitSlice<'_>,
-    post: &BitSlice<'_>,
-    dynamic: &FixedBits<MOST_DYN_BYTES>,
-)
-    requires pre { PRE_BITS ≤ length pre.now }
-    requires post { conf_len (length plan.now.plps) ≤ length post.now }
-    requires dynamic { length dynamic.now ≤ MOST_DYN_BITS }
-    ensures bits { out.new ≡ written_bits (packet_with plan.now packet_count frame
-        (l1_body plan.now frame (take PRE_BITS pre.now) (take (conf_len (length plan.now.plps)) post.now) dynamic.now)) }
-    ensures whole { IsWhole out.new }
-{
-    plan.rules_law();
-    let conf = conf_len(plan.config().plps.len());
-    write_l1_current(
-        out,
-        plan,
-        packet_count,
-        frame,
-        pre.sub(0, PRE_BITS),
-        post.sub(0, conf),
-        dynamic.as_slice(),
-    );
-}
-
-// Builds the packet of a block of a record, which is descrambled.
-fn write_sent_block(
-    out: &mut FixedBits<LARGEST>,
-    plan: &Plan,
-    packet_count: u8,
-    frame: u64,
-    plp_id: u8,
-    first: bool,
-    sent: &[u8],
-)
-    requires short { length sent.now ≤ MOST_BLOCK_BYTES }
-    ensures bits { out.new ≡ written_bits (packet_with plan.now packet_count frame
-        (BlockBody (frame % plan.now.frames) plp_id first (scrambled (bits_of sent.now)))) }
-    ensures whole { IsWhole out.new }
-{
-    let mut bytes = [0; MOST_BLOCK_BYTES as usize];
-    let block = &mut bytes[..sent.len()];
-    block.copy_from_slice(sent);
-    scramble(block);
-    write_block_bytes(out, plan, packet_count, frame, plp_id, first, block);
-}
-
-/// A place among the packets of a frame of which a PLP is replaced: those before it were built.
+/// A place among the packets of such a frame: those before it were built.
 #[derive(Clone, Copy)]
 pub struct SwapPlace {
     number: u64,
     step: FrameStep,
-    // The part of the block that is next, its place in the record or in the list, and the PLP of the one before it.
-    part: Part,
-    block: u32,
-    before: Option<u8>,
+    // The PLP whose block is next, and the place of that block among those of the PLP.
+    plp: u32,
+    place: u32,
+}
+
+// How many blocks of a PLP are sent.
+fn count(frame: &SwappedFrame<'_, '_>, plp: u32) -> u32
+    requires lists { HasLists frame.now }
+    requires plp { plp < length frame.now.frame.now.blocks.now.lists }
+    ensures { result ≡ length (slice_index_or (lists_in frame.now) plp []) }
+{
+    if plp != frame.list {
+        return frame.frame.blocks.count(plp);
+    }
+    if !frame.sends {
+        return 0;
+    }
+    frame.region.count(plp)
+}
+
+// The next block, from a place among those of a PLP on: the PLP that has it, and its place there. No PLP has it if all
+// are over.
+fn next_block(frame: &SwappedFrame<'_, '_>, plp: u32, place: u32, end: u32) -> (u32, u32)
+    requires lists { HasLists frame.now }
+    requires end { end ≡ length frame.now.frame.now.blocks.now.lists }
+    requires order { plp ≤ end }
+    ensures inside { result.0 ≤ end }
+    ensures same { (c : Config) (frame_idx : ℕ) → blocks_left c frame_idx plp place (lists_in frame.now)
+        ≡ blocks_left c frame_idx result.0 result.1 (lists_in frame.now) }
+    ensures some { result.0 < end → result.1 < length (slice_index_or (lists_in frame.now) result.0 []) }
+    ensures small { result.0 < end → result.1 + 1 < 2 ^ 32 }
+{
+    let mut at = place;
+    for list in plp..end {
+        if count(frame, list) > at {
+            return (list, at);
+        }
+        at = 0;
+    }
+    (end, at)
 }
 
 impl SwapPlace {
-    ghost use Rattle.std.specs.Prelude.{◌≡◌, ◌<◌, ◌≤◌, ◌+◌, ◌++◌, ℕ, List, [], None, drop, length, true, false};
-    ghost use Rattle.std.specs.List.{AllByRecursion};
-    ghost use Rattle.plp_config.specs.declared.config.Config.{Config};
-    ghost use Rattle.plp_config.specs.declared.plp.TheConstants.{MOST_BLOCK_BYTES};
-    ghost use Rattle.linked_pool.specs.Pool.{list_at};
-    ghost use Rattle.mode_adapt.specs.Place.{AreShort};
-    ghost use Rattle.site_frame.specs.Record.{Block};
-    ghost use Rattle.site_frame.specs.declared.reading.RecordView.{RecordView};
-    ghost use Rattle.frame_writer.specs.FirstPacket.{first_step, from_step};
-    ghost use Rattle.region_swap.specs.Swapped.{blocks_among};
-    ghost use Rattle.region_swap.specs.Left.{own_list, blocks_left, behind, IsOver, BuildsBlock, BuildsFirst};
+    ghost use Rattle.std.specs.Prelude.{◌≡◌, ℕ, Bool, List};
+    ghost use Rattle.pool_frame.specs.Bodies.{pool_bodies};
+    ghost use Rattle.region_swap.specs.Left.{IsOver, left_by};
 
     /// The place of which nothing is left, whatever the frame is.
     pub fn over() -> SwapPlace
         ensures over { IsOver result }
         ensures number { result.number ≡ 0 }
+        ensures plp { result.plp ≡ 0 }
     {
         SwapPlace {
             number: 0,
             step: FrameStep::Over,
-            part: Part::Behind,
-            block: 0,
-            before: None,
+            plp: 0,
+            place: 0,
         }
     }
 
     /// The first place of a frame.
     pub fn first(plan: &Plan, number: u64) -> SwapPlace
-        ensures { result ≡ record {
-          number = number;
-          step = first_step plan.now number;
-          part = Part.Before;
-          block = 0;
-          before = None;
-        } }
+        ensures left { (pre conf dynamic : List Bool) (lists : List (List (List ℕ)))
+            → left_by plan.now result pre conf dynamic lists ≡ pool_bodies plan.now number pre conf dynamic lists }
+        ensures number { result.number ≡ number }
+        ensures plp { result.plp ≡ 0 }
     {
         SwapPlace {
             number,
             step: first_step(plan, number),
-            part: Part::Before,
-            block: 0,
-            before: None,
+            plp: 0,
+            place: 0,
+        }
+    }
+}
+
+/// A place among the packets of a frame, and walks over both pools that have its blocks. It finds the block behind the
+/// last one in a fixed number of steps.
+#[derive(Drop)]
+pub struct SwapSource<'b> {
+    pub place: SwapPlace,
+    pub own: PoolWalk<'b>,
+    pub region: PoolWalk<'b>,
+}
+
+impl<'b> SwapSource<'b> {
+    ghost use Rattle.std.specs.Prelude.{◌≡◌, ◌<◌, ◌≤◌, [], true, false, length, slice_index_or};
+    ghost use Rattle.frame_writer.specs.Builds.{Builds};
+    ghost use Rattle.frame_writer.specs.declared.step.FrameStep.TheVariants as step;
+    ghost use Rattle.region_swap.specs.Left.{lists_in, left_of, HasLists, HasWalks, CanBuild};
+
+    /// A place among the packets of a frame, with walks over its pools.
+    pub fn new(place: SwapPlace, frame: &SwappedFrame<'_, 'b>) -> SwapSource<'b>
+        ensures place { result.place ≡ place }
+        ensures walks { HasWalks result frame.now }
+    {
+        SwapSource {
+            place,
+            own: PoolWalk::new(frame.frame.blocks),
+            region: PoolWalk::new(frame.region),
         }
     }
 
-    // Builds the packet of the next block of a record that is of so many PLPs, from one on, if there is one.
-    fn build_other(
-        &mut self,
-        blocks: &Blocks<'_>,
-        from: usize,
-        count: usize,
-        plan: &Plan,
-        packet_count: u8,
-        out: &mut FixedBits<LARGEST>,
-    ) -> bool
-        requires places { from + count ≤ length plan.now.plps }
-        requires short { AllByRecursion (λ b. length b.bytes ≤ MOST_BLOCK_BYTES) blocks.now }
-        ensures some { result ≡ true → BuildsFirst plan.now packet_count
-            (blocks_among plan.now from count (drop self.old.block blocks.now))
-            (blocks_among plan.now from count (drop self.new.block blocks.now)) self.old self.new out.new }
-        ensures none { result ≡ false → blocks_among plan.now from count (drop self.old.block blocks.now) ≡ [] }
-        ensures stays { result ≡ false → (self.new ≡ self.old) × (out.new ≡ out.old) }
+    // The block of a PLP at a place.
+    fn block(&mut self, frame: &SwappedFrame<'_, '_>, plp: u32, place: u32) -> BlockRef<'b>
+        requires lists { HasLists frame.now }
+        requires walks { HasWalks self.old frame.now }
+        requires plp { plp < length frame.now.frame.now.blocks.now.lists }
+        requires there { place < length (slice_index_or (lists_in frame.now) plp []) }
+        ensures block { result ≡ slice_index_or (slice_index_or (lists_in frame.now) plp []) place [] }
+        ensures walks { HasWalks self.new frame.now }
+        ensures place { self.new.place ≡ self.old.place }
     {
-        let _count = blocks.len();
-        let Some(place) = next_among(plan, blocks, from, count, self.block) else {
-            return false;
-        };
-        let (plp_id, sent) = block_at(blocks, place);
-        let first = intl_frame_start(self.before, plp_id);
-        write_sent_block(out, plan, packet_count, self.number, plp_id, first, sent);
-        self.block = place + 1;
-        self.before = Some(plp_id);
-        true
-    }
-
-    // Builds the packet of the next block of the PLP replaced, if there is one.
-    fn build_own(
-        &mut self,
-        frame: &SwappedFrame<'_, '_>,
-        plan: &Plan,
-        packet_count: u8,
-        out: &mut FixedBits<LARGEST>,
-    ) -> bool
-        requires place { frame.now.list < length plan.now.plps }
-        requires lists { frame.now.list < length frame.now.blocks.now.lists }
-        requires short { AreShort (list_at frame.now.blocks.now frame.now.list) }
-        ensures some { result ≡ true → BuildsFirst plan.now packet_count
-            (drop self.old.block (own_list plan.now frame.now.list frame.now.sends frame.now.blocks.now))
-            (drop self.new.block (own_list plan.now frame.now.list frame.now.sends frame.now.blocks.now)) self.old self.new out.new }
-        ensures none { result ≡ false
-            → drop self.old.block (own_list plan.now frame.now.list frame.now.sends frame.now.blocks.now) ≡ [] }
-        ensures stays { result ≡ false → (self.new ≡ self.old) × (out.new ≡ out.old) }
-    {
-        scramble_twice_law();
-        bit_counts_law();
-        let _count = frame.blocks.count(frame.list);
-        if !frame.sends {
-            return false;
+        if plp == frame.list {
+            return self.region.block(plp, place).unwrap();
         }
-        let Some(block) = frame.blocks.block(frame.list, self.block) else {
-            return false;
-        };
-        let plp_id = plan.plp_id(frame.list as usize);
-        let first = intl_frame_start(self.before, plp_id);
-        write_block(
-            out,
-            plan,
-            packet_count,
-            self.number,
-            frame.list as usize,
-            first,
-            &block,
-        );
-        self.block += 1;
-        self.before = Some(plp_id);
-        true
-    }
-
-    // Builds the packet of the next block of the PLPs behind the one replaced; without one, the frame is over.
-    fn build_behind(
-        &mut self,
-        blocks: &Blocks<'_>,
-        list: u32,
-        plan: &Plan,
-        packet_count: u8,
-        out: &mut FixedBits<LARGEST>,
-    ) -> bool
-        requires part { self.old.part ≡ Part.Behind }
-        requires place { list < length plan.now.plps }
-        requires short { AllByRecursion (λ b. length b.bytes ≤ MOST_BLOCK_BYTES) blocks.now }
-        ensures some { result ≡ true → (own : List Block) → BuildsBlock plan.now list packet_count own blocks.now self.old self.new out.new }
-        ensures none { result ≡ false → behind plan.now list (drop self.old.block blocks.now) ≡ [] }
-        ensures over { result ≡ false → IsOver self.new }
-        ensures number { self.new.number ≡ self.old.number }
-        ensures stays { result ≡ false → out.new ≡ out.old }
-    {
-        let first = list as usize + 1;
-        let count = plan.config().plps.len() - first;
-        if self.build_other(blocks, first, count, plan, packet_count, out) {
-            return true;
-        }
-        self.step = FrameStep::Over;
-        false
-    }
-
-    // The same of the PLP replaced, and behind it.
-    fn build_from_own(
-        &mut self,
-        blocks: &Blocks<'_>,
-        frame: &SwappedFrame<'_, '_>,
-        plan: &Plan,
-        packet_count: u8,
-        out: &mut FixedBits<LARGEST>,
-    ) -> bool
-        requires part { self.old.part ≡ Part.Own }
-        requires place { frame.now.list < length plan.now.plps }
-        requires lists { frame.now.list < length frame.now.blocks.now.lists }
-        requires own { AreShort (list_at frame.now.blocks.now frame.now.list) }
-        requires short { AllByRecursion (λ b. length b.bytes ≤ MOST_BLOCK_BYTES) blocks.now }
-        ensures some { result ≡ true → BuildsBlock plan.now frame.now.list packet_count
-            (own_list plan.now frame.now.list frame.now.sends frame.now.blocks.now) blocks.now self.old self.new out.new }
-        ensures none { result ≡ false → drop self.old.block (own_list plan.now frame.now.list frame.now.sends frame.now.blocks.now)
-            ++ behind plan.now frame.now.list blocks.now ≡ [] }
-        ensures over { result ≡ false → IsOver self.new }
-        ensures number { self.new.number ≡ self.old.number }
-        ensures stays { result ≡ false → out.new ≡ out.old }
-    {
-        if self.build_own(frame, plan, packet_count, out) {
-            return true;
-        }
-        self.part = Part::Behind;
-        self.block = 0;
-        self.build_behind(blocks, frame.list, plan, packet_count, out)
-    }
-
-    // The same of the PLPs before it, and from it on.
-    fn build_from_before(
-        &mut self,
-        blocks: &Blocks<'_>,
-        frame: &SwappedFrame<'_, '_>,
-        plan: &Plan,
-        packet_count: u8,
-        out: &mut FixedBits<LARGEST>,
-    ) -> bool
-        requires part { self.old.part ≡ Part.Before }
-        requires place { frame.now.list < length plan.now.plps }
-        requires lists { frame.now.list < length frame.now.blocks.now.lists }
-        requires own { AreShort (list_at frame.now.blocks.now frame.now.list) }
-        requires short { AllByRecursion (λ b. length b.bytes ≤ MOST_BLOCK_BYTES) blocks.now }
-        ensures some { result ≡ true → BuildsBlock plan.now frame.now.list packet_count
-            (own_list plan.now frame.now.list frame.now.sends frame.now.blocks.now) blocks.now self.old self.new out.new }
-        ensures none { result ≡ false → blocks_among plan.now 0 frame.now.list (drop self.old.block blocks.now)
-            ++ own_list plan.now frame.now.list frame.now.sends frame.now.blocks.now ++ behind plan.now frame.now.list blocks.now ≡ [] }
-        ensures over { result ≡ false → IsOver self.new }
-        ensures number { self.new.number ≡ self.old.number }
-        ensures stays { result ≡ false → out.new ≡ out.old }
-    {
-        if self.build_other(blocks, 0, frame.list as usize, plan, packet_count, out) {
-            return true;
-        }
-        self.part = Part::Own;
-        self.block = 0;
-        self.build_from_own(blocks, frame, plan, packet_count, out)
+        self.own.block(plp, place).unwrap()
     }
 
     // Builds the packet of the next block, if there is one.
     fn build_block(
         &mut self,
-        blocks: &Blocks<'_>,
         frame: &SwappedFrame<'_, '_>,
         plan: &Plan,
         packet_count: u8,
         out: &mut FixedBits<LARGEST>,
     ) -> bool
-        requires place { frame.now.list < length plan.now.plps }
-        requires lists { frame.now.list < length frame.now.blocks.now.lists }
-        requires own { AreShort (list_at frame.now.blocks.now frame.now.list) }
-        requires short { AllByRecursion (λ b. length b.bytes ≤ MOST_BLOCK_BYTES) blocks.now }
-        ensures some { result ≡ true → BuildsBlock plan.now frame.now.list packet_count
-            (own_list plan.now frame.now.list frame.now.sends frame.now.blocks.now) blocks.now self.old self.new out.new }
-        ensures none { result ≡ false → blocks_left plan.now frame.now.list
-            (own_list plan.now frame.now.list frame.now.sends frame.now.blocks.now) blocks.now self.old.part self.old.block ≡ [] }
-        ensures over { result ≡ false → IsOver self.new }
-        ensures number { self.new.number ≡ self.old.number }
+        requires of { CanBuild self.old frame.now plan.now }
+        requires step { self.old.place.step ≡ step.Blocks }
+        ensures some { result ≡ true → Builds plan.now self.old.place.number packet_count (left_of plan.now self.old.place frame.now)
+            (left_of plan.now self.new.place frame.now) out.new }
+        ensures none { result ≡ false → left_of plan.now self.old.place frame.now ≡ [] }
+        ensures over { result ≡ false → self.new.place.step ≡ step.Over }
         ensures stays { result ≡ false → out.new ≡ out.old }
+        ensures number { self.new.place.number ≡ self.old.place.number }
+        ensures of { CanBuild self.new frame.now plan.now }
     {
-        match self.part {
-            Part::Before => self.build_from_before(blocks, frame, plan, packet_count, out),
-            Part::Own => self.build_from_own(blocks, frame, plan, packet_count, out),
-            Part::Behind => self.build_behind(blocks, frame.list, plan, packet_count, out),
+        plan.rules_law();
+        let end = plan.config().plps.len() as u32;
+        let (plp, place) = next_block(frame, self.place.plp, self.place.place, end);
+        if plp >= end {
+            self.place.step = FrameStep::Over;
+            return false;
         }
+        let block = self.block(frame, plp, place);
+        write_block(
+            out,
+            plan,
+            packet_count,
+            self.place.number,
+            plp as usize,
+            place == 0,
+            &block,
+        );
+        self.place.plp = plp;
+        self.place.place = place + 1;
+        true
     }
 }
 
-impl<'a, 'b> FrameSource<SwappedFrame<'a, 'b>> for SwapPlace {
-    ghost use Rattle.region_swap.specs.Left.{left_of, own_list, CanBeBuilt, IsOver};
+impl<'g, 'b> FrameSource<SwappedFrame<'g, 'b>> for SwapSource<'b> {
+    ghost use Rattle.region_swap.specs.Left.{left_of, CanBuild, IsOver};
 
-    ghost number = { λ p. p.number };
+    ghost number = { λ s. s.place.number };
 
-    ghost left = { λ p f c. left_of c p f.list (own_list c f.list f.sends f.blocks.now) f.dynamic.now f.view.now };
+    ghost left = { λ s f c. left_of c s.place f };
 
-    ghost IsFor = { λ p f c. CanBeBuilt p f c };
+    ghost IsFor = { λ s f c. CanBuild s f c };
 
-    ghost IsOver = { λ p. IsOver p };
+    ghost IsOver = { λ s. IsOver s.place };
 
     ghost kept = { λ _ _. tt };
 
     fn build(
         &mut self,
-        frame: &SwappedFrame<'a, 'b>,
+        frame: &SwappedFrame<'g, 'b>,
         plan: &Plan,
         packet_count: u8,
         out: &mut FixedBits<LARGEST>,
     ) -> bool {
-        match frame.view {
-            RecordView::Muted { .. } => {
-                self.step = FrameStep::Over;
-                false
+        match self.place.step {
+            FrameStep::Stamp => {
+                write_timestamp(out, plan, packet_count, self.place.number);
+                self.place.step = FrameStep::Signal;
+                true
             }
-            RecordView::Frame {
-                pre,
-                post,
-                blocks,
-                ..
-            } => match self.step {
-                FrameStep::Stamp => {
-                    write_timestamp(out, plan, packet_count, self.number);
-                    self.step = FrameStep::Signal;
-                    true
-                }
-                FrameStep::Signal => {
-                    write_signal(
-                        out,
-                        plan,
-                        packet_count,
-                        self.number,
-                        pre,
-                        post,
-                        frame.dynamic,
-                    );
-                    self.step = FrameStep::Blocks;
-                    true
-                }
-                FrameStep::Blocks => self.build_block(blocks, frame, plan, packet_count, out),
-                FrameStep::Over => false,
-            },
+            FrameStep::Signal => {
+                let held = frame.frame;
+                write_l1_current(
+                    out,
+                    plan,
+                    packet_count,
+                    self.place.number,
+                    held.pre.sub(0, held.pre.len()),
+                    held.conf.sub(0, held.conf.len()),
+                    frame.dynamic.as_slice(),
+                );
+                self.place.step = FrameStep::Blocks;
+                true
+            }
+            FrameStep::Blocks => self.build_block(frame, plan, packet_count, out),
+            FrameStep::Over => false,
         }
     }
 }

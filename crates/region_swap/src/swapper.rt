@@ -1,29 +1,27 @@
-// Frames of records and the packets of a region in, units out.
-ghost use Rattle.std.specs.Prelude.{◌≡◌, ◌<◌, ◌≤◌, ◌+◌, ◌^◌, false, length, if◌then◌else◌};
-ghost use Rattle.plp_config.specs.Plps.{plp_at};
+// Frames that are held and the packets of a region in, units out.
+ghost use Rattle.std.specs.Prelude.{◌≡◌, ◌≤◌, ◌+◌, ◌<◌, ◌^◌, false, if◌then◌else◌};
 ghost use Rattle.plp_config.specs.declared.moment.TheConstants.{MOST_FRAMES};
-ghost use Rattle.formed_frames.specs.Formed.{IsFormed};
 ghost use Rattle.gateway_core.specs.InputSoFar.{Told, in_next};
-ghost use Rattle.region_swap.specs.Inside.{AreParts};
-ghost use Rattle.region_swap.specs.Making.{IsMadeFor, plps_in};
-ghost use Rattle.region_swap.specs.RegionFed.{RegionStandsFor, IsRegionOf, region_told};
 ghost use Rattle.gateway_core.specs.IsFed.{wanted};
+ghost use Rattle.region_swap.specs.Inside.{AreParts};
+ghost use Rattle.region_swap.specs.RegionFed.{RegionStandsFor, IsRegionOf, region_told};
 
 use crate::dynamic::Dynamic;
-use crate::place::{SwapPlace, SwappedFrame};
+use crate::laws::{swapped_law, told_law};
+use crate::place::{SwapPlace, SwapSource, SwappedFrame};
 use crate::region::Region;
+use crate::units::give_units;
 use bit_slice::OutOfMemory;
-use formed_frames::send_law;
 use frame_writer::Flow;
 use plp_config::Plan;
-use site_frame::RecordView;
+use pool_frame::PoolFrame;
 use std::alloc::Global;
 use ts_packet::{SIZE, TsPacket};
 
-/// Makes the T2-MI stream of a network (ETSI TS 102 773) from the records of its frames, with the packets of one PLP replaced by those
-/// of another input: offer the packets that the frame under way wants, begin it by its record, if it has one, take the units, each with
-/// the same record, and pass to the next; behind the last frame finish, and take the rest. Packet k of the input stands in slot k of the
-/// run.
+/// Makes the T2-MI stream of a network (ETSI TS 102 773) of frames that are held, with the packets of one PLP replaced
+/// by those of another input: offer the packets that the frame under way wants, begin it, if it is there, take the
+/// units, each time with the same frame, and pass to the next; behind the last frame finish, and take the rest. Packet
+/// k of the input stands in slot k of the run.
 #[derive(Drop)]
 pub struct Swapper<'p> {
     plan: &'p Plan,
@@ -33,7 +31,7 @@ pub struct Swapper<'p> {
     // The dynamic part of the last frame that was begun.
     dynamic: Dynamic,
     flow: Flow,
-    // How far the packets of the last frame were built. Its record is not kept.
+    // How far the packets of the last frame were built. The frame is not kept.
     place: SwapPlace,
     // The frame under way, and whether it was begun.
     number: u64,
@@ -48,29 +46,6 @@ fn pid_of(plan: &Plan) -> u16
 {
     plan.rules_law();
     plan.config().pid
-}
-
-// Makes the dynamic part of a frame, by its record.
-fn write_dynamic(
-    dynamic: &mut Dynamic,
-    plan: &Plan,
-    number: u64,
-    view: &RecordView<'_>,
-    plp: usize,
-    count: u16,
-)
-    requires formed { IsFormed plan.now number view.now }
-    requires plps { plps_in dynamic.old ≡ length plan.now.plps }
-    requires place { plp < length plan.now.plps }
-    requires few { count ≤ (plp_at plan.now.plps plp).blocks }
-    ensures made { IsMadeFor plan.now number plp count view.now dynamic.new.bits }
-    ensures plps { plps_in dynamic.new ≡ length plan.now.plps }
-{
-    send_law();
-    match view {
-        RecordView::Muted { .. } => {}
-        RecordView::Frame { post, .. } => dynamic.write(plan, number, post, plp, count),
-    }
 }
 
 // Goes on behind the frame under way: once it was begun, its packets were taken and its blocks sent.
@@ -94,24 +69,27 @@ fn pass_region(region: &mut Region, plan: &Plan, list: u32, begun: bool)
 }
 
 impl<'p> Swapper<'p> {
-    ghost use Rattle.std.specs.Prelude.{◌≡◌, ◌<◌, ◌≤◌, ◌+◌, ◌*◌, ◌++◌, ◌∷◌, ℕ, List, [], true, false, length, Some, None, slice_get, IfOk};
+    ghost use Rattle.std.specs.Prelude.{◌≡◌, ◌<◌, ◌≤◌, ◌+◌, ◌*◌, ◌++◌, ◌∷◌, ℕ, List, [], true, false, length, take, Some, slice_get, IfOk};
     ghost use Rattle.plp_config.specs.declared.config.Config.{Config};
     ghost use Rattle.plp_config.specs.declared.moment.TheConstants.{MOST_FRAMES};
-    ghost use Rattle.t2mi_stream.specs.Complete.{complete_units};
+    ghost use Rattle.ts_packet.specs.declared.sizes.TheConstants.{SIZE};
+    ghost use Rattle.t2mi_packet.specs.declared.packet.Body.{Body};
     ghost use Rattle.t2mi_stream.specs.Pipe.{pipe};
+    ghost use Rattle.site_frame.specs.declared.reading.RecordView.{RecordView};
     ghost use Rattle.frame_writer.specs.Flowing.{packet_bound};
-    ghost use Rattle.formed_frames.specs.Formed.{IsFormed};
+    ghost use Rattle.pool_frame.specs.Left.{CanBeSent};
     ghost use Rattle.formed_frames.specs.Remade.{NumberedView, remade_packets, view_bodies};
     ghost use Rattle.gateway_core.specs.InputSoFar.{Told, with_packet, at_end, in_next, Continues};
+    ghost use Rattle.region_swap.specs.Held.{IsHeld, HasRecord};
     ghost use Rattle.region_swap.specs.Swapped.{swapped, swapped_view};
-    ghost use Rattle.region_swap.specs.StandsFor.{SwapperStandsFor, wants_of, wants_by, frame_of, has_unit, is_fed, status_of, new_status};
-    ghost use Rattle.region_swap.specs.StandsFor.{none_told, bytes_left};
+    ghost use Rattle.region_swap.specs.StandsFor.{SwapperStandsFor, GivesUnits, wants_of, wants_by, frame_of, has_unit, is_fed};
+    ghost use Rattle.region_swap.specs.StandsFor.{status_of, new_status, none_told, left_in, bytes_left};
 
     /// A swapper to which nothing was given, for the PLP at a place of a plan. Frame 0 is under way. It takes all the memory that it
     /// needs.
     pub fn open(alloc: Global, plan: &'p Plan, plp: usize) -> Result<Swapper<'p>, OutOfMemory>
         requires { plp < length plan.now.plps }
-        ensures stands { IfOk result (λ s. SwapperStandsFor s plan.now plp none_told [] 0) }
+        ensures stands { IfOk result (λ s. SwapperStandsFor s plan.now plp none_told [] [] 0) }
         ensures unit { IfOk result (λ s. has_unit s ≡ false) }
         ensures status { IfOk result (λ s. status_of s ≡ new_status plan.now plp) }
     {
@@ -132,8 +110,8 @@ impl<'p> Swapper<'p> {
     /// How many packets the frame under way still wants: those of the slots that are over when it begins; 0 from an input that ended.
     pub fn wants(&self) -> u64
         ensures value { result ≡ wants_of self.now }
-        ensures answer { (c : Config) (plp : ℕ) (t : Told) (frames : List NumberedView) (given : ℕ)
-            → SwapperStandsFor self.now c plp t frames given → result ≡ wants_by c plp t }
+        ensures answer { (c : Config) (plp : ℕ) (t : Told) (left : List Body) (frames : List NumberedView) (given : ℕ)
+            → SwapperStandsFor self.now c plp t left frames given → result ≡ wants_by c plp t }
     {
         if self.begun {
             return 0;
@@ -144,13 +122,13 @@ impl<'p> Swapper<'p> {
     /// Takes the next packet, one that the frame under way wants.
     pub fn offer(&mut self, packet: &TsPacket)
         requires { 0 < wants_of self.old }
-        ensures stands { (c : Config) (plp : ℕ) (t : Told) (frames : List NumberedView) (given : ℕ)
-            → SwapperStandsFor self.old c plp t frames given
-            → SwapperStandsFor self.new c plp (with_packet t packet.now) frames given }
+        ensures stands { (c : Config) (plp : ℕ) (t : Told) (left : List Body) (frames : List NumberedView) (given : ℕ)
+            → SwapperStandsFor self.old c plp t left frames given
+            → SwapperStandsFor self.new c plp (with_packet t packet.now) left frames given }
         ensures fewer { wants_of self.new + 1 ≡ wants_of self.old }
         ensures unit { has_unit self.new ≡ has_unit self.old }
         ensures fed { is_fed self.new ≡ is_fed self.old }
-        ensures left { bytes_left self.new None ≡ bytes_left self.old None }
+        ensures left { (left : List Body) → bytes_left self.new left ≡ bytes_left self.old left }
         ensures status { status_of self.new ≡ status_of self.old }
     {
         self.region.offer(self.plan, self.list, packet);
@@ -158,112 +136,91 @@ impl<'p> Swapper<'p> {
 
     /// The input has ended: null packets follow. A second time nothing changes.
     pub fn end_input(&mut self)
-        ensures stands { (c : Config) (plp : ℕ) (t : Told) (frames : List NumberedView) (given : ℕ)
-            → SwapperStandsFor self.old c plp t frames given → SwapperStandsFor self.new c plp (at_end t) frames given }
+        ensures stands { (c : Config) (plp : ℕ) (t : Told) (left : List Body) (frames : List NumberedView) (given : ℕ)
+            → SwapperStandsFor self.old c plp t left frames given → SwapperStandsFor self.new c plp (at_end t) left frames given }
         ensures none { wants_of self.new ≡ 0 }
         ensures unit { has_unit self.new ≡ has_unit self.old }
         ensures fed { is_fed self.new ≡ is_fed self.old }
-        ensures left { bytes_left self.new None ≡ bytes_left self.old None }
+        ensures left { (left : List Body) → bytes_left self.new left ≡ bytes_left self.old left }
         ensures status { status_of self.new ≡ status_of self.old }
     {
         self.region.end(self.plan, self.list);
     }
 
-    /// Begins the frame under way by its record: it wants no more packets, it was not begun, and [`Swapper::finish`] was not called.
-    pub fn frame(&mut self, view: &RecordView<'_>)
-        requires formed { IsFormed (status_of self.old).network (frame_of self.old) view.now }
+    /// Begins the frame under way: it wants no more packets, it was not begun, and [`Swapper::finish`] was not called.
+    pub fn frame(&mut self, frame: &PoolFrame<'_>)
+        requires can { CanBeSent (status_of self.old).network frame.now }
+        requires held { ∥ HasRecord (status_of self.old).network (frame_of self.old) frame.now ∥₁ }
         requires wanted { wants_of self.old ≡ 0 }
         requires free { (status_of self.old).begun ≡ false }
         requires open { (status_of self.old).finished ≡ false }
-        ensures stands { (c : Config) (plp : ℕ) (t : Told) (frames : List NumberedView) (given : ℕ)
-            → SwapperStandsFor self.old c plp t frames given
-            → SwapperStandsFor self.new c plp t (frames ++ record { number = frame_of self.old; view = view.now } ∷ []) given }
+        ensures stands { (c : Config) (plp : ℕ) (t : Told) (frames : List NumberedView) (given : ℕ) (view : RecordView)
+            → IsHeld c (frame_of self.old) view frame.now → SwapperStandsFor self.old c plp t [] frames given
+            → SwapperStandsFor self.new c plp t (left_in self.new frame.now) (frames ++ record { number = frame_of self.old; view = view } ∷ [])
+            given }
         // It has no more to give than its packets have bytes, and what was left.
-        ensures more { (c : Config) (plp : ℕ) (t : Told) (frames : List NumberedView) (given : ℕ)
-            → SwapperStandsFor self.old c plp t frames given → (input : List (List ℕ)) → Continues t input
-            → bytes_left self.new (Some (record { number = frame_of self.old; view = view.now }))
-            ≤ bytes_left self.old None + packet_bound * length (view_bodies c (frame_of self.old)
-            (swapped_view c plp input (frame_of self.old) view.now)) }
+        ensures more { (c : Config) (plp : ℕ) (t : Told) (frames : List NumberedView) (given : ℕ) (view : RecordView)
+            → IsHeld c (frame_of self.old) view frame.now → SwapperStandsFor self.old c plp t [] frames given
+            → (input : List (List ℕ)) → Continues t input
+            → bytes_left self.new (left_in self.new frame.now) ≤ bytes_left self.old []
+            + packet_bound * length (view_bodies c (frame_of self.old) (swapped_view c plp input (frame_of self.old) view)) }
         ensures wants { wants_of self.new ≡ 0 }
         ensures status { status_of self.new ≡ record (status_of self.old) { begun = true } }
     {
-        send_law();
+        told_law();
+        swapped_law();
+        self.plan.rules_law();
         self.region.advance(self.plan, self.list);
-        write_dynamic(
-            &mut self.dynamic,
+        self.dynamic.write(
             self.plan,
             self.number,
-            view,
+            &frame.dynamic,
             self.list as usize,
             self.region.count,
         );
         let (plan, list, number, sends) = (self.plan, self.list, self.number, self.region.sends);
         let dynamic = &self.dynamic;
-        let frame = SwappedFrame {
-            view,
+        let region = &self.region;
+        let swapped = SwappedFrame {
+            frame,
             dynamic: &dynamic.bits,
             list,
-            blocks: &self.region.blocks,
+            region: &region.blocks,
             sends,
         };
-        let mut place = SwapPlace::first(plan, number);
-        self.flow.begin(&frame, plan, &mut place);
-        self.place = place;
+        let mut source = SwapSource::new(SwapPlace::first(plan, number), &swapped);
+        self.flow.begin(&swapped, plan, &mut source);
+        self.place = source.place;
         self.begun = true;
     }
 
-    /// Gives the next unit of the frames begun, if it is complete, and behind the last one also the rest. The record is that of the frame
-    /// under way, which was begun. Else nothing changes.
-    pub fn next_ts(&mut self, view: &RecordView<'_>, out: &mut [u8; SIZE]) -> bool
-        requires formed { IsFormed (status_of self.old).network (frame_of self.old) view.now }
+    /// Gives units of the frames begun, to the front of these bytes, as long as one is complete and there is room: how
+    /// many bytes, and whether it was the room that ended. The frame is the one under way, which was begun.
+    pub fn give(&mut self, frame: &PoolFrame<'_>, out: &mut [u8]) -> (usize, bool)
+        requires can { CanBeSent (status_of self.old).network frame.now }
         requires begun { (status_of self.old).begun ≡ true }
-        // Each unit is the next one of all, whatever packets and frames follow; after the end no frame follows.
-        ensures unit { result ≡ true → (c : Config) (plp : ℕ) (t : Told) (before : List NumberedView) (given : ℕ)
-            → SwapperStandsFor self.old c plp t (before ++ record { number = frame_of self.old; view = view.now } ∷ []) given
-            → (input : List (List ℕ)) → Continues t input
-            → (more : List (List ℕ)) → ((status_of self.old).finished ≡ true → more ≡ [])
-            → slice_get (pipe c.pid (remade_packets c (swapped c plp input
-            (before ++ record { number = frame_of self.old; view = view.now } ∷ [])) ++ more)) given ≡ Some out.new }
-        ensures stands { result ≡ true → (c : Config) (plp : ℕ) (t : Told) (before : List NumberedView) (given : ℕ)
-            → SwapperStandsFor self.old c plp t (before ++ record { number = frame_of self.old; view = view.now } ∷ []) given
-            → SwapperStandsFor self.new c plp t (before ++ record { number = frame_of self.old; view = view.now } ∷ []) (given + 1) }
-        ensures kept { result ≡ false → (c : Config) (plp : ℕ) (t : Told) (before : List NumberedView) (given : ℕ)
-            → SwapperStandsFor self.old c plp t (before ++ record { number = frame_of self.old; view = view.now } ∷ []) given
-            → SwapperStandsFor self.new c plp t (before ++ record { number = frame_of self.old; view = view.now } ∷ []) given }
-        ensures stays { result ≡ false → out.new ≡ out.old }
-        // Before the end a unit of the frames begun is given as soon as it is complete, and no other.
-        ensures complete { result ≡ true → (status_of self.old).finished ≡ false
-            → (c : Config) (plp : ℕ) (t : Told) (before : List NumberedView) (given : ℕ)
-            → SwapperStandsFor self.old c plp t (before ++ record { number = frame_of self.old; view = view.now } ∷ []) given
-            → (input : List (List ℕ)) → Continues t input → given < length (complete_units c.pid (remade_packets c
-            (swapped c plp input (before ++ record { number = frame_of self.old; view = view.now } ∷ [])))) }
-        ensures caught_up { result ≡ false → (status_of self.old).finished ≡ false
-            → (c : Config) (plp : ℕ) (t : Told) (before : List NumberedView) (given : ℕ)
-            → SwapperStandsFor self.old c plp t (before ++ record { number = frame_of self.old; view = view.now } ∷ []) given
-            → (input : List (List ℕ)) → Continues t input → given ≡ length (complete_units c.pid (remade_packets c
-            (swapped c plp input (before ++ record { number = frame_of self.old; view = view.now } ∷ [])))) }
-        ensures is { result ≡ has_unit self.old }
-        ensures idle { result ≡ false → has_unit self.new ≡ false }
-        // So a loop that takes units ends.
-        ensures less { result ≡ true → bytes_left self.new (Some (record { number = frame_of self.old; view = view.now }))
-            < bytes_left self.old (Some (record { number = frame_of self.old; view = view.now })) }
+        requires room { SIZE ≤ length out.old }
+        ensures gives { GivesUnits self.old self.new frame.now result.1 (take result.0 out.new) }
+        ensures count { result.0 ≤ length out.old }
+        ensures size { length out.new ≡ length out.old }
+        ensures idle { result.1 ≡ false → has_unit self.new ≡ false }
         ensures wants { wants_of self.new ≡ 0 }
         ensures status { status_of self.new ≡ status_of self.old }
     {
-        send_law();
         let (plan, list, sends, place) = (self.plan, self.list, self.region.sends, self.place);
         let dynamic = &self.dynamic;
-        let frame = SwappedFrame {
-            view,
+        let region = &self.region;
+        let swapped = SwappedFrame {
+            frame,
             dynamic: &dynamic.bits,
             list,
-            blocks: &self.region.blocks,
+            region: &region.blocks,
             sends,
         };
-        let mut now = place;
-        let given = self.flow.next(&frame, plan, &mut now, out);
-        self.place = now;
-        given
+        let mut source = SwapSource::new(place, &swapped);
+        let (len, full) = give_units(&mut self.flow, &swapped, plan, &mut source, out);
+        self.place = source.place;
+        (len, full)
     }
 
     /// Goes on to the next frame: the frame under way wants no more packets, its number is below `plp_config::MOST_FRAMES`, and if it was
@@ -272,11 +229,11 @@ impl<'p> Swapper<'p> {
         requires wanted { wants_of self.old ≡ 0 }
         requires early { frame_of self.old < MOST_FRAMES }
         requires given { (status_of self.old).begun ≡ true → has_unit self.old ≡ false }
-        ensures stands { (c : Config) (plp : ℕ) (t : Told) (frames : List NumberedView) (given : ℕ)
-            → SwapperStandsFor self.old c plp t frames given → SwapperStandsFor self.new c plp (in_next t) frames given }
+        ensures stands { (c : Config) (plp : ℕ) (t : Told) (left : List Body) (frames : List NumberedView) (given : ℕ)
+            → SwapperStandsFor self.old c plp t left frames given → SwapperStandsFor self.new c plp (in_next t) left frames given }
         ensures unit { has_unit self.new ≡ has_unit self.old }
         ensures fed { is_fed self.new ≡ is_fed self.old }
-        ensures left { bytes_left self.new None ≡ bytes_left self.old None }
+        ensures left { (left : List Body) → bytes_left self.new left ≡ bytes_left self.old left }
         ensures status { status_of self.new ≡ record (status_of self.old) { frame = frame_of self.old + 1; begun = false } }
     {
         pass_region(&mut self.region, self.plan, self.list, self.begun);
@@ -288,10 +245,10 @@ impl<'p> Swapper<'p> {
     pub fn finish(&mut self)
         requires given { has_unit self.old ≡ false }
         requires open { (status_of self.old).finished ≡ false }
-        ensures stands { (c : Config) (plp : ℕ) (t : Told) (frames : List NumberedView) (given : ℕ)
-            → SwapperStandsFor self.old c plp t frames given → SwapperStandsFor self.new c plp t frames given }
+        ensures stands { (c : Config) (plp : ℕ) (t : Told) (left : List Body) (frames : List NumberedView) (given : ℕ)
+            → SwapperStandsFor self.old c plp t left frames given → SwapperStandsFor self.new c plp t left frames given }
         ensures fed { is_fed self.new ≡ true }
-        ensures left { bytes_left self.new None ≡ bytes_left self.old None }
+        ensures left { (left : List Body) → bytes_left self.new left ≡ bytes_left self.old left }
         ensures wants { wants_of self.new ≡ wants_of self.old }
         ensures status { status_of self.new ≡ record (status_of self.old) { finished = true } }
     {
@@ -303,18 +260,18 @@ impl<'p> Swapper<'p> {
         requires finished { (status_of self.old).finished ≡ true }
         requires fed { is_fed self.old ≡ true }
         ensures unit { result ≡ true → (c : Config) (plp : ℕ) (t : Told) (frames : List NumberedView) (given : ℕ)
-            → SwapperStandsFor self.old c plp t frames given → (input : List (List ℕ)) → Continues t input
+            → SwapperStandsFor self.old c plp t [] frames given → (input : List (List ℕ)) → Continues t input
             → slice_get (pipe c.pid (remade_packets c (swapped c plp input frames))) given ≡ Some out.new }
         ensures stands { result ≡ true → (c : Config) (plp : ℕ) (t : Told) (frames : List NumberedView) (given : ℕ)
-            → SwapperStandsFor self.old c plp t frames given → SwapperStandsFor self.new c plp t frames (given + 1) }
+            → SwapperStandsFor self.old c plp t [] frames given → SwapperStandsFor self.new c plp t [] frames (given + 1) }
         ensures none { result ≡ false → (c : Config) (plp : ℕ) (t : Told) (frames : List NumberedView) (given : ℕ)
-            → SwapperStandsFor self.old c plp t frames given → (input : List (List ℕ)) → Continues t input
+            → SwapperStandsFor self.old c plp t [] frames given → (input : List (List ℕ)) → Continues t input
             → length (pipe c.pid (remade_packets c (swapped c plp input frames))) ≡ given }
         ensures kept { result ≡ false → (c : Config) (plp : ℕ) (t : Told) (frames : List NumberedView) (given : ℕ)
-            → SwapperStandsFor self.old c plp t frames given → SwapperStandsFor self.new c plp t frames given }
+            → SwapperStandsFor self.old c plp t [] frames given → SwapperStandsFor self.new c plp t [] frames given }
         ensures stays { result ≡ false → out.new ≡ out.old }
         ensures is { result ≡ has_unit self.old }
-        ensures less { result ≡ true → bytes_left self.new None < bytes_left self.old None }
+        ensures less { result ≡ true → bytes_left self.new [] < bytes_left self.old [] }
         ensures fed { is_fed self.new ≡ true }
         ensures wants { wants_of self.new ≡ wants_of self.old }
         ensures status { status_of self.new ≡ status_of self.old }

@@ -11,7 +11,6 @@ use Rattle.plp_config.specs.Capacity.{IsPlan}
 use Rattle.plp_config.specs.Rules.Rule.{SuperframeLength}
 use Rattle.plp_config.specs.declared.config.Config.{Config}
 use Rattle.plp_config.specs.declared.moment.TheConstants.{MOST_FRAMES}
-use Rattle.frame_groups.specs.Groups.{groups}
 use Rattle.frame_groups.specs.Modulated.{Numbered}
 use Rattle.frame_tests.specs.Begun.{packets_at}
 use Rattle.record_laws.specs.Frames.{frame_of}

@@ -1,11 +1,9 @@
 -- A frame of a run with a PLP replaced is that frame of the run with the other input.
-use Rattle.std.proofs.Common.{◌≡◌, ℕ, ◌+◌, ◌%◌, ◌<◌, Bool, true, List, [], ◌++◌, length, take, Option, Some, None, refl}
+use Rattle.std.proofs.Common.{◌≡◌, ℕ, ◌+◌, ◌%◌, ◌<◌, Bool, true, List, ◌++◌, length, take, Option, Some, refl}
 use Rattle.std.proofs.Common.{ap, ap₂, sym, ◌∙◌, arith, length-append, option_map}
 use Rattle.std.specs.Prelude.{slice_set}
-use Rattle.std.specs.Option.{option_map_or}
 use Rattle.terms.specs.Bits.{field, part}
 use Rattle.terms.proofs.BitLemmas.{length-field}
-use Rattle.terms.proofs.OptionLemmas.{none_some, some_injective}
 use Rattle.bit_slice.specs.Crc.{crc32_of}
 use Rattle.plp_config.specs.Capacity.{IsPlan}
 use Rattle.plp_config.specs.Emission.{emission}
@@ -13,14 +11,13 @@ use Rattle.plp_config.specs.declared.config.Config.{Config}
 use Rattle.plp_config.specs.declared.moment.Moment.{Moment}
 use Rattle.mode_adapt.specs.Blocks.{own_blocks, told_count, told_counts}
 use Rattle.scheduler.specs.Laws.{ShapeFitsL1, ShapeHasCounts}
-use Rattle.scheduler.specs.Shape.{FrameShape, shape_of}
+use Rattle.scheduler.specs.Shape.{shape_of}
 use Rattle.cell_map.specs.declared.places.Cell.{Cell}
 use Rattle.l1_signal.specs.L1Configurable.{conf_bits}
 use Rattle.l1_signal.specs.L1Dynamic.{dyn_read}
 use Rattle.l1_signal.specs.L1Of.{conf_of, post_bits, told_shape}
 use Rattle.l1_signal.specs.Laws.{DynReadBack, DynWritten, PostLength, ConfPartLength, crc_behind}
 use Rattle.l1_signal.specs.Lengths.{conf_len, dyn_len}
-use Rattle.l1_signal.specs.declared.dynamic.L1Dyn.{L1Dyn}
 use Rattle.site_frame.specs.Record.{Block}
 use Rattle.site_frame.specs.declared.reading.RecordView.TheVariants.{Frame}
 use Rattle.frame_tests.specs.Readable.{told_dynamic}
@@ -28,13 +25,15 @@ use Rattle.frame_tests.specs.Tests.{read_whole}
 use Rattle.record_laws.specs.Frames.{frame_of, frame_shape, frame_cells, sent_blocks, l1_pre}
 use Rattle.record_laws.specs.Laws.{ToldCountsFit}
 use Rattle.gateway_core.specs.Signalling.{dyn_part}
+use Rattle.formed_frames.proofs.SignalLemmas.{conf_there, dynamic_there}
 use Rattle.frame_laws.specs.Types.{TypesFit}
 use Rattle.frame_laws.proofs.SignalLemmas.{frame_told}
 use Rattle.frame_laws.proofs.WrittenLemmas.{post_is}
 use Rattle.region_swap.specs.Swapped.{counts_in, swapped_counts, swapped_view, replaced, input_blocks, post_with_counts}
 use Rattle.swap_laws.specs.Region.{with_input, FrameIsReplaced}
-use Rattle.swap_laws.proofs.BlockLemmas.{own_input, other_input, set_map, replaced_is}
-use Rattle.region_swap.proofs.LeftLemmas.{part_at, front_at}
+use Rattle.region_swap.proofs.BlockLemmas.{replaced_is}
+use Rattle.region_swap.proofs.TellLemmas.{from_told}
+use Rattle.swap_laws.proofs.InputLemmas.{own_input, other_input, set_map}
 
 -- What the laws of the crates below say.
 pub record Laws : Type 0 where
@@ -46,11 +45,6 @@ pub record Laws : Type 0 where
   pub fits : ShapeFitsL1
   pub counts : ShapeHasCounts
 
-from_told : (o : Option L1Dyn) (s : FrameShape) → option_map told_shape o ≡ Some s
-    → option_map_or (λ (d : L1Dyn). (told_shape d).counts) o [] ≡ s.counts
-from_told None s e = none_some s e
-from_told (Some d) s e = ap (λ (t : FrameShape). t.counts) (some_injective (told_shape d) s e)
-
 same_frame : (moment : Moment) (pre p q : List Bool) (x y : List Block) (s t : List (Option Cell)) → p ≡ q → x ≡ y → s ≡ t
     → Frame moment pre p x s ≡ Frame moment pre q y t
 same_frame moment pre p q x y s t e f g = rw (e, f, g) refl
@@ -60,11 +54,9 @@ module _ (l : Laws) (c : Config) (n : ℕ) (counts : List ℕ) where
   abbrev dynamic : List Bool
   dynamic = dyn_part c n counts
 
-  abbrev front : List Bool
-  front = conf_bits (conf_of c) ++ dynamic
-
   dynamic_long : length dynamic ≡ dyn_len (length c.plps)
   dynamic_long =
+      let front : List Bool = conf_bits (conf_of c) ++ dynamic in
       let a = l.post c n (shape_of c counts) in
       let b = ap length (post_is c n counts) in
       let d = length-append front (field 32 (crc32_of front)) in
@@ -73,16 +65,13 @@ module _ (l : Laws) (c : Config) (n : ℕ) (counts : List ℕ) where
       let h = l.conf c in
       omega (arith, a, b, d, e, g, h)
 
-  conf_there : take (conf_len (length c.plps)) (post_bits c n (shape_of c counts)) ≡ conf_bits (conf_of c)
-  conf_there =
-      ap (take (conf_len (length c.plps))) (sym (post_is c n counts))
-      ∙ front_at (conf_bits (conf_of c)) dynamic (field 32 (crc32_of front)) (conf_len (length c.plps)) (l.conf c)
+  conf_is : take (conf_len (length c.plps)) (post_bits c n (shape_of c counts)) ≡ conf_bits (conf_of c)
+  conf_is = ap (take (conf_len (length c.plps))) (sym (post_is c n counts)) ∙ conf_there c dynamic l.conf dynamic_long
 
-  dynamic_there : part (post_bits c n (shape_of c counts)) (conf_len (length c.plps)) (dyn_len (length c.plps)) ≡ dynamic
-  dynamic_there =
+  dynamic_is : part (post_bits c n (shape_of c counts)) (conf_len (length c.plps)) (dyn_len (length c.plps)) ≡ dynamic
+  dynamic_is =
       ap (λ (bits : List Bool). part bits (conf_len (length c.plps)) (dyn_len (length c.plps))) (sym (post_is c n counts))
-      ∙ part_at (conf_bits (conf_of c)) dynamic (field 32 (crc32_of front)) (conf_len (length c.plps)) (dyn_len (length c.plps))
-      (l.conf c) dynamic_long
+      ∙ dynamic_there c dynamic l.conf dynamic_long
 
 module _ (l : Laws) (c : Config) (plp : ℕ) (inputs : ℕ → List (List ℕ)) (input : List (List ℕ)) (n : ℕ) (plan : IsPlan c)
     (types : TypesFit c) (inside : plp < length c.plps) where
@@ -97,7 +86,7 @@ module _ (l : Laws) (c : Config) (plp : ℕ) (inputs : ℕ → List (List ℕ)) 
 
   shape_told : option_map told_shape (told_dynamic c post) ≡ Some (frame_shape c inputs n)
   shape_told =
-      ap (λ (bits : List Bool). option_map told_shape (read_whole (dyn_read (length c.plps) bits))) (dynamic_there l c n counts)
+      ap (λ (bits : List Bool). option_map told_shape (read_whole (dyn_read (length c.plps) bits))) (dynamic_is l c n counts)
       ∙ frame_told l.told l.back l.written l.fits c inputs n plan types
 
   counts_are : counts_in c post ≡ counts
@@ -117,7 +106,7 @@ module _ (l : Laws) (c : Config) (plp : ℕ) (inputs : ℕ → List (List ℕ)) 
 
   post_new : post_with_counts c n (swapped_counts c plp input n post) post ≡ post_bits c n (frame_shape c new n)
   post_new =
-      ap₂ (λ (x y : List Bool). crc_behind true (x ++ y)) (conf_there l c n counts) (ap (dyn_part c n) swapped_are)
+      ap₂ (λ (x y : List Bool). crc_behind true (x ++ y)) (conf_is l c n counts) (ap (dyn_part c n) swapped_are)
       ∙ post_is c n told_new
 
   blocks_new : replaced c plp (input_blocks c plp input n) (sent_blocks c (own_blocks c inputs n)) ≡ sent_blocks c (own_blocks c new n)

@@ -1,5 +1,5 @@
-mod BlockLemmas
+mod ComeLemmas
 mod FrameLemmas
+mod InputLemmas
 mod RunLemmas
 mod WholeLemmas
-mod ComeLemmas

@@ -1,6 +1,6 @@
 -- The frames of an honest stream, with a PLP replaced, are those of the run with the other input.
-use Rattle.std.proofs.Common.{◌≡◌, ℕ, ◌+◌, ◌-◌, ◌%◌, ◌<◌, ◌≤◌, ◌==◌, ◌&&◌, Bool, true, false, List, [], ◌∷◌, ◌++◌, map}
-use Rattle.std.proofs.Common.{find, length, None, refl, ap, ap₂, ◌∙◌, ⊎_elim, arith}
+use Rattle.std.proofs.Common.{◌≡◌, ℕ, ◌%◌, ◌<◌, ◌==◌, ◌&&◌, Bool, true, false, List, [], ◌∷◌, ◌++◌, map}
+use Rattle.std.proofs.Common.{find, length, None, refl, ap, ap₂, ◌∙◌, arith}
 use Rattle.std.specs.Prelude.{if◌then◌else◌}
 use Rattle.std.specs.List.{filter, range_with_len, items_where_true, AllByRecursion}
 use Rattle.plp_config.specs.Capacity.{IsPlan}
@@ -21,9 +21,7 @@ use Rattle.frame_laws.specs.SentFrames.{run_length, run_stream, stream_bytes, se
 use Rattle.frame_laws.specs.Types.{TypesFit}
 use Rattle.frame_laws.proofs.RecordLemmas.{last_below}
 use Rattle.remade_laws.specs.Again.{run_frame}
-use Rattle.merge_run.specs.Sending.{numbered}
-use Rattle.region_swap.specs.Swapped.{swapped}
-use Rattle.swap_run.specs.SwapRun.{frame_in, frames_in}
+use Rattle.region_swap.specs.Swapped.{numbered, frame_in, frames_in, swapped}
 use Rattle.swap_laws.specs.Region.{with_input, FrameIsReplaced, RegionIsOfRun}
 use Rattle.feed_merge.proofs.PickLemmas.{numbers_below}
 

@@ -19,8 +19,7 @@ use Rattle.frame_laws.specs.SentFrames.{run_length, run_stream, stream_bytes, se
 use Rattle.frame_laws.specs.Types.{TypesFit}
 use Rattle.remade_laws.specs.Again.{run_frame}
 use Rattle.merge_laws.specs.Merged.{must_come}
-use Rattle.region_swap.specs.Swapped.{swapped_view, swapped}
-use Rattle.swap_run.specs.SwapRun.{frames_in}
+use Rattle.region_swap.specs.Swapped.{frames_in, swapped_view, swapped}
 
 -- inputs with that of the PLP at a place replaced
 abbrev pub with_input : (ℕ → List (List ℕ)) → ℕ → List (List ℕ) → ℕ → List (List ℕ)

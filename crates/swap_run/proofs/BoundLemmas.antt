@@ -32,7 +32,7 @@ use Rattle.region_swap.specs.declared.swapper.Swapper.{Swapper}
 use Rattle.swap_run.specs.Shown.{frame_bytes}
 
 -- if no unit is complete, fewer bytes wait than one has
-pub idle_left : (s : Swapper) → has_unit s ≡ false → bytes_left s None < 184
+pub idle_left : (s : Swapper) → has_unit s ≡ false → bytes_left s [] < 184
 idle_left s idle =
     let off = or_parts (nat_le PAYLOAD (at_hand s.flow.outlet)) (is_finished s.flow.outlet.piper && nat_lt 0 (piper_waiting s.flow.outlet.piper))
     idle in

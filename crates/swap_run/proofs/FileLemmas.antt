@@ -23,27 +23,28 @@ use Rattle.t2mi_stream.specs.CompleteLaws.{CompleteLaw}
 use Rattle.t2mi_stream.specs.Pipe.{pipe, units_in}
 use Rattle.formed_frames.specs.Remade.{NumberedView, remade_packets}
 use Rattle.feed_merge.specs.Picks.{above_all}
-use Rattle.frame_feed.specs.StandsFor.{waiting_of}
-use Rattle.held_feed.specs.StandsFor.{IsFirst}
-use Rattle.frame_feed.specs.StandsFor as feed
+use Rattle.held_feed.specs.StandsFor.{IsFirst, waiting_of}
+use Rattle.held_feed.specs.StandsFor as feed
 use Rattle.file_run.specs.Events.{Event, fed, has_ended, gave}
 use Rattle.file_run.specs.FileRun.{AreFed, IsFed, read_ahead}
 use Rattle.file_run.specs.declared.machine.Step.TheVariants.{Give, End}
 use Rattle.gateway_core.specs.InputSoFar.{Continues}
 use Rattle.gateway_run.proofs.FileLemmas.{NextIsBad}
 use Rattle.two_feeds.specs.Fed.{AreEarly}
-use Rattle.swap_run.specs.Fed.{NoneComes}
+use Rattle.two_feeds.specs.Fed.{IsFedWith, NoneComes}
 use Rattle.two_feeds.specs.Reading.{is_idle}
-use Rattle.swap_run.proofs.FeedLemmas.{IsDue, due_of, waits_above}
+use Rattle.two_feeds.proofs.FeedLemmas.{IsDue, due_of, due_given, waits_above}
 use Rattle.two_feeds.proofs.NumberLemmas.{below_of, above_append, below_append}
 use Rattle.merge_run.proofs.SendLemmas.{given_front}
-use Rattle.swap_run.proofs.SplitLemmas as split
+use Rattle.two_feeds.proofs.SplitLemmas as split
+use Rattle.merge_run.specs.Shown.{OfFeed}
+use Rattle.merge_run.proofs.HeldLemmas.{all_of}
 use Rattle.t2mi_stream.proofs.CompleteLemmas.{shorter_front}
 use Rattle.region_swap.specs.StandsFor.{Status, status_of, wants_of}
-use Rattle.region_swap.specs.Swapped.{swapped}
-use Rattle.swap_run.specs.Shown.{Read, Shown, HasCaughtUp, WereGiven, IsIn, IsDone, IsBehindAll, IsWanted, finished_in}
+use Rattle.region_swap.specs.Swapped.{frames_in, swapped}
+use Rattle.swap_run.specs.Shown.{Read, Shown, HasCaughtUp, WereGiven, IsIn, IsDone, IsBehindAll, IsWanted, begun_in, finished_in}
 use Rattle.swap_run.specs.Shown as shown
-use Rattle.swap_run.specs.SwapRun.{frames_in, packets_of, units_of, complete_of, slots_of, counted, WantBad, SwapsAll, HasNone, MeetsBad}
+use Rattle.swap_run.specs.SwapRun.{packets_of, units_of, complete_of, slots_of, counted, WantBad, SwapsAll, HasNone, MeetsBad}
 use Rattle.swap_run.specs.SwapRun.{ReadsNoFurther, TakesNoFurther, HasLate, HasSwapped, WantsMore, AreWritten, MayWrite, ReadsAhead}
 use Rattle.swap_run.specs.Steps.{step_in, step_of, wanted_in, input_reach, drained}
 use Rattle.swap_run.specs.declared.phase.Phase.{Phase}
@@ -55,7 +56,7 @@ use Rattle.swap_run.proofs.GoLemmas.{slots_rise}
 use Rattle.swap_run.proofs.NextLemmas.{slots_in, slots_is}
 use Rattle.swap_run.proofs.PacketLemmas.{file_continues, none_wanted, few_taken, all_taken, nothing_bad, bad_next}
 use Rattle.swap_run.proofs.SendLemmas.{frames_append, more_packets, gave_complete, gave_all}
-use Rattle.swap_run.proofs.ShownLemmas.{in_records, in_packets, in_units, in_drains, in_rests, has_wanted}
+use Rattle.swap_run.proofs.ShownLemmas.{of_in, in_records, in_packets, in_units, in_drains, in_rests, has_wanted}
 
 nothing_piped : (c : Config) (plp : ℕ) (input : List (List ℕ)) → pipe c.pid (remade_packets c (swapped c plp input []) ++ []) ≡ []
 unfolding remade_packets units_in
@@ -91,13 +92,21 @@ module _ (front : DueFront) (follow : DueFollow) (law : CompleteLaw) (rises : Co
   cont = file_continues (files 1) (slice_index places 1) (fed 1 events) (has_ended 1 events) fed_input r.told r.rest r.tail m.taken m.ended s.of_input
 
   all_given : NoneComes m.feed → records_of c (files 0) ≡ r.given
-  all_given none = split.all_given front follow c m.feed (files 0) (slice_index places 0) (fed 0 events) (has_ended 0 events) r.given fed_t2mi s.of_feed none
+  all_given none = all_of front follow c m.feed (files 0) (slice_index places 0) (fed 0 events) (has_ended 0 events) r.given fed_t2mi
+      (begun_in m.phase) s.of_feed none
 
-  abbrev d : IsDue c m.feed (fed 0 events) (has_ended 0 events) r.given
-  d = due_of c m.feed (fed 0 events) (has_ended 0 events) r.given s.of_feed
+  -- the records that are due begin with those that were given, the last one with a frame under way or not
+  given_first : (held : Bool) → OfFeed held c m.feed (fed 0 events) (has_ended 0 events) r.given
+      → IsPrefix r.given (records_due c (has_ended 0 events) (fed 0 events))
+  given_first true h = (h.later, h.due ∙ sym (append_assoc h.before (h.one ∷ []) h.later)
+      ∙ ap (λ (l : List FrameRecord). l ++ h.later) (sym h.given_is))
+  given_first false h = let d = due_of c m.feed (fed 0 events) (has_ended 0 events) r.given h in (d.later, d.all)
 
-  abbrev more : List FrameRecord
-  more = (front_due front c (has_ended 0 events) (files 0) (fed 0 events) fed_t2mi.more fed_t2mi.parts fed_t2mi.end).0
+  behind_given : IsPrefix r.given (records_of c (files 0))
+  behind_given =
+      let due = given_first (begun_in m.phase) s.of_feed in
+      let all = front_due front c (has_ended 0 events) (files 0) (fed 0 events) fed_t2mi.more fed_t2mi.parts fed_t2mi.end in
+      (due.0 ++ all.0, all.1 ∙ ap (λ (l : List FrameRecord). l ++ all.0) due.1 ∙ append_assoc r.given due.0 all.0)
 
   -- the record that waits is the next
   record Follows (w : Waiting) : Type 0 where
@@ -106,10 +115,16 @@ module _ (front : DueFront) (follow : DueFollow) (law : CompleteLaw) (rises : Co
     parts : records_of c (files 0) ≡ r.given ++ next ∷ later
     number : next.number ≡ w.frame
 
-  follows : (w : Waiting) → waiting_of m.feed ≡ Some w → Follows w
-  follows w waits = go d.later (subst (λ (o : Option Waiting). IsFirst o d.later) waits d.first)
-      (split.behind front follow c m.feed (files 0) (slice_index places 0) (fed 0 events) (has_ended 0 events) r.given fed_t2mi s.of_feed)
+  follows : IsFedWith c m.feed (fed 0 events) (has_ended 0 events) r.given → (w : Waiting) → waiting_of m.feed ≡ Some w → Follows w
+  follows of w waits = go d.later (subst (λ (o : Option Waiting). IsFirst o d.later) waits d.first)
+      (split.behind front follow c m.feed (files 0) (slice_index places 0) (fed 0 events) (has_ended 0 events) r.given fed_t2mi of)
     where
+      d : IsDue c m.feed (fed 0 events) (has_ended 0 events) r.given
+      d = due_of c m.feed (fed 0 events) (has_ended 0 events) r.given of
+
+      more : List FrameRecord
+      more = (front_due front c (has_ended 0 events) (files 0) (fed 0 events) fed_t2mi.more fed_t2mi.parts fed_t2mi.end).0
+
       go : (later : List FrameRecord) → IsFirst (Some w) later → records_of c (files 0) ≡ r.given ++ (later ++ more) → Follows w
       go [] first is = absurd first
       go (x ∷ later) first is = record { next = x; later = later ++ more; parts = is; number = first.0 }
@@ -124,7 +139,8 @@ module _ (front : DueFront) (follow : DueFollow) (law : CompleteLaw) (rises : Co
   -- the complete units of the frames were given
   complete : HasCaughtUp c plp m.swapper r.told frames m.ran.units → (status_of m.swapper).finished ≡ false
       → gave events ≡ joined (complete_of c plp files r.given)
-  complete caught going = gave_complete law c plp m.swapper r.told frames m.ran.units (gave events) input cont going (caught.complete input cont) s.sends
+  complete caught going =
+      gave_complete law c plp m.swapper r.told _ frames m.ran.units (gave events) input cont going (caught.complete input cont) s.sends
 
   finished_is : (p : Phase) → m.phase ≡ p → (status_of m.swapper).finished ≡ finished_in p
   finished_is p e = ap (λ (x : Status). x.finished) s.status ∙ ap finished_in e
@@ -139,7 +155,8 @@ module _ (front : DueFront) (follow : DueFollow) (law : CompleteLaw) (rises : Co
 
   -- ---- all was given
 
-  slots_told : IsBehindAll c plp m r → m.ended ≡ true → r.tail ≡ [] → m.ran.unsent ≡ length input - slots_of c plp r.given
+  slots_told : IsBehindAll c plp m.feed m.number r.given r.told.packets → m.ended ≡ true → r.tail ≡ []
+      → m.ran.unsent ≡ length input - slots_of c plp r.given
   slots_told b over whole = bool_cases r.told.ended on off
     where
       total : length input ≡ length (r.told.packets ++ r.rest)
@@ -148,7 +165,7 @@ module _ (front : DueFront) (follow : DueFollow) (law : CompleteLaw) (rises : Co
 
       on : r.told.ended ≡ true → m.ran.unsent ≡ length input - slots_of c plp r.given
       on e =
-          let unsent = s.counts.unsent_is in
+          let unsent = s.counted.unsent_is in
           let none = ap length (s.of_input.told e).1 in
           let sum = length-append r.told.packets r.rest in
           let most = b.few in
@@ -156,7 +173,7 @@ module _ (front : DueFront) (follow : DueFollow) (law : CompleteLaw) (rises : Co
 
       off : r.told.ended ≡ false → m.ran.unsent ≡ length input - slots_of c plp r.given
       off e =
-          let unsent = s.counts.unsent_is in
+          let unsent = s.counted.unsent_is in
           let sum = length-append r.told.packets r.rest in
           let most = b.few in
           let least = s.had e in
@@ -165,10 +182,10 @@ module _ (front : DueFront) (follow : DueFollow) (law : CompleteLaw) (rises : Co
   early_below : above_all r.given ≤ MOST_FRAMES → AreEarly r.given
   early_below le = below_of MOST_FRAMES r.given le
 
-  behind_above : IsBehindAll c plp m r → above_all r.given ≤ MOST_FRAMES
-  behind_above b = let n = b.next in let e = s.counts.early in omega (arith, n, e)
+  behind_above : IsBehindAll c plp m.feed m.number r.given r.told.packets → above_all r.given ≤ MOST_FRAMES
+  behind_above b = let n = b.next in let e = s.bound.early in omega (arith, n, e)
 
-  behind_some : IsBehindAll c plp m r → records_of c (files 0) ≢ []
+  behind_some : IsBehindAll c plp m.feed m.number r.given r.told.packets → records_of c (files 0) ≢ []
   behind_some b none = b.some (sym (all_given b.none) ∙ none)
 
   pub swaps_all : m.phase ≡ phase.Done → SwapsAll c plp files m.ran (gave events)
@@ -177,14 +194,14 @@ module _ (front : DueFront) (follow : DueFollow) (law : CompleteLaw) (rises : Co
       let all = all_given i.behind.none in
       let units : units_of c plp files ≡ pipe c.pid (remade_packets c (swapped c plp input frames)) =
       ap (λ (l : List FrameRecord). pipe c.pid (packets_of c plp input l)) all in
-      let frames_is = s.counts.frames_is in
-      let muted_is = s.counts.muted_is in
+      let frames_is = s.counted.frames_is in
+      let muted_is = s.counted.muted_is in
       record {
         some = behind_some i.behind;
         early = subst AreEarly (sym all) (early_below (behind_above i.behind));
         whole = nothing_bad (files 1) (slice_index places 1) (fed 1 events) (has_ended 1 events) fed_input r.told r.rest r.tail m.taken m.ended
             s.of_input i.over i.whole;
-        output = gave_all c plp m.swapper r.told frames m.ran.units (gave events) input cont (i.all input cont) s.sends ∙ ap joined (sym units);
+        output = gave_all c plp m.swapper r.told _ frames m.ran.units (gave events) input cont (i.all input cont) s.sends ∙ ap joined (sym units);
         ran_is = subst (λ (l : List FrameRecord). m.ran ≡ counted c plp l input (length (units_of c plp files))) (sym all)
             (ran_same m.ran (length frames) (length r.given - length frames) (length input - slots_of c plp r.given) (length (units_of c plp files))
             frames_is (omega (arith, frames_is, muted_is)) (slots_told i.behind i.over i.whole) (sym (i.all input cont) ∙ ap length (sym units)));
@@ -212,11 +229,11 @@ module _ (front : DueFront) (follow : DueFollow) (law : CompleteLaw) (rises : Co
       → (has : HasLate c plp files (gave events)) × (slice_index places 1 ≤ SIZE * slots_of c plp has.before)
   has_late near e =
       let i : shown.StopsAtLate c plp m r = subst (IsIn c plp m r (has_ended 1 events)) e s.is_in in
-      let f = follows i.waiting i.waits in
+      let f = follows (of_in c plp events m s (phase.Stopped TooManyFrames) e) i.waiting i.waits in
       let late = i.late in
       let number = f.number in
       let next = i.next in
-      let early = s.counts.early in
+      let early = s.bound.early in
       let read = read_to near i.quiet.calm (phase.Stopped TooManyFrames) e in
       let slots = ap (λ (n : ℕ). slots_by c plp ((n - 1) * c.ticks)) next in (
         record {
@@ -233,37 +250,38 @@ module _ (front : DueFront) (follow : DueFollow) (law : CompleteLaw) (rises : Co
       )
 
   -- the next frame wants so many packets
-  module _ (w : Waiting) (waits : waiting_of m.feed ≡ Some w) (early : w.frame < MOST_FRAMES) (behind : m.number ≤ w.frame) where
-    early_next : AreEarly (r.given ++ take 1 ((follows w waits).next ∷ (follows w waits).later))
+  module _ (of : IsFedWith c m.feed (fed 0 events) (has_ended 0 events) r.given) (w : Waiting) (waits : waiting_of m.feed ≡ Some w)
+      (early : w.frame < MOST_FRAMES) (behind : m.number ≤ w.frame) where
+    early_next : AreEarly (r.given ++ take 1 ((follows of w waits).next ∷ (follows of w waits).later))
     early_next =
-        let f = follows w waits in
-        let above = waits_above follow c m.feed (fed 0 events) (has_ended 0 events) r.given s.of_feed w waits in
+        let f = follows of w waits in
+        let above = waits_above follow c m.feed (fed 0 events) (has_ended 0 events) r.given of w waits in
         let number = f.number in
         below_append MOST_FRAMES r.given (f.next ∷ []) (early_below (omega (arith, above, early))) (omega (arith, number, early), tt)
 
     some_next : records_of c (files 0) ≢ []
     some_next none =
-        let f = follows w waits in
+        let f = follows of w waits in
         let n = ap length (sym f.parts ∙ none) in
         absurd (omega (arith, n, length-append r.given (f.next ∷ f.later)))
 
-    slots_next : slots_by c plp (m.number * c.ticks) ≤ slots_of c plp (r.given ++ take 1 ((follows w waits).next ∷ (follows w waits).later))
+    slots_next : slots_by c plp (m.number * c.ticks) ≤ slots_of c plp (r.given ++ take 1 ((follows of w waits).next ∷ (follows of w waits).later))
     slots_next =
-        let f = follows w waits in
+        let f = follows of w waits in
         let number = f.number in
         let above = above_append r.given (f.next ∷ []) in
-        slots_rise rises slot c plp m.number (above_all (r.given ++ f.next ∷ []) - 1) s.plan s.place (omega (arith, above, number, behind))
+        slots_rise rises slot c plp m.number (above_all (r.given ++ f.next ∷ []) - 1) s.base.rules s.base.place (omega (arith, above, number, behind))
 
   -- by fewer bytes of the first file than were taken, no record is due but those that were given
-  takes_no_further : slice_index places 0 ≤ feed.fed_of m.feed + read_ahead → TakesNoFurther c places files r.given
-  takes_no_further near taken lt =
-      let count = s.of_feed.stands.count in
+  takes_no_further : IsFedWith c m.feed (fed 0 events) (has_ended 0 events) r.given → slice_index places 0 ≤ feed.fed_of m.feed + read_ahead
+      → TakesNoFurther c places files r.given
+  takes_no_further of near taken lt =
+      let count = of.stands.count in
       let inside : taken < length (fed 0 events) = omega (arith, near, count, lt) in
       let same : take taken (files 0) ≡ take taken (fed 0 events) =
       ap (take taken) fed_t2mi.parts ∙ take-append-le taken (fed 0 events) fed_t2mi.more (omega (arith, inside)) in
       subst (λ (l : List ℕ). IsPrefix (records_due c false l) r.given) (sym same)
-      (subst (λ (k : Config). IsPrefix (records_due k false (take taken (fed 0 events))) r.given) s.of_feed.network
-      (s.of_feed.stands.front taken inside))
+      (subst (λ (k : Config). IsPrefix (records_due k false (take taken (fed 0 events))) r.given) of.network (of.stands.front taken inside))
 
   pub meets_bad : slice_index places 0 ≤ feed.fed_of m.feed + read_ahead → slice_index places 1 ≤ input_reach m → (n : ℕ)
       → m.phase ≡ phase.Stopped (InputRefused n)
@@ -274,35 +292,38 @@ module _ (front : DueFront) (follow : DueFollow) (law : CompleteLaw) (rises : Co
       i : shown.StopsAtBad c plp m r (has_ended 1 events) n
       i = subst (IsIn c plp m r (has_ended 1 events)) e s.is_in
 
+      of : IsFedWith c m.feed (fed 0 events) (has_ended 0 events) r.given
+      of = of_in c plp events m s (phase.Stopped (InputRefused n)) e
+
       next : NextIsBad (files 1) (r.told.packets ++ r.rest)
       next = bad_next (files 1) (slice_index places 1) (fed 1 events) (has_ended 1 events) fed_input r.told r.rest r.tail m.taken m.ended s.of_input
           i.some i.bad i.cut
 
-      go : IsWanted c plp m r ⊎ IsBehindAll c plp m r
+      go : IsWanted c plp m.feed m.number m.draining r.told.packets r.rest ⊎ IsBehindAll c plp m.feed m.number r.given r.told.packets
           → (meets : MeetsBad c plp files n (gave events)) × ReadsNoFurther c plp places meets.before meets.after
           × TakesNoFurther c places files meets.before
       go (inl w) =
-          let f = follows w.waiting w.waits in
+          let f = follows of w.waiting w.waits in
           let number = next.number in
           let sum = length-append r.told.packets r.rest in
           let none = ap length w.offered in
           let less = w.wanted in
-          let slots = slots_next w.waiting w.waits w.early w.behind in
+          let slots = slots_next of w.waiting w.waits w.early w.behind in
           let read = read_to near w.calm (phase.Stopped (InputRefused n)) e in (
             record {
-              some = some_next w.waiting w.waits w.early w.behind;
+              some = some_next of w.waiting w.waits w.early w.behind;
               bad = next.bad;
               number = i.number ∙ sym next.number;
               before = r.given;
               after = f.next ∷ f.later;
               parts = f.parts;
-              early = early_next w.waiting w.waits w.early w.behind;
+              early = early_next of w.waiting w.waits w.early w.behind;
               unwanted = unwanted;
               wanted = λ _. (next.bad, omega (arith, number, sum, none, less, slots));
               output = complete i.caught (finished_is (phase.Stopped (InputRefused n)) e);
             },
             (λ _. omega (arith, read, slots)),
-            takes_no_further at,
+            takes_no_further of at,
           )
       go (inr b) = (
         record {
@@ -318,7 +339,7 @@ module _ (front : DueFront) (follow : DueFollow) (law : CompleteLaw) (rises : Co
           output = complete i.caught (finished_is (phase.Stopped (InputRefused n)) e);
         },
         (λ some. absurd (some refl)),
-        takes_no_further at,
+        takes_no_further of at,
       )
 
   -- ---- an input is to be read on
@@ -328,7 +349,7 @@ module _ (front : DueFront) (follow : DueFollow) (law : CompleteLaw) (rises : Co
   has_swapped near taken e none going is =
       let i = in_records c plp events m s e in
       let next = i.next in
-      let early = s.counts.early in
+      let early = s.bound.early in
       let read = read_to near i.quiet.calm phase.Records e in
       let slots = ap (λ (n : ℕ). slots_by c plp ((n - 1) * c.ticks)) next in
       record {
@@ -340,11 +361,9 @@ module _ (front : DueFront) (follow : DueFollow) (law : CompleteLaw) (rises : Co
     where
       due_is : records_due c false (take taken (files 0)) ≡ r.given
       due_is =
-          let later : d.later ≡ [] = subst (λ (o : Option Waiting). IsFirst o d.later) none d.first in
           ap (λ (k : ℕ). records_due c false (take k (files 0))) is
           ∙ ap (records_due c false) (ap (take (length (fed 0 events))) fed_t2mi.parts ∙ take_at (fed 0 events) fed_t2mi.more (length (fed 0 events)) refl)
-          ∙ ap (λ (b : Bool). records_due c b (fed 0 events)) (sym going ∙ s.of_feed.stands.end) ∙ d.all
-          ∙ ap (λ (l : List FrameRecord). r.given ++ l) later ∙ append-nil r.given
+          ∙ due_given c m.feed (fed 0 events) (has_ended 0 events) r.given none going (of_in c plp events m s phase.Records e)
 
   -- the frames of the records that were given want no more than was read
   had_read : (place : ℕ) → r.told.ended ≡ false → SIZE * m.taken ≤ place → SIZE * slots_of c plp r.given ≤ place
@@ -359,10 +378,11 @@ module _ (front : DueFront) (follow : DueFollow) (law : CompleteLaw) (rises : Co
   wants_packets at reach place e some read near =
       let i = in_packets c plp events m s e in
       let w = i.waiting in
-      let f = follows w i.waits in
+      let of = of_in c plp events m s phase.Packets e in
+      let f = follows of w i.waits in
       let h = has_wanted c plp events m s some in
       let less = h.less in
-      let slots = slots_next w i.waits i.early i.behind in
+      let slots = slots_next of w i.waits i.early i.behind in
       let count = s.of_input.count in
       let sum = length-append r.told.packets r.rest in
       let none = ap length i.quiet.rest_is in
@@ -372,12 +392,12 @@ module _ (front : DueFront) (follow : DueFollow) (law : CompleteLaw) (rises : Co
         before = r.given;
         after = f.next ∷ f.later;
         parts = f.parts;
-        early = early_next w i.waits i.early i.behind;
-        some = some_next w i.waits i.early i.behind;
+        early = early_next of w i.waits i.early i.behind;
+        some = some_next of w i.waits i.early i.behind;
         had = had_read place h.off read;
         wanted = λ _. omega (arith, near, less, slots, count, sum, none);
         no_further = λ _. omega (arith, to, slots);
-        ahead = takes_no_further at;
+        ahead = takes_no_further of at;
         unread = omega (arith, near, most, count);
         output = complete i.caught (finished_is phase.Packets e);
       }
@@ -397,7 +417,7 @@ module _ (front : DueFront) (follow : DueFollow) (law : CompleteLaw) (rises : Co
         had = had_read place open_still read;
         wanted = λ some. absurd (some refl);
         no_further = λ some. absurd (some refl);
-        ahead = takes_no_further at;
+        ahead = takes_no_further (of_in c plp events m s phase.Drains e) at;
         unread = omega (arith, near, most, count);
         output = complete i.caught (finished_is phase.Drains e);
       }
@@ -408,22 +428,24 @@ module _ (front : DueFront) (follow : DueFollow) (law : CompleteLaw) (rises : Co
   -- ---- some were given
 
   above_few : above_all r.given ≤ MOST_FRAMES
-  above_few = by m.phase s.is_in
+  above_few = by m.phase refl s.is_in
     where
-      by : (p : Phase) → IsIn c plp m r (has_ended 1 events) p → above_all r.given ≤ MOST_FRAMES
-      by phase.Records i = let n = i.next in let e = s.counts.early in omega (arith, n, e)
-      by phase.Packets i = let n = i.above in let e = s.counts.early in omega (arith, n, e)
-      by phase.Units i = let n = i.next in let e = i.early in omega (arith, n, e)
-      by phase.Drains i = behind_above i.behind
-      by phase.Rests i = behind_above i.behind
-      by phase.Done i = behind_above i.behind
-      by (phase.Stopped NoSuperframe) i = let n = ap above_all i.nothing in omega (arith, n)
-      by (phase.Stopped TooManyFrames) i = let n = i.next in let e = s.counts.early in omega (arith, n, e)
-      by (phase.Stopped (InputRefused n)) i = met i.met
+      by : (p : Phase) → m.phase ≡ p → IsIn c plp m r (has_ended 1 events) p → above_all r.given ≤ MOST_FRAMES
+      by phase.Records e i = let n = i.next in let e = s.bound.early in omega (arith, n, e)
+      by phase.Packets e i = let n = i.above in let e = s.bound.early in omega (arith, n, e)
+      by phase.Units e i = let n = i.next in let e = i.early in omega (arith, n, e)
+      by phase.Drains e i = behind_above i.behind
+      by phase.Rests e i = behind_above i.behind
+      by phase.Done e i = behind_above i.behind
+      by (phase.Stopped NoSuperframe) e i = let n = ap above_all i.nothing in omega (arith, n)
+      by (phase.Stopped TooManyFrames) e i = let n = i.next in let e = s.bound.early in omega (arith, n, e)
+      by (phase.Stopped (InputRefused n)) e i = met i.met
         where
-          met : IsWanted c plp m r ⊎ IsBehindAll c plp m r → above_all r.given ≤ MOST_FRAMES
+          met : IsWanted c plp m.feed m.number m.draining r.told.packets r.rest ⊎ IsBehindAll c plp m.feed m.number r.given r.told.packets
+              → above_all r.given ≤ MOST_FRAMES
           met (inl w) =
-              let a = waits_above follow c m.feed (fed 0 events) (has_ended 0 events) r.given s.of_feed w.waiting w.waits in
+              let a = waits_above follow c m.feed (fed 0 events) (has_ended 0 events) r.given
+              (of_in c plp events m s (phase.Stopped (InputRefused n)) e) w.waiting w.waits in
               let e = w.early in
               omega (arith, a, e)
           met (inr b) = behind_above b
@@ -487,9 +509,8 @@ module _ (front : DueFront) (follow : DueFollow) (law : CompleteLaw) (rises : Co
             joined f.0,
             record {
               before = r.given;
-              after = d.later ++ more;
-              parts = split.behind front follow c m.feed (files 0) (slice_index places 0) (fed 0 events) (has_ended 0 events) r.given fed_t2mi
-                  s.of_feed;
+              after = behind_given.0;
+              parts = behind_given.1;
               early = early_below above_few;
               unwanted = unwanted;
               output = inl (gave_more f.0 ∙ ap joined (sym f.1));
@@ -539,9 +560,6 @@ module _ (front : DueFront) (follow : DueFollow) (law : CompleteLaw) (rises : Co
 
   -- ---- and how far the other
 
-  behind_given : records_of c (files 0) ≡ r.given ++ (d.later ++ more)
-  behind_given = split.behind front follow c m.feed (files 0) (slice_index places 0) (fed 0 events) (has_ended 0 events) r.given fed_t2mi s.of_feed
-
   -- these are all before the one whose frame is under way
   written_before : (before rest : List FrameRecord) → r.given ≡ before ++ rest → WereGiven c plp r.told before m.ran.units
       → AreWritten c plp files (gave events) before
@@ -557,12 +575,13 @@ module _ (front : DueFront) (follow : DueFollow) (law : CompleteLaw) (rises : Co
   slots_more : (xs ys : List FrameRecord) → slots_of c plp xs ≤ slots_of c plp (xs ++ ys)
   slots_more xs ys =
       let above = above_append xs ys in
-      slots_rise rises slot c plp (above_all xs - 1) (above_all (xs ++ ys) - 1) s.plan s.place (omega (arith, above))
+      slots_rise rises slot c plp (above_all xs - 1) (above_all (xs ++ ys) - 1) s.base.rules s.base.place (omega (arith, above))
 
   pub ahead : slice_index places 1 ≤ input_reach m → step_of m ≡ Give → ReadsAhead c plp places files (gave events)
   ahead near gives = by m.phase refl gives
     where
-      behind_all : IsBehindAll c plp m r → WereGiven c plp r.told r.given m.ran.units → ReadsAhead c plp places files (gave events)
+      behind_all : IsBehindAll c plp m.feed m.number r.given r.told.packets → WereGiven c plp r.told r.given m.ran.units
+          → ReadsAhead c plp places files (gave events)
       behind_all b done = record {
         before = r.given;
         after = [];
@@ -578,20 +597,21 @@ module _ (front : DueFront) (follow : DueFollow) (law : CompleteLaw) (rises : Co
           let i = in_records c plp events m s e in
           let read = read_to near i.quiet.calm phase.Records e in
           let slots = ap (λ (n : ℕ). slots_by c plp ((n - 1) * c.ticks)) i.next in
-          let rise = slots_more r.given (take 1 (d.later ++ more)) in
+          let rise = slots_more r.given (take 1 behind_given.0) in
           record {
             before = r.given;
-            after = d.later ++ more;
-            parts = behind_given;
+            after = behind_given.0;
+            parts = behind_given.1;
             written = written_all (caught_up i.caught);
             no_further = λ _. omega (arith, read, slots, rise);
           }
       by phase.Packets e is =
           let i = in_packets c plp events m s e in
           let w = i.waiting in
-          let f = follows w i.waits in
+          let of = of_in c plp events m s phase.Packets e in
+          let f = follows of w i.waits in
           let read = read_to near i.quiet.calm phase.Packets e in
-          let slots = slots_next w i.waits i.early i.behind in
+          let slots = slots_next of w i.waits i.early i.behind in
           record {
             before = r.given;
             after = f.next ∷ f.later;
@@ -603,13 +623,13 @@ module _ (front : DueFront) (follow : DueFollow) (law : CompleteLaw) (rises : Co
           let i = in_units c plp events m s e in
           let read = read_to near i.quiet.calm phase.Units e in
           let next = i.next in
-          let slots = slots_rise rises slot c plp m.number (above_all r.given - 1) s.plan s.place (omega (arith, next)) in
+          let slots = slots_rise rises slot c plp m.number (above_all r.given - 1) s.base.rules s.base.place (omega (arith, next)) in
           let same = ap (slots_of c plp) i.parts in
           record {
             before = i.before;
-            after = i.last ∷ (d.later ++ more);
-            parts = behind_given ∙ ap (λ (l : List FrameRecord). l ++ (d.later ++ more)) i.parts
-                ∙ append_assoc i.before (i.last ∷ []) (d.later ++ more);
+            after = i.last ∷ behind_given.0;
+            parts = behind_given.1 ∙ ap (λ (l : List FrameRecord). l ++ behind_given.0) i.parts
+                ∙ append_assoc i.before (i.last ∷ []) behind_given.0;
             written = written_before i.before (i.last ∷ []) i.parts i.done;
             no_further = λ _. omega (arith, read, slots, same);
           }
@@ -617,6 +637,3 @@ module _ (front : DueFront) (follow : DueFollow) (law : CompleteLaw) (rises : Co
       by phase.Rests e is = let i = in_rests c plp events m s e in behind_all i.behind i.done
       by phase.Done e is = absurd (let z : End ≡ Give = is in cc)
       by (phase.Stopped why) e is = absurd (let z : End ≡ Give = is in cc)
-
-  pub fed_count : feed.fed_of m.feed ≡ length (fed 0 events)
-  fed_count = s.of_feed.stands.count

@@ -1,10 +1,11 @@
 -- A feed and a swapper go on: from record to record, from frame to frame, from unit to unit.
-use Rattle.std.proofs.Common.{◌≡◌, ◌≢◌, ℕ, ◌+◌, ◌-◌, ◌*◌, ◌^◌, ◌<◌, ◌≤◌, Bool, true, false, List, [], ◌∷◌, ◌++◌, length}
-use Rattle.std.proofs.Common.{Option, Some, None, refl, ap, ap₂, sym, subst, ◌∙◌, arith, append-nil, append_assoc, length-append}
-use Rattle.std.specs.Prelude.{slice_get, nat_lt}
+use Rattle.std.proofs.Common.{◌≡◌, ◌≢◌, ℕ, ◌+◌, ◌-◌, ◌*◌, ◌^◌, ◌<◌, ◌≤◌, Bool, true, false, List, [], ◌∷◌, ◌++◌, drop, length}
+use Rattle.std.proofs.Common.{Option, Some, None, refl, ap, ap₂, sym, subst, ◌∙◌, arith, append-nil, length-append}
+use Rattle.std.specs.Prelude.{slice_get, nat_lt, slice_set}
 use Rattle.std.specs.List.{AllByRecursion}
 use Rattle.std.proofs.Math.Nat.{mul-le-mul_right}
 use Rattle.std.proofs.lemmas.Bool.{true≢false, lt-ltb}
+use Rattle.terms.proofs.ListLemmas.{drop_some}
 use Rattle.terms.proofs.OptionLemmas.{some_injective, none_some}
 use Rattle.gateway_core.proofs.InputsLemmas.{cont_next}
 use Rattle.plp_config.specs.Capacity.{IsPlan}
@@ -12,48 +13,58 @@ use Rattle.plp_config.specs.Laws.{CountRises, SlotLength, FieldRange}
 use Rattle.plp_config.specs.SlotTime.{num, den, slots_by}
 use Rattle.plp_config.specs.declared.config.Config.{Config}
 use Rattle.plp_config.specs.declared.moment.TheConstants.{MOST_FRAMES}
-use Rattle.frame_groups.specs.Modulated.{Content, FrameRecord}
+use Rattle.t2mi_packet.specs.declared.packet.Body.{Body}
+use Rattle.frame_groups.specs.Groups.{Group, groups}
+use Rattle.frame_groups.specs.Modulated.{Content, FrameRecord, past_after}
 use Rattle.frame_groups.specs.Modulated.Content.{Whole, Muted}
 use Rattle.frame_groups.specs.declared.waiting.Waiting.{Waiting}
-use Rattle.modulator.specs.Laws.{DueFollow, DueSpelled}
+use Rattle.frame_tests.specs.Tests.{rules}
+use Rattle.t2mi_stream.specs.Units.{accepted_of}
+use Rattle.modulator.specs.Laws.{DueFollow, DuePass, IsRight}
+use Rattle.modulator.specs.Modulating.{packets_of}
 use Rattle.modulator.specs.StandsFor.{mute_of, records_due}
-use Rattle.site_frame.specs.Whole.{Spells}
 use Rattle.site_frame.specs.declared.reading.RecordView.{RecordView}
-use Rattle.open_group.specs.Written.{content_view, spelled}
-use Rattle.t2mi_stream.specs.Complete.{complete_units}
+use Rattle.open_group.specs.Shown.{Shows, AreBlocks}
+use Rattle.open_group.specs.Written.{content_view, packets_view}
 use Rattle.t2mi_stream.specs.Pipe.{pipe}
+use Rattle.pool_frame.specs.Signalling.{pre_part, conf_part}
+use Rattle.pool_frame.specs.declared.frame.PoolFrame.{PoolFrame}
 use Rattle.formed_frames.specs.Formed.{IsFormed}
 use Rattle.formed_frames.specs.Laws.{FramesAreFormed, IsFormedRecord}
 use Rattle.formed_frames.specs.Remade.{NumberedView, remade_packets, view_bodies}
+use Rattle.frame_writer.specs.Flowing.{packet_bound}
 use Rattle.file_run.specs.Events.{Event, fed, has_ended, gave}
-use Rattle.frame_feed.specs.StandsFor.{GaveNext, waiting_of}
-use Rattle.frame_feed.specs.StandsFor as feed
-use Rattle.frame_feed.specs.declared.feed.FrameFeed.{FrameFeed}
+use Rattle.held_feed.specs.Frames.{IsFrameOf, dynamic_of, lists_of}
+use Rattle.held_feed.specs.StandsFor.{IsFirst, Skipped, FrameFeedStandsFor, waiting_of}
+use Rattle.held_feed.specs.StandsFor as feed
+use Rattle.held_feed.specs.declared.feed.FrameFeed.{FrameFeed}
 use Rattle.feed_merge.specs.Picks.{above_all}
 use Rattle.gateway_core.specs.InputSoFar.{Told, in_next, Continues}
-use Rattle.merge_run.specs.Sending.{numbered}
-use Rattle.swap_run.specs.Record.{HoldsFrame, frame_at}
-use Rattle.swap_run.specs.Fed.{IsFedWith}
-use Rattle.held_feed.specs.StandsFor.{IsFirst}
-use Rattle.swap_run.proofs.FeedLemmas.{IsDue, due_of, waits_above}
-use Rattle.swap_run.proofs.RecordLemmas.{view_is}
+use Rattle.merge_run.specs.Shown.{OfFeed}
+use Rattle.merge_run.proofs.HeldLemmas.{left_of as feed_left}
+use Rattle.two_feeds.specs.Fed.{IsFedWith}
+use Rattle.two_feeds.proofs.FeedLemmas.{IsDue, due_of, waits_above, one_of}
 use Rattle.two_feeds.proofs.NumberLemmas.{above_append}
-use Rattle.region_swap.specs.StandsFor.{SwapperStandsFor, Status, status_of, wants_of, frame_of, has_unit, is_fed, bytes_left}
+use Rattle.two_feeds.proofs.SkipLemmas.{takes_one}
+use Rattle.record_laws.specs.Laws.{ToldCountsFit}
+use Rattle.region_swap.specs.Held.{IsHeld, HasRecord}
+use Rattle.region_swap.specs.Left.{left_by, own_list}
+use Rattle.region_swap.specs.StandsFor.{SwapperStandsFor, GivesUnits, Status, status_of, wants_of, frame_of, has_unit, is_fed}
+use Rattle.region_swap.specs.StandsFor.{left_in, left_for, bytes_left}
+use Rattle.region_swap.specs.Swapped.{numbered, frame_in, frames_in, swapped, swapped_view}
 use Rattle.region_swap.specs.declared.swapper.Swapper.{Swapper}
-use Rattle.region_swap.specs.Swapped.{swapped, swapped_view}
-use Rattle.swap_run.specs.Sending.{Begins, GivesUnit, GivesNone}
-use Rattle.swap_run.specs.Shown.{ReadsPackets, Sends, HasCaughtUp, IsHolding, Read, InPackets}
-use Rattle.swap_run.specs.Shown.{IsIn, Shown, more_units, next_in, frame_bytes}
-use Rattle.swap_run.specs.SwapRun.{frame_in, frames_in, slots_of}
+use Rattle.swap_run.specs.Shown.{ReadsPackets, Sends, HasCaughtUp, Read, IsIn, ShownAt, Shown, IsBound}
+use Rattle.swap_run.specs.Shown.{begun_in, left_at, more_units, next_in, status_in, frame_bytes}
+use Rattle.swap_run.specs.SwapRun.{slots_of}
 use Rattle.swap_run.specs.declared.phase.Phase.{Phase}
 use Rattle.swap_run.specs.declared.phase.Phase.TheVariants as phase
 use Rattle.swap_run.specs.declared.stop.SwapStop.TheVariants.{NoSuperframe, TooManyFrames}
 use Rattle.swap_run.specs.declared.swapping.Swapping.{Swapping}
-use Rattle.record_laws.specs.Laws.{ToldCountsFit}
 use Rattle.swap_run.proofs.BoundLemmas.{idle_left, few_swapped}
 use Rattle.swap_run.proofs.PacketLemmas.{reads_same}
-use Rattle.swap_run.proofs.SendLemmas.{frames_push, sends_told, caught_told, sends_begun, sends_next, sends_over}
-use Rattle.swap_run.proofs.ShownLemmas.{Same, status_in, feed_same, sends_same, in_records, in_packets, in_units, in_drains, in_rests, all_there}
+use Rattle.swap_run.proofs.SendLemmas.{frames_push, sends_told, caught_told, sends_begun, sends_units, sends_over}
+use Rattle.swap_run.proofs.ShownLemmas.{Same, feed_same, bound_as, in_records, in_packets, in_units, in_drains, in_rests, all_there}
+use Rattle.swap_run.proofs.ShownLemmas.{feed_network, of_in, sends_in, status_at, bound_at}
 use Rattle.swap_run.proofs.LiveLemmas.{live_on, live_push}
 
 -- as many slots are over at a later frame
@@ -63,64 +74,64 @@ slots_rise rises slot c plp a b plan lt le =
     let s = slot c plp plan.rules lt in
     rises (num c) (den c plp) (a * c.ticks) (b * c.ticks) (omega (arith, s.0, s.2)) (mul-le-mul_right c.ticks le)
 
+-- what is left of a frame of the network is what is left of it where it waits
+left_same : (s : Swapper) (f : FrameFeed) (frame : PoolFrame) → IsFrameOf f frame → feed.config_of f ≡ s.plan.now
+    → left_in s frame ≡ left_for s (lists_of f)
+left_same s f frame is network =
+    let lists : List (List (List ℕ)) → List (List (List ℕ)) = λ l. slice_set l s.list (own_list s.region.sends s.region.blocks s.list) in
+    ap₂ (λ (x y : List Bool). left_by s.plan.now s.place x y s.dynamic.bits (lists frame.blocks.now.lists))
+    (is.pre ∙ ap pre_part network) (is.conf ∙ ap conf_part network)
+    ∙ ap (λ (l : List (List (List ℕ))). left_by s.plan.now s.place (pre_part s.plan.now) (conf_part s.plan.now) s.dynamic.bits (lists l)) is.lists
+
+-- a swapper goes on to the next frame
+pub record Passes (p q : Swapper) : Type 0 where
+  pub stands : (c : Config) (plp : ℕ) (t : Told) (left : List Body) (frames : List NumberedView) (given : ℕ)
+      → SwapperStandsFor p c plp t left frames given → SwapperStandsFor q c plp (in_next t) left frames given
+  pub unit : has_unit q ≡ has_unit p
+  pub status : status_of q ≡ record (status_of p) { frame = frame_of p + 1; begun = false }
+
 module _ (c : Config) (plp : ℕ) (events : List Event) (m : Swapping) (s : Shown c plp events m) where
   abbrev pub r : Read
   r = s.read
 
+  abbrev pub frames : List NumberedView
+  frames = frames_in c r.given
+
   -- ---- from records on
 
   -- in another phase
-  module _ (p : Phase) (same : next_in p m.number ≡ next_in m.phase m.number)
-      (status : status_of m.swapper ≡ status_in c plp m.number p)
-      (units : m.ran.units + more_units p m.swapper m.«record» ≤ next_in p m.number * frame_bytes + 184) (draining : Bool) where
-    abbrev now : Swapping
-    now = record m { phase = p; draining = draining }
-
-    pub shown_phase : IsIn c plp now r (has_ended 1 events) p → Shown c plp events now
-    shown_phase is = record {
-      config = s.config;
-      plan = s.plan;
-      ids = s.ids;
-      place = s.place;
-      read = r;
-      of_feed = s.of_feed;
-      of_input = s.of_input;
-      at = s.at;
-      had = s.had;
-      sends = s.sends;
-      status = status;
-      counts = record {
-        frames_is = s.counts.frames_is;
-        muted_is = s.counts.muted_is;
-        unsent_is = s.counts.unsent_is;
-        few = (let f = s.counts.few in omega (arith, f, same));
-        early = s.counts.early;
-        joined = s.counts.joined;
-        units = units;
-      };
-      live = s.live;
-      is_in = is;
-    }
-
-  units_records : m.phase ≡ phase.Records → m.ran.units + 184 ≤ m.number * frame_bytes + 184
-  units_records e = subst (λ (p : Phase). m.ran.units + more_units p m.swapper m.«record» ≤ next_in p m.number * frame_bytes + 184) e s.counts.units
-
-  status_records : m.phase ≡ phase.Records → status_of m.swapper ≡ record { network = c; plp = plp; frame = m.number; begun = false; finished = false }
-  status_records e = s.status ∙ ap (status_in c plp m.number) e
-
-  next_records : m.phase ≡ phase.Records → m.number ≡ next_in m.phase m.number
-  next_records e = sym (ap (λ (p : Phase). next_in p m.number) e)
+  shown_phase : (p : Phase) (draining : Bool) → OfFeed (begun_in p) c m.feed (fed 0 events) (has_ended 0 events) r.given
+      → Sends c plp m.swapper r.told (left_at p m.swapper m.feed) frames m.ran.units (gave events)
+      → status_of m.swapper ≡ status_in c plp m.number p
+      → IsBound (next_in p m.number) m.number m.ran.units (more_units p m.swapper m.feed) r.given
+      → IsIn c plp (record m { phase = p; draining = draining }) r (has_ended 1 events) p
+      → Shown c plp events (record m { phase = p; draining = draining })
+  shown_phase p draining of sends status bound is = record {
+    base = s.base;
+    read = r;
+    of_feed = of;
+    of_input = s.of_input;
+    frame = s.frame;
+    had = s.had;
+    sends = sends;
+    status = status;
+    counted = s.counted;
+    bound = bound;
+    live = s.live;
+    is_in = is;
+  }
 
   -- a record waits that may have its number
   pub shown_met : DueFollow → CountRises → SlotLength → m.phase ≡ phase.Records → (w : Waiting) → waiting_of m.feed ≡ Some w → w.frame < MOST_FRAMES
       → Shown c plp events (record m { phase = phase.Packets })
   shown_met follow rises slot e w waits early =
       let i = in_records c plp events m s e in
-      let above = waits_above follow c m.feed _ _ r.given s.of_feed w waits in
+      let above = waits_above follow c m.feed _ _ r.given (of_in c plp events m s phase.Records e) w waits in
       let next = i.next in
       let few = i.few in
-      let up = slots_rise rises slot c plp (above_all r.given - 1) m.number s.plan s.place (omega (arith, next)) in
-      shown_phase phase.Packets (next_records e) (status_records e) (units_records e) m.draining (record {
+      let up = slots_rise rises slot c plp (above_all r.given - 1) m.number s.base.rules s.base.place (omega (arith, next)) in
+      shown_phase phase.Packets m.draining (of_in c plp events m s phase.Records e) (sends_in c plp events m s phase.Records e)
+      (status_at c plp events m s phase.Records e) (bound_at c plp events m s phase.Records e) (record {
         caught = i.caught;
         waiting = w;
         waits = waits;
@@ -128,7 +139,7 @@ module _ (c : Config) (plp : ℕ) (events : List Event) (m : Swapping) (s : Show
         behind = omega (arith, next, above);
         above = omega (arith, next);
         few = omega (arith, few, up);
-        quiet = record { rest_is = i.quiet.rest_is; tail_is = i.quiet.tail_is; calm = i.quiet.calm; ends = i.quiet.ends };
+        quiet = i.quiet;
       })
 
   -- one waits that may not
@@ -136,45 +147,48 @@ module _ (c : Config) (plp : ℕ) (events : List Event) (m : Swapping) (s : Show
       → Shown c plp events (record m { phase = phase.Stopped TooManyFrames })
   shown_late e w waits late =
       let i = in_records c plp events m s e in
-      let units = units_records e in
-      shown_phase (phase.Stopped TooManyFrames) (next_records e) (status_records e) (omega (arith, units)) m.draining (record {
+      shown_phase (phase.Stopped TooManyFrames) m.draining (of_in c plp events m s phase.Records e) (sends_in c plp events m s phase.Records e)
+      (status_at c plp events m s phase.Records e)
+      (bound_as m.number m.number m.ran.units 184 0 r.given (omega arith) (bound_at c plp events m s phase.Records e)) (record {
         caught = i.caught;
         waiting = w;
         waits = waits;
         late = late;
         next = i.next;
-        quiet = record { rest_is = i.quiet.rest_is; tail_is = i.quiet.tail_is; calm = i.quiet.calm; ends = i.quiet.ends };
+        quiet = i.quiet;
       })
 
   -- none comes, and there was none
   none_given : m.joined ≡ false → r.given ≡ []
-  none_given off = go r.given (sym s.counts.joined ∙ off)
+  none_given off = go r.given (sym s.counted.joined_is ∙ off)
     where
       go : (xs : List FrameRecord) → nat_lt 0 (length xs) ≡ false → xs ≡ []
       go [] e = refl
       go (x ∷ xs) e = absurd (true≢false (sym (lt-ltb 0 (length (x ∷ xs)) (omega arith)) ∙ e))
 
   some_given : m.joined ≡ true → r.given ≢ []
-  some_given on e = absurd (true≢false (sym on ∙ s.counts.joined ∙ ap (λ (l : List FrameRecord). nat_lt 0 (length l)) e))
+  some_given on e = absurd (true≢false (sym on ∙ s.counted.joined_is ∙ ap (λ (l : List FrameRecord). nat_lt 0 (length l)) e))
 
   pub shown_nothing : m.phase ≡ phase.Records → waiting_of m.feed ≡ None → feed.has_ended m.feed ≡ true → m.joined ≡ false
       → Shown c plp events (record m { phase = phase.Stopped NoSuperframe })
   shown_nothing e none over off =
       let i = in_records c plp events m s e in
-      let units = units_records e in
       let empty = none_given off in
-      shown_phase (phase.Stopped NoSuperframe) (next_records e) (status_records e) (omega (arith, units)) m.draining (record {
+      shown_phase (phase.Stopped NoSuperframe) m.draining (of_in c plp events m s phase.Records e) (sends_in c plp events m s phase.Records e)
+      (status_at c plp events m s phase.Records e)
+      (bound_as m.number m.number m.ran.units 184 0 r.given (omega arith) (bound_at c plp events m s phase.Records e)) (record {
         none = record { none = none; ended = over };
         nothing = empty;
         first = i.next ∙ ap above_all empty;
-        quiet = record { rest_is = i.quiet.rest_is; tail_is = i.quiet.tail_is; calm = i.quiet.calm; ends = i.quiet.ends };
+        quiet = i.quiet;
       })
 
   pub shown_parted : m.phase ≡ phase.Records → waiting_of m.feed ≡ None → feed.has_ended m.feed ≡ true → m.joined ≡ true
       → Shown c plp events (record m { phase = phase.Drains; draining = true })
   shown_parted e none over on =
       let i = in_records c plp events m s e in
-      shown_phase phase.Drains (next_records e) (status_records e) (units_records e) true (record {
+      shown_phase phase.Drains true (of_in c plp events m s phase.Records e) (sends_in c plp events m s phase.Records e)
+      (status_at c plp events m s phase.Records e) (bound_at c plp events m s phase.Records e) (record {
         caught = i.caught;
         behind = record { none = record { none = none; ended = over }; some = some_given on; next = i.next; few = i.few };
         whole = i.quiet.tail_is;
@@ -183,11 +197,6 @@ module _ (c : Config) (plp : ℕ) (events : List Event) (m : Swapping) (s : Show
 
   -- ---- behind a frame
 
-  status_next : (q : Swapper) (p : Phase) → status_of q ≡ record (status_of m.swapper) { frame = frame_of m.swapper + 1; begun = false }
-      → status_of m.swapper ≡ status_in c plp m.number p
-      → status_of q ≡ record { network = c; plp = plp; frame = m.number + 1; begun = false; finished = (status_in c plp m.number p).finished }
-  status_next q p e f = e ∙ ap (λ (x : Status). record x { frame = x.frame + 1; begun = false }) f
-
   read_next : ReadsPackets (fed 1 events) (has_ended 1 events) r.told r.rest r.tail m.taken m.ended
       → ReadsPackets (fed 1 events) (has_ended 1 events) (in_next r.told) r.rest r.tail m.taken m.ended
   read_next o = record { parts = o.parts; each = o.each; count = o.count; end = o.end; told = o.told }
@@ -195,61 +204,50 @@ module _ (c : Config) (plp : ℕ) (events : List Event) (m : Swapping) (s : Show
   back : (input : List (List ℕ)) → Continues (in_next r.told) input → Continues r.told input
   back input cont = cont_next r.told input cont
 
+  -- the number of the record that waits
+  same_frame : (e : m.phase ≡ phase.Packets) (w : Waiting) → waiting_of m.feed ≡ Some w → w.frame ≡ (in_packets c plp events m s e).waiting.frame
+  same_frame e w waits =
+      let i = in_packets c plp events m s e in
+      ap (λ (x : Waiting). x.frame) (some_injective w i.waiting (sym waits ∙ i.waits))
+
   -- one that has no record
   pub shown_pass : CountRises → SlotLength → (q : Swapper) (w : Waiting) → m.phase ≡ phase.Packets → waiting_of m.feed ≡ Some w → m.number < w.frame
-      → ((c : Config) (plp : ℕ) (t : Told) (frames : List NumberedView) (given : ℕ) → SwapperStandsFor m.swapper c plp t frames given
-      → SwapperStandsFor q c plp (in_next t) frames given)
-      → has_unit q ≡ has_unit m.swapper
-      → status_of q ≡ record (status_of m.swapper) { frame = frame_of m.swapper + 1; begun = false }
-      → Shown c plp events (record m { swapper = q; number = m.number + 1 })
-  shown_pass rises slot q w e waits less stands unit status =
+      → Passes m.swapper q → Shown c plp events (record m { swapper = q; number = m.number + 1 })
+  shown_pass rises slot q w e waits less n =
       let i = in_packets c plp events m s e in
-      let same : w.frame ≡ i.waiting.frame = ap (λ (x : Waiting). x.frame) (some_injective w i.waiting (sym waits ∙ i.waits)) in
-      let up = slots_rise rises slot c plp m.number (m.number + 1) s.plan s.place (omega arith) in
+      let same = same_frame e w waits in
+      let up = slots_rise rises slot c plp m.number (m.number + 1) s.base.rules s.base.place (omega arith) in
       let few = i.few in
       let early = i.early in
       let above = i.above in
-      let now : Swapping = record m { swapper = q; number = m.number + 1 } in
-      let read : Read = record { given = r.given; told = in_next r.told; rest = r.rest; tail = r.tail } in
-      let packets : next_in m.phase m.number ≡ m.number = ap (λ (p : Phase). next_in p m.number) e in
-      let given = s.counts.few in
-      let status_is : status_of m.swapper ≡ status_in c plp m.number phase.Packets = s.status ∙ ap (status_in c plp m.number) e in
-      record {
-        config = s.config;
-        plan = s.plan;
-        ids = s.ids;
-        place = s.place;
-        read = read;
-        of_feed = s.of_feed;
+      let bound = bound_at c plp events m s phase.Packets e in
+      let sends = sends_in c plp events m s phase.Packets e in
+      let given = bound.few in
+      let most = bound.most in
+      subst (ShownAt c plp events (record m { swapper = q; number = m.number + 1 })) (sym e) (record {
+        base = s.base;
+        read = record { given = r.given; told = in_next r.told; rest = r.rest; tail = r.tail };
+        of_feed = of_in c plp events m s phase.Packets e;
         of_input = read_next s.of_input;
-        at = ap (λ (n : ℕ). n + 1) s.at;
+        frame = ap (λ (n : ℕ). n + 1) s.frame;
         had = s.had;
-        sends = sends_told c plp m.swapper q r.told (in_next r.told) (frames_in c r.given) m.ran.units (gave events) back
-            (ap (λ (x : Status). x.finished) status) (stands c plp r.told (frames_in c r.given) m.ran.units s.sends.stands) s.sends;
-        status = status_next q phase.Packets status status_is ∙ sym (ap (status_in c plp (m.number + 1)) e);
-        counts = record {
-          frames_is = s.counts.frames_is;
-          muted_is = s.counts.muted_is;
-          unsent_is = s.counts.unsent_is;
-          few = subst (λ (p : Phase). length r.given ≤ next_in p (m.number + 1)) (sym e) (omega (arith, given, packets));
-          early = omega (arith, early, less, same);
-          joined = s.counts.joined;
-          units = subst (λ (p : Phase). m.ran.units + more_units p q m.«record» ≤ next_in p (m.number + 1) * frame_bytes + 184) (sym e)
-              (let u = subst (λ (p : Phase). m.ran.units + more_units p m.swapper m.«record» ≤ next_in p m.number * frame_bytes + 184) e
-              s.counts.units in omega (arith, u));
-        };
+        sends = sends_told c plp m.swapper q r.told (in_next r.told) [] [] frames m.ran.units (gave events) (gave events) refl back
+            (ap (λ (x : Status). x.finished) n.status) (n.stands c plp r.told [] frames m.ran.units sends.stands) sends;
+        status = n.status ∙ ap (λ (x : Status). record x { frame = x.frame + 1; begun = false }) (status_at c plp events m s phase.Packets e);
+        counted = s.counted;
+        bound = record { few = omega (arith, given); early = omega (arith, early, less, same); most = omega (arith, most) };
         live = live_on c plp _ _ r.told (in_next r.told) r.given m.ran.units m.ran.units refl back (omega arith) s.live;
-        is_in = subst (IsIn c plp now read (has_ended 1 events)) (sym e) (record {
-          caught = caught_told c plp m.swapper q r.told (in_next r.told) (frames_in c r.given) m.ran.units back unit i.caught;
+        is_in = record {
+          caught = caught_told c plp m.swapper q r.told (in_next r.told) frames m.ran.units back n.unit i.caught;
           waiting = w;
           waits = waits;
           early = omega (arith, early, same);
           behind = omega (arith, less);
           above = omega (arith, above);
           few = omega (arith, few, up);
-          quiet = record { rest_is = i.quiet.rest_is; tail_is = i.quiet.tail_is; calm = i.quiet.calm; ends = i.quiet.ends };
-        });
-      }
+          quiet = i.quiet;
+        };
+      })
 
   -- ---- a record is taken
 
@@ -258,290 +256,283 @@ module _ (c : Config) (plp : ℕ) (events : List Event) (m : Swapping) (s : Show
       → above_all (r.given ++ x ∷ []) ≡ m.number + 1
   above_push w x e waits here number =
       let i = in_packets c plp events m s e in
-      let same : w.frame ≡ i.waiting.frame = ap (λ (y : Waiting). y.frame) (some_injective w i.waiting (sym waits ∙ i.waits)) in
+      let same = same_frame e w waits in
       let behind = i.behind in
       let above = i.above in
       omega (arith, above_append r.given (x ∷ []), same, behind, above, here, number)
 
-  slots_push : (x : FrameRecord) → above_all (r.given ++ x ∷ []) ≡ m.number + 1 → slots_of c plp (r.given ++ x ∷ []) ≡ slots_by c plp (m.number * c.ticks)
+  slots_push : (x : FrameRecord) → above_all (r.given ++ x ∷ []) ≡ m.number + 1
+      → slots_of c plp (r.given ++ x ∷ []) ≡ slots_by c plp (m.number * c.ticks)
   slots_push x e = ap (λ (n : ℕ). slots_by c plp (n * c.ticks)) (omega (arith, e))
 
-  fed_push : (g : FrameFeed) (x : FrameRecord) (out : List ℕ) → feed.config_of g ≡ feed.config_of m.feed
-      → (took : GaveNext m.feed g (fed 0 events) (has_ended 0 events) r.given out) → took.next ≡ x
-      → IsFedWith c g (fed 0 events) (has_ended 0 events) (r.given ++ x ∷ [])
-  fed_push g x out config took e = record {
-    network = config ∙ s.of_feed.network;
-    stands = subst (λ (y : FrameRecord). feed.FrameFeedStandsFor g (fed 0 events) (has_ended 0 events) (r.given ++ y ∷ [])) e took.stands;
-  }
-
   -- of a muted frame
-  pub shown_skip : (g : FrameFeed) (q : Swapper) (out : List ℕ) (w : Waiting) → m.phase ≡ phase.Packets
-      → waiting_of m.feed ≡ Some w → w.frame ≤ m.number → (w.mute ≡ None → ⊥) → wants_of m.swapper ≡ 0
-      → feed.config_of g ≡ feed.config_of m.feed
-      → GaveNext m.feed g (fed 0 events) (has_ended 0 events) r.given out
-      → ((c : Config) (plp : ℕ) (t : Told) (frames : List NumberedView) (given : ℕ) → SwapperStandsFor m.swapper c plp t frames given
-      → SwapperStandsFor q c plp (in_next t) frames given)
-      → has_unit q ≡ has_unit m.swapper
-      → status_of q ≡ record (status_of m.swapper) { frame = frame_of m.swapper + 1; begun = false }
+  pub shown_skip : (g : FrameFeed) (q : Swapper) (w : Waiting) → m.phase ≡ phase.Packets → waiting_of m.feed ≡ Some w → w.frame ≤ m.number
+      → (w.mute ≡ None → ⊥) → wants_of m.swapper ≡ 0 → feed.config_of g ≡ feed.config_of m.feed
+      → ((given : List FrameRecord) → FrameFeedStandsFor m.feed (fed 0 events) (has_ended 0 events) given
+      → Skipped m.feed g (fed 0 events) (has_ended 0 events) given) → Passes m.swapper q
       → Shown c plp events (record m {
         feed = g;
         swapper = q;
-        «record» = out;
         number = m.number + 1;
         joined = true;
         phase = phase.Records;
         ran = record m.ran { muted = m.ran.muted + 1 };
       })
-  shown_skip g q out w e waits here mute none config took stands unit status =
+  shown_skip g q w e waits here mute none config skips n =
       let i = in_packets c plp events m s e in
+      let of : IsFedWith c m.feed (fed 0 events) (has_ended 0 events) r.given = of_in c plp events m s phase.Packets e in
+      let took = skips r.given of.stands in
       let x : FrameRecord = took.next in
       let first = subst (λ (o : Option Waiting). IsFirst o (x ∷ [])) waits took.waited in
       let above = above_push w x e waits here first.0 in
       let slots = slots_push x above in
-      let muted : frame_in c x.number x.content ≡ [] = no_frame x.content first.1 in
-      let frames : frames_in c (r.given ++ x ∷ []) ≡ frames_in c r.given =
-      frames_push c r.given x ∙ ap (λ (l : List NumberedView). frames_in c r.given ++ l) muted ∙ append-nil (frames_in c r.given) in
+      let muted : frame_in c x.number x.content ≡ [] = no_frame x.number x.content first.1 in
+      let same_frames : frames_in c (r.given ++ x ∷ []) ≡ frames =
+      frames_push c r.given x ∙ ap (λ (l : List NumberedView). frames ++ l) muted ∙ append-nil frames in
       let few = i.few in
       let early = i.early in
-      let same : w.frame ≡ i.waiting.frame = ap (λ (y : Waiting). y.frame) (some_injective w i.waiting (sym waits ∙ i.waits)) in
-      let behind = i.behind in
-      let packets : next_in m.phase m.number ≡ m.number = ap (λ (p : Phase). next_in p m.number) e in
-      let given = s.counts.few in
+      let same = same_frame e w waits in
+      let bound = bound_at c plp events m s phase.Packets e in
+      let sends = sends_in c plp events m s phase.Packets e in
+      let given = bound.few in
+      let most = bound.most in
       let longer = length-append r.given (x ∷ []) in
-      let status_is : status_of m.swapper ≡ status_in c plp m.number phase.Packets = s.status ∙ ap (status_in c plp m.number) e in
-      let caught = caught_told c plp m.swapper q r.told (in_next r.told) (frames_in c r.given) m.ran.units back unit i.caught in
-      let frames_count = s.counts.frames_is in
-      let muted_count = s.counts.muted_is in
+      let muted_count = s.counted.muted_is in
       record {
-        config = s.config;
-        plan = s.plan;
-        ids = s.ids;
-        place = s.place;
+        base = s.base;
         read = record { given = r.given ++ x ∷ []; told = in_next r.told; rest = r.rest; tail = r.tail };
-        of_feed = fed_push g x out config took refl;
+        of_feed = record { network = config ∙ of.network; stands = took.stands };
         of_input = read_next s.of_input;
-        at = ap (λ (n : ℕ). n + 1) s.at;
+        frame = ap (λ (n : ℕ). n + 1) s.frame;
         had = λ off. let h = all_there c plp events m s none off in omega (arith, h, slots);
-        sends = subst (λ (l : List NumberedView). Sends c plp q (in_next r.told) l m.ran.units (gave events)) (sym frames)
-            (sends_told c plp m.swapper q r.told (in_next r.told) (frames_in c r.given) m.ran.units (gave events) back
-            (ap (λ (y : Status). y.finished) status) (stands c plp r.told (frames_in c r.given) m.ran.units s.sends.stands) s.sends);
-        status = status_next q phase.Packets status status_is;
-        counts = record {
-          frames_is = frames_count ∙ sym (ap length frames);
+        sends = subst (λ (l : List NumberedView). Sends c plp q (in_next r.told) [] l m.ran.units (gave events)) (sym same_frames)
+            (sends_told c plp m.swapper q r.told (in_next r.told) [] [] frames m.ran.units (gave events) (gave events) refl back
+            (ap (λ (y : Status). y.finished) n.status) (n.stands c plp r.told [] frames m.ran.units sends.stands) sends);
+        status = n.status ∙ ap (λ (y : Status). record y { frame = y.frame + 1; begun = false }) (status_at c plp events m s phase.Packets e);
+        counted = record {
+          frames_is = s.counted.frames_is ∙ sym (ap length same_frames);
           muted_is = omega (arith, muted_count, longer);
-          unsent_is = s.counts.unsent_is;
-          few = omega (arith, given, packets, longer);
-          early = omega (arith, early, behind, same, here);
-          joined = sym (lt-ltb 0 (length (r.given ++ x ∷ [])) (omega (arith, longer)));
-          units = (let u = subst (λ (p : Phase). m.ran.units + more_units p m.swapper m.«record» ≤ next_in p m.number * frame_bytes + 184) e
-              s.counts.units in omega (arith, u));
+          unsent_is = s.counted.unsent_is;
+          joined_is = sym (lt-ltb 0 (length (r.given ++ x ∷ [])) (omega (arith, longer)));
         };
+        bound = record { few = omega (arith, given, longer); early = omega (arith, early, same, here); most = omega (arith, most) };
         live = live_on c plp _ _ r.told (in_next r.told) (r.given ++ x ∷ []) m.ran.units m.ran.units refl back (omega arith)
             (live_push c plp (fed 0 events) r.told r.given x m.ran.units s.live);
         is_in = record {
-          caught = subst (λ (l : List NumberedView). HasCaughtUp c plp q (in_next r.told) l m.ran.units) (sym frames) caught;
+          caught = subst (λ (l : List NumberedView). HasCaughtUp c plp q (in_next r.told) l m.ran.units) (sym same_frames)
+              (caught_told c plp m.swapper q r.told (in_next r.told) frames m.ran.units back n.unit i.caught);
           next = sym above;
           few = omega (arith, few, slots);
-          quiet = record { rest_is = i.quiet.rest_is; tail_is = i.quiet.tail_is; calm = i.quiet.calm; ends = i.quiet.ends };
+          quiet = i.quiet;
         };
       }
     where
-      no_frame : (k : Content) → mute_of k ≡ w.mute → frame_in c took.next.number k ≡ []
-      no_frame (Whole z) is = absurd (mute (sym is))
-      no_frame (Muted z) is = refl
+      no_frame : (n : ℕ) (k : Content) → mute_of k ≡ w.mute → frame_in c n k ≡ []
+      no_frame n (Whole z) is = absurd (mute (sym is))
+      no_frame n (Muted z) is = refl
 
-  -- of a frame that is not: its bytes are its record, which is formed for its number
-  pub record IsFrame (x : FrameRecord) (out : List ℕ) : Type 0 where
+  -- of a frame that is not: it is held
+  pub record IsFrame (f : PoolFrame) : Type 0 where
+    pub one : FrameRecord
+    pub later : List FrameRecord
+    pub due : records_due c (has_ended 0 events) (fed 0 events) ≡ r.given ++ one ∷ later
+    pub first : IsFirst (waiting_of m.feed) (one ∷ [])
     pub view : RecordView
-    pub spells : Spells view out
+    pub held : IsHeld c m.number view f
     pub formed : IsFormed c m.number view
-    pub frames : frames_in c (r.given ++ x ∷ []) ≡ frames_in c r.given ++ numbered m.number view ∷ []
+    pub sent : frames_in c (r.given ++ one ∷ []) ≡ frames ++ numbered m.number view ∷ []
 
-  pub is_frame : DueSpelled → FramesAreFormed → (g : FrameFeed) (out : List ℕ) (w : Waiting) → m.phase ≡ phase.Packets
-      → waiting_of m.feed ≡ Some w → w.frame ≤ m.number → w.mute ≡ None → feed.config_of g ≡ feed.config_of m.feed
-      → (took : GaveNext m.feed g (fed 0 events) (has_ended 0 events) r.given out) → IsFrame took.next out
-  is_frame spelled_law formed_law g out w e waits here mute config took = go x.content refl
+  pub is_frame : DuePass → FramesAreFormed → (f : PoolFrame) → IsFrameOf m.feed f
+      → ((bytes : List ℕ) (ended : Bool) (given : List FrameRecord) → FrameFeedStandsFor m.feed bytes ended given → (x : FrameRecord)
+      (later : List FrameRecord) → records_due (feed.config_of m.feed) ended bytes ≡ given ++ x ∷ later → (g : Group) → x.content ≡ Whole g
+      → Shows (feed.config_of m.feed) g.packets (dynamic_of m.feed) (lists_of m.feed))
+      → (w : Waiting) → m.phase ≡ phase.Packets → waiting_of m.feed ≡ Some w → w.frame ≤ m.number → w.mute ≡ None → IsFrame f
+  is_frame pass formed_law f is shows w e waits here mute =
+      go d.later d.all (subst (λ (o : Option Waiting). IsFirst o d.later) waits d.first)
     where
-      x : FrameRecord
-      x = took.next
+      of : IsFedWith c m.feed (fed 0 events) (has_ended 0 events) r.given
+      of = of_in c plp events m s phase.Packets e
 
-      i : InPackets c plp m r
-      i = in_packets c plp events m s e
+      d : IsDue c m.feed (fed 0 events) (has_ended 0 events) r.given
+      d = due_of c m.feed (fed 0 events) (has_ended 0 events) r.given of
 
-      first : (x.number ≡ w.frame) × (mute_of x.content ≡ w.mute)
-      first = subst (λ (o : Option Waiting). IsFirst o (x ∷ [])) waits took.waited
+      gs : List Group
+      gs = groups c.frames (packets_of (accepted_of c.pid (fed 0 events)))
 
-      same : w.frame ≡ i.waiting.frame
-      same = ap (λ (y : Waiting). y.frame) (some_injective w i.waiting (sym waits ∙ i.waits))
-
-      number : x.number ≡ m.number
-      number = let f = first.0 in let b = i.behind in omega (arith, f, here, b, same)
-
-      small : x.number < 2 ^ 32
-      small = let a = i.early in omega (arith, number, i.behind, a, same, here)
-
-      due : IsDue c g (fed 0 events) (has_ended 0 events) (r.given ++ x ∷ [])
-      due = due_of c g (fed 0 events) (has_ended 0 events) (r.given ++ x ∷ []) (fed_push g x out config took refl)
-
-      parts : records_due c (has_ended 0 events) (fed 0 events) ≡ r.given ++ x ∷ due.later
-      parts = due.all ∙ append_assoc r.given (x ∷ []) due.later
-
-      one_of : (P : FrameRecord → Type 0) (xs : List FrameRecord) (y : FrameRecord) (ys : List FrameRecord) → AllByRecursion P (xs ++ y ∷ ys) → P y
-      one_of P [] y ys all = all.0
-      one_of P (z ∷ xs) y ys all = one_of P xs y ys all.1
-
-      spells : Spells (content_view c x.number x.content) out
-      spells =
-          subst (Spells (content_view c x.number x.content))
-          (ap (λ (k : Config). spelled k x) (sym s.of_feed.network) ∙ sym took.is)
-          (one_of (λ (y : FrameRecord). y.number < 2 ^ 32 → Spells (content_view c y.number y.content) (spelled c y)) r.given x due.later
-          (subst (AllByRecursion (λ (y : FrameRecord). y.number < 2 ^ 32 → Spells (content_view c y.number y.content) (spelled c y))) parts
-          (spelled_law c (has_ended 0 events) (fed 0 events) s.plan s.ids)) small)
-
-      go : (k : Content) → x.content ≡ k → IsFrame x out
-      go (Whole z) is =
-          let formed = one_of (IsFormedRecord c) r.given x due.later (subst (AllByRecursion (IsFormedRecord c)) parts
-          (formed_law c (has_ended 0 events) (fed 0 events) s.plan)) z is in
+      whole : (x : FrameRecord) (later : List FrameRecord) → records_due c (has_ended 0 events) (fed 0 events) ≡ r.given ++ x ∷ later
+          → x.number ≡ w.frame → mute_of x.content ≡ w.mute → (k : Content) → x.content ≡ k → IsFrame f
+      whole x later due number muted (Whole g) content =
+          let i = in_packets c plp events m s e in
+          let same = same_frame e w waits in
+          let behind = i.behind in
+          let at : x.number ≡ m.number = omega (arith, number, here, behind, same) in
+          let p = one_of (IsRight c gs) r.given x later (subst (AllByRecursion (IsRight c gs)) due (pass c (has_ended 0 events) (fed 0 events)))
+          g content in
+          let formed = one_of (IsFormedRecord c) r.given x later (subst (AllByRecursion (IsFormedRecord c)) due
+          (formed_law c (has_ended 0 events) (fed 0 events) s.base.rules)) g content in
+          let view : RecordView = packets_view c x.number g.packets in
+          let view_is : content_view c x.number x.content ≡ view = ap (content_view c x.number) content in
+          let shown : Shows c g.packets (dynamic_of m.feed) (lists_of m.feed) =
+          subst (λ (k : Config). Shows k g.packets (dynamic_of m.feed) (lists_of m.feed)) of.network
+          (shows (fed 0 events) (has_ended 0 events) r.given of.stands x later
+          (ap (λ (k : Config). records_due k (has_ended 0 events) (fed 0 events)) of.network ∙ due) g content) in
           record {
-            view = content_view c x.number x.content;
-            spells = spells;
-            formed = subst (λ (n : ℕ). IsFormed c n (content_view c x.number x.content)) number formed;
-            frames = frames_push c r.given x ∙ ap (λ (l : List NumberedView). frames_in c r.given ++ l)
-                (ap (frame_in c x.number) is ∙ ap (λ (k : Content). numbered x.number (content_view c x.number k) ∷ []) (sym is)
-                ∙ ap (λ (n : ℕ). numbered n (content_view c x.number x.content) ∷ []) number);
+            one = x;
+            later = later;
+            due = due;
+            first = subst (λ (o : Option Waiting). IsFirst o (x ∷ [])) (sym waits) (number, muted);
+            view = view;
+            held = subst (λ (n : ℕ). IsHeld c n view f) at (record {
+              packets = g.packets;
+              past = past_after (rules c) [] p.before;
+              pass = p.none;
+              is = refl;
+              shows = record {
+                dynamic_is = is.dynamic ∙ shown.dynamic_is;
+                plps = ap length is.lists ∙ shown.plps;
+                blocks = subst (AreBlocks c g.packets) (sym is.lists) shown.blocks;
+              };
+              pre = is.pre ∙ ap pre_part of.network;
+              conf = is.conf ∙ ap conf_part of.network;
+            });
+            formed = subst (λ (n : ℕ). IsFormed c n view) at (subst (IsFormed c x.number) view_is formed);
+            sent = frames_push c r.given x ∙ ap (λ (l : List NumberedView). frames ++ l)
+                (ap (frame_in c x.number) content ∙ ap (λ (n : ℕ). numbered n view ∷ []) at);
           }
-      go (Muted z) is = absurd (none_some z (sym (sym (ap mute_of is) ∙ first.1 ∙ mute)))
+      whole x later due number muted (Muted z) content = absurd (none_some z (sym (sym (ap mute_of content) ∙ muted ∙ mute)))
 
-  pub shown_begin : FieldRange → ToldCountsFit → (g : FrameFeed) (q : Swapper) (out : List ℕ) (w : Waiting) → m.phase ≡ phase.Packets
-      → waiting_of m.feed ≡ Some w → w.frame ≤ m.number → wants_of m.swapper ≡ 0
-      → feed.config_of g ≡ feed.config_of m.feed
-      → (took : GaveNext m.feed g (fed 0 events) (has_ended 0 events) r.given out) → (f : IsFrame took.next out) → Begins m.swapper q f.view
-      → Shown c plp events (record m {
-        feed = g;
-        swapper = q;
-        «record» = out;
-        joined = true;
-        phase = phase.Units;
-        ran = record m.ran { frames = m.ran.frames + 1 };
-      })
-  shown_begin field told g q out w e waits here none config took f b =
-      let i = in_packets c plp events m s e in
-      let x : FrameRecord = took.next in
-      let first = subst (λ (o : Option Waiting). IsFirst o (x ∷ [])) waits took.waited in
-      let above = above_push w x e waits here first.0 in
-      let slots = slots_push x above in
-      let few = i.few in
-      let early = i.early in
-      let same : w.frame ≡ i.waiting.frame = ap (λ (y : Waiting). y.frame) (some_injective w i.waiting (sym waits ∙ i.waits)) in
-      let behind = i.behind in
-      let packets : next_in m.phase m.number ≡ m.number = ap (λ (p : Phase). next_in p m.number) e in
-      let given = s.counts.few in
-      let longer = length-append r.given (x ∷ []) in
-      let more = length-append (frames_in c r.given) (numbered m.number f.view ∷ []) in
-      let status_is : status_of m.swapper ≡ status_in c plp m.number phase.Packets = s.status ∙ ap (status_in c plp m.number) e in
-      let at : frame_of m.swapper ≡ m.number = ap (λ (y : Status). y.frame) status_is in
-      let status_now : status_of q ≡ status_in c plp m.number phase.Units = b.status ∙ ap (λ (y : Status). record y { begun = true }) status_is in
-      let frame_now : frame_of q ≡ m.number = ap (λ (y : Status). y.frame) status_now in
-      let frames_count = s.counts.frames_is in
-      let muted_count = s.counts.muted_is in
-      let stands : SwapperStandsFor q c plp r.told (frames_in c r.given ++ numbered m.number f.view ∷ []) m.ran.units =
-      subst (λ (n : ℕ). SwapperStandsFor q c plp r.told (frames_in c r.given ++ numbered n f.view ∷ []) m.ran.units) at
-      (b.stands c plp r.told (frames_in c r.given) m.ran.units s.sends.stands) in
-      let here_now : Continues r.told r.told.packets = record { rest = []; front = sym (append-nil r.told.packets); whole = λ _. refl } in
-      let bound = b.more c plp r.told (frames_in c r.given) m.ran.units s.sends.stands r.told.packets here_now in
-      let bodies = few_swapped field told c plp m.number r.told.packets f.view s.plan s.place f.formed in
-      let body_same = ap (λ (n : ℕ). length (view_bodies c n (swapped_view c plp r.told.packets n f.view))) at in
-      let idle = idle_left m.swapper i.caught.idle in
-      let held : more_units phase.Units q out ≡ 184 + bytes_left q (Some (numbered (frame_of q) f.view)) =
-      ap (λ (o : Option RecordView). 184 + bytes_left q (frame_at (frame_of q) o)) (view_is f.view out f.spells) in
-      let number_same : bytes_left q (Some (numbered (frame_of q) f.view)) ≡ bytes_left q (Some (numbered (frame_of m.swapper) f.view)) =
-      ap (λ (n : ℕ). bytes_left q (Some (numbered n f.view))) (frame_now ∙ sym at) in
-      record {
-        config = s.config;
-        plan = s.plan;
-        ids = s.ids;
-        place = s.place;
-        read = record { given = r.given ++ x ∷ []; told = r.told; rest = r.rest; tail = r.tail };
-        of_feed = fed_push g x out config took refl;
-        of_input = s.of_input;
-        at = s.at;
-        had = λ off. let h = all_there c plp events m s none off in omega (arith, h, slots);
-        sends = subst (λ (l : List NumberedView). Sends c plp q r.told l m.ran.units (gave events)) (sym f.frames)
-            (sends_begun c plp m.swapper q r.told (frames_in c r.given) (numbered m.number f.view) m.ran.units (gave events)
-            (ap (λ (y : Status). y.finished) status_is) stands s.sends);
-        status = status_now;
-        counts = record {
-          frames_is = omega (arith, frames_count, more, ap length f.frames);
-          muted_is = omega (arith, muted_count, longer);
-          unsent_is = s.counts.unsent_is;
-          few = omega (arith, given, packets, longer);
-          early = omega (arith, early, behind, same, here);
-          joined = sym (lt-ltb 0 (length (r.given ++ x ∷ [])) (omega (arith, longer)));
-          units = (let u = subst (λ (p : Phase). m.ran.units + more_units p m.swapper m.«record» ≤ next_in p m.number * frame_bytes + 184) e
-              s.counts.units in omega (arith, u, held, number_same, bound, bodies, body_same, idle));
-        };
-        live = live_push c plp (fed 0 events) r.told r.given x m.ran.units s.live;
-        is_in = record {
-          before = r.given;
-          last = x;
-          parts = refl;
-          done = λ input cont. let all = i.caught.complete input cont in omega (arith, all);
-          holds = record {
-            before = frames_in c r.given;
-            view = f.view;
-            parts = f.frames ∙ ap (λ (n : ℕ). frames_in c r.given ++ numbered n f.view ∷ []) (sym frame_now);
-            spells = f.spells;
-            formed = subst (λ (n : ℕ). IsFormed c n f.view) (sym frame_now) f.formed;
-          };
-          next = sym above;
-          early = omega (arith, early, behind, same, here);
-          few = omega (arith, few, slots);
-          quiet = record { rest_is = i.quiet.rest_is; tail_is = i.quiet.tail_is; calm = i.quiet.calm; ends = i.quiet.ends };
-        };
-      }
+      go : (later : List FrameRecord) → records_due c (has_ended 0 events) (fed 0 events) ≡ r.given ++ later → IsFirst (Some w) later
+          → IsFrame f
+      go [] due first = absurd first
+      go (x ∷ later) due first = whole x later due first.0 first.1 x.content refl
+
+  pub held_there : (f : PoolFrame) → IsFrame f → HasRecord (status_of m.swapper).network (frame_of m.swapper) f
+  held_there f x = record {
+    view = x.view;
+    held = subst (λ (k : Config). IsHeld k (frame_of m.swapper) x.view f) (sym (ap (λ (y : Status). y.network) s.status))
+        (subst (λ (n : ℕ). IsHeld c n x.view f) (sym (ap (λ (y : Status). y.frame) s.status)) x.held);
+  }
+
+  -- The frame is begun.
+  pub record Begins (q : Swapper) (f : PoolFrame) : Type 0 where
+    pub stands : (c : Config) (plp : ℕ) (t : Told) (frames : List NumberedView) (given : ℕ) (view : RecordView)
+        → IsHeld c (frame_of m.swapper) view f → SwapperStandsFor m.swapper c plp t [] frames given
+        → SwapperStandsFor q c plp t (left_in q f) (frames ++ numbered (frame_of m.swapper) view ∷ []) given
+    pub more : (c : Config) (plp : ℕ) (t : Told) (frames : List NumberedView) (given : ℕ) (view : RecordView)
+        → IsHeld c (frame_of m.swapper) view f → SwapperStandsFor m.swapper c plp t [] frames given
+        → (input : List (List ℕ)) → Continues t input
+        → bytes_left q (left_in q f) ≤ bytes_left m.swapper []
+        + packet_bound * length (view_bodies c (frame_of m.swapper) (swapped_view c plp input (frame_of m.swapper) view))
+    pub status : status_of q ≡ record (status_of m.swapper) { begun = true }
 
   -- it has no more units than so many
-  pub begun_few : FieldRange → ToldCountsFit → (q : Swapper) (out : List ℕ) (view : RecordView) → m.phase ≡ phase.Packets
-      → Spells view out → IsFormed c m.number view → Begins m.swapper q view → more_units phase.Units q out ≤ frame_bytes
-  begun_few field told q out view e spells formed b =
-      let i = in_packets c plp events m s e in
-      let status_is : status_of m.swapper ≡ status_in c plp m.number phase.Packets = s.status ∙ ap (status_in c plp m.number) e in
-      let at : frame_of m.swapper ≡ m.number = ap (λ (y : Status). y.frame) status_is in
-      let status_now : status_of q ≡ status_in c plp m.number phase.Units = b.status ∙ ap (λ (y : Status). record y { begun = true }) status_is in
-      let frame_now : frame_of q ≡ m.number = ap (λ (y : Status). y.frame) status_now in
-      let here_now : Continues r.told r.told.packets = record { rest = []; front = sym (append-nil r.told.packets); whole = λ _. refl } in
-      let bound = b.more c plp r.told (frames_in c r.given) m.ran.units s.sends.stands r.told.packets here_now in
-      let bodies = few_swapped field told c plp m.number r.told.packets view s.plan s.place formed in
-      let body_same = ap (λ (n : ℕ). length (view_bodies c n (swapped_view c plp r.told.packets n view))) at in
-      let idle = idle_left m.swapper i.caught.idle in
-      let held : more_units phase.Units q out ≡ 184 + bytes_left q (Some (numbered (frame_of q) view)) =
-      ap (λ (o : Option RecordView). 184 + bytes_left q (frame_at (frame_of q) o)) (view_is view out spells) in
-      let number_same : bytes_left q (Some (numbered (frame_of q) view)) ≡ bytes_left q (Some (numbered (frame_of m.swapper) view)) =
-      ap (λ (n : ℕ). bytes_left q (Some (numbered n view))) (frame_now ∙ sym at) in
-      omega (arith, held, number_same, bound, bodies, body_same, idle)
+  module _ (field : FieldRange) (told : ToldCountsFit) (q : Swapper) (f : PoolFrame) (is : IsFrameOf m.feed f) (e : m.phase ≡ phase.Packets)
+      (x : IsFrame f) (b : Begins q f) where
+    at : frame_of m.swapper ≡ m.number
+    at = ap (λ (y : Status). y.frame) (status_at c plp events m s phase.Packets e)
+
+    held_at : IsHeld c (frame_of m.swapper) x.view f
+    held_at = subst (λ (n : ℕ). IsHeld c n x.view f) (sym at) x.held
+
+    status_now : status_of q ≡ status_in c plp m.number phase.Units
+    status_now = b.status ∙ ap (λ (y : Status). record y { begun = true }) (status_at c plp events m s phase.Packets e)
+
+    left_now : left_in q f ≡ left_for q (lists_of m.feed)
+    left_now =
+        left_same q m.feed f is (feed_network c plp events m s ∙ sym (ap (λ (y : Status). y.network) status_now))
+
+    pub begun_few : more_units phase.Units q m.feed + 600 ≤ frame_bytes
+    begun_few =
+        let i = in_packets c plp events m s e in
+        let here_now : Continues r.told r.told.packets = record { rest = []; front = sym (append-nil r.told.packets); whole = λ _. refl } in
+        let bound = b.more c plp r.told frames m.ran.units x.view held_at (sends_in c plp events m s phase.Packets e).stands r.told.packets
+        here_now in
+        let bodies = few_swapped field told c plp m.number r.told.packets x.view s.base.rules s.base.place x.formed in
+        let body_same = ap (λ (n : ℕ). length (view_bodies c n (swapped_view c plp r.told.packets n x.view))) at in
+        let idle = idle_left m.swapper i.caught.idle in
+        let same = ap (bytes_left q) left_now in
+        omega (arith, bound, bodies, body_same, idle, same)
+
+    pub shown_begin : (w : Waiting) → waiting_of m.feed ≡ Some w → w.frame ≤ m.number → w.mute ≡ None → wants_of m.swapper ≡ 0
+        → Shown c plp events (record m {
+          swapper = q;
+          joined = true;
+          phase = phase.Units;
+          ran = record m.ran { frames = m.ran.frames + 1 };
+        })
+    shown_begin w waits here mute none =
+        let i = in_packets c plp events m s e in
+        let first = subst (λ (o : Option Waiting). IsFirst o (x.one ∷ [])) waits x.first in
+        let above = above_push w x.one e waits here first.0 in
+        let slots = slots_push x.one above in
+        let few = i.few in
+        let early = i.early in
+        let same = same_frame e w waits in
+        let behind = i.behind in
+        let bound = bound_at c plp events m s phase.Packets e in
+        let sends = sends_in c plp events m s phase.Packets e in
+        let given = bound.few in
+        let most = bound.most in
+        let longer = length-append r.given (x.one ∷ []) in
+        let more = length-append frames (numbered m.number x.view ∷ []) in
+        let frames_count = s.counted.frames_is in
+        let muted_count = s.counted.muted_is in
+        let units = begun_few in
+        let stands : SwapperStandsFor q c plp r.told (left_for q (lists_of m.feed)) (frames ++ numbered m.number x.view ∷ []) m.ran.units =
+        subst (λ (n : ℕ). SwapperStandsFor q c plp r.told (left_for q (lists_of m.feed)) (frames ++ numbered n x.view ∷ []) m.ran.units) at
+        (subst (λ (l : List Body). SwapperStandsFor q c plp r.told l (frames ++ numbered (frame_of m.swapper) x.view ∷ []) m.ran.units) left_now
+        (b.stands c plp r.told frames m.ran.units x.view held_at sends.stands)) in
+        record {
+          base = s.base;
+          read = record { given = r.given ++ x.one ∷ []; told = r.told; rest = r.rest; tail = r.tail };
+          of_feed = record {
+            before = r.given;
+            one = x.one;
+            later = x.later;
+            given_is = refl;
+            due = x.due;
+            first = x.first;
+            fed = of_in c plp events m s phase.Packets e;
+          };
+          of_input = s.of_input;
+          frame = s.frame;
+          had = λ off. let h = all_there c plp events m s none off in omega (arith, h, slots);
+          sends = subst (λ (l : List NumberedView). Sends c plp q r.told (left_for q (lists_of m.feed)) l m.ran.units (gave events)) (sym x.sent)
+              (sends_begun c plp m.swapper q r.told (left_for q (lists_of m.feed)) frames (numbered m.number x.view) m.ran.units (gave events)
+              (ap (λ (y : Status). y.finished) (status_at c plp events m s phase.Packets e)) stands sends);
+          status = status_now;
+          counted = record {
+            frames_is = omega (arith, frames_count, more, ap length x.sent);
+            muted_is = omega (arith, muted_count, longer);
+            unsent_is = s.counted.unsent_is;
+            joined_is = sym (lt-ltb 0 (length (r.given ++ x.one ∷ [])) (omega (arith, longer)));
+          };
+          bound = record {
+            few = omega (arith, given, longer);
+            early = omega (arith, early, behind, same, here);
+            most = omega (arith, most, units);
+          };
+          live = live_push c plp (fed 0 events) r.told r.given x.one m.ran.units s.live;
+          is_in = record {
+            before = r.given;
+            last = x.one;
+            parts = refl;
+            done = λ input cont. let all = i.caught.complete input cont in omega (arith, all);
+            waiting = w;
+            waits = waits;
+            whole = mute;
+            here = omega (arith, here, behind, same);
+            next = sym above;
+            early = omega (arith, early, behind, same, here);
+            few = omega (arith, few, slots);
+            quiet = i.quiet;
+          };
+        }
 
   -- ---- units of the frame under way
 
-  abbrev pub holding : (e : m.phase ≡ phase.Units) → IsHolding c m.swapper (frames_in c r.given) m.«record»
-  holding e = (in_units c plp events m s e).holds
-
-  pub status_units : m.phase ≡ phase.Units → status_of m.swapper ≡ status_in c plp m.number phase.Units
-  status_units e = s.status ∙ ap (status_in c plp m.number) e
-
-  -- the record that is held
-  pub held : (e : m.phase ≡ phase.Units) → HoldsFrame (status_of m.swapper).network (frame_of m.swapper) m.«record»
-  held e =
-      let h = holding e in
-      subst (λ (k : Config). HoldsFrame k (frame_of m.swapper) m.«record») (sym (ap (λ (y : Status). y.network) (status_units e)))
-      (record { view = h.view; spells = h.spells; formed = h.formed })
-
-  pub more_is : (e : m.phase ≡ phase.Units) → more_units phase.Units m.swapper m.«record»
-      ≡ 184 + bytes_left m.swapper (Some (numbered (frame_of m.swapper) (holding e).view))
-  more_is e = ap (λ (o : Option RecordView). 184 + bytes_left m.swapper (frame_at (frame_of m.swapper) o))
-      (view_is (holding e).view m.«record» (holding e).spells)
-
   pub few_units : m.ran.units < 2 ^ 64 - 1
-  few_units = let u = s.counts.units in let n = most_next m.phase in let e = s.counts.early in omega (arith, u, n, e)
+  few_units = let u = s.bound.most in let n = most_next m.phase in let e = s.bound.early in omega (arith, u, n, e)
     where
       most_next : (p : Phase) → next_in p m.number ≤ m.number + 1
       most_next phase.Records = omega arith
@@ -552,192 +543,160 @@ module _ (c : Config) (plp : ℕ) (events : List Event) (m : Swapping) (s : Show
       most_next phase.Done = omega arith
       most_next (phase.Stopped why) = omega arith
 
-  -- less is left by one
-  pub less_unit : (q : Swapper) (unit : List ℕ) (e : m.phase ≡ phase.Units) → GivesUnit m.swapper q (holding e).view unit
-      → status_of q ≡ status_of m.swapper → more_units phase.Units q m.«record» < more_units phase.Units m.swapper m.«record»
-  less_unit q unit e g status =
-      let h = holding e in
-      let at : frame_of q ≡ frame_of m.swapper = ap (λ (y : Status). y.frame) status in
-      let less = g.less in
-      let more_old = more_is e in
-      let more_new : more_units phase.Units q m.«record» ≡ 184 + bytes_left q (Some (numbered (frame_of m.swapper) h.view)) =
-      ap₂ (λ (n : ℕ) (o : Option RecordView). 184 + bytes_left q (frame_at n o)) at (view_is h.view m.«record» h.spells) in
-      omega (arith, less, more_old, more_new)
+  module _ (e : m.phase ≡ phase.Units) (f : PoolFrame) (is : IsFrameOf m.feed f) (p : Swapper) (full : Bool) (bytes : List ℕ)
+      (g : GivesUnits m.swapper p f full bytes) (status : status_of p ≡ status_of m.swapper) where
+    old_same : left_in m.swapper f ≡ left_for m.swapper (lists_of m.feed)
+    old_same = left_same m.swapper m.feed f is (feed_network c plp events m s ∙ sym (ap (λ (y : Status). y.network) s.status))
 
-  -- one was given
-  pub shown_unit : (q : Swapper) (unit : List ℕ) (more : List Event) (e : m.phase ≡ phase.Units) → Same 0 events more → Same 1 events more
-      → gave more ≡ gave events ++ unit → GivesUnit m.swapper q (holding e).view unit → status_of q ≡ status_of m.swapper
-      → Shown c plp more (record m { swapper = q; ran = record m.ran { units = m.ran.units + 1 } })
-  shown_unit q unit more e zero one gave_is g status =
-      let i = in_units c plp events m s e in
-      let h = i.holds in
-      let parts = h.parts in
-      let stands : SwapperStandsFor q c plp r.told (frames_in c r.given) (m.ran.units + 1) =
-      subst (λ (l : List NumberedView). SwapperStandsFor q c plp r.told l (m.ran.units + 1)) (sym parts)
-      (g.stands c plp r.told h.before m.ran.units
-      (subst (λ (l : List NumberedView). SwapperStandsFor m.swapper c plp r.told l m.ran.units) parts s.sends.stands)) in
-      let at : frame_of q ≡ frame_of m.swapper = ap (λ (y : Status). y.frame) status in
-      let less = g.less in
-      let more_old = more_is e in
-      let more_new : more_units phase.Units q m.«record» ≡ 184 + bytes_left q (Some (numbered (frame_of m.swapper) h.view)) =
-      ap₂ (λ (n : ℕ) (o : Option RecordView). 184 + bytes_left q (frame_at n o)) at (view_is h.view m.«record» h.spells) in
-      record {
-        config = s.config;
-        plan = s.plan;
-        ids = s.ids;
-        place = s.place;
-        read = r;
-        of_feed = feed_same c m.feed _ _ _ _ r.given zero.fed_is zero.ended_is s.of_feed;
-        of_input = reads_same _ _ _ _ r.told r.rest r.tail m.taken m.ended one.fed_is one.ended_is s.of_input;
-        at = s.at;
-        had = s.had;
-        sends = sends_same c plp q r.told (frames_in c r.given) (m.ran.units + 1) (gave events ++ unit) (gave more) gave_is
-            (sends_next c plp m.swapper q r.told (frames_in c r.given) m.ran.units (gave events) unit (ap (λ (y : Status). y.finished) status)
-            (λ input cont later over.
-            subst (λ (l : List NumberedView). slice_get (pipe c.pid (remade_packets c (swapped c plp input l) ++ later)) m.ran.units ≡ Some unit)
-            (sym parts)
-            (g.next c plp r.told h.before m.ran.units
-            (subst (λ (l : List NumberedView). SwapperStandsFor m.swapper c plp r.told l m.ran.units) parts s.sends.stands) input cont later over))
-            (λ off input cont.
-            subst (λ (l : List NumberedView). m.ran.units < length (complete_units c.pid (remade_packets c (swapped c plp input l)))) (sym parts)
-            (g.complete off c plp r.told h.before m.ran.units
-            (subst (λ (l : List NumberedView). SwapperStandsFor m.swapper c plp r.told l m.ran.units) parts s.sends.stands) input cont))
-            stands s.sends);
-        status = status ∙ s.status;
-        counts = record {
-          frames_is = s.counts.frames_is;
-          muted_is = s.counts.muted_is;
-          unsent_is = s.counts.unsent_is;
-          few = s.counts.few;
-          early = s.counts.early;
-          joined = s.counts.joined;
-          units = subst (λ (p : Phase). m.ran.units + 1 + more_units p q m.«record» ≤ next_in p m.number * frame_bytes + 184) (sym e)
-              (let u = subst (λ (p : Phase). m.ran.units + more_units p m.swapper m.«record» ≤ next_in p m.number * frame_bytes + 184) e
-              s.counts.units in omega (arith, u, less, more_old, more_new));
-        };
-        live = live_on c plp _ _ r.told r.told r.given m.ran.units (m.ran.units + 1) zero.fed_is (λ _ cont. cont) (omega arith) s.live;
-        is_in = subst (IsIn c plp (record m { swapper = q; ran = record m.ran { units = m.ran.units + 1 } }) r (has_ended 1 more)) (sym e) (record {
-          before = i.before;
-          last = i.last;
-          parts = i.parts;
-          done = λ input cont. let d = i.done input cont in omega (arith, d);
-          holds = record {
-            before = h.before;
-            view = h.view;
-            parts = parts ∙ ap (λ (n : ℕ). h.before ++ numbered n h.view ∷ []) (sym at);
-            spells = h.spells;
-            formed = subst (λ (n : ℕ). IsFormed c n h.view) (sym at) h.formed;
-          };
-          next = i.next;
-          early = i.early;
-          few = i.few;
-          quiet = record { rest_is = i.quiet.rest_is; tail_is = i.quiet.tail_is; calm = i.quiet.calm; ends = i.quiet.ends };
-        });
-      }
+    rest_same : left_in p f ≡ left_for p (lists_of m.feed)
+    rest_same = left_same p m.feed f is (feed_network c plp events m s ∙ sym (ap (λ (y : Status). y.network) (status ∙ s.status)))
 
-  -- all were: the next frame is under way
-  pub shown_given : (p q : Swapper) (more : List Event) (e : m.phase ≡ phase.Units) → Same 0 events more → Same 1 events more
-      → gave more ≡ gave events → GivesNone m.swapper p (holding e).view → status_of p ≡ status_of m.swapper
-      → ((c : Config) (plp : ℕ) (t : Told) (frames : List NumberedView) (given : ℕ) → SwapperStandsFor p c plp t frames given
-      → SwapperStandsFor q c plp (in_next t) frames given)
-      → has_unit q ≡ has_unit p
-      → status_of q ≡ record (status_of p) { frame = frame_of p + 1; begun = false }
-      → Shown c plp more (record m { swapper = q; number = m.number + 1; phase = phase.Records })
-  shown_given p q more e zero one gave_is g status passed unit status_q =
-      let i = in_units c plp events m s e in
-      let h = i.holds in
-      let parts = h.parts in
-      let early = i.early in
-      let given = s.counts.few in
-      let units_next : next_in m.phase m.number ≡ m.number + 1 = ap (λ (x : Phase). next_in x m.number) e in
-      let status_is = status_units e in
-      let status_p : status_of p ≡ status_in c plp m.number phase.Units = status ∙ status_is in
-      let was : SwapperStandsFor m.swapper c plp r.told (h.before ++ numbered (frame_of m.swapper) h.view ∷ []) m.ran.units =
-      subst (λ (l : List NumberedView). SwapperStandsFor m.swapper c plp r.told l m.ran.units) parts s.sends.stands in
-      let stands_p : SwapperStandsFor p c plp r.told (frames_in c r.given) m.ran.units =
-      subst (λ (l : List NumberedView). SwapperStandsFor p c plp r.told l m.ran.units) (sym parts) (g.stands c plp r.told h.before m.ran.units was) in
-      let finished : (status_of q).finished ≡ (status_of m.swapper).finished =
-      ap (λ (y : Status). y.finished) status_q ∙ ap (λ (y : Status). y.finished) status in
-      record {
-        config = s.config;
-        plan = s.plan;
-        ids = s.ids;
-        place = s.place;
-        read = record { given = r.given; told = in_next r.told; rest = r.rest; tail = r.tail };
-        of_feed = feed_same c m.feed _ _ _ _ r.given zero.fed_is zero.ended_is s.of_feed;
-        of_input = (let o = reads_same _ _ _ _ r.told r.rest r.tail m.taken m.ended one.fed_is one.ended_is s.of_input in
-            record { parts = o.parts; each = o.each; count = o.count; end = o.end; told = o.told });
-        at = ap (λ (n : ℕ). n + 1) s.at;
-        had = s.had;
-        sends = sends_same c plp q (in_next r.told) (frames_in c r.given) m.ran.units (gave events) (gave more) gave_is
-            (sends_told c plp m.swapper q r.told (in_next r.told) (frames_in c r.given) m.ran.units (gave events) back finished
-            (passed c plp r.told (frames_in c r.given) m.ran.units stands_p) s.sends);
-        status = status_q ∙ ap (λ (y : Status). record y { frame = y.frame + 1; begun = false }) status_p;
-        counts = record {
-          frames_is = s.counts.frames_is;
-          muted_is = s.counts.muted_is;
-          unsent_is = s.counts.unsent_is;
-          few = omega (arith, given, units_next);
-          early = omega (arith, early);
-          joined = s.counts.joined;
-          units = (let u = subst (λ (x : Phase). m.ran.units + more_units x m.swapper m.«record» ≤ next_in x m.number * frame_bytes + 184) e
-              s.counts.units in omega (arith, u));
-        };
-        live = live_on c plp _ _ r.told (in_next r.told) r.given m.ran.units m.ran.units zero.fed_is back (omega arith) s.live;
-        is_in = record {
-          caught = record {
-            idle = unit ∙ g.idle;
-            complete = λ input cont.
-                subst (λ (l : List NumberedView). m.ran.units ≡ length (complete_units c.pid (remade_packets c (swapped c plp input l)))) (sym parts)
-                (g.all (ap (λ (y : Status). y.finished) status_is) c plp r.told h.before m.ran.units was input (back input cont));
-          };
-          next = i.next;
-          few = i.few;
-          quiet = record { rest_is = i.quiet.rest_is; tail_is = i.quiet.tail_is; calm = i.quiet.calm; ends = i.quiet.ends };
-        };
-      }
+    abbrev pub count : ℕ
+    count = m.ran.units + length g.units
+
+    -- they can be counted
+    pub few_more : count + (184 + bytes_left p (left_in p f)) ≤ (m.number + 1) * frame_bytes + 184
+    few_more =
+        let most = (bound_at c plp events m s phase.Units e).most in
+        let less = g.less in
+        let same = ap (bytes_left m.swapper) old_same in
+        omega (arith, most, less, same)
+
+    -- and each is fewer bytes left
+    pub less_left : more_units phase.Units p m.feed + length g.units ≤ more_units phase.Units m.swapper m.feed
+    less_left =
+        let less = g.less in
+        let was = ap (bytes_left m.swapper) old_same in
+        let now = ap (bytes_left p) rest_same in
+        omega (arith, less, was, now)
+
+    was : SwapperStandsFor m.swapper c plp r.told (left_in m.swapper f) frames m.ran.units
+    was = subst (λ (l : List Body). SwapperStandsFor m.swapper c plp r.told l frames m.ran.units) (sym old_same)
+        (sends_in c plp events m s phase.Units e).stands
+
+    module _ (more : List Event) (zero : Same 0 events more) (one : Same 1 events more) (gave_is : gave more ≡ gave events ++ bytes) where
+      sends_now : Sends c plp p r.told (left_in p f) frames count (gave more)
+      sends_now =
+          sends_units c plp m.swapper p r.told _ _ frames m.ran.units g.units (gave events) (gave more)
+          (gave_is ∙ ap (λ (l : List ℕ). gave events ++ l) g.bytes_are) (ap (λ (y : Status). y.finished) status)
+          (λ input cont later over. g.next c plp r.told frames m.ran.units was input cont later over)
+          (λ off some input cont. g.complete off some c plp r.told frames m.ran.units was input cont)
+          (g.stands c plp r.told frames m.ran.units was) (sends_in c plp events m s phase.Units e)
+
+      -- the room ended
+      pub shown_full : Shown c plp more (record m { swapper = p; ran = record m.ran { units = count } })
+      shown_full =
+          let i = in_units c plp events m s e in
+          let bound = bound_at c plp events m s phase.Units e in
+          let most = few_more in
+          let same = ap (bytes_left p) rest_same in
+          subst (ShownAt c plp more (record m { swapper = p; ran = record m.ran { units = count } })) (sym e) (record {
+            base = s.base;
+            read = r;
+            of_feed = feed_same true c m.feed _ _ _ _ r.given zero.fed_is zero.ended_is (of_in c plp events m s phase.Units e);
+            of_input = reads_same _ _ _ _ r.told r.rest r.tail m.taken m.ended one.fed_is one.ended_is s.of_input;
+            frame = s.frame;
+            had = s.had;
+            sends = subst (λ (l : List Body). Sends c plp p r.told l frames count (gave more)) rest_same sends_now;
+            status = status ∙ status_at c plp events m s phase.Units e;
+            counted = s.counted;
+            bound = record { few = bound.few; early = bound.early; most = omega (arith, most, same) };
+            live = live_on c plp _ _ r.told r.told r.given m.ran.units count zero.fed_is (λ _ cont. cont) (omega arith) s.live;
+            is_in = record {
+              before = i.before;
+              last = i.last;
+              parts = i.parts;
+              done = λ input cont. let d = i.done input cont in omega (arith, d);
+              waiting = i.waiting;
+              waits = i.waits;
+              whole = i.whole;
+              here = i.here;
+              next = i.next;
+              early = i.early;
+              few = i.few;
+              quiet = i.quiet;
+            };
+          })
+
+      -- or all were given: the next frame is under way
+      pub shown_behind : (k : FrameFeed) (q : Swapper) → full ≡ false → has_unit p ≡ false → feed.config_of k ≡ feed.config_of m.feed
+          → ((given : List FrameRecord) → FrameFeedStandsFor m.feed (fed 0 events) (has_ended 0 events) given
+          → Skipped m.feed k (fed 0 events) (has_ended 0 events) given) → Passes p q
+          → Shown c plp more (record m {
+            feed = k;
+            swapper = q;
+            number = m.number + 1;
+            phase = phase.Records;
+            ran = record m.ran { units = count };
+          })
+      shown_behind k q off idle config skips n =
+          let i = in_units c plp events m s e in
+          let bound = bound_at c plp events m s phase.Units e in
+          let status_is = status_at c plp events m s phase.Units e in
+          let stands : SwapperStandsFor p c plp r.told [] frames count =
+          subst (λ (l : List Body). SwapperStandsFor p c plp r.told l frames count) (g.spent off) sends_now.stands in
+          let o = reads_same _ _ _ _ r.told r.rest r.tail m.taken m.ended one.fed_is one.ended_is s.of_input in
+          let most = few_more in
+          let early = i.early in
+          let of : IsFedWith c k (fed 0 events) (has_ended 0 events) r.given =
+          feed_left true c m.feed k (fed 0 events) (has_ended 0 events) r.given config (λ z. absurd (true≢false z))
+          (λ given st. takes_one true m.feed k _ _ given refl (skips given st)) (of_in c plp events m s phase.Units e) in
+          record {
+            base = s.base;
+            read = record { given = r.given; told = in_next r.told; rest = r.rest; tail = r.tail };
+            of_feed = feed_same false c k _ _ _ _ r.given zero.fed_is zero.ended_is of;
+            of_input = record { parts = o.parts; each = o.each; count = o.count; end = o.end; told = o.told };
+            frame = ap (λ (n : ℕ). n + 1) s.frame;
+            had = s.had;
+            sends = sends_told c plp p q r.told (in_next r.told) (left_in p f) [] frames count (gave more) (gave more) refl back
+                (ap (λ (y : Status). y.finished) n.status) (n.stands c plp r.told [] frames count stands) sends_now;
+            status = n.status ∙ ap (λ (y : Status). record y { frame = y.frame + 1; begun = false }) (status ∙ status_is);
+            counted = s.counted;
+            bound = record { few = bound.few; early = omega (arith, early); most = omega (arith, most) };
+            live = live_on c plp _ _ r.told (in_next r.told) r.given m.ran.units count zero.fed_is back (omega arith) s.live;
+            is_in = record {
+              caught = record {
+                idle = n.unit ∙ idle;
+                complete = λ input cont. g.all off (ap (λ (y : Status). y.finished) status_is) c plp r.told frames m.ran.units was input
+                    (back input cont);
+              };
+              next = i.next;
+              few = i.few;
+              quiet = i.quiet;
+            };
+          }
 
   -- ---- the rest
 
   pub shown_finish : (q : Swapper) → m.phase ≡ phase.Drains → m.ended ≡ true
-      → ((c : Config) (plp : ℕ) (t : Told) (frames : List NumberedView) (given : ℕ) → SwapperStandsFor m.swapper c plp t frames given
-      → SwapperStandsFor q c plp t frames given)
-      → is_fed q ≡ true → bytes_left q None ≡ bytes_left m.swapper None → status_of q ≡ record (status_of m.swapper) { finished = true }
+      → ((c : Config) (plp : ℕ) (t : Told) (left : List Body) (frames : List NumberedView) (given : ℕ)
+      → SwapperStandsFor m.swapper c plp t left frames given → SwapperStandsFor q c plp t left frames given)
+      → is_fed q ≡ true → bytes_left q [] ≡ bytes_left m.swapper [] → status_of q ≡ record (status_of m.swapper) { finished = true }
       → Shown c plp events (record m { swapper = q; phase = phase.Rests })
   shown_finish q e over stands all_fed left status =
       let i = in_drains c plp events m s e in
-      let given = s.counts.few in
-      let drains_next : next_in m.phase m.number ≡ m.number = ap (λ (x : Phase). next_in x m.number) e in
-      let status_is : status_of m.swapper ≡ status_in c plp m.number phase.Drains = s.status ∙ ap (status_in c plp m.number) e in
+      let sends = sends_in c plp events m s phase.Drains e in
+      let status_is = status_at c plp events m s phase.Drains e in
+      let bound = bound_at c plp events m s phase.Drains e in
+      let most = bound.most in
       let idle = idle_left m.swapper i.caught.idle in
       record {
-        config = s.config;
-        plan = s.plan;
-        ids = s.ids;
-        place = s.place;
+        base = s.base;
         read = r;
-        of_feed = s.of_feed;
+        of_feed = of_in c plp events m s phase.Drains e;
         of_input = s.of_input;
-        at = s.at;
+        frame = s.frame;
         had = s.had;
-        sends = sends_over c plp m.swapper q r.told (frames_in c r.given) m.ran.units (gave events) (ap (λ (y : Status). y.finished) status_is)
-            (stands c plp r.told (frames_in c r.given) m.ran.units s.sends.stands) s.sends;
+        sends = sends_over c plp m.swapper q r.told [] frames m.ran.units (gave events) (ap (λ (y : Status). y.finished) status_is)
+            (stands c plp r.told [] frames m.ran.units sends.stands) sends;
         status = status ∙ ap (λ (y : Status). record y { finished = true }) status_is;
-        counts = record {
-          frames_is = s.counts.frames_is;
-          muted_is = s.counts.muted_is;
-          unsent_is = s.counts.unsent_is;
-          few = omega (arith, given, drains_next);
-          early = s.counts.early;
-          joined = s.counts.joined;
-          units = (let u = subst (λ (x : Phase). m.ran.units + more_units x m.swapper m.«record» ≤ next_in x m.number * frame_bytes + 184) e
-              s.counts.units in omega (arith, u, left, idle));
-        };
+        counted = s.counted;
+        bound = record { few = bound.few; early = bound.early; most = omega (arith, most, left, idle) };
         live = s.live;
         is_in = record {
           all_fed = all_fed;
           done = λ input cont. let all = i.caught.complete input cont in omega (arith, all);
-          behind = record { none = i.behind.none; some = i.behind.some; next = i.behind.next; few = i.behind.few };
+          behind = i.behind;
           whole = i.whole;
           over = over;
         };
@@ -745,97 +704,77 @@ module _ (c : Config) (plp : ℕ) (events : List Event) (m : Swapping) (s : Show
 
   pub shown_rest : (q : Swapper) (unit : List ℕ) (more : List Event) → m.phase ≡ phase.Rests → Same 0 events more → Same 1 events more
       → gave more ≡ gave events ++ unit
-      → ((c : Config) (plp : ℕ) (t : Told) (frames : List NumberedView) (given : ℕ) → SwapperStandsFor m.swapper c plp t frames given
+      → ((c : Config) (plp : ℕ) (t : Told) (frames : List NumberedView) (given : ℕ) → SwapperStandsFor m.swapper c plp t [] frames given
       → (input : List (List ℕ)) → Continues t input → slice_get (pipe c.pid (remade_packets c (swapped c plp input frames))) given ≡ Some unit)
-      → ((c : Config) (plp : ℕ) (t : Told) (frames : List NumberedView) (given : ℕ) → SwapperStandsFor m.swapper c plp t frames given
-      → SwapperStandsFor q c plp t frames (given + 1))
-      → is_fed q ≡ true → bytes_left q None < bytes_left m.swapper None → status_of q ≡ status_of m.swapper
+      → ((c : Config) (plp : ℕ) (t : Told) (frames : List NumberedView) (given : ℕ) → SwapperStandsFor m.swapper c plp t [] frames given
+      → SwapperStandsFor q c plp t [] frames (given + 1))
+      → is_fed q ≡ true → bytes_left q [] < bytes_left m.swapper [] → status_of q ≡ status_of m.swapper
       → Shown c plp more (record m { swapper = q; ran = record m.ran { units = m.ran.units + 1 } })
   shown_rest q unit more e zero one gave_is next stands all_fed less status =
       let i = in_rests c plp events m s e in
-      let over_is : (status_of m.swapper).finished ≡ true = ap (λ (y : Status). y.finished) (s.status ∙ ap (status_in c plp m.number) e) in
-      record {
-        config = s.config;
-        plan = s.plan;
-        ids = s.ids;
-        place = s.place;
+      let sends = sends_in c plp events m s phase.Rests e in
+      let status_is = status_at c plp events m s phase.Rests e in
+      let bound = bound_at c plp events m s phase.Rests e in
+      let most = bound.most in
+      let over_is : (status_of m.swapper).finished ≡ true = ap (λ (y : Status). y.finished) status_is in
+      subst (ShownAt c plp more (record m { swapper = q; ran = record m.ran { units = m.ran.units + 1 } })) (sym e) (record {
+        base = s.base;
         read = r;
-        of_feed = feed_same c m.feed _ _ _ _ r.given zero.fed_is zero.ended_is s.of_feed;
+        of_feed = feed_same false c m.feed _ _ _ _ r.given zero.fed_is zero.ended_is (of_in c plp events m s phase.Rests e);
         of_input = reads_same _ _ _ _ r.told r.rest r.tail m.taken m.ended one.fed_is one.ended_is s.of_input;
-        at = s.at;
+        frame = s.frame;
         had = s.had;
-        sends = sends_same c plp q r.told (frames_in c r.given) (m.ran.units + 1) (gave events ++ unit) (gave more) gave_is
-            (sends_next c plp m.swapper q r.told (frames_in c r.given) m.ran.units (gave events) unit (ap (λ (y : Status). y.finished) status)
+        sends = sends_units c plp m.swapper q r.told [] [] frames m.ran.units (unit ∷ []) (gave events) (gave more)
+            (gave_is ∙ ap (λ (l : List ℕ). gave events ++ l) (sym (append-nil unit))) (ap (λ (y : Status). y.finished) status)
             (λ input cont later over.
-            ap (λ (l : List (List ℕ)). slice_get (pipe c.pid (remade_packets c (swapped c plp input (frames_in c r.given)) ++ l)) m.ran.units)
-            (over over_is)
-            ∙ ap (λ (l : List (List ℕ)). slice_get (pipe c.pid l) m.ran.units)
-            (append-nil (remade_packets c (swapped c plp input (frames_in c r.given))))
-            ∙ next c plp r.told (frames_in c r.given) m.ran.units s.sends.stands input cont)
+            let all : List (List ℕ) = pipe c.pid (remade_packets c (swapped c plp input frames) ++ later) in
+            let at : slice_get all m.ran.units ≡ Some unit =
+            ap (λ (l : List (List ℕ)). slice_get (pipe c.pid (remade_packets c (swapped c plp input frames) ++ l)) m.ran.units) (over over_is)
+            ∙ ap (λ (l : List (List ℕ)). slice_get (pipe c.pid l) m.ran.units) (append-nil (remade_packets c (swapped c plp input frames)))
+            ∙ next c plp r.told frames m.ran.units sends.stands input cont in
+            (drop (m.ran.units + 1) all, drop_some all m.ran.units unit at))
             (λ off. absurd (true≢false (sym over_is ∙ off)))
-            (stands c plp r.told (frames_in c r.given) m.ran.units s.sends.stands) s.sends);
-        status = status ∙ s.status;
-        counts = record {
-          frames_is = s.counts.frames_is;
-          muted_is = s.counts.muted_is;
-          unsent_is = s.counts.unsent_is;
-          few = s.counts.few;
-          early = s.counts.early;
-          joined = s.counts.joined;
-          units = subst (λ (p : Phase). m.ran.units + 1 + more_units p q m.«record» ≤ next_in p m.number * frame_bytes + 184) (sym e)
-              (let u = subst (λ (p : Phase). m.ran.units + more_units p m.swapper m.«record» ≤ next_in p m.number * frame_bytes + 184) e
-              s.counts.units in omega (arith, u, less));
-        };
+            (stands c plp r.told frames m.ran.units sends.stands) sends;
+        status = status ∙ status_is;
+        counted = s.counted;
+        bound = record { few = bound.few; early = bound.early; most = omega (arith, most, less) };
         live = live_on c plp _ _ r.told r.told r.given m.ran.units (m.ran.units + 1) zero.fed_is (λ _ cont. cont) (omega arith) s.live;
-        is_in = subst (IsIn c plp (record m { swapper = q; ran = record m.ran { units = m.ran.units + 1 } }) r (has_ended 1 more)) (sym e) (record {
+        is_in = record {
           all_fed = all_fed;
           done = λ input cont. let d = i.done input cont in omega (arith, d);
-          behind = record { none = i.behind.none; some = i.behind.some; next = i.behind.next; few = i.behind.few };
+          behind = i.behind;
           whole = i.whole;
           over = i.over;
-        });
-      }
+        };
+      })
 
   pub shown_done : (q : Swapper) (more : List Event) → m.phase ≡ phase.Rests → Same 0 events more → Same 1 events more
       → gave more ≡ gave events
-      → ((c : Config) (plp : ℕ) (t : Told) (frames : List NumberedView) (given : ℕ) → SwapperStandsFor m.swapper c plp t frames given
+      → ((c : Config) (plp : ℕ) (t : Told) (frames : List NumberedView) (given : ℕ) → SwapperStandsFor m.swapper c plp t [] frames given
       → (input : List (List ℕ)) → Continues t input → length (pipe c.pid (remade_packets c (swapped c plp input frames))) ≡ given)
-      → ((c : Config) (plp : ℕ) (t : Told) (frames : List NumberedView) (given : ℕ) → SwapperStandsFor m.swapper c plp t frames given
-      → SwapperStandsFor q c plp t frames given)
+      → ((c : Config) (plp : ℕ) (t : Told) (frames : List NumberedView) (given : ℕ) → SwapperStandsFor m.swapper c plp t [] frames given
+      → SwapperStandsFor q c plp t [] frames given)
       → status_of q ≡ status_of m.swapper
       → Shown c plp more (record m { swapper = q; phase = phase.Done })
   shown_done q more e zero one gave_is all stands status =
       let i = in_rests c plp events m s e in
-      let given = s.counts.few in
-      let rests_next : next_in m.phase m.number ≡ m.number = ap (λ (x : Phase). next_in x m.number) e in
+      let sends = sends_in c plp events m s phase.Rests e in
       record {
-        config = s.config;
-        plan = s.plan;
-        ids = s.ids;
-        place = s.place;
+        base = s.base;
         read = r;
-        of_feed = feed_same c m.feed _ _ _ _ r.given zero.fed_is zero.ended_is s.of_feed;
+        of_feed = feed_same false c m.feed _ _ _ _ r.given zero.fed_is zero.ended_is (of_in c plp events m s phase.Rests e);
         of_input = reads_same _ _ _ _ r.told r.rest r.tail m.taken m.ended one.fed_is one.ended_is s.of_input;
-        at = s.at;
+        frame = s.frame;
         had = s.had;
-        sends = sends_same c plp q r.told (frames_in c r.given) m.ran.units (gave events) (gave more) gave_is
-            (sends_told c plp m.swapper q r.told r.told (frames_in c r.given) m.ran.units (gave events) (λ input cont. cont)
-            (ap (λ (y : Status). y.finished) status) (stands c plp r.told (frames_in c r.given) m.ran.units s.sends.stands) s.sends);
-        status = status ∙ s.status ∙ ap (status_in c plp m.number) e;
-        counts = record {
-          frames_is = s.counts.frames_is;
-          muted_is = s.counts.muted_is;
-          unsent_is = s.counts.unsent_is;
-          few = omega (arith, given, rests_next);
-          early = s.counts.early;
-          joined = s.counts.joined;
-          units = (let u = subst (λ (x : Phase). m.ran.units + more_units x m.swapper m.«record» ≤ next_in x m.number * frame_bytes + 184) e
-              s.counts.units in omega (arith, u));
-        };
+        sends = sends_told c plp m.swapper q r.told r.told [] [] frames m.ran.units (gave events) (gave more) gave_is (λ input cont. cont)
+            (ap (λ (y : Status). y.finished) status) (stands c plp r.told frames m.ran.units sends.stands) sends;
+        status = status ∙ status_at c plp events m s phase.Rests e;
+        counted = s.counted;
+        bound = bound_as m.number m.number m.ran.units _ 0 r.given (omega arith) (bound_at c plp events m s phase.Rests e);
         live = live_on c plp _ _ r.told r.told r.given m.ran.units m.ran.units zero.fed_is (λ _ cont. cont) (omega arith) s.live;
         is_in = record {
-          all = λ input cont. all c plp r.told (frames_in c r.given) m.ran.units s.sends.stands input cont;
-          behind = record { none = i.behind.none; some = i.behind.some; next = i.behind.next; few = i.behind.few };
+          all = λ input cont. all c plp r.told frames m.ran.units sends.stands input cont;
+          behind = i.behind;
           whole = i.whole;
           over = i.over;
         };

@@ -4,12 +4,12 @@ use Rattle.plp_config.specs.declared.config.Config.{Config}
 use Rattle.frame_groups.specs.Laws.{IsPrefix}
 use Rattle.frame_groups.specs.Modulated.{FrameRecord}
 use Rattle.modulator.specs.StandsFor.{records_due}
-use Rattle.frame_feed.specs.declared.feed.FrameFeed.{FrameFeed}
+use Rattle.held_feed.specs.declared.feed.FrameFeed.{FrameFeed}
 use Rattle.gateway_core.specs.InputSoFar.{Told, Continues}
-use Rattle.swap_run.specs.Fed.{IsFedWith}
+use Rattle.two_feeds.specs.Fed.{IsFedWith}
 use Rattle.region_swap.specs.declared.swapper.Swapper.{Swapper}
 use Rattle.swap_run.specs.Shown.{HasCaughtUp, IsLive}
-use Rattle.swap_run.specs.SwapRun.{frames_in}
+use Rattle.region_swap.specs.Swapped.{frames_in}
 
 -- all complete units were given
 pub live_caught : (c : Config) (plp : ℕ) (f : FrameFeed) (bytes : List ℕ) (ended : Bool) (given : List FrameRecord) (s : Swapper) (t : Told)

@@ -1,38 +1,39 @@
 -- What is left to give, how far an input may be read, and what is known of a machine that came.
-use Rattle.std.proofs.Common.{◌≡◌, ◌≢◌, ℕ, ◌+◌, ◌-◌, ◌*◌, ◌<◌, ◌≤◌, Bool, true, false, List, [], ◌∷◌, ◌++◌, length, Option, Some, None}
+use Rattle.std.proofs.Common.{◌≡◌, ◌≢◌, ℕ, ◌+◌, ◌-◌, ◌*◌, ◌/◌, ◌<◌, ◌≤◌, Bool, true, false, List, [], ◌∷◌, ◌++◌, length, take, Option, Some, None}
 use Rattle.std.proofs.Common.{refl, ap, sym, subst, ◌∙◌, arith, length-append, append-nil}
 use Rattle.plp_config.specs.Laws.{CountRises, SlotLength}
 use Rattle.plp_config.specs.SlotTime.{slots_by}
 use Rattle.plp_config.specs.declared.config.Config.{Config}
 use Rattle.plp_config.specs.declared.moment.TheConstants.{MOST_FRAMES}
-use Rattle.std.specs.Prelude.{IsSome, is_some, ◌==◌}
+use Rattle.std.specs.Prelude.{IsSome, is_some, not, ◌==◌}
 use Rattle.std.proofs.lemmas.Bool.{true≢false}
+use Rattle.std.proofs.lemmas.List.{length-take-le}
+use Rattle.ts_packet.specs.declared.sizes.TheConstants.{SIZE}
 use Rattle.frame_groups.specs.declared.cause.MuteCause.{MuteCause}
 use Rattle.frame_groups.specs.declared.waiting.Waiting.{Waiting}
-use Rattle.file_run.specs.Events.{Event, Fed, Ended, Gave, fed, has_ended, gave}
+use Rattle.file_run.specs.Events.{Event, Fed, Ended, Gave, gave}
 use Rattle.file_run.specs.Laws.{EventsTell}
-use Rattle.frame_feed.specs.StandsFor.{fed_of}
-use Rattle.frame_feed.specs.declared.feed.FrameFeed.{FrameFeed}
-use Rattle.frame_groups.specs.Modulated.{FrameRecord}
-use Rattle.swap_run.specs.Fed.{IsFedWith}
-use Rattle.frame_feed.specs.StandsFor as feed
+use Rattle.held_feed.specs.StandsFor.{fed_of, is_whole}
+use Rattle.held_feed.specs.StandsFor as feed
 use Rattle.two_feeds.proofs.CameLemmas.{test_of, most_of, less_of, number_of, nothing_of}
 use Rattle.terms.proofs.CaseLemmas.{bool_cases}
 use Rattle.terms.proofs.OptionLemmas.{some_injective, none_some}
 use Rattle.two_feeds.specs.Reading.{is_idle}
-use Rattle.region_swap.specs.StandsFor.{Status, status_of, frame_of, has_unit, is_fed}
+use Rattle.pool_frame.specs.Left.{CanBeSent}
+use Rattle.pool_frame.specs.declared.frame.PoolFrame.{PoolFrame}
+use Rattle.region_swap.specs.Swapped.{frames_in}
+use Rattle.region_swap.specs.StandsFor.{GivesUnits, Status, status_of, frame_of, has_unit, is_fed}
 use Rattle.region_swap.specs.declared.swapper.Swapper.{Swapper}
-use Rattle.swap_run.specs.SwapRun.{frames_in}
-use Rattle.swap_run.proofs.PacketLemmas.{reads_same}
-use Rattle.swap_run.specs.Shown.{IsIn, Shown, HasShown, next_in}
+use Rattle.swap_run.specs.Shown.{Sends, IsIn, Shown, HasShown, begun_in, left_at, next_in, status_in}
 use Rattle.swap_run.specs.Steps.{left_in, left_of, wanted_in, reach_of, input_reach, drained}
 use Rattle.swap_run.specs.declared.phase.Phase.{Phase}
 use Rattle.swap_run.specs.declared.phase.Phase.TheVariants as phase
 use Rattle.swap_run.specs.declared.stop.SwapStop.TheVariants.{InputRefused}
 use Rattle.swap_run.specs.declared.swapping.Swapping.{Swapping}
 use Rattle.swap_run.proofs.GoLemmas.{slots_rise}
-use Rattle.swap_run.proofs.ShownLemmas.{Same, feed_same, sends_same, status_in, in_packets, in_units, in_drains, in_rests}
 use Rattle.swap_run.proofs.LiveLemmas.{live_on}
+use Rattle.swap_run.proofs.PacketLemmas.{reads_same}
+use Rattle.swap_run.proofs.ShownLemmas.{Same, feed_same, feed_network, in_packets, in_units, in_drains, in_rests}
 
 -- ---- events
 
@@ -82,7 +83,7 @@ reach_on m n f s d = reach_by m n f (omega (arith, s, d))
 pub slots_is : (c : Config) (plp : ℕ) (events : List Event) (m : Swapping) → Shown c plp events m → (frame : ℕ)
     → slots_before m frame ≡ slots_by c plp (frame * c.ticks)
 slots_is c plp events m s frame =
-    ap (λ (k : Config). slots_by k (status_of m.swapper).plp (frame * k.ticks)) s.config
+    ap (λ (k : Config). slots_by k (status_of m.swapper).plp (frame * k.ticks)) s.base.config
     ∙ ap (λ (p : ℕ). slots_by c p (frame * c.ticks)) (ap (λ (x : Status). x.plp) s.status)
 
 -- a bad packet was met
@@ -117,9 +118,9 @@ slots_next rises slot m q a b came le e = most_of _ _ came (λ (h : HasShown m).
         let plp : (status_of m.swapper).plp ≡ h.plp = ap (λ (x : Status). x.plp) s.status in
         let here = ap (λ (p : ℕ). slots_by c p (a * c.ticks)) plp in
         let there = ap (λ (p : ℕ). slots_by c p (b * c.ticks)) (e ∙ plp) in
-        let up = slots_rise rises slot c h.plp a b s.plan s.place le in
+        let up = slots_rise rises slot c h.plp a b s.base.rules s.base.place le in
         subst (λ (k : Config). slots_by k (status_of m.swapper).plp (a * k.ticks) ≤ slots_by k (status_of q).plp (b * k.ticks))
-        (sym s.config) (omega (arith, up, here, there))
+        (sym s.base.config) (omega (arith, up, here, there))
 
 -- behind a frame its own packets are those that were wanted last
 pub slots_behind : (m : Swapping) (q : Swapper) (p : Phase) → m.phase ≡ p → wanted_in p m.number ≡ m.number
@@ -133,13 +134,13 @@ slots_behind m q p e here plp =
 
 -- ---- what is left to give
 
-pub left_at : (m : Swapping) (p : Phase) → m.phase ≡ p → left_of m ≡ left_in p (feed.left_of m.feed) m.number m.swapper m.«record»
-left_at m p e = ap (λ (x : Phase). left_in x (feed.left_of m.feed) m.number m.swapper m.«record») e
+pub left_by : (m : Swapping) (p : Phase) → m.phase ≡ p → left_of m ≡ left_in p (feed.left_of m.feed) m.number m.swapper m.feed
+left_by m p e = ap (λ (x : Phase). left_in x (feed.left_of m.feed) m.number m.swapper m.feed) e
 
 -- ---- what is known of a machine that came
 
 pub number_most : (m : Swapping) → ∥ HasShown m ∥₁ → m.number ≤ MOST_FRAMES
-number_most m came = most_of _ _ came (λ (h : HasShown m). h.shown.counts.early)
+number_most m came = most_of _ _ came (λ (h : HasShown m). h.shown.bound.early)
 
 pub few_counted : (m : Swapping) → ∥ HasShown m ∥₁ → m.ran.muted + m.ran.frames ≤ MOST_FRAMES + 1
 few_counted m came = most_of _ _ came (λ (h : HasShown m). go h)
@@ -155,10 +156,9 @@ few_counted m came = most_of _ _ came (λ (h : HasShown m). go h)
 
     go : HasShown m → m.ran.muted + m.ran.frames ≤ MOST_FRAMES + 1
     go h =
-        let k = h.shown.counts in
-        let a = k.muted_is in
-        let b = k.few in
-        let d = k.early in
+        let a = h.shown.counted.muted_is in
+        let b = h.shown.bound.few in
+        let d = h.shown.bound.early in
         let e = most_next m.phase in
         omega (arith, a, b, d, e)
 
@@ -168,12 +168,24 @@ few_unsent m came = most_of _ _ came (λ (h : HasShown m). go h)
     go : HasShown m → m.ran.unsent ≤ m.taken
     go h =
         let s = h.shown in
-        let a = s.counts.unsent_is in
+        let a = s.counted.unsent_is in
         let b = s.of_input.count in
         let d = length-append s.read.told.packets s.read.rest in
         omega (arith, a, b, d)
 
 module _ (m : Swapping) (came : ∥ HasShown m ∥₁) where
+  -- a frame of the feed is one of the network of the swapper
+  pub sent_in : (f : PoolFrame) → CanBeSent (feed.config_of m.feed) f → CanBeSent (status_of m.swapper).network f
+  sent_in f can = record {
+    pre = can.pre;
+    conf = can.conf;
+    dynamic = can.dynamic;
+    plps = number_of _ _ came (λ (h : HasShown m).
+        can.plps ∙ ap (λ (k : Config). length k.plps) (feed_network h.network h.plp h.events m h.shown
+        ∙ sym (ap (λ (x : Status). x.network) h.shown.status)));
+    short = can.short;
+  }
+
   pub packets_idle : m.phase ≡ phase.Packets → has_unit m.swapper ≡ false
   packets_idle e = test_of _ _ came (λ (h : HasShown m). (in_packets h.network h.plp h.events m h.shown e).caught.idle)
 
@@ -215,6 +227,23 @@ module _ (m : Swapping) (came : ∥ HasShown m ∥₁) where
   pub units_begun : m.phase ≡ phase.Units → (status_of m.swapper).begun ≡ true
   units_begun e = test_of _ _ came (λ (h : HasShown m).
       ap (λ (x : Status). x.begun) (h.shown.status ∙ ap (status_in h.network h.plp m.number) e))
+
+  -- the record that waits is that of the frame under way
+  pub units_whole : m.phase ≡ phase.Units → is_whole (feed.waiting_of m.feed) ≡ true
+  units_whole e = test_of _ _ came (λ (h : HasShown m).
+      let i = in_units h.network h.plp h.events m h.shown e in
+      ap is_whole i.waits ∙ ap (λ (o : Option MuteCause). not (is_some o)) i.whole)
+
+  pub units_waits : m.phase ≡ phase.Units → IsSome (feed.waiting_of m.feed)
+  units_waits e = test_of _ _ came (λ (h : HasShown m). ap is_some (in_units h.network h.plp h.events m h.shown e).waits)
+
+  pub units_at : m.phase ≡ phase.Units → (w : Waiting) → feed.waiting_of m.feed ≡ Some w → w.frame < MOST_FRAMES
+  units_at e w waits = less_of _ _ came (λ (h : HasShown m).
+      let i = in_units h.network h.plp h.events m h.shown e in
+      let same : w.frame ≡ i.waiting.frame = ap (λ (x : Waiting). x.frame) (some_injective w i.waiting (sym waits ∙ i.waits)) in
+      let here = i.here in
+      let early = i.early in
+      omega (arith, same, here, early))
 
   pub units_early : m.phase ≡ phase.Units → m.number < MOST_FRAMES
   units_early e = less_of _ _ came (λ (h : HasShown m). (in_units h.network h.plp h.events m h.shown e).early)
@@ -264,48 +293,29 @@ shown_still tell c plp m events s =
     let one = gave_same tell 1 [] events in
     let r = s.read in
     record {
-      config = s.config;
-      plan = s.plan;
-      ids = s.ids;
-      place = s.place;
+      base = s.base;
       read = r;
-      of_feed = feed_same c m.feed _ _ _ _ r.given zero.fed_is zero.ended_is s.of_feed;
+      of_feed = feed_same (begun_in m.phase) c m.feed _ _ _ _ r.given zero.fed_is zero.ended_is s.of_feed;
       of_input = reads_same _ _ _ _ r.told r.rest r.tail m.taken m.ended one.fed_is one.ended_is s.of_input;
-      at = s.at;
+      frame = s.frame;
       had = s.had;
-      sends = sends_same c plp m.swapper r.told (frames_in c r.given) m.ran.units (gave events) (gave (events ++ Gave [] ∷ []))
-          ((tell.given [] events).gave ∙ append-nil (gave events)) s.sends;
+      sends = subst (Sends c plp m.swapper r.told (left_at m.phase m.swapper m.feed) (frames_in c r.given) m.ran.units)
+          (sym ((tell.given [] events).gave ∙ append-nil (gave events))) s.sends;
       status = s.status;
-      counts = s.counts;
+      counted = s.counted;
+      bound = s.bound;
       live = live_on c plp _ _ r.told r.told r.given m.ran.units m.ran.units zero.fed_is (λ _ cont. cont) (omega arith) s.live;
       is_in = subst (λ (b : Bool). IsIn c plp m r b m.phase) (sym one.ended_is) s.is_in;
     }
 
--- ---- the T2-MI stream came, or its end
+-- the bytes of units tell how many there are
+pub counted_units : (old new : Swapper) (frame : PoolFrame) (full : Bool) (len : ℕ) (out : List ℕ) → len ≤ length out
+    → (g : GivesUnits old new frame full (take len out)) → len / SIZE ≡ length g.units
+counted_units old new frame full len out few g =
+    let e = length-take-le len out few in
+    let s = g.size in
+    omega (arith, e, s)
 
-pub feed_more : EventsTell → (c : Config) (f g : FrameFeed) (events : List Event) (piece : List ℕ) (given : List FrameRecord)
-    → feed.has_ended f ≡ false → feed.config_of g ≡ feed.config_of f
-    → ((bytes : List ℕ) (given : List FrameRecord) → feed.FrameFeedStandsFor f bytes false given
-    → feed.FrameFeedStandsFor g (bytes ++ piece) false given)
-    → IsFedWith c f (fed 0 events) (has_ended 0 events) given
-    → IsFedWith c g (fed 0 (events ++ Fed 0 piece ∷ [])) (has_ended 0 (events ++ Fed 0 piece ∷ [])) given
-feed_more tell c f g events piece given going config stands h =
-    let t = tell.fed 0 piece events in
-    let off : has_ended 0 events ≡ false = sym h.stands.end ∙ going in
-    let was = subst (λ (e : Bool). feed.FrameFeedStandsFor f (fed 0 events) e given) off h.stands in
-    subst (λ (e : Bool). IsFedWith c g (fed 0 (events ++ Fed 0 piece ∷ [])) e given) (sym (t.ended 0 ∙ off))
-    (subst (λ (l : List ℕ). IsFedWith c g l false given) (sym t.here)
-    (record { network = config ∙ h.network; stands = stands (fed 0 events) given was }))
-
-pub feed_over : EventsTell → (c : Config) (f g : FrameFeed) (events : List Event) (bytes : List ℕ) (given : List FrameRecord)
-    → length bytes ≡ 0 → feed.has_ended f ≡ false → feed.config_of g ≡ feed.config_of f
-    → ((bytes : List ℕ) (given : List FrameRecord) → feed.FrameFeedStandsFor f bytes false given → feed.FrameFeedStandsFor g bytes true given)
-    → IsFedWith c f (fed 0 events) (has_ended 0 events) given
-    → IsFedWith c g (fed 0 (events ++ Ended 0 bytes ∷ [])) (has_ended 0 (events ++ Ended 0 bytes ∷ [])) given
-feed_over tell c f g events bytes given none going config stands h =
-    let t = tell.ended 0 bytes events in
-    let off : has_ended 0 events ≡ false = sym h.stands.end ∙ going in
-    let was = subst (λ (e : Bool). feed.FrameFeedStandsFor f (fed 0 events) e given) off h.stands in
-    subst (λ (e : Bool). IsFedWith c g (fed 0 (events ++ Ended 0 bytes ∷ [])) e given) (sym t.ended)
-    (subst (λ (l : List ℕ). IsFedWith c g l true given) (sym (t.here ∙ nothing_more (fed 0 events) bytes none))
-    (record { network = config ∙ h.network; stands = stands (fed 0 events) given was }))
+pub some_units : (units : List (List ℕ)) → units ≢ [] → 0 < length units
+some_units [] differ = absurd (differ refl)
+some_units (u ∷ units) differ = omega arith

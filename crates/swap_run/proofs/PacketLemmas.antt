@@ -9,7 +9,7 @@ use Rattle.ts_packet.specs.declared.sizes.TheConstants.{SIZE, SYNC}
 use Rattle.file_run.specs.FileRun.{IsFed}
 use Rattle.gateway_core.specs.InputSoFar.{Told, with_packet, at_end, Continues}
 use Rattle.gateway_run.specs.Holds.{ArePackets}
-use Rattle.gateway_run.proofs.FileLemmas.{packets_push, joined_length, IsRead, continues, taken_few, taken_all, none_bad}
+use Rattle.gateway_run.proofs.FileLemmas.{packets_push, IsRead, continues, taken_few, taken_all, none_bad}
 use Rattle.gateway_run.proofs.FileLemmas.{not_wanted, next_bad, NextIsBad, still_bad}
 use Rattle.swap_run.specs.Shown.{ReadsPackets}
 
@@ -165,8 +165,3 @@ module _ (file : List ℕ) (place : ℕ) (bytes : List ℕ) (ended : Bool) (fed 
       front_empty : (xs ys : List ℕ) → xs ++ ys ≡ [] → xs ≡ []
       front_empty [] ys e = refl
       front_empty (x ∷ xs) ys e = absurd (let n = ap length e in omega (arith, n))
-
-  -- how many bytes there were
-  pub bytes_taken : length bytes ≡ SIZE * length (t.packets ++ rest) + length tail
-  bytes_taken = ap length r.parts ∙ length-append (joined (t.packets ++ rest)) tail
-      ∙ ap (λ (n : ℕ). n + length tail) (joined_length (t.packets ++ rest) r.each)

@@ -1,16 +1,16 @@
 -- What a swapper sends, from call to call.
-use Rattle.std.proofs.Common.{◌≡◌, ℕ, ◌+◌, ◌<◌, true, false, List, [], ◌∷◌, ◌++◌, length, Some, refl, ap, sym, subst, ◌∙◌, arith}
+use Rattle.std.proofs.Common.{◌≡◌, ℕ, ◌≢◌, ◌+◌, ◌≤◌, true, false, List, [], ◌∷◌, ◌++◌, length, drop, refl, ap, sym, subst, ◌∙◌, arith}
 use Rattle.std.proofs.Common.{append-nil, append_assoc, length-append}
-use Rattle.std.specs.Prelude.{slice_get}
 use Rattle.std.proofs.lemmas.Bool.{true≢false}
 use Rattle.std.proofs.lemmas.Grind.{flat_map-append}
 use Rattle.std.proofs.lemmas.List.{map-append}
-use Rattle.terms.proofs.ListLemmas.{next_element, same_front, all_of}
-use Rattle.ts_packet.proofs.JoinedLemmas.{joined_push}
+use Rattle.terms.proofs.ListLemmas.{same_front, all_of}
+use Rattle.ts_packet.proofs.JoinedLemmas.{joined_append}
 use Rattle.plp_config.specs.declared.config.Config.{Config}
 use Rattle.ts_packet.specs.TsFile.{joined}
 use Rattle.frame_groups.specs.Laws.{IsPrefix}
 use Rattle.frame_groups.specs.Modulated.{FrameRecord}
+use Rattle.t2mi_packet.specs.declared.packet.Body.{Body}
 use Rattle.t2mi_stream.specs.Complete.{complete_units}
 use Rattle.t2mi_stream.specs.CompleteLaws.{CompleteLaw}
 use Rattle.t2mi_stream.specs.Pipe.{pipe}
@@ -19,10 +19,10 @@ use Rattle.formed_frames.specs.Remade.{NumberedView, remade_packets}
 use Rattle.gateway_core.specs.InputSoFar.{Told, Continues}
 use Rattle.merge_run.proofs.SendLemmas.{packets_more}
 use Rattle.region_swap.specs.StandsFor.{SwapperStandsFor, status_of, has_unit}
-use Rattle.region_swap.specs.Swapped.{swapped, swapped_frame}
+use Rattle.region_swap.specs.Swapped.{frame_in, frames_in, swapped, swapped_frame}
+use Rattle.region_swap.proofs.UnitsLemmas.{front_then}
 use Rattle.region_swap.specs.declared.swapper.Swapper.{Swapper}
 use Rattle.swap_run.specs.Shown.{Sends, HasCaughtUp}
-use Rattle.swap_run.specs.SwapRun.{frame_in, frames_in}
 
 -- ---- frames of records
 
@@ -43,13 +43,14 @@ more_packets c plp input frames more =
 
 -- ---- inputs that continue
 
-pub sends_told : (c : Config) (plp : ℕ) (s q : Swapper) (t u : Told) (frames : List NumberedView) (count : ℕ) (gave : List ℕ)
-    → ((input : List (List ℕ)) → Continues u input → Continues t input) → (status_of q).finished ≡ (status_of s).finished
-    → SwapperStandsFor q c plp u frames count → Sends c plp s t frames count gave → Sends c plp q u frames count gave
-sends_told c plp s q t u frames count gave back finished stands h = record {
+pub sends_told : (c : Config) (plp : ℕ) (s q : Swapper) (t u : Told) (left rest : List Body) (frames : List NumberedView) (count : ℕ)
+    (gave now : List ℕ) → now ≡ gave → ((input : List (List ℕ)) → Continues u input → Continues t input)
+    → (status_of q).finished ≡ (status_of s).finished → SwapperStandsFor q c plp u rest frames count
+    → Sends c plp s t left frames count gave → Sends c plp q u rest frames count now
+sends_told c plp s q t u left rest frames count gave now same back finished stands h = record {
   stands = stands;
   units = h.units;
-  gave_is = h.gave_is;
+  gave_is = same ∙ h.gave_is;
   count_is = h.count_is;
   front = λ input cont more over. h.front input (back input cont) more (λ on. over (finished ∙ on));
   whole = λ off input cont. h.whole (sym finished ∙ off) input (back input cont);
@@ -65,10 +66,10 @@ caught_told c plp s q t u frames count back unit h = record {
 
 -- ---- a frame is begun
 
-pub sends_begun : (c : Config) (plp : ℕ) (s q : Swapper) (t : Told) (frames : List NumberedView) (f : NumberedView) (count : ℕ)
-    (gave : List ℕ) → (status_of s).finished ≡ false → SwapperStandsFor q c plp t (frames ++ f ∷ []) count
-    → Sends c plp s t frames count gave → Sends c plp q t (frames ++ f ∷ []) count gave
-sends_begun c plp s q t frames f count gave going stands h = record {
+pub sends_begun : (c : Config) (plp : ℕ) (s q : Swapper) (t : Told) (left : List Body) (frames : List NumberedView) (f : NumberedView)
+    (count : ℕ) (gave : List ℕ) → (status_of s).finished ≡ false → SwapperStandsFor q c plp t left (frames ++ f ∷ []) count
+    → Sends c plp s t [] frames count gave → Sends c plp q t left (frames ++ f ∷ []) count gave
+sends_begun c plp s q t left frames f count gave going stands h = record {
   stands = stands;
   units = h.units;
   gave_is = h.gave_is;
@@ -89,45 +90,46 @@ sends_begun c plp s q t frames f count gave going stands h = record {
 
 -- ---- units
 
-pub sends_next : (c : Config) (plp : ℕ) (s q : Swapper) (t : Told) (frames : List NumberedView) (count : ℕ) (gave unit : List ℕ)
-    → (status_of q).finished ≡ (status_of s).finished
+pub sends_units : (c : Config) (plp : ℕ) (s q : Swapper) (t : Told) (left rest : List Body) (frames : List NumberedView) (count : ℕ)
+    (units : List (List ℕ)) (gave now : List ℕ) → now ≡ gave ++ joined units → (status_of q).finished ≡ (status_of s).finished
     → ((input : List (List ℕ)) → Continues t input → (more : List (List ℕ)) → ((status_of s).finished ≡ true → more ≡ [])
-    → slice_get (pipe c.pid (remade_packets c (swapped c plp input frames) ++ more)) count ≡ Some unit)
-    → ((status_of s).finished ≡ false → (input : List (List ℕ)) → Continues t input
-    → count < length (complete_units c.pid (remade_packets c (swapped c plp input frames))))
-    → SwapperStandsFor q c plp t frames (count + 1) → Sends c plp s t frames count gave
-    → Sends c plp q t frames (count + 1) (gave ++ unit)
-sends_next c plp s q t frames count gave unit finished next complete stands h = record {
+    → IsPrefix units (drop count (pipe c.pid (remade_packets c (swapped c plp input frames) ++ more))))
+    → ((status_of s).finished ≡ false → units ≢ [] → (input : List (List ℕ)) → Continues t input
+    → count + length units ≤ length (complete_units c.pid (remade_packets c (swapped c plp input frames))))
+    → SwapperStandsFor q c plp t rest frames (count + length units) → Sends c plp s t left frames count gave
+    → Sends c plp q t rest frames (count + length units) now
+sends_units c plp s q t left rest frames count units gave now is finished next complete stands h = record {
   stands = stands;
-  units = h.units ++ unit ∷ [];
-  gave_is = ap (λ (l : List ℕ). l ++ unit) h.gave_is ∙ sym (joined_push h.units unit);
-  count_is = (let e = h.count_is in omega (arith, e, length-append h.units (unit ∷ [])));
+  units = h.units ++ units;
+  gave_is = is ∙ ap (λ (l : List ℕ). l ++ joined units) h.gave_is ∙ sym (joined_append h.units units);
+  count_is = (let e = h.count_is in omega (arith, e, length-append h.units units));
   front = λ input cont more over.
-      let p = h.front input cont more (λ on. over (finished ∙ on)) in
-      let at : slice_get (h.units ++ p.0) (length h.units) ≡ Some unit =
-      ap (λ (l : List (List ℕ)). slice_get l (length h.units)) (sym p.1)
-      ∙ ap (slice_get (pipe c.pid (remade_packets c (swapped c plp input frames) ++ more))) (sym h.count_is)
-      ∙ next input cont more (λ on. over (finished ∙ on)) in
-      let r = next_element h.units p.0 unit at in
-      (r.0, p.1 ∙ ap (λ (l : List (List ℕ)). h.units ++ l) r.1 ∙ sym (append_assoc h.units (unit ∷ []) r.0));
-  whole = λ off input cont. let less = complete (sym finished ∙ off) input cont in omega (arith, less);
+      let going : (status_of s).finished ≡ true → more ≡ [] = λ on. over (finished ∙ on) in
+      front_then h.units units (pipe c.pid (remade_packets c (swapped c plp input frames) ++ more)) (h.front input cont more going)
+      (subst (λ (k : ℕ). IsPrefix units (drop k (pipe c.pid (remade_packets c (swapped c plp input frames) ++ more)))) h.count_is
+      (next input cont more going));
+  whole = λ off input cont. whole units (h.whole (sym finished ∙ off) input cont) (λ some. complete (sym finished ∙ off) some input cont);
 }
+  where
+    whole : {n : ℕ} (us : List (List ℕ)) → count ≤ n → (us ≢ [] → count + length us ≤ n) → count + length us ≤ n
+    whole [] few all = omega (arith, few)
+    whole (u ∷ us) few all = all (λ e. (let z = ap length e in absurd (omega (arith, z))))
 
 -- all complete units, as bytes
-pub gave_complete : CompleteLaw → (c : Config) (plp : ℕ) (s : Swapper) (t : Told) (frames : List NumberedView) (count : ℕ) (gave : List ℕ)
-    (input : List (List ℕ)) → Continues t input → (status_of s).finished ≡ false
-    → count ≡ length (complete_units c.pid (remade_packets c (swapped c plp input frames))) → Sends c plp s t frames count gave
+pub gave_complete : CompleteLaw → (c : Config) (plp : ℕ) (s : Swapper) (t : Told) (left : List Body) (frames : List NumberedView)
+    (count : ℕ) (gave : List ℕ) (input : List (List ℕ)) → Continues t input → (status_of s).finished ≡ false
+    → count ≡ length (complete_units c.pid (remade_packets c (swapped c plp input frames))) → Sends c plp s t left frames count gave
     → gave ≡ joined (complete_units c.pid (remade_packets c (swapped c plp input frames)))
-gave_complete law c plp s t frames count gave input cont going all h =
+gave_complete law c plp s t left frames count gave input cont going all h =
     let packets : List (List ℕ) = remade_packets c (swapped c plp input frames) in
     let p = h.front input cont [] (λ over. absurd (true≢false (sym over ∙ going))) in
     let l = law c.pid packets [] in
     h.gave_is ∙ ap joined (same_front h.units (complete_units c.pid packets) p.0 l.rest (sym p.1 ∙ l.units) (sym h.count_is ∙ all))
 
-pub gave_all : (c : Config) (plp : ℕ) (s : Swapper) (t : Told) (frames : List NumberedView) (count : ℕ) (gave : List ℕ)
+pub gave_all : (c : Config) (plp : ℕ) (s : Swapper) (t : Told) (left : List Body) (frames : List NumberedView) (count : ℕ) (gave : List ℕ)
     (input : List (List ℕ)) → Continues t input → length (pipe c.pid (remade_packets c (swapped c plp input frames))) ≡ count
-    → Sends c plp s t frames count gave → gave ≡ joined (pipe c.pid (remade_packets c (swapped c plp input frames)))
-gave_all c plp s t frames count gave input cont all h =
+    → Sends c plp s t left frames count gave → gave ≡ joined (pipe c.pid (remade_packets c (swapped c plp input frames)))
+gave_all c plp s t left frames count gave input cont all h =
     let packets : List (List ℕ) = remade_packets c (swapped c plp input frames) in
     let p = h.front input cont [] (λ _. refl) in
     let units : pipe c.pid packets ≡ h.units ++ p.0 = ap (pipe c.pid) (sym (append-nil packets)) ∙ p.1 in
@@ -135,10 +137,10 @@ gave_all c plp s t frames count gave input cont all h =
     h.gave_is ∙ ap joined (sym (units ∙ ap (λ (l : List (List ℕ)). h.units ++ l) none ∙ append-nil h.units))
 
 -- it is finished
-pub sends_over : (c : Config) (plp : ℕ) (s q : Swapper) (t : Told) (frames : List NumberedView) (count : ℕ) (gave : List ℕ)
-    → (status_of s).finished ≡ false → SwapperStandsFor q c plp t frames count → Sends c plp s t frames count gave
-    → Sends c plp q t frames count gave
-sends_over c plp s q t frames count gave going stands h = record {
+pub sends_over : (c : Config) (plp : ℕ) (s q : Swapper) (t : Told) (left : List Body) (frames : List NumberedView) (count : ℕ)
+    (gave : List ℕ) → (status_of s).finished ≡ false → SwapperStandsFor q c plp t left frames count
+    → Sends c plp s t left frames count gave → Sends c plp q t left frames count gave
+sends_over c plp s q t left frames count gave going stands h = record {
   stands = stands;
   units = h.units;
   gave_is = h.gave_is;

@@ -8,18 +8,22 @@ use Rattle.plp_config.specs.SlotTime.{slots_by}
 use Rattle.plp_config.specs.declared.config.Config.{Config}
 use Rattle.ts_packet.specs.TsFile.{begins_with_packet}
 use Rattle.ts_packet.specs.declared.sizes.TheConstants.{SIZE, SYNC}
+use Rattle.t2mi_packet.specs.declared.packet.Body.{Body}
 use Rattle.frame_groups.specs.Modulated.{FrameRecord}
 use Rattle.formed_frames.specs.Remade.{NumberedView}
 use Rattle.file_run.specs.Events.{Event, fed, has_ended, gave}
-use Rattle.frame_feed.specs.declared.feed.FrameFeed.{FrameFeed}
+use Rattle.held_feed.specs.StandsFor as feed
+use Rattle.held_feed.specs.declared.feed.FrameFeed.{FrameFeed}
 use Rattle.gateway_core.specs.InputSoFar.{Told, with_packet, at_end, Continues}
-use Rattle.swap_run.specs.Fed.{IsFedWith}
+use Rattle.two_feeds.specs.Fed.{IsFedWith}
+use Rattle.merge_run.specs.Shown.{OfFeed}
+use Rattle.merge_run.proofs.HeldLemmas.{network_of, end_of, count_of}
 use Rattle.region_swap.specs.StandsFor.{SwapperStandsFor, Status, status_of, wants_of, wants_by, has_unit}
+use Rattle.region_swap.specs.Swapped.{frames_in}
 use Rattle.region_swap.specs.declared.swapper.Swapper.{Swapper}
 use Rattle.region_swap.proofs.SwapLemmas.{wants_told}
 use Rattle.swap_run.specs.Shown.{ReadsPackets, Sends, HasCaughtUp, Read, InRecords, InPackets, InUnits, InDrains, InRests}
-use Rattle.swap_run.specs.Shown.{IsBehindAll, IsWanted, IsIn, Shown, more_units, begun_in, finished_in, next_in, frame_bytes}
-use Rattle.swap_run.specs.SwapRun.{frames_in}
+use Rattle.swap_run.specs.Shown.{IsBehindAll, IsWanted, IsIn, ShownAt, Shown, IsBound, begun_in, next_in, left_at, more_units, status_in}
 use Rattle.swap_run.specs.declared.phase.Phase.{Phase}
 use Rattle.swap_run.specs.declared.phase.Phase.TheVariants as phase
 use Rattle.swap_run.specs.declared.stop.SwapStop.TheVariants.{InputRefused}
@@ -30,14 +34,10 @@ use Rattle.swap_run.proofs.LiveLemmas.{live_caught, live_on}
 
 -- ---- by one event more
 
-pub feed_same : (c : Config) (f : FrameFeed) (bytes now : List ℕ) (ended is : Bool) (given : List FrameRecord) → now ≡ bytes
-    → is ≡ ended → IsFedWith c f bytes ended given → IsFedWith c f now is given
-feed_same c f bytes now ended is given e d h =
-    subst (λ (x : Bool). IsFedWith c f now x given) (sym d) (subst (λ (l : List ℕ). IsFedWith c f l ended given) (sym e) h)
-
-pub sends_same : (c : Config) (plp : ℕ) (s : Swapper) (t : Told) (frames : List NumberedView) (count : ℕ) (was is : List ℕ) → is ≡ was
-    → Sends c plp s t frames count was → Sends c plp s t frames count is
-sends_same c plp s t frames count was is e h = subst (Sends c plp s t frames count) (sym e) h
+pub feed_same : (held : Bool) (c : Config) (f : FrameFeed) (bytes now : List ℕ) (ended is : Bool) (given : List FrameRecord) → now ≡ bytes
+    → is ≡ ended → OfFeed held c f bytes ended given → OfFeed held c f now is given
+feed_same held c f bytes now ended is given e d h =
+    subst (λ (x : Bool). OfFeed held c f now x given) (sym d) (subst (λ (l : List ℕ). OfFeed held c f l ended given) (sym e) h)
 
 -- The inputs have these bytes, and so much was given, as before but for an input.
 pub record Same (input : ℕ) (events more : List Event) : Type 0 where
@@ -57,49 +57,71 @@ pub none_wanted : (ended : Bool) (slots len : ℕ) → cond ended 0 (slots - len
 none_wanted true slots len e off = absurd (true≢false off)
 none_wanted false slots len e off = omega (arith, e)
 
--- what is seen of a swapper in a phase
-abbrev pub status_in : Config → ℕ → ℕ → Phase → Status
-status_in c plp number p = record { network = c; plp = plp; frame = number; begun = begun_in p; finished = finished_in p }
-
--- units are counted alike in a phase that tells nothing of the swapper
-pub units_packets : (m : Swapping) (q : Swapper) (n : ℕ) → m.phase ≡ phase.Packets
-    → m.ran.units + more_units m.phase m.swapper m.«record» ≤ n → m.ran.units + more_units m.phase q m.«record» ≤ n
-units_packets m q n e h =
-    subst (λ (p : Phase). m.ran.units + more_units p q m.«record» ≤ n) (sym e)
-    (subst (λ (p : Phase). m.ran.units + more_units p m.swapper m.«record» ≤ n) e h)
+-- the same of what is bound in a phase that tells nothing of units
+pub bound_as : (next number units more less : ℕ) (given : List FrameRecord) → less ≤ more → IsBound next number units more given
+    → IsBound next number units less given
+bound_as next number units more less given le b = let m = b.most in record { few = b.few; early = b.early; most = omega (arith, m, le) }
 
 module _ (c : Config) (plp : ℕ) (events : List Event) (m : Swapping) (s : Shown c plp events m) where
   abbrev pub r : Read
   r = s.read
 
+  -- of the T2-MI stream
+  pub feed_network : feed.config_of m.feed ≡ c
+  feed_network = network_of c m.feed (fed 0 events) (has_ended 0 events) r.given (begun_in m.phase) s.of_feed
+
+  pub feed_end : feed.has_ended m.feed ≡ has_ended 0 events
+  feed_end = end_of c m.feed (fed 0 events) (has_ended 0 events) r.given (begun_in m.phase) s.of_feed
+
+  pub feed_count : feed.fed_of m.feed ≡ length (fed 0 events)
+  feed_count = count_of c m.feed (fed 0 events) (has_ended 0 events) r.given (begun_in m.phase) s.of_feed
+
+  -- what is so in its phase
+  module _ (p : Phase) (e : m.phase ≡ p) where
+    pub of_in : OfFeed (begun_in p) c m.feed (fed 0 events) (has_ended 0 events) r.given
+    of_in = subst (λ (x : Phase). OfFeed (begun_in x) c m.feed (fed 0 events) (has_ended 0 events) r.given) e s.of_feed
+
+    pub sends_in : Sends c plp m.swapper r.told (left_at p m.swapper m.feed) (frames_in c r.given) m.ran.units (gave events)
+    sends_in = subst (λ (x : Phase). Sends c plp m.swapper r.told (left_at x m.swapper m.feed) (frames_in c r.given) m.ran.units (gave events)) e
+        s.sends
+
+    pub status_at : status_of m.swapper ≡ status_in c plp m.number p
+    status_at = s.status ∙ ap (status_in c plp m.number) e
+
+    pub bound_at : IsBound (next_in p m.number) m.number m.ran.units (more_units p m.swapper m.feed) r.given
+    bound_at = subst (λ (x : Phase). IsBound (next_in x m.number) m.number m.ran.units (more_units x m.swapper m.feed) r.given) e s.bound
+
+    pub is_at : IsIn c plp m r (has_ended 1 events) p
+    is_at = subst (IsIn c plp m r (has_ended 1 events)) e s.is_in
+
   pub in_records : m.phase ≡ phase.Records → InRecords c plp m r
-  in_records e = subst (IsIn c plp m r (has_ended 1 events)) e s.is_in
+  in_records e = is_at phase.Records e
 
   pub in_packets : m.phase ≡ phase.Packets → InPackets c plp m r
-  in_packets e = subst (IsIn c plp m r (has_ended 1 events)) e s.is_in
+  in_packets e = is_at phase.Packets e
 
   pub in_units : m.phase ≡ phase.Units → InUnits c plp m r
-  in_units e = subst (IsIn c plp m r (has_ended 1 events)) e s.is_in
+  in_units e = is_at phase.Units e
 
   pub in_drains : m.phase ≡ phase.Drains → InDrains c plp m r
-  in_drains e = subst (IsIn c plp m r (has_ended 1 events)) e s.is_in
+  in_drains e = is_at phase.Drains e
 
   pub in_rests : m.phase ≡ phase.Rests → InRests c plp m r
-  in_rests e = subst (IsIn c plp m r (has_ended 1 events)) e s.is_in
+  in_rests e = is_at phase.Rests e
 
   -- what is wanted
   pub wants_is : wants_of m.swapper ≡ wants_by c plp r.told
-  wants_is = wants_told m.swapper c plp r.told (frames_in c r.given) m.ran.units s.sends.stands
+  wants_is = wants_told m.swapper c plp r.told _ (frames_in c r.given) m.ran.units s.sends.stands
 
   pub has_wanted : 0 < wants_of m.swapper → HasWanted r.told.ended (slots_by c plp (m.number * c.ticks)) (length r.told.packets)
   has_wanted lt =
-      subst (λ (n : ℕ). HasWanted r.told.ended (slots_by c plp (n * c.ticks)) (length r.told.packets)) s.at
+      subst (λ (n : ℕ). HasWanted r.told.ended (slots_by c plp (n * c.ticks)) (length r.told.packets)) s.frame
       (wanted_more r.told.ended (slots_by c plp (r.told.frame * c.ticks)) (length r.told.packets)
       (let e = wants_is in omega (arith, lt, e)))
 
   pub all_there : wants_of m.swapper ≡ 0 → r.told.ended ≡ false → slots_by c plp (m.number * c.ticks) ≤ length r.told.packets
   all_there none off =
-      subst (λ (n : ℕ). slots_by c plp (n * c.ticks) ≤ length r.told.packets) s.at
+      subst (λ (n : ℕ). slots_by c plp (n * c.ticks) ≤ length r.told.packets) s.frame
       (none_wanted r.told.ended (slots_by c plp (r.told.frame * c.ticks)) (length r.told.packets) (sym wants_is ∙ none) off)
 
   -- ---- bytes of the T2-MI stream came, or its end
@@ -108,149 +130,103 @@ module _ (c : Config) (plp : ℕ) (events : List Event) (m : Swapping) (s : Show
       → IsFedWith c g (fed 0 more) (has_ended 0 more) r.given → Shown c plp more (record m { feed = g })
   shown_feed g more e one gave_is fed_is =
       let i = in_records e in
-      record {
-        config = s.config;
-        plan = s.plan;
-        ids = s.ids;
-        place = s.place;
+      subst (ShownAt c plp more (record m { feed = g })) (sym e) (record {
+        base = s.base;
         read = r;
         of_feed = fed_is;
         of_input = reads_same _ _ _ _ r.told r.rest r.tail m.taken m.ended one.fed_is one.ended_is s.of_input;
-        at = s.at;
+        frame = s.frame;
         had = s.had;
-        sends = sends_same c plp m.swapper r.told (frames_in c r.given) m.ran.units (gave events) (gave more) gave_is s.sends;
-        status = s.status;
-        counts = record {
-          frames_is = s.counts.frames_is;
-          muted_is = s.counts.muted_is;
-          unsent_is = s.counts.unsent_is;
-          few = s.counts.few;
-          early = s.counts.early;
-          joined = s.counts.joined;
-          units = s.counts.units;
-        };
+        sends = subst (Sends c plp m.swapper r.told [] (frames_in c r.given) m.ran.units) (sym gave_is) (sends_in phase.Records e);
+        status = status_at phase.Records e;
+        counted = s.counted;
+        bound = bound_at phase.Records e;
         live = live_caught c plp g (fed 0 more) (has_ended 0 more) r.given m.swapper r.told m.ran.units fed_is i.caught;
-        is_in = subst (IsIn c plp (record m { feed = g }) r (has_ended 1 more)) (sym e) (record {
-          caught = i.caught;
-          next = i.next;
-          few = i.few;
-          quiet = record { rest_is = i.quiet.rest_is; tail_is = i.quiet.tail_is; calm = i.quiet.calm; ends = i.quiet.ends };
-        });
-      }
+        is_in = record { caught = i.caught; next = i.next; few = i.few; quiet = i.quiet };
+      })
 
   -- ---- a packet was offered
 
   pub shown_offer : (q : Swapper) (p : List ℕ) (more : List Event) → m.phase ≡ phase.Packets → 0 < wants_of m.swapper → Same 0 events more
       → fed 1 more ≡ fed 1 events ++ p → has_ended 1 more ≡ has_ended 1 events → gave more ≡ gave events
       → length p ≡ SIZE → slice_index p 0 ≡ SYNC
-      → ((c : Config) (plp : ℕ) (t : Told) (frames : List NumberedView) (given : ℕ) → SwapperStandsFor m.swapper c plp t frames given
-      → SwapperStandsFor q c plp (with_packet t p) frames given)
+      → ((c : Config) (plp : ℕ) (t : Told) (left : List Body) (frames : List NumberedView) (given : ℕ)
+      → SwapperStandsFor m.swapper c plp t left frames given → SwapperStandsFor q c plp (with_packet t p) left frames given)
       → has_unit q ≡ has_unit m.swapper → status_of q ≡ status_of m.swapper
       → Shown c plp more (record m { swapper = q; taken = m.taken + 1 })
   shown_offer q p more e some zero here ended gave_is long sync stands unit status =
-      let i = in_packets e in
       let w = has_wanted some in
+      let i = in_packets e in
       let t : Told = with_packet r.told p in
       let back : (input : List (List ℕ)) → Continues t input → Continues r.told input = λ input cont. cont_packet r.told p input w.off cont in
       let longer = length-append r.told.packets (p ∷ []) in
       let less = w.less in
-      record {
-        config = s.config;
-        plan = s.plan;
-        ids = s.ids;
-        place = s.place;
+      subst (ShownAt c plp more (record m { swapper = q; taken = m.taken + 1 })) (sym e) (record {
+        base = s.base;
         read = record { given = r.given; told = t; rest = r.rest; tail = r.tail };
-        of_feed = feed_same c m.feed _ _ _ _ r.given zero.fed_is zero.ended_is s.of_feed;
+        of_feed = feed_same false c m.feed _ _ _ _ r.given zero.fed_is zero.ended_is (of_in phase.Packets e);
         of_input = reads_offer _ _ p _ _ r.told r.rest r.tail m.taken m.ended here ended i.quiet.rest_is i.quiet.tail_is w.off long sync s.of_input;
-        at = s.at;
+        frame = s.frame;
         had = λ off. let h = s.had w.off in omega (arith, h, longer);
-        sends = sends_same c plp q t (frames_in c r.given) m.ran.units (gave events) (gave more) gave_is
-            (sends_told c plp m.swapper q r.told t (frames_in c r.given) m.ran.units (gave events) back (ap (λ (x : Status). x.finished) status)
-            (stands c plp r.told (frames_in c r.given) m.ran.units s.sends.stands) s.sends);
-        status = status ∙ s.status;
-        counts = record {
-          frames_is = s.counts.frames_is;
-          muted_is = s.counts.muted_is;
-          unsent_is = s.counts.unsent_is;
-          few = s.counts.few;
-          early = s.counts.early;
-          joined = s.counts.joined;
-          units = units_packets m q _ e s.counts.units;
-        };
+        sends = sends_told c plp m.swapper q r.told t [] [] (frames_in c r.given) m.ran.units (gave events) (gave more) gave_is back
+            (ap (λ (x : Status). x.finished) status)
+            (stands c plp r.told [] (frames_in c r.given) m.ran.units (sends_in phase.Packets e).stands) (sends_in phase.Packets e);
+        status = status ∙ status_at phase.Packets e;
+        counted = s.counted;
+        bound = bound_at phase.Packets e;
         live = live_on c plp _ _ r.told t r.given m.ran.units m.ran.units zero.fed_is back (omega arith) s.live;
-        is_in = subst (IsIn c plp (record m { swapper = q; taken = m.taken + 1 }) (record { given = r.given; told = t; rest = r.rest; tail = r.tail })
-            (has_ended 1 more)) (sym e) (record {
-              caught = caught_told c plp m.swapper q r.told t (frames_in c r.given) m.ran.units back unit i.caught;
-              waiting = i.waiting;
-              waits = i.waits;
-              early = i.early;
-              behind = i.behind;
-              above = i.above;
-              few = omega (arith, less, longer);
-              quiet = record { rest_is = i.quiet.rest_is; tail_is = i.quiet.tail_is; calm = i.quiet.calm; ends = i.quiet.ends };
-            });
-      }
+        is_in = record {
+          caught = caught_told c plp m.swapper q r.told t (frames_in c r.given) m.ran.units back unit i.caught;
+          waiting = i.waiting;
+          waits = i.waits;
+          early = i.early;
+          behind = i.behind;
+          above = i.above;
+          few = omega (arith, less, longer);
+          quiet = i.quiet;
+        };
+      })
 
   -- ---- the input ended before the frame under way
 
   pub shown_end : (q : Swapper) (more : List Event) → m.phase ≡ phase.Packets → Same 0 events more → fed 1 more ≡ fed 1 events
       → has_ended 1 more ≡ true → gave more ≡ gave events
-      → ((c : Config) (plp : ℕ) (t : Told) (frames : List NumberedView) (given : ℕ) → SwapperStandsFor m.swapper c plp t frames given
-      → SwapperStandsFor q c plp (at_end t) frames given)
+      → ((c : Config) (plp : ℕ) (t : Told) (left : List Body) (frames : List NumberedView) (given : ℕ)
+      → SwapperStandsFor m.swapper c plp t left frames given → SwapperStandsFor q c plp (at_end t) left frames given)
       → has_unit q ≡ has_unit m.swapper → status_of q ≡ status_of m.swapper
       → Shown c plp more (record m { swapper = q; ended = true })
   shown_end q more e zero here ended gave_is stands unit status =
       let i = in_packets e in
       let t : Told = at_end r.told in
       let back : (input : List (List ℕ)) → Continues t input → Continues r.told input = λ input cont. cont_end r.told input cont in
-      record {
-        config = s.config;
-        plan = s.plan;
-        ids = s.ids;
-        place = s.place;
+      subst (ShownAt c plp more (record m { swapper = q; ended = true })) (sym e) (record {
+        base = s.base;
         read = record { given = r.given; told = t; rest = r.rest; tail = r.tail };
-        of_feed = feed_same c m.feed _ _ _ _ r.given zero.fed_is zero.ended_is s.of_feed;
+        of_feed = feed_same false c m.feed _ _ _ _ r.given zero.fed_is zero.ended_is (of_in phase.Packets e);
         of_input = subst (λ (x : Bool). ReadsPackets (fed 1 more) x t r.rest r.tail m.taken true) (sym ended)
             (reads_end _ _ _ r.told r.rest r.tail m.taken m.ended here i.quiet.rest_is i.quiet.tail_is s.of_input);
-        at = s.at;
+        frame = s.frame;
         had = λ off. absurd (true≢false off);
-        sends = sends_same c plp q t (frames_in c r.given) m.ran.units (gave events) (gave more) gave_is
-            (sends_told c plp m.swapper q r.told t (frames_in c r.given) m.ran.units (gave events) back (ap (λ (x : Status). x.finished) status)
-            (stands c plp r.told (frames_in c r.given) m.ran.units s.sends.stands) s.sends);
-        status = status ∙ s.status;
-        counts = record {
-          frames_is = s.counts.frames_is;
-          muted_is = s.counts.muted_is;
-          unsent_is = s.counts.unsent_is;
-          few = s.counts.few;
-          early = s.counts.early;
-          joined = s.counts.joined;
-          units = units_packets m q _ e s.counts.units;
-        };
+        sends = sends_told c plp m.swapper q r.told t [] [] (frames_in c r.given) m.ran.units (gave events) (gave more) gave_is back
+            (ap (λ (x : Status). x.finished) status)
+            (stands c plp r.told [] (frames_in c r.given) m.ran.units (sends_in phase.Packets e).stands) (sends_in phase.Packets e);
+        status = status ∙ status_at phase.Packets e;
+        counted = s.counted;
+        bound = bound_at phase.Packets e;
         live = live_on c plp _ _ r.told t r.given m.ran.units m.ran.units zero.fed_is back (omega arith) s.live;
-        is_in = subst (IsIn c plp (record m { swapper = q; ended = true }) (record { given = r.given; told = t; rest = r.rest; tail = r.tail })
-            (has_ended 1 more)) (sym e) (record {
-              caught = caught_told c plp m.swapper q r.told t (frames_in c r.given) m.ran.units back unit i.caught;
-              waiting = i.waiting;
-              waits = i.waits;
-              early = i.early;
-              behind = i.behind;
-              above = i.above;
-              few = i.few;
-              quiet = record { rest_is = i.quiet.rest_is; tail_is = i.quiet.tail_is; calm = i.quiet.calm; ends = refl };
-            });
-      }
+        is_in = record {
+          caught = caught_told c plp m.swapper q r.told t (frames_in c r.given) m.ran.units back unit i.caught;
+          waiting = i.waiting;
+          waits = i.waits;
+          early = i.early;
+          behind = i.behind;
+          above = i.above;
+          few = i.few;
+          quiet = record { rest_is = i.quiet.rest_is; tail_is = i.quiet.tail_is; calm = i.quiet.calm; ends = refl };
+        };
+      })
 
   -- ---- of the rest a packet was taken, or its end came
-
-  behind_same : (n : Swapping) (x : List (List ℕ)) (y : List ℕ) → n.feed ≡ m.feed → n.number ≡ m.number → IsBehindAll c plp m r
-      → IsBehindAll c plp n (record { given = r.given; told = r.told; rest = x; tail = y })
-  behind_same n x y f k b = record {
-    none = rw f b.none;
-    some = b.some;
-    next = k ∙ b.next;
-    few = b.few;
-  }
 
   pub shown_drain : (p : List ℕ) (more : List Event) → m.phase ≡ phase.Drains → m.ended ≡ false → Same 0 events more
       → fed 1 more ≡ fed 1 events ++ p → has_ended 1 more ≡ has_ended 1 events → gave more ≡ gave events
@@ -259,74 +235,58 @@ module _ (c : Config) (plp : ℕ) (events : List Event) (m : Swapping) (s : Show
   shown_drain p more e off zero here ended gave_is long sync =
       let i = in_drains e in
       let longer = length-append r.rest (p ∷ []) in
-      let unsent = s.counts.unsent_is in
+      let unsent = s.counted.unsent_is in
       let now : Swapping = record m { taken = m.taken + 1; ran = record m.ran { unsent = m.ran.unsent + 1 } } in
-      record {
-        config = s.config;
-        plan = s.plan;
-        ids = s.ids;
-        place = s.place;
+      subst (ShownAt c plp more now) (sym e) (record {
+        base = s.base;
         read = record { given = r.given; told = r.told; rest = r.rest ++ p ∷ []; tail = r.tail };
-        of_feed = feed_same c m.feed _ _ _ _ r.given zero.fed_is zero.ended_is s.of_feed;
+        of_feed = feed_same false c m.feed _ _ _ _ r.given zero.fed_is zero.ended_is (of_in phase.Drains e);
         of_input = reads_drain _ _ p _ _ r.told r.rest r.tail m.taken m.ended here ended i.whole off long sync s.of_input;
-        at = s.at;
+        frame = s.frame;
         had = s.had;
-        sends = sends_same c plp m.swapper r.told (frames_in c r.given) m.ran.units (gave events) (gave more) gave_is s.sends;
-        status = s.status;
-        counts = record {
-          frames_is = s.counts.frames_is;
-          muted_is = s.counts.muted_is;
+        sends = subst (Sends c plp m.swapper r.told [] (frames_in c r.given) m.ran.units) (sym gave_is) (sends_in phase.Drains e);
+        status = status_at phase.Drains e;
+        counted = record {
+          frames_is = s.counted.frames_is;
+          muted_is = s.counted.muted_is;
           unsent_is = omega (arith, unsent, longer);
-          few = s.counts.few;
-          early = s.counts.early;
-          joined = s.counts.joined;
-          units = s.counts.units;
+          joined_is = s.counted.joined_is;
         };
+        bound = bound_at phase.Drains e;
         live = live_on c plp _ _ r.told r.told r.given m.ran.units m.ran.units zero.fed_is (λ _ cont. cont) (omega arith) s.live;
-        is_in = subst (IsIn c plp now (record { given = r.given; told = r.told; rest = r.rest ++ p ∷ []; tail = r.tail })
-            (has_ended 1 more)) (sym e) (record {
-              caught = i.caught;
-              behind = behind_same now (r.rest ++ p ∷ []) r.tail refl refl i.behind;
-              whole = i.whole;
-              drains = i.drains;
-            });
-      }
+        is_in = record {
+          caught = i.caught;
+          behind = i.behind;
+          whole = i.whole;
+          drains = i.drains;
+        };
+      })
 
   pub shown_over : (more : List Event) → m.phase ≡ phase.Drains → m.ended ≡ false → Same 0 events more → fed 1 more ≡ fed 1 events
       → has_ended 1 more ≡ true → gave more ≡ gave events → Shown c plp more (record m { ended = true })
   shown_over more e off zero here ended gave_is =
       let i = in_drains e in
       let now : Swapping = record m { ended = true } in
-      record {
-        config = s.config;
-        plan = s.plan;
-        ids = s.ids;
-        place = s.place;
+      subst (ShownAt c plp more now) (sym e) (record {
+        base = s.base;
         read = r;
-        of_feed = feed_same c m.feed _ _ _ _ r.given zero.fed_is zero.ended_is s.of_feed;
+        of_feed = feed_same false c m.feed _ _ _ _ r.given zero.fed_is zero.ended_is (of_in phase.Drains e);
         of_input = subst (λ (x : Bool). ReadsPackets (fed 1 more) x r.told r.rest r.tail m.taken true) (sym ended)
             (reads_over _ _ _ r.told r.rest r.tail m.taken m.ended here i.whole off s.of_input);
-        at = s.at;
+        frame = s.frame;
         had = s.had;
-        sends = sends_same c plp m.swapper r.told (frames_in c r.given) m.ran.units (gave events) (gave more) gave_is s.sends;
-        status = s.status;
-        counts = record {
-          frames_is = s.counts.frames_is;
-          muted_is = s.counts.muted_is;
-          unsent_is = s.counts.unsent_is;
-          few = s.counts.few;
-          early = s.counts.early;
-          joined = s.counts.joined;
-          units = s.counts.units;
-        };
+        sends = subst (Sends c plp m.swapper r.told [] (frames_in c r.given) m.ran.units) (sym gave_is) (sends_in phase.Drains e);
+        status = status_at phase.Drains e;
+        counted = s.counted;
+        bound = bound_at phase.Drains e;
         live = live_on c plp _ _ r.told r.told r.given m.ran.units m.ran.units zero.fed_is (λ _ cont. cont) (omega arith) s.live;
-        is_in = subst (IsIn c plp now r (has_ended 1 more)) (sym e) (record {
+        is_in = record {
           caught = i.caught;
-          behind = behind_same now r.rest r.tail refl refl i.behind;
+          behind = i.behind;
           whole = i.whole;
           drains = i.drains;
-        });
-      }
+        };
+      })
 
   -- ---- a bad packet came
 
@@ -335,14 +295,16 @@ module _ (c : Config) (plp : ℕ) (events : List Event) (m : Swapping) (s : Show
     pub caught : HasCaughtUp c plp m.swapper r.told (frames_in c r.given) m.ran.units
     pub whole : r.tail ≡ []
     pub going : m.ended ≡ false
-    pub met : IsWanted c plp m r ⊎ IsBehindAll c plp m r
-    pub begun : next_in m.phase m.number ≡ m.number
-    pub status : status_of m.swapper ≡ record { network = c; plp = plp; frame = m.number; begun = false; finished = false }
+    pub met : IsWanted c plp m.feed m.number m.draining r.told.packets r.rest ⊎ IsBehindAll c plp m.feed m.number r.given r.told.packets
+    pub of_feed : IsFedWith c m.feed (fed 0 events) (has_ended 0 events) r.given
+    pub sends : Sends c plp m.swapper r.told [] (frames_in c r.given) m.ran.units (gave events)
+    pub status : status_of m.swapper ≡ status_in c plp m.number phase.Drains
+    pub bound : IsBound m.number m.number m.ran.units 184 r.given
 
   pub can_packets : m.phase ≡ phase.Packets → 0 < wants_of m.swapper → CanRefuse
   can_packets e some =
-      let i = in_packets e in
       let w = has_wanted some in
+      let i = in_packets e in
       record {
         caught = i.caught;
         whole = i.quiet.tail_is;
@@ -356,8 +318,10 @@ module _ (c : Config) (plp : ℕ) (events : List Event) (m : Swapping) (s : Show
           offered = i.quiet.rest_is;
           calm = i.quiet.calm;
         });
-        begun = ap (λ (p : Phase). next_in p m.number) e;
-        status = s.status ∙ ap (status_in c plp m.number) e;
+        of_feed = of_in phase.Packets e;
+        sends = sends_in phase.Packets e;
+        status = status_at phase.Packets e;
+        bound = bound_at phase.Packets e;
       }
 
   pub can_drains : m.phase ≡ phase.Drains → m.ended ≡ false → CanRefuse
@@ -368,8 +332,10 @@ module _ (c : Config) (plp : ℕ) (events : List Event) (m : Swapping) (s : Show
         whole = i.whole;
         going = going;
         met = inr i.behind;
-        begun = ap (λ (p : Phase). next_in p m.number) e;
-        status = s.status ∙ ap (status_in c plp m.number) e;
+        of_feed = of_in phase.Drains e;
+        sends = sends_in phase.Drains e;
+        status = status_at phase.Drains e;
+        bound = bound_at phase.Drains e;
       }
 
   pub shown_refuse : (p : List ℕ) (more : List Event) → CanRefuse → Same 0 events more → fed 1 more ≡ fed 1 events ++ p
@@ -377,31 +343,17 @@ module _ (c : Config) (plp : ℕ) (events : List Event) (m : Swapping) (s : Show
       → Shown c plp more (record m { phase = phase.Stopped (InputRefused m.taken) })
   shown_refuse p more can zero here gave_is some bad cut =
       let now : Swapping = record m { phase = phase.Stopped (InputRefused m.taken) } in
-      let read : Read = record { given = r.given; told = r.told; rest = r.rest; tail = p } in
-      let begun = can.begun in
-      let few = s.counts.few in
-      let units = s.counts.units in
       record {
-        config = s.config;
-        plan = s.plan;
-        ids = s.ids;
-        place = s.place;
-        read = read;
-        of_feed = feed_same c m.feed _ _ _ _ r.given zero.fed_is zero.ended_is s.of_feed;
+        base = s.base;
+        read = record { given = r.given; told = r.told; rest = r.rest; tail = p };
+        of_feed = feed_same false c m.feed _ _ _ _ r.given zero.fed_is zero.ended_is can.of_feed;
         of_input = reads_tail _ _ p _ _ r.told r.rest r.tail m.taken m.ended here can.whole some can.going s.of_input;
-        at = s.at;
+        frame = s.frame;
         had = s.had;
-        sends = sends_same c plp m.swapper r.told (frames_in c r.given) m.ran.units (gave events) (gave more) gave_is s.sends;
+        sends = subst (Sends c plp m.swapper r.told [] (frames_in c r.given) m.ran.units) (sym gave_is) can.sends;
         status = can.status;
-        counts = record {
-          frames_is = s.counts.frames_is;
-          muted_is = s.counts.muted_is;
-          unsent_is = s.counts.unsent_is;
-          few = omega (arith, few, begun);
-          early = s.counts.early;
-          joined = s.counts.joined;
-          units = few_units begun units;
-        };
+        counted = s.counted;
+        bound = bound_as m.number m.number m.ran.units 184 0 r.given (omega arith) can.bound;
         live = live_on c plp _ _ r.told r.told r.given m.ran.units m.ran.units zero.fed_is (λ _ cont. cont) (omega arith) s.live;
         is_in = record {
           caught = can.caught;
@@ -409,28 +361,6 @@ module _ (c : Config) (plp : ℕ) (events : List Event) (m : Swapping) (s : Show
           some = some;
           bad = bad;
           cut = cut;
-          met = still can.met;
+          met = can.met;
         };
       }
-    where
-      few_units : next_in m.phase m.number ≡ m.number
-          → m.ran.units + more_units m.phase m.swapper m.«record» ≤ next_in m.phase m.number * frame_bytes + 184
-          → m.ran.units + 0 ≤ m.number * frame_bytes + 184
-      few_units same h =
-          let x = subst (λ (n : ℕ). m.ran.units + more_units m.phase m.swapper m.«record» ≤ n * frame_bytes + 184) same h in
-          omega (arith, x)
-
-      still : IsWanted c plp m r ⊎ IsBehindAll c plp m r
-          → IsWanted c plp (record m { phase = phase.Stopped (InputRefused m.taken) }) (record { given = r.given; told = r.told; rest = r.rest; tail = p })
-          ⊎ IsBehindAll c plp (record m { phase = phase.Stopped (InputRefused m.taken) })
-          (record { given = r.given; told = r.told; rest = r.rest; tail = p })
-      still (inl w) = inl (record {
-        waiting = w.waiting;
-        waits = w.waits;
-        early = w.early;
-        behind = w.behind;
-        wanted = w.wanted;
-        offered = w.offered;
-        calm = w.calm;
-      })
-      still (inr b) = inr (record { none = b.none; some = b.some; next = b.next; few = b.few })

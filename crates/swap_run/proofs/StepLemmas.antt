@@ -6,7 +6,7 @@ use Rattle.ts_packet.specs.declared.sizes.TheConstants.{SIZE}
 use Rattle.file_run.specs.Steps.{Needs, Suffices, FallsShort}
 use Rattle.file_run.specs.declared.machine.Step.{Step}
 use Rattle.file_run.specs.declared.machine.Step.TheVariants.{Read, Give, End}
-use Rattle.frame_feed.specs.StandsFor.{waiting_of, has_ended}
+use Rattle.held_feed.specs.StandsFor.{waiting_of, has_ended}
 use Rattle.two_feeds.specs.Reading.{is_idle}
 use Rattle.two_feeds.proofs.StepLemmas.{idle_is}
 use Rattle.region_swap.specs.StandsFor.{wants_of}

@@ -14,14 +14,14 @@ use Rattle.desk_io.specs.Reading.{longest_file}
 use Rattle.file_run.specs.Events.{Event, fed}
 use Rattle.file_run.specs.Steps.{IsWanted, Suffices}
 use Rattle.file_run.specs.declared.machine.Step.TheVariants.{Read, Give}
-use Rattle.frame_feed.specs.StandsFor.{waiting_of, fed_of}
-use Rattle.frame_feed.specs.StandsFor as feed
+use Rattle.held_feed.specs.StandsFor.{waiting_of, fed_of}
+use Rattle.held_feed.specs.StandsFor as feed
 use Rattle.feed_merge.specs.Picks.{above_all}
 use Rattle.gateway_core.specs.InputSoFar.{Told}
 use Rattle.gateway_run.proofs.FileLemmas.{joined_length}
 use Rattle.two_feeds.specs.Reading.{is_idle}
 use Rattle.two_feeds.proofs.StepLemmas.{idle_is}
-use Rattle.region_swap.specs.StandsFor.{Status, status_of, wants_of}
+use Rattle.region_swap.specs.StandsFor.{wants_of}
 use Rattle.region_swap.specs.Swapped.{swapped}
 use Rattle.swap_run.specs.Shown as shown
 use Rattle.swap_run.specs.Shown.{ReadsPackets, Sends, Shown}
@@ -35,7 +35,7 @@ use Rattle.swap_run.specs.declared.phase.Phase.TheVariants as phase
 use Rattle.swap_run.specs.declared.swapping.Swapping.{Swapping}
 use Rattle.swap_run.proofs.GoLemmas.{slots_rise}
 use Rattle.swap_run.proofs.NextLemmas.{slots_in, slots_is}
-use Rattle.swap_run.proofs.ShownLemmas.{in_packets, in_drains, has_wanted, wants_is}
+use Rattle.swap_run.proofs.ShownLemmas.{feed_end, feed_count, in_packets, in_drains, has_wanted, wants_is}
 use Rattle.swap_run.proofs.StepLemmas.{enough_records, enough_one}
 
 pub taken_length : (bytes : List ℕ) (ended : Bool) (t : Told) (rest : List (List ℕ)) (tail : List ℕ) (taken : ℕ) (over : Bool)
@@ -55,11 +55,11 @@ module _ (rises : CountRises) (slot : SlotLength) (c : Config) (plp : ℕ) (even
   records : (b : Bool) → is_idle (waiting_of m.feed) (feed.has_ended m.feed) ≡ b → IsWanted 2 events (reach_of m) (record_step b)
   records true on = record {
     place = omega arith;
-    is_open = sym s.of_feed.stands.end ∙ (idle_is (waiting_of m.feed) (feed.has_ended m.feed) on).1;
+    is_open = sym (feed_end c plp events m s) ∙ (idle_is (waiting_of m.feed) (feed.has_ended m.feed) on).1;
     some = omega arith;
     few = omega arith;
     order = omega arith;
-    near = (let e = s.of_feed.stands.count in omega (arith, e));
+    near = (let e = feed_count c plp events m s in omega (arith, e));
   }
   records false off = tt
 
@@ -76,7 +76,7 @@ module _ (rises : CountRises) (slot : SlotLength) (c : Config) (plp : ℕ) (even
       let most : k ≤ wants_of m.swapper = min-le_left (wants_of m.swapper) most_packets in
       let wants : wants_of m.swapper ≡ slots_by c plp (m.number * c.ticks) - length s.read.told.packets =
       wants_is c plp events m s ∙ wants_open s.read.told.ended _ w.off
-      ∙ ap (λ (n : ℕ). slots_by c plp (n * c.ticks) - length s.read.told.packets) s.at in
+      ∙ ap (λ (n : ℕ). slots_by c plp (n * c.ticks) - length s.read.told.packets) s.frame in
       let less = w.less in
       let bytes = taken_length _ _ s.read.told s.read.rest s.read.tail m.taken m.ended s.of_input in
       let count = s.of_input.count in
@@ -100,11 +100,11 @@ module _ (rises : CountRises) (slot : SlotLength) (c : Config) (plp : ℕ) (even
       let bytes = taken_length _ _ s.read.told s.read.rest s.read.tail m.taken m.ended s.of_input in
       let count = s.of_input.count in
       let longer = length-append s.read.told.packets s.read.rest in
-      let unsent = s.counts.unsent_is in
+      let unsent = s.counted.unsent_is in
       let tail = ap length i.whole in
       let few = i.behind.few in
       let next = i.behind.next in
-      let up = slots_rise rises slot c plp (above_all s.read.given - 1) m.number s.plan s.place (omega (arith, next)) in
+      let up = slots_rise rises slot c plp (above_all s.read.given - 1) m.number s.base.rules s.base.place (omega (arith, next)) in
       let slots = slots_in m phase.Drains e ∙ slots_is c plp events m s m.number in
       let drains = ap (λ (b : Bool). drained b m.ran.unsent) i.drains in
       record {
@@ -135,7 +135,7 @@ pub room_of : (c : Config) (plp : ℕ) (events : List Event) (m : Swapping) (inp
 room_of c plp events m input count s wanted few e =
     let w = (enough_records m input count e wanted).0 in
     let l = subst (λ (k : ℕ). length (fed k events) + count ≤ longest_file) (sym w.at) few in
-    let n = s.of_feed.stands.count in
+    let n = feed_count c plp events m s in
     omega (arith, l, n)
 
 pub few_of : (c : Config) (plp : ℕ) (events : List Event) (m : Swapping) (input count : ℕ) → Shown c plp events m → Suffices (step_of m) input count
@@ -162,7 +162,8 @@ none_over none slot c plp lt =
 abbrev pub none_read : shown.Read
 none_read = record { given = []; told = none_told; rest = []; tail = [] }
 
-pub sends_opened : (c : Config) (plp : ℕ) (q : Swapper) → SwapperStandsFor q c plp none_told [] 0 → Sends c plp q none_told [] 0 []
+pub sends_opened : (c : Config) (plp : ℕ) (q : Swapper) → SwapperStandsFor q c plp none_told [] [] 0
+    → Sends c plp q none_told [] [] 0 []
 sends_opened c plp q stands = record {
   stands = stands;
   units = [];

@@ -1,12 +1,13 @@
 -- What a feed and a swapper do next. No public clause cites this module.
-use Rattle.std.specs.Prelude.{ℕ, ◌+◌, ◌-◌, ◌*◌, ◌^◌, ◌==◌, min, Bool, List, if◌then◌else◌}
+use Rattle.std.specs.Prelude.{ℕ, ◌+◌, ◌-◌, ◌*◌, ◌^◌, ◌==◌, min, Bool, if◌then◌else◌}
 use Rattle.plp_config.specs.SlotTime.{slots_by}
 use Rattle.plp_config.specs.declared.moment.TheConstants.{MOST_FRAMES}
 use Rattle.ts_packet.specs.declared.sizes.TheConstants.{SIZE}
 use Rattle.file_run.specs.declared.machine.Step.{Step}
 use Rattle.file_run.specs.declared.machine.Step.TheVariants.{Read, Give, End}
-use Rattle.frame_feed.specs.StandsFor.{waiting_of, has_ended, fed_of}
-use Rattle.frame_feed.specs.StandsFor as feed
+use Rattle.held_feed.specs.StandsFor.{waiting_of, has_ended, fed_of}
+use Rattle.held_feed.specs.StandsFor as feed
+use Rattle.held_feed.specs.declared.feed.FrameFeed.{FrameFeed}
 use Rattle.two_feeds.specs.Reading.{is_idle}
 use Rattle.region_swap.specs.StandsFor.{status_of, wants_of}
 use Rattle.region_swap.specs.declared.swapper.Swapper.{Swapper}
@@ -69,15 +70,14 @@ abbrev pub reach_of : Swapping → ℕ → ℕ
 reach_of m input = if input == 0 then fed_of m.feed + read_ahead else input_reach m
 
 -- It gives no more often before it wants bytes: so many records may come, and each has frames that are passed and a frame's units.
-abbrev pub left_in : Phase → ℕ → ℕ → Swapper → List ℕ → ℕ
-left_in Records records number s bytes = records * (2 * frame_bytes) + 2 * (MOST_FRAMES + 1 - number) + frame_bytes
-left_in Packets records number s bytes = records * (2 * frame_bytes) + 2 * (MOST_FRAMES + 1 - number) + (frame_bytes - 1)
-left_in Units records number s bytes =
-    records * (2 * frame_bytes) + 2 * (MOST_FRAMES + 1 - number) + frame_bytes + 1 + more_units Units s bytes
-left_in Drains records number s bytes = 500
-left_in Rests records number s bytes = 1 + more_units Rests s bytes
-left_in Done records number s bytes = 0
-left_in (Stopped why) records number s bytes = 0
+abbrev pub left_in : Phase → ℕ → ℕ → Swapper → FrameFeed → ℕ
+left_in Records records number s f = records * (2 * frame_bytes) + 2 * (MOST_FRAMES + 1 - number) + frame_bytes
+left_in Packets records number s f = records * (2 * frame_bytes) + 2 * (MOST_FRAMES + 1 - number) + (frame_bytes - 1)
+left_in Units records number s f = records * (2 * frame_bytes) + 2 * (MOST_FRAMES + 1 - number) + more_units Units s f
+left_in Drains records number s f = 500
+left_in Rests records number s f = 1 + more_units Rests s f
+left_in Done records number s f = 0
+left_in (Stopped why) records number s f = 0
 
 abbrev pub left_of : Swapping → ℕ
-left_of m = left_in m.phase (feed.left_of m.feed) m.number m.swapper m.«record»
+left_of m = left_in m.phase (feed.left_of m.feed) m.number m.swapper m.feed

@@ -1,10 +1,7 @@
--- What a run of the swapper over two files does, from the opening of its inputs on.
+-- What a run of the swapper does, by the bytes of its two files: the T2-MI stream is input 0, and the transport stream of the region
+-- input 1.
 use Rattle.std.specs.Prelude.{◌≡◌, ◌≢◌, ◌⊎◌, ℕ, zero, suc, ◌+◌, ◌-◌, ◌*◌, ◌<◌, ◌≤◌, false, List, [], ◌∷◌, ◌++◌, length}
-use Rattle.std.specs.Prelude.{map, take, slice_index, slice_index_or, IsSome, IfSome}
-use Rattle.std.specs.FinMap.{get}
-use Rattle.std.specs.List.{flat_map}
-use Rattle.gateway_run.specs.GatewayRun.{ReadsNoBad}
-use Rattle.ports.specs.Desk.{State, SameCounts, bytes_of}
+use Rattle.std.specs.Prelude.{take, slice_index, Ok, Err}
 use Rattle.plp_config.specs.SlotTime.{slots_by}
 use Rattle.plp_config.specs.declared.config.Config.{Config}
 use Rattle.plp_config.specs.declared.moment.TheConstants.{MOST_FRAMES}
@@ -13,40 +10,25 @@ use Rattle.ts_packet.specs.declared.sizes.TheConstants.{SIZE}
 use Rattle.t2mi_stream.specs.Complete.{complete_units}
 use Rattle.t2mi_stream.specs.Pipe.{pipe}
 use Rattle.frame_groups.specs.Laws.{IsPrefix}
-use Rattle.frame_groups.specs.Modulated.{Content, FrameRecord}
-use Rattle.frame_groups.specs.Modulated.Content.{Whole, Muted}
-use Rattle.open_group.specs.Written.{content_view}
+use Rattle.frame_groups.specs.Modulated.{FrameRecord}
 use Rattle.modulator.specs.StandsFor.{records_due, records_of}
-use Rattle.formed_frames.specs.Remade.{NumberedView, remade_packets}
+use Rattle.formed_frames.specs.Remade.{remade_packets}
 use Rattle.feed_merge.specs.Picks.{above_all}
 use Rattle.two_feeds.specs.Fed.{AreEarly}
-use Rattle.region_swap.specs.Swapped.{swapped}
-use Rattle.desk_io.specs.Faults.{ReadsFail, WritesFail}
+use Rattle.gateway_run.specs.GatewayRun.{ReadsNoBad}
+use Rattle.region_swap.specs.Swapped.{swapped, frames_in}
 use Rattle.desk_io.specs.Reading.{longest_file}
-use Rattle.file_run.specs.FileRun.{file_at, OpensInputs, FailsToCreateOutput, Works, AllShort, read_ahead}
+use Rattle.file_run.specs.FileRun.{read_ahead}
+use Rattle.file_run.specs.Work.{Work, AreWhole}
 use Rattle.file_run.specs.declared.stop.RunFault.TheVariants.{TooLong, ReadFault, WriteFault}
-use Rattle.file_run.specs.declared.stop.RunStop.{RunStop}
 use Rattle.file_run.specs.declared.stop.RunStop.TheVariants.{Refused, Files, OutOfMemory}
 use Rattle.swap_run.specs.declared.stop.Ran.{Ran}
 use Rattle.swap_run.specs.declared.stop.SwapStop.{SwapStop}
 use Rattle.swap_run.specs.declared.stop.SwapStop.TheVariants.{NoSuperframe, InputRefused, TooManyFrames}
 
--- the names of the inputs: the T2-MI stream is input 0, and the transport stream of the region input 1
-abbrev pub names_of : List ℕ → List ℕ → List (List ℕ)
-names_of t2mi input = t2mi ∷ input ∷ []
-
 -- ---- what comes out
 
--- the frame of a record, if it is not muted
-abbrev pub frame_in : Config → ℕ → Content → List NumberedView
-frame_in c n (Whole g) = record { number = n; view = content_view c n (Whole g) } ∷ []
-frame_in c n (Muted cause) = []
-
--- and those of all
-abbrev pub frames_in : Config → List FrameRecord → List NumberedView
-frames_in c records = flat_map (λ x. frame_in c x.number x.content) records
-
--- their packets, with a PLP replaced by an input
+-- the packets of the frames of some records, with a PLP replaced by an input
 abbrev pub packets_of : Config → ℕ → List (List ℕ) → List FrameRecord → List (List ℕ)
 packets_of c plp input records = remade_packets c (swapped c plp input (frames_in c records))
 
@@ -85,28 +67,10 @@ pub record SwapsAll (c : Config) (plp : ℕ) (files : ℕ → List ℕ) (ran : R
   pub output : bytes ≡ joined (units_of c plp files)
   pub ran_is : ran ≡ counted c plp (records_of c (files 0)) (packets_in (files 1)) (length (units_of c plp files))
 
--- A run to its end: both inputs were read to their ends.
-pub record RunsAll (c : Config) (plp : ℕ) (old new : State) (t2mi input out : List ℕ) (ran : Ran) : Type 0 where
-  pub places : List ℕ
-  pub works : Works old new out (names_of t2mi input) places (λ h bytes. SwapsAll c plp (file_at h (names_of t2mi input)) ran bytes)
-  pub short : AllShort places
-  pub counts : SameCounts old new
-  pub present : IfSome old.held (λ h. (place : ℕ) → place < 2 → IsSome (get h.files (slice_index_or (names_of t2mi input) place [])))
-  pub ends : IfSome old.held (λ h. places ≡ map (λ name. length (bytes_of h.files name)) (names_of t2mi input))
-
 -- The first file has no record, and the output is empty.
 pub record HasNone (c : Config) (files : ℕ → List ℕ) (bytes : List ℕ) : Type 0 where
   pub none : records_of c (files 0) ≡ []
   pub empty : bytes ≡ []
-
--- The first input was read to its end, and has no record; the second was not read.
-pub record FindsNone (c : Config) (old new : State) (t2mi input out : List ℕ) : Type 0 where
-  pub places : List ℕ
-  pub works : Works old new out (names_of t2mi input) places (λ h bytes. HasNone c (file_at h (names_of t2mi input)) bytes)
-  pub short : AllShort places
-  pub counts : SameCounts old new
-  pub end : IfSome old.held (λ h. slice_index places 0 ≡ length (file_at h (names_of t2mi input) 0))
-  pub unread : slice_index places 1 ≡ 0
 
 -- Of the second file no more was read than the first of some records wants, behind others; if there is none, the rest may be read.
 abbrev pub ReadsNoFurther : Config → ℕ → List ℕ → List FrameRecord → List FrameRecord → Type 0
@@ -131,16 +95,6 @@ pub record MeetsBad (c : Config) (plp : ℕ) (files : ℕ → List ℕ) (packet 
   pub wanted : after ≢ [] → WantBad c plp (files 1) (before ++ take 1 after)
   pub output : bytes ≡ joined (complete_of c plp files before)
 
--- A bad packet was met.
-pub record StopsAtBad (c : Config) (plp : ℕ) (old new : State) (t2mi input out : List ℕ) (packet : ℕ) : Type 0 where
-  pub places : List ℕ
-  pub works : Works old new out (names_of t2mi input) places
-      (λ h bytes. (meets : MeetsBad c plp (file_at h (names_of t2mi input)) packet bytes)
-      × ReadsNoFurther c plp places meets.before meets.after
-      × TakesNoFurther c places (file_at h (names_of t2mi input)) meets.before)
-  pub short : AllShort places
-  pub counts : SameCounts old new
-
 -- The first file has a record whose number none may have, no frame before wants a bad packet, and the output is the complete units of
 -- the frames before it.
 pub record HasLate (c : Config) (plp : ℕ) (files : ℕ → List ℕ) (bytes : List ℕ) : Type 0 where
@@ -152,14 +106,6 @@ pub record HasLate (c : Config) (plp : ℕ) (files : ℕ → List ℕ) (bytes : 
   pub number : MOST_FRAMES ≤ late.number
   pub unwanted : ¬ (WantBad c plp (files 1) before)
   pub output : bytes ≡ joined (complete_of c plp files before)
-
--- The record of frame 2^31 waits, and of the second input no more was read than the records before it want.
-pub record MeetsLate (c : Config) (plp : ℕ) (old new : State) (t2mi input out : List ℕ) : Type 0 where
-  pub places : List ℕ
-  pub works : Works old new out (names_of t2mi input) places
-      (λ h bytes. (has : HasLate c plp (file_at h (names_of t2mi input)) bytes) × (slice_index places 1 ≤ SIZE * slots_of c plp has.before))
-  pub short : AllShort places
-  pub counts : SameCounts old new
 
 -- These are the records that are due by so many bytes of the first file. All may have their numbers, none wants a bad packet, of the
 -- second file no more was read than they want, and the output is the complete units of their frames.
@@ -196,26 +142,6 @@ abbrev pub least_of : ℕ → ℕ
 least_of zero = 1
 least_of (suc input) = SIZE
 
--- An input gave as many bytes as no file may have. Of these all but what a step wants were taken, at least.
-pub record GivesTooMuch (c : Config) (plp : ℕ) (old new : State) (t2mi input out : List ℕ) (place : ℕ) : Type 0 where
-  pub places : List ℕ
-  pub taken : ℕ
-  pub inside : place < 2
-  pub near : longest_file ≤ taken + least_of place
-  pub works : Works old new out (names_of t2mi input) places
-      (λ h bytes. HasWritten c plp places place taken taken (file_at h (names_of t2mi input)) bytes)
-  pub gave : slice_index places place ≡ longest_file
-  pub long : IfSome old.held (λ h. (taken ≤ longest_file) × (longest_file ≤ length (file_at h (names_of t2mi input) place)))
-  pub counts : SameCounts old new
-
--- An input could not be read on.
-pub record StopsReading (c : Config) (plp : ℕ) (old new : State) (t2mi input out : List ℕ) (place : ℕ) : Type 0 where
-  pub places : List ℕ
-  pub inside : place < 2
-  pub works : Works old new out (names_of t2mi input) places (λ h bytes. HasWritten c plp places place (slice_index places place)
-      (slice_index places place) (file_at h (names_of t2mi input)) bytes)
-  pub short : AllShort places
-
 -- These records may have their numbers, and of their frames all complete units are written.
 pub record AreWritten (c : Config) (plp : ℕ) (files : ℕ → List ℕ) (bytes : List ℕ) (records : List FrameRecord) : Type 0 where
   pub early : AreEarly records
@@ -251,20 +177,25 @@ pub record HasSome (c : Config) (plp : ℕ) (places : List ℕ) (files : ℕ →
       → AreWritten c plp files bytes (records_due c false (take taken (files 0)))
   pub ahead : ReadsAhead c plp places files bytes
 
--- The output could not be written on.
-pub record StopsWriting (c : Config) (plp : ℕ) (old new : State) (t2mi input out : List ℕ) : Type 0 where
-  pub places : List ℕ
-  pub works : Works old new out (names_of t2mi input) places (λ h bytes. HasSome c plp places (file_at h (names_of t2mi input)) bytes)
-  pub short : AllShort places
+-- All but what a step wants of a file that is too long were taken, at least.
+pub record HasNearly (c : Config) (plp input : ℕ) (files : ℕ → List ℕ) (places bytes : List ℕ) : Type 0 where
+  pub taken : ℕ
+  pub near : longest_file ≤ taken + least_of input
+  pub within : taken ≤ longest_file
+  pub has : HasWritten c plp places input taken taken files bytes
 
--- A run that did not come to its end, by its cause.
-abbrev pub Stops : Config → ℕ → State → State → List ℕ → List ℕ → List ℕ → RunStop SwapStop → Type 0
-Stops c plp old new t2mi input out (Refused NoSuperframe) = FindsNone c old new t2mi input out
-Stops c plp old new t2mi input out (Refused (InputRefused packet)) = StopsAtBad c plp old new t2mi input out packet
-Stops c plp old new t2mi input out (Refused TooManyFrames) = MeetsLate c plp old new t2mi input out
-Stops c plp old new t2mi input out (Files (TooLong place)) = GivesTooMuch c plp old new t2mi input out place
-Stops c plp old new t2mi input out (Files (ReadFault place)) =
-    ReadsFail old new × (OpensInputs old new (names_of t2mi input) place ⊎ StopsReading c plp old new t2mi input out place)
-Stops c plp old new t2mi input out (Files WriteFault) =
-    WritesFail old new × (FailsToCreateOutput old new out (names_of t2mi input) ⊎ StopsWriting c plp old new t2mi input out)
-Stops c plp old new t2mi input out OutOfMemory = new ≡ old
+-- What a run tells, by its cause. A record that none may have waits, or a bad packet was met: then of the second file no more was read
+-- than the frame wants that comes next, or those before the record.
+abbrev pub swap_work : Config → ℕ → Work Ran SwapStop
+swap_work c plp files (Ok ran) places bytes = AreWhole files places × SwapsAll c plp files ran bytes
+swap_work c plp files (Err (Refused NoSuperframe)) places bytes =
+    (slice_index places 0 ≡ length (files 0)) × (slice_index places 1 ≡ 0) × HasNone c files bytes
+swap_work c plp files (Err (Refused (InputRefused packet))) places bytes = (meets : MeetsBad c plp files packet bytes)
+    × ReadsNoFurther c plp places meets.before meets.after × TakesNoFurther c places files meets.before
+swap_work c plp files (Err (Refused TooManyFrames)) places bytes = (has : HasLate c plp files bytes)
+    × (slice_index places 1 ≤ SIZE * slots_of c plp has.before)
+swap_work c plp files (Err (Files (TooLong input))) places bytes = HasNearly c plp input files places bytes
+swap_work c plp files (Err (Files (ReadFault input))) places bytes =
+    HasWritten c plp places input (slice_index places input) (slice_index places input) files bytes
+swap_work c plp files (Err (Files WriteFault)) places bytes = HasSome c plp places files bytes
+swap_work c plp files (Err OutOfMemory) places bytes = ⊥

@@ -5,7 +5,6 @@ mod laws;
 mod machine;
 mod phase;
 mod running;
-mod sending;
 mod stop;
 mod swapping;
 

@@ -1,10 +1,12 @@
 // A run of the swapper of a plan.
-ghost use Rattle.std.specs.Prelude.{◌≢◌, ◌<◌, length, IfOk, IfErr};
-ghost use Rattle.swap_run.specs.SwapRun.{RunsAll, Stops};
+ghost use Rattle.std.specs.Prelude.{◌≢◌, ◌<◌, length};
+ghost use Rattle.file_run.specs.Work.{Ends, Into};
+ghost use Rattle.two_feeds.specs.Fed.{names_of};
+ghost use Rattle.swap_run.specs.SwapRun.{swap_work};
 
 use crate::machine::SwapMachine;
 use crate::stop::{Ran, SwapStop};
-use file_run::{RunStop, events_law, run_over_two};
+use file_run::{RunStop, run_over_two};
 use modulator::due_records_law;
 use plp_config::{Plan, length_law, slot_time_law};
 use ports::{Desk, Word};
@@ -27,10 +29,8 @@ pub fn run<D: Desk>(
     requires place { plp < length plan.now.plps }
     requires apart_t2mi { t2mi.now ≢ out.now }
     requires apart_input { input.now ≢ out.now }
-    ensures ok { IfOk result (RunsAll plan.now plp (D.state desk.old) (D.state desk.new) t2mi.now input.now out.now) }
-    ensures err { IfErr result (Stops plan.now plp (D.state desk.old) (D.state desk.new) t2mi.now input.now out.now) }
+    ensures ends { Ends (swap_work plan.now plp) (D.state desk.old) (D.state desk.new) (Into out.now) (names_of t2mi.now input.now) result }
 {
-    events_law();
     due_records_law();
     complete_law();
     slot_time_law();

@@ -1,4 +1,4 @@
-// A feed of records, the packets of a region, and a swapper.
+// A feed of frames, the packets of a region, and a swapper.
 ghost use Rattle.std.specs.Prelude.{◌≡◌, ◌<◌, ◌≤◌, ◌+◌, ◌*◌, ◌^◌, ◌++◌, ◌∷◌, ℕ, List, [], false, true, Some, None, length, take, IfOk, min};
 ghost use Rattle.plp_config.specs.declared.config.Config.{Config};
 ghost use Rattle.plp_config.specs.declared.moment.TheConstants.{MOST_FRAMES};
@@ -8,7 +8,7 @@ ghost use Rattle.file_run.specs.Events.{Event, Fed, Ended, Gave};
 ghost use Rattle.file_run.specs.Steps.{Suffices, FallsShort};
 ghost use Rattle.file_run.specs.declared.machine.TheConstants.{PIECE};
 ghost use Rattle.file_run.specs.declared.machine.Step.TheVariants.{Give};
-ghost use Rattle.frame_feed.specs.StandsFor.{waiting_of, has_ended, fed_of};
+ghost use Rattle.held_feed.specs.StandsFor.{waiting_of, has_ended, fed_of};
 ghost use Rattle.two_feeds.specs.Reading.{is_idle};
 ghost use Rattle.region_swap.specs.StandsFor.{wants_of};
 ghost use Rattle.swap_run.specs.Shown.{Shown, HasShown};
@@ -16,17 +16,16 @@ ghost use Rattle.swap_run.specs.Steps.{record_step, packet_step, drain_step, ste
 ghost use Rattle.swap_run.specs.declared.phase.Phase.TheVariants as phase;
 
 use crate::phase::Phase;
-use crate::sending::{begin_frame, next_units};
 use crate::stop::{Ran, SwapStop};
 use bit_slice::OutOfMemory;
 use file_run::{AHEAD, Step, events_law};
 use formed_frames::formed_law;
-use frame_feed::{FrameFeed, RecordBuffer};
 use frame_groups::Waiting;
 use gateway_run::front_packet;
+use held_feed::FrameFeed;
 use modulator::due_records_law;
 use plp_config::{MOST_FRAMES, Plan, block_law, length_law, slot_time_law};
-use record_laws::{fit_law, id_law};
+use record_laws::fit_law;
 use region_swap::Swapper;
 use std::alloc::Global;
 use ts_packet::{SIZE, SYNC};
@@ -39,17 +38,15 @@ const T2MI: usize = 0;
 
 const REGION: usize = 1;
 
-/// A feed of the records of a T2-MI stream, and a swapper of their frames.
+/// A feed of the frames of a T2-MI stream, and a swapper of them.
 #[derive(Drop)]
 pub struct Swapping<'p> {
     pub plan: &'p Plan,
     pub feed: FrameFeed<'p>,
     pub swapper: Swapper<'p>,
-    // The record that was taken last.
-    pub record: RecordBuffer,
     // The frame under way.
     pub number: u64,
-    // Whether a record was taken.
+    // Whether a record came.
     pub joined: bool,
     // How many packets of the input were taken, whether it ended, and whether its rest is read.
     pub taken: u64,
@@ -116,17 +113,14 @@ impl<'p> Swapping<'p> {
         ensures shown { IfOk result (λ m. Shown plan.now plp [] m) }
     {
         plan.rules_law();
-        id_law(plan);
         slot_time_law();
         length_law();
         let feed = FrameFeed::open(alloc, plan)?;
         let swapper = Swapper::open(alloc, plan, plp)?;
-        let record = RecordBuffer::open(alloc)?;
         Ok(Swapping {
             plan,
             feed,
             swapper,
-            record,
             number: 0,
             joined: false,
             taken: 0,
@@ -370,7 +364,7 @@ impl<'p> Swapping<'p> {
         self.number += 1;
     }
 
-    // Takes the record that waits, and begins its frame, if it is not muted.
+    // Begins the frame of the record that waits, or leaves it behind if it is muted.
     fn take_record(&mut self, waiting: Waiting)
         requires came { ∥ HasShown self.old ∥₁ }
         requires packets { self.old.phase ≡ phase.Packets }
@@ -385,16 +379,17 @@ impl<'p> Swapping<'p> {
         formed_law();
         block_law();
         fit_law();
-        self.record.take_from(&mut self.feed);
         self.joined = true;
         if waiting.mute.is_some() {
+            self.feed.skip();
             self.swapper.pass();
             self.ran.muted += 1;
             self.number += 1;
             self.phase = Phase::Records;
             return;
         }
-        begin_frame(&mut self.swapper, self.record.as_bytes());
+        let frame = self.feed.frame();
+        self.swapper.frame(&frame);
         self.ran.frames += 1;
         self.phase = Phase::Units;
     }
@@ -411,11 +406,14 @@ impl<'p> Swapping<'p> {
         ensures reach { (other : ℕ) → reach_of self.old other ≤ reach_of self.new other }
     {
         events_law();
-        let (len, full) = next_units(&mut self.swapper, self.record.as_bytes(), out);
+        due_records_law();
+        let frame = self.feed.frame();
+        let (len, full) = self.swapper.give(&frame, out);
         self.ran.add_units(len / SIZE);
         if full {
             return len;
         }
+        self.feed.skip();
         self.swapper.pass();
         self.number += 1;
         self.phase = Phase::Records;

@@ -4,10 +4,9 @@ use Rattle.region_swap.proofs.swapper.Swapper.end_input.Goals as goal
 
 pub returns-clause-stands : goal.returns-clause-stands
 unfolding SwapperStandsFor
-returns-clause-stands c = λ config plp t frames given h.
+returns-clause-stands c = λ config plp t left frames given h.
     let s = c.args.self.now in (
       h.0,
       h.1,
-      swaps_end s.plan.now s.list s.region c.end.new.self s.dynamic s.flow s.place s.number s.begun t frames given c.end.ensures.kept
-          c.end.ensures.stands h.2,
+      swaps_end s.plan.now s.list s.region c.end.new.self s.flow s.place s.number t left frames given s.begun c.end.ensures.stands h.2,
     )

@@ -11,11 +11,11 @@ offer-requires c =
 
 pub returns-clause-stands : goal.returns-clause-stands
 unfolding SwapperStandsFor
-returns-clause-stands c = λ config plp t frames given h.
+returns-clause-stands c = λ config plp t left frames given h.
     let s = c.args.self.now in
     let b = not_begun s.begun (wanted s.region.input) c.requires in (
       h.0,
       h.1,
-      swaps_offer s.plan.now s.list s.region c.offer.new.self s.dynamic s.flow s.place s.number s.begun t c.args.packet.now frames given
-          b.off b.some (s.parts.over (s.parts.idle b.off)) c.offer.ensures.stands h.2,
+      swaps_offer s.plan.now s.list s.region c.offer.new.self s.flow s.place s.number t left frames given s.begun c.args.packet.now
+          b.off b.some c.offer.ensures.stands h.2,
     )

@@ -6,7 +6,7 @@ use Rattle.formed_frames.specs.Remade.{remade_bodies, remade_packets}
 use Rattle.region_swap.specs.Left.{number_of}
 use Rattle.region_swap.specs.StandsFor.{SwapperStandsFor}
 use Rattle.region_swap.specs.Swapped.{swapped}
-use Rattle.region_swap.proofs.SwapLemmas.{none_left, swaps_rest, to_told}
+use Rattle.region_swap.proofs.SwapLemmas.{swaps_flow, to_told}
 use Rattle.region_swap.proofs.swapper.Swapper.rest.Goals as goal
 
 pub returns-clause-unit : goal.returns-clause-unit
@@ -17,8 +17,7 @@ returns-clause-unit c = λ on config plp t frames given h input more.
     to_told (λ (k : Config) (j : ℕ). slice_get (pipe k.pid (remade_packets k (swapped k j input frames))) given ≡ Some c.rest.new.out)
     p config s.list plp h.0 h.1
     (ap (λ (l : List (List ℕ)). slice_get (pipe p.pid l) given) (sym (append-nil (remade_packets p (swapped p s.list input frames))))
-    ∙ c.rest.ensures.unit on p (number_of s.place) (remade_bodies p (swapped p s.list input frames)) given
-    (none_left p s.list s.region s.dynamic s.flow s.place s.number s.begun t frames given (s.parts.over c.requires.fed) h.2 input more)
+    ∙ c.rest.ensures.unit on p (number_of s.place) (remade_bodies p (swapped p s.list input frames)) given (h.2.flows input more)
     [] (λ _. refl))
 
 pub returns-clause-stands : goal.returns-clause-stands
@@ -27,8 +26,8 @@ returns-clause-stands c = λ on config plp t frames given h.
     let s = c.args.self.now in (
       h.0,
       h.1,
-      swaps_rest s.plan.now s.list s.region s.dynamic s.flow c.rest.new.self s.place s.number s.begun t frames given
-          (s.parts.over c.requires.fed) (λ all given. c.rest.ensures.flows on s.plan.now (number_of s.place) all given) h.2,
+      swaps_flow s.plan.now s.list s.region s.flow c.rest.new.self s.place s.place s.number s.begun t [] [] frames given _
+          (λ all. c.rest.ensures.flows on s.plan.now (number_of s.place) all given) h.2,
     )
 
 pub returns-clause-none : goal.returns-clause-none
@@ -38,7 +37,7 @@ returns-clause-none c = λ off config plp t frames given h input more.
     let p = s.plan.now in
     to_told (λ (k : Config) (j : ℕ). length (pipe k.pid (remade_packets k (swapped k j input frames))) ≡ given) p config s.list plp h.0 h.1
     (c.rest.ensures.none off c.requires.finished p (number_of s.place) (remade_bodies p (swapped p s.list input frames)) given
-    (none_left p s.list s.region s.dynamic s.flow s.place s.number s.begun t frames given (s.parts.over c.requires.fed) h.2 input more))
+    (h.2.flows input more))
 
 pub returns-clause-kept : goal.returns-clause-kept
 unfolding SwapperStandsFor

@@ -7,14 +7,14 @@ use Rattle.region_swap.proofs.swapper.Swapper.wants.Goals as goal
 
 pub returns-then-self-clause-answer : goal.returns-then-self-clause-answer
 unfolding SwapperStandsFor
-returns-then-self-clause-answer c = λ config plp t frames given h.
+returns-then-self-clause-answer c = λ config plp t left frames given h.
     let s = c.args.self.now in
     to_told (λ (k : Config) (j : ℕ). 0 ≡ wants_by k j t) s.plan.now config s.list plp h.0 h.1 (sym (h.2.offered c.if-self.true))
 
 pub returns-clause-answer : goal.returns-clause-answer
 unfolding SwapperStandsFor
-returns-clause-answer c = λ config plp t frames given h.
+returns-clause-answer c = λ config plp t left frames given h.
     let s = c.args.self.now in
     to_told (λ (k : Config) (j : ℕ). c.wanted.result ≡ wants_by k j t) s.plan.now config s.list plp h.0 h.1
     (c.wanted.ensures ∙ sym (ap (λ (b : Bool). cond b 0 (wanted s.region.input)) c.if-self.false)
-    ∙ wants_is s.plan.now s.list s.region s.dynamic s.flow s.place s.number s.begun t frames given h.2)
+    ∙ wants_is s.plan.now s.list s.region s.flow s.place s.number s.begun t left frames given h.2)

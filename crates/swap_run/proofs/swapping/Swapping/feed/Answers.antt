@@ -1,9 +1,11 @@
 use Rattle.std.proofs.Common.{ℕ, [], ◌∷◌, ◌++◌, take, sym, subst, ◌∙◌, arith}
 use Rattle.ts_packet.specs.declared.sizes.TheConstants.{SIZE}
-use Rattle.file_run.specs.Events.{Fed}
+use Rattle.file_run.specs.Events.{Fed, fed, has_ended}
 use Rattle.swap_run.specs.Shown.{Shown}
-use Rattle.swap_run.proofs.NextLemmas.{fed_same, one_zero, reach_on, feed_more}
-use Rattle.swap_run.proofs.ShownLemmas.{shown_feed}
+use Rattle.two_feeds.proofs.EventLemmas.{fed_here, fed_with}
+use Rattle.swap_run.specs.declared.phase.Phase.TheVariants as phase
+use Rattle.swap_run.proofs.NextLemmas.{fed_same, one_zero, reach_on}
+use Rattle.swap_run.proofs.ShownLemmas.{of_in, shown_feed}
 use Rattle.swap_run.proofs.StepLemmas.{enough_records, enough_packets, enough_rest, enough_else, packets_apart}
 use Rattle.swap_run.proofs.swapping.Swapping.feed.Goals as goal
 
@@ -38,7 +40,9 @@ returns-in-Records-clause-shown c = λ k plp events s.
     let tell = c.events_law.ensures in
     subst (λ (i : ℕ). Shown k plp (events ++ Fed i p ∷ []) (record m { feed = g })) w.at
     (shown_feed k plp events m s g (events ++ Fed 0 p ∷ []) c.in-Records.is (fed_same tell 0 1 p events one_zero) (tell.fed 0 p events).gave
-    (feed_more tell k m.feed g events p s.read.given w.going c.feed.ensures.config c.feed.ensures.stands s.of_feed))
+    (fed_here tell k g events 0 p s.read.given
+    (fed_with k m.feed g (fed 0 events) p (has_ended 0 events) s.read.given (record { none = w.none; going = w.going }) c.feed.ensures.config
+    c.feed.ensures.stands (of_in k plp events m s phase.Records c.in-Records.is))))
 
 pub returns-in-Packets-clause-shown : goal.returns-in-Packets-clause-shown
 returns-in-Packets-clause-shown c = λ k plp events s.

@@ -8,7 +8,7 @@ use Rattle.swap_run.specs.Shown.{Shown, HasShown}
 use Rattle.swap_run.specs.Steps.{wanted_in}
 use Rattle.swap_run.specs.declared.phase.Phase.TheVariants as phase
 use Rattle.swap_run.proofs.GoLemmas.{shown_rest, shown_done, few_units}
-use Rattle.swap_run.proofs.NextLemmas.{left_at, reach_on, slots_in, slots_status, rests_over, rests_fed, gave_same}
+use Rattle.swap_run.proofs.NextLemmas.{left_by, reach_on, slots_in, slots_status, rests_over, rests_fed, gave_same}
 use Rattle.swap_run.proofs.swapping.Swapping.give_rest.Goals as goal
 
 pub returns-then-rest-clause-shown : goal.returns-then-rest-clause-shown
@@ -27,8 +27,8 @@ returns-then-rest-clause-shown c = λ k plp events s.
 pub returns-then-rest-clause-left : goal.returns-then-rest-clause-left
 returns-then-rest-clause-left c =
     let m = c.args.self.now in
-    let was = left_at m phase.Rests c.requires.rests in
-    let now = left_at (record m { swapper = c.rest.new.self; ran = record m.ran { units = m.ran.units + 1 } }) phase.Rests c.requires.rests in
+    let was = left_by m phase.Rests c.requires.rests in
+    let now = left_by (record m { swapper = c.rest.new.self; ran = record m.ran { units = m.ran.units + 1 } }) phase.Rests c.requires.rests in
     let less = c.rest.ensures.less c.if-rest.true in
     omega (arith, was, now, less)
 
@@ -48,7 +48,7 @@ returns-clause-shown c = λ k plp events s.
 
 pub returns-clause-left : goal.returns-clause-left
 returns-clause-left c =
-    let was = left_at c.args.self.now phase.Rests c.requires.rests in
+    let was = left_by c.args.self.now phase.Rests c.requires.rests in
     omega (arith, was)
 
 pub returns-clause-reach : goal.returns-clause-reach

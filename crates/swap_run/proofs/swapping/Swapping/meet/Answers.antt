@@ -2,7 +2,7 @@ use Rattle.std.proofs.Common.{◌-◌, refl, arith}
 use Rattle.swap_run.specs.declared.phase.Phase.TheVariants as phase
 use Rattle.swap_run.specs.declared.stop.SwapStop.TheVariants.{TooManyFrames}
 use Rattle.swap_run.proofs.GoLemmas.{shown_met, shown_late}
-use Rattle.swap_run.proofs.NextLemmas.{left_at, reach_on, slots_in, slots_next}
+use Rattle.swap_run.proofs.NextLemmas.{left_by, reach_on, slots_in, slots_next}
 use Rattle.swap_run.proofs.swapping.Swapping.meet.Goals as goal
 
 pub returns-then-waiting-ge-MOST_FRAMES-clause-shown : goal.returns-then-waiting-ge-MOST_FRAMES-clause-shown
@@ -11,7 +11,7 @@ returns-then-waiting-ge-MOST_FRAMES-clause-shown c = λ k plp events s.
 
 pub returns-then-waiting-ge-MOST_FRAMES-clause-left : goal.returns-then-waiting-ge-MOST_FRAMES-clause-left
 returns-then-waiting-ge-MOST_FRAMES-clause-left c =
-    let was = left_at c.args.self.now phase.Records c.requires.records in
+    let was = left_by c.args.self.now phase.Records c.requires.records in
     omega (arith, was)
 
 pub returns-then-waiting-ge-MOST_FRAMES-clause-reach : goal.returns-then-waiting-ge-MOST_FRAMES-clause-reach
@@ -27,7 +27,7 @@ returns-clause-shown c = λ k plp events s.
 
 pub returns-clause-left : goal.returns-clause-left
 returns-clause-left c =
-    let was = left_at c.args.self.now phase.Records c.requires.records in
+    let was = left_by c.args.self.now phase.Records c.requires.records in
     omega (arith, was)
 
 pub returns-clause-reach : goal.returns-clause-reach

@@ -14,26 +14,16 @@ returns-clause-shown c =
     let lt : 0 < num k = (let a = slot.0 in let b = slot.2 in omega (arith, a, b)) in
     let none = none_over c.slot_time_law.ensures.none_at_zero c.length_law.ensures.slot k c.args.plp lt in
     record {
-      config = refl;
-      plan = plan;
-      ids = c.id_law.ensures;
-      place = c.requires;
+      base = record { config = refl; rules = plan; place = c.requires };
       read = none_read;
       of_feed = record { network = f.config; stands = f.stands };
       of_input = record { parts = refl; each = tt; count = refl; end = λ _. refl; told = λ on. absurd (let z : false ≡ true = on in cc) };
-      at = refl;
+      frame = refl;
       had = λ off. none;
       sends = sends_opened k c.args.plp c.in_ok-swapper.swapper w.stands;
       status = w.status;
-      counts = record {
-        frames_is = refl;
-        muted_is = refl;
-        unsent_is = refl;
-        few = omega arith;
-        early = omega arith;
-        joined = refl;
-        units = omega arith;
-      };
+      counted = record { frames_is = refl; muted_is = refl; unsent_is = refl; joined_is = refl };
+      bound = record { few = omega arith; early = omega arith; most = omega arith };
       live = live_caught k c.args.plp c.in_ok-feed.feed [] false [] c.in_ok-swapper.swapper none_read.told 0
           (record { network = f.config; stands = f.stands }) (record { idle = w.unit; complete = λ input cont. none_complete k c.args.plp input });
       is_in = record {

@@ -2,7 +2,7 @@ use Rattle.std.proofs.Common.{◌-◌, refl, arith, true}
 use Rattle.swap_run.specs.declared.phase.Phase.TheVariants as phase
 use Rattle.swap_run.specs.declared.stop.SwapStop.TheVariants.{NoSuperframe}
 use Rattle.swap_run.proofs.GoLemmas.{shown_nothing, shown_parted}
-use Rattle.swap_run.proofs.NextLemmas.{left_at, reach_on, slots_in, slots_next, drained_more}
+use Rattle.swap_run.proofs.NextLemmas.{left_by, reach_on, slots_in, slots_next, drained_more}
 use Rattle.swap_run.proofs.swapping.Swapping.part.Goals as goal
 
 pub returns-then-not-self-clause-shown : goal.returns-then-not-self-clause-shown
@@ -11,7 +11,7 @@ returns-then-not-self-clause-shown c = λ k plp events s.
 
 pub returns-then-not-self-clause-left : goal.returns-then-not-self-clause-left
 returns-then-not-self-clause-left c =
-    let was = left_at c.args.self.now phase.Records c.requires.records in
+    let was = left_by c.args.self.now phase.Records c.requires.records in
     omega (arith, was)
 
 pub returns-then-not-self-clause-reach : goal.returns-then-not-self-clause-reach
@@ -26,7 +26,7 @@ returns-clause-shown c = λ k plp events s.
 
 pub returns-clause-left : goal.returns-clause-left
 returns-clause-left c =
-    let was = left_at c.args.self.now phase.Records c.requires.records in
+    let was = left_by c.args.self.now phase.Records c.requires.records in
     omega (arith, was)
 
 pub returns-clause-reach : goal.returns-clause-reach

@@ -2,20 +2,20 @@ use Rattle.std.proofs.Common.{◌+◌, ap, arith}
 use Rattle.region_swap.specs.StandsFor.{Status}
 use Rattle.swap_run.specs.declared.phase.Phase.TheVariants as phase
 use Rattle.swap_run.proofs.GoLemmas.{shown_pass}
-use Rattle.swap_run.proofs.NextLemmas.{left_at, number_most, reach_on, slots_in, slots_next, frame_is, packets_early, packets_idle}
+use Rattle.swap_run.proofs.NextLemmas.{left_by, number_most, reach_on, slots_in, slots_next, frame_is, packets_early, packets_idle}
 use Rattle.swap_run.proofs.swapping.Swapping.pass_frame.Goals as goal
 
 pub returns-clause-shown : goal.returns-clause-shown
 returns-clause-shown c = λ k plp events s.
     let p = c.pass.ensures in
-    shown_pass k plp events c.args.self.now s c.slot_time_law.ensures.count_rises c.length_law.ensures.slot c.pass.new.self c.args.waiting c.requires.packets c.requires.waits
-    c.requires.before p.stands p.unit p.status
+    shown_pass k plp events c.args.self.now s c.slot_time_law.ensures.count_rises c.length_law.ensures.slot c.pass.new.self c.args.waiting
+    c.requires.packets c.requires.waits c.requires.before (record { stands = p.stands; unit = p.unit; status = p.status })
 
 pub returns-clause-left : goal.returns-clause-left
 returns-clause-left c =
     let m = c.args.self.now in
-    let was = left_at m phase.Packets c.requires.packets in
-    let now = left_at (record m { swapper = c.pass.new.self; number = m.number + 1 }) phase.Packets c.requires.packets in
+    let was = left_by m phase.Packets c.requires.packets in
+    let now = left_by (record m { swapper = c.pass.new.self; number = m.number + 1 }) phase.Packets c.requires.packets in
     let most = number_most m c.requires.came in
     omega (arith, was, now, most)
 

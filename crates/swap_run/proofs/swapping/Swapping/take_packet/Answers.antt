@@ -38,7 +38,8 @@ returns-clause-shown c = λ k plp events s.
     (length-take-le SIZE c.args.bytes.now c.requires.long)
     (let a = c.as_array.ensures.bytes in let b = c.front_packet-packet.ensures in let f = c.if-as_array-ne-SYNC.false in
     ap (λ (l : List ℕ). slice_index_or l 0 0) (sym (a ∙ b)) ∙ f)
-    (λ a b t fs n st. subst (λ (l : List ℕ). SwapperStandsFor c.offer.new.self a b (with_packet t l) fs n) c.front_packet-packet.ensures (o.stands a b t fs n st))
+    (λ a b t left fs n st. subst (λ (l : List ℕ). SwapperStandsFor c.offer.new.self a b (with_packet t l) left fs n) c.front_packet-packet.ensures
+    (o.stands a b t left fs n st))
     o.unit o.status
 
 pub returns-clause-reach : goal.returns-clause-reach

@@ -1,3 +1,0 @@
-pub mod StandsFor
--- inner: no public clause cites these
-pub mod Taking
