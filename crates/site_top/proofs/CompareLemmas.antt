@@ -1,5 +1,5 @@
 -- What holds of two streams that were compared, how the command must end, and that it changes nothing but standard output.
-use Rattle.std.proofs.Common.{◌≡◌, Bool, true, false, ◌≢◌, ℕ, List, refl, ap, sym, ◌∙◌}
+use Rattle.std.proofs.Common.{◌≡◌, Bool, true, false, ℕ, List, refl, ap, sym, ◌∙◌}
 use Rattle.std.specs.Prelude.{Result, Ok, Err}
 use Rattle.std.proofs.lemmas.Bool.{true≢false}
 use Rattle.std.proofs.lemmas.Option.{IfSome_then}

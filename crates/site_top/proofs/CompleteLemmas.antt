@@ -27,8 +27,8 @@ use Rattle.file_run.specs.declared.stop.RunFault.TheVariants as run_fault
 use Rattle.file_run.specs.declared.stop.RunStop.{RunStop}
 use Rattle.file_run.specs.declared.stop.RunStop.TheVariants as run
 use Rattle.file_run.proofs.EndsLemmas.{decides}
-use Rattle.gateway_run.specs.SharedRun.{frames_of, units_of}
-use Rattle.gateway_run.specs.Laws.{MustRun, OneRun}
+use Rattle.gateway_run.specs.GatewayRun.{gateway_work}
+use Rattle.gateway_run.specs.Laws.{OneRun}
 use Rattle.gateway_run.specs.declared.stop.Ran.{Ran}
 use Rattle.gateway_run.specs.declared.stop.GatewayStop.{GatewayStop}
 use Rattle.gateway_run.specs.declared.stop.GatewayStop.TheVariants as gateway
@@ -65,7 +65,6 @@ use Rattle.show_run.specs.Shows.{Counted}
 use Rattle.show_run.specs.T2miText.{IsT2miText}
 use Rattle.show_run.specs.declared.stop.ShowStop.{ShowStop}
 use Rattle.show_run.specs.declared.stop.ShowStop.TheVariants as show
-use Rattle.ts_packet.specs.TsFile.{HasBad}
 use Rattle.site_top.specs.declared.outcome.Outcome.{Outcome}
 use Rattle.site_top.specs.declared.outcome.Outcome.TheVariants.{Done, ReadFault, WriteFault, OutOfMemory}
 use Rattle.site_top.specs.Commands.{Command, ShowPackets, ShowT2mi, ShowFrames, ShowConfig, Plan, Gateway, Modulate, Receive}
@@ -232,29 +231,6 @@ before_named : (config : List ℕ) (old mid : Option Held) (P : Held → Type 0)
 before_named config None mid P e p = tt
 before_named config (Some h) mid P e p = subst (λ (o : Option Held). IfSome o P) e p
 
--- what a run to its end shows of its inputs
-record Ended (sharing : Sharing) (c : Config) (files : ℕ → List ℕ) (count frames units : ℕ) : Type 0 where
-  pub whole : (plp : ℕ) → plp < count → ¬ (HasBad (files plp))
-  pub frames_are : frames ≡ frames_of sharing c files
-  pub units_are : units ≡ length (units_of sharing c files)
-
-ended : (sharing : Sharing) (o : Option Held) (ins : List (List ℕ)) (c : Config) (frames units : ℕ)
-    → IfSome o (λ h. (plp : ℕ) → plp < length ins → ¬ (HasBad (file_at h ins plp)))
-    → IfSome o (λ h. frames ≡ frames_of sharing c (file_at h ins)) →
-    IfSome o (λ h. units ≡ length (units_of sharing c (file_at h ins)))
-    → IfSome o (λ h. Ended sharing c (file_at h ins) (length ins) frames units)
-ended sharing None ins c frames units w f u = tt
-ended sharing (Some h) ins c frames units w f u = record { whole = w; frames_are = f; units_are = u }
-
-must_all : (sharing : Sharing) (c : Config) (files : ℕ → List ℕ) (count frames units : ℕ) → count ≡ input_count sharing c → frames ≤ MOST_FRAMES
-    → Ended sharing c files count frames units → MustRun sharing c files (Ok (record { frames = frames; units = units }))
-must_all sharing c files count frames units same early e = (
-  (λ plp inside. e.whole plp (subst (λ (n : ℕ). plp < n) (sym same) inside)),
-  e.frames_are,
-  e.units_are,
-  subst (λ (n : ℕ). n ≤ MOST_FRAMES) e.frames_are early,
-)
-
 -- ---- a run by the plan of CONFIG
 
 -- the same counts before
@@ -341,42 +317,35 @@ by_plan one command config Follows Mine Must must named so follows old new resul
 abbrev GatewayMust : Sharing → List (List ℕ) → Config → State → Outcome → Type 0
 GatewayMust sharing ins c mid outcome = IfSome mid.held (λ h. GatewayIfShort sharing h ins c outcome)
 
-gateway_stops : (sharing : Sharing) (out : List ℕ) (ins : List (List ℕ)) (c : Config) → length ins ≡ input_count sharing c
-    → (mid new : State) (stop : RunStop GatewayStop) → gateways.StopsSo sharing out ins c mid new stop
-    → GatewayMust sharing ins c mid (stop_outcome gateway_cause stop) ⊎ By mid new (stop_outcome gateway_cause stop)
-gateway_stops sharing out ins c count mid new (run.Refused (gateway.Bad input packet)) s =
-    inl (IfSome_then mid.held s.meets
-    (λ h m. inr (count, λ short. (Err (gateway.Bad input packet), (s.frame, m, s.early), refl))))
-gateway_stops sharing out ins c count mid new (run.Refused gateway.TooManyFrames) s =
-    inl (IfSome_then mid.held s.has (λ h m. inr (count, λ short. (Err gateway.TooManyFrames, m, refl))))
-gateway_stops sharing out ins c count mid new (run.Files (run_fault.TooLong input)) s =
-    inl (IfSome_then mid.held s.long
-    (λ h most. inr (count, λ short. let few = short input s.place in absurd (omega (arith, most, few)))))
-gateway_stops sharing out ins c count mid new (run.Files (run_fault.ReadFault input)) s = inr (inl s.0.rose)
-gateway_stops sharing out ins c count mid new (run.Files run_fault.WriteFault) s = inr (inr (inl s.0.rose))
-gateway_stops sharing out ins c count mid new run.OutOfMemory s = inr (inr (inr refl))
+gateway_ran : (sharing : Sharing) (ins : List (List ℕ)) (c : Config) → length ins ≡ input_count sharing c → (h : Held)
+    (result : Result Ran GatewayStop) (places bytes : List ℕ)
+    → IsRightAtEnd (gateway_work sharing c) (file_at h ins) places bytes result
+    → GatewayIfShort sharing h ins c (run_outcome gateway_cause result)
+gateway_ran sharing ins c count h (Ok ran) places bytes all =
+    let early = subst (λ (n : ℕ). n ≤ MOST_FRAMES) all.frames_are all.early in
+    inr (count, λ short. (Ok ran, (all.whole, all.frames_are, all.units_are, early), refl))
+gateway_ran sharing ins c count h (Err (gateway.Bad input packet)) places bytes bad =
+    inr (count, λ short. (Err (gateway.Bad input packet), (bad.frame, bad.meets, bad.early), refl))
+gateway_ran sharing ins c count h (Err gateway.TooManyFrames) places bytes (has, begins) =
+    inr (count, λ short. (Err gateway.TooManyFrames, has, refl))
 
-gateway_ends : (sharing : Sharing) (out : List ℕ) (ins : List (List ℕ)) (c : Config) → length ins ≡ input_count sharing c → (mid after : State) (ran : Ran)
-    → gateways.Ends sharing out ins c mid after ran → GatewayMust sharing ins c mid Done × SameCounts mid after
-gateway_ends sharing out ins c count mid after ran r = (
-  IfSome_then mid.held (ended sharing mid.held ins c ran.frames ran.units r.whole r.frames_are r.units_are)
-      (λ h e. inr (
-        count,
-        λ short. (
-          Ok (record { frames = ran.frames; units = ran.units }),
-          must_all sharing c (file_at h ins) (length ins) ran.frames ran.units count r.early e,
-          refl,
-        ),
-      )),
-  r.counts,
-)
+gateway_long : (sharing : Sharing) (ins : List (List ℕ)) (c : Config) → length ins ≡ input_count sharing c → (h : Held) (input : ℕ)
+    (outcome : Outcome) → input < length ins → longest_file ≤ length (file_at h ins input) → GatewayIfShort sharing h ins c outcome
+gateway_long sharing ins c count h input outcome lt most =
+    inr (count, λ short. let few = short input lt in absurd (omega (arith, most, few)))
 
-gateway_follows : (sharing : Sharing) (out : List ℕ) (ins : List (List ℕ)) (c : Config) (old mid new : State) (result : Outcome) → SameCounts old mid
-    → gateways.Follows sharing out ins c mid new result → GatewayMust sharing ins c mid result ⊎ By old new result
+gateway_follows : (sharing : Sharing) (out : List ℕ) (ins : List (List ℕ)) (c : Config) (old mid new : State) (result : Outcome)
+    → SameCounts old mid → gateways.Follows sharing out ins c mid new result → GatewayMust sharing ins c mid result ⊎ By old new result
 gateway_follows sharing out ins c old mid new result same (inl (stays, other)) = inl (if_any mid.held _ (λ h. inl other))
 gateway_follows sharing out ins c old mid new result same (inr (count, runs)) =
-    ways (gateways.Ends sharing out ins c) (gateways.StopsSo sharing out ins c) gateways.gateway_line gateway_cause (GatewayMust sharing ins c)
-    (gateway_stops sharing out ins c count) (gateway_ends sharing out ins c count) old mid new result same runs
+    let work = gateway_work sharing c in
+    let must = λ (h : Held). GatewayIfShort sharing h ins c in
+    ways (gateways.Ends sharing out ins c) (gateways.StopsSo sharing out ins c) gateways.gateway_line gateway_cause
+    (GatewayMust sharing ins c)
+    (λ x y stop e. asked work (Into out) ins gateway_cause must (gateway_ran sharing ins c count) (gateway_long sharing ins c count) x y
+    (Err stop) e)
+    (λ x y ran e. asked_at_end work (Into out) ins gateway_cause must (gateway_ran sharing ins c count) x y ran e)
+    old mid new result same runs
 
 gateway_so : OnePlan → OneRun → (sharing : Sharing) (old new : State) (config out : List ℕ) (ins : List (List ℕ)) (result : Outcome)
     → gateways.Gateways sharing old new config out ins result → IsComplete (Gateway sharing config out ins) old new result

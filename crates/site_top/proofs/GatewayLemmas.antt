@@ -1,10 +1,23 @@
--- The output of `gateway` is none of its inputs.
-use Rattle.std.proofs.Common.{◌≡◌, ◌≢◌, ℕ, zero, suc, ◌<◌, Bool, true, false, List, [], ◌∷◌, length, refl, arith}
-use Rattle.std.specs.Prelude.{not, slice_index_or}
+-- The output of `gateway` is none of its inputs, and what is told of its run.
+use Rattle.std.proofs.Common.{◌≡◌, ◌≢◌, ℕ, zero, suc, ◌<◌, Bool, true, false, List, [], ◌∷◌, length, refl, sym, subst, inl, inr, arith}
+use Rattle.std.specs.Prelude.{not, slice_index_or, Result, Ok, Err, IfOk, IfErr}
 use Rattle.std.specs.Str.{bytes_eq}
 use Rattle.std.proofs.lemmas.Slice.Eq.{bytes_eq-Decides}
 use Rattle.terms.proofs.CaseLemmas.{both}
+use Rattle.ports.specs.Desk.{State}
+use Rattle.plp_config.specs.declared.config.Config.{Config}
+use Rattle.common_plp.specs.Sharing.{Sharing}
+use Rattle.file_run.specs.Work.{Ends as RunEnds, Into}
+use Rattle.file_run.specs.declared.stop.RunStop.{RunStop}
+use Rattle.gateway_run.specs.GatewayRun.{gateway_work}
+use Rattle.gateway_run.specs.declared.stop.GatewayStop.{GatewayStop}
+use Rattle.gateway_run.specs.declared.stop.Ran.{Ran}
+use Rattle.site_top.specs.declared.outcome.Outcome.{Outcome}
 use Rattle.site_top.specs.Commands.{is_empty, is_input, are_inputs}
+use Rattle.site_top.specs.GatewayCommand.{Ends, StopsSo, gateway_line}
+use Rattle.site_top.specs.Outcomes.{gateway_cause, stop_outcome}
+use Rattle.site_top.specs.PlanCommand.{RunsAndTells}
+use Rattle.site_top.specs.Saying.{Tells}
 
 not_true : (b : Bool) → not b ≡ true → b ≡ false
 not_true true e = cc
@@ -24,3 +37,12 @@ apart out [] e plp inside = absurd (omega arith)
 apart out (file ∷ files) e zero inside = other_name file out (both (is_input out file) (are_inputs out files) e).0
 apart out (file ∷ files) e (suc plp) inside = apart out files (both (is_input out file) (are_inputs out files) e).1 plp
     (omega arith)
+
+pub gateway_told : (sharing : Sharing) (out : List ℕ) (ins : List (List ℕ)) (c : Config) (mid after new : State)
+    (run : Result Ran (RunStop GatewayStop)) (outcome : Outcome) → RunEnds (gateway_work sharing c) mid after (Into out) ins run
+    → IfOk run (λ ran. Tells after new (gateway_line ran) outcome)
+    → IfErr run (λ stop. (new ≡ after) × (outcome ≡ stop_outcome gateway_cause stop))
+    → RunsAndTells (Ends sharing out ins c) (StopsSo sharing out ins c) gateway_line gateway_cause mid new outcome
+gateway_told sharing out ins c mid after new (Ok ran) outcome ends tells is = inr (ran, after, ends, tells)
+gateway_told sharing out ins c mid after new (Err stop) outcome ends tells is =
+    inl (stop, subst (λ (s : State). StopsSo sharing out ins c mid s stop) (sym is.0) ends, is.1)

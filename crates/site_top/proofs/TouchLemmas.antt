@@ -18,9 +18,7 @@ use Rattle.file_run.specs.declared.stop.RunFault.TheVariants as run_fault
 use Rattle.file_run.specs.declared.stop.RunStop.{RunStop}
 use Rattle.file_run.specs.declared.stop.RunStop.TheVariants as run
 use Rattle.file_run.proofs.EndsLemmas.{OthersOf, creates, leaves_alone}
-use Rattle.gateway_run.specs.SharedRun as gateway
-use Rattle.gateway_run.specs.declared.stop.GatewayStop.{GatewayStop}
-use Rattle.gateway_run.specs.declared.stop.GatewayStop.TheVariants as gateway_stop
+use Rattle.gateway_run.specs.GatewayRun.{gateway_work}
 use Rattle.modulate_run.specs.ModulateRun.{modulate_work}
 use Rattle.common_plp.specs.Sharing.{Sharing, joined_with}
 use Rattle.receive_run.specs.JoinedRun.{receive_work}
@@ -247,26 +245,6 @@ plan_then Follows out reads follows old new config result b = ⊎_elim
     (λ n. fewer out reads old new (gives_no_plan out old new config n.0 n.1))
     (λ p. behind out reads old p.1 new config p.0 p.2 (follows p.0 p.1 new result p.4)) b
 
--- that of a gateway
-gateway_stops : (sharing : Sharing) (c : Config) (old new : State) (out : List ℕ) (ins : List (List ℕ)) (stop : RunStop GatewayStop)
-    → gateway.Stops sharing c old new out ins stop → Touches (Some out) (length ins) old new
-gateway_stops sharing c old new out ins (run.Refused (gateway_stop.Bad plp packet)) s = run_works old new out ins s.places _ s.works
-gateway_stops sharing c old new out ins (run.Refused gateway_stop.TooManyFrames) s = run_works old new out ins s.places _ s.works
-gateway_stops sharing c old new out ins (run.Files (run_fault.TooLong input)) s = run_works old new out ins s.places _ s.works
-gateway_stops sharing c old new out ins (run.Files (run_fault.ReadFault input)) s =
-    ⊎_elim (λ o. run_opens old new out ins input o) (λ w. run_works old new out ins w.places _ w.works) s.1
-gateway_stops sharing c old new out ins (run.Files run_fault.WriteFault) s =
-    ⊎_elim (λ f. run_creates old new out ins f) (λ w. run_works old new out ins w.places _ w.works) s.1
-gateway_stops sharing c old new out ins run.OutOfMemory s = untouched (Some out) (length ins) old new s
-
-gateway_follows : (sharing : Sharing) (out : List ℕ) (ins : List (List ℕ)) (c : Config) (mid new : State) (result : Outcome)
-    → gateways.Follows sharing out ins c mid new result → Touches (Some out) (length ins) mid new
-gateway_follows sharing out ins c mid new result f = ⊎_elim
-    (λ none. untouched (Some out) (length ins) mid new none.0)
-    (λ all. runs_touch (gateways.Ends sharing out ins c) (gateways.StopsSo sharing out ins c) gateways.gateway_line gateway_cause (Some out)
-    (length ins) (λ a b stop s. gateway_stops sharing c a b out ins stop s) (λ a b ran r. run_works a b out ins r.places _ r.works)
-    mid new result all.1) f
-
 -- a run that does a work
 abbrev written_by : Sink → Option (List ℕ)
 written_by (Into out) = Some out
@@ -293,6 +271,16 @@ work_touches work sink ins old new result ends =
       texts = left.said.texts;
       said = left.said.said;
     }
+
+-- that of a gateway
+gateway_follows : (sharing : Sharing) (out : List ℕ) (ins : List (List ℕ)) (c : Config) (mid new : State) (result : Outcome)
+    → gateways.Follows sharing out ins c mid new result → Touches (Some out) (length ins) mid new
+gateway_follows sharing out ins c mid new result f =
+    let touches = work_touches (gateway_work sharing c) (Into out) ins in
+    ⊎_elim
+    (λ none. untouched (Some out) (length ins) mid new none.0)
+    (λ all. runs_touch (gateways.Ends sharing out ins c) (gateways.StopsSo sharing out ins c) gateways.gateway_line gateway_cause
+    (Some out) (length ins) (λ a b stop s. touches a b (Err stop) s) (λ a b ran r. touches a b (Ok ran) r) mid new result all.1) f
 
 -- that of a modulator
 modulate_follows : (file out : List ℕ) (c : Config) (mid new : State) (result : Outcome)

@@ -1,12 +1,13 @@
 -- What `gateway CONFIG OUT IN..` and `common gateway CONFIG OUT IN..` do, up to their last line.
-use Rattle.std.specs.Prelude.{◌≡◌, ◌⊎◌, ℕ, List, ◌++◌, length, codes}
+use Rattle.std.specs.Prelude.{◌≡◌, ◌⊎◌, ℕ, List, ◌++◌, length, codes, Ok, Err}
 use Rattle.std.specs.Fmt.{decimal}
 use Rattle.ports.specs.Desk.{State}
 use Rattle.plp_config.specs.declared.config.Config.{Config}
 use Rattle.common_plp.specs.Inputs.{input_count}
 use Rattle.common_plp.specs.Sharing.{Sharing}
+use Rattle.file_run.specs.Work.{Ends as RunEnds, Into}
 use Rattle.file_run.specs.declared.stop.RunStop.{RunStop}
-use Rattle.gateway_run.specs.SharedRun.{RunsAll, Stops}
+use Rattle.gateway_run.specs.GatewayRun.{gateway_work}
 use Rattle.gateway_run.specs.declared.stop.GatewayStop.{GatewayStop}
 use Rattle.gateway_run.specs.declared.stop.Ran.{Ran}
 use Rattle.site_top.specs.declared.outcome.Outcome.{Outcome}
@@ -19,10 +20,10 @@ gateway_line ran = codes "frames=" ++ decimal ran.frames ++ codes " units=" ++ d
 
 -- a run to its end, and one that stops
 abbrev pub Ends : Sharing → List ℕ → List (List ℕ) → Config → State → State → Ran → Type 0
-Ends sharing out ins c mid after ran = RunsAll sharing c mid after out ins ran.frames ran.units
+Ends sharing out ins c mid after ran = RunEnds (gateway_work sharing c) mid after (Into out) ins (Ok ran)
 
 abbrev pub StopsSo : Sharing → List ℕ → List (List ℕ) → Config → State → State → RunStop GatewayStop → Type 0
-StopsSo sharing out ins c mid new stop = Stops sharing c mid new out ins stop
+StopsSo sharing out ins c mid new stop = RunEnds (gateway_work sharing c) mid new (Into out) ins (Err stop)
 
 -- There is not one input for each PLP that has one, and nothing is done; or the run follows.
 abbrev pub Follows : Sharing → List ℕ → List (List ℕ) → Config → State → State → Outcome → Type 0

@@ -1,7 +1,6 @@
 //! The commands of the program, over any desk.
 #![tactic(auto)]
 
-mod common_gateway;
 mod common_receive;
 mod compare;
 mod config_commands;

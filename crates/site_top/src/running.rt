@@ -6,11 +6,10 @@ ghost use Rattle.site_top.specs.Endings.{Ends};
 ghost use Rattle.site_top.specs.Runs.{Does, IsComplete};
 ghost use Rattle.site_top.specs.Touches.{Touches, out_of, ins_of};
 
-use crate::common_gateway::common_gateway;
 use crate::common_receive::common_receive;
 use crate::compare::compare;
 use crate::config_commands::{plan, show_config};
-use crate::gateway::gateway;
+use crate::gateway::{common_gateway, gateway};
 use crate::last_lines::last_line;
 use crate::laws::{completeness_law, only_out_changes_law};
 use crate::merge::merge;
