@@ -51,6 +51,7 @@ use Rattle.merge_run.specs.declared.stop.Ran.{Ran as Merged}
 use Rattle.merge_run.specs.declared.stop.MergeStop.{MergeStop}
 use Rattle.merge_run.specs.declared.stop.MergeStop.TheVariants as merge
 use Rattle.swap_run.specs.Laws.{OneRun as OneSwapping}
+use Rattle.swap_run.specs.SwapRun.{swap_work}
 use Rattle.swap_run.specs.declared.stop.Ran.{Ran as Swapped}
 use Rattle.swap_run.specs.declared.stop.SwapStop.{SwapStop}
 use Rattle.swap_run.specs.declared.stop.SwapStop.TheVariants as swap
@@ -475,37 +476,32 @@ merge_so one run old new config a b out result does =
 abbrev SwappingMust : List (List ℕ) → ℕ → Config → State → Outcome → Type 0
 SwappingMust ins id c mid outcome = IfSome mid.held (λ h. SwapsIfShort h ins id c outcome)
 
-swap_stops : (id : ℕ) (t2mi file out : List ℕ) (c : Config) (plp : ℕ) → IsPlace c id plp → (mid new : State) (stop : RunStop SwapStop)
-    → swaps.StopsSo t2mi file out c plp mid new stop → SwappingMust (names_of t2mi file) id c mid (stop_outcome swap_cause stop)
-    ⊎ By mid new (stop_outcome swap_cause stop)
-swap_stops id t2mi file out c plp at mid new (run.Refused swap.NoSuperframe) s =
-    inl (IfSome_then mid.held s.works.holds (λ h w. inr (plp, at, λ short. (Err swap.NoSuperframe, (w.2.0, w.2.2), refl))))
-swap_stops id t2mi file out c plp at mid new (run.Refused (swap.InputRefused packet)) s =
-    inl (IfSome_then mid.held s.works.holds (λ h w. inr (plp, at, λ short. (Err (swap.InputRefused packet), (w.2.0, w.2.2.0), refl))))
-swap_stops id t2mi file out c plp at mid new (run.Refused swap.TooManyFrames) s =
-    inl (IfSome_then mid.held s.works.holds (λ h w. inr (plp, at, λ short. (Err swap.TooManyFrames, (w.2.0, w.2.2.0), refl))))
-swap_stops id t2mi file out c plp at mid new (run.Files (run_fault.TooLong input)) s =
-    inl (IfSome_then mid.held s.long (λ h long. inr (
-      plp,
-      at,
-      λ short.
-          let most = long.1 in let few = short input s.inside in absurd (omega (arith, most, few)),
-    )))
-swap_stops id t2mi file out c plp at mid new (run.Files (run_fault.ReadFault input)) s = inr (inl s.0.rose)
-swap_stops id t2mi file out c plp at mid new (run.Files run_fault.WriteFault) s = inr (inr (inl s.0.rose))
-swap_stops id t2mi file out c plp at mid new run.OutOfMemory s = inr (inr (inr refl))
+swapped_so : (ins : List (List ℕ)) (id : ℕ) (c : Config) (plp : ℕ) → IsPlace c id plp → (h : Held) (result : Result Swapped SwapStop)
+    (places bytes : List ℕ) → IsRightAtEnd (swap_work c plp) (file_at h ins) places bytes result
+    → SwapsIfShort h ins id c (run_outcome swap_cause result)
+swapped_so ins id c plp at h (Ok ran) places bytes (whole, all) = inr (plp, at, λ short. (Ok ran, (bytes, all), refl))
+swapped_so ins id c plp at h (Err swap.NoSuperframe) places bytes (whole, unread, has) =
+    inr (plp, at, λ short. (Err swap.NoSuperframe, (bytes, has), refl))
+swapped_so ins id c plp at h (Err (swap.InputRefused packet)) places bytes (meets, far, ahead) =
+    inr (plp, at, λ short. (Err (swap.InputRefused packet), (bytes, meets), refl))
+swapped_so ins id c plp at h (Err swap.TooManyFrames) places bytes (has, far) =
+    inr (plp, at, λ short. (Err swap.TooManyFrames, (bytes, has), refl))
 
-swap_ends : (id : ℕ) (t2mi file out : List ℕ) (c : Config) (plp : ℕ) → IsPlace c id plp → (mid after : State) (ran : Swapped)
-    → swaps.Ends t2mi file out c plp mid after ran → SwappingMust (names_of t2mi file) id c mid Done × SameCounts mid after
-swap_ends id t2mi file out c plp at mid after ran (r, holds) =
-    (IfSome_then mid.held r.works.holds (λ h w. inr (plp, at, λ short. (Ok ran, (w.2.0, w.2.2), refl))), r.counts)
+swapped_long : (ins : List (List ℕ)) (id : ℕ) (c : Config) (plp : ℕ) → IsPlace c id plp → (h : Held) (input : ℕ) (outcome : Outcome)
+    → input < length ins → longest_file ≤ length (file_at h ins input) → SwapsIfShort h ins id c outcome
+swapped_long ins id c plp at h input outcome lt most =
+    inr (plp, at, λ short. let few = short input lt in absurd (omega (arith, most, few)))
 
 swap_follows : (id : ℕ) (t2mi file out : List ℕ) (c : Config) (old mid new : State) (result : Outcome) → SameCounts old mid
     → swaps.Follows id t2mi file out c mid new result → SwappingMust (names_of t2mi file) id c mid result ⊎ By old new result
 swap_follows id t2mi file out c old mid new result same (inl (none, stay, is)) = inl (if_any mid.held _ (λ h. inl (none, is)))
 swap_follows id t2mi file out c old mid new result same (inr (plp, at, runs)) =
-    ways (swaps.Ends t2mi file out c plp) (swaps.StopsSo t2mi file out c plp) swaps.swap_line swap_cause
-    (SwappingMust (names_of t2mi file) id c) (swap_stops id t2mi file out c plp at) (swap_ends id t2mi file out c plp at)
+    let ins = names_of t2mi file in
+    let must = λ (h : Held). SwapsIfShort h ins id c in
+    ways (swaps.Ends t2mi file out c plp) (swaps.StopsSo t2mi file out c plp) swaps.swap_line swap_cause (SwappingMust ins id c)
+    (λ x y stop e. asked (swap_work c plp) (Into out) ins swap_cause must (swapped_so ins id c plp at)
+    (swapped_long ins id c plp at) x y (Err stop) e)
+    (λ x y ran e. asked_at_end (swap_work c plp) (Into out) ins swap_cause must (swapped_so ins id c plp at) x y ran e.0)
     old mid new result same runs
 
 swap_so : OnePlan → OneSwapping → (old new : State) (config : List ℕ) (id : ℕ) (t2mi file out : List ℕ) (result : Outcome)

@@ -8,10 +8,6 @@ use Rattle.site_top.specs.Outcomes.{stop_outcome}
 use Rattle.site_top.specs.PlanCommand.{RunsAndTells}
 use Rattle.site_top.specs.Saying.{Tells}
 
-pub if_ok : {R E : Type 0} (r : Result R E) (P Q : R → Type 0) → ((x : R) → P x → Q x) → IfOk r P → IfOk r Q
-if_ok (Ok x) P Q f p = f x p
-if_ok (Err e) P Q f p = tt
-
 -- what follows of its end, and of a stop
 pub of_ok : {R E : Type 0} (P : Result R E → Type 0) (Q : R → Type 0) (r : Result R E) → ((x : R) → P (Ok x) → Q x) → P r → IfOk r Q
 of_ok P Q (Ok x) f p = f x p

@@ -1,6 +1,6 @@
 -- What holds of a stream of which a PLP was replaced.
 use Rattle.std.proofs.Common.{◌≡◌, ℕ, ◌<◌, ◌≤◌, true, List, [], map, length, Option, Some, None, ap, ◌∙◌}
-use Rattle.std.specs.Prelude.{IfSome, unwrap_or}
+use Rattle.std.specs.Prelude.{Ok, IfSome, unwrap_or}
 use Rattle.std.specs.FinMap.{get}
 use Rattle.std.proofs.lemmas.Option.{same_Some}
 use Rattle.ports.specs.Desk.{State, Held, bytes_of}
@@ -18,9 +18,11 @@ use Rattle.damage_laws.specs.Streams.{Honest}
 use Rattle.frame_laws.specs.SentFrames.{run_length, run_stream, stream_bytes}
 use Rattle.frame_laws.specs.Types.{TypesFit}
 use Rattle.file_run.specs.FileRun.{file_at}
+use Rattle.file_run.specs.Work.{Ends, Into}
+use Rattle.file_run.proofs.WorkLemmas.{works_of}
 use Rattle.two_feeds.specs.Fed.{names_of}
 use Rattle.swap_laws.specs.Region.{region_frames, region_of_run, RegionIsOfRun, RegionComesBack, WholeIsReplaced}
-use Rattle.swap_run.specs.SwapRun.{SwapsAll, RunsAll}
+use Rattle.swap_run.specs.SwapRun.{SwapsAll, swap_work}
 use Rattle.swap_run.specs.declared.stop.Ran.{Ran}
 use Rattle.site_top.specs.SwapCommand.{ComesOfSwapped, HoldsSwapped, UnitsAreSwapped}
 
@@ -47,8 +49,10 @@ are_swapped c plan fit region back whole plp t2mi file bytes inside is =
 
 -- OUT is all units of the frames of T2MI, with the PLP replaced by the packets of IN.
 pub holds_swapped : (c : Config) (plp : ℕ) (old new : State) (t2mi file out : List ℕ) (ran : Ran) → plp < length c.plps
-    → UnitsAreSwapped c → RunsAll c plp old new t2mi file out ran → HoldsSwapped c plp old new t2mi file out
-holds_swapped c plp old new t2mi file out ran inside law r = go old.held new.held r.works.holds
+    → UnitsAreSwapped c → Ends (swap_work c plp) old new (Into out) (names_of t2mi file) (Ok ran)
+    → HoldsSwapped c plp old new t2mi file out
+holds_swapped c plp old new t2mi file out ran inside law (counts, d) =
+    go old.held new.held (works_of (λ files bytes. SwapsAll c plp files ran bytes) d d.does.1.1).holds
   where
     go : (h k : Option Held)
         → IfSome h (λ x. (y : Held) × (k ≡ Some y)

@@ -24,9 +24,7 @@ use Rattle.common_plp.specs.Sharing.{Sharing, joined_with}
 use Rattle.receive_run.specs.JoinedRun.{receive_work}
 use Rattle.two_feeds.specs.Fed.{names_of}
 use Rattle.merge_run.specs.MergeRun.{merge_work}
-use Rattle.swap_run.specs.SwapRun as swapping
-use Rattle.swap_run.specs.declared.stop.SwapStop.{SwapStop}
-use Rattle.swap_run.specs.declared.stop.SwapStop.TheVariants as swap
+use Rattle.swap_run.specs.SwapRun.{swap_work}
 use Rattle.compare_run.specs.CompareRun.{compare_work}
 use Rattle.show_run.specs.Shows.{Shows, ReadsFile}
 use Rattle.show_run.specs.declared.stop.ShowStop.{ShowStop}
@@ -309,29 +307,14 @@ merge_follows a b out c mid new result f =
     (λ x y stop s. touches x y (Err stop) s) (λ x y ran r. touches x y (Ok ran) r.0) mid new result f
 
 -- that of a swapper
-swap_stops : (c : Config) (plp : ℕ) (old new : State) (t2mi file out : List ℕ) (stop : RunStop SwapStop)
-    → swapping.Stops c plp old new t2mi file out stop → Touches (Some out) 2 old new
-swap_stops c plp old new t2mi file out (run.Refused swap.NoSuperframe) s = run_works old new out (names_of t2mi file) s.places _ s.works
-swap_stops c plp old new t2mi file out (run.Refused (swap.InputRefused packet)) s =
-    run_works old new out (names_of t2mi file) s.places _ s.works
-swap_stops c plp old new t2mi file out (run.Refused swap.TooManyFrames) s = run_works old new out (names_of t2mi file) s.places _ s.works
-swap_stops c plp old new t2mi file out (run.Files (run_fault.TooLong input)) s =
-    run_works old new out (names_of t2mi file) s.places _ s.works
-swap_stops c plp old new t2mi file out (run.Files (run_fault.ReadFault input)) s =
-    ⊎_elim (λ o. run_opens old new out (names_of t2mi file) input o)
-    (λ w. run_works old new out (names_of t2mi file) w.places _ w.works) s.1
-swap_stops c plp old new t2mi file out (run.Files run_fault.WriteFault) s =
-    ⊎_elim (λ f. run_creates old new out (names_of t2mi file) f)
-    (λ w. run_works old new out (names_of t2mi file) w.places _ w.works) s.1
-swap_stops c plp old new t2mi file out run.OutOfMemory s = untouched (Some out) 2 old new s
-
 swap_follows : (id : ℕ) (t2mi file out : List ℕ) (c : Config) (mid new : State) (result : Outcome)
     → swaps.Follows id t2mi file out c mid new result → Touches (Some out) 2 mid new
 swap_follows id t2mi file out c mid new result f = ⊎_elim
     (λ none. untouched (Some out) 2 mid new none.1)
-    (λ all. runs_touch (swaps.Ends t2mi file out c all.0) (swaps.StopsSo t2mi file out c all.0) swaps.swap_line swap_cause
-    (Some out) 2 (λ a b stop s. swap_stops c all.0 a b t2mi file out stop s)
-    (λ a b ran r. run_works a b out (names_of t2mi file) r.0.places _ r.0.works) mid new result all.2) f
+    (λ all.
+    let touches = work_touches (swap_work c all.0) (Into out) (names_of t2mi file) in
+    runs_touch (swaps.Ends t2mi file out c all.0) (swaps.StopsSo t2mi file out c all.0) swaps.swap_line swap_cause
+    (Some out) 2 (λ a b stop s. touches a b (Err stop) s) (λ a b ran r. touches a b (Ok ran) r.0) mid new result all.2) f
 
 -- that of a comparison
 compare_follows : (a b : List ℕ) (c : Config) (mid new : State) (result : Outcome) → compares.Follows a b c mid new result

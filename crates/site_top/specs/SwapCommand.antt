@@ -1,5 +1,5 @@
 -- What `swap CONFIG PLP T2MI IN OUT` does, up to its last line.
-use Rattle.std.specs.Prelude.{◌≡◌, ◌⊎◌, ◌<◌, ◌≤◌, ℕ, true, List, ◌++◌, length, map, codes, IfSome}
+use Rattle.std.specs.Prelude.{◌≡◌, ◌⊎◌, ◌<◌, ◌≤◌, ℕ, true, List, ◌++◌, length, map, codes, IfSome, Ok, Err}
 use Rattle.std.specs.Fmt.{decimal}
 use Rattle.ports.specs.Desk.{State, bytes_of}
 use Rattle.plp_config.specs.Places.{IsPlace, HasNoPlace}
@@ -16,8 +16,10 @@ use Rattle.damage_laws.specs.Streams.{Honest}
 use Rattle.frame_laws.specs.SentFrames.{run_length, run_stream, stream_bytes}
 use Rattle.merge_laws.specs.Merged.{must_come}
 use Rattle.swap_laws.specs.Region.{with_input, region_frames, region_of_run}
+use Rattle.file_run.specs.Work.{Ends as RunEnds, Into}
 use Rattle.file_run.specs.declared.stop.RunStop.{RunStop}
-use Rattle.swap_run.specs.SwapRun.{RunsAll, Stops}
+use Rattle.two_feeds.specs.Fed.{names_of}
+use Rattle.swap_run.specs.SwapRun.{swap_work}
 use Rattle.swap_run.specs.declared.stop.Ran.{Ran}
 use Rattle.swap_run.specs.declared.stop.SwapStop.{SwapStop}
 use Rattle.site_top.specs.declared.outcome.Outcome.{Outcome}
@@ -61,10 +63,11 @@ UnitsAreSwapped c = (plp : ℕ) (t2mi file bytes : List ℕ) → plp < length c.
 
 -- a run to its end, and one that stops
 abbrev pub Ends : List ℕ → List ℕ → List ℕ → Config → ℕ → State → State → Ran → Type 0
-Ends t2mi file out c plp mid after ran = RunsAll c plp mid after t2mi file out ran × HoldsSwapped c plp mid after t2mi file out
+Ends t2mi file out c plp mid after ran = RunEnds (swap_work c plp) mid after (Into out) (names_of t2mi file) (Ok ran)
+    × HoldsSwapped c plp mid after t2mi file out
 
 abbrev pub StopsSo : List ℕ → List ℕ → List ℕ → Config → ℕ → State → State → RunStop SwapStop → Type 0
-StopsSo t2mi file out c plp mid new stop = Stops c plp mid new t2mi file out stop
+StopsSo t2mi file out c plp mid new stop = RunEnds (swap_work c plp) mid new (Into out) (names_of t2mi file) (Err stop)
 
 -- No PLP has the identifier, and nothing else is done; or the run follows.
 abbrev pub Follows : ℕ → List ℕ → List ℕ → List ℕ → Config → State → State → Outcome → Type 0
