@@ -37,8 +37,8 @@ use Rattle.two_feeds.proofs.FeedLemmas.{IsDue, due_of, due_given, waits_above}
 use Rattle.two_feeds.proofs.NumberLemmas.{below_of, above_append, below_append}
 use Rattle.merge_run.proofs.SendLemmas.{given_front}
 use Rattle.two_feeds.proofs.SplitLemmas as split
-use Rattle.merge_run.specs.Shown.{OfFeed}
-use Rattle.merge_run.proofs.HeldLemmas.{all_of}
+use Rattle.two_feeds.specs.Both.{OfFeed}
+use Rattle.two_feeds.proofs.HeldLemmas.{all_of}
 use Rattle.t2mi_stream.proofs.CompleteLemmas.{shorter_front}
 use Rattle.region_swap.specs.StandsFor.{Status, status_of, wants_of}
 use Rattle.region_swap.specs.Swapped.{frames_in, swapped}
@@ -98,8 +98,11 @@ module _ (front : DueFront) (follow : DueFollow) (law : CompleteLaw) (rises : Co
   -- the records that are due begin with those that were given, the last one with a frame under way or not
   given_first : (held : Bool) → OfFeed held c m.feed (fed 0 events) (has_ended 0 events) r.given
       → IsPrefix r.given (records_due c (has_ended 0 events) (fed 0 events))
-  given_first true h = (h.later, h.due ∙ sym (append_assoc h.before (h.one ∷ []) h.later)
-      ∙ ap (λ (l : List FrameRecord). l ++ h.later) (sym h.given_is))
+  given_first true h = (
+    h.later,
+    h.due ∙ sym (append_assoc h.before (h.one ∷ []) h.later)
+        ∙ ap (λ (l : List FrameRecord). l ++ h.later) (sym h.given_is),
+  )
   given_first false h = let d = due_of c m.feed (fed 0 events) (has_ended 0 events) r.given h in (d.later, d.all)
 
   behind_given : IsPrefix r.given (records_of c (files 0))

@@ -40,12 +40,11 @@ use Rattle.held_feed.specs.StandsFor as feed
 use Rattle.held_feed.specs.declared.feed.FrameFeed.{FrameFeed}
 use Rattle.feed_merge.specs.Picks.{above_all}
 use Rattle.gateway_core.specs.InputSoFar.{Told, in_next, Continues}
-use Rattle.merge_run.specs.Shown.{OfFeed}
-use Rattle.merge_run.proofs.HeldLemmas.{left_of as feed_left}
+use Rattle.two_feeds.specs.Both.{OfFeed}
+use Rattle.two_feeds.proofs.HeldLemmas.{left_of as feed_left}
 use Rattle.two_feeds.specs.Fed.{IsFedWith}
 use Rattle.two_feeds.proofs.FeedLemmas.{IsDue, due_of, waits_above, one_of}
 use Rattle.two_feeds.proofs.NumberLemmas.{above_append}
-use Rattle.two_feeds.proofs.SkipLemmas.{takes_one}
 use Rattle.record_laws.specs.Laws.{ToldCountsFit}
 use Rattle.region_swap.specs.Held.{IsHeld, HasRecord}
 use Rattle.region_swap.specs.Left.{left_by, own_list}
@@ -640,7 +639,10 @@ module _ (c : Config) (plp : ℕ) (events : List Event) (m : Swapping) (s : Show
           let early = i.early in
           let of : IsFedWith c k (fed 0 events) (has_ended 0 events) r.given =
           feed_left true c m.feed k (fed 0 events) (has_ended 0 events) r.given config (λ z. absurd (true≢false z))
-          (λ given st. takes_one true m.feed k _ _ given refl (skips given st)) (of_in c plp events m s phase.Units e) in
+          (λ given st.
+          let x = skips given st in
+          record { records = x.next ∷ []; are = record { one = x.next; only = refl; first = x.waited }; stands = x.stands })
+          (of_in c plp events m s phase.Units e) in
           record {
             base = s.base;
             read = record { given = r.given; told = in_next r.told; rest = r.rest; tail = r.tail };

@@ -1,4 +1,5 @@
 pub mod BoundLemmas
+pub mod FeedLemmas
 pub mod FileLemmas
 pub mod GoLemmas
 pub mod LawLemmas

@@ -16,8 +16,8 @@ use Rattle.held_feed.specs.StandsFor as feed
 use Rattle.held_feed.specs.declared.feed.FrameFeed.{FrameFeed}
 use Rattle.gateway_core.specs.InputSoFar.{Told, with_packet, at_end, Continues}
 use Rattle.two_feeds.specs.Fed.{IsFedWith}
-use Rattle.merge_run.specs.Shown.{OfFeed}
-use Rattle.merge_run.proofs.HeldLemmas.{network_of, end_of, count_of}
+use Rattle.two_feeds.specs.Both.{OfFeed}
+use Rattle.two_feeds.proofs.HeldLemmas.{network_of, end_of, count_of}
 use Rattle.region_swap.specs.StandsFor.{SwapperStandsFor, Status, status_of, wants_of, wants_by, has_unit}
 use Rattle.region_swap.specs.Swapped.{frames_in}
 use Rattle.region_swap.specs.declared.swapper.Swapper.{Swapper}

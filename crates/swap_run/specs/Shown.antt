@@ -23,7 +23,7 @@ use Rattle.feed_merge.specs.Picks.{above_all}
 use Rattle.gateway_core.specs.InputSoFar.{Told, Continues}
 use Rattle.gateway_run.specs.Holds.{ArePackets}
 use Rattle.two_feeds.specs.Fed.{NoneComes}
-use Rattle.merge_run.specs.Shown.{OfFeed}
+use Rattle.two_feeds.specs.Both.{OfFeed}
 use Rattle.region_swap.specs.StandsFor.{SwapperStandsFor, Status, status_of, has_unit, is_fed, left_for, bytes_left}
 use Rattle.region_swap.specs.Swapped.{frames_in, swapped}
 use Rattle.region_swap.specs.declared.swapper.Swapper.{Swapper}

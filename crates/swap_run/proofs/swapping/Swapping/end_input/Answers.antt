@@ -1,8 +1,8 @@
 use Rattle.std.proofs.Common.{ℕ, [], ◌∷◌, ◌++◌, subst, arith}
-use Rattle.file_run.specs.Events.{Ended, fed, has_ended}
+use Rattle.file_run.specs.Events.{Ended}
 use Rattle.swap_run.specs.Shown.{Shown}
-use Rattle.two_feeds.proofs.EventLemmas.{ended_here, ended_with}
 use Rattle.swap_run.specs.declared.phase.Phase.TheVariants as phase
+use Rattle.swap_run.proofs.FeedLemmas.{ended_one}
 use Rattle.swap_run.proofs.NextLemmas.{ended_same, one_zero, reach_on}
 use Rattle.swap_run.proofs.ShownLemmas.{of_in, shown_feed}
 use Rattle.swap_run.proofs.StepLemmas.{short_records, short_packets, short_rest, short_else}
@@ -36,9 +36,8 @@ returns-in-Records-clause-shown c = λ k plp events s.
     let tell = c.events_law.ensures in
     subst (λ (i : ℕ). Shown k plp (events ++ Ended i p ∷ []) (record m { feed = g })) w.0.at
     (shown_feed k plp events m s g (events ++ Ended 0 p ∷ []) c.in-Records.is (ended_same tell 0 1 p events one_zero) (tell.ended 0 p events).gave
-    (ended_here tell k g events 0 p s.read.given w.1
-    (ended_with k m.feed g (fed 0 events) (has_ended 0 events) s.read.given (record { none = w.0.none; going = w.0.going })
-    c.finish.ensures.config c.finish.ensures.stands (of_in k plp events m s phase.Records c.in-Records.is))))
+    (ended_one tell k m.feed g events p s.read.given (record { none = w.0.none; going = w.0.going }) c.finish.ensures.config
+    (of_in k plp events m s phase.Records c.in-Records.is) w.1 c.finish.ensures.stands))
 
 pub returns-in-Records-clause-reach : goal.returns-in-Records-clause-reach
 returns-in-Records-clause-reach c =

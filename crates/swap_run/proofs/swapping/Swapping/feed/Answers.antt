@@ -1,9 +1,9 @@
 use Rattle.std.proofs.Common.{ℕ, [], ◌∷◌, ◌++◌, take, sym, subst, ◌∙◌, arith}
 use Rattle.ts_packet.specs.declared.sizes.TheConstants.{SIZE}
-use Rattle.file_run.specs.Events.{Fed, fed, has_ended}
+use Rattle.file_run.specs.Events.{Fed}
 use Rattle.swap_run.specs.Shown.{Shown}
-use Rattle.two_feeds.proofs.EventLemmas.{fed_here, fed_with}
 use Rattle.swap_run.specs.declared.phase.Phase.TheVariants as phase
+use Rattle.swap_run.proofs.FeedLemmas.{fed_one}
 use Rattle.swap_run.proofs.NextLemmas.{fed_same, one_zero, reach_on}
 use Rattle.swap_run.proofs.ShownLemmas.{of_in, shown_feed}
 use Rattle.swap_run.proofs.StepLemmas.{enough_records, enough_packets, enough_rest, enough_else, packets_apart}
@@ -40,9 +40,8 @@ returns-in-Records-clause-shown c = λ k plp events s.
     let tell = c.events_law.ensures in
     subst (λ (i : ℕ). Shown k plp (events ++ Fed i p ∷ []) (record m { feed = g })) w.at
     (shown_feed k plp events m s g (events ++ Fed 0 p ∷ []) c.in-Records.is (fed_same tell 0 1 p events one_zero) (tell.fed 0 p events).gave
-    (fed_here tell k g events 0 p s.read.given
-    (fed_with k m.feed g (fed 0 events) p (has_ended 0 events) s.read.given (record { none = w.none; going = w.going }) c.feed.ensures.config
-    c.feed.ensures.stands (of_in k plp events m s phase.Records c.in-Records.is))))
+    (fed_one tell k m.feed g events p s.read.given (record { none = w.none; going = w.going }) c.feed.ensures.config
+    (of_in k plp events m s phase.Records c.in-Records.is) c.feed.ensures.stands))
 
 pub returns-in-Packets-clause-shown : goal.returns-in-Packets-clause-shown
 returns-in-Packets-clause-shown c = λ k plp events s.
