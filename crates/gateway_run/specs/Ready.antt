@@ -23,6 +23,7 @@ pub record IsCounted (t : Status) (ran : Ran) : Type 0 where
   pub early : ran.frames ≤ MOST_FRAMES
   pub few : ran.units + t.left ≤ ran.frames * 2 ^ 32
 
+-- What a step finds of the gateway at its place.
 pub record IsReady (w : Sharing) (c : Config) (s : Seen) (t : Status) (place : Place) (ran : Ran) : Type 0 where
   pub is_of : s.is_of
   pub counted : IsCounted t ran
