@@ -15,7 +15,7 @@ use Rattle.gateway_core.specs.InputSoFar.{Told, told}
 use Rattle.gateway_core.proofs.HoldsLemmas.{finished_now, begun_with, begun_same, given_same}
 use Rattle.gateway_core.proofs.HoldsLemmas.{finished_same}
 use Rattle.gateway_core.proofs.InputsLemmas.{nothing_told, told_begun}
-use Rattle.gateway_run.specs.Holds.{ArePackets, AreOffered, IsInTime, AreComplete, HasAll, NoTails, IsIn, StandsIn, Holds}
+use Rattle.gateway_run.specs.Holds.{ArePackets, AreOffered, IsInTime, AreComplete, HasAll, NoTails, IsIn, Holds}
 use Rattle.common_plp.specs.Inputs.{place_of, input_count, streams_by}
 use Rattle.common_plp.specs.Sharing.{Sharing}
 use Rattle.common_plp.proofs.InputLemmas.{place_inside}
@@ -32,8 +32,7 @@ use Rattle.gateway_run.proofs.StepLemmas.{sends_begun, sends_finished, time_same
 
 module _ (way : Sharing) where
   -- what is known before a frame begins
-  pub record IsBeforeFrame (c : Config) (g : List Event → Type 0) (events : List Event) (tails : ℕ → List ℕ) : Type 0 where
-    pub stands : g events
+  pub record IsBeforeFrame (c : Config) (events : List Event) (tails : ℕ → List ℕ) : Type 0 where
     pub none : NoTails tails
     pub complete : AreComplete way c events
     pub is_going : finished events ≡ false
@@ -41,7 +40,7 @@ module _ (way : Sharing) where
 
   -- so it is whatever a machine was done
   abbrev pub IsReadyFor : Config → List run.Event → (List Event → Type 0) → Place → Ran → Type 0
-  IsReadyFor c done g place ran = (h : Holds way c done g place ran) → IsBeforeFrame c g h.events h.tails
+  IsReadyFor c done g place ran = (h : Holds way c done g place ran) → IsBeforeFrame c h.events h.tails
 
   -- nothing was told of inputs but that a frame began, or no more comes
   offered_on : (c : Config) (done : List run.Event) (old new : List Event) (tails : ℕ → List ℕ)
@@ -59,7 +58,7 @@ module _ (way : Sharing) where
 
   -- the run is longer than the frames begun, if it is not over
   more_frames : NotYetLast → OwnLength way → (c : Config) (done : List run.Event) (g : List Event → Type 0) (place : Place)
-      (ran : Ran) (h : Holds way c done g place ran) → IsBeforeFrame c g h.events h.tails → (IsLastBy way c h.events → ⊥)
+      (ran : Ran) (h : Holds way c done g place ran) → IsBeforeFrame c h.events h.tails → (IsLastBy way c h.events → ⊥)
       → (inputs : ℕ → List (List ℕ)) → Continue way c h.events inputs → begun h.events < frames_by way c inputs
   more_frames law own c done g place ran h b not_last inputs k =
       let f = h.time.few inputs k in
@@ -124,7 +123,7 @@ module _ (way : Sharing) where
       record {
         plan = h.plan;
         events = h.events ++ Begun ∷ [];
-        stands = subst (λ (p : Phase). StandsIn p next (h.events ++ Begun ∷ [])) (sym to) (stands h.events b.stands);
+        stands = stands h.events h.stands;
         frames = omega (arith, one, f, n);
         units = same ∙ h.units ∙ sym m;
         tails = h.tails;
@@ -132,7 +131,7 @@ module _ (way : Sharing) where
             offered_on c done h.events (h.events ++ Begun ∷ []) h.tails
             (λ plp. ap (λ (t : Told). t.packets) (told_begun plp h.events))
             (λ plp. ap (λ (t : Told). t.ended) (told_begun plp h.events)) b.none h.inputs;
-        time = time_begun c h.events b.all (more_frames law own c done g place ran h b (not_last h.events b.stands)) b.is_going
+        time = time_begun c h.events b.all (more_frames law own c done g place ran h b (not_last h.events h.stands)) b.is_going
             h.time;
         sends = sends_begun way grow c done h.events b.is_going h.sends;
         is_in = subst (λ (p : Phase). IsIn way c (h.events ++ Begun ∷ []) h.tails p) (sym to) (
@@ -161,13 +160,13 @@ module _ (way : Sharing) where
       record {
         plan = h.plan;
         events = h.events ++ Finished ∷ [];
-        stands = subst (λ (p : Phase). StandsIn p next (h.events ++ Finished ∷ [])) (sym to) (stands h.events b.stands);
+        stands = stands h.events h.stands;
         frames = h.frames ∙ sym n;
         units = h.units ∙ sym m;
         tails = h.tails;
         inputs = offered_on c done h.events (h.events ++ Finished ∷ []) h.tails (λ plp. ap (λ (t : Told). t.packets) (same plp))
             (λ plp. ap (λ (t : Told). t.ended) (same plp)) b.none h.inputs;
-        time = time_same way c h.events Finished same refl (λ on. still_last way c h.events Finished h.plan.rules same (last h.events b.stands))
+        time = time_same way c h.events Finished same refl (λ on. still_last way c h.events Finished h.plan.rules same (last h.events h.stands))
             h.time;
         sends = sends_finished way c done h.events b.is_going h.sends;
         is_in = subst (λ (p : Phase). IsIn way c (h.events ++ Finished ∷ []) h.tails p) (sym to) (
@@ -184,7 +183,7 @@ module _ (way : Sharing) where
 
   -- The same was done, and it goes on elsewhere.
   pub moved_to : (c : Config) (done : List run.Event) (g next : List Event → Type 0) (place after : Place) (ran : Ran)
-      (h : Holds way c done g place ran) → StandsIn after.phase next h.events → IsIn way c h.events h.tails after.phase
+      (h : Holds way c done g place ran) → next h.events → IsIn way c h.events h.tails after.phase
       → NoTails h.tails → Holds way c done next after ran
   moved_to c done g next place after ran h stands at none = record {
     plan = h.plan;
@@ -207,11 +206,11 @@ module _ (way : Sharing) where
       → Holds way c done g after ran
   too_many law own c done g place after ran ready to most not_last h =
       let b = ready h in
-      moved_to c done g g place after ran h (subst (λ (p : Phase). StandsIn p g h.events) (sym to) tt)
+      moved_to c done g g place after ran h h.stands
       (subst (λ (p : Phase). IsIn way c h.events h.tails p) (sym to)
       (record {
         none = b.none;
         frame = sym h.frames ∙ most;
         all = b.all;
-        more = more_frames law own c done g place ran h b (not_last h.events b.stands);
+        more = more_frames law own c done g place ran h b (not_last h.events h.stands);
       })) b.none

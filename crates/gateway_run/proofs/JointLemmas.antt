@@ -1,21 +1,18 @@
 -- A gateway with common PLPs, by its inputs.
-use Rattle.std.proofs.Common.{◌≡◌, ℕ, ◌+◌, ◌-◌, ◌*◌, ◌<◌, ◌≤◌, Bool, true, false, List, ◌++◌, [], length, None, ap, sym, subst}
+use Rattle.std.proofs.Common.{◌≡◌, ℕ, ◌+◌, ◌-◌, ◌*◌, ◌<◌, ◌≤◌, Bool, true, false, List, length, None, ap, sym, subst}
 use Rattle.std.proofs.Common.{◌∙◌, inl, inr, arith}
-use Rattle.std.specs.Prelude.{◌↔◌, slice_get, Some}
+use Rattle.std.specs.Prelude.{◌↔◌, Some}
 use Rattle.std.proofs.lemmas.Bool.{cases_lt}
 use Rattle.plp_config.specs.Rules.{AllRules}
 use Rattle.plp_config.specs.SlotTime.{slots_by}
 use Rattle.plp_config.specs.declared.config.Config.{Config}
-use Rattle.t2mi_stream.specs.Complete.{complete_units}
-use Rattle.t2mi_stream.specs.Pipe.{pipe}
 use Rattle.common_plp.specs.Groups.{is_common}
 use Rattle.common_plp.specs.Inputs.{commons, place_of, input_count}
 use Rattle.common_plp.specs.Sharing.{Joint}
 use Rattle.common_plp.specs.Split.{split}
 use Rattle.common_plp.proofs.InputLemmas.{behind_own, place_inside, place_own}
-use Rattle.gateway_core.specs.Events.{Event, offered, has_ended, begun, given, finished}
+use Rattle.gateway_core.specs.Events.{Event, offered, has_ended, begun, finished}
 use Rattle.gateway_core.specs.InputSoFar.{told, Continues}
-use Rattle.gateway_core.specs.Packets.{front_packets}
 use Rattle.gateway_core.proofs.LawLemmas.{frame_count_same}
 use Rattle.split_gateway.specs.Continuing.{InputsContinue, IsLast, frames_of}
 use Rattle.split_gateway.specs.Order.{IsInput, IsWanted, IsWantedFirst, turn_of}
@@ -23,10 +20,10 @@ use Rattle.split_gateway.specs.StandsFor.{SplitGatewayStandsFor, IsAsked, NoneWa
 use Rattle.split_gateway.specs.declared.gateway.SplitGateway.{SplitGateway}
 use Rattle.split_gateway.proofs.MemberLemmas.{member_input, split_depends}
 use Rattle.split_gateway.proofs.StandLemmas.{asked_wants}
-use Rattle.gateway_run.specs.Holds.{AreComplete, AreAll, HasAll}
+use Rattle.gateway_run.specs.Holds.{HasAll}
 use Rattle.gateway_run.specs.Inputs.{Continue, frames_by, IsLastBy}
 use Rattle.gateway_run.specs.Joint.{seen_of}
-use Rattle.gateway_run.specs.Seen.{Asks, IsNext}
+use Rattle.gateway_run.specs.Seen.{Asks}
 use Rattle.gateway_run.proofs.EventLemmas as core
 
 -- a PLP that is not common has an input
@@ -39,31 +36,16 @@ back_place c plp i = let behind = behind_own c plp i.1 in omega (arith, behind)
 is_input : (c : Config) (input : ℕ) → AllRules c → input < input_count Joint c → IsInput c (place_of Joint c input)
 is_input c input rules lt = (place_inside Joint c input lt, place_own c input rules lt)
 
+-- inputs by the PLPs that they go in
+abbrev pub by_plp : Config → (ℕ → List (List ℕ)) → ℕ → List (List ℕ)
+by_plp c inputs plp = inputs (plp - commons c.plps)
+
 -- what continues what came of the inputs continues what came of their PLPs
-continues_joint : (c : Config) (events : List Event) (inputs : ℕ → List (List ℕ)) → Continue Joint c events inputs
-    → InputsContinue c events (λ plp. inputs (plp - commons c.plps))
+pub continues_joint : (c : Config) (events : List Event) (inputs : ℕ → List (List ℕ)) → Continue Joint c events inputs
+    → InputsContinue c events (by_plp c inputs)
 continues_joint c events inputs k = λ plp i.
-    subst (λ (p : ℕ). Continues (told p events) (inputs (plp - commons c.plps))) (back_place c plp i)
+    subst (λ (p : ℕ). Continues (told p events) (by_plp c inputs plp)) (back_place c plp i)
     (k (plp - commons c.plps) (back_inside c plp i))
-
-pub next_joint : (c : Config) (events : List Event) (unit : List ℕ)
-    → ((inputs : ℕ → List (List ℕ)) → InputsContinue c events inputs → (more : List (List ℕ)) → (finished events ≡ true → more ≡ [])
-    → slice_get (pipe c.pid (front_packets c (split c inputs) (begun events) ++ more)) (given events) ≡ Some unit)
-    → IsNext Joint c events unit
-next_joint c events unit law = λ inputs k more none.
-    law (λ plp. inputs (plp - commons c.plps)) (continues_joint c events inputs k) more none
-
-pub complete_joint : (c : Config) (events : List Event)
-    → ((inputs : ℕ → List (List ℕ)) → InputsContinue c events inputs
-    → given events ≡ length (complete_units c.pid (front_packets c (split c inputs) (begun events))))
-    → AreComplete Joint c events
-complete_joint c events law = λ inputs k. law (λ plp. inputs (plp - commons c.plps)) (continues_joint c events inputs k)
-
-pub all_joint : (c : Config) (events : List Event)
-    → ((inputs : ℕ → List (List ℕ)) → InputsContinue c events inputs
-    → length (pipe c.pid (front_packets c (split c inputs) (begun events))) ≡ given events)
-    → AreAll Joint c events
-all_joint c events law = λ inputs k. law (λ plp. inputs (plp - commons c.plps)) (continues_joint c events inputs k)
 
 -- ---- the last frame
 

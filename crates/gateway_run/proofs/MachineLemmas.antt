@@ -1,5 +1,5 @@
 -- A gateway as a machine between files.
-use Rattle.std.proofs.Common.{◌≡◌, ℕ, ◌*◌, ◌<◌, ◌≤◌, Bool, List, [], ◌++◌, length, ap, sym, subst, ◌∙◌, arith, append-nil}
+use Rattle.std.proofs.Common.{◌≡◌, ℕ, ◌*◌, ◌<◌, ◌≤◌, Bool, List, [], ◌++◌, length, ap, ◌∙◌, arith, append-nil}
 use Rattle.plp_config.specs.SlotTime.{slots_by}
 use Rattle.plp_config.specs.declared.config.Config.{Config}
 use Rattle.ts_packet.specs.TsFile.{joined}
@@ -10,7 +10,7 @@ use Rattle.file_run.specs.Events as run
 use Rattle.file_run.specs.Steps.{CanBeRead}
 use Rattle.gateway_core.specs.Events.{Event}
 use Rattle.gateway_run.specs.Holds.{IsOffered, Holds}
-use Rattle.gateway_run.specs.Phases.{frame_read}
+use Rattle.gateway_run.specs.Phases.{frame_read, reach_by}
 use Rattle.gateway_run.specs.declared.place.Phase.{Phase}
 use Rattle.gateway_run.specs.declared.place.Phase.TheVariants.{Wants}
 use Rattle.gateway_run.specs.declared.place.Place.{Place}
@@ -31,32 +31,23 @@ reach_more c plp frame later le = let s = slots_rise c plp frame later le in ome
 
 -- What a frame wants of the input that is looked at can be read.
 pub wanted_by : (way : Sharing) (c : Config) (done : List run.Event) (g : List Event → Type 0) (place : Place) (ran : Ran)
-    (wants n inputs : ℕ) → inputs ≡ input_count way c → Waits way c done g place ran wants → n ≤ wants → (0 < wants → 0 < n)
-    → Holds way c done g place ran
-    → CanBeRead inputs done (λ input. SIZE * slots_by c (place_of way c input) (ran.frames * c.ticks)) place.input SIZE (SIZE * n)
-wanted_by way c done g place ran wants n inputs all wait few some h =
-    let x = wait h in
-    let o = h.inputs.each place.input x.first.inside in
-    let at = ap (λ (m : ℕ). slots_by c (place_of way c place.input) (m * c.ticks)) h.frames in
-    let l = x.first.less in
-    let k = x.first.wants_are in
-    let size = offered_length _ _ _ _ _ (x.none place.input) o in
-    let i = x.first.inside in
+    (wants n inputs : ℕ) → place.phase ≡ Wants → inputs ≡ input_count way c → Waits way c done g place ran wants → n ≤ wants
+    → (0 < wants → 0 < n) → Holds way c done g place ran
+    → CanBeRead inputs done (reach_by way c place.phase ran.frames) place.input SIZE (SIZE * n)
+wanted_by way c done g place ran wants n inputs e all wait few some h =
+    let w = wait h in
+    let i = w.first.inside in
+    let o = h.inputs.each place.input i in
+    let at = ap (λ (m : ℕ). slots_by c (place_of way c place.input) (m * c.ticks)) (ap (λ (p : Phase). frame_read p ran.frames) e ∙ h.frames) in
+    let l = w.first.less in
+    let k = w.first.wants_are in
+    let size = offered_length _ _ _ _ _ (w.none place.input) o in
     let more : 0 < n = some (omega (arith, k, l)) in
     record {
       place = omega (arith, i, all);
-      is_open = o.end (x.none place.input) ∙ x.first.is_open;
+      is_open = o.end (w.none place.input) ∙ w.first.is_open;
       some = omega arith;
       few = omega arith;
       order = omega (arith, more);
       near = omega (arith, k, at, l, size, few);
     }
-
--- The reach of the machine is that of the frame that is read.
-pub wanted_as : (way : Sharing) (inputs : ℕ) (done : List run.Event) (c : Config) (phase : Phase) (frames input least most : ℕ)
-    → phase ≡ Wants
-    → CanBeRead inputs done (λ k. SIZE * slots_by c (place_of way c k) (frames * c.ticks)) input least most
-    → CanBeRead inputs done (λ k. SIZE * slots_by c (place_of way c k) (frame_read phase frames * c.ticks)) input least most
-wanted_as way inputs done c phase frames input least most e x =
-    subst (λ (f : ℕ). CanBeRead inputs done (λ k. SIZE * slots_by c (place_of way c k) (f * c.ticks)) input least most)
-    (sym (ap (λ (p : Phase). frame_read p frames) e)) x

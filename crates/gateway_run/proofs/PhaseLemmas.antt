@@ -1,12 +1,10 @@
 -- The phases of a run.
-use Rattle.std.proofs.Common.{◌≡◌, ◌≢◌, ◌⊎◌, ℕ, ◌<◌, ◌≤◌, refl, sym, subst, arith, inl, inr}
-use Rattle.plp_config.specs.declared.config.Config.{Config}
+use Rattle.std.proofs.Common.{Option, Some, None, ◌≡◌, ◌≢◌, ◌⊎◌, ℕ, ◌<◌, ◌≤◌, refl, arith, inl, inr}
 use Rattle.ts_packet.specs.declared.sizes.TheConstants.{SIZE}
 use Rattle.file_run.specs.Steps.{Suffices, FallsShort}
-use Rattle.file_run.specs.declared.machine.Step.TheVariants.{Give, End}
 use Rattle.plp_config.specs.declared.moment.TheConstants.{MOST_FRAMES}
-use Rattle.gateway_run.specs.Phases.{IsGiving, IsUsed, IsLooking, IsBadAs, step_by, frame_read}
-use Rattle.gateway_run.specs.declared.stop.GatewayStop.TheVariants.{Bad, TooManyFrames}
+use Rattle.gateway_run.specs.Phases.{IsGiving, step_by, frame_read}
+use Rattle.gateway_run.specs.Ready.{place_by}
 use Rattle.gateway_run.specs.declared.place.Phase.{Phase}
 use Rattle.gateway_run.specs.declared.place.Phase.TheVariants.{Wants, Begins, Gives, Rests, Done, Stopped}
 
@@ -17,13 +15,6 @@ giving_cases Gives i = inl refl
 giving_cases Rests i = inr refl
 giving_cases Done i = absurd i
 giving_cases (Stopped why) i = absurd i
-
-pub giving_used : (phase : Phase) → IsGiving phase → IsUsed phase
-giving_used phase i = elim (giving_cases phase i) [
-  | inl gives ↦ subst (λ (p : Phase). IsUsed p) (sym gives) tt
-  | inr rests ↦
-      subst (λ (p : Phase). IsUsed p) (sym rests) tt
-]
 
 -- ---- what comes next
 
@@ -45,35 +36,12 @@ falls_short_at wants at Rests input count r = absurd r
 falls_short_at wants at Done input count r = absurd r
 falls_short_at wants at (Stopped why) input count r = absurd r
 
--- If something is given and no frame begins, units are given.
-pub giving_at : (wants at : ℕ) (phase : Phase) → step_by wants at phase ≡ Give → phase ≢ Begins → IsGiving phase
-giving_at wants at Wants gives apart = absurd (let e : step_by wants at Wants ≡ Give = gives in cc)
-giving_at wants at Begins gives apart = absurd (apart refl)
-giving_at wants at Gives gives apart = tt
-giving_at wants at Rests gives apart = tt
-giving_at wants at Done gives apart = absurd (let e : End ≡ Give = gives in cc)
-giving_at wants at (Stopped why) gives apart = absurd (let e : End ≡ Give = gives in cc)
-
 -- ---- the frame that is read
 
--- behind a look, or if a packet is bad
-pub looked_read : (frames : ℕ) (phase : Phase) → IsLooking phase → frame_read phase frames ≡ frames
-looked_read frames Wants l = refl
-looked_read frames Begins l = refl
-looked_read frames Gives l = absurd l
-looked_read frames Rests l = absurd l
-looked_read frames Done l = absurd l
-looked_read frames (Stopped why) l = absurd l
-
-pub bad_read : (c : Config) (plp input frames wants : ℕ) (phase : Phase) → IsBadAs c plp input frames wants phase
-    → frame_read phase frames ≡ frames
-bad_read c plp input frames wants (Stopped (Bad of packet)) b = refl
-bad_read c plp input frames wants (Stopped TooManyFrames) b = refl
-bad_read c plp input frames wants Wants b = absurd b
-bad_read c plp input frames wants Begins b = absurd b
-bad_read c plp input frames wants Gives b = absurd b
-bad_read c plp input frames wants Rests b = absurd b
-bad_read c plp input frames wants Done b = absurd b
+-- behind a look
+pub looked_read : (frames : ℕ) (asked : Option ℕ) → frame_read (place_by asked).phase frames ≡ frames
+looked_read frames None = refl
+looked_read frames (Some input) = refl
 
 pub read_early : (p : Phase) (frames : ℕ) → frames ≤ MOST_FRAMES → frame_read p frames ≤ MOST_FRAMES
 read_early Wants frames le = le

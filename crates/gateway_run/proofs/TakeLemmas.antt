@@ -1,7 +1,7 @@
 -- An input was fed, or ended.
 use Rattle.std.proofs.Common.{◌≡◌, ◌≢◌, ℕ, ◌+◌, ◌-◌, ◌*◌, ◌<◌, ◌≤◌, Bool, true, false, cond, List, [], ◌∷◌, ◌++◌, length, take}
 use Rattle.std.proofs.Common.{refl, ap, sym, subst, ◌∙◌, inl, inr, arith, append-nil, eq-eqb}
-use Rattle.std.specs.Prelude.{◌==◌, ◌⊎◌, slice_index}
+use Rattle.std.specs.Prelude.{◌==◌, ◌⊎◌, slice_index, Option, Some, None}
 use Rattle.std.proofs.lemmas.Bool.{cases_eq, ne_eqb}
 use Rattle.std.proofs.lemmas.List.{length_push, length-take-le}
 use Rattle.ts_packet.proofs.JoinedLemmas.{joined_push}
@@ -19,14 +19,13 @@ use Rattle.gateway_core.specs.InputSoFar.{Told, told}
 use Rattle.gateway_core.proofs.InputsLemmas.{told_offered, told_ended}
 use Rattle.gateway_core.proofs.HoldsLemmas.{other_offered, other_ended}
 use Rattle.gateway_run.specs.Holds.{ArePackets, IsOffered, IsInTime, AreComplete, MetBad, StopsFor, NoTails, IsIn}
-use Rattle.gateway_run.specs.Holds.{StandsIn, Holds}
+use Rattle.gateway_run.specs.Holds.{Holds}
 use Rattle.gateway_run.specs.Inputs.{IsBefore, IsLastBy}
 use Rattle.gateway_run.specs.Seen.{WantsFirst}
-use Rattle.gateway_run.specs.Phases.{IsLooking, IsBad, IsBadAs}
+use Rattle.gateway_run.specs.Ready.{place_by}
 use Rattle.gateway_run.specs.declared.stop.GatewayStop.{GatewayStop}
-use Rattle.gateway_run.specs.declared.stop.GatewayStop.TheVariants.{Bad, TooManyFrames}
 use Rattle.gateway_run.specs.declared.place.Phase.{Phase}
-use Rattle.gateway_run.specs.declared.place.Phase.TheVariants.{Wants, Begins, Gives, Rests, Done, Stopped}
+use Rattle.gateway_run.specs.declared.place.Phase.TheVariants.{Stopped}
 use Rattle.gateway_run.specs.declared.place.Place.{Place}
 use Rattle.gateway_run.specs.declared.stop.Ran.{Ran}
 use Rattle.gateway_run.proofs.FileLemmas.{packets_push}
@@ -75,40 +74,16 @@ tail_as bytes now ended is over packets tail new e n i o = record {
   end = λ z. i ∙ o.end (sym e ∙ z);
 }
 
-bad_phase : (c : Config) (plp input frames wants : ℕ) (phase : Phase) → IsBadAs c plp input frames wants phase → (packet : ℕ)
-    × (phase ≡ Stopped (Bad input packet)) × (packet ≡ slots_by c plp (frames * c.ticks) - wants)
-bad_phase c plp input frames wants (Stopped (Bad of packet)) b = (packet, ap (λ (k : ℕ). Stopped (Bad k packet)) b.0, b.1)
-bad_phase c plp input frames wants (Stopped TooManyFrames) b = absurd b
-bad_phase c plp input frames wants Wants b = absurd b
-bad_phase c plp input frames wants Begins b = absurd b
-bad_phase c plp input frames wants Gives b = absurd b
-bad_phase c plp input frames wants Rests b = absurd b
-bad_phase c plp input frames wants Done b = absurd b
-
 module _ (way : Sharing) where
   -- if it is behind a look
-  pub looked_in : (c : Config) (events : List Event) (tails : ℕ → List ℕ) (phase : Phase) → IsLooking phase → NoTails tails
-      → AreComplete way c events → IsIn way c events tails phase
-  looked_in c events tails Wants l t k = (t, k)
-  looked_in c events tails Begins l t k = (t, k)
-  looked_in c events tails Gives l t k = absurd l
-  looked_in c events tails Rests l t k = absurd l
-  looked_in c events tails Done l t k = absurd l
-  looked_in c events tails (Stopped why) l t k = absurd l
-
-  pub looked_stands : (g : List Event → Type 0) (events : List Event) (phase : Phase) → IsLooking phase
-      → g events → StandsIn phase g events
-  looked_stands g events Wants l s = s
-  looked_stands g events Begins l s = s
-  looked_stands g events Gives l s = absurd l
-  looked_stands g events Rests l s = absurd l
-  looked_stands g events Done l s = absurd l
-  looked_stands g events (Stopped why) l s = absurd l
+  pub looked_in : (c : Config) (events : List Event) (tails : ℕ → List ℕ) (asked : Option ℕ) → NoTails tails → AreComplete way c events
+      → IsIn way c events tails (place_by asked).phase
+  looked_in c events tails None t k = (t, k)
+  looked_in c events tails (Some input) t k = (t, k)
 
   -- what is known while packets are wanted
-  pub record IsWaiting (c : Config) (g : List Event → Type 0) (events : List Event) (tails : ℕ → List ℕ) (plp wants : ℕ)
+  pub record IsWaiting (c : Config) (events : List Event) (tails : ℕ → List ℕ) (plp wants : ℕ)
       : Type 0 where
-    pub stands : g events
     pub none : NoTails tails
     pub complete : AreComplete way c events
     pub first : WantsFirst way c events plp wants
@@ -116,7 +91,7 @@ module _ (way : Sharing) where
 
   -- so it is whatever a machine was done
   abbrev pub Waits : Config → List run.Event → (List Event → Type 0) → Place → Ran → ℕ → Type 0
-  Waits c done g place ran wants = (h : Holds way c done g place ran) → IsWaiting c g h.events h.tails place.input wants
+  Waits c done g place ran wants = (h : Holds way c done g place ran) → IsWaiting c h.events h.tails place.input wants
 
   last_none : (c : Config) (old new : List Event) → IsStep way c old new → finished old ≡ false → finished new ≡ true → IsLastBy way c new
   last_none c old new s off on = absurd (let z : true ≡ false = sym on ∙ s.finished_is ∙ off in cc)
@@ -175,11 +150,11 @@ module _ (way : Sharing) where
 
   -- A packet was offered.
   pub packet_offered : EventsTell → (c : Config) (done : List run.Event) (g next : List Event → Type 0)
-      (place after : Place) (ran : Ran) (wants : ℕ) (packet bytes : List ℕ) → Waits c done g place ran wants → IsLooking after.phase
+      (place : Place) (asked : Option ℕ) (ran : Ran) (wants : ℕ) (packet bytes : List ℕ) → Waits c done g place ran wants
       → packet ≡ bytes → length packet ≡ SIZE → slice_index packet 0 ≡ SYNC
       → ((events : List Event) → g events → next (events ++ Offered (place_of way c place.input) packet ∷ []))
-      → Holds way c done g place ran → Holds way c (done ++ run.Fed place.input bytes ∷ []) next after ran
-  packet_offered tell c done g next place after ran wants packet bytes wait look same long sync stands h =
+      → Holds way c done g place ran → Holds way c (done ++ run.Fed place.input bytes ∷ []) next (place_by asked) ran
+  packet_offered tell c done g next place asked ran wants packet bytes wait same long sync stands h =
       let w = wait h in
       let off = w.first.is_open in
       let s : IsStep way c h.events (h.events ++ Offered (place_of way c place.input) packet ∷ []) = step_offered way c h.events (place_of way c place.input) packet off in
@@ -188,8 +163,7 @@ module _ (way : Sharing) where
       record {
         plan = h.plan;
         events = h.events ++ Offered (place_of way c place.input) packet ∷ [];
-        stands = looked_stands next (h.events ++ Offered (place_of way c place.input) packet ∷ []) after.phase look
-            (stands h.events w.stands);
+        stands = stands h.events h.stands;
         frames = h.frames ∙ sym s.begun_is;
         units = h.units ∙ sym s.given_is;
         tails = h.tails;
@@ -208,18 +182,18 @@ module _ (way : Sharing) where
         time = time_offered c h.events place.input packet off w.first.less w.is_going h.time;
         sends = sends_kept way c done (done ++ run.Fed place.input bytes ∷ []) h.events (h.events ++ Offered (place_of way c place.input) packet ∷ []) s
             f.gave h.sends;
-        is_in = looked_in c (h.events ++ Offered (place_of way c place.input) packet ∷ []) h.tails after.phase look
+        is_in = looked_in c (h.events ++ Offered (place_of way c place.input) packet ∷ []) h.tails asked
             w.none (complete_kept way c h.events (h.events ++ Offered (place_of way c place.input) packet ∷ []) s w.complete);
         cut = λ k some. absurd (some (w.none k));
       }
 
   -- An input ended.
   pub input_ended : EventsTell → (c : Config) (done : List run.Event) (g next : List Event → Type 0)
-      (place after : Place) (ran : Ran) (wants : ℕ) (bytes : List ℕ) → Waits c done g place ran wants → IsLooking after.phase
+      (place : Place) (asked : Option ℕ) (ran : Ran) (wants : ℕ) (bytes : List ℕ) → Waits c done g place ran wants
       → bytes ≡ []
       → ((events : List Event) → g events → next (events ++ Ended (place_of way c place.input) ∷ []))
-      → Holds way c done g place ran → Holds way c (done ++ run.Ended place.input bytes ∷ []) next after ran
-  input_ended tell c done g next place after ran wants bytes wait look nothing stands h =
+      → Holds way c done g place ran → Holds way c (done ++ run.Ended place.input bytes ∷ []) next (place_by asked) ran
+  input_ended tell c done g next place asked ran wants bytes wait nothing stands h =
       let w = wait h in
       let s : IsStep way c h.events (h.events ++ Ended (place_of way c place.input) ∷ []) = step_ended way c h.events (place_of way c place.input) in
       let f = tell.ended place.input bytes done in
@@ -227,8 +201,7 @@ module _ (way : Sharing) where
       record {
         plan = h.plan;
         events = h.events ++ Ended (place_of way c place.input) ∷ [];
-        stands = looked_stands next (h.events ++ Ended (place_of way c place.input) ∷ []) after.phase look
-            (stands h.events w.stands);
+        stands = stands h.events h.stands;
         frames = h.frames ∙ sym s.begun_is;
         units = h.units ∙ sym s.given_is;
         tails = h.tails;
@@ -250,7 +223,7 @@ module _ (way : Sharing) where
         time = time_ended c h.events place.input w.is_going h.time;
         sends = sends_kept way c done (done ++ run.Ended place.input bytes ∷ []) h.events (h.events ++ Ended (place_of way c place.input) ∷ []) s f.gave
             h.sends;
-        is_in = looked_in c (h.events ++ Ended (place_of way c place.input) ∷ []) h.tails after.phase look w.none
+        is_in = looked_in c (h.events ++ Ended (place_of way c place.input) ∷ []) h.tails asked w.none
             (complete_kept way c h.events (h.events ++ Ended (place_of way c place.input) ∷ []) s w.complete);
         cut = λ k some. absurd (some (w.none k));
       }
@@ -273,16 +246,16 @@ module _ (way : Sharing) where
     gave : run.gave is ≡ run.gave done
 
   -- These bytes are no packet.
-  stopped_at : (c : Config) (done is : List run.Event) (g next : List Event → Type 0) (place after : Place)
+  stopped_at : (c : Config) (done is : List run.Event) (g : List Event → Type 0) (place after : Place)
       (ran : Ran) (wants : ℕ) (bytes : List ℕ) (why : GatewayStop) → Waits c done g place ran wants → after.phase ≡ Stopped why → bytes ≢ []
       → (slice_index bytes 0 ≢ SYNC) ⊎ (run.has_ended place.input is ≡ true) → IsTold done is place.input bytes
-      → (h : Holds way c done g place ran) → StopsFor way c h.events (one_tail place.input bytes) why → Holds way c is next after ran
-  stopped_at c done is g next place after ran wants bytes why wait to some cut tells h stops =
+      → (h : Holds way c done g place ran) → StopsFor way c h.events (one_tail place.input bytes) why → Holds way c is g after ran
+  stopped_at c done is g place after ran wants bytes why wait to some cut tells h stops =
       let w = wait h in
       record {
         plan = h.plan;
         events = h.events;
-        stands = subst (λ (p : Phase). StandsIn p next h.events) (sym to) tt;
+        stands = h.stands;
         frames = h.frames;
         units = h.units;
         tails = one_tail place.input bytes;
@@ -311,58 +284,48 @@ module _ (way : Sharing) where
             (λ k differ there. absurd (there (tail_other place.input k bytes differ)));
       }
 
-  pub fed_stopped : EventsTell → (c : Config) (done : List run.Event) (g next : List Event → Type 0)
+  pub fed_stopped : EventsTell → (c : Config) (done : List run.Event) (g : List Event → Type 0)
       (place after : Place) (ran : Ran) (wants : ℕ) (bytes : List ℕ) (why : GatewayStop) → Waits c done g place ran wants → after.phase ≡ Stopped why → bytes ≢ []
       → slice_index bytes 0 ≢ SYNC → (h : Holds way c done g place ran) → StopsFor way c h.events (one_tail place.input bytes) why
-      → Holds way c (done ++ run.Fed place.input bytes ∷ []) next after ran
-  fed_stopped tell c done g next place after ran wants bytes why wait to some sync h stops =
+      → Holds way c (done ++ run.Fed place.input bytes ∷ []) g after ran
+  fed_stopped tell c done g place after ran wants bytes why wait to some sync h stops =
       let f = tell.fed place.input bytes done in
-      stopped_at c done (done ++ run.Fed place.input bytes ∷ []) g next place after ran wants bytes why wait to some (inl sync)
+      stopped_at c done (done ++ run.Fed place.input bytes ∷ []) g place after ran wants bytes why wait to some (inl sync)
       (record { here = f.here; others = f.others; ended = λ k differ. f.ended k; gave = f.gave }) h stops
 
-  pub ended_stopped : EventsTell → (c : Config) (done : List run.Event) (g next : List Event → Type 0)
+  pub ended_stopped : EventsTell → (c : Config) (done : List run.Event) (g : List Event → Type 0)
       (place after : Place) (ran : Ran) (wants : ℕ) (bytes : List ℕ) (why : GatewayStop) → Waits c done g place ran wants → after.phase ≡ Stopped why → bytes ≢ []
       → (h : Holds way c done g place ran) → StopsFor way c h.events (one_tail place.input bytes) why
-      → Holds way c (done ++ run.Ended place.input bytes ∷ []) next after ran
-  ended_stopped tell c done g next place after ran wants bytes why wait to some h stops =
+      → Holds way c (done ++ run.Ended place.input bytes ∷ []) g after ran
+  ended_stopped tell c done g place after ran wants bytes why wait to some h stops =
       let f = tell.ended place.input bytes done in
-      stopped_at c done (done ++ run.Ended place.input bytes ∷ []) g next place after ran wants bytes why wait to some (inr f.ended)
+      stopped_at c done (done ++ run.Ended place.input bytes ∷ []) g place after ran wants bytes why wait to some (inr f.ended)
       (record { here = f.here; others = f.others; ended = f.others_ended; gave = f.gave }) h stops
 
   -- The next packet of the input that is looked at is bad.
-  pub record IsMet (c : Config) (events : List Event) (tails : ℕ → List ℕ) (plp : ℕ) (after : Place) : Type 0 where
-    pub packet : ℕ
-    pub phase : after.phase ≡ Stopped (Bad plp packet)
-    pub met : MetBad way c events tails plp packet
-
-  pub met_bad : (c : Config) (done : List run.Event) (g : List Event → Type 0) (place after : Place) (ran : Ran) (wants : ℕ)
-      (bytes : List ℕ) → Waits c done g place ran wants → IsBad c (place_of way c place.input) place.input ran.frames wants after
-      → bytes ≢ [] → begins_with_packet bytes ≡ false → (h : Holds way c done g place ran)
-      → IsMet c h.events (one_tail place.input bytes) place.input after
-  met_bad c done g place after ran wants bytes wait b some off h =
+  pub met_bad : (c : Config) (done : List run.Event) (g : List Event → Type 0) (place : Place) (ran : Ran) (wants : ℕ) (bytes : List ℕ)
+      → Waits c done g place ran wants → bytes ≢ [] → begins_with_packet bytes ≡ false → (h : Holds way c done g place ran)
+      → MetBad way c h.events (one_tail place.input bytes) place.input
+      (slots_by c (place_of way c place.input) (ran.frames * c.ticks) - wants)
+  met_bad c done g place ran wants bytes wait some off h =
       let w = wait h in
-      let p = bad_phase c (place_of way c place.input) place.input ran.frames wants after.phase b in
       let same = ap (λ (n : ℕ). slots_by c (place_of way c place.input) (n * c.ticks)) h.frames in
       let l = w.first.less in
       let k = w.first.wants_are in
-      let n = p.2 in
-      let number : p.0 ≡ length (offered (place_of way c place.input) h.events) = omega (arith, k, same, l, n) in
+      let packet : ℕ = slots_by c (place_of way c place.input) (ran.frames * c.ticks) - wants in
+      let number : packet ≡ length (offered (place_of way c place.input) h.events) = omega (arith, k, same, l) in
       record {
-        packet = p.0;
-        phase = p.1;
-        met = record {
-          place = w.first.inside;
-          number = number;
-          is_open = w.first.is_open;
-          wanted = omega (arith, number, l);
-          some = λ z. some (sym (tail_here place.input bytes) ∙ z);
-          bad = ap begins_with_packet (tail_here place.input bytes) ∙ off;
-          below = λ other lt before. w.first.below other lt
-              (subst (λ (n : ℕ). IsBefore way c other (length (offered (place_of way c other) h.events)) place.input n) number before);
-          others = λ other differ. tail_other place.input other bytes differ;
-          complete = w.complete;
-          is_going = w.is_going;
-        };
+        place = w.first.inside;
+        number = number;
+        is_open = w.first.is_open;
+        wanted = omega (arith, number, l);
+        some = λ z. some (sym (tail_here place.input bytes) ∙ z);
+        bad = ap begins_with_packet (tail_here place.input bytes) ∙ off;
+        below = λ other lt before. w.first.below other lt
+            (subst (λ (n : ℕ). IsBefore way c other (length (offered (place_of way c other) h.events)) place.input n) number before);
+        others = λ other differ. tail_other place.input other bytes differ;
+        complete = w.complete;
+        is_going = w.is_going;
       }
 
 -- the first packet of enough bytes

@@ -4,7 +4,7 @@ use Rattle.plp_config.specs.declared.config.Config.{Config}
 use Rattle.common_plp.specs.Sharing.{Sharing}
 use Rattle.file_run.specs.Events as run
 use Rattle.gateway_core.specs.StandsFor.{Status}
-use Rattle.gateway_run.specs.Holds.{AreComplete, NoTails, IsIn, StandsIn}
+use Rattle.gateway_run.specs.Holds.{AreComplete, NoTails, IsIn}
 use Rattle.gateway_run.specs.Ready.{IsReady}
 use Rattle.gateway_run.specs.Seen.{Seen}
 use Rattle.gateway_run.specs.declared.place.Phase.{Phase}
@@ -18,26 +18,22 @@ module _ (way : Sharing) (c : Config) (s : Seen) (t : Status) (place : Place) (r
     (done : List run.Event) where
   pub waits : place.phase ≡ Wants → Waits way c done s.stands place ran (s.wants place.input)
   waits e = λ h.
-      let stands : s.stands h.events = subst (λ (p : Phase). StandsIn p s.stands h.events) e h.stands in
       let i : NoTails h.tails × AreComplete way c h.events = subst (λ (p : Phase). IsIn way c h.events h.tails p) e h.is_in in
       let a = (r.wanting e).0 in
       record {
-        stands = stands;
         none = i.0;
         complete = i.1;
-        first = a.right h.events stands;
-        is_going = a.is_going h.events stands;
+        first = a.right h.events h.stands;
+        is_going = a.is_going h.events h.stands;
       }
 
   pub ready_for : place.phase ≡ Begins → IsReadyFor way c done s.stands place ran
   ready_for e = λ h.
-      let stands : s.stands h.events = subst (λ (p : Phase). StandsIn p s.stands h.events) e h.stands in
       let i : NoTails h.tails × AreComplete way c h.events = subst (λ (p : Phase). IsIn way c h.events h.tails p) e h.is_in in
       let a = (r.beginning e).0 in
       record {
-        stands = stands;
         none = i.0;
         complete = i.1;
-        is_going = a.is_going h.events stands;
-        all = a.right h.events stands;
+        is_going = a.is_going h.events h.stands;
+        all = a.right h.events h.stands;
       }

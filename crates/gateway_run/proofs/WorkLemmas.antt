@@ -40,7 +40,7 @@ use Rattle.gateway_run.specs.declared.stop.Ran.{Ran}
 use Rattle.gateway_run.proofs.AheadLemmas.{reads_ahead}
 use Rattle.gateway_run.proofs.MachineLemmas.{offered_length}
 use Rattle.gateway_run.proofs.OrderLemmas.{earlier_still}
-use Rattle.gateway_run.proofs.OutputLemmas.{continue_files, none_before, none_here, gave_all, ended_all, gave_complete}
+use Rattle.gateway_run.proofs.OutputLemmas.{continue_files, none_before, none_here, gave_all, gave_complete}
 use Rattle.gateway_run.proofs.OutputLemmas.{none_whole, gave_since, gave_front, meets_bad, offered_few}
 use Rattle.gateway_run.proofs.PhaseLemmas.{falls_short_at, read_early, read_few}
 use Rattle.gateway_run.proofs.WaitingLemmas.{waits, ready_for}
@@ -75,11 +75,11 @@ module _ (way : Sharing) (c : Config) (s : Seen) (t : Status) (place : Place) (r
 
   runs_all : place.phase ≡ phase.Done → length places ≡ input_count way c → RunsAll way c files ran places (run.gave events)
   runs_all e all =
-      let a = gave_all way c events s.stands place ran e h files places are in
+      let a = gave_all way c events s.stands place ran h files places are e in
       record {
-        ends = are_whole (input_count way c) files places events all are (ended_all way c events s.stands place ran e h);
+        ends = are_whole (input_count way c) files places events all are a.ended;
         whole = a.whole;
-        early = ready.early;
+        early = ready.counted.early;
         frames_are = a.frames;
         units_are = a.count;
         output = a.units;
@@ -91,10 +91,10 @@ module _ (way : Sharing) (c : Config) (s : Seen) (t : Status) (place : Place) (r
       let m : MetBad way c h.events h.tails input packet = subst (λ (p : Phase). IsIn way c h.events h.tails p) e h.is_in in
       record {
         frame = ran.frames;
-        early = ready.early;
+        early = ready.counted.early;
         no_further = further_in (phase.Stopped (Bad input packet)) e;
-        meets = meets_bad way c events s.stands place ran input packet e h files places are;
-        output = gave_complete way units c events s.stands place ran h files places are m.complete;
+        meets = meets_bad way c events s.stands place ran h files places are input packet e;
+        output = gave_complete way c events s.stands place ran h files places are units m.complete;
       }
 
   too_many_frames : place.phase ≡ phase.Stopped TooManyFrames → HasTooManyFrames way c files
@@ -116,7 +116,7 @@ module _ (way : Sharing) (c : Config) (s : Seen) (t : Status) (place : Place) (r
   ends_in units grow phase.Done e end all = runs_all e all
   ends_in units grow (phase.Stopped (Bad input packet)) e end all = stops_at_bad units input packet e
   ends_in units grow (phase.Stopped TooManyFrames) e end all =
-      (too_many_frames e, gave_front way grow c events s.stands place ran h files places are)
+      (too_many_frames e, gave_front way c events s.stands place ran h files places are grow)
 
   -- Of the input that is looked at no whole packet waits.
   stops_here : UnitsLaw → FrontsGrow → place.phase ≡ phase.Wants
@@ -133,7 +133,7 @@ module _ (way : Sharing) (c : Config) (s : Seen) (t : Status) (place : Place) (r
       (are place.input inside).ahead short in
       record {
         frame = ran.frames;
-        early = ready.early;
+        early = ready.counted.early;
         wants = omega (arith, size, slots, less, short);
         no_further = further_in phase.Wants e;
         read = none_whole way c events s.stands place ran h files places are place.input inside (w.none place.input) short;
@@ -145,8 +145,8 @@ module _ (way : Sharing) (c : Config) (s : Seen) (t : Status) (place : Place) (r
               place.input (length (offered plp h.events)) (offered_few way c events s.stands place ran h files places are other lt)
               (subst (λ (n : ℕ). IsBefore way c other (length (packets_in (files other))) place.input n) slot before))),
         );
-        begins = gave_front way grow c events s.stands place ran h files places are;
-        output = gave_complete way units c events s.stands place ran h files places are w.complete;
+        begins = gave_front way c events s.stands place ran h files places are grow;
+        output = gave_complete way c events s.stands place ran h files places are units w.complete;
       }
 
   too_long : UnitsLaw → FrontsGrow → (input : ℕ) → slice_index places input ≡ longest_file
@@ -214,7 +214,7 @@ module _ (way : Sharing) (c : Config) (s : Seen) (t : Status) (place : Place) (r
   stops_writing units three gives bytes front more is some begins =
       let frame : ℕ = frame_read place.phase ran.frames in
       let k = known place.phase refl gives in
-      let g = gave_since way units c events s.stands place ran h files places frame are k.given_all in
+      let g = gave_since way c events s.stands place ran h files places are units frame k.given_all in
       let all : bytes ≡ joined (complete_units c.pid (front_packets c (streams_by way c (inputs_of files)) frame)) ++ (g.0 ++ front) =
       is ∙ ap (λ (l : List ℕ). l ++ front) g.1
       ∙ append_assoc (joined (complete_units c.pid (front_packets c (streams_by way c (inputs_of files)) frame))) g.0 front in
@@ -223,7 +223,7 @@ module _ (way : Sharing) (c : Config) (s : Seen) (t : Status) (place : Place) (r
       let within : frame ≤ frames_of way c files = omega (arith, few, frames, read_few place.phase ran.frames) in
       record {
         frame = frame;
-        early = read_early place.phase ran.frames ready.early;
+        early = read_early place.phase ran.frames ready.counted.early;
         no_further = further;
         before = k.none;
         some = record { more = more; some = some; begins = begins; since = g.0 ++ front; complete = all };
@@ -275,9 +275,9 @@ module _ (way : Sharing) (M : Type 0) (config_of : M → Config) (seen_of : M �
         (fed_at files places events are) (further_at now places came.0 all within) (holds_at now events came) units grow input wants;
     unwritten = λ files places events now bytes all are g.
         let fed = fed_at files places events are in
-        let f = gave_front way grow c (events ++ g.late) (seen_of now).stands (at now) (ran_of now)
+        let f = gave_front way c (events ++ g.late) (seen_of now).stands (at now) (ran_of now)
         (holds_at now (events ++ g.late) g.came_late) files places
-        (fed_since (input_count way c) files places events g.late g.only fed) in
+        (fed_since (input_count way c) files places events g.late g.only fed) grow in
         stops_writing way c (seen_of g.mid) (status_of g.mid) (at g.mid) (ran_of g.mid) (ready_at g.mid g.came.0) files places events fed
         (further_at g.mid places g.came.0 all g.within) (holds_at g.mid events g.came) units three g.gives bytes g.front (g.more ++ f.0)
         g.is

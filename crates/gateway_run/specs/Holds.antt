@@ -114,20 +114,11 @@ IsIn w c events tails Rests = NoTails tails × HasGiven w c events (begun events
 IsIn w c events tails Done = NoTails tails × (finished events ≡ true) × AreAll w c events
 IsIn w c events tails (Stopped why) = StopsFor w c events tails why
 
--- The gateway stands for these events, while it is used.
-abbrev pub StandsIn : Phase → (List Event → Type 0) → List Event → Type 0
-StandsIn Wants g events = g events
-StandsIn Begins g events = g events
-StandsIn Gives g events = g events
-StandsIn Rests g events = g events
-StandsIn Done g events = Unit {0}
-StandsIn (Stopped why) g events = Unit {0}
-
 -- What was done to it as a machine, and what was done to the gateway.
 pub record Holds (w : Sharing) (c : Config) (done : List run.Event) (g : List Event → Type 0) (place : Place) (ran : Ran) : Type 0 where
   pub plan : IsPlan c
   pub events : List Event
-  pub stands : StandsIn place.phase g events
+  pub stands : g events
   pub frames : ran.frames ≡ begun events
   pub units : ran.units ≡ given events
   pub tails : ℕ → List ℕ

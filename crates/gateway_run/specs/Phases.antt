@@ -1,5 +1,5 @@
 -- What is done in the phases of a run, and how much of it is left. No public clause cites this module.
-use Rattle.std.specs.Prelude.{◌≡◌, ℕ, ◌-◌, ◌+◌, ◌*◌, ◌^◌, min, Result, Ok, Err}
+use Rattle.std.specs.Prelude.{ℕ, ◌-◌, ◌+◌, ◌*◌, ◌^◌, min, Result, Ok, Err}
 use Rattle.plp_config.specs.SlotTime.{slots_by}
 use Rattle.plp_config.specs.declared.config.Config.{Config}
 use Rattle.plp_config.specs.declared.moment.TheConstants.{MOST_FRAMES}
@@ -15,15 +15,6 @@ use Rattle.gateway_run.specs.declared.stop.Ran.{Ran}
 use Rattle.gateway_run.specs.declared.place.Phase.{Phase}
 use Rattle.gateway_run.specs.declared.place.Phase.TheVariants.{Wants, Begins, Gives, Rests, Done, Stopped}
 
--- After a stop the gateway is used no more.
-abbrev pub IsUsed : Phase → Type 0
-IsUsed Wants = Unit {0}
-IsUsed Begins = Unit {0}
-IsUsed Gives = Unit {0}
-IsUsed Rests = Unit {0}
-IsUsed Done = Unit {0}
-IsUsed (Stopped why) = ⊥
-
 -- Units are given.
 abbrev pub IsGiving : Phase → Type 0
 IsGiving Wants = ⊥
@@ -33,22 +24,9 @@ IsGiving Rests = Unit {0}
 IsGiving Done = ⊥
 IsGiving (Stopped why) = ⊥
 
--- It was looked for the next packet.
-abbrev pub IsLooking : Phase → Type 0
-IsLooking Wants = Unit {0}
-IsLooking Begins = Unit {0}
-IsLooking Gives = ⊥
-IsLooking Rests = ⊥
-IsLooking Done = ⊥
-IsLooking (Stopped why) = ⊥
-
--- A packet of the input of a PLP is bad, the first one that the next frame still wants.
-abbrev pub IsBadAs : Config → ℕ → ℕ → ℕ → ℕ → Phase → Type 0
-IsBadAs c plp input frames wants (Stopped (Bad of packet)) = (of ≡ input) × (packet ≡ slots_by c plp (frames * c.ticks) - wants)
-IsBadAs c plp input frames wants phase = ⊥
-
-abbrev pub IsBad : Config → ℕ → ℕ → ℕ → ℕ → Place → Type 0
-IsBad c plp input frames wants place = IsBadAs c plp input frames wants place.phase
+-- where it stops at the packet of an input that is bad, the first one that a frame still wants of its PLP
+abbrev pub bad_by : Config → ℕ → ℕ → ℕ → ℕ → Place
+bad_by c plp input frames wants = record { input = 0; phase = Stopped (Bad input (slots_by c plp (frames * c.ticks) - wants)) }
 
 -- how much may still be given, in frames to begin and in bytes
 abbrev pub to_give : ℕ → ℕ → ℕ

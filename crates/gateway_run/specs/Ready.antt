@@ -7,7 +7,6 @@ use Rattle.common_plp.specs.Sharing.{Sharing}
 use Rattle.file_run.specs.Events.{Event}
 use Rattle.gateway_core.specs.StandsFor.{Status}
 use Rattle.gateway_run.specs.Holds.{Holds}
-use Rattle.gateway_run.specs.Phases.{IsUsed}
 use Rattle.gateway_run.specs.Seen.{Seen, Asks, IsIdle}
 use Rattle.gateway_run.specs.declared.place.Phase.TheVariants.{Wants, Begins, Gives}
 use Rattle.gateway_run.specs.declared.place.Place.{Place}
@@ -18,12 +17,16 @@ abbrev pub place_by : Option ℕ → Place
 place_by None = record { input = 0; phase = Begins }
 place_by (Some input) = record { input = input; phase = Wants }
 
+-- What it counted is what the gateway tells, and so few that the units can be counted.
+pub record IsCounted (t : Status) (ran : Ran) : Type 0 where
+  pub frames : ran.frames ≡ t.frame
+  pub early : ran.frames ≤ MOST_FRAMES
+  pub few : ran.units + t.left ≤ ran.frames * 2 ^ 32
+
+-- What a step finds of the gateway at its place.
 pub record IsReady (w : Sharing) (c : Config) (s : Seen) (t : Status) (place : Place) (ran : Ran) : Type 0 where
   pub is_of : s.is_of
-  pub frames_are : IsUsed place.phase → ran.frames ≡ t.frame
-  pub early : ran.frames ≤ MOST_FRAMES
-  -- so the units can be counted
-  pub few : IsUsed place.phase → ran.units + t.left ≤ ran.frames * 2 ^ 32
+  pub counted : IsCounted t ran
   pub wanting : place.phase ≡ Wants → Asks w c s (Some place.input) × IsIdle t
   pub beginning : place.phase ≡ Begins → Asks w c s None × IsIdle t
   pub giving : place.phase ≡ Gives → t.finished ≡ false

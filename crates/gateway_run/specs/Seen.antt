@@ -22,6 +22,7 @@ pub record Seen : Type 1 where
   pub asks : Option ℕ → Type 0
   -- how many packets the next frame still wants of an input that is asked for
   pub wants : ℕ → ℕ
+  -- Either has one proof at most.
   pub of_prop : IsProp is_of
   pub asks_prop : (asked : Option ℕ) → IsProp (asks asked)
 

@@ -22,6 +22,7 @@ pub trait FrameGateway {
     /// What is seen of it, by its configuration.
     ghost seen: { Self → Config → Seen };
 
+    /// What is seen of it whatever its configuration.
     ghost status: { Self → Status };
 
     /// The place of the PLP of an input.

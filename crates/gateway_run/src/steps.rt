@@ -4,7 +4,7 @@ ghost use Rattle.plp_config.specs.declared.moment.TheConstants.{MOST_FRAMES};
 ghost use Rattle.common_plp.specs.Inputs.{place_of};
 ghost use Rattle.file_run.specs.Events.{Event, Fed, Ended, Gave};
 ghost use Rattle.gateway_run.specs.Holds.{Holds};
-ghost use Rattle.gateway_run.specs.Phases.{IsBad, IsGiving, frame_read, left_by};
+ghost use Rattle.gateway_run.specs.Phases.{IsGiving, bad_by, frame_read, left_by};
 ghost use Rattle.gateway_run.specs.Ready.{IsReady, place_by};
 ghost use Rattle.gateway_run.specs.Seen.{Asks};
 ghost use Rattle.gateway_run.specs.declared.place.Place.{Place};
@@ -54,8 +54,8 @@ fn place_in(phase: Phase) -> Place
 fn bad<G: FrameGateway>(gateway: &G, plan: &Plan, input: usize, frames: u64) -> Place
     requires asks { Asks G.sharing plan.now (G.seen gateway.now plan.now) (Some input) }
     requires early { frames ≤ MOST_FRAMES }
-    ensures { IsBad plan.now (place_of G.sharing plan.now input) input frames
-        ((G.seen gateway.now plan.now).wants input) result }
+    ensures { result ≡ bad_by plan.now (place_of G.sharing plan.now input) input frames
+        ((G.seen gateway.now plan.now).wants input) }
 {
     let plp = gateway.place_of(plan, input);
     let ticks = u64::from(plan.config().ticks);

@@ -1,4 +1,4 @@
-use Rattle.std.proofs.Common.{◌≡◌, subst, sym, [], ◌∷◌, ◌++◌, arith}
+use Rattle.std.proofs.Common.{◌≡◌, ap, subst, sym, [], ◌∷◌, ◌++◌, arith}
 use Rattle.std.proofs.lemmas.List.{nil_from_length}
 use Rattle.file_run.specs.Events.{Ended}
 use Rattle.gateway_run.specs.Holds.{Holds}
@@ -7,8 +7,8 @@ use Rattle.gateway_run.specs.Ready.{IsReady}
 use Rattle.gateway_run.specs.declared.place.Place.{Place}
 use Rattle.gateway_run.proofs.FileLemmas.{no_short}
 use Rattle.gateway_run.proofs.TakeLemmas.{input_ended, ended_stopped, met_bad, some_bytes}
-use Rattle.gateway_run.proofs.PhaseLemmas.{looked_read, bad_read}
-use Rattle.gateway_run.proofs.ReadyLemmas.{ready_on, looking}
+use Rattle.gateway_run.proofs.PhaseLemmas.{looked_read}
+use Rattle.gateway_run.proofs.ReadyLemmas.{ready_on}
 use Rattle.gateway_run.proofs.WaitingLemmas.{waits}
 use Rattle.gateway_run.proofs.steps.end_input.Goals as goal
 
@@ -18,10 +18,11 @@ returns-then-rest-gt0-clause-holds g c = λ done h.
     let s = g.G.FrameGateway.seen c.args.gateway.now c.args.plan.now in
     let some = some_bytes _ c.if-rest-gt0.true in
     let w = waits way c.args.plan.now s _ c.args.place c.args.ran c.requires.ready done c.requires.wants in
-    let m = met_bad way c.args.plan.now done s.stands c.args.place c.bad.result c.args.ran (s.wants c.args.place.input)
-    c.args.bytes.now w c.bad.ensures some (no_short _ c.requires.short) h in
-    ended_stopped way c.events_law.ensures c.args.plan.now done s.stands s.stands c.args.place _ c.args.ran
-    (s.wants c.args.place.input) c.args.bytes.now _ w m.phase some h m.met
+    let m = met_bad way c.args.plan.now done s.stands c.args.place c.args.ran (s.wants c.args.place.input)
+    c.args.bytes.now w some (no_short _ c.requires.short) h in
+    ended_stopped way c.events_law.ensures c.args.plan.now done s.stands c.args.place _ c.args.ran
+    (s.wants c.args.place.input) c.args.bytes.now _ w
+    (ap (λ (p : Place). p.phase) c.bad.ensures) some h m
 
 pub returns-clause-holds : goal.returns-clause-holds
 returns-clause-holds g c = λ done h.
@@ -30,18 +31,19 @@ returns-clause-holds g c = λ done h.
     let next = g.G.FrameGateway.seen c.end_input.new.self c.args.plan.now in
     subst (λ (p : Place). Holds way c.args.plan.now (done ++ Ended c.args.place.input c.args.bytes.now ∷ []) next.stands p
     c.args.ran) (sym c.place_by.ensures)
-    (input_ended way c.events_law.ensures c.args.plan.now done s.stands next.stands c.args.place _ c.args.ran
+    (input_ended way c.events_law.ensures c.args.plan.now done s.stands next.stands c.args.place c.end_input.result c.args.ran
     (s.wants c.args.place.input) c.args.bytes.now
     (waits way c.args.plan.now s _ c.args.place c.args.ran c.requires.ready done c.requires.wants)
-    (looking c.end_input.result) (nil_from_length _ (omega (arith, c.if-rest-gt0.false))) c.end_input.ensures.stands h)
+    (nil_from_length _ (omega (arith, c.if-rest-gt0.false))) c.end_input.ensures.stands h)
 
 pub returns-then-rest-gt0-clause-read : goal.returns-then-rest-gt0-clause-read
-returns-then-rest-gt0-clause-read g c = bad_read _ _ _ _ _ c.bad.result.phase c.bad.ensures
+returns-then-rest-gt0-clause-read g c =
+    ap (λ (p : Place). frame_read p.phase c.args.ran.frames) c.bad.ensures
 
 pub returns-clause-read : goal.returns-clause-read
 returns-clause-read g c =
     subst (λ (p : Place). frame_read p.phase c.args.ran.frames ≡ c.args.ran.frames) (sym c.place_by.ensures)
-    (looked_read _ _ (looking c.end_input.result))
+    (looked_read _ c.end_input.result)
 
 pub returns-clause-ready : goal.returns-clause-ready
 returns-clause-ready g c =

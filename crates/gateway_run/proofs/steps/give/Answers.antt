@@ -5,20 +5,22 @@ use Rattle.file_run.specs.Events.{Gave}
 use Rattle.gateway_core.specs.StandsFor.{Status}
 use Rattle.gateway_run.specs.Holds.{Holds}
 use Rattle.gateway_run.specs.Phases.{frame_read, left_by}
-use Rattle.gateway_run.specs.Ready.{IsReady, place_by}
+use Rattle.gateway_run.specs.Ready.{IsReady}
 use Rattle.gateway_run.specs.declared.place.Phase.{Phase}
 use Rattle.gateway_run.specs.declared.place.Phase.TheVariants.{Gives}
 use Rattle.gateway_run.specs.declared.place.Place.{Place}
 use Rattle.gateway_run.proofs.GiveLemmas.{unit_gave, units_over, units_out, unit_left, looked_left}
 use Rattle.gateway_run.proofs.PhaseLemmas.{looked_read, gives_at}
-use Rattle.gateway_run.proofs.ReadyLemmas.{ready_behind, count_fits, looking}
+use Rattle.gateway_run.proofs.ReadyLemmas.{ready_behind}
 use Rattle.gateway_run.proofs.steps.give.Goals as goal
 
 pub overflow_add-ran : goal.overflow_add-ran
 overflow_add-ran g c =
-    let fits = count_fits _ _ _ _ c.args.place.now _ c.requires.ready c.requires.gives in
+    let n = c.requires.ready.counted in
+    let few = n.few in
+    let early = n.early in
     let less = c.next_ts.ensures.less c.if-next_ts.true in
-    omega (arith, fits, less)
+    omega (arith, few, early, less)
 
 pub returns-then-next_ts-clause-holds : goal.returns-then-next_ts-clause-holds
 returns-then-next_ts-clause-holds g c = λ done h.
@@ -37,7 +39,8 @@ returns-in-Rests-clause-holds g c = λ done h.
     let s = g.G.FrameGateway.seen c.args.gateway.now c.args.plan.now in
     let next = g.G.FrameGateway.seen c.next_ts.new.self c.args.plan.now in
     units_over g.G.FrameGateway.sharing c.events_law.ensures c.args.plan.now done s.stands next.stands c.args.place.now _ _
-    c.in-Rests.is (ap (λ (p : Place). p.phase) c.place_in.ensures) (c.next_ts.ensures.all c.if-next_ts.false) h
+    c.in-Rests.is (ap (λ (p : Place). p.phase) c.place_in.ensures) (c.next_ts.ensures.still c.if-next_ts.false)
+    (c.next_ts.ensures.all c.if-next_ts.false) h
 
 pub returns-clause-ready : goal.returns-clause-ready
 returns-clause-ready g c =
@@ -59,7 +62,7 @@ returns-clause-left g c =
     let kept : is ≡ was = ap (λ (t : Status). t.left) c.look.ensures.status ∙ n.kept c.if-next_ts.false in
     subst (λ (p : Phase). left_by is c.place_by.result.phase c.args.ran.now.frames < left_by was p c.args.ran.now.frames) (sym gives)
     (subst (λ (p : Place). left_by is p.phase c.args.ran.now.frames < left_by was Gives c.args.ran.now.frames) (sym c.place_by.ensures)
-    (looked_left (place_by c.look.result).phase was is c.args.ran.now.frames kept (looking c.look.result)))
+    (looked_left c.look.result was is c.args.ran.now.frames kept))
 
 pub returns-clause-read : goal.returns-clause-read
 returns-clause-read g c =
@@ -67,7 +70,7 @@ returns-clause-read g c =
     let frames = c.args.ran.now.frames in
     let was = ap (λ (p : Phase). frame_read p frames) gives in
     let is = ap (λ (p : Place). frame_read p.phase frames) c.place_by.ensures in
-    omega (arith, was, is, looked_read frames (place_by c.look.result).phase (looking c.look.result))
+    omega (arith, was, is, looked_read frames c.look.result)
 
 pub returns-clause-holds : goal.returns-clause-holds
 returns-clause-holds g c = λ done h.
@@ -77,6 +80,6 @@ returns-clause-holds g c = λ done h.
     let gives = gives_at c.args.place.now.phase c.requires.gives c.in_default.not-Rests in
     subst (λ (p : Place). Holds g.G.FrameGateway.sharing c.args.plan.now (done ++ Gave [] ∷ []) next.stands p c.args.ran.now)
     (sym c.place_by.ensures)
-    (units_out g.G.FrameGateway.sharing c.events_law.ensures c.args.plan.now done s.stands next.stands c.args.place.now _ _
-    gives (looking c.look.result) (λ events stands. c.look.ensures.stands events (n.still c.if-next_ts.false events stands))
+    (units_out g.G.FrameGateway.sharing c.events_law.ensures c.args.plan.now done s.stands next.stands c.args.place.now c.look.result _
+    gives (λ events stands. c.look.ensures.stands events (n.still c.if-next_ts.false events stands))
     (n.complete c.if-next_ts.false) (λ events stands. n.finished events stands ∙ c.requires.ready.giving gives) h)
