@@ -1,9 +1,8 @@
 -- What two feeds want next.
-use Rattle.std.proofs.Common.{◌≡◌, ℕ, ◌<◌, ◌≤◌, ◌==◌, Bool, true, false, cond, Option, Some, None, refl, sym}
+use Rattle.std.proofs.Common.{◌≡◌, ℕ, ◌<◌, ◌≤◌, Bool, true, false, cond, Option, Some, None, refl, sym}
 use Rattle.std.proofs.Common.{arith}
 use Rattle.std.specs.Prelude.{nat_lt}
 use Rattle.std.proofs.lemmas.Bool.{true≢false, ltb-true, ltb-false}
-use Rattle.terms.proofs.CaseLemmas.{bool_cases}
 use Rattle.terms.proofs.OptionLemmas.{some_injective, none_some}
 use Rattle.plp_config.specs.declared.moment.TheConstants.{MOST_FRAMES}
 use Rattle.frame_groups.specs.declared.waiting.Waiting.{Waiting}
@@ -11,7 +10,7 @@ use Rattle.file_run.specs.Steps.{Needs, Suffices, FallsShort}
 use Rattle.file_run.specs.declared.machine.Step.{Step}
 use Rattle.file_run.specs.declared.machine.Step.TheVariants.{Read, Give, End}
 use Rattle.file_run.specs.FileRun.{read_ahead}
-use Rattle.two_feeds.specs.Reading.{is_idle, wants_of, step_at, step_by, least_of, fed_at}
+use Rattle.two_feeds.specs.Reading.{is_idle, wants_of, step_at, step_by, least_of}
 
 pub idle_is : (o : Option Waiting) (e : Bool) → is_idle o e ≡ true → (o ≡ None) × (e ≡ false)
 idle_is None true i = absurd (true≢false (sym i))
@@ -147,9 +146,3 @@ is_late v e w f h = go (is_idle v e) (is_idle w f) refl refl h
             last false l h =
                 let a = ltb-false n MOST_FRAMES l in
                 record { first = i; second = j; least = n; is = is; late = omega (arith, a) }
-
--- ---- how far is read
-
-pub fed_more : (a b c d input : ℕ) → a ≤ c → b ≤ d → fed_at a b input ≤ fed_at c d input
-fed_more a b c d input l k =
-    bool_cases (input == 0) (λ e. rw e (omega (arith, l))) (λ e. rw e (omega (arith, k)))

@@ -1,7 +1,5 @@
-use Rattle.std.proofs.Common.{arith}
-use Rattle.held_feed.specs.StandsFor.{fed_of}
 use Rattle.two_feeds.proofs.EventLemmas.{first_ended, second_ended}
-use Rattle.two_feeds.proofs.StepLemmas.{short_by, first_wanted, second_wanted, fed_more}
+use Rattle.two_feeds.proofs.StepLemmas.{short_by, first_wanted, second_wanted}
 use Rattle.two_feeds.proofs.feeding.end_one.Goals as goal
 
 pub returns-then-input-eq0-clause-go_on : goal.returns-then-input-eq0-clause-go_on
@@ -16,23 +14,3 @@ returns-clause-go_on c = λ k events next ga gb s.
     let other = second_wanted w.0 c.if-input-eq0.false in
     second_ended c.events_law.ensures c.due_records_law.ensures.follow k events next c.args.a.now c.args.b.now c.finish-2.new.self ga gb s
     c.args.input _ other.1 w.1 other.0 c.finish-2.ensures.config c.finish-2.ensures.stands
-
-pub returns-then-input-eq0-clause-reach : goal.returns-then-input-eq0-clause-reach
-returns-then-input-eq0-clause-reach c = λ other.
-    let f = c.finish.ensures.fed in
-    let l = fed_more (fed_of c.args.a.now) (fed_of c.args.b.now) (fed_of c.finish.new.self) (fed_of c.args.b.now) other
-    (omega (arith, f)) (omega arith) in
-    omega (arith, l)
-
-pub returns-clause-reach : goal.returns-clause-reach
-returns-clause-reach c = λ other.
-    let f = c.finish-2.ensures.fed in
-    let l = fed_more (fed_of c.args.a.now) (fed_of c.args.b.now) (fed_of c.args.a.now) (fed_of c.finish-2.new.self) other
-    (omega arith) (omega (arith, f)) in
-    omega (arith, l)
-
-pub finish-requires : goal.finish-requires
-finish-requires c =
-    let w = short_by _ _ _ _ c.args.input _ c.requires.wanted in
-    let idle = first_wanted w.0 c.if-input-eq0.true in
-    record { idle = idle.none; «open» = idle.going }

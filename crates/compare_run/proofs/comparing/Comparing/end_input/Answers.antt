@@ -3,9 +3,6 @@ use Rattle.compare_run.proofs.ShownLemmas.{shown_read}
 use Rattle.compare_run.proofs.StepLemmas.{asked}
 use Rattle.compare_run.proofs.comparing.Comparing.end_input.Goals as goal
 
-pub end_one-requires : goal.end_one-requires
-end_one-requires c = record { wanted = (asked FallsShort (λ i k h. h) c.args.self.now.done _ c.args.input _ c.requires.wanted).1 }
-
 pub returns-clause-shown : goal.returns-clause-shown
 returns-clause-shown c = λ k events s.
     shown_read k c.args.self.now c.end_one.new.a c.end_one.new.b events _ s

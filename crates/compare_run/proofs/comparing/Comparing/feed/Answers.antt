@@ -3,12 +3,6 @@ use Rattle.compare_run.proofs.ShownLemmas.{shown_read}
 use Rattle.compare_run.proofs.StepLemmas.{asked}
 use Rattle.compare_run.proofs.comparing.Comparing.feed.Goals as goal
 
-pub feed_one-requires : goal.feed_one-requires
-feed_one-requires c = record {
-  wanted = (asked Suffices (λ i k h. h) c.args.self.now.done _ c.args.input _ c.requires.wanted).1;
-  room = c.requires.room;
-}
-
 pub returns-clause-shown : goal.returns-clause-shown
 returns-clause-shown c = λ k events s.
     shown_read k c.args.self.now c.feed_one.new.a c.feed_one.new.b events _ s

@@ -3,11 +3,6 @@ use Rattle.merge_run.proofs.ShownLemmas.{shown_read, reading}
 use Rattle.merge_run.proofs.StepLemmas.{asked}
 use Rattle.merge_run.proofs.merging.Merging.end_input.Goals as goal
 
-pub end_one-requires : goal.end_one-requires
-end_one-requires c = record {
-  wanted = (asked FallsShort (λ i k h. h) (λ i k h. h) c.args.self.now.phase _ c.args.input _ c.requires.wanted).1;
-}
-
 pub returns-clause-shown : goal.returns-clause-shown
 returns-clause-shown c = λ k events s.
     let reads = (asked FallsShort (λ i k h. h) (λ i k h. h) c.args.self.now.phase _ c.args.input _ c.requires.wanted).0 in

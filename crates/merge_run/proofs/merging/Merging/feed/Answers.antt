@@ -3,12 +3,6 @@ use Rattle.merge_run.proofs.ShownLemmas.{shown_read, reading}
 use Rattle.merge_run.proofs.StepLemmas.{asked}
 use Rattle.merge_run.proofs.merging.Merging.feed.Goals as goal
 
-pub feed_one-requires : goal.feed_one-requires
-feed_one-requires c = record {
-  wanted = (asked Suffices (λ i k h. h) (λ i k h. h) c.args.self.now.phase _ c.args.input _ c.requires.wanted).1;
-  room = c.requires.room;
-}
-
 pub returns-clause-shown : goal.returns-clause-shown
 returns-clause-shown c = λ k events s.
     let reads = (asked Suffices (λ i k h. h) (λ i k h. h) c.args.self.now.phase _ c.args.input _ c.requires.wanted).0 in
