@@ -52,7 +52,7 @@ use Rattle.merge_run.specs.declared.phase.Phase.TheVariants.{Reads, Gives, Rests
 use Rattle.merge_run.specs.declared.stop.Ran.{Ran}
 use Rattle.merge_run.proofs.LiveLemmas.{live_taken}
 use Rattle.merge_run.proofs.FeedLemmas.{TookFor, took_of, took_past, there_at, due_held, formed_due}
-use Rattle.merge_run.proofs.BoundLemmas.{few_bodies}
+use Rattle.feed_merge.proofs.BoundLemmas.{few_bodies}
 use Rattle.two_feeds.proofs.NumberLemmas.{below_of}
 use Rattle.merge_run.proofs.PickLemmas.{PickIs, pick_first}
 use Rattle.two_feeds.proofs.LeastLemmas.{least_first, least_second, least_most, least_none, some_taken, are_of}

@@ -37,7 +37,8 @@ use Rattle.two_feeds.proofs.BothLemmas.{none_given, split_a, split_b, ends_befor
 use Rattle.two_feeds.proofs.BothLemmas.{ends_next, late_a, late_b, late_is}
 use Rattle.two_feeds.proofs.NumberLemmas.{below_of}
 use Rattle.two_feeds.proofs.StepLemmas.{Wants, IsLate}
-use Rattle.merge_run.proofs.SendLemmas.{frames_append, packets_more, gave_complete, given_front, gave_all}
+use Rattle.feed_merge.proofs.FrontLemmas.{packets_more, given_front}
+use Rattle.merge_run.proofs.SendLemmas.{frames_append, gave_complete, gave_all}
 use Rattle.merge_run.proofs.SplitLemmas.{picks_front, below_split, picks_split, picks_nothing}
 use Rattle.merge_run.proofs.ShownLemmas.{reading}
 use Rattle.frame_groups.specs.Laws.{IsPrefix}

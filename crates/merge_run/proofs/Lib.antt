@@ -1,5 +1,4 @@
 pub mod BeginLemmas
-pub mod BoundLemmas
 pub mod FeedLemmas
 pub mod FilesLemmas
 pub mod FrameLemmas

@@ -1,10 +1,9 @@
 -- What the merger sends of the frames that are picked.
-use Rattle.std.proofs.Common.{◌≡◌, ℕ, ◌+◌, ◌<◌, ◌≤◌, true, false, List, [], ◌∷◌, ◌++◌, length, Some}
+use Rattle.std.proofs.Common.{◌≡◌, ℕ, ◌+◌, ◌<◌, true, false, List, [], ◌∷◌, ◌++◌, length, Some}
 use Rattle.std.proofs.Common.{refl, ap, sym, subst, ◌∙◌, arith, append-nil, append_assoc, length-append}
 use Rattle.std.specs.Prelude.{slice_get}
 use Rattle.std.specs.List.{filter}
 use Rattle.std.proofs.lemmas.Bool.{true≢false}
-use Rattle.std.proofs.lemmas.Grind.{flat_map-append}
 use Rattle.std.proofs.lemmas.List.Elements.{filter-append}
 use Rattle.terms.proofs.ListLemmas.{next_element, same_front, all_of}
 use Rattle.ts_packet.proofs.JoinedLemmas.{joined_push}
@@ -15,10 +14,9 @@ use Rattle.frame_groups.specs.Laws.{IsPrefix}
 use Rattle.t2mi_stream.specs.Complete.{complete_units}
 use Rattle.t2mi_stream.specs.CompleteLaws.{CompleteLaw}
 use Rattle.t2mi_stream.specs.Pipe.{pipe}
-use Rattle.t2mi_stream.proofs.CompleteLemmas.{shorter_front, complete_law}
-use Rattle.frame_writer.specs.FramePackets.{packets_from}
-use Rattle.frame_writer.proofs.CarriedLemmas.{packets_append}
-use Rattle.formed_frames.specs.Remade.{NumberedView, remade_packets, remade_bodies, frame_pairs}
+use Rattle.t2mi_stream.proofs.CompleteLemmas.{complete_law}
+use Rattle.formed_frames.specs.Remade.{NumberedView, remade_packets, remade_bodies}
+use Rattle.feed_merge.proofs.FrontLemmas.{packets_more}
 use Rattle.feed_merge.specs.declared.merger.Merger.{Merger}
 use Rattle.feed_merge.specs.declared.seen.Feed.{Feed}
 use Rattle.feed_merge.specs.declared.seen.Feed.TheVariants.{A, B}
@@ -34,15 +32,6 @@ use Rattle.merge_run.specs.declared.stop.Ran.{Ran}
 pub frames_append : (ps qs : List Picked) → frames_of (ps ++ qs) ≡ frames_of ps ++ frames_of qs
 frames_append [] qs = refl
 frames_append (p ∷ ps) qs = ap (λ (l : List NumberedView). p.frame ∷ l) (frames_append ps qs)
-
--- more frames have more packets behind those of the first
-pub packets_more : (c : Config) (frames more : List NumberedView) → IsPrefix (remade_packets c frames) (remade_packets c (frames ++ more))
-unfolding remade_packets
-packets_more c frames more = (
-  packets_from c (0 + length (remade_bodies c frames)) (remade_bodies c more),
-  ap (packets_from c 0) (flat_map-append (frame_pairs c) frames more)
-      ∙ packets_append c 0 (remade_bodies c frames) (remade_bodies c more),
-)
 
 -- ---- a frame is begun
 
@@ -135,19 +124,6 @@ gave_complete law c g left frames count gave going all s =
     let q = law c.pid (remade_packets c frames) [] in
     s.gave_is ∙ ap joined (same_front s.units (complete_units c.pid (remade_packets c frames)) p.0 q.rest (sym p.1 ∙ q.units)
     (sym s.count_is ∙ all))
-
--- The complete units of fewer packets are the first that were given, if as many were as more packets have complete ones.
-pub given_front : CompleteLaw → (pid : ℕ) (few more rest units back : List (List ℕ))
-    → length (complete_units pid (few ++ more)) ≤ length units → pipe pid ((few ++ more) ++ rest) ≡ units ++ back
-    → IsPrefix (complete_units pid few) units
-given_front law pid few more rest units back le is =
-    let one = law pid few more in
-    let all = law pid few (more ++ rest) in
-    let size = ap length one.complete in
-    let same : complete_units pid few ++ all.rest ≡ units ++ back =
-    sym all.units ∙ sym (ap (pipe pid) (append_assoc few more rest)) ∙ is in
-    shorter_front (complete_units pid few) units all.rest back same
-    (omega (arith, le, size, length-append (complete_units pid few) one.others))
 
 pub gave_all : (c : Config) (g : Merger) (left : List Body) (frames : List NumberedView) (count : ℕ) (gave : List ℕ)
     → length (pipe c.pid (remade_packets c frames)) ≡ count → Sends c g left frames count gave

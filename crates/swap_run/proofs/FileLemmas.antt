@@ -35,7 +35,7 @@ use Rattle.two_feeds.specs.Fed.{IsFedWith, NoneComes}
 use Rattle.two_feeds.specs.Reading.{is_idle}
 use Rattle.two_feeds.proofs.FeedLemmas.{IsDue, due_of, due_given, waits_above}
 use Rattle.two_feeds.proofs.NumberLemmas.{below_of, above_append, below_append}
-use Rattle.merge_run.proofs.SendLemmas.{given_front}
+use Rattle.feed_merge.proofs.FrontLemmas.{given_front}
 use Rattle.two_feeds.proofs.SplitLemmas as split
 use Rattle.two_feeds.specs.Both.{OfFeed}
 use Rattle.two_feeds.proofs.HeldLemmas.{all_of}

@@ -17,7 +17,7 @@ use Rattle.t2mi_stream.specs.Pipe.{pipe}
 use Rattle.t2mi_stream.proofs.CompleteLemmas.{complete_law}
 use Rattle.formed_frames.specs.Remade.{NumberedView, remade_packets}
 use Rattle.gateway_core.specs.InputSoFar.{Told, Continues}
-use Rattle.merge_run.proofs.SendLemmas.{packets_more}
+use Rattle.feed_merge.proofs.FrontLemmas.{packets_more}
 use Rattle.region_swap.specs.StandsFor.{SwapperStandsFor, status_of, has_unit}
 use Rattle.region_swap.specs.Swapped.{frame_in, frames_in, swapped, swapped_frame}
 use Rattle.region_swap.proofs.UnitsLemmas.{front_then}

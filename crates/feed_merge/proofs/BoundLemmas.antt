@@ -1,5 +1,5 @@
 -- How many packets a formed frame has at most.
-use Rattle.std.proofs.Common.{◌≡◌, ℕ, zero, suc, ◌+◌, ◌*◌, ◌/◌, ◌%◌, ◌==◌, ◌<◌, ◌≤◌, Bool, cond, List, [], ◌∷◌, length, replicate}
+use Rattle.std.proofs.Common.{◌≡◌, ℕ, zero, suc, ◌+◌, ◌*◌, ◌^◌, ◌/◌, ◌%◌, ◌==◌, ◌<◌, ◌≤◌, Bool, cond, List, [], ◌∷◌, length, replicate}
 use Rattle.std.proofs.Common.{refl, ap, subst, ◌∙◌, arith, length-append, Option, Some, None}
 use Rattle.std.specs.Prelude.{sum_by, slice_index}
 use Rattle.std.specs.Int.{div_ceil}
@@ -29,7 +29,6 @@ use Rattle.frame_writer.specs.Flowing.{packet_bound}
 use Rattle.frame_writer.specs.FramePackets.{with_stamp}
 use Rattle.formed_frames.specs.Formed.{IsFormed}
 use Rattle.formed_frames.specs.Remade.{record_bodies, view_bodies, signal_of}
-use Rattle.merge_run.specs.Shown.{frame_bytes}
 
 abbrev sizes_of : Config → List ℕ → ℕ → List BlockSize
 sizes_of c counts plp = replicate (slice_index counts plp) (size_of c plp)
@@ -86,7 +85,7 @@ pub stamp_count : (c : Config) (n : ℕ) (bodies : List Body) → length (with_s
 stamp_count c n bodies = bool_cases (n % c.frames == 0) (λ e. rw e (omega arith)) (λ e. rw e (omega arith))
 
 pub few_bodies : FieldRange → (c : Config) (n : ℕ) (view : RecordView) → IsPlan c → IsFormed c n view
-    → packet_bound * length (view_bodies c n view) + 1000 ≤ frame_bytes
+    → packet_bound * length (view_bodies c n view) + 1000 ≤ 2 ^ 30
 unfolding longest_rest
 few_bodies field c n (Muted moment) plan formed = absurd formed
 few_bodies field c n (Frame moment pre post blocks cells) plan formed =
