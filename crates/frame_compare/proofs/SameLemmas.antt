@@ -4,7 +4,7 @@ use Rattle.std.proofs.Common.{refl, ap, ap₂, sym, ◌∙◌, ⊎_elim, arith}
 use Rattle.std.specs.Prelude.{option_map, slice_get, slice_index}
 use Rattle.std.specs.List.{filter_map}
 use Rattle.std.specs.Option.{option_map_or}
-use Rattle.std.proofs.lemmas.Bool.{cases_Bool, cond-false, eqb-true}
+use Rattle.std.proofs.lemmas.Bool.{cases_Bool, cond-false}
 use Rattle.terms.proofs.BitLemmas.{bits_of-bytes_of}
 use Rattle.terms.proofs.OptionLemmas.{some_injective}
 use Rattle.terms.proofs.RangeLemmas.{flat_same}
@@ -12,7 +12,7 @@ use Rattle.terms.specs.Bits.{bits_of}
 use Rattle.bb_frame.specs.Laws.{BitCounts, ScramblesBack}
 use Rattle.plp_config.specs.Capacity.{IsPlan, block_bytes}
 use Rattle.plp_config.specs.Emission.{emission}
-use Rattle.plp_config.specs.InterleavingFrames.{is_first, begin_of}
+use Rattle.plp_config.specs.InterleavingFrames.{is_first}
 use Rattle.plp_config.specs.Laws.{BeginAlone}
 use Rattle.plp_config.specs.Plps.{plp_at}
 use Rattle.plp_config.specs.declared.config.Config.{Config}
@@ -40,6 +40,7 @@ use Rattle.formed_frames.proofs.MadeLemmas.{made_bodies, frame_l1, frame_blocks}
 use Rattle.formed_frames.proofs.PassedLemmas.{Passed, passed}
 use Rattle.formed_frames.proofs.SignalLemmas.{Knows}
 use Rattle.formed_frames.proofs.SizeLemmas.{AreLong, right_long}
+use Rattle.frame_laws.proofs.BegunLemmas.{begun_here}
 use Rattle.frame_compare.specs.Comparing.{carried, place_of, place_answer, whole_answer, record_at}
 use Rattle.frame_compare.specs.Laws.{BothWhole, BeginSame, SameIsWritten, WrittenIsBegun, SameIsExact}
 use Rattle.frame_compare.specs.declared.answer.Answer.TheVariants.{Same, Differs}
@@ -147,10 +148,6 @@ held_back c plp xs ys a b e = sym (go xs a) ∙ ap (map bits_of) e ∙ go ys b
     go [] h = refl
     go (z ∷ zs) h = ap₂ (λ (x : List Bool) (l : List (List Bool)). x ∷ l) (bits_of-bytes_of z (block_bytes c plp) h.0) (go zs h.1)
 
--- where an interleaving frame begins
-begins_here : (c : Config) (plp n : ℕ) → is_first c plp n ≡ true → begin_of c plp n ≡ n
-begins_here c plp n e = let none = eqb-true (n % _) 0 e in omega (arith, none)
-
 -- what frames that are called the same have
 none_placed : (o : Option Place) → place_answer o ≡ Same → o ≡ None
 none_placed None e = refl
@@ -163,7 +160,7 @@ called_same c n ga gb e =
     record {
       dynamic = parts.0;
       blocks = λ plp inside first.
-          let begin = begins_here c plp n first in
+          let begin = begun_here c plp n first in
           held_back c plp (right_blocks c plp (packets_at ga n)) (right_blocks c plp (packets_at gb n))
           (right_long c plp (packets_at ga n)) (right_long c plp (packets_at gb n))
           (sym (ap (λ (b : ℕ). map held_bytes (right_blocks c plp (packets_at ga b))) begin) ∙ parts.1 plp inside

@@ -12,7 +12,7 @@ use Rattle.config_file.specs.declared.stop.ConfigStop.{ConfigStop}
 use Rattle.config_file.specs.declared.stop.ConfigStop.TheVariants as config
 use Rattle.desk_io.specs.Opening.{Opened, Unopened}
 use Rattle.file_run.specs.FileRun as running
-use Rattle.file_run.specs.FileRun.{SameFiles, OpensInputs, FailsToCreateOutput, Works}
+use Rattle.file_run.specs.FileRun.{SameFiles}
 use Rattle.file_run.specs.Work.{Work, Sink, Into, Aloud, Ends as RunEnds}
 use Rattle.file_run.specs.declared.stop.RunFault.TheVariants as run_fault
 use Rattle.file_run.specs.declared.stop.RunStop.{RunStop}
@@ -186,43 +186,6 @@ fewer out reads old new t = record {
   few = omega (arith, t.few);
   texts = t.texts;
   said = t.said;
-}
-
--- a run between files
-run_opens : (old new : State) (out : List ℕ) (ins : List (List ℕ)) (count : ℕ) → OpensInputs old new ins count
-    → Touches (Some out) (length ins) old new
-run_opens old new out ins count o = record {
-  files = nothing_files (Some out) old.held new.held o.files;
-  created = subst (λ (n : ℕ). n ≤ old.created + 1) (sym o.created) (omega arith);
-  places = o.places;
-  opened = o.opened;
-  few = omega (arith, o.some, o.few);
-  texts = [];
-  said = o.said ∙ append-none old.said;
-}
-
-run_creates : (old new : State) (out : List ℕ) (ins : List (List ℕ)) → FailsToCreateOutput old new out ins
-    → Touches (Some out) (length ins) old new
-run_creates old new out ins f = record {
-  files = out_files out old.held new.held f.files;
-  created = subst (λ (n : ℕ). n ≤ old.created + 1) (sym f.created) (omega arith);
-  places = f.places;
-  opened = f.opened;
-  few = omega (arith, f.all);
-  texts = [];
-  said = f.said ∙ append-none old.said;
-}
-
-run_works : (old new : State) (out : List ℕ) (ins : List (List ℕ)) (places : List ℕ) (Holds : Held → List ℕ → Type 0)
-    → Works old new out ins places Holds → Touches (Some out) (length ins) old new
-run_works old new out ins places Holds w = record {
-  files = out_files out old.held new.held w.files;
-  created = subst (λ (n : ℕ). n ≤ old.created + 1) (sym w.created) (omega arith);
-  places = places;
-  opened = w.opened;
-  few = omega (arith, w.all);
-  texts = [];
-  said = w.said ∙ append-none old.said;
 }
 
 -- a run whose line is told
