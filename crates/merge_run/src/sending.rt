@@ -1,5 +1,5 @@
 // The frame that waits in a feed, sent again.
-ghost use Rattle.std.specs.Prelude.{◌≡◌, ◌<◌, ◌≤◌, false, true, length, take};
+ghost use Rattle.std.specs.Prelude.{◌≡◌, ◌<◌, ◌≤◌, false, true, length, take, ◌+◌};
 ghost use Rattle.plp_config.specs.declared.moment.TheConstants.{MOST_FRAMES};
 ghost use Rattle.ts_packet.specs.declared.sizes.TheConstants.{SIZE};
 ghost use Rattle.pool_frame.specs.Left.{CanBeSent};
@@ -71,6 +71,8 @@ fn next_units(merger: &mut Merger<'_>, frame: &PoolFrame<'_>, out: &mut [u8]) ->
     requires room { SIZE ≤ length out.old }
     ensures nexts { NextsAll merger.old merger.new frame.now result.1 (take result.0 out.new) }
     ensures count { result.0 ≤ length out.old }
+    // The room ended only if none is left for a unit.
+    ensures full { result.1 ≡ true → length out.old < result.0 + SIZE }
     ensures size { length out.new ≡ length out.old }
 {
     let mut walk = PoolWalk::new(frame.blocks);
@@ -92,6 +94,7 @@ pub fn give_frame(merger: &mut Merger<'_>, feed: &FrameFeed<'_>, out: &mut [u8])
     ensures nexts { (frame : PoolFrame) × IsFrameOf feed.now frame
         × NextsAll merger.old merger.new frame result.1 (take result.0 out.new) }
     ensures count { result.0 ≤ length out.old }
+    ensures full { result.1 ≡ true → length out.old < result.0 + SIZE }
     ensures size { length out.new ≡ length out.old }
 {
     let frame = feed.frame();

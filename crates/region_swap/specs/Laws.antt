@@ -1,4 +1,4 @@
--- Laws of frames that are held.
+-- Laws of frames that are held. No public clause cites this module.
 use Rattle.std.specs.Prelude.{◌≡◌, ◌<◌, ℕ, Bool, List, length, map, slice_set}
 use Rattle.terms.specs.Bits.{bits_of}
 use Rattle.plp_config.specs.Capacity.{IsPlan}

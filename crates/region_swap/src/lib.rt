@@ -8,5 +8,4 @@ mod region;
 mod swapper;
 mod units;
 
-pub use laws::{swapped_law, told_law};
 pub use swapper::Swapper;

@@ -108,8 +108,8 @@ impl SwapPlace {
     }
 }
 
-/// A place among the packets of a frame, and walks over both pools that have its blocks. It finds the block behind the
-/// last one in a fixed number of steps.
+/// A place among the packets of a frame, and walks over both pools that have its blocks. So the block behind the last one
+/// is found without going over those before it.
 #[derive(Drop)]
 pub struct SwapSource<'b> {
     pub place: SwapPlace,

@@ -202,6 +202,7 @@ impl<'p> Swapper<'p> {
         requires room { SIZE ≤ length out.old }
         ensures gives { GivesUnits self.old self.new frame.now result.1 (take result.0 out.new) }
         ensures count { result.0 ≤ length out.old }
+        ensures full { result.1 ≡ true → length out.old < result.0 + SIZE }
         ensures size { length out.new ≡ length out.old }
         ensures idle { result.1 ≡ false → has_unit self.new ≡ false }
         ensures wants { wants_of self.new ≡ 0 }

@@ -1,5 +1,5 @@
 // Units out of a flow, as long as there is room.
-ghost use Rattle.std.specs.Prelude.{◌≡◌, ◌∷◌, ◌≤◌, [], false, true, length, take};
+ghost use Rattle.std.specs.Prelude.{◌≡◌, ◌∷◌, ◌<◌, ◌≤◌, ◌+◌, [], false, true, length, take};
 ghost use Rattle.ts_packet.specs.declared.sizes.TheConstants.{SIZE};
 ghost use Rattle.region_swap.specs.Units.{Gives, GivesAll, HasCaughtUp};
 
@@ -72,6 +72,8 @@ pub fn give_units<X, S: FrameSource<X>>(
     ensures gives { GivesAll plan.now flow.old flow.new (S.number source.old) (S.left source.old frame.now plan.now)
         (S.left source.new frame.now plan.now) result.1 (take result.0 out.new) }
     ensures count { result.0 ≤ length out.old }
+    // The room ended only if none is left for a unit.
+    ensures full { result.1 ≡ true → length out.old < result.0 + SIZE }
     ensures size { length out.new ≡ length out.old }
     ensures of { S.IsFor source.new frame.now plan.now }
     ensures ends { flow.new.dry ≡ true → S.IsOver source.new }

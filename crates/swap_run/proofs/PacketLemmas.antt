@@ -1,11 +1,12 @@
 -- What was taken of the input of the region, event by event.
-use Rattle.std.proofs.Common.{◌≡◌, ◌≢◌, ◌⊎◌, ℕ, ◌+◌, ◌*◌, ◌<◌, ◌≤◌, Bool, true, false, List, [], ◌∷◌, ◌++◌, length, refl, ap, sym, subst, ◌∙◌}
+use Rattle.std.proofs.Common.{◌≡◌, ◌≢◌, ◌⊎◌, ℕ, ◌+◌, ◌<◌, ◌≤◌, Bool, true, false, List, [], ◌∷◌, ◌++◌, length, refl, ap, sym, subst, ◌∙◌}
 use Rattle.std.proofs.Common.{arith, append-nil, append_assoc, length-append}
 use Rattle.std.specs.Prelude.{slice_index}
 use Rattle.std.proofs.lemmas.Bool.{true≢false}
 use Rattle.ts_packet.proofs.JoinedLemmas.{joined_push}
 use Rattle.ts_packet.specs.TsFile.{joined, begins_with_packet, packets_in, HasBad}
 use Rattle.ts_packet.specs.declared.sizes.TheConstants.{SIZE, SYNC}
+use Rattle.ts_packet.proofs.JoinedLemmas.{joined_append}
 use Rattle.file_run.specs.FileRun.{IsFed}
 use Rattle.gateway_core.specs.InputSoFar.{Told, with_packet, at_end, Continues}
 use Rattle.gateway_run.specs.Holds.{ArePackets}
@@ -102,6 +103,10 @@ reads_same bytes now ended is t rest tail taken over e f r = record {
   told = r.told;
 }
 
+pub front_empty : (xs ys : List ℕ) → xs ++ ys ≡ [] → xs ≡ []
+front_empty [] ys e = refl
+front_empty (x ∷ xs) ys e = absurd (let n = ap length e in omega (arith, n))
+
 -- ---- what is known of the file
 
 module _ (file : List ℕ) (place : ℕ) (bytes : List ℕ) (ended : Bool) (fed : IsFed file place bytes ended) (t : Told)
@@ -120,7 +125,7 @@ module _ (file : List ℕ) (place : ℕ) (bytes : List ℕ) (ended : Bool) (fed 
   rest_front : (e : Bool) → (e ≡ true → (over ≡ true) × (rest ≡ []) × (tail ≡ [])) → IsRead file t.packets e (joined rest ++ (tail ++ fed.more))
   rest_front e ends = record {
     parts = fed.parts ∙ ap (λ (l : List ℕ). l ++ fed.more) r.parts ∙ append_assoc (joined (t.packets ++ rest)) tail fed.more
-        ∙ ap (λ (l : List ℕ). l ++ (tail ++ fed.more)) (joined_both t.packets rest)
+        ∙ ap (λ (l : List ℕ). l ++ (tail ++ fed.more)) (joined_append t.packets rest)
         ∙ append_assoc (joined t.packets) (joined rest) (tail ++ fed.more);
     each = front_packets t.packets rest r.each;
     end = λ on.
@@ -128,10 +133,6 @@ module _ (file : List ℕ) (place : ℕ) (bytes : List ℕ) (ended : Bool) (fed 
         ap (λ (l : List (List ℕ)). joined l ++ (tail ++ fed.more)) x.1 ∙ ap (λ (l : List ℕ). l ++ fed.more) x.2 ∙ fed.end (r.end x.2 ∙ x.0);
   }
     where
-      joined_both : (xs ys : List (List ℕ)) → joined (xs ++ ys) ≡ joined xs ++ joined ys
-      joined_both [] ys = refl
-      joined_both (x ∷ xs) ys = ap (λ (l : List ℕ). x ++ l) (joined_both xs ys) ∙ sym (append_assoc x (joined xs) (joined ys))
-
       front_packets : (xs ys : List (List ℕ)) → ArePackets (xs ++ ys) → ArePackets xs
       front_packets [] ys h = tt
       front_packets (x ∷ xs) ys h = (h.0, front_packets xs ys h.1)
@@ -161,7 +162,3 @@ module _ (file : List ℕ) (place : ℕ) (bytes : List ℕ) (ended : Bool) (fed 
   bad_next some bad cut =
       next_bad file (t.packets ++ rest) false (tail ++ fed.more) (all_read false (λ on. absurd (let z : false ≡ true = on in cc)))
       (λ z. some (front_empty tail fed.more z)) (still_bad tail fed.more ended some bad cut fed.end)
-    where
-      front_empty : (xs ys : List ℕ) → xs ++ ys ≡ [] → xs ≡ []
-      front_empty [] ys e = refl
-      front_empty (x ∷ xs) ys e = absurd (let n = ap length e in omega (arith, n))

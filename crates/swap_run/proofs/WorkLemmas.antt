@@ -1,5 +1,5 @@
 -- What a swapper does by its files.
-use Rattle.std.proofs.Common.{◌≡◌, ◌⊎◌, ℕ, ◌+◌, ◌-◌, ◌*◌, ◌<◌, ◌≤◌, ◌==◌, min, Bool, true, false, cond, List, [], ◌∷◌, ◌++◌}
+use Rattle.std.proofs.Common.{◌≡◌, ◌⊎◌, ℕ, ◌+◌, ◌-◌, ◌*◌, ◌<◌, ◌≤◌, ◌==◌, min, Bool, true, false, cond, List, ◌++◌}
 use Rattle.std.proofs.Common.{length, refl, ap, sym, subst, ◌∙◌, inl, inr, arith, append_assoc, length-append}
 use Rattle.std.specs.Prelude.{Err, slice_index}
 use Rattle.plp_config.specs.Laws.{CountRises, SlotLength, NoneAtZero}
@@ -34,6 +34,7 @@ use Rattle.swap_run.specs.declared.phase.Phase.{Phase}
 use Rattle.swap_run.specs.declared.phase.Phase.TheVariants as phase
 use Rattle.swap_run.specs.declared.stop.SwapStop.TheVariants.{NoSuperframe, InputRefused, TooManyFrames}
 use Rattle.swap_run.specs.declared.swapping.Swapping.{Swapping}
+use Rattle.swap_run.proofs.PacketLemmas.{front_empty}
 use Rattle.swap_run.proofs.FileLemmas.{swaps_all, has_none, has_late, meets_bad, has_swapped, wants_packets, wants_rest, gave_front, since, ahead}
 use Rattle.swap_run.proofs.ShownLemmas.{feed_end, feed_count, in_packets, in_drains}
 use Rattle.swap_run.proofs.StepLemmas.{needs_read, short_read, HowRead, OfRecords, OfPackets, OfRest}
@@ -230,10 +231,6 @@ unwritten law start now files places events bytes are g =
       early = w.early;
       front = (w.front.0 ++ g.front, g.is ∙ ap (λ (l : List ℕ). l ++ g.front) w.front.1 ∙ append_assoc _ w.front.0 g.front);
     }
-
-    front_empty : (xs ys : List ℕ) → xs ++ ys ≡ [] → xs ≡ []
-    front_empty [] ys e = refl
-    front_empty (x ∷ xs) ys e = absurd (let n = ap length e in omega (arith, n))
 
 pub swap_does : Laws → (start : SwapMachine) → DoesWork (swap_work (network_of start) (plp_of start)) 2
     (λ x. reach_of x.swapping) (λ x. step_of x.swapping) (Becomes start) ending_of

@@ -29,6 +29,7 @@ use record_laws::fit_law;
 use region_swap::Swapper;
 use std::alloc::Global;
 use ts_packet::{SIZE, SYNC};
+use two_feeds::is_idle;
 
 // No more packets than these are to wait.
 const PACKETS: u64 = 1 << 30;
@@ -54,13 +55,6 @@ pub struct Swapping<'p> {
     pub draining: bool,
     pub phase: Phase,
     pub ran: Ran,
-}
-
-// No record waits, and the stream has not ended.
-fn is_idle(feed: &FrameFeed<'_>) -> bool
-    ensures { result ≡ is_idle (waiting_of feed.now) (has_ended feed.now) }
-{
-    feed.waiting().is_none() && !feed.is_ended()
 }
 
 // It wants bytes of the T2-MI stream until a record waits or it ends.
