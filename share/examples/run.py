@@ -3,9 +3,11 @@
 
     run.py PROGRAM [FOLDER]     PROGRAM is site_cli; FOLDER is a new one in which all files stay
 
-A comment behind a command that begins as `first=0` or `merged frames=4` must be a line on standard output, in its order. Lines that want a screen (ffplay, less) or
-what is not there (ffmpeg, tshark, Pillow) are left out, and told.
+A comment behind a command that begins as `first=0` or `merged frames=4` must be a line on standard output, in its order; a picture
+must be the one that stands in docs/. Lines that want a screen (ffplay, less) or what is not there (ffmpeg, tshark, Pillow) are left
+out, and told.
 """
+import filecmp
 import os
 import re
 import shutil
@@ -67,6 +69,9 @@ def run_block(number, block, folder):
     for wanted in wanted_of(lines):
         if wanted not in said:  # goes on behind the line that was found
             return f"does not say {wanted}"
+    for name in re.findall(r"picture\.py .* (\S+\.png)$", "\n".join(lines), re.M):
+        if not filecmp.cmp(f"{folder}/{name}", f"{TOP}/docs/{name}", shallow=False):
+            return f"makes another picture than docs/{name}"
     return None
 
 
