@@ -1,13 +1,11 @@
 -- What arrives, unit by unit.
-use Rattle.std.proofs.Common.{◌≡◌, ℕ, suc, ◌+◌, ◌-◌, ◌*◌, ◌/◌, ◌%◌, ◌<◌, ◌≤◌, List, [], ◌∷◌, ◌++◌, refl, ap, ap₂, sym, ◌∙◌, arith, length, take, drop}
+use Rattle.std.proofs.Common.{◌≡◌, ℕ, suc, ◌+◌, ◌-◌, ◌*◌, ◌/◌, ◌%◌, ◌<◌, ◌≤◌, List, [], ◌++◌, ap, ap₂, sym, ◌∙◌, arith, length, take, drop}
 use Rattle.std.proofs.Common.{append_assoc, length-append, length-drop}
 use Rattle.std.specs.Prelude.{map}
-use Rattle.std.specs.List.{flat_map, range_with_len}
 use Rattle.std.proofs.lemmas.List.{take-append-le, drop-append-le, take_all, drop_all}
-use Rattle.ts_packet.specs.declared.sizes.TheConstants.{SIZE}
 use Rattle.t2mi_stream.specs.Accepted.{AcceptedPacket}
 use Rattle.t2mi_stream.specs.Units.{unit_at, accepted_of}
-use Rattle.feed_events.specs.Arrivals.{Arrival, came_of, idle_if, is_idle, accepted_with, arrivals_with, arrivals_from}
+use Rattle.feed_events.specs.Arrivals.{Arrival, came_of, idle_if, is_idle, arrivals_with, arrivals_from}
 use Rattle.feed_events.specs.StandsFor.{arrivals_behind}
 
 -- what follows whole units leaves them as they are

@@ -1,5 +1,5 @@
 -- Bytes in, events out.
-use Rattle.std.proofs.Common.{◌≡◌, ℕ, zero, suc, ◌+◌, ◌-◌, ◌*◌, ◌/◌, ◌%◌, ◌≤◌, ◌<◌, Bool, true, false, List, [], ◌∷◌, ◌++◌, length, take}
+use Rattle.std.proofs.Common.{◌≡◌, ℕ, zero, suc, ◌-◌, ◌/◌, ◌%◌, ◌≤◌, ◌<◌, Bool, true, false, List, [], ◌∷◌, ◌++◌, length, take}
 use Rattle.std.proofs.Common.{drop, Option, Some, None, refl, ap, ap₂, sym, subst, ◌∙◌, arith, append_assoc, append-nil, length-append, ◌⊎◌, inl, inr}
 use Rattle.std.specs.Prelude.{map, not, option_map, slice_get, is_some, IfSome}
 use Rattle.std.proofs.lemmas.Bool.{true≢false, cases_lt}
@@ -14,14 +14,14 @@ use Rattle.t2mi_stream.specs.Accepted.{AcceptedPacket}
 use Rattle.t2mi_stream.specs.Events.{UnpiperEvent, fed, released}
 use Rattle.t2mi_stream.specs.Events.UnpiperEvent.{Fed, Released}
 use Rattle.t2mi_stream.specs.Laws.{EventsPush, AcceptedFront}
-use Rattle.t2mi_stream.specs.Units.{Cut, accepted_of, accepted_in}
+use Rattle.t2mi_stream.specs.Units.{accepted_of, accepted_in}
 use Rattle.t2mi_stream.specs.UnpiperStandsFor.{UnpiperStandsFor, is_ready, next_packet, AllReleased}
 use Rattle.t2mi_stream.specs.declared.unpiper.Unpiper.{Unpiper}
 use Rattle.t2mi_stream.proofs.UnitLemmas.{runs_same}
 use Rattle.feed_events.specs.Arrivals.{Arrival, came_of, is_idle, idle_if, arrivals_with, arrivals_from, arrivals}
 use Rattle.feed_events.specs.Arrivals.Arrival.{Came, Idle}
 use Rattle.feed_events.specs.FeedEvents.{FeedEvent, feed_events}
-use Rattle.feed_events.specs.StandsFor.{arrivals_behind, arrivals_left, CanBecome, EventsStandFor}
+use Rattle.feed_events.specs.StandsFor.{arrivals_behind, arrivals_left, EventsStandFor}
 use Rattle.feed_events.specs.Under.{IsHeld, Went, Ended, course_events, head_events, events_behind, under_of, start}
 use Rattle.feed_events.specs.declared.course.Course.{Course}
 use Rattle.feed_events.specs.declared.course.Head.TheVariants as head

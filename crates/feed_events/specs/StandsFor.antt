@@ -2,7 +2,6 @@
 use Rattle.std.specs.Prelude.{◌≡◌, ℕ, ◌+◌, ◌-◌, ◌*◌, ◌/◌, ◌%◌, ◌<◌, ◌≤◌, Bool, true, false, List, [], ◌++◌, map, length, drop, Option}
 use Rattle.std.specs.Prelude.{if◌then◌else◌}
 use Rattle.ts_packet.specs.declared.sizes.TheConstants.{SIZE}
-use Rattle.t2mi_stream.specs.Accepted.{AcceptedPacket}
 use Rattle.t2mi_stream.specs.Events.{UnpiperEvent, fed, released}
 use Rattle.t2mi_stream.specs.Units.{accepted_of}
 use Rattle.t2mi_stream.specs.UnpiperStandsFor.{UnpiperStandsFor, steps_left, fed_len}
@@ -87,6 +86,10 @@ fed_of f = fed_len f.unpiper
 
 abbrev pub left_of : {G : Type 0} {o : OpenGroup.Ghosts G} → EventFeed G o → ℕ
 left_of f = events_left f.unpiper f.frames.course f.idle
+
+-- whether no more bytes come
+abbrev pub has_ended : {G : Type 0} {o : OpenGroup.Ghosts G} → EventFeed G o → Bool
+has_ended f = f.finished
 
 -- the event that is next, if it is known; a frame's is that of a group
 abbrev pub shown : {G : Type 0} {o : OpenGroup.Ghosts G} → EventFeed G o → Option Group → List FeedEvent

@@ -40,7 +40,7 @@ impl<G: OpenGroup + Drop> EventFeed<G> {
     ghost use Rattle.std.specs.Prelude.{◌≡◌, ◌≢◌, ◌<◌, ◌≤◌, ◌+◌, ◌*◌, ◌^◌, ◌++◌, ℕ, List, [], None, IfOk, length, take, true, false};
     ghost use Rattle.ts_packet.specs.declared.sizes.TheConstants.{SIZE};
     ghost use Rattle.feed_events.specs.FeedEvents.{FeedEvent, feed_events};
-    ghost use Rattle.feed_events.specs.StandsFor.{EventFeedStandsFor, head_of, fed_of, left_of, group_of, is_event, shown};
+    ghost use Rattle.feed_events.specs.StandsFor.{EventFeedStandsFor, head_of, fed_of, left_of, group_of, has_ended, is_event, shown};
     ghost use Rattle.feed_events.specs.declared.course.Head.TheVariants as head;
 
     /// A feed, on the PID of its network, with a group to which nothing was added. No byte was fed.
@@ -51,6 +51,7 @@ impl<G: OpenGroup + Drop> EventFeed<G> {
         ensures stands { IfOk result (λ f. EventFeedStandsFor G.OpenGroup f [] []) }
         ensures rules { IfOk result (λ f. G.rules (group_of f) ≡ G.rules group) }
         ensures unknown { IfOk result (λ f. head_of f ≡ head.Unknown) }
+        ensures open { IfOk result (λ f. has_ended f ≡ false) }
     {
         few_packets_law();
         Ok(EventFeed {
@@ -84,6 +85,7 @@ impl<G: OpenGroup + Drop> EventFeed<G> {
             → EventFeedStandsFor G.OpenGroup self.new (bytes ++ unit.now) gone }
         ensures fed { (fed_of self.old ≤ fed_of self.new) × (fed_of self.new ≤ fed_of self.old + SIZE) }
         ensures rules { G.rules (group_of self.new) ≡ G.rules (group_of self.old) }
+        ensures ended { has_ended self.new ≡ has_ended self.old }
     {
         accepted_front_law();
         events_push_law();
@@ -109,6 +111,7 @@ impl<G: OpenGroup + Drop> EventFeed<G> {
         ensures stops { head_of self.new ≡ head.Unknown → length piece.now < result + SIZE }
         ensures fed { (fed_of self.old ≤ fed_of self.new) × (fed_of self.new ≤ fed_of self.old + result) }
         ensures rules { G.rules (group_of self.new) ≡ G.rules (group_of self.old) }
+        ensures ended { has_ended self.new ≡ has_ended self.old }
     {
         let mut count = 0;
         while piece.len() - count >= SIZE && self.frames.course.head == Head::Unknown {
@@ -127,6 +130,7 @@ impl<G: OpenGroup + Drop> EventFeed<G> {
         ensures known { head_of self.new ≢ head.Unknown }
         ensures fed { fed_of self.new ≡ fed_of self.old }
         ensures rules { G.rules (group_of self.new) ≡ G.rules (group_of self.old) }
+        ensures ended { has_ended self.new ≡ true }
     {
         self.finished = true;
         self.idle = rest(&self.unpiper, &mut self.frames, false, true);
@@ -141,6 +145,7 @@ impl<G: OpenGroup + Drop> EventFeed<G> {
         ensures left { left_of self.new < left_of self.old }
         ensures fed { fed_of self.new ≡ fed_of self.old }
         ensures rules { G.rules (group_of self.new) ≡ G.rules (group_of self.old) }
+        ensures ended { has_ended self.new ≡ has_ended self.old }
     {
         self.frames.pass();
         self.idle = go_on(

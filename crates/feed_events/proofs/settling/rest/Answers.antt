@@ -1,6 +1,5 @@
 use Rattle.std.proofs.Common.{◌≡◌, false, rules}
 use Rattle.feed_events.proofs.StandsLemmas.{fell_silent, came_end}
-use Rattle.t2mi_stream.specs.UnpiperStandsFor.{is_ready}
 use Rattle.feed_events.proofs.settling.rest.Goals as goal
 
 pub returns-then-idle-clause-stands : goal.returns-then-idle-clause-stands

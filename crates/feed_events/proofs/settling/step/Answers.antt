@@ -1,4 +1,4 @@
-use Rattle.std.proofs.Common.{◌≡◌, ◌∷◌, [], List, Option, subst, true, false}
+use Rattle.std.proofs.Common.{◌∷◌, [], Option, subst}
 use Rattle.t2mi_packet.specs.declared.packet.Packet.{Packet}
 use Rattle.frame_groups.specs.Groups.{Group}
 use Rattle.feed_events.specs.Arrivals.Arrival.{Came}

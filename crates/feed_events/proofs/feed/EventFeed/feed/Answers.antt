@@ -1,4 +1,4 @@
-use Rattle.std.proofs.Common.{◌≡◌, ◌++◌, ◌+◌, ◌∙◌, ◌-◌, ℕ, length, length-drop, List, ap, sym, subst, take, drop, arith, rules, append_assoc}
+use Rattle.std.proofs.Common.{◌≡◌, ◌++◌, ◌∙◌, ◌-◌, ℕ, length, length-drop, List, ap, sym, subst, take, drop, arith, rules, append_assoc}
 use Rattle.std.proofs.Math.Seq.{take-add}
 use Rattle.std.proofs.lemmas.List.{take_all}
 use Rattle.feed_events.specs.StandsFor.{EventFeedStandsFor}
@@ -11,7 +11,7 @@ loop-count-preserved g c =
     let piece = c.args.piece.now in
     let count = c.loop-count.count in
     let left = length-drop count piece in
-    let unit : c.first_unit.result.now ≡ take 188 (drop count piece) = 
+    let unit : c.first_unit.result.now ≡ take 188 (drop count piece) =
     c.first_unit.ensures ∙ ap (take 188) (take_all (length piece - count) (drop count piece) (omega (arith, left))) in
     record {
       stands = λ bytes gone h.
@@ -25,4 +25,5 @@ loop-count-preserved g c =
       whole = λ _. omega arith;
       fed = let a = i.fed.0 in let b = i.fed.1 in let x = s.fed.0 in let y = s.fed.1 in (omega (arith, a, x), omega (arith, b, y));
       rules = s.rules ∙ i.rules;
+      ended = s.ended ∙ i.ended;
     }

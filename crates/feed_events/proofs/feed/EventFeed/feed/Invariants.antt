@@ -1,7 +1,6 @@
 use Rattle.std.proofs.Common.{◌≡◌, ◌≤◌, ◌<◌, ◌+◌, ◌-◌, ◌++◌, ℕ, List, length, take}
 use Rattle.feed_events.specs.FeedEvents.{FeedEvent}
-use Rattle.feed_events.specs.StandsFor.{EventFeedStandsFor, head_of, fed_of, group_of}
-use Rattle.feed_events.specs.declared.course.Head.TheVariants as head
+use Rattle.feed_events.specs.StandsFor.{EventFeedStandsFor, fed_of, group_of, has_ended}
 use Rattle.feed_events.proofs.feed.EventFeed.feed.Given as goal
 
 abbrev pub invariant-loop-count : goal.invariant-loop-count
@@ -13,6 +12,7 @@ invariant-loop-count g l = record {
   whole : 0 < l.count → 188 ≤ l.count;
   fed : (fed_of l.initial.self ≤ fed_of l.self) × (fed_of l.self ≤ fed_of l.initial.self + l.count);
   rules : g.G.OpenGroup.rules (group_of l.self) ≡ g.G.OpenGroup.rules (group_of l.initial.self);
+  ended : has_ended l.self ≡ has_ended l.initial.self;
 }
 
 abbrev pub decreases-loop-count : goal.decreases-loop-count

@@ -1,7 +1,7 @@
 use Rattle.std.proofs.Common.{◌≡◌, ◌∙◌, ℕ, [], subst, sym, None, false, ap}
 use Rattle.frame_groups.specs.Modulated.{Rules}
 use Rattle.feed_events.specs.StandsFor.{EventsStandFor}
-use Rattle.feed_events.specs.Under.{IsHeld, start}
+use Rattle.feed_events.specs.Under.{IsHeld}
 use Rattle.feed_events.specs.declared.course.Course.{Course}
 use Rattle.t2mi_stream.specs.UnpiperStandsFor.{UnpiperStandsFor}
 use Rattle.feed_events.proofs.StandsLemmas.{begun_with}

@@ -1,0 +1,3 @@
+pub mod PickLemmas
+pub mod RowLemmas
+pub mod HeadLemmas

@@ -1,0 +1,93 @@
+-- Which frames come next of several feeds, by their events.
+use Rattle.std.specs.Prelude.{ℕ, zero, suc, ◌+◌, ◌==◌, ◌||◌, not, min, nat_lt, Bool, true, false, List, [], ◌∷◌, length, Option, Some, None}
+use Rattle.std.specs.Prelude.{if◌then◌else◌}
+use Rattle.std.specs.List.{flat_map, range_with_len}
+use Rattle.frame_groups.specs.Groups.{Group}
+use Rattle.frame_groups.specs.Modulated.{Numbered}
+use Rattle.feed_events.specs.FeedEvents.{FeedEvent}
+use Rattle.feed_events.specs.FeedEvents.FeedEvent.{Has, Silent}
+
+-- what is known of a feed: its events, and whether it has no others
+pub record Coming : Type 0 where
+  pub events : List FeedEvent
+  pub over : Bool
+
+-- It is not known what is next in the feed.
+abbrev pub waits_by : List FeedEvent → Bool → Bool
+waits_by [] over = not over
+waits_by (e ∷ events) over = false
+
+-- so it is in one of so many feeds
+abbrev pub one_waits : ℕ → (ℕ → Coming) → Bool
+one_waits zero feeds = false
+one_waits (suc k) feeds = one_waits k feeds || waits_by (feeds k).events (feeds k).over
+
+-- the number of the frame whose packets are next in a feed, if there is one
+abbrev pub number_next : List FeedEvent → Option ℕ
+number_next [] = None
+number_next (Has x ∷ events) = Some x.number
+number_next (Silent ∷ events) = None
+
+abbrev pub lesser : Option ℕ → Option ℕ → Option ℕ
+lesser None b = b
+lesser (Some m) None = Some m
+lesser (Some m) (Some n) = Some (min m n)
+
+-- the least of so many feeds
+abbrev pub least_next : ℕ → (ℕ → Coming) → Option ℕ
+least_next zero feeds = None
+least_next (suc k) feeds = lesser (least_next k feeds) (number_next (feeds k).events)
+
+abbrev pub is_number : Option ℕ → ℕ → Bool
+is_number None n = false
+is_number (Some m) n = m == n
+
+-- the packets of a frame, in the feeds in which they are next
+abbrev pub group_next : ℕ → List FeedEvent → List Group
+group_next n [] = []
+group_next n (Has x ∷ events) = if n == x.number then x.group ∷ [] else []
+group_next n (Silent ∷ events) = []
+
+abbrev pub groups_next : ℕ → ℕ → (ℕ → Coming) → List Group
+groups_next n k feeds = flat_map (λ i. group_next n (feeds i).events) (range_with_len 0 k)
+
+-- the events of a feed behind its packets of a frame, and perhaps behind a silence, if they are next
+abbrev pub behind : Option ℕ → Bool → List FeedEvent → List FeedEvent
+behind number silent [] = []
+behind number silent (Has x ∷ events) = if is_number number x.number then events else Has x ∷ events
+behind number silent (Silent ∷ events) = if silent then events else Silent ∷ events
+
+abbrev pub all_behind : Option ℕ → Bool → (ℕ → Coming) → ℕ → Coming
+all_behind number silent feeds = λ i. record { events = behind number silent (feeds i).events; over = (feeds i).over }
+
+-- a frame, and its packets in the feeds that have some
+pub record Picked : Type 0 where
+  pub number : ℕ
+  pub groups : List Group
+
+-- The least number is next; one below those that were picked is passed over. A silence gives its feed up for one frame, so a feed that
+-- is given up holds no other up. Where no feed has packets next, silences are passed over.
+abbrev pub pick_next : Option ℕ → ℕ → ℕ → (ℕ → Coming) → (ℕ → (ℕ → Coming) → List Picked) → List Picked
+pick_next None k low feeds rest = rest low (all_behind None true feeds)
+pick_next (Some n) k low feeds rest =
+    if nat_lt n low then rest low (all_behind (Some n) false feeds)
+    else record { number = n; groups = groups_next n k feeds } ∷ rest (n + 1) (all_behind (Some n) true feeds)
+
+-- It ends where it is not known what is next in a feed. So many steps are made at most.
+abbrev pub picked_from : ℕ → ℕ → ℕ → (ℕ → Coming) → List Picked
+picked_from zero k low feeds = []
+picked_from (suc steps) k low feeds = if one_waits k feeds then []
+    else pick_next (least_next k feeds) k low feeds (λ low feeds. picked_from steps k low feeds)
+
+-- how many events so many feeds have; each step passes one
+abbrev pub events_in : ℕ → (ℕ → Coming) → ℕ
+events_in zero feeds = 0
+events_in (suc k) feeds = events_in k feeds + length (feeds k).events
+
+-- the frames from a number on
+abbrev pub picks_from : ℕ → ℕ → (ℕ → Coming) → List Picked
+picks_from k low feeds = picked_from (events_in k feeds) k low feeds
+
+-- all frames of so many feeds
+unfoldable pub picks : ℕ → (ℕ → Coming) → List Picked
+picks k feeds = picks_from k 0 feeds
