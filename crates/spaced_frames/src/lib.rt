@@ -1,0 +1,9 @@
+//! Frames sent again as one T2-MI stream, so that who counts them never loses count.
+#![tactic(auto)]
+
+mod sender;
+mod spacer;
+mod stage;
+
+pub use sender::Sender;
+pub use spacer::{FARTHEST, Spacer};
