@@ -52,13 +52,6 @@ impl OutBuffer {
         Ok(OutBuffer { bytes, count: 0 })
     }
 
-    /// Whether no byte waits.
-    pub fn is_empty(&self) -> bool
-        ensures { IsTrue result ↔ (self.now ≡ []) }
-    {
-        self.count == 0
-    }
-
     /// Whether there is room for a piece.
     pub fn has_room(&self) -> bool
         ensures { IsTrue result ↔ (length self.now + PIECE ≤ PAGE) }

@@ -12,28 +12,26 @@ ghost use Rattle.desk_io.specs.declared.page.TheConstants.{PAGE};
 use crate::feeding::feed;
 use crate::machine::{Machine, Step};
 use crate::out_buffer::OutBuffer;
+use crate::output::say_all;
 use crate::stop::RunFault;
 use desk_io::{ReadAhead, ReadStop};
 use ports::{Desk, DeskFault};
 
-/// Says what waits on the page, by one call, or nothing if nothing waits.
-pub fn say_page<D: Desk>(desk: &mut D, page: &mut OutBuffer) -> Result<(), DeskFault>
+// Says what waits on the page, by one call, or nothing if nothing waits.
+fn say_page<D: Desk>(desk: &mut D, page: &mut OutBuffer) -> Result<(), DeskFault>
     ensures ok { OnOk result (SaysPage (D.state desk.old) (D.state desk.new) page.old) }
     ensures err { OnErr result (Keeps (D.state desk.old) (D.state desk.new)) }
     ensures page { page.new ≡ [] }
     ensures some { OnErr result (page.old ≢ []) }
     ensures counts { MayFailWriting (D.state desk.old).counts (D.state desk.new).counts result }
 {
-    if page.is_empty() {
-        return Ok(());
-    }
-    let said = desk.say(page.as_bytes());
+    let said = say_all(desk, page.as_bytes());
     page.clear();
     said
 }
 
-/// Makes room for a piece: if there is none, all that waits is said.
-pub fn make_room<D: Desk>(desk: &mut D, page: &mut OutBuffer) -> Result<(), DeskFault>
+// Makes room for a piece: if there is none, all that waits is said.
+fn make_room<D: Desk>(desk: &mut D, page: &mut OutBuffer) -> Result<(), DeskFault>
     ensures ok { OnOk result (GivesWay (D.state desk.old) (D.state desk.new) page.old page.new) }
     ensures room { OnOk result (length page.new + PIECE ≤ PAGE) }
     ensures err { OnErr result (Keeps (D.state desk.old) (D.state desk.new)) }
