@@ -8,6 +8,7 @@ use Rattle.desk_io.specs.Laws.{AppendsNone, AppendsThen}
 use Rattle.file_run.specs.Events.{Event, Gave}
 use Rattle.file_run.specs.Running.{Drains, DrainsFront, Gathers, PutsSome}
 use Rattle.file_run.specs.Sink.{Puts, PutsFront}
+use Rattle.file_run.specs.Steps.{HasCome}
 use Rattle.file_run.specs.declared.machine.Step.{Step}
 use Rattle.file_run.specs.declared.machine.Step.TheVariants.{Give}
 use Rattle.file_run.specs.declared.output.OpenOutput.{OpenOutput}
@@ -24,6 +25,12 @@ drained_none law {A = A} Becomes out m s waiting none = record {
   parts = sym none;
   puts = puts_none law out s;
 }
+
+-- The machine has come further.
+pub came_on : {A : Type 0} (Becomes : A → List Event → A → Type 0) (out : OpenOutput) (old new : A) (was is : State)
+    (waiting : List ℕ) → HasCome Becomes old → Drains Becomes out old new was is waiting → HasCome Becomes new
+came_on Becomes out old new was is waiting c d =
+    record { start = c.start; events = c.events ++ d.late; came = d.becomes c.start c.events c.came }
 
 -- A front of what waits went out.
 pub drained_some : AppendsThen → {A : Type 0} (Becomes : A → List Event → A → Type 0) (out : OpenOutput) (old new : A)

@@ -15,6 +15,7 @@ use Rattle.file_run.specs.Running.{IsReader, read_fault}
 use Rattle.file_run.specs.Sink.{Sink, Into, Aloud, creates, out_of, AreOthers, IsOpen}
 use Rattle.file_run.specs.declared.output.OpenOutput.{OpenOutput}
 use Rattle.file_run.specs.declared.output.OpenOutput.TheVariants.{File, Standard}
+use Rattle.file_run.specs.Steps.{HasCome}
 use Rattle.file_run.specs.declared.machine.Step.{Step}
 use Rattle.file_run.specs.declared.machine.Step.TheVariants.{Read, Give, End}
 use Rattle.file_run.proofs.FedLemmas.{runs_fed, stops_unfed}
@@ -72,6 +73,17 @@ stopped_drained Becomes start m n reach next b old new readings out place fault 
   inr (stops_drained Becomes start m n reach next b old new readings r.events r.runs r.came gives
       (subst (λ (o : OpenOutput). DrainsFront Becomes o m n old new) place d)),
 )
+
+-- The machine of a run has come from its start,
+pub running_came : {A : Type 0} (Becomes : A → List Event → A → Type 0) (start : A) (reach : A → ℕ → ℕ) (m : A) (b : Start)
+    (now : State) (readings : List Reading) → IsRunning (Becomes start) reach b now m readings → HasCome Becomes m
+running_came Becomes start reach m b now readings r = record { start = start; events = r.events; came = r.came }
+
+-- and further if it was fed.
+pub came_fed : {A : Type 0} (Becomes : A → List Event → A → Type 0) (old new : A) (before after : State) (was is : Reading)
+    (input : ℕ) → HasCome Becomes old → Feeds Becomes old new before after was is input → HasCome Becomes new
+came_fed Becomes old new before after was is input c f =
+    record { start = c.start; events = c.events ++ f.event ∷ []; came = f.becomes c.start c.events c.came }
 
 pub item_is : (readings : List Reading) (input : ℕ) (was d : Reading) → input < length readings
     → was ≡ slice_index_or readings input d → was ≡ reading_at readings input

@@ -3,6 +3,7 @@ ghost use Rattle.std.specs.Prelude.{◌≡◌, ◌≢◌, ◌≤◌, ◌+◌, �
 ghost use Rattle.ports.specs.Counts.{MayFailWriting};
 ghost use Rattle.file_run.specs.Running.{Drains, DrainsFront, PutsSome};
 ghost use Rattle.file_run.specs.Sink.{IsOpen, Puts, PutsFront};
+ghost use Rattle.file_run.specs.Steps.{HasCome};
 ghost use Rattle.file_run.specs.declared.machine.TheConstants.{PIECE};
 ghost use Rattle.desk_io.specs.declared.page.TheConstants.{PAGE};
 
@@ -53,6 +54,7 @@ pub fn drain<M: Machine, D: Desk>(
 ) -> Result<(), DeskFault>
     requires open { IsOpen out (D.state desk.old) }
     requires nothing { buffer.old ≡ [] }
+    requires came { HasCome M.Becomes machine.old }
     ensures ok { OnOk result (Drains M.Becomes out machine.old machine.new (D.state desk.old) (D.state desk.new) []) }
     ensures nothing { OnOk result (buffer.new ≡ []) }
     ensures dry { OnOk result (M.next machine.new ≢ Step.Give) }

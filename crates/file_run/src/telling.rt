@@ -4,6 +4,7 @@ ghost use Rattle.ports.specs.Counts.{MayFailWriting};
 ghost use Rattle.ports.specs.Desk.{State, Keeps};
 ghost use Rattle.desk_io.specs.Reading.{Reading};
 ghost use Rattle.desk_io.specs.Saying.{SaysPage};
+ghost use Rattle.file_run.specs.Steps.{HasCome};
 ghost use Rattle.file_run.specs.Telling.{TellsAll, StopsTelling};
 ghost use Rattle.file_run.specs.TellingOn.{Telling, HasBegun, GivesWay, Finishes, Breaks, TellsLast};
 ghost use Rattle.file_run.specs.declared.machine.TheConstants.{PIECE};
@@ -50,6 +51,7 @@ fn gather<M: Machine, D: Desk>(
     page: &mut OutBuffer,
     desk: &mut D,
 ) -> Result<(), DeskFault>
+    requires came { HasCome M.Becomes machine.old }
     ensures ok { OnOk result ((begin : M) (start : State) (name : List ℕ) (r : Reading)
         → Telling (M.Becomes begin) M.next start (D.state desk.old) name machine.old r page.old
         → Telling (M.Becomes begin) M.next start (D.state desk.new) name machine.new r page.new) }

@@ -33,7 +33,7 @@ use Rattle.two_feeds.specs.Fed.{IsFedWith, IsBehind}
 use Rattle.merge_run.specs.Shown.{more_units, frame_bytes, Shown}
 use Rattle.merge_run.specs.Steps.{left_in, left_of}
 use Rattle.merge_run.specs.Taking.{is_same, feed_in}
-use Rattle.merge_run.specs.declared.merging.Merging.{Merging}
+use Rattle.merge_run.specs.declared.machine.MergeMachine.{MergeMachine}
 use Rattle.merge_run.specs.declared.phase.Phase.{Phase}
 use Rattle.merge_run.specs.declared.phase.Phase.TheVariants.{Reads, Gives, Rests, Done}
 use Rattle.merge_run.specs.declared.stop.Ran.{Ran}
@@ -45,7 +45,7 @@ use Rattle.merge_run.proofs.UnitLemmas.{left_is}
 
 -- ---- what is known while units are given
 
-module _ (c : Config) (m : Merging) (events : List Event) (s : Shown c events m) where
+module _ (c : Config) (m : MergeMachine) (events : List Event) (s : Shown c events m) where
   abbrev pub frames : List NumberedView
   frames = frames_of (picks c s.given_a s.given_b)
 
@@ -80,7 +80,7 @@ module _ (c : Config) (m : Merging) (events : List Event) (s : Shown c events m)
   few_units = let u = s.counts.units in let e = s.both.early in omega (arith, u, e)
 
 -- the record whose frame is under way can be left behind
-module _ (c : Config) (m : Merging) (events : List Event) (s : Shown c events m) (gives : m.phase ≡ Gives) where
+module _ (c : Config) (m : MergeMachine) (events : List Event) (s : Shown c events m) (gives : m.phase ≡ Gives) where
   of_first : is_same m.source A ≡ true → feed_of m ≡ m.a
   of_first on = go m.source on
     where
@@ -109,7 +109,7 @@ module _ (c : Config) (m : Merging) (events : List Event) (s : Shown c events m)
 
 -- ---- of a frame
 
-module _ (tell : EventsTell) (c : Config) (m : Merging) (g : Merger) (events : List Event) (unit : List ℕ) (s : Shown c events m)
+module _ (tell : EventsTell) (c : Config) (m : MergeMachine) (g : Merger) (events : List Event) (unit : List ℕ) (s : Shown c events m)
     (gives : m.phase ≡ Gives) (frame : PoolFrame) (is : IsFrameOf (feed_of m) frame) where
   abbrev fs : List NumberedView
   fs = frames c m events s
@@ -182,11 +182,11 @@ module _ (tell : EventsTell) (c : Config) (m : Merging) (g : Merger) (events : L
 
 -- ---- the record is left behind whose frame was sent
 
-pub record Skips (m : Merging) (a b : FrameFeed) : Type 0 where
+pub record Skips (m : MergeMachine) (a b : FrameFeed) : Type 0 where
   pub took_a : SkipsIf (is_same m.source A) m.a a
   pub took_b : SkipsIf (is_same m.source B) m.b b
 
-module _ (tell : EventsTell) (c : Config) (m : Merging) (g : Merger) (events : List Event) (unit : List ℕ) (s : Shown c events m)
+module _ (tell : EventsTell) (c : Config) (m : MergeMachine) (g : Merger) (events : List Event) (unit : List ℕ) (s : Shown c events m)
     (gives : m.phase ≡ Gives) (frame : PoolFrame) (is : IsFrameOf (feed_of m) frame) (follow : DueFollow) (a b : FrameFeed)
     (t : Skips m a b) where
   abbrev more : List Event
@@ -258,7 +258,7 @@ one_same : (source : Feed) → one_if (is_same source A) + one_if (is_same sourc
 one_same A = refl
 one_same B = refl
 
-pub left_behind : (m : Merging) (a b f : FrameFeed) (g : Merger) → m.phase ≡ Gives → Skips m a b
+pub left_behind : (m : MergeMachine) (a b f : FrameFeed) (g : Merger) → m.phase ≡ Gives → Skips m a b
     → left_in Reads (feed.left_of a + feed.left_of b) g f < left_of m
 left_behind m a b f g gives t =
     let was = ap (λ (p : Phase). left_in p (feed.left_of m.a + feed.left_of m.b) m.merger (feed_of m)) gives in
@@ -268,7 +268,7 @@ left_behind m a b f g gives t =
 
 -- ---- behind the end
 
-module _ (tell : EventsTell) (c : Config) (m : Merging) (g : Merger) (events : List Event) (unit : List ℕ) (s : Shown c events m)
+module _ (tell : EventsTell) (c : Config) (m : MergeMachine) (g : Merger) (events : List Event) (unit : List ℕ) (s : Shown c events m)
     (rests : m.phase ≡ Rests) (config : merger.config_of g ≡ merger.config_of m.merger) (finished : has_finished g ≡ true)
     (all_fed : is_fed g ≡ true) where
   abbrev j : IsResting m.merger m.a m.b
@@ -349,7 +349,7 @@ module _ (tell : EventsTell) (c : Config) (m : Merging) (g : Merger) (events : L
         };
       }
 
-pub left_rest : (m : Merging) (g : Merger) → m.phase ≡ Rests → bytes_left g [] < bytes_left m.merger []
+pub left_rest : (m : MergeMachine) (g : Merger) → m.phase ≡ Rests → bytes_left g [] < bytes_left m.merger []
     → left_of (record m { merger = g; ran = record m.ran { units = m.ran.units + 1 } }) < left_of m
 left_rest m g rests less =
     let records : ℕ = feed.left_of m.a + feed.left_of m.b in
@@ -357,7 +357,7 @@ left_rest m g rests less =
     let is = ap (λ (p : Phase). left_in p records g (feed_of m)) rests in
     omega (arith, was, is, less)
 
-pub left_done : (m : Merging) (g : Merger) → m.phase ≡ Rests → left_of (record m { merger = g; phase = Done }) < left_of m
+pub left_done : (m : MergeMachine) (g : Merger) → m.phase ≡ Rests → left_of (record m { merger = g; phase = Done }) < left_of m
 left_done m g rests =
     let was = ap (λ (p : Phase). left_in p (feed.left_of m.a + feed.left_of m.b) m.merger (feed_of m)) rests in
     omega (arith, was)

@@ -14,4 +14,3 @@ pub mod StepLemmas
 pub mod TakeLemmas
 pub mod UnitLemmas
 pub mod UnitsLemmas
-pub mod WantLemmas

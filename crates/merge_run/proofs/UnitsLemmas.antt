@@ -21,7 +21,7 @@ use Rattle.feed_merge.specs.declared.merger.Merger.{Merger}
 use Rattle.merge_run.specs.Sending.{Nexts, NextsAll, GivesAll, EndsSo}
 use Rattle.merge_run.specs.Shown.{Sends, Shown, is_held, feed_of, left_at}
 use Rattle.merge_run.specs.Steps.{left_of}
-use Rattle.merge_run.specs.declared.merging.Merging.{Merging}
+use Rattle.merge_run.specs.declared.machine.MergeMachine.{MergeMachine}
 use Rattle.merge_run.specs.declared.phase.Phase.TheVariants.{Gives, Reads}
 use Rattle.two_feeds.proofs.EventLemmas.{same_both}
 use Rattle.merge_run.proofs.LiveLemmas.{live_same}
@@ -86,7 +86,7 @@ counted_units old new frame full len out few n =
 
 -- ---- what was given twice was given once
 
-pub shown_once : EventsTell → (c : Config) (m : Merging) (events : List Event) (first second : List ℕ)
+pub shown_once : EventsTell → (c : Config) (m : MergeMachine) (events : List Event) (first second : List ℕ)
     → Shown c ((events ++ Gave first ∷ []) ++ Gave second ∷ []) m → Shown c (events ++ Gave (first ++ second) ∷ []) m
 shown_once tell c m events first second s = record {
   config = s.config;
@@ -117,10 +117,10 @@ shown_once tell c m events first second s = record {
 -- ---- all units of a chain
 
 -- where a merger and a number of units more are
-abbrev pub with_units : Merging → Merger → ℕ → Merging
+abbrev pub with_units : MergeMachine → Merger → ℕ → MergeMachine
 with_units m g count = record m { merger = g; ran = record m.ran { units = m.ran.units + count } }
 
-pub shown_all : (tell : EventsTell) (c : Config) (frame : PoolFrame) (units : List (List ℕ)) (m : Merging) (g : Merger)
+pub shown_all : (tell : EventsTell) (c : Config) (frame : PoolFrame) (units : List (List ℕ)) (m : MergeMachine) (g : Merger)
     (events : List Event) → Shown c events m → m.phase ≡ Gives → IsFrameOf (feed_of m) frame → GivesAll frame m.merger units g
     → Shown c (events ++ Gave (joined units) ∷ []) (with_units m g (length units))
 shown_all tell c frame [] m g events s gives is e =
@@ -135,7 +135,7 @@ shown_all tell c frame (u ∷ units) m g events s gives is h =
     (record m { merger = g; ran = record m.ran { units = k } })) (omega arith) more)
 
 -- Each unit is fewer bytes left.
-pub left_all : (tell : EventsTell) (c : Config) (frame : PoolFrame) (units : List (List ℕ)) (m : Merging) (g : Merger)
+pub left_all : (tell : EventsTell) (c : Config) (frame : PoolFrame) (units : List (List ℕ)) (m : MergeMachine) (g : Merger)
     (events : List Event) → Shown c events m → m.phase ≡ Gives → IsFrameOf (feed_of m) frame → GivesAll frame m.merger units g
     → left_of (with_units m g (length units)) + length units ≤ left_of m
 left_all tell c frame [] m g events s gives is e =
@@ -148,7 +148,7 @@ left_all tell c frame (u ∷ units) m g events s gives is h =
 
 -- ---- what a call gave
 
-module _ (tell : EventsTell) (c : Config) (m : Merging) (g : Merger) (events : List Event) (s : Shown c events m) (gives : m.phase ≡ Gives)
+module _ (tell : EventsTell) (c : Config) (m : MergeMachine) (g : Merger) (events : List Event) (s : Shown c events m) (gives : m.phase ≡ Gives)
     (frame : PoolFrame) (is : IsFrameOf (feed_of m) frame) (full : Bool) (bytes : List ℕ) (n : NextsAll m.merger g frame full bytes) where
   -- the units as they were given
   all : Shown c (events ++ Gave (joined n.units) ∷ []) (with_units m n.mid (length n.units))
@@ -183,7 +183,7 @@ module _ (tell : EventsTell) (c : Config) (m : Merging) (g : Merger) (events : L
       let last = subst (EndsSo n.mid g frame) off n.ends in
       let more = events ++ Gave (joined n.units) ∷ [] in
       let at = with_units m n.mid (length n.units) in
-      let new : Merging = record (with_units m g (length n.units)) { a = a; b = b; phase = Reads } in
+      let new : MergeMachine = record (with_units m g (length n.units)) { a = a; b = b; phase = Reads } in
       subst (λ (l : List ℕ). Shown c (events ++ Gave l ∷ []) new)
       (append-nil (joined n.units) ∙ sym n.bytes_are)
       (shown_once tell c new events (joined n.units) []

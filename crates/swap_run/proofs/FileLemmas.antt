@@ -51,7 +51,7 @@ use Rattle.swap_run.specs.declared.phase.Phase.{Phase}
 use Rattle.swap_run.specs.declared.phase.Phase.TheVariants as phase
 use Rattle.swap_run.specs.declared.stop.Ran.{Ran}
 use Rattle.swap_run.specs.declared.stop.SwapStop.TheVariants.{NoSuperframe, InputRefused, TooManyFrames}
-use Rattle.swap_run.specs.declared.swapping.Swapping.{Swapping}
+use Rattle.swap_run.specs.declared.machine.SwapMachine.{SwapMachine}
 use Rattle.swap_run.proofs.GoLemmas.{slots_rise}
 use Rattle.swap_run.proofs.NextLemmas.{slots_in, slots_is}
 use Rattle.swap_run.proofs.PacketLemmas.{file_continues, none_wanted, few_taken, all_taken, nothing_bad, bad_next}
@@ -71,7 +71,7 @@ ran_same r f m u n a b d e =
     (subst (λ (x : ℕ). r ≡ (let y : Ran = record { frames = r.frames; muted = r.muted; unsent = r.unsent; units = x } in y)) e refl)))
 
 module _ (front : DueFront) (follow : DueFollow) (law : CompleteLaw) (rises : CountRises) (slot : SlotLength) (c : Config) (plp : ℕ)
-    (m : Swapping) (events : List Event) (s : Shown c plp events m) (files : ℕ → List ℕ) (places : List ℕ)
+    (m : SwapMachine) (events : List Event) (s : Shown c plp events m) (files : ℕ → List ℕ) (places : List ℕ)
     (are : AreFed 2 files places events) where
   abbrev r : Read
   r = s.read

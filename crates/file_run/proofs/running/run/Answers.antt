@@ -4,6 +4,7 @@ use Rattle.file_run.specs.Sink.{sink_of}
 use Rattle.file_run.proofs.FedLemmas.{less_left}
 use Rattle.file_run.proofs.RunningLemmas.{running_first, running_drained, stopped_drained, running_fed, stopped_fed, run_all}
 use Rattle.file_run.proofs.RunningLemmas.{at_end, not_ended, can_go_on, reader_of, place_first, is_open, stays_open}
+use Rattle.file_run.proofs.RunningLemmas.{running_came, came_fed}
 use Rattle.file_run.proofs.running.run.Goals as goal
 
 pub returns-in-Err-clause-err : goal.returns-in-Err-clause-err
@@ -115,3 +116,8 @@ feed-requires-clause-reader g c =
     reader_of g.M.Machine.Becomes c.args.machine.now g.M.Machine.reach _ _ _ _ _ _
     (omega (arith, w.place, c.requires.inputs, c.loop-input.invariant.running.runs.reached.all))
     c.loop-input.invariant.running
+
+pub drain-requires-in-Read-clause-came : goal.drain-requires-in-Read-clause-came
+drain-requires-in-Read-clause-came g c =
+    came_fed _ _ _ _ _ _ _ _ (running_came _ _ g.M.Machine.reach _ _ _ _ c.loop-input.invariant.running)
+    c.in-Ok-feed.ensures.feeds
