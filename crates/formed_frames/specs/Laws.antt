@@ -8,7 +8,6 @@ use Rattle.frame_groups.specs.Modulated.{FrameRecord}
 use Rattle.frame_groups.specs.Modulated.Content.{Whole}
 use Rattle.open_group.specs.Written.{content_view}
 use Rattle.modulator.specs.StandsFor.{records_due}
-use Rattle.site_frame.specs.declared.reading.RecordView.{RecordView}
 use Rattle.formed_frames.specs.Formed.{IsFormed}
 use Rattle.t2mi_packet.specs.declared.packet.Packet.{Packet}
 use Rattle.frame_groups.specs.Modulated.{Numbered}
@@ -17,7 +16,7 @@ use Rattle.pool_frame.specs.Bodies.{pool_bodies}
 use Rattle.pool_frame.specs.Signalling.{pre_part, conf_part}
 use Rattle.open_group.specs.Shown.{Shows}
 use Rattle.open_group.specs.Written.{packets_view}
-use Rattle.formed_frames.specs.Remade.{CanBeSent, view_bodies}
+use Rattle.formed_frames.specs.Remade.{view_bodies}
 
 -- If a record is not muted, it is a frame formed for its number.
 abbrev pub IsFormedRecord : Config → FrameRecord → Type 0
@@ -27,10 +26,6 @@ IsFormedRecord c x = (g : Group) → x.content ≡ Whole g → IsFormed c x.numb
 abbrev pub FramesAreFormed : Type 0
 FramesAreFormed = (c : Config) (finished : Bool) (bytes : List ℕ) → IsPlan c
     → AllByRecursion (IsFormedRecord c) (records_due c finished bytes)
-
--- A formed frame has what its packets carry.
-abbrev pub FormedCanBeSent : Type 0
-FormedCanBeSent = (c : Config) (n : ℕ) (view : RecordView) → IsFormed c n view → CanBeSent c view
 
 -- What is shown of packets that pass as frame n is what the packets of its record carry.
 abbrev pub ShownIsSent : Type 0

@@ -1,11 +1,10 @@
 -- Frames as T2-MI packets again (ETSI TS 102 773, clause 5).
-use Rattle.std.specs.Prelude.{◌≡◌, ℕ, ◌+◌, ◌*◌, ◌/◌, ◌%◌, ◌<◌, ◌≤◌, ◌==◌, not, Bool, true, List, [], ◌∷◌, length, map, take, Option}
+use Rattle.std.specs.Prelude.{◌≡◌, ℕ, ◌+◌, ◌*◌, ◌/◌, ◌%◌, ◌<◌, ◌==◌, not, Bool, true, List, [], ◌∷◌, length, map, take, Option}
 use Rattle.std.specs.Prelude.{Some, None}
-use Rattle.std.specs.List.{flat_map, AllByRecursion}
+use Rattle.std.specs.List.{flat_map}
 use Rattle.terms.specs.Bits.{bits_of, part}
 use Rattle.bb_frame.specs.Scrambled.{scrambled}
 use Rattle.plp_config.specs.declared.config.Config.{Config}
-use Rattle.plp_config.specs.declared.plp.TheConstants.{MOST_BLOCK_BYTES}
 use Rattle.l1_signal.specs.Lengths.{conf_len, dyn_len}
 use Rattle.l1_signal.specs.declared.lengths.TheConstants.{PRE_BITS}
 use Rattle.t2mi_packet.specs.declared.packet.Body.{Body}
@@ -44,17 +43,6 @@ abbrev pub view_bodies : Config → ℕ → RecordView → List Body
 view_bodies c n (Frame moment pre post blocks cells) =
     with_stamp c n (signal_of c n pre post ∷ record_bodies (n % c.frames) None blocks)
 view_bodies c n (Muted moment) = []
-
--- L1-pre and L1-post have these parts, and no block is longer than one can be.
-pub record HasParts (c : Config) (pre post : List Bool) (blocks : List Block) : Type 0 where
-  pub whole_pre : PRE_BITS ≤ length pre
-  pub whole_post : conf_len (length c.plps) + dyn_len (length c.plps) ≤ length post
-  pub short : AllByRecursion (λ b. length b.bytes ≤ MOST_BLOCK_BYTES) blocks
-
--- A record has what the packets of a frame carry.
-abbrev pub CanBeSent : Config → RecordView → Type 0
-CanBeSent c (Frame moment pre post blocks cells) = HasParts c pre post blocks
-CanBeSent c (Muted moment) = Unit {0}
 
 -- what the packets of frames carry, frame by frame, each with the number of its frame
 abbrev pub frame_pairs : Config → NumberedView → List (ℕ × Body)

@@ -1,12 +1,11 @@
 // Laws of the definitions. Their functions do nothing.
 ghost use Rattle.formed_frames.specs.Carrying.{FrameComesBack};
-ghost use Rattle.formed_frames.specs.Laws.{FramesAreFormed, FormedCanBeSent, ShownIsSent};
+ghost use Rattle.formed_frames.specs.Laws.{FramesAreFormed, ShownIsSent};
 
 use bb_frame::{bit_counts_law, scramble_twice_law};
 use frame_tests::{map_test_law, named_law, parts_law};
 use l1_signal::{conf_law, dyn_law, post_law, pre_law};
 use modulator::due_records_law;
-use plp_config::block_law;
 
 /// Every frame that is due by the bytes of a stream is formed for its number.
 pub fn formed_law()
@@ -20,14 +19,6 @@ pub fn formed_law()
     dyn_law();
     post_law();
     bit_counts_law();
-}
-
-/// A formed frame has what its packets carry.
-pub fn send_law()
-    ensures { FormedCanBeSent }
-{
-    pre_law();
-    block_law();
 }
 
 /// If packets carry what the record of a frame says that a modulator wrote, that frame comes back of them, behind groups that have

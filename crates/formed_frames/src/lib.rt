@@ -3,4 +3,4 @@
 
 mod laws;
 
-pub use laws::{back_law, formed_law, send_law, shown_law};
+pub use laws::{back_law, formed_law, shown_law};

@@ -15,7 +15,8 @@ use Rattle.frame_tests.specs.Carried.{stamps_of}
 use Rattle.frame_tests.specs.Tests.{begins_superframe, body_known, is_known}
 use Rattle.frame_writer.specs.FramePackets.{stamp_of}
 use Rattle.gateway_core.specs.Packets.{frame_bodies}
-use Rattle.gateway_core.specs.Signalling.{pre_part, conf_part, dyn_part}
+use Rattle.pool_frame.specs.Signalling.{pre_part, conf_part}
+use Rattle.gateway_core.specs.Signalling.{dyn_part}
 use Rattle.formed_frames.proofs.MadeLemmas.{all_bodies, carried_by, made_parts, made_bodies, frame_l1, frame_stamps, frame_blocks}
 use Rattle.formed_frames.proofs.MadeLemmas.{known_frame, all_right}
 use Rattle.frame_laws.proofs.BlockLemmas.{own_long}

@@ -29,7 +29,8 @@ use Rattle.mode_adapt.specs.Blocks.{own_blocks, told_counts}
 use Rattle.record_laws.specs.Frames.{HasByteIds}
 use Rattle.frame_writer.specs.FramePackets.{l1_body}
 use Rattle.gateway_core.specs.Packets.{block_bodies, plp_bodies, frame_bodies, bodies_before}
-use Rattle.gateway_core.specs.Signalling.{pre_part, conf_part, dyn_part}
+use Rattle.pool_frame.specs.Signalling.{pre_part, conf_part}
+use Rattle.gateway_core.specs.Signalling.{dyn_part}
 use Rattle.frame_laws.proofs.BlockLemmas.{own_long}
 
 -- A body fits, and is no longer than a packet can be.

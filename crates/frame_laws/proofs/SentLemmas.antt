@@ -14,7 +14,8 @@ use Rattle.mode_adapt.specs.Blocks.{own_blocks, told_counts}
 use Rattle.frame_writer.specs.Carried.{of_frame}
 use Rattle.frame_writer.specs.FramePackets.{l1_body, packet_with}
 use Rattle.gateway_core.specs.Packets.{block_bodies, plp_bodies, frame_bodies, bodies_before}
-use Rattle.gateway_core.specs.Signalling.{pre_part, conf_part, dyn_part}
+use Rattle.pool_frame.specs.Signalling.{pre_part, conf_part}
+use Rattle.gateway_core.specs.Signalling.{dyn_part}
 use Rattle.damage_laws.specs.SentPackets.{Sent, packets_of, frame_packets, IsTimestamp, TellsFrame, FollowsSome, InFrameOrder}
 use Rattle.frame_laws.specs.SentFrames.{sent_from}
 use Rattle.frame_laws.specs.Laws.{SentAreFrames, FrameCarries}

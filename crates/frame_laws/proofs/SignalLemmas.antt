@@ -42,7 +42,8 @@ use Rattle.record_laws.specs.Laws.{ToldCountsFit}
 use Rattle.frame_tests.specs.Carried.{L1Parts}
 use Rattle.frame_tests.specs.Laws.{PartsTold}
 use Rattle.frame_tests.specs.Tests.{read_whole, parts_agree, l1_shape}
-use Rattle.gateway_core.specs.Signalling.{pre_part, conf_part, dyn_part}
+use Rattle.pool_frame.specs.Signalling.{pre_part, conf_part}
+use Rattle.gateway_core.specs.Signalling.{dyn_part}
 use Rattle.frame_laws.specs.Types.{TypesFit}
 
 -- ---- L1-pre and the configurable part

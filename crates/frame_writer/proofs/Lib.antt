@@ -1,3 +1,4 @@
 mod BlockLemmas
 pub mod CarriedLemmas
 pub mod FlowLemmas
+pub mod UnitsLemmas

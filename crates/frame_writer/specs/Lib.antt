@@ -4,6 +4,7 @@ pub mod Builds
 pub mod Whole
 pub mod Carried
 pub mod Flowing
+pub mod Units
 -- of the crates below, for those who read this one
 pub use Rattle.terms.specs.Bits
 pub use Rattle.plp_config.specs.Emission

@@ -5,8 +5,9 @@ mod flow;
 mod packet;
 mod source;
 mod step;
+mod units;
 
 pub use flow::Flow;
-pub use packet::{write_block, write_block_bytes, write_l1_current, write_timestamp};
+pub use packet::{write_block, write_l1_current, write_timestamp};
 pub use source::FrameSource;
 pub use step::{FrameStep, first_step};

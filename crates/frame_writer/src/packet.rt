@@ -129,15 +129,6 @@ fn begin(
     begin_block(out, &head, bytes);
 }
 
-// Puts bytes behind what was written.
-fn put_bytes(out: &mut FixedBits<LARGEST>, bytes: &[u8])
-    requires { length out.old + 8 * length bytes.now ≤ 8 * LARGEST }
-    ensures { out.new ≡ out.old ++ bits_of bytes.now }
-{
-    // There is room for them.
-    out.put_slice(BitSlice::whole(bytes)).unwrap();
-}
-
 // Puts the bytes of a block behind what was written, chunk by chunk.
 fn put_pieces(out: &mut FixedBits<LARGEST>, block: &BlockRef<'_>)
     requires { length out.old + 8 * length block.now ≤ 8 * LARGEST }
@@ -176,25 +167,5 @@ pub fn write_block(
         block.len(),
     );
     put_pieces(out, block);
-    finish_packet(out);
-}
-
-/// The same, by the identifier of the PLP and the bytes of the block.
-pub fn write_block_bytes(
-    out: &mut FixedBits<LARGEST>,
-    plan: &Plan,
-    packet_count: u8,
-    frame: u64,
-    plp_id: u8,
-    first: bool,
-    block: &[u8],
-)
-    requires { length block.now ≤ MOST_BLOCK_BYTES }
-    ensures bits { out.new ≡ written_bits (packet_with plan.now packet_count frame
-        (Body.Block (frame % plan.now.frames) plp_id first (bits_of block.now))) }
-    ensures whole { IsWhole out.new }
-{
-    begin(out, plan, packet_count, frame, plp_id, first, block.len());
-    put_bytes(out, block);
     finish_packet(out);
 }

@@ -11,11 +11,11 @@ use crate::frame::Frame;
 use crate::input::Input;
 use crate::inputs::{cut, end, offer, open_inputs, wanted};
 use crate::run_length::frame_count;
-use crate::signalling::Signalling;
 use bit_slice::OutOfMemory;
 use frame_writer::Flow;
 use mode_adapt::early_fits_law;
 use plp_config::Plan;
+use pool_frame::Signalling;
 use std::alloc::Global;
 use ts_packet::{SIZE, TsPacket};
 

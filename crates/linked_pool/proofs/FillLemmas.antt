@@ -1,8 +1,11 @@
 -- One more chunk has a piece of the block.
-use Rattle.std.proofs.Common.{◌≡◌, ◌≢◌, ℕ, zero, suc, ◌+◌, ◌-◌, ◌*◌, ◌<◌, ◌≤◌, min, List, [], ◌∷◌, ◌++◌, length, take, drop}
+use Rattle.std.proofs.Common.{◌≡◌, ◌≢◌, ℕ, zero, suc, ◌+◌, ◌-◌, ◌*◌, ◌/◌, ◌%◌, ◌<◌, ◌≤◌, min, Bool, List, [], ◌∷◌, ◌++◌, length, take, drop}
 use Rattle.std.proofs.Common.{get_or, set, refl, ap, sym, ◌∙◌, subst, arith, length-append, length-set, append_assoc, length-drop}
 use Rattle.std.proofs.lemmas.List.{get_or-set_same, get_or-set_other, take-append-drop, length-take, length-take-le, take_all}
 use Rattle.std.proofs.lemmas.List.{take_at, take_more, drop_at, take_min, take-append-le}
+use Rattle.terms.specs.Bits.{bytes_of, bytes_for, byte_at, number_of, part}
+use Rattle.terms.proofs.BitLemmas.{part-part, get_or-part, length-part, byte_at-whole, bytes_of_fields, length-bytes_of}
+use Rattle.std.proofs.lemmas.List.FromFn.{get_or-map-range_with_len}
 use Rattle.linked_pool.specs.Chains.{count, occurs, moved}
 use Rattle.linked_pool.specs.Pool.{State, chunks_for, appended}
 use Rattle.linked_pool.specs.Blocks.{joined, Fills, piece_of, IsPool, view_of, IsRef, ref_bytes, IsRest, rest_bytes}
@@ -102,6 +105,42 @@ piece_law block i end h e =
     let n : end - 256 * i ≡ min 256 (length (drop (256 * i) block)) = omega (arith, e, long) in
     ap (λ (k : ℕ). take k (drop (256 * i) block)) n ∙ take_min 256 (drop (256 * i) block)
 
+pub bytes_len : (bits : List Bool) (len : ℕ) → length bits ≡ 8 * len → len ≡ length (bytes_of bits)
+bytes_len bits len e = let n = length-bytes_of bits in omega (arith, e, n)
+
+-- the bytes of a part that has whole ones are a part of the bytes
+bytes_of-part : (bits : List Bool) (from count : ℕ) → 8 * (from + count) ≤ length bits
+    → bytes_of (part bits (8 * from) (8 * count)) ≡ take count (drop from (bytes_of bits))
+bytes_of-part bits from count inside =
+    let all = length-bytes_of bits in
+    let size = length-part (bytes_of bits) from count (omega (arith, all, inside)) in
+    let long = length-part bits (8 * from) (8 * count) (omega (arith, inside)) in
+    sym (bytes_of_fields (part bits (8 * from) (8 * count)) (take count (drop from (bytes_of bits))) (omega (arith, size, long))
+    (λ k lt.
+    let there : k < count = omega (arith, lt, size) in
+    let e : 8 * (from + k) ≡ 8 * from + 8 * k = omega arith in
+    get_or-part (bytes_of bits) from count k 0 there
+    ∙ get_or-map-range_with_len (byte_at bits) 0 (bytes_for (length bits)) (from + k) (from + k) 0
+    (omega (arith, inside, there)) (omega arith)
+    ∙ byte_at-whole bits (from + k) (omega (arith, inside, there))
+    ∙ ap (λ (n : ℕ). number_of (take 8 (drop n bits))) e
+    ∙ sym (ap number_of (part-part bits (8 * from) (8 * count) (8 * k) 8 (omega (arith, there))))))
+
+-- so are the bits of a piece
+pub piece_of_bits : (bits : List Bool) (i end : ℕ) → length bits % 8 ≡ 0 → 256 * i ≤ length (bytes_of bits)
+    → end ≡ min (length bits) (2048 * i + 2048) → bytes_of (part bits (2048 * i) (end - 2048 * i)) ≡ piece_of (bytes_of bits) i
+piece_of_bits bits i end whole there e =
+    let all = length-bytes_of bits in
+    let count : ℕ = (end - 2048 * i) / 8 in
+    let from : 2048 * i ≡ 8 * (256 * i) = omega arith in
+    let size : end - 2048 * i ≡ 8 * count = omega (arith, whole, there, e, all) in
+    let same : count ≡ 256 * i + count - 256 * i = omega arith in
+    ap (λ (k : ℕ). bytes_of (part bits k (end - 2048 * i))) from
+    ∙ ap (λ (k : ℕ). bytes_of (part bits (8 * (256 * i)) k)) size
+    ∙ bytes_of-part bits (256 * i) count (omega (arith, size, e, there, all))
+    ∙ ap (λ (k : ℕ). take k (drop (256 * i) (bytes_of bits))) same
+    ∙ piece_law (bytes_of bits) i (256 * i + count) there (omega (arith, size, e, there, all, whole))
+
 pub length-piece : (block : List ℕ) (i : ℕ) → length (piece_of block i) ≤ 256
 length-piece block i = let e = length-take 256 (drop (256 * i) block) in omega (arith, e)
 
@@ -132,18 +171,19 @@ fills_step cs block i chunk old new piece was put there apart some h fits at is 
     rw (e, at) (fills_more chain block i old new piece (drop (length piece) was) h one in_new fits is size f)
 
 -- the code's append
-pub append_done : (view : State) (chains chunks chunks' chunks'' chains' : List (List ℕ)) (lens counts : List ℕ) (i k n first : ℕ)
+pub append_done : (view : State) (chains chunks chunks' chunks'' chains' : List (List ℕ)) (lens counts : List ℕ) (i k n first len : ℕ)
     (block : List ℕ) → view ≡ view_of chains chunks lens counts → IsPool chains chunks lens counts → i < length view.lists →
-    k ≡ chunks_for (length block) → k ≤ length (get_or chains 0 []) → length chunks' ≡ length chunks → chunks'' ≡ chunks'
+    len ≡ length block → k ≡ chunks_for len → k ≤ length (get_or chains 0 []) → length chunks' ≡ length chunks → chunks'' ≡ chunks'
     → Fills (get_or chains 0 []) block k chunks chunks' →
     first ≡ get_or (get_or chains 0 []) 0 0 → n ≡ get_or counts i 0 + 1 → chains' ≡ moved chains 0 (i + 1) k →
-    IsPool chains' chunks'' (set lens first (length block)) (set counts i n)
-    × (view_of chains' chunks'' (set lens first (length block)) (set counts i n) ≡ appended view i block)
-append_done view chains chunks chunks' chunks'' chains' lens counts i k n first block e p h size enough same copied f at more
+    IsPool chains' chunks'' (set lens first len) (set counts i n)
+    × (view_of chains' chunks'' (set lens first len) (set counts i n) ≡ appended view i block)
+append_done view chains chunks chunks' chunks'' chains' lens counts i k n first len block e p h is few enough same copied f at more
     moves =
+    let size : k ≡ chunks_for (length block) = few ∙ ap chunks_for is in
     let whole : take (256 * k) block ≡ block = take_all (256 * k) block (omega (arith, size)) in
     let bytes : take (length block) (joined chunks' (take k (get_or chains 0 []))) ≡ block = rw whole at f.bytes in
-    rw (copied, at)
+    rw (copied, at, is)
     (append_law view chains chunks chunks' chains' lens (set lens (get_or (get_or chains 0 []) 0 0) (length block)) counts i k
     n block e p h
     (record { size = size; enough = enough; same = same; kept = f.kept; bytes = bytes; whole = f.whole; lens_is = refl }) more

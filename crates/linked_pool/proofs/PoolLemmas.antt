@@ -1,5 +1,5 @@
 -- What the fields of a pool say, for the answers.
-use Rattle.std.proofs.Common.{◌≡◌, ℕ, ◌<◌, List, length, get_or, set, sym, ap, ◌∙◌, length-set}
+use Rattle.std.proofs.Common.{◌≡◌, ℕ, ◌<◌, ◌≤◌, List, [], length, get_or, set, sym, ap, ◌∙◌, arith, length-set}
 use Rattle.linked_pool.specs.Pool.{State, list_at, IsWhole}
 use Rattle.linked_pool.specs.Blocks.{view_of, IsPool, AreEnds}
 use Rattle.linked_pool.specs.declared.pool.Pool.TheInside.{Inside}
@@ -19,6 +19,10 @@ has_list p s list e h lt = list_inside s p.chains p.chunks.items p.lens.items p.
 pub count_in : (p : Inside) (s : State) (list : ℕ) → view p ≡ s → Holds p → list < length s.lists → get_or p.counts.items list 0
     ≡ length (list_at s list)
 count_in p s list e h lt = count_is s p.chains p.chunks.items p.lens.items p.counts.items list (sym e) h.0 lt
+
+-- and so are the chunks that are free
+pub free_in : (p : Inside) (s : State) (n : ℕ) → view p ≡ s → n ≤ s.spare → n ≤ length (get_or p.chains 0 [])
+free_in p s n e h = let spare = ap (λ (s : State). s.spare) e in omega (arith, h, spare)
 
 -- every chunk is free or has a part of a block
 pub whole_in : (p : Inside) (s : State) → view p ≡ s → Holds p → IsWhole s

@@ -1,6 +1,7 @@
 // The pool.
-ghost use Rattle.std.specs.Prelude.{ℕ, [], ◌≡◌, ◌≢◌, ◌<◌, ◌≤◌, ◌↔◌, IsTrue, IsErr, IsNone, length, IfOk, IfErr, OnOk, OnErr};
+ghost use Rattle.std.specs.Prelude.{ℕ, [], ◌≡◌, ◌≢◌, ◌<◌, ◌≤◌, ◌↔◌, ◌*◌, ◌%◌, IsTrue, IsErr, IsNone, length, IfOk, IfErr, OnOk, OnErr};
 ghost use Rattle.std.specs.Prelude.{IfSome, slice_index_or, drop};
+ghost use Rattle.terms.specs.Bits.{bytes_of};
 ghost use Rattle.linked_pool.specs.Pool.{chunks_for as chunks_for_len, list_at, empty, appended, popped, cleared, IsWhole};
 
 use crate::block::BlockRef;
@@ -8,7 +9,7 @@ use crate::blocks::Blocks;
 use crate::chains::Chains;
 use crate::chunk::{CHUNK, chunks_for, fill};
 use crate::tables::{count_at, filled};
-use bit_slice::OutOfMemory;
+use bit_slice::{BitSlice, OutOfMemory};
 use std::alloc::Global;
 use std::marker::Model;
 use thiserror::Error;
@@ -93,6 +94,42 @@ impl Pool {
         count_at(self.counts.as_slice(), list as usize) as u32
     }
 
+    // The chunks that a block of so many bytes fills, if as many are free.
+    fn chunks_free(&self, len: usize) -> Result<u32, PoolFull>
+        ensures ok { IfOk result (λ count. count ≡ chunks_for_len len) }
+        ensures full { IsErr result ↔ (self.now.spare < chunks_for_len len) }
+        ensures told { IfErr result (λ e. (e.need ≡ chunks_for_len len) × (e.spare ≡ self.now.spare)) }
+        ensures whole { IsWhole self.now }
+    {
+        let count = chunks_for(len);
+        let spare = self.chains.size(0);
+        if count > spare as usize {
+            return Err(PoolFull {
+                need: count as u64,
+                spare: u64::from(spare),
+            });
+        }
+        Ok(count as u32)
+    }
+
+    // Puts a block of so many bytes at the end of a list, into as many free chunks as it fills.
+    fn put_last(&mut self, list: u32, count: u32, len: usize, block: &BitSlice<'_>)
+        requires list { list < length self.old.lists }
+        requires len { length block.now ≡ 8 * len }
+        requires count { count ≡ chunks_for_len len }
+        requires free { count ≤ self.old.spare }
+        ensures appended { self.new ≡ appended self.old list (bytes_of block.now) }
+        ensures count { length self.new.lists ≡ length self.old.lists }
+        ensures whole { IsWhole self.new }
+    {
+        fill(&self.chains, self.chunks.as_mut_slice(), count, block);
+        let first = self.chains.first(0);
+        self.lens[first as usize] = len;
+        self.chains.move_front(0, list as usize + 1, count);
+        self.lasts[first as usize] = self.chains.last(list as usize + 1);
+        self.counts[list as usize] += 1;
+    }
+
     /// Appends a block to a list. It takes as many steps as the block fills chunks.
     pub fn append(&mut self, list: u32, block: &[u8]) -> Result<(), PoolFull>
         requires { list < length self.old.lists }
@@ -103,25 +140,26 @@ impl Pool {
         ensures count { length self.new.lists ≡ length self.old.lists }
         ensures whole { IsWhole self.new }
     {
-        let count = chunks_for(block.len());
-        let spare = self.chains.size(0);
-        if count > spare as usize {
-            return Err(PoolFull {
-                need: count as u64,
-                spare: u64::from(spare),
-            });
-        }
-        fill(
-            &self.chains,
-            self.chunks.as_mut_slice(),
-            count as u32,
-            block,
-        );
-        let first = self.chains.first(0);
-        self.lens[first as usize] = block.len();
-        self.chains.move_front(0, list as usize + 1, count as u32);
-        self.lasts[first as usize] = self.chains.last(list as usize + 1);
-        self.counts[list as usize] += 1;
+        let len = block.len();
+        let count = self.chunks_free(len)?;
+        self.put_last(list, count, len, &BitSlice::whole(block));
+        Ok(())
+    }
+
+    /// The same with the bytes that bits fill, which are not copied together before.
+    pub fn append_bits(&mut self, list: u32, block: &BitSlice<'_>) -> Result<(), PoolFull>
+        requires list { list < length self.old.lists }
+        requires bytes { length block.now % 8 ≡ 0 }
+        ensures ok { OnOk result (self.new ≡ appended self.old list (bytes_of block.now)) }
+        ensures full { IsErr result ↔ (self.old.spare < chunks_for_len (length (bytes_of block.now))) }
+        ensures told { IfErr result (λ e. (e.need ≡ chunks_for_len (length (bytes_of block.now))) × (e.spare ≡ self.old.spare)) }
+        ensures err { OnErr result (self.new ≡ self.old) }
+        ensures count { length self.new.lists ≡ length self.old.lists }
+        ensures whole { IsWhole self.new }
+    {
+        let len = block.len() / 8;
+        let count = self.chunks_free(len)?;
+        self.put_last(list, count, len, block);
         Ok(())
     }
 

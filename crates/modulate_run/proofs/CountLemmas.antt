@@ -10,7 +10,6 @@ use Rattle.std.proofs.lemmas.List.Folds.{list_all-append}
 use Rattle.std.proofs.lemmas.List.Concat.{flat_map-append}
 use Rattle.terms.proofs.CaseLemmas.{bool_cases}
 use Rattle.modulator.proofs.WaitLemmas.{number_at}
-use Rattle.modulator.proofs.OneLemmas.{place_of}
 use Rattle.plp_config.specs.declared.config.Config.{Config}
 use Rattle.plp_config.specs.declared.moment.TheConstants.{MOST_FRAMES}
 use Rattle.frame_groups.specs.Laws.{AreFrom, IsPrefix}
@@ -25,7 +24,7 @@ use Rattle.modulate_run.specs.AsMachine.{IsNext, IsAll}
 use Rattle.modulate_run.specs.Counted.{is_muted, first_number, counted}
 use Rattle.modulate_run.specs.ModulateRun.{AreEarly}
 use Rattle.modulate_run.specs.declared.stop.Ran.{Ran}
-use Rattle.modulator.proofs.PlaceLemmas.{place, AllSome, place_within, place_end, place_all, none_left, same_cut, same_front}
+use Rattle.modulate_run.proofs.PlaceLemmas.{place, AllSome, place_within, place_end, place_all, place_of, none_left, same_cut, same_front}
 
 -- a record has its head at least
 pub some_bytes : (c : Config) → AllSome (spelled c)

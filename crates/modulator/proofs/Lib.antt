@@ -6,6 +6,4 @@ pub mod BeginLemmas
 pub mod MuteLemmas
 pub mod JoinLemmas
 pub mod DueLemmas
-pub mod PlaceLemmas
-pub mod OneLemmas
 pub mod WaitLemmas

@@ -49,27 +49,3 @@ AreSpelled c xs = AllByRecursion (λ x. x.number < 2 ^ 32 → Spells (content_vi
 abbrev pub DueSpelled : Type 0
 DueSpelled = (c : Config) (finished : Bool) (bytes : List ℕ) → IsPlan c → HasByteIds c
     → AreSpelled c (records_due c finished bytes)
-
--- Two that wait are the same record, behind the same ones, and as much of it was taken.
-pub record SameWaits (c : Config) (finished : Bool) (bytes taken : List ℕ) (v w : Waiting) (a : WaitsAs c finished bytes taken v)
-    (b : WaitsAs c finished bytes taken w) : Type 0 where
-  pub before : b.before ≡ a.before
-  pub next : b.next ≡ a.next
-  pub after : b.after ≡ a.after
-  pub part : b.part ≡ a.part
-  pub rest : b.rest ≡ a.rest
-
--- The bytes that were fed and those that were taken decide which record waits.
-abbrev pub OneWaits : Type 0
-OneWaits = (c : Config) (finished : Bool) (bytes taken : List ℕ) (v w : Waiting) (a : WaitsAs c finished bytes taken v)
-    (b : WaitsAs c finished bytes taken w) → SameWaits c finished bytes taken v w a b
-
--- None does if all that is due was taken.
-abbrev pub NoneWaits : Type 0
-NoneWaits = (c : Config) (finished : Bool) (bytes taken : List ℕ) (w : Waiting) → WaitsAs c finished bytes taken w
-    → bytes_due c finished bytes ≢ taken
-
--- If so, and some first records have these bytes, they are all that are due.
-abbrev pub AllTaken : Type 0
-AllTaken = (c : Config) (finished : Bool) (bytes : List ℕ) (before after : List FrameRecord)
-    → records_due c finished bytes ≡ before ++ after → bytes_due c finished bytes ≡ flat_map (spelled c) before → after ≡ []

@@ -1,5 +1,5 @@
 // Laws of the definitions. Their functions do nothing.
-ghost use Rattle.modulator.specs.Laws.{DueFront, DueFollow, DuePass, DueSpelled, OneWaits, NoneWaits, AllTaken};
+ghost use Rattle.modulator.specs.Laws.{DueFront, DueFollow, DuePass, DueSpelled};
 
 use frame_groups::{front_law, numbers_law};
 use open_group::record_law;
@@ -18,10 +18,3 @@ pub fn due_records_law()
     numbers_law();
     record_law();
 }
-
-/// The bytes that were fed and those that were taken decide which record waits, and how much of it was taken.
-pub fn one_waits_law()
-    ensures one { OneWaits }
-    ensures none { NoneWaits }
-    ensures all { AllTaken }
-{}

@@ -8,7 +8,7 @@ mod modulator;
 mod settle;
 mod waiting;
 
-pub use laws::{due_records_law, one_waits_law};
+pub use laws::due_records_law;
 pub use modulating::Modulating;
 pub use modulator::Modulator;
 pub use waiting::is_of;

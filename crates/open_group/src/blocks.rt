@@ -1,14 +1,13 @@
 // The blocks of a group.
-ghost use Rattle.std.specs.Prelude.{◌≡◌, ◌+◌, ◌*◌, ◌<◌, ◌≤◌, ℕ, [], length};
+ghost use Rattle.std.specs.Prelude.{◌≡◌, ◌+◌, ◌<◌, ◌≤◌, ℕ, [], length};
 ghost use Rattle.linked_pool.specs.Pool.{list_at};
-ghost use Rattle.open_group.specs.Sent.{held_bytes};
 ghost use Rattle.record_writer.specs.RecordBytes.{AreShort};
 ghost use Rattle.plp_config.specs.declared.plp.TheConstants.{MOST_BLOCK_BYTES};
 
 use crate::plps::block_chunks;
 use bit_slice::{BitSlice, OutOfMemory};
 use linked_pool::{BlockRef, Pool, group_chunks};
-use plp_config::{MOST_BLOCK_BYTES, Plan};
+use plp_config::Plan;
 use record_writer::{Writer, short_law};
 use scheduler::Shape;
 use std::alloc::Global;
@@ -56,17 +55,8 @@ fn clear_pool(pool: &mut Pool, lists: u32)
     pool.is_whole_law();
 }
 
-// The bytes of a block.
-fn copy_into(bits: &BitSlice<'_>, out: &mut [u8])
-    requires { length bits.now ≡ 8 * length out.old }
-    ensures bytes { out.new ≡ held_bytes bits.now }
-    ensures len { length out.new ≡ length out.old }
-{
-    bits.copy_bytes(out);
-}
-
 impl HeldBlocks {
-    ghost use Rattle.std.specs.Prelude.{◌≡◌, ◌≢◌, ◌↔◌, ◌<◌, ◌≤◌, ◌+◌, ◌*◌, ◌^◌, ◌++◌, ◌∷◌, [], true, false, Some, min, length};
+    ghost use Rattle.std.specs.Prelude.{◌≡◌, ◌≢◌, ◌↔◌, ◌<◌, ◌≤◌, ◌+◌, ◌*◌, ◌%◌, ◌^◌, ◌++◌, ◌∷◌, [], true, false, Some, min, length};
     ghost use Rattle.std.specs.Prelude.{drop, replicate, slice_index_or, IsNone, IfSome, map, vec_len, slice_set, slice_index};
     ghost use Rattle.std.specs.Prelude.{IfOk, List, Bool, ℕ};
     ghost use Rattle.linked_pool.specs.Pool.{State, list_at, chunks_for, used_chunks, appended};
@@ -119,11 +109,11 @@ impl HeldBlocks {
     }
 
     // Keeps a block of a PLP, if there is room for all that came so far.
-    fn keep(&mut self, plp: u32, chunks: u32, bits: &BitSlice<'_>, len: usize)
+    fn keep(&mut self, plp: u32, chunks: u32, bits: &BitSlice<'_>)
         requires list { plp < length self.old.pool.lists }
-        requires len { length bits.now ≡ 8 * len }
-        requires short { len ≤ MOST_BLOCK_BYTES }
-        requires chunks { chunks ≡ chunks_for len }
+        requires bytes { length bits.now % 8 ≡ 0 }
+        requires short { length (held_bytes bits.now) ≤ MOST_BLOCK_BYTES }
+        requires chunks { chunks ≡ chunks_for (length (held_bytes bits.now)) }
         ensures kept { self.new.need ≤ self.old.chunks → self.new.pool ≡ appended self.old.pool plp (held_bytes bits.now) }
         ensures lists { length self.new.pool.lists ≡ length self.old.pool.lists }
         ensures held { held_of self.new ≡ record (held_of self.old) {
@@ -136,11 +126,7 @@ impl HeldBlocks {
         if self.need > u64::from(self.chunks) {
             return;
         }
-        let mut bytes = [0; MOST_BLOCK_BYTES as usize];
-        let block = &mut bytes[..len];
-        copy_into(bits, block);
-        short_law();
-        self.pool.append(plp, block).unwrap();
+        self.pool.append_bits(plp, bits).unwrap();
     }
 
     fn add_block(&mut self, plan: &Plan, id: u8, bits: &BitSlice<'_>)
@@ -164,7 +150,7 @@ impl HeldBlocks {
             return;
         }
         self.count_right(place);
-        self.keep(place as u32, block_chunks(plan, place), bits, len);
+        self.keep(place as u32, block_chunks(plan, place), bits);
     }
 
     /// Adds the block of a packet, if it carries one.

@@ -18,7 +18,8 @@ use Rattle.mode_adapt.specs.Blocks.{own_blocks, told_counts}
 use Rattle.record_laws.specs.Frames.{frame_of, frame_shape, l1_pre, sent_blocks}
 use Rattle.frame_writer.specs.FramePackets.{with_stamp, packets_from}
 use Rattle.gateway_core.specs.Packets.{frame_bodies, front_packets}
-use Rattle.gateway_core.specs.Signalling.{pre_part, conf_part, dyn_part}
+use Rattle.pool_frame.specs.Signalling.{pre_part, conf_part}
+use Rattle.gateway_core.specs.Signalling.{dyn_part}
 use Rattle.frame_laws.proofs.BlockLemmas.{own_long}
 use Rattle.frame_laws.proofs.WrittenLemmas.{post_is}
 use Rattle.formed_frames.specs.Remade.{signal_of, record_bodies, view_bodies, remade_bodies, remade_packets}

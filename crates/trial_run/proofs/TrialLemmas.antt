@@ -95,13 +95,6 @@ made_is c frames seed x y m given stream again kept taken three x_is inputs give
           (again_is ∙ stream_so));
     }
 
--- there is an input for each PLP
-pub made_len : (c : Config) (frames seed : ℕ) (m : Made) → IsMade c frames seed m → length m.inputs.items ≡ length c.plps
-made_len c frames seed m made =
-    let f : Vec ℕ Global → List ℕ = λ v. v.items in
-    sym (length-map m.inputs.items f) ∙ ap (λ (l : List (List ℕ)). length l) made.inputs
-    ∙ length-map-range_with_len (input_of c frames seed) 0 (length c.plps)
-
 -- ---- lines
 
 pub network_text : (c : Config) (frames seed : ℕ) (m : Made) (whole lossy : List ℕ) (same : ℕ)

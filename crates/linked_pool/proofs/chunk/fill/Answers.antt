@@ -1,6 +1,7 @@
 use Rattle.std.proofs.Common.{◌<◌, ℕ, [], length, get_or, refl, sym, arith}
+use Rattle.terms.specs.Bits.{bytes_of}
 use Rattle.linked_pool.specs.Chains.{occurs}
-use Rattle.linked_pool.proofs.FillLemmas.{there_in, fills_step, length-piece}
+use Rattle.linked_pool.proofs.FillLemmas.{there_in, fills_step}
 use Rattle.linked_pool.proofs.chunk.fill.Goals as goal
 
 pub bounds-chunks-chunk : goal.bounds-chunks-chunk
@@ -10,9 +11,6 @@ bounds-chunks-chunk c =
     (omega (arith, c.requires.enough)) in
     omega (arith, at, lt, c.loop-i.auto.chunks)
 
-pub put-requires : goal.put-requires
-put-requires c = rw c.piece_at.ensures (length-piece c.args.block.now c.loop-i.i)
-
 pub loop-i-preserved : goal.loop-i-preserved
 loop-i-preserved c =
     let at = c.loop-i.invariant.at c.loop-i-test.true in
@@ -21,7 +19,7 @@ loop-i-preserved c =
     λ x s. (let lt = c.requires.there x s in omega (arith, lt, c.loop-i.auto.chunks)) in
     record {
       at = λ more. c.after-chunk.ensures 0 c.loop-i.i c.requires.free (omega (arith, c.requires.enough)) (sym at);
-      fills = fills_step c.args.chains.now c.args.block.now c.loop-i.i c.loop-i.chunk c.args.chunks.now c.loop-i.chunks
-          c.piece_at.result.now _ c.put.new.chunk there c.requires.apart c.requires.free inside
-          (omega (arith, c.requires.tight)) at c.piece_at.ensures refl c.put.ensures c.loop-i.invariant.fills;
+      fills = fills_step c.args.chains.now (bytes_of c.args.block.now) c.loop-i.i c.loop-i.chunk c.args.chunks.now c.loop-i.chunks
+          (bytes_of c.piece_at.result) _ c.put.new.chunk there c.requires.apart c.requires.free inside
+          (omega (arith, c.requires.tight)) at c.piece_at.ensures.piece refl c.put.ensures c.loop-i.invariant.fills;
     }

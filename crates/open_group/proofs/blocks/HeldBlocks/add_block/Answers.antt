@@ -1,10 +1,22 @@
-use Rattle.std.proofs.Common.{refl, ap, ◌∙◌, arith}
-use Rattle.linked_pool.specs.Pool.{appended}
+use Rattle.std.proofs.Common.{◌≡◌, length, refl, ap, ◌∙◌, arith}
+use Rattle.terms.proofs.BitLemmas.{length-bytes_of}
+use Rattle.plp_config.specs.Capacity.{block_bytes}
+use Rattle.linked_pool.specs.Pool.{appended, chunks_for}
 use Rattle.open_group.specs.Sent.{held_bytes}
 use Rattle.open_group.proofs.BlockLemmas.{stray_counted, stray_listed, wrong_counted, wrong_listed, right_counted, right_listed}
 use Rattle.open_group.proofs.BlockLemmas.{kept_right}
 use Rattle.open_group.specs.HoldsBlocks.{Held}
 use Rattle.open_group.proofs.blocks.HeldBlocks.add_block.Goals as goal
+
+pub keep-requires-clause-short : goal.keep-requires-clause-short
+keep-requires-clause-short c =
+    omega (arith, length-bytes_of c.args.bits.now, c.len.ensures.len, c.if-len.false, c.block_bytes-len.ensures.greatest)
+
+pub keep-requires-clause-chunks : goal.keep-requires-clause-chunks
+keep-requires-clause-chunks c =
+    let size : block_bytes c.args.plan.now c.in-Some.place ≡ length (held_bytes c.args.bits.now) =
+    omega (arith, length-bytes_of c.args.bits.now, c.len.ensures.len, c.if-len.false, c.block_bytes-len.ensures.value) in
+    c.block_chunks.ensures.value ∙ ap chunks_for size
 
 pub returns-in_default-clause-counts : goal.returns-in_default-clause-counts
 returns-in_default-clause-counts c =

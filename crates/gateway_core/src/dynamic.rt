@@ -1,76 +1,17 @@
-// The L1 signalling of a frame, as bits.
-ghost use Rattle.std.specs.Prelude.{◌≡◌, ◌≤◌, length, IfOk};
+// The dynamic part of L1-post of a frame, as bits.
+ghost use Rattle.std.specs.Prelude.{◌≡◌, ◌≤◌, length};
 ghost use Rattle.scheduler.specs.Laws.{CountsFit, FitsL1};
 ghost use Rattle.l1_signal.specs.L1Dynamic.{dyn_bits};
 ghost use Rattle.l1_signal.specs.L1Of.{dyn_of};
 ghost use Rattle.l1_signal.specs.Lengths.{dyn_len};
-ghost use Rattle.gateway_core.specs.Signalling.{pre_part, conf_part, dyn_part};
-ghost use Rattle.l1_signal.specs.declared.lengths.TheConstants.{MOST_CONF_BITS, MOST_DYN_BITS, PRE_BITS};
+ghost use Rattle.gateway_core.specs.Signalling.{dyn_part};
+ghost use Rattle.l1_signal.specs.declared.lengths.TheConstants.{MOST_DYN_BITS};
 
-use bit_slice::{BitBuf, FixedBits, OutOfMemory};
-use l1_signal::{
-    L1Dyn, MOST_CONF_BITS, MOST_DYN_BITS, MOST_DYN_BYTES, PRE_BITS, conf_law, conf_of, dyn_law,
-    dyn_of, pre_law, pre_of, write_conf, write_dyn, write_pre,
-};
+use bit_slice::{FixedBits, OutOfMemory};
+use l1_signal::{L1Dyn, MOST_DYN_BITS, MOST_DYN_BYTES, dyn_law, dyn_of, write_dyn};
 use plp_config::Plan;
 use scheduler::{Shape, field_law, shape};
 use std::alloc::Global;
-
-// Bytes of L1-pre, without CRC_32.
-const PRE_LEN: usize = PRE_BITS / 8;
-
-/// What all frames share: L1-pre without CRC_32, and the configurable part of L1-post.
-#[derive(Drop)]
-pub struct Signalling {
-    pub pre: FixedBits<PRE_LEN>,
-    pub conf: BitBuf,
-    ghost whole: { length pre ≡ PRE_BITS },
-    ghost short: { length conf ≤ MOST_CONF_BITS },
-}
-
-// L1-pre.
-#[tactic(auto, unfolding(crate::specs::Signalling::pre_part))]
-fn pre_bits(plan: &Plan) -> FixedBits<PRE_LEN>
-    ensures value { result ≡ pre_part plan.now }
-    ensures len { length result ≡ PRE_BITS }
-{
-    pre_law();
-    let mut bits = FixedBits::new();
-    // There is room for it.
-    write_pre(&mut bits, &pre_of(plan)).unwrap();
-    bits
-}
-
-// The configurable part.
-#[tactic(auto, unfolding(crate::specs::Signalling::conf_part, l1_signal::specs::L1Of::conf_of))]
-fn conf_bits(alloc: Global, plan: &Plan) -> Result<BitBuf, OutOfMemory>
-    ensures value { IfOk result (λ bits. bits ≡ conf_part plan.now) }
-    ensures short { IfOk result (λ bits. length bits ≤ MOST_CONF_BITS) }
-{
-    conf_law();
-    plan.rules_law();
-    let conf = conf_of(alloc, plan)?;
-    let mut bits = BitBuf::new(alloc);
-    match write_conf(&mut bits, &conf) {
-        Ok(()) => Ok(bits),
-        Err(_) => Err(OutOfMemory),
-    }
-}
-
-impl Signalling {
-    ghost use Rattle.std.specs.Prelude.{◌≡◌, IfOk};
-
-    /// That of the frames of a plan.
-    pub fn open(alloc: Global, plan: &Plan) -> Result<Signalling, OutOfMemory>
-        ensures pre { IfOk result (λ s. s.pre ≡ pre_part plan.now) }
-        ensures conf { IfOk result (λ s. s.conf ≡ conf_part plan.now) }
-    {
-        Ok(Signalling {
-            pre: pre_bits(plan),
-            conf: conf_bits(alloc, plan)?,
-        })
-    }
-}
 
 /// Writes the dynamic part of L1-post of a frame of a shape, by rows that are of as many PLPs.
 #[tactic(auto, unfolding(l1_signal::specs::L1Of::dyn_of))]

@@ -9,7 +9,7 @@ use Rattle.l1_signal.specs.Lengths.{dyn_len}
 use Rattle.l1_signal.specs.declared.dynamic.L1Dyn.{L1Dyn}
 use Rattle.l1_signal.specs.declared.lengths.TheConstants.{MOST_DYN_BYTES}
 use Rattle.gateway_core.proofs.SignalLemmas.{takes_all, written_whole}
-use Rattle.gateway_core.proofs.signalling.write_dynamic.Goals as goal
+use Rattle.gateway_core.proofs.dynamic.write_dynamic.Goals as goal
 
 rows : (c : Config) (frame : ℕ) (shape : FrameShape) (dynamic : L1Dyn) → dynamic ≡ dyn_of c frame shape
     → length dynamic.plps ≡ length c.plps

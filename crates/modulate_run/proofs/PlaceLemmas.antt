@@ -1,7 +1,12 @@
 -- In which element of a list a byte stands, if each has bytes.
-use Rattle.std.proofs.Common.{◌≡◌, ℕ, suc, ◌+◌, ◌-◌, ◌<◌, ◌≤◌, List, [], ◌∷◌, ◌++◌, length, refl, ap, sym, ◌∙◌, arith}
+use Rattle.std.proofs.Common.{◌≡◌, ℕ, suc, ◌+◌, ◌-◌, ◌<◌, ◌≤◌, Bool, List, [], ◌∷◌, ◌++◌, length, refl, ap, sym, ◌∙◌, arith}
 use Rattle.std.proofs.Common.{length-append, lt-ltb, le-ltb}
 use Rattle.std.specs.Prelude.{nat_lt, if◌then◌else◌, flat_map}
+use Rattle.plp_config.specs.declared.config.Config.{Config}
+use Rattle.frame_groups.specs.Modulated.{FrameRecord}
+use Rattle.frame_groups.specs.declared.waiting.Waiting.{Waiting}
+use Rattle.open_group.specs.Written.{spelled}
+use Rattle.modulator.specs.StandsFor.{WaitsAs, records_due}
 
 -- how many elements end before a byte, or with it
 abbrev pub place : {X : Type 0} → (X → List ℕ) → List X → ℕ → ℕ
@@ -82,3 +87,15 @@ same_front (x ∷ xs) ys (x' ∷ xs') ys' n e =
     let rest : xs ++ ys ≡ xs' ++ ys' = cc in
     let first : x' ≡ x = cc in
     rw (first, same_front xs ys xs' ys' (omega (arith, n)) rest) refl
+
+-- the bytes that were taken end in the record that waits, or with it
+pub place_of : (c : Config) (finished : Bool) (bytes taken : List ℕ) (w : Waiting) (a : WaitsAs c finished bytes taken w)
+    → place (spelled c) (records_due c finished bytes) (length taken) ≡ length a.before
+place_of c finished bytes taken w a =
+    let size : length taken ≡ length (flat_map (spelled c) a.before) + length a.part =
+    ap length a.taken_is ∙ length-append (flat_map (spelled c) a.before) a.part in
+    let less : length a.part < length (spelled c a.next) =
+    let p = ap length a.cut ∙ length-append a.part a.rest in let s = a.some in omega (arith, p, s) in
+    ap (λ (xs : List FrameRecord). place (spelled c) xs (length taken)) a.all
+    ∙ ap (place (spelled c) (a.before ++ a.next ∷ a.after)) size
+    ∙ place_within (spelled c) a.before a.next a.after (length a.part) less
