@@ -10,3 +10,4 @@ pub mod GivenLemmas
 pub mod GiveLemmas
 pub mod TellLemmas
 pub mod SpelledLemmas
+pub mod FitsLemmas

@@ -8,6 +8,7 @@ pub mod Holds
 pub mod FrameBytes
 pub mod Written
 pub mod Shown
+pub mod Signals
 pub mod Laws
 -- inner: no public clause cites these
 pub mod Giving

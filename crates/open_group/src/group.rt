@@ -32,7 +32,7 @@ pub struct PooledGroup<'p> {
     key: Option<Key>,
     // Its own record was not begun.
     pub(crate) intact: bool,
-    stamps: HeldStamps,
+    pub(crate) stamps: HeldStamps,
     pub(crate) l1: HeldL1,
     pub(crate) blocks: HeldBlocks,
     past: HeldPast,

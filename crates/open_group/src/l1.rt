@@ -193,7 +193,7 @@ impl HeldL1 {
 
     // Whether the first one is of the configuration and of a frame.
     #[tactic(auto, unfolding(frame_tests::specs::Tests::parts_agree))]
-    fn is_first(&self, plan: &Plan, number: u64) -> bool
+    pub(crate) fn is_first(&self, plan: &Plan, number: u64) -> bool
         requires rows { length self.now.dynamic.plps ≡ length plan.now.plps }
         ensures { HasRead plan.now self.now → result ≡ parts_agree plan.now number (parts_of self.now.parts) }
     {

@@ -1,6 +1,7 @@
 //! The group under way of a modulator, of fixed size, and the six tests of it.
 #![tactic(auto)]
 
+mod behind;
 mod blocks;
 mod faults;
 mod giving;
@@ -16,3 +17,5 @@ mod stamps;
 
 pub use group::PooledGroup;
 pub use laws::record_law;
+pub use parts::HeldParts;
+pub use past::HeldPast;

@@ -1,0 +1,4 @@
+pub mod UnderLemmas
+pub mod ArrivalLemmas
+pub mod StandsLemmas
+pub mod CourseLemmas
