@@ -1,5 +1,6 @@
 -- What is shown of bytes that came, and of their end.
 use Rattle.std.proofs.Common.{◌≡◌, false, List, sym, ◌∙◌, arith}
+use Rattle.std.proofs.Math.Logic.{∥∥₁_map}
 use Rattle.std.proofs.lemmas.Bool.{true≢false}
 use Rattle.plp_config.specs.declared.config.Config.{Config}
 use Rattle.file_run.specs.Events.{Event}
@@ -25,6 +26,5 @@ shown_read c m g h events more s going go = record {
 }
 
 -- Something was done.
-pub has_shown : (m : CompareMachine) → HasCome Becomes m → ∥ HasShown m ∥₁
-has_shown m h =
-    ∣ (let s : HasShown m = record { network = h.start.plan.now; events = h.events; shown = h.came } in s) ∣₁
+pub has_shown : (m : CompareMachine) → ∥ HasCome Becomes m ∥₁ → ∥ HasShown m ∥₁
+has_shown m came = ∥∥₁_map came (λ (h : HasCome Becomes m). record { network = h.start.plan.now; events = h.events; shown = h.came })

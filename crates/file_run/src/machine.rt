@@ -72,7 +72,7 @@ pub trait Machine {
     /// Gives the next bytes, to the front of these: how many.
     fn give(&mut self, out: &mut [u8]) -> usize
         requires gives { next self.old ≡ Give }
-        requires came { HasCome Becomes self.old }
+        requires came { ∥ HasCome Becomes self.old ∥₁ }
         requires room { PIECE ≤ length out.old }
         ensures count { result ≤ length out.old }
         ensures becomes { (start : Self) (events : List Event) → Becomes start events self.old

@@ -34,7 +34,7 @@ impl Model for OutBuffer {
 // Lets a machine give bytes behind so many: how many there are then.
 fn give_behind<M: Machine>(bytes: &mut [u8], count: usize, machine: &mut M) -> usize
     requires gives { M.next machine.old ≡ Give }
-    requires came { HasCome M.Becomes machine.old }
+    requires came { ∥ HasCome M.Becomes machine.old ∥₁ }
     requires size { length bytes.old ≡ PAGE }
     requires room { count + PIECE ≤ PAGE }
     ensures gathers { Gathers M.Becomes machine.old machine.new (take count bytes.old) (take result bytes.new) }
@@ -78,7 +78,7 @@ impl OutBuffer {
     /// Lets a machine give bytes behind those that wait.
     pub fn take_from<M: Machine>(&mut self, machine: &mut M)
         requires gives { M.next machine.old ≡ Give }
-        requires came { HasCome M.Becomes machine.old }
+        requires came { ∥ HasCome M.Becomes machine.old ∥₁ }
         requires room { length self.old + PIECE ≤ PAGE }
         ensures gathers { Gathers M.Becomes machine.old machine.new self.old self.new }
         ensures few { length self.new ≤ PAGE }

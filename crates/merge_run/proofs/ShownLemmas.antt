@@ -1,5 +1,6 @@
 -- What is shown at first, of bytes that came, and of their end.
 use Rattle.std.proofs.Common.{◌≡◌, ◌+◌, ◌*◌, ◌≤◌, false, List, [], ◌∷◌, ◌++◌, length}
+use Rattle.std.proofs.Math.Logic.{∥∥₁_map}
 use Rattle.std.proofs.Common.{refl, ap, sym, subst, ◌∙◌, arith, append-nil}
 use Rattle.plp_config.specs.declared.config.Config.{Config}
 use Rattle.t2mi_stream.specs.Complete.{complete_units, complete_in}
@@ -67,9 +68,8 @@ ran_opened c = sym (ap (λ (ps : List Picked). counted ps 0) (picks_nothing c))
 
 -- ---- something was done
 
-pub has_shown : (m : MergeMachine) → HasCome Becomes m → ∥ HasShown m ∥₁
-has_shown m h =
-    ∣ (let s : HasShown m = record { network = h.start.plan.now; events = h.events; shown = h.came } in s) ∣₁
+pub has_shown : (m : MergeMachine) → ∥ HasCome Becomes m ∥₁ → ∥ HasShown m ∥₁
+has_shown m came = ∥∥₁_map came (λ (h : HasCome Becomes m). record { network = h.start.plan.now; events = h.events; shown = h.came })
 
 -- ---- bytes came
 

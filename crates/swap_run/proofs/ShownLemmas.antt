@@ -1,5 +1,6 @@
 -- What is shown of bytes that came, and of their end.
 use Rattle.std.proofs.Common.{◌≡◌, ◌≢◌, ◌⊎◌, ℕ, ◌+◌, ◌-◌, ◌*◌, ◌<◌, ◌≤◌, Bool, true, false, cond, List, [], ◌∷◌, ◌++◌, length}
+use Rattle.std.proofs.Math.Logic.{∥∥₁_map}
 use Rattle.std.proofs.Common.{refl, ap, sym, subst, ◌∙◌, arith, length-append, inl, inr}
 use Rattle.std.specs.Prelude.{slice_index}
 use Rattle.std.proofs.lemmas.Bool.{true≢false}
@@ -36,13 +37,13 @@ use Rattle.swap_run.proofs.LiveLemmas.{live_caught, live_on}
 
 -- ---- something was done
 
-pub has_shown : (m : SwapMachine) → HasCome Becomes m → ∥ HasShown m ∥₁
-has_shown m h = ∣ (let s : HasShown m = record {
+pub has_shown : (m : SwapMachine) → ∥ HasCome Becomes m ∥₁ → ∥ HasShown m ∥₁
+has_shown m came = ∥∥₁_map came (λ (h : HasCome Becomes m). record {
   network = h.start.plan.now;
   plp = (status_of h.start.swapper).plp;
   events = h.events;
   shown = h.came;
-} in s) ∣₁
+})
 
 -- ---- by one event more
 

@@ -126,7 +126,8 @@ module _ (law : Laws) (start m : SwapMachine) (files : ℕ → List ℕ) (places
       meets_bad law.front law.follow law.complete law.rises law.slot k plp m events s files places are (within 0 (omega arith))
       (within 1 (omega arith)) n is
   ends_in (phase.Stopped TooManyFrames) is end =
-      has_late law.front law.follow law.complete law.rises law.slot k plp m events s files places are (within 1 (omega arith)) is
+      has_late law.front law.follow law.complete law.rises law.slot k plp m events s files places are (within 0 (omega arith))
+      (within 1 (omega arith)) is
 
   -- what is written when an input is to be read on
   written : (place taken at : ℕ) → HowRead m place → (0 ≡ place → taken ≡ length (fed 0 events))

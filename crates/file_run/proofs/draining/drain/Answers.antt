@@ -54,4 +54,4 @@ pub returns-clause-dry : goal.returns-clause-dry
 returns-clause-dry g c = on_ok_weaker c.flush.result (λ a e. c.in_default.not-Give (c.step.ensures.next ∙ e)) c.flush.ensures.ok
 
 pub take_from-requires-clause-came : goal.take_from-requires-clause-came
-take_from-requires-clause-came g c = came_on _ _ _ _ _ _ _ c.requires.came c.loop-desk.invariant.part
+take_from-requires-clause-came g c = ∣ came_on _ _ _ _ _ _ _ c.requires.came c.loop-desk.invariant.part ∣₁

@@ -32,7 +32,7 @@ drain_packet-requires c =
     let r = c.requires.room in
     let d = enough_else m c.args.input _ c.requires.wanted c.in_default.not-Records c.in_default.not-Packets in
     let w = enough_rest m c.args.input _ d c.requires.wanted in
-    record { drains = d; going = w.0.going; long = w.1; few = few_of _ _ r.events m c.args.input (length c.args.bytes.now) r.came c.requires.wanted r.few c.in_default.not-Records; came = has_shown m (record { start = r.start; events = r.events; came = r.came }) }
+    record { drains = d; going = w.0.going; long = w.1; few = few_of _ _ r.events m c.args.input (length c.args.bytes.now) r.came c.requires.wanted r.few c.in_default.not-Records; came = has_shown m ∣ record { start = r.start; events = r.events; came = r.came } ∣₁ }
 
 pub returns-in-Records-clause-becomes : goal.returns-in-Records-clause-becomes
 returns-in-Records-clause-becomes c = λ start events s.
