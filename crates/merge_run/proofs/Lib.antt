@@ -13,4 +13,3 @@ pub mod SplitLemmas
 pub mod StepLemmas
 pub mod TakeLemmas
 pub mod UnitLemmas
-pub mod UnitsLemmas

@@ -12,8 +12,8 @@ use Rattle.merge_run.specs.declared.stop.Ran.{Ran}
 use Rattle.feed_merge.specs.declared.seen.Feed.TheVariants.{A, B}
 use Rattle.two_feeds.proofs.CameLemmas.{test_of, less_of}
 use Rattle.merge_run.proofs.GiveLemmas.{giving, same_network, left_behind, whole_first, whole_second, early_first, early_second}
+use Rattle.merge_run.proofs.GiveLemmas.{few_more, shown_units, left_full, shown_behind, counted_units}
 use Rattle.merge_run.proofs.TakeLemmas.{can_whole}
-use Rattle.merge_run.proofs.UnitsLemmas.{few_more, shown_full, left_full, shown_behind, counted_units}
 use Rattle.merge_run.proofs.merging.MergeMachine.give_units.Goals as goal
 
 pub give_frame-len-requires-clause-whole : goal.give_frame-len-requires-clause-whole
@@ -32,7 +32,7 @@ pub add_units-requires : goal.add_units-requires
 add_units-requires c =
     let m = c.args.self.now in
     let u = c.give_frame-len in
-    let n = u.ensures.nexts in
+    let n = u.ensures.gives in
     let is = subst (λ (f : FrameFeed). IsFrameOf f n.0) c.source_of-feed.ensures n.1 in
     record {
       few = less_of _ _ c.requires.came (λ (h : HasShown m).
@@ -60,7 +60,7 @@ pub returns-then-not-full-clause-shown : goal.returns-then-not-full-clause-shown
 returns-then-not-full-clause-shown c = λ k events s.
     let m = c.args.self.now in
     let u = c.give_frame-len in
-    let n = u.ensures.nexts in
+    let n = u.ensures.gives in
     let is = subst (λ (f : FrameFeed). IsFrameOf f n.0) c.source_of-feed.ensures n.1 in
     let t = c.skip_source.ensures in
     let e = counted_units _ _ _ _ u.result.0 u.new.out (let s = u.ensures.size in let k = u.ensures.count in omega (arith, s, k)) n.2 in
@@ -83,18 +83,18 @@ pub returns-else-not-full-clause-shown : goal.returns-else-not-full-clause-shown
 returns-else-not-full-clause-shown c = λ k events s.
     let m = c.args.self.now in
     let u = c.give_frame-len in
-    let n = u.ensures.nexts in
+    let n = u.ensures.gives in
     let is = subst (λ (f : FrameFeed). IsFrameOf f n.0) c.source_of-feed.ensures n.1 in
     let e = counted_units _ _ _ _ u.result.0 u.new.out (let s = u.ensures.size in let k = u.ensures.count in omega (arith, s, k)) n.2 in
     subst (λ (r : Ran). Shown k (events ++ Gave (take u.result.0 u.new.out) ∷ []) (record m { merger = u.new.merger; ran = r }))
     (sym (c.add_units.ensures ∙ ap (λ (q : ℕ). record m.ran { units = m.ran.units + q }) e))
-    (shown_full c.events_law.ensures k m u.new.merger events s c.requires.gives n.0 is u.result.1 _ n.2 c.if-not-full.false)
+    (shown_units c.events_law.ensures k m u.new.merger events s c.requires.gives n.0 is u.result.1 _ n.2)
 
 pub returns-else-not-full-clause-left : goal.returns-else-not-full-clause-left
 returns-else-not-full-clause-left c =
     let m = c.args.self.now in
     let u = c.give_frame-len in
-    let n = u.ensures.nexts in
+    let n = u.ensures.gives in
     let is = subst (λ (f : FrameFeed). IsFrameOf f n.0) c.source_of-feed.ensures n.1 in
     less_of _ _ c.requires.came (λ (h : HasShown m).
     left_full c.events_law.ensures h.network m u.new.merger h.events h.shown c.requires.gives n.0 is u.result.1 _ n.2 c.if-not-full.false)
