@@ -45,6 +45,9 @@ has_shown m came = ∥∥₁_map came (λ (h : HasCome Becomes m). record {
   shown = h.came;
 })
 
+pub becomes_itself : (m : SwapMachine) (plp : ℕ) → (status_of m.swapper).plp ≡ plp → Shown m.plan.now plp [] m → Becomes m [] m
+becomes_itself m plp is s = subst (λ (p : ℕ). Shown m.plan.now p [] m) (sym is) s
+
 -- ---- by one event more
 
 pub feed_same : (held : Bool) (c : Config) (f : FrameFeed) (bytes now : List ℕ) (ended is : Bool) (given : List FrameRecord) → now ≡ bytes

@@ -1,6 +1,7 @@
 use Rattle.std.proofs.Common.{ap, ◌≡◌, true, false, [], refl, arith, ◌<◌}
 use Rattle.plp_config.specs.SlotTime.{num}
 use Rattle.region_swap.specs.StandsFor.{Status}
+use Rattle.swap_run.proofs.ShownLemmas.{becomes_itself}
 use Rattle.swap_run.proofs.WantLemmas.{none_complete, none_over, none_read, sends_opened}
 use Rattle.swap_run.proofs.LiveLemmas.{live_caught}
 use Rattle.swap_run.proofs.machine.SwapMachine.open.Goals as goal
@@ -17,7 +18,7 @@ returns-clause-becomes c =
     let slot = c.length_law.ensures.slot k c.args.plp plan.rules c.requires in
     let lt : 0 < num k = (let a = slot.0 in let b = slot.2 in omega (arith, a, b)) in
     let none = none_over c.slot_time_law.ensures.none_at_zero c.length_law.ensures.slot k c.args.plp lt in
-    rw (ap (λ (x : Status). x.plp) w.status) (record {
+    becomes_itself _ c.args.plp (ap (λ (x : Status). x.plp) w.status) (record {
       base = record { config = refl; rules = plan; place = c.requires };
       read = none_read;
       of_feed = record { network = f.config; stands = f.stands };

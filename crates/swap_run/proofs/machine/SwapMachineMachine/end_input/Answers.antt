@@ -10,22 +10,22 @@ use Rattle.swap_run.proofs.StepLemmas.{short_records, short_packets, short_rest,
 use Rattle.swap_run.proofs.machine.SwapMachineMachine.end_input.Goals as goal
 
 pub finish-requires-clause-idle : goal.finish-requires-clause-idle
-finish-requires-clause-idle c = (short_records c.args.self.now c.args.input _ c.in-Records.is c.requires.wanted).0.none
+finish-requires-clause-idle c = (short_records c.args.self.now c.args._input _ c.in-Records.is c.requires.wanted).0.none
 
 pub finish-requires-clause-open : goal.finish-requires-clause-open
-finish-requires-clause-open c = (short_records c.args.self.now c.args.input _ c.in-Records.is c.requires.wanted).0.going
+finish-requires-clause-open c = (short_records c.args.self.now c.args._input _ c.in-Records.is c.requires.wanted).0.going
 
 pub end_packets-requires-clause-wanted : goal.end_packets-requires-clause-wanted
-end_packets-requires-clause-wanted c = (short_packets c.args.self.now c.args.input _ c.in-Packets.is c.requires.wanted).0.some
+end_packets-requires-clause-wanted c = (short_packets c.args.self.now c.args._input _ c.in-Packets.is c.requires.wanted).0.some
 
 pub end_packets-requires-clause-short : goal.end_packets-requires-clause-short
-end_packets-requires-clause-short c = (short_packets c.args.self.now c.args.input _ c.in-Packets.is c.requires.wanted).1
+end_packets-requires-clause-short c = (short_packets c.args.self.now c.args._input _ c.in-Packets.is c.requires.wanted).1
 
 pub end_rest-requires : goal.end_rest-requires
 end_rest-requires c =
     let m = c.args.self.now in
-    let d = short_else m c.args.input _ c.requires.wanted c.in_default.not-Records c.in_default.not-Packets in
-    let w = short_rest m c.args.input _ d c.requires.wanted in
+    let d = short_else m c.args._input _ c.requires.wanted c.in_default.not-Records c.in_default.not-Packets in
+    let w = short_rest m c.args._input _ d c.requires.wanted in
     record { drains = d; going = w.0.going; short = w.1 }
 
 pub returns-in-Records-clause-becomes : goal.returns-in-Records-clause-becomes
@@ -33,7 +33,7 @@ returns-in-Records-clause-becomes c = λ start events s.
     let k = start.plan.now in
     let plp = (status_of start.swapper).plp in
     let m = c.args.self.now in
-    let w = short_records m c.args.input _ c.in-Records.is c.requires.wanted in
+    let w = short_records m c.args._input _ c.in-Records.is c.requires.wanted in
     let p = c.args.bytes.now in
     let g = c.finish.new.self in
     let tell = c.events_law.ensures in
@@ -52,15 +52,15 @@ pub returns-in-Packets-clause-becomes : goal.returns-in-Packets-clause-becomes
 returns-in-Packets-clause-becomes c = λ start events s.
     let k = start.plan.now in
     let plp = (status_of start.swapper).plp in
-    let w = (short_packets c.args.self.now c.args.input _ c.in-Packets.is c.requires.wanted).0 in
+    let w = (short_packets c.args.self.now c.args._input _ c.in-Packets.is c.requires.wanted).0 in
     subst (λ (i : ℕ). Shown k plp (events ++ Ended i c.args.bytes.now ∷ []) c.end_packets.new.self) w.at
     (c.end_packets.ensures.shown k plp events s)
 
 pub returns-in_default : goal.returns-in_default
 returns-in_default c =
     let m = c.args.self.now in
-    let d = short_else m c.args.input _ c.requires.wanted c.in_default.not-Records c.in_default.not-Packets in
-    let w = short_rest m c.args.input _ d c.requires.wanted in
+    let d = short_else m c.args._input _ c.requires.wanted c.in_default.not-Records c.in_default.not-Packets in
+    let w = short_rest m c.args._input _ d c.requires.wanted in
     record {
       becomes = λ start events s.
           let k = start.plan.now in

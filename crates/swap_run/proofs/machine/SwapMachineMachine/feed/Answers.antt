@@ -12,34 +12,34 @@ use Rattle.swap_run.proofs.WantLemmas.{room_of, few_of}
 use Rattle.swap_run.proofs.machine.SwapMachineMachine.feed.Goals as goal
 
 pub feed-requires-clause-idle : goal.feed-requires-clause-idle
-feed-requires-clause-idle c = (enough_records c.args.self.now c.args.input _ c.in-Records.is c.requires.wanted).0.none
+feed-requires-clause-idle c = (enough_records c.args.self.now c.args._input _ c.in-Records.is c.requires.wanted).0.none
 
 pub feed-requires-clause-open : goal.feed-requires-clause-open
-feed-requires-clause-open c = (enough_records c.args.self.now c.args.input _ c.in-Records.is c.requires.wanted).0.going
+feed-requires-clause-open c = (enough_records c.args.self.now c.args._input _ c.in-Records.is c.requires.wanted).0.going
 
 pub feed-requires-clause-some : goal.feed-requires-clause-some
-feed-requires-clause-some c = (enough_records c.args.self.now c.args.input _ c.in-Records.is c.requires.wanted).1
+feed-requires-clause-some c = (enough_records c.args.self.now c.args._input _ c.in-Records.is c.requires.wanted).1
 
 pub take_packet-requires-clause-wanted : goal.take_packet-requires-clause-wanted
-take_packet-requires-clause-wanted c = (enough_packets c.args.self.now c.args.input _ c.in-Packets.is c.requires.wanted).0.some
+take_packet-requires-clause-wanted c = (enough_packets c.args.self.now c.args._input _ c.in-Packets.is c.requires.wanted).0.some
 
 pub take_packet-requires-clause-long : goal.take_packet-requires-clause-long
-take_packet-requires-clause-long c = (enough_packets c.args.self.now c.args.input _ c.in-Packets.is c.requires.wanted).1
+take_packet-requires-clause-long c = (enough_packets c.args.self.now c.args._input _ c.in-Packets.is c.requires.wanted).1
 
 pub drain_packet-requires : goal.drain_packet-requires
 drain_packet-requires c =
     let m = c.args.self.now in
     let r = c.requires.room in
-    let d = enough_else m c.args.input _ c.requires.wanted c.in_default.not-Records c.in_default.not-Packets in
-    let w = enough_rest m c.args.input _ d c.requires.wanted in
-    record { drains = d; going = w.0.going; long = w.1; few = few_of _ _ r.events m c.args.input (length c.args.bytes.now) r.came c.requires.wanted r.few c.in_default.not-Records; came = has_shown m ∣ record { start = r.start; events = r.events; came = r.came } ∣₁ }
+    let d = enough_else m c.args._input _ c.requires.wanted c.in_default.not-Records c.in_default.not-Packets in
+    let w = enough_rest m c.args._input _ d c.requires.wanted in
+    record { drains = d; going = w.0.going; long = w.1; few = few_of _ _ r.events m c.args._input (length c.args.bytes.now) r.came c.requires.wanted r.few c.in_default.not-Records; came = has_shown m ∣ record { start = r.start; events = r.events; came = r.came } ∣₁ }
 
 pub returns-in-Records-clause-becomes : goal.returns-in-Records-clause-becomes
 returns-in-Records-clause-becomes c = λ start events s.
     let k = start.plan.now in
     let plp = (status_of start.swapper).plp in
     let m = c.args.self.now in
-    let w = (enough_records m c.args.input _ c.in-Records.is c.requires.wanted).0 in
+    let w = (enough_records m c.args._input _ c.in-Records.is c.requires.wanted).0 in
     let p = take c.feed.result c.args.bytes.now in
     let g = c.feed.new.self in
     let tell = c.events_law.ensures in
@@ -52,13 +52,13 @@ pub returns-in-Packets-clause-becomes : goal.returns-in-Packets-clause-becomes
 returns-in-Packets-clause-becomes c = λ start events s.
     let k = start.plan.now in
     let plp = (status_of start.swapper).plp in
-    let w = (enough_packets c.args.self.now c.args.input _ c.in-Packets.is c.requires.wanted).0 in
+    let w = (enough_packets c.args.self.now c.args._input _ c.in-Packets.is c.requires.wanted).0 in
     subst (λ (i : ℕ). Shown k plp (events ++ Fed i (take SIZE c.args.bytes.now) ∷ []) c.take_packet.new.self) w.at
     (c.take_packet.ensures.shown k plp events s)
 
 pub returns-in-Packets-clause-some : goal.returns-in-Packets-clause-some
 returns-in-Packets-clause-some c =
-    let w = (enough_packets c.args.self.now c.args.input _ c.in-Packets.is c.requires.wanted).1 in
+    let w = (enough_packets c.args.self.now c.args._input _ c.in-Packets.is c.requires.wanted).1 in
     (omega arith, omega (arith, w))
 
 pub returns-in-Records-clause-reach : goal.returns-in-Records-clause-reach
@@ -70,8 +70,8 @@ returns-in-Records-clause-reach c =
 pub returns-in_default : goal.returns-in_default
 returns-in_default c =
     let m = c.args.self.now in
-    let d = enough_else m c.args.input _ c.requires.wanted c.in_default.not-Records c.in_default.not-Packets in
-    let w = enough_rest m c.args.input _ d c.requires.wanted in
+    let d = enough_else m c.args._input _ c.requires.wanted c.in_default.not-Records c.in_default.not-Packets in
+    let w = enough_rest m c.args._input _ d c.requires.wanted in
     let long = w.1 in
     record {
       some = (omega arith, omega (arith, long));
@@ -86,10 +86,10 @@ returns-in_default c =
 pub feed-requires-clause-room : goal.feed-requires-clause-room
 feed-requires-clause-room c =
     let r = c.requires.room in
-    room_of _ _ r.events c.args.self.now c.args.input (length c.args.bytes.now) r.came c.requires.wanted r.few c.in-Records.is
+    room_of _ _ r.events c.args.self.now c.args._input (length c.args.bytes.now) r.came c.requires.wanted r.few c.in-Records.is
 
 pub take_packet-requires-clause-few : goal.take_packet-requires-clause-few
 take_packet-requires-clause-few c =
     let r = c.requires.room in
-    few_of _ _ r.events c.args.self.now c.args.input (length c.args.bytes.now) r.came c.requires.wanted r.few
+    few_of _ _ r.events c.args.self.now c.args._input (length c.args.bytes.now) r.came c.requires.wanted r.few
     (λ e. packets_apart (sym c.in-Packets.is ∙ e))

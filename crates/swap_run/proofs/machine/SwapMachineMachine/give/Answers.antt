@@ -58,6 +58,9 @@ go_on-requires-clause-came c = has_shown _ c.requires.came
 pub finish-requires-clause-came : goal.finish-requires-clause-came
 finish-requires-clause-came c = has_shown _ c.requires.came
 
+pub returns-in-Units-clause-becomes : goal.returns-in-Units-clause-becomes
+returns-in-Units-clause-becomes c = λ start events s. c.give_units.ensures.shown _ _ events s
+
 pub give_units-requires-clause-came : goal.give_units-requires-clause-came
 give_units-requires-clause-came c = has_shown _ c.requires.came
 
