@@ -40,13 +40,13 @@ use Rattle.frame_compare.specs.declared.tally.Tally.{Tally}
 use Rattle.compare_run.specs.Shown.{Shown, IsTold, text_in}
 use Rattle.compare_run.specs.Steps.{left_of}
 use Rattle.compare_run.specs.Taking.{side_at, IsOfFeed}
-use Rattle.compare_run.specs.declared.comparing.Comparing.{Comparing}
+use Rattle.compare_run.specs.declared.machine.CompareMachine.{CompareMachine}
 use Rattle.compare_run.proofs.TakeLemmas.{side_is}
 
 -- ---- what becomes of both feeds
 
 -- what is known of the records that were left behind, each by whether it was
-pub record Takings (m : Comparing) (a b : FrameFeed) (n : ℕ) (p q : Bool) : Type 0 where
+pub record Takings (m : CompareMachine) (a b : FrameFeed) (n : ℕ) (p q : Bool) : Type 0 where
   pub is_a : p ≡ is_at n (seen_of (waiting_of m.a))
   pub is_b : q ≡ is_at n (seen_of (waiting_of m.b))
   pub least : least_of (waiting_of m.a) (waiting_of m.b) ≡ Some n
@@ -56,7 +56,7 @@ pub record Takings (m : Comparing) (a b : FrameFeed) (n : ℕ) (p q : Bool) : Ty
   pub took_b : SkipsIf q m.b b
 
 -- one of them was
-pub fewer_left : (m : Comparing) (a b : FrameFeed) (n : ℕ) (p q : Bool) → Takings m a b n p q
+pub fewer_left : (m : CompareMachine) (a b : FrameFeed) (n : ℕ) (p q : Bool) → Takings m a b n p q
     → feed.left_of a + feed.left_of b + 1 ≤ feed.left_of m.a + feed.left_of m.b
 fewer_left m a b n p q t =
     let some = some_taken (waiting_of m.a) (waiting_of m.b) n t.least in
@@ -73,24 +73,24 @@ Tallies old new n a line =
     × ((xs : List Answered) → TallyStandsFor old xs → known_text (xs ++ answered n a ∷ []) ≡ known_text xs ++ line)
 
 -- What a call notes of both feeds, by groups that they may have.
-abbrev pub Notes_at : Comparing → Carried → Config → ℕ → List Numbered → List Numbered → Type 0
+abbrev pub Notes_at : CompareMachine → Carried → Config → ℕ → List Numbered → List Numbered → Type 0
 Notes_at m new c n ga gb = CarriedStandsFor m.carried c m.next ga gb → IsOfFeed m.a ga → IsOfFeed m.b gb
     → (is_at n (seen_of (waiting_of m.a)) ≡ false → packets_at ga n ≡ [])
     → (is_at n (seen_of (waiting_of m.b)) ≡ false → packets_at gb n ≡ [])
     → NothingBetween ga m.next n → NothingBetween gb m.next n → CarriedStandsFor new c (n + 1) ga gb
 
 -- And what it answers.
-abbrev pub Answers_at : Comparing → Carried → Config → ℕ → Answer → List Numbered → List Numbered → Type 0
+abbrev pub Answers_at : CompareMachine → Carried → Config → ℕ → Answer → List Numbered → List Numbered → Type 0
 Answers_at m new c n result ga gb = CarriedStandsFor new c (n + 1) ga gb → IsOfFeed m.a ga → IsOfFeed m.b gb
     → Some result ≡ sides_answer (side_at n (waiting_of m.a)) (side_at n (waiting_of m.b)) (whole_answer c n ga gb)
 
-abbrev pub Notes : Comparing → Carried → Config → ℕ → Type 0
+abbrev pub Notes : CompareMachine → Carried → Config → ℕ → Type 0
 Notes m new c n = (ga gb : List Numbered) → Notes_at m new c n ga gb
 
-abbrev pub AnswersBy : Comparing → Carried → Config → ℕ → Answer → Type 0
+abbrev pub AnswersBy : CompareMachine → Carried → Config → ℕ → Answer → Type 0
 AnswersBy m new c n result = (ga gb : List Numbered) → Answers_at m new c n result ga gb
 
-module _ (front : DueFront) (follow : DueFollow) (grow : AnswersGrow) (c : Config) (m : Comparing) (a b : FrameFeed) (events : List Event)
+module _ (front : DueFront) (follow : DueFollow) (grow : AnswersGrow) (c : Config) (m : CompareMachine) (a b : FrameFeed) (events : List Event)
     (n : ℕ) (p q : Bool) (t : Takings m a b n p q) (s : Shown c events m) where
   abbrev pub ta : Takes (is_at n (seen_of (waiting_of m.a))) m.a a (fed 0 events) (has_ended 0 events) s.given_a
   ta = subst (λ (l : Bool). Takes l m.a a (fed 0 events) (has_ended 0 events) s.given_a) t.is_a
@@ -216,7 +216,7 @@ module _ (front : DueFront) (follow : DueFollow) (grow : AnswersGrow) (c : Confi
         → now_said ≡ was_said ++ answered n result ∷ []
     now_is result is = grown ∙ ap (λ (o : Option Answer). was_said ++ option_to_list (option_map (answered n) o)) (sym is)
 
-    pub told_now : (new : Comparing) (result : Answer) (line : List ℕ) → m.done ≡ false → new.done ≡ m.done → new.next ≡ n + 1
+    pub told_now : (new : CompareMachine) (result : Answer) (line : List ℕ) → m.done ≡ false → new.done ≡ m.done → new.next ≡ n + 1
         → Notes m new.carried c n → AnswersBy m new.carried c n result → Tallies m.tally new.tally n result line
         → IsTold c new now_a now_b (gave events ++ line) ga gb
     told_now new result line going same next notes says tallies =
@@ -243,7 +243,7 @@ groups_gave tell c events input line gs g =
     subst (λ (e : Bool). AreGroups c (fed input events) e gs) (t.ended input)
     (subst (λ (l : List ℕ). AreGroups c l (has_ended input (events ++ Gave line ∷ [])) gs) (t.fed input) g)
 
-pub shown_compared : EventsTell → DueFront → DueFollow → AnswersGrow → (c : Config) (m new : Comparing) (events : List Event) (n : ℕ)
+pub shown_compared : EventsTell → DueFront → DueFollow → AnswersGrow → (c : Config) (m new : CompareMachine) (events : List Event) (n : ℕ)
     (p q : Bool) (t : Takings m new.a new.b n p q) (s : Shown c events m) → new.plan.now ≡ m.plan.now
     → plps_in new.carried ≡ plps_in m.carried → m.done ≡ false → new.done ≡ m.done → new.next ≡ n + 1 → n < MOST_FRAMES
     → (result : Answer) → Notes m new.carried c n → AnswersBy m new.carried c n result
@@ -273,7 +273,7 @@ shown_compared tell front follow grow c m new events n p q t s config counted go
       over = λ on. absurd (true≢false (sym on ∙ same ∙ going));
     }
 
-pub left_compared : (m : Comparing) (a b : FrameFeed) (done : Bool) (n : ℕ) (p q : Bool)
+pub left_compared : (m : CompareMachine) (a b : FrameFeed) (done : Bool) (n : ℕ) (p q : Bool)
     → Takings m a b n p q → m.done ≡ false → done ≡ m.done
     → cond done 0 (feed.left_of a + feed.left_of b + 1) < left_of m
 left_compared m a b done n p q t going same =
@@ -288,13 +288,13 @@ left_compared m a b done n p q t going same =
 pub groups_here : (c : Config) (bytes : List ℕ) (ended : Bool) → AreGroups c bytes ended (groups_of c (bytes ++ []))
 groups_here c bytes ended = record { more = []; none = λ on. refl; are = refl }
 
-pub told_here : (c : Config) (m : Comparing) (events : List Event) (s : Shown c events m)
+pub told_here : (c : Config) (m : CompareMachine) (events : List Event) (s : Shown c events m)
     → IsTold c m s.given_a s.given_b (gave events) (groups_of c (fed 0 events ++ [])) (groups_of c (fed 1 events ++ []))
 told_here c m events s =
     s.told _ _ (groups_here c (fed 0 events) (has_ended 0 events)) (groups_here c (fed 1 events) (has_ended 1 events))
 
 -- there is room for one more
-pub few_said : (c : Config) (m : Comparing) (events : List Event) → Shown c events m → frames_in m.tally < 2 ^ 62
+pub few_said : (c : Config) (m : CompareMachine) (events : List Event) → Shown c events m → frames_in m.tally < 2 ^ 62
 few_said c m events s =
     let t = told_here c m events s in
     let e = ap (λ (n : Counts). n.frames) t.tallied.counts in
@@ -303,13 +303,13 @@ few_said c m events s =
     omega (arith, e, f, l)
 
 -- the next number is no greater than the least
-pub next_least : (c : Config) (m : Comparing) (events : List Event) (n : ℕ) → Shown c events m
+pub next_least : (c : Config) (m : CompareMachine) (events : List Event) (n : ℕ) → Shown c events m
     → least_of (waiting_of m.a) (waiting_of m.b) ≡ Some n → m.next ≤ n
 next_least c m events n s least = least_most (waiting_of m.a) (waiting_of m.b) n m.next least s.both.behind_a.waits s.both.behind_b.waits
 
 -- ---- no more frames come
 
-pub shown_finished : EventsTell → (c : Config) (m : Comparing) (events : List Event) (line : List ℕ) → Shown c events m → m.done ≡ false
+pub shown_finished : EventsTell → (c : Config) (m : CompareMachine) (events : List Event) (line : List ℕ) → Shown c events m → m.done ≡ false
     → least_of (waiting_of m.a) (waiting_of m.b) ≡ None → is_idle (waiting_of m.a) (feed.has_ended m.a) ≡ false
     → is_idle (waiting_of m.b) (feed.has_ended m.b) ≡ false
     → ((xs : List Answered) → TallyStandsFor m.tally xs → text_of xs ≡ known_text xs ++ line)
@@ -335,7 +335,7 @@ shown_finished tell c m events line s going least busy_a busy_b says =
       over = λ _. (none_comes m.a none.0 busy_a, none_comes m.b none.1 busy_b);
     }
 
-pub left_finished : (m : Comparing) → m.done ≡ false → left_of (record m { done = true }) < left_of m
+pub left_finished : (m : CompareMachine) → m.done ≡ false → left_of (record m { done = true }) < left_of m
 left_finished m going =
     let was : left_of m ≡ feed.left_of m.a + feed.left_of m.b + 1 =
     ap (λ (d : Bool). cond d 0 (feed.left_of m.a + feed.left_of m.b + 1)) going in

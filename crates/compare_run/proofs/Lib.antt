@@ -5,5 +5,4 @@ pub mod ShownLemmas
 pub mod SplitLemmas
 pub mod StepLemmas
 pub mod TakeLemmas
-pub mod WantLemmas
 pub mod NoteLemmas

@@ -41,14 +41,14 @@ use Rattle.compare_run.specs.CompareRun.{IsKnownBelow, HasLate, HasSaid, MaySay,
 use Rattle.compare_run.specs.CompareRun.{compare_work, HasRead}
 use Rattle.compare_run.specs.Shown.{Shown, IsTold, text_in}
 use Rattle.compare_run.specs.Steps.{step_of, reach_of}
-use Rattle.compare_run.specs.declared.comparing.Comparing.{Comparing}
+use Rattle.compare_run.specs.declared.machine.CompareMachine.{CompareMachine}
 use Rattle.compare_run.specs.declared.machine.CompareMachine.{CompareMachine}
 use Rattle.compare_run.proofs.SplitLemmas.{answers_front, answers_split}
 use Rattle.compare_run.proofs.StepLemmas.{asked, ends}
 
 -- ---- what is known of two files by what was fed of them
 
-module _ (front : DueFront) (follow : DueFollow) (law : KnownBegins) (c : Config) (m : Comparing) (events : List Event)
+module _ (front : DueFront) (follow : DueFollow) (law : KnownBegins) (c : Config) (m : CompareMachine) (events : List Event)
     (s : Shown c events m) (files : ℕ → List ℕ) (places : List ℕ) (are : AreFed 2 files places events) where
   abbrev ga : List FrameRecord
   ga = s.given_a
@@ -242,40 +242,39 @@ module _ (front : DueFront) (follow : DueFollow) (law : KnownBegins) (c : Config
 
 module _ (front : DueFront) (follow : DueFollow) (law : KnownBegins) (start now : CompareMachine) (files : ℕ → List ℕ)
     (places : List ℕ) (events : List Event) (all : length places ≡ 2) (are : AreFed 2 files places events)
-    (within : AreWithin 2 places (reach_of now.comparing)) (s : Shown start.comparing.plan.now events now.comparing) where
+    (within : AreWithin 2 places (reach_of now)) (s : Shown start.plan.now events now) where
   abbrev k : Config
-  k = start.comparing.plan.now
+  k = start.plan.now
 
-  whole : now.comparing.done ≡ true → AreWhole files places
+  whole : now.done ≡ true → AreWhole files places
   whole done =
-      let m = now.comparing in
       let none = s.over done in
-      whole_all front follow k events false false m.next m.a m.b s.given_a s.given_b s.both files places are none.0 none.1 all
+      whole_all front follow k events false false now.next now.a now.b s.given_a s.given_b s.both files places are none.0 none.1 all
 
-  ends_by : now.comparing.done ≡ true → (now.comparing.next == 0) ≡ false → (first : Option ℕ)
-      → (counts_in now.comparing.tally).first ≡ first
-      → IsRightAtEnd (compare_work k) files places (gave events) (ending_by first (counts_in now.comparing.tally))
+  ends_by : now.done ≡ true → (now.next == 0) ≡ false → (first : Option ℕ)
+      → (counts_in now.tally).first ≡ first
+      → IsRightAtEnd (compare_work k) files places (gave events) (ending_by first (counts_in now.tally))
   ends_by is some None none =
-      (whole is, are_alike front follow law k now.comparing events s files places are is some none)
+      (whole is, are_alike front follow law k now events s files places are is some none)
   ends_by is some (Some frame) first =
-      (whole is, are_other front follow law k now.comparing events s files places are frame is some first)
+      (whole is, are_other front follow law k now events s files places are frame is some first)
 
-  ends_in : (done : Bool) → now.comparing.done ≡ done → step_of now.comparing ≡ End
-      → IsRightAtEnd (compare_work k) files places (gave events) (ending_in done now.comparing.next (counts_in now.comparing.tally))
+  ends_in : (done : Bool) → now.done ≡ done → step_of now ≡ End
+      → IsRightAtEnd (compare_work k) files places (gave events) (ending_in done now.next (counts_in now.tally))
   ends_in false is end = (
-    has_late front follow law k now.comparing events s files places are is (is_late _ _ _ _ (ends now.comparing.done _ is end)),
-    ahead front follow law k now.comparing events s files places are MOST_FRAMES s.both.early within,
+    has_late front follow law k now events s files places are is (is_late _ _ _ _ (ends now.done _ is end)),
+    ahead front follow law k now events s files places are MOST_FRAMES s.both.early within,
   )
   ends_in true is end =
-      bool_cases (now.comparing.next == 0)
-      (λ none. rw none (whole is, has_none front follow law k now.comparing events s files places are is none))
-      (λ some. rw some (ends_by is some (counts_in now.comparing.tally).first refl))
+      bool_cases (now.next == 0)
+      (λ none. rw none (whole is, has_none front follow law k now events s files places are is none))
+      (λ some. rw some (ends_by is some (counts_in now.tally).first refl))
 
   too_long : (input : ℕ) → input < 2 → slice_index places input ≡ longest_file
-      → Needs (step_of now.comparing) input (slice_index places input - length (fed input events))
+      → Needs (step_of now) input (slice_index places input - length (fed input events))
       → compare_work k files (Err (Files (TooLong input))) places (gave events)
   too_long input lt most wants =
-      let w = asked Needs (λ i k h. h) now.comparing.done _ input _ wants in
+      let w = asked Needs (λ i k h. h) now.done _ input _ wants in
       let n = needs_by _ _ _ _ input _ w.1 in
       let few = n.1 in
       let most_fed = (are input lt).ahead in
@@ -283,27 +282,27 @@ module _ (front : DueFront) (follow : DueFollow) (law : KnownBegins) (start now 
         taken = length (fed input events);
         near = omega (arith, few, most);
         within = omega (arith, most_fed, most);
-        has = has_read front follow law k now.comparing events s files places are input (length (fed input events)) n.0 w.0 refl within;
+        has = has_read front follow law k now events s files places are input (length (fed input events)) n.0 w.0 refl within;
       }
 
   unread : (input : ℕ) → input < 2
-      → FallsShort (step_of now.comparing) input (slice_index places input - length (fed input events))
+      → FallsShort (step_of now) input (slice_index places input - length (fed input events))
       → compare_work k files (Err (Files (ReadFault input))) places (gave events)
   unread input lt wants =
-      let w = asked FallsShort (λ i k h. h) now.comparing.done _ input _ wants in
+      let w = asked FallsShort (λ i k h. h) now.done _ input _ wants in
       let n = short_by _ _ _ _ input _ w.1 in
       let none = n.1 in
       let most_fed = (are input lt).ahead in
-      has_read front follow law k now.comparing events s files places are input (slice_index places input) n.0 w.0
+      has_read front follow law k now events s files places are input (slice_index places input) n.0 w.0
       (omega (arith, most_fed, none)) within
 
 unsaid : DueFront → DueFollow → KnownBegins → (start now : CompareMachine) (files : ℕ → List ℕ) (places : List ℕ) (events : List Event)
     (bytes : List ℕ) → AreFed 2 files places events
-    → GaveSome (λ m. reach_of m.comparing) (λ m. step_of m.comparing) (Becomes start) 2 places events now bytes
-    → HasSome start.comparing.plan.now places files bytes
+    → GaveSome reach_of step_of (Becomes start) 2 places events now bytes
+    → HasSome start.plan.now places files bytes
 unsaid front follow law start now files places events bytes are g =
-    let k : Config = start.comparing.plan.now in
-    let p = gave_front front follow law k now.comparing (events ++ g.late) g.came_late files places
+    let k : Config = start.plan.now in
+    let p = gave_front front follow law k now (events ++ g.late) g.came_late files places
     (fed_since 2 files places events g.late g.only are) in
     record {
       more = g.more ++ p.0;
@@ -311,9 +310,9 @@ unsaid front follow law start now files places events bytes are g =
       begins = subst (MaySay k files) (ap (λ (l : List ℕ). l ++ p.0) g.parts ∙ append_assoc bytes g.more p.0) p.1;
       since = λ input taken lt less.
           let within = g.within input lt in
-          let m = g.mid.comparing in
+          let m = g.mid in
           let count = fed_count k events false false m.next m.a m.b g.came.given_a g.came.given_b g.came.both input lt in
-          let d = since front follow law k g.mid.comparing events g.came files places are input taken lt
+          let d = since front follow law k g.mid events g.came files places are input taken lt
           (omega (arith, less, within, count)) in (
             d.0,
             (d.1.0 ++ g.front, g.is ∙ ap (λ (l : List ℕ). l ++ g.front) d.1.1 ∙ append_assoc _ d.1.0 g.front),
@@ -324,11 +323,11 @@ unsaid front follow law start now files places events bytes are g =
     front_empty [] ys e = refl
     front_empty (x ∷ xs) ys e = absurd (let n = ap length e in omega (arith, n))
 
-pub compare_does : DueFront → DueFollow → KnownBegins → (start : CompareMachine) → DoesWork (compare_work start.comparing.plan.now) 2
-    (λ m. reach_of m.comparing) (λ m. step_of m.comparing) (Becomes start) ending_of
+pub compare_does : DueFront → DueFollow → KnownBegins → (start : CompareMachine) → DoesWork (compare_work start.plan.now) 2
+    reach_of step_of (Becomes start) ending_of
 compare_does front follow law start = record {
   ends = λ files places events now all are within came end.
-      ends_in front follow law start now files places events all are within came now.comparing.done refl end;
+      ends_in front follow law start now files places events all are within came now.done refl end;
   too_long = λ files places events now input all are within came lt most wants.
       too_long front follow law start now files places events all are within came input lt most wants;
   unread = λ files places events now input all are within came lt wants.

@@ -11,7 +11,7 @@ use Rattle.compare_run.specs.declared.stop.CompareStop.TheVariants.{NoSuperframe
 
 -- To the first this was done, and then it is the second.
 abbrev pub Becomes : CompareMachine → List Event → CompareMachine → Type 0
-Becomes start events m = Shown start.comparing.plan.now events m.comparing
+Becomes start events m = Shown start.plan.now events m
 
 -- what comes of two files that were read to their ends
 abbrev pub ending_by : Option ℕ → Counts → Result Counts CompareStop
@@ -24,4 +24,4 @@ ending_in done next counts =
     if done then (if next == 0 then Err NoSuperframe else ending_by counts.first counts) else Err TooManyFrames
 
 abbrev pub ending_of : CompareMachine → Result Counts CompareStop
-ending_of m = ending_in m.comparing.done m.comparing.next (counts_in m.comparing.tally)
+ending_of m = ending_in m.done m.next (counts_in m.tally)

@@ -10,7 +10,7 @@ use Rattle.frame_compare.specs.Comparing.{Answered, answers}
 use Rattle.frame_compare.specs.Lines.{known_text, text_of}
 use Rattle.frame_compare.specs.Laws.{frames_by}
 use Rattle.frame_compare.specs.StandsFor.{TallyStandsFor, CarriedStandsFor, plps_in}
-use Rattle.compare_run.specs.declared.comparing.Comparing.{Comparing}
+use Rattle.compare_run.specs.declared.machine.CompareMachine.{CompareMachine}
 
 -- the text of some frames: what is known by them, or all
 abbrev pub text_in : Bool → List Answered → List ℕ
@@ -18,14 +18,14 @@ text_in true xs = text_of xs
 text_in false xs = known_text xs
 
 -- What was said of the frames that came is by the groups of both streams.
-pub record IsTold (c : Config) (m : Comparing) (given_a given_b : List FrameRecord) (said : List ℕ) (ga gb : List Numbered) : Type 0 where
+pub record IsTold (c : Config) (m : CompareMachine) (given_a given_b : List FrameRecord) (said : List ℕ) (ga gb : List Numbered) : Type 0 where
   pub carried : CarriedStandsFor m.carried c m.next ga gb
   pub tallied : TallyStandsFor m.tally (answers c (frames_by given_a ga) (frames_by given_b gb))
   pub few : length (answers c (frames_by given_a ga) (frames_by given_b gb)) ≤ m.next
   pub said_is : said ≡ text_in m.done (answers c (frames_by given_a ga) (frames_by given_b gb))
 
 -- What was done, and where two feeds of a network are then.
-pub record Shown (c : Config) (events : List Event) (m : Comparing) : Type 0 where
+pub record Shown (c : Config) (events : List Event) (m : CompareMachine) : Type 0 where
   pub config : m.plan.now ≡ c
   pub plps : plps_in m.carried ≡ length c.plps
   pub given_a : List FrameRecord
@@ -37,7 +37,7 @@ pub record Shown (c : Config) (events : List Event) (m : Comparing) : Type 0 whe
   pub over : m.done ≡ true → NoneComes m.a × NoneComes m.b
 
 -- Something was done, and then they are there.
-pub record HasShown (m : Comparing) : Type 0 where
+pub record HasShown (m : CompareMachine) : Type 0 where
   pub network : Config
   pub events : List Event
   pub shown : Shown network events m

@@ -1,19 +1,27 @@
 // Two feeds that are compared, as a machine over files.
-ghost use Rattle.compare_run.specs.Shown.{HasShown};
-
-use crate::comparing::Comparing;
+use crate::comparing::copy_line;
 use crate::stop::CompareStop;
 use bit_slice::OutOfMemory;
 use file_run::{Ending, Machine, Step};
-use frame_compare::Counts;
+use frame_compare::{Carried, Counts, Tally};
+use held_feed::FrameFeed;
 use plp_config::Plan;
 use std::alloc::Global;
+use two_feeds::{end_one, feed_one, next_step};
 
-/// Two feeds that are fed with the bytes of two inputs, and the lines of their frames.
+/// Two feeds of a network that are fed with the bytes of two inputs, and the lines of their frames.
 #[derive(Drop)]
 pub struct CompareMachine<'p> {
-    comparing: Comparing<'p>,
-    ghost came: { ∥ HasShown comparing ∥₁ },
+    pub plan: &'p Plan,
+    pub a: FrameFeed<'p>,
+    pub b: FrameFeed<'p>,
+    // Of each PLP, where what the frame before carries differs.
+    pub carried: Carried,
+    pub tally: Tally,
+    // The number behind those of all records that were taken.
+    pub next: u64,
+    // Both have ended, and all is said.
+    pub done: bool,
 }
 
 impl<'p> Machine for CompareMachine<'p> {
@@ -24,26 +32,30 @@ impl<'p> Machine for CompareMachine<'p> {
 
     ghost inputs = { λ m. 2 };
 
-    ghost next = { λ m. step_of m.comparing };
+    ghost next = { step_of };
 
-    ghost left = { λ m. left_of m.comparing };
+    ghost left = { left_of };
 
-    ghost reach = { λ m. reach_of m.comparing };
+    ghost reach = { reach_of };
 
     fn step(&self) -> Step {
-        self.comparing.step()
+        if self.done {
+            return Step::End;
+        }
+        next_step(&self.a, &self.b)
     }
 
     fn feed(&mut self, input: usize, bytes: &[u8]) -> usize {
-        self.comparing.feed(input, bytes)
+        feed_one(&mut self.a, &mut self.b, input, bytes)
     }
 
     fn end_input(&mut self, input: usize, bytes: &[u8]) {
-        self.comparing.end_input(input, bytes);
+        end_one(&mut self.a, &mut self.b, input, bytes);
     }
 
     fn give(&mut self, out: &mut [u8]) -> usize {
-        self.comparing.give(out)
+        let line = self.go_on();
+        copy_line(&line, out)
     }
 }
 
@@ -57,13 +69,13 @@ impl<'p> Ending for CompareMachine<'p> {
     ghost ending = { ending_of };
 
     fn ending(&self) -> Result<Counts, CompareStop> {
-        if !self.comparing.done {
+        if !self.done {
             return Err(CompareStop::TooManyFrames);
         }
-        if self.comparing.next == 0 {
+        if self.next == 0 {
             return Err(CompareStop::NoSuperframe);
         }
-        let counts = self.comparing.tally.counts();
+        let counts = self.tally.counts();
         match counts.first {
             Some(frame) => Err(CompareStop::Differs { frame }),
             None => Ok(counts),
@@ -75,12 +87,22 @@ impl<'p> CompareMachine<'p> {
     ghost use Rattle.std.specs.Prelude.{◌≡◌, [], IfOk};
     ghost use Rattle.compare_run.specs.AsMachine.{Becomes};
 
-    /// Two feeds to which nothing was fed, for a plan. Its one refusal is want of memory.
+    /// Two feeds to which nothing was fed, for a plan, and all their memory. Its one refusal is want of memory.
     pub fn open(alloc: Global, plan: &'p Plan) -> Result<CompareMachine<'p>, OutOfMemory>
-        ensures plan { IfOk result (λ m. m.comparing.plan.now ≡ plan.now) }
+        ensures plan { IfOk result (λ m. m.plan.now ≡ plan.now) }
         ensures becomes { IfOk result (λ m. Becomes m [] m) }
     {
-        let comparing = Comparing::open(alloc, plan)?;
-        Ok(CompareMachine { comparing })
+        let a = FrameFeed::open(alloc, plan)?;
+        let b = FrameFeed::open(alloc, plan)?;
+        let carried = Carried::open(alloc, plan)?;
+        Ok(CompareMachine {
+            plan,
+            a,
+            b,
+            carried,
+            tally: Tally::new(),
+            next: 0,
+            done: false,
+        })
     }
 }

@@ -1,37 +1,16 @@
 // A comparison of two files by a plan.
-ghost use Rattle.std.specs.Prelude.{◌≡◌, [], ◌∷◌};
-ghost use Rattle.line_run.specs.Speaking.{SpeaksOnce};
+ghost use Rattle.std.specs.Prelude.{[], ◌∷◌};
 ghost use Rattle.file_run.specs.Work.{Ends, Aloud};
 ghost use Rattle.compare_run.specs.CompareRun.{compare_work};
 
 use crate::machine::CompareMachine;
 use crate::stop::CompareStop;
-use file_run::{Ending, RunStop};
+use file_run::{Output, RunStop, run_over_two};
 use frame_compare::{Counts, known_law};
-use line_run::speak_one;
 use modulator::due_records_law;
 use plp_config::Plan;
-use ports::{Desk, Word};
+use ports::Desk;
 use std::alloc::Global;
-
-// Runs a machine of two inputs, which are named.
-fn speak_two<M: Ending, D: Desk>(
-    alloc: Global,
-    machine: &mut M,
-    a: &str,
-    b: &str,
-    desk: &mut D,
-) -> Result<M::Ran, RunStop<M::Stop>>
-    requires inputs { M.inputs machine.old ≡ 2 }
-    requires start { M.Becomes machine.old [] machine.old }
-    ensures { SpeaksOnce (D.state desk.old) (D.state desk.new) (a.now ∷ b.now ∷ []) M.reach M.next (M.Becomes machine.old) M.ending
-        machine.new result }
-{
-    let first = Word::new(alloc, a)?;
-    let second = Word::new(alloc, b)?;
-    let ins = [first, second];
-    speak_one(alloc, machine, &ins, desk)
-}
 
 /// Compares two inputs, which may be one file, by a plan, and says each line as soon as it is known, before it reads on: a line for
 /// each run of frames with one answer, and one for each frame that both send and that is not the same; and then the numbers. It
@@ -48,5 +27,5 @@ pub fn run<D: Desk>(
     due_records_law();
     known_law();
     let mut machine = CompareMachine::open(alloc, plan)?;
-    speak_two(alloc, &mut machine, a, b, desk)
+    run_over_two(alloc, &mut machine, a, b, Output::Standard, desk)
 }

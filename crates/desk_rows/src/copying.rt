@@ -5,7 +5,7 @@ ghost use Rattle.file_run.specs.FileRun.{AreApart};
 use crate::copy_machine::CopyMachine;
 use crate::failed;
 use desk_io::ReadAhead;
-use file_run::{OutBuffer, RunFault, run, tell};
+use file_run::{OutBuffer, Output, RunFault, run, tell};
 use ports::{Desk, MemoryDesk, Word};
 use std::alloc::Global;
 use std::io::{self, Print};
@@ -23,7 +23,14 @@ fn copy<D: Desk>(
 {
     let mut machine = CopyMachine::new();
     let mut readers = [reader];
-    run(&mut machine, &mut readers, buffer, out, ins, desk)
+    run(
+        &mut machine,
+        &mut readers,
+        buffer,
+        Output::File(out),
+        ins,
+        desk,
+    )
 }
 
 // So many bytes.

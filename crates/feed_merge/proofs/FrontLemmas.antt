@@ -1,5 +1,5 @@
 -- What is sent of the first of some frames.
-use Rattle.std.proofs.Common.{◌≡◌, ℕ, ◌+◌, ◌≤◌, List, ◌++◌, length, ap, sym, ◌∙◌, arith, append_assoc, length-append}
+use Rattle.std.proofs.Common.{◌≡◌, ◌≢◌, ℕ, ◌+◌, ◌≤◌, List, [], ◌∷◌, ◌++◌, length, ap, sym, ◌∙◌, arith, append_assoc, length-append}
 use Rattle.std.proofs.lemmas.Grind.{flat_map-append}
 use Rattle.plp_config.specs.declared.config.Config.{Config}
 use Rattle.frame_groups.specs.Laws.{IsPrefix}
@@ -10,6 +10,11 @@ use Rattle.t2mi_stream.proofs.CompleteLemmas.{shorter_front}
 use Rattle.frame_writer.specs.FramePackets.{packets_from}
 use Rattle.frame_writer.proofs.CarriedLemmas.{packets_append}
 use Rattle.formed_frames.specs.Remade.{NumberedView, remade_packets, remade_bodies, frame_pairs}
+
+-- Some more are within a bound, if those before are, and if more are they are too.
+pub more_within : {X : Type 0} (count n : ℕ) (xs : List X) → count ≤ n → (xs ≢ [] → count + length xs ≤ n) → count + length xs ≤ n
+more_within count n [] few all = omega (arith, few)
+more_within count n (x ∷ xs) few all = all (λ e. (let z = ap length e in absurd (omega (arith, z))))
 
 -- more frames have more packets behind those of the first
 pub packets_more : (c : Config) (frames more : List NumberedView) → IsPrefix (remade_packets c frames) (remade_packets c (frames ++ more))

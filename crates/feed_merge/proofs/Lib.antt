@@ -3,4 +3,3 @@ pub mod FrontLemmas
 pub mod GrowLemmas
 pub mod MergerLemmas
 pub mod PickLemmas
-pub mod RecordLemmas

@@ -1,9 +1,14 @@
 -- What a merger stands for.
-use Rattle.std.specs.Prelude.{ℕ, ◌%◌, Bool, List}
+use Rattle.std.specs.Prelude.{◌≡◌, ◌≢◌, ℕ, ◌+◌, ◌*◌, ◌%◌, ◌≤◌, Bool, true, false, List, [], ◌++◌, length, drop}
 use Rattle.plp_config.specs.declared.config.Config.{Config}
+use Rattle.ts_packet.specs.TsFile.{joined}
+use Rattle.ts_packet.specs.declared.sizes.TheConstants.{SIZE}
 use Rattle.t2mi_packet.specs.declared.packet.Body.{Body}
+use Rattle.t2mi_stream.specs.Complete.{complete_units}
+use Rattle.t2mi_stream.specs.Pipe.{pipe}
+use Rattle.frame_groups.specs.Laws.{IsPrefix}
 use Rattle.frame_writer.specs.FirstPacket.{from_step}
-use Rattle.frame_writer.specs.FramePackets.{l1_body}
+use Rattle.frame_writer.specs.FramePackets.{l1_body, packets_from}
 use Rattle.frame_writer.specs.Flowing.{Flows, bytes_bound, gives_unit}
 use Rattle.pool_frame.specs.Left.{left_of, blocks_left}
 use Rattle.pool_frame.specs.Signalling.{pre_part, conf_part}
@@ -48,3 +53,30 @@ bytes_left m left = bytes_bound m.flow.outlet left
 -- All packets of the frames begun were fed.
 abbrev pub is_fed : Merger → Bool
 is_fed m = m.flow.dry
+
+-- The bytes are units of the frames begun, of which the last is this one.
+pub record GivesUnits (old new : Merger) (frame : PoolFrame) (full : Bool) (bytes : List ℕ) : Type 0 where
+  pub units : List (List ℕ)
+  pub bytes_are : bytes ≡ joined units
+  pub size : length bytes ≡ SIZE * length units
+  pub stands : (bodies : List (ℕ × Body)) (given : ℕ) → MergerStandsFor old (left_in old frame) bodies given
+      → MergerStandsFor new (left_in new frame) bodies (given + length units)
+  -- They are the next ones of all, whatever packets follow; after the end none follows.
+  pub next : (bodies : List (ℕ × Body)) (given : ℕ) → MergerStandsFor old (left_in old frame) bodies given
+      → (more : List (List ℕ)) → (has_finished old ≡ true → more ≡ [])
+      → IsPrefix units (drop given (pipe (config_of old).pid (packets_from (config_of old) 0 bodies ++ more)))
+  -- Before the end only complete ones are given;
+  pub complete : has_finished old ≡ false → units ≢ [] → (bodies : List (ℕ × Body)) (given : ℕ)
+      → MergerStandsFor old (left_in old frame) bodies given
+      → given + length units ≤ length (complete_units (config_of old).pid (packets_from (config_of old) 0 bodies))
+  -- one at least if the room ended, and else all, and nothing is left of the frame.
+  pub some : full ≡ true → units ≢ []
+  pub all : full ≡ false → has_finished old ≡ false → (bodies : List (ℕ × Body)) (given : ℕ)
+      → MergerStandsFor old (left_in old frame) bodies given
+      → given + length units ≡ length (complete_units (config_of old).pid (packets_from (config_of old) 0 bodies))
+  pub spent : full ≡ false → left_in new frame ≡ []
+  pub idle : full ≡ false → has_unit new ≡ false
+  -- So a loop that takes units ends.
+  pub less : bytes_left new (left_in new frame) + length units ≤ bytes_left old (left_in old frame)
+  pub network : config_of new ≡ config_of old
+  pub finished : has_finished new ≡ has_finished old

@@ -6,7 +6,6 @@ ghost use Rattle.pool_frame.specs.Left.{IsOver};
 use frame_writer::Flow;
 use plp_config::Plan;
 use pool_frame::{PoolFrame, PoolPlace, PoolWalk, WalkedPlace};
-use std::mem;
 use ts_packet::SIZE;
 
 /// Makes one T2-MI stream of frames: begin a frame, take the units, each with the same frame; behind the last frame finish, and take
@@ -32,15 +31,15 @@ fn pid_of(plan: &Plan) -> u16
 }
 
 impl<'p> Merger<'p> {
-    ghost use Rattle.std.specs.Prelude.{◌≡◌, ◌<◌, ◌≤◌, ◌+◌, ◌*◌, ◌++◌, ℕ, List, [], true, false, length, Some, slice_get};
+    ghost use Rattle.std.specs.Prelude.{◌≡◌, ◌<◌, ◌≤◌, ◌+◌, ◌*◌, ◌++◌, ℕ, List, [], true, false, length, take, Some, slice_get};
     ghost use Rattle.t2mi_packet.specs.declared.packet.Body.{Body};
-    ghost use Rattle.t2mi_stream.specs.Complete.{complete_units};
     ghost use Rattle.t2mi_stream.specs.Pipe.{pipe};
+    ghost use Rattle.ts_packet.specs.declared.sizes.TheConstants.{SIZE};
     ghost use Rattle.frame_writer.specs.Carried.{of_frame};
     ghost use Rattle.frame_writer.specs.Flowing.{packet_bound};
     ghost use Rattle.frame_writer.specs.FramePackets.{packets_from};
     ghost use Rattle.pool_frame.specs.Left.{CanBeSent, bodies_of};
-    ghost use Rattle.feed_merge.specs.StandsFor.{MergerStandsFor, config_of, frame_of, left_in, has_unit, has_finished, is_fed, bytes_left};
+    ghost use Rattle.feed_merge.specs.StandsFor.{MergerStandsFor, GivesUnits, config_of, frame_of, left_in, has_unit, has_finished, is_fed, bytes_left};
 
     /// A merger to which no frame was given, for a plan. It takes no memory.
     pub fn new(plan: &'p Plan) -> Merger<'p>
@@ -77,58 +76,25 @@ impl<'p> Merger<'p> {
         self.place = place;
     }
 
-    /// Gives the next unit of the frames begun, if it is complete, and behind the last one also the rest. The frame is the last one
-    /// that was begun. Else nothing changes.
-    pub fn next_ts<'g>(
-        &mut self,
-        frame: &PoolFrame<'g>,
-        walk: &mut PoolWalk<'g>,
-        out: &mut [u8; SIZE],
-    ) -> bool
-        // The walk is over the pool of the frame.
-        requires walk { walk.old ≡ frame.now.blocks.now }
+    /// Gives units of the frames begun, to the front of these bytes, as long as one is complete and there is room: how many bytes, and
+    /// whether it was the room that ended. The frame is the last one that was begun.
+    pub fn give(&mut self, frame: &PoolFrame<'_>, out: &mut [u8]) -> (usize, bool)
         requires can { CanBeSent (config_of self.old) frame.now }
-        // Each unit is the next one of all, whatever frames follow; after the end none follows.
-        ensures unit { result ≡ true → (all : List (ℕ × Body)) (given : ℕ)
-            → MergerStandsFor self.old (left_in self.old frame.now) all given
-            → (more : List (List ℕ)) → (has_finished self.old ≡ true → more ≡ [])
-            → slice_get (pipe (config_of self.old).pid (packets_from (config_of self.old) 0 all ++ more)) given ≡ Some out.new }
-        ensures stands { result ≡ true → (all : List (ℕ × Body)) (given : ℕ)
-            → MergerStandsFor self.old (left_in self.old frame.now) all given
-            → MergerStandsFor self.new (left_in self.new frame.now) all (given + 1) }
-        ensures kept { result ≡ false → (left : List Body) (all : List (ℕ × Body)) (given : ℕ)
-            → MergerStandsFor self.old left all given → MergerStandsFor self.new left all given }
-        ensures left { result ≡ false → left_in self.new frame.now ≡ left_in self.old frame.now }
-        ensures idle { result ≡ false → has_unit self.new ≡ false }
-        // None is complete only if all packets of the frame were built.
-        ensures spent { result ≡ false → left_in self.old frame.now ≡ [] }
-        ensures stays { result ≡ false → out.new ≡ out.old }
-        // Before the end a unit of the frames begun is given as soon as it is complete, and no other.
-        ensures complete { result ≡ true → has_finished self.old ≡ false → (all : List (ℕ × Body)) (given : ℕ)
-            → MergerStandsFor self.old (left_in self.old frame.now) all given
-            → given < length (complete_units (config_of self.old).pid (packets_from (config_of self.old) 0 all)) }
-        ensures caught_up { result ≡ false → has_finished self.old ≡ false → (all : List (ℕ × Body)) (given : ℕ)
-            → MergerStandsFor self.old (left_in self.old frame.now) all given
-            → given ≡ length (complete_units (config_of self.old).pid (packets_from (config_of self.old) 0 all)) }
-        ensures is { result ≡ has_unit self.old }
-        // So a loop that takes units ends.
-        ensures less { result ≡ true → bytes_left self.new (left_in self.new frame.now)
-            < bytes_left self.old (left_in self.old frame.now) }
-        // Behind the last unit nothing of the frame is left.
-        ensures over { is_fed self.new ≡ true → left_in self.new frame.now ≡ [] }
-        ensures config { config_of self.new ≡ config_of self.old }
+        requires room { SIZE ≤ length out.old }
+        ensures gives { GivesUnits self.old self.new frame.now result.1 (take result.0 out.new) }
+        ensures count { result.0 ≤ length out.old }
+        // The room ended only if none is left for a unit.
+        ensures full { result.1 ≡ true → length out.old < result.0 + SIZE }
+        ensures size { length out.new ≡ length out.old }
         ensures frame { frame_of self.new ≡ frame_of self.old }
-        ensures finished { has_finished self.new ≡ has_finished self.old }
-        ensures walk { walk.new ≡ walk.old }
     {
         let mut source = WalkedPlace {
             place: self.place,
-            walk: mem::replace(walk, PoolWalk::new(frame.blocks)),
+            walk: PoolWalk::new(frame.blocks),
         };
-        let given = self.flow.next(frame, self.plan, &mut source, out);
+        let (len, full) = self.flow.give(frame, self.plan, &mut source, out);
         self.place = source.place;
-        *walk = source.walk;
-        given
+        (len, full)
     }
 
     /// No more frames come: the last one, if there was one, was given out.

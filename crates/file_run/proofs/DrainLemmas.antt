@@ -1,46 +1,55 @@
--- Writing what a machine gives, step by step.
+-- Putting out what a machine gives, step by step.
 use Rattle.std.proofs.Common.{◌≡◌, ◌≢◌, ℕ, List, [], ◌∷◌, ◌++◌, ap, sym, subst, ◌∙◌, inl, inr, append_assoc, append-nil, length}
 use Rattle.std.proofs.Common.{length-append, arith}
 use Rattle.std.specs.Prelude.{◌⊎◌}
 use Rattle.std.proofs.lemmas.List.{nil_from_length}
 use Rattle.ports.specs.Desk.{State}
 use Rattle.desk_io.specs.Laws.{AppendsNone, AppendsThen}
-use Rattle.desk_io.specs.Writing.{Appends, AppendsFront}
 use Rattle.file_run.specs.Events.{Event, Gave}
-use Rattle.file_run.specs.Running.{Drains, DrainsPart, DrainsFront, Gathers, AppendsSome}
+use Rattle.file_run.specs.Running.{Drains, DrainsFront, Gathers, PutsSome}
+use Rattle.file_run.specs.Sink.{Puts, PutsFront}
+use Rattle.file_run.specs.Steps.{HasCome}
 use Rattle.file_run.specs.declared.machine.Step.{Step}
 use Rattle.file_run.specs.declared.machine.Step.TheVariants.{Give}
+use Rattle.file_run.specs.declared.output.OpenOutput.{OpenOutput}
 use Rattle.file_run.proofs.EventLemmas.{only_none, only_more, gave_piece}
+use Rattle.file_run.proofs.SinkLemmas.{puts_none, puts_then}
 
-pub drained_none : AppendsNone → {A : Type 0} (Becomes : A → List Event → A → Type 0) (m : A) (s : State) (out : ℕ)
-    (waiting : List ℕ) → waiting ≡ [] → DrainsPart Becomes m m s s out waiting
-drained_none law {A = A} Becomes m s out waiting none = record {
+pub drained_none : AppendsNone → {A : Type 0} (Becomes : A → List Event → A → Type 0) (out : OpenOutput) (m : A) (s : State)
+    (waiting : List ℕ) → waiting ≡ [] → Drains Becomes out m m s s waiting
+drained_none law {A = A} Becomes out m s waiting none = record {
   late = [];
   only = only_none;
   becomes = λ start events h. subst (λ (l : List Event). Becomes start l m) (sym (append-nil events)) h;
   front = [];
   parts = sym none;
-  wrote = law s out;
+  puts = puts_none law out s;
 }
 
--- A front of what waits was written.
-pub drained_some : AppendsThen → {A : Type 0} (Becomes : A → List Event → A → Type 0) (old new : A) (was now is : State) (out : ℕ)
-    (waiting left : List ℕ) → DrainsPart Becomes old new was now out waiting
-    → AppendsSome now is out waiting left → DrainsPart Becomes old new was is out left
-drained_some law Becomes old new was now is out waiting left d p = record {
+-- The machine has come further.
+pub came_on : {A : Type 0} (Becomes : A → List Event → A → Type 0) (out : OpenOutput) (old new : A) (was is : State)
+    (waiting : List ℕ) → HasCome Becomes old → Drains Becomes out old new was is waiting → HasCome Becomes new
+came_on Becomes out old new was is waiting c d =
+    record { start = c.start; events = c.events ++ d.late; came = d.becomes c.start c.events c.came }
+
+-- A front of what waits went out.
+pub drained_some : AppendsThen → {A : Type 0} (Becomes : A → List Event → A → Type 0) (out : OpenOutput) (old new : A)
+    (was now is : State) (waiting left : List ℕ) → Drains Becomes out old new was now waiting
+    → PutsSome out now is waiting left → Drains Becomes out old new was is left
+drained_some law Becomes out old new was now is waiting left d p = record {
   late = d.late;
   only = d.only;
   becomes = d.becomes;
   front = d.front ++ p.front;
   parts = d.parts ∙ ap (λ (l : List ℕ). d.front ++ l) p.parts ∙ sym (append_assoc d.front p.front left);
-  wrote = law was now is out d.front p.front d.wrote p.appends;
+  puts = puts_then law out was now is d.front p.front d.puts p.puts;
 }
 
 -- A machine gave a piece.
-pub drained_more : {A : Type 0} (Becomes : A → List Event → A → Type 0) (old mid new : A) (was is : State) (out : ℕ)
-    (waiting left : List ℕ) → DrainsPart Becomes old mid was is out waiting → Gathers Becomes mid new waiting left
-    → DrainsPart Becomes old new was is out left
-drained_more Becomes old mid new was is out waiting left d g = record {
+pub drained_more : {A : Type 0} (Becomes : A → List Event → A → Type 0) (out : OpenOutput) (old mid new : A) (was is : State)
+    (waiting left : List ℕ) → Drains Becomes out old mid was is waiting → Gathers Becomes mid new waiting left
+    → Drains Becomes out old new was is left
+drained_more Becomes out old mid new was is waiting left d g = record {
   late = d.late ++ Gave g.piece ∷ [];
   only = only_more d.late g.piece d.only;
   becomes = λ start events h. subst (λ (l : List Event). Becomes start l new) (append_assoc events d.late (Gave g.piece ∷ []))
@@ -48,34 +57,26 @@ drained_more Becomes old mid new was is out waiting left d g = record {
   front = d.front;
   parts = (gave_piece g.piece d.late).gave ∙ ap (λ (l : List ℕ). l ++ g.piece) d.parts ∙ append_assoc d.front waiting g.piece
       ∙ ap (λ (l : List ℕ). d.front ++ l) (sym g.behind);
-  wrote = d.wrote;
+  puts = d.puts;
 }
 
-pub drained_all : AppendsThen → {A : Type 0} (Becomes : A → List Event → A → Type 0) (old new : A) (was now is : State) (out : ℕ)
-    (waiting : List ℕ) → DrainsPart Becomes old new was now out waiting
-    → Appends now is out waiting → Drains Becomes old new was is out
-drained_all law Becomes old new was now is out waiting d a = record {
-  late = d.late;
-  only = d.only;
-  becomes = d.becomes;
-  wrote = subst (λ (l : List ℕ). Appends was is out l) (sym d.parts) (law was now is out d.front waiting d.wrote a);
-}
+-- All that waits went out.
+pub drained_all : AppendsThen → {A : Type 0} (Becomes : A → List Event → A → Type 0) (out : OpenOutput) (old new : A)
+    (was now is : State) (waiting : List ℕ) → Drains Becomes out old new was now waiting → Puts out now is waiting
+    → Drains Becomes out old new was is []
+drained_all law Becomes out old new was now is waiting d p =
+    drained_some law Becomes out old new was now is waiting [] d
+    (record { front = waiting; parts = sym (append-nil waiting); puts = p })
 
--- what waits was not all written
-pub drained_short : AppendsThen → {A : Type 0} (Becomes : A → List Event → A → Type 0) (old new : A) (was now is : State)
-    (out : ℕ) (waiting : List ℕ) → DrainsPart Becomes old new was now out waiting
-    → AppendsFront now is out waiting → DrainsFront Becomes old new was is out
-drained_short law Becomes old new was now is out waiting d a = record {
-  late = d.late;
-  only = d.only;
-  becomes = d.becomes;
-  wrote = record {
-    front = d.front ++ a.front;
-    more = a.more;
-    some = a.some;
-    parts = d.parts ∙ ap (λ (l : List ℕ). d.front ++ l) a.parts ∙ sym (append_assoc d.front a.front a.more);
-    appends = law was now is out d.front a.front d.wrote a.appends;
-  };
+-- what waits did not all go out
+pub drained_short : AppendsThen → {A : Type 0} (Becomes : A → List Event → A → Type 0) (out : OpenOutput) (old new : A)
+    (was now is : State) (waiting : List ℕ) → Drains Becomes out old new was now waiting
+    → PutsFront out now is waiting → DrainsFront Becomes out old new was is
+drained_short law Becomes out old new was now is waiting d p = record {
+  more = p.more;
+  some = p.some;
+  drains = drained_some law Becomes out old new was now is waiting p.more d
+      (record { front = p.front; parts = p.parts; puts = p.puts });
 }
 
 -- A machine that is not as it was gave first.

@@ -9,18 +9,14 @@ use Rattle.ports.specs.Desk.{State, Held, SameCounts}
 use Rattle.desk_io.specs.Reading.{longest_file}
 use Rattle.desk_io.specs.Saying.{Grows}
 use Rattle.desk_io.proofs.SayLemmas.{grows_none, grows_same}
-use Rattle.file_run.specs.FileRun.{file_at, OtherFiles, SameFiles, OpensInputs}
-use Rattle.file_run.specs.Work.{Work, Sink, Into, Aloud, Passes, FailsToBegin, Ends}
+use Rattle.file_run.specs.FileRun.{file_at, OtherFiles, SameFiles, OpensInputs, Passes, FailsToBegin}
+use Rattle.file_run.specs.Sink.{Sink, Into, Aloud, creates}
+use Rattle.file_run.specs.Work.{Work, Ends}
 use Rattle.file_run.specs.declared.stop.RunFault.TheVariants.{TooLong, ReadFault, WriteFault}
 use Rattle.file_run.specs.declared.stop.RunStop.{RunStop}
 use Rattle.file_run.specs.declared.stop.RunStop.TheVariants.{Refused, Files, OutOfMemory}
 
 -- ---- what it leaves alone
-
--- how many files a run creates at most
-abbrev pub creates : Sink → ℕ
-creates (Into out) = 1
-creates Aloud = 0
 
 -- No file has changed but the one that is written, which is created once at most; no more files were opened than are read; and what
 -- was said before stands.

@@ -18,7 +18,8 @@ use Rattle.file_run.specs.Steps.{Needs, FallsShort}
 use Rattle.file_run.specs.declared.machine.Step.{Step}
 use Rattle.file_run.specs.declared.machine.Step.TheVariants.{Read}
 use Rattle.file_run.proofs.EventLemmas.{fed_more, ended_more}
-use Rattle.file_run.proofs.OpenLemmas.{of_some, reads_fail}
+use Rattle.file_run.proofs.OpenLemmas.{reads_fail}
+use Rattle.file_run.proofs.SinkLemmas.{of_some}
 use Rattle.file_run.proofs.RunLemmas.{each_reader, read_same, read_on, other_left, other_end, stands_by, reading_same, place_at, all_short}
 
 -- what one event tells of its input, of another one, and of the output
@@ -98,16 +99,16 @@ ended_here (Gave bytes) input count o n was is events t m h = absurd t
 
 -- A machine was fed.
 pub runs_fed : {A : Type 0} (Becomes : A → List Event → A → Type 0) (m n : A) (b : Start) (old new : State)
-    (readings : List Reading) (input : ℕ) (is : Reading) (out : ℕ) (reach later : ℕ → ℕ) (events : List Event)
-    → input < length readings → Runs b old readings out reach events → ReadsOn old new (reading_at readings input) is
+    (readings : List Reading) (input : ℕ) (is : Reading) (reach later : ℕ → ℕ) (events : List Event)
+    → input < length readings → Runs b old readings reach events → ReadsOn old new (reading_at readings input) is
     → SameCounts old new → given_of is < longest_file → given_of is ≤ later input
     → ((other : ℕ) → reach other ≤ later other) → (f : Feeds Becomes m n old new (reading_at readings input) is input)
-    → Runs b new (slice_set readings input is) out later (events ++ f.event ∷ [])
-runs_fed Becomes m n b old new readings input is out reach later events lt r on calm small near rises f = record {
+    → Runs b new (slice_set readings input is) later (events ++ f.event ∷ [])
+runs_fed Becomes m n b old new readings input is reach later events lt r on calm small near rises f = record {
   apart = r.apart;
-  reached = subst (λ (l : List ℕ). Reached b new (slice_set readings input is) out l)
+  reached = subst (λ (l : List ℕ). Reached b new (slice_set readings input is) l)
       (sym (gives_none f.event input f.count _ _ events f.is_taken))
-      (read_on b old new readings input is out (gave events) lt r.reached on);
+      (read_on b old new readings input is (gave events) lt r.reached on);
   counts = calm ∙ r.counts;
   short = each_reader (λ k x. given_of x < longest_file) readings input is lt small (λ other inside differ. r.short other inside);
   taken = each_reader (λ k x. x.taken ≡ length (fed k (events ++ f.event ∷ []))) readings input is lt
@@ -121,7 +122,7 @@ runs_fed Becomes m n b old new readings input is out reach later events lt r on 
       (λ other inside differ. let w = r.within other inside in let u = rises other in omega (arith, w, u));
   whole = each_reader (λ k x. IsWhole x) readings input is lt f.whole (λ other inside differ. r.whole other inside);
   goes_on = each_reader (λ k x. GoesOn new x) readings input is lt f.goes_on
-      (λ other inside differ off. other_end b old new readings input other is out (gave events) lt inside differ r.reached on
+      (λ other inside differ off. other_end b old new readings input other is (gave events) lt inside differ r.reached on
       ∙ r.goes_on other inside off);
   relates = λ h told.
       let rel = r.relates h told in
@@ -135,7 +136,7 @@ runs_fed Becomes m n b old new readings input is out reach later events lt r on 
             (rel.reads input (omega (arith, lt, all))))
             (λ k there differ. read_same _ _ _ _ _ _ _
             (ap (option_map (λ l. (reading_at readings k).waiting ++ l))
-            (other_left b old new readings input k is out (gave events) lt there differ r.reached on))
+            (other_left b old new readings input k is (gave events) lt there differ r.reached on))
             (fed_other f.event input k f.count _ _ events differ f.is_taken)
             (ended_other f.event input k f.count _ _ events differ f.is_taken) (rel.reads k (omega (arith, there, all))))
             other (let e = length-set readings input is in omega (arith, e, all, inside));
@@ -144,14 +145,14 @@ runs_fed Becomes m n b old new readings input is out reach later events lt r on 
 
 -- An input was not read on.
 stands_unfed : {A : Type 0} (Becomes : List Event → A → Type 0) (m : A) (reach : A → ℕ → ℕ) (b : Start) (old new : State)
-    (readings : List Reading) (input : ℕ) (is : Reading) (out : ℕ) (events : List Event)
-    → input < length readings → Runs b old readings out (reach m) events → Becomes events m
+    (readings : List Reading) (input : ℕ) (is : Reading) (events : List Event)
+    → input < length readings → Runs b old readings (reach m) events → Becomes events m
     → ReadsOn old new (reading_at readings input) is → TakesNone old new (reading_at readings input) is
     → (reading_at readings input).ended ≡ false → given_of is ≤ longest_file → given_of is ≤ reach m input
-    → Stands b.desk new b.out b.ins (reach m) (λ events. Becomes events m) HoldsAll
-stands_unfed Becomes m reach b old new readings input is out events lt r came on none off small near =
-    stands_by b new (slice_set readings input is) out (gave events) (reach m) events (λ events. Becomes events m) HoldsAll
-    (read_on b old new readings input is out (gave events) lt r.reached on) refl came
+    → Stands b.desk new b.sink b.ins (reach m) (λ events. Becomes events m) HoldsAll
+stands_unfed Becomes m reach b old new readings input is events lt r came on none off small near =
+    stands_by b new (slice_set readings input is) (gave events) (reach m) events (λ events. Becomes events m) HoldsAll
+    (read_on b old new readings input is (gave events) lt r.reached on) refl came
     (each_reader (λ k x. given_of x ≤ longest_file) readings input is lt small
     (λ other inside differ. let s = r.short other inside in omega (arith, s)))
     (each_reader (λ k x. x.taken ≡ length (fed k events)) readings input is lt (none.taken ∙ r.taken input lt)
@@ -171,7 +172,7 @@ stands_unfed Becomes m reach b old new readings input is out events lt r came on
           (read_same _ _ _ _ _ _ _ none.rest refl refl (rel.reads input (omega (arith, lt, all))))
           (λ k there differ. read_same _ _ _ _ _ _ _
           (ap (option_map (λ l. (reading_at readings k).waiting ++ l))
-          (other_left b old new readings input k is out (gave events) lt there differ r.reached on)) refl refl
+          (other_left b old new readings input k is (gave events) lt there differ r.reached on)) refl refl
           (rel.reads k (omega (arith, there, all))))
           other (let e = length-set readings input is in omega (arith, e, all, inside));
     })
@@ -186,16 +187,16 @@ untaken readings input fed is lt t =
     omega (arith, p, t)
 
 pub stops_unfed : {A : Type 0} (Becomes : List Event → A → Type 0) (m : A) (reach : A → ℕ → ℕ) (next : A → Step) (b : Start)
-    (old new : State) (readings : List Reading) (input least most : ℕ) (is : Reading) (out : ℕ) (events : List Event)
+    (old new : State) (readings : List Reading) (input least most : ℕ) (is : Reading) (events : List Event)
     (why : ReadStop)
-    → input < length readings → next m ≡ Read input least most → Runs b old readings out (reach m) events → Becomes events m
+    → input < length readings → next m ≡ Read input least most → Runs b old readings (reach m) events → Becomes events m
     → ReadsOn old new (reading_at readings input) is → TakesNone old new (reading_at readings input) is
-    → (reading_at readings input).ended ≡ false → given_of is ≤ reach m input → StopsReading old new is least why → Stops b.desk new b.out b.ins reach next Becomes m
+    → (reading_at readings input).ended ≡ false → given_of is ≤ reach m input → StopsReading old new is least why → Stops b.desk new b.sink b.ins reach next Becomes m
     (read_fault input why)
 unfolding stands_by stands_unfed
-stops_unfed Becomes m reach next b old new readings input least most is out events stop.TooLong lt wants r came on none off near s =
+stops_unfed Becomes m reach next b old new readings input least most is events stop.TooLong lt wants r came on none off near s =
     record {
-      stands = stands_unfed Becomes m reach b old new readings input is out events lt r came on none off (let e = s.0 in
+      stands = stands_unfed Becomes m reach b old new readings input is events lt r came on none off (let e = s.0 in
           omega (arith, e)) near;
       place = let all = r.reached.all in omega (arith, lt, all);
       wants = subst
@@ -209,10 +210,10 @@ stops_unfed Becomes m reach next b old new readings input least most is out even
           ∙ ap given_of (reading_same readings input is lt) ∙ s.0;
       counts = s.2 ∙ r.counts;
     }
-stops_unfed Becomes m reach next b old new readings input least most is out events stop.Fault lt wants r came on none off near s = (
+stops_unfed Becomes m reach next b old new readings input least most is events stop.Fault lt wants r came on none off near s = (
   reads_fail b.desk old new r.counts s.2,
   inr (record {
-    stands = stands_unfed Becomes m reach b old new readings input is out events lt r came on none off (let e = s.0 in
+    stands = stands_unfed Becomes m reach b old new readings input is events lt r came on none off (let e = s.0 in
         omega (arith, e)) near;
     place = let all = r.reached.all in omega (arith, lt, all);
     wants = subst

@@ -6,6 +6,7 @@ pub mod FedLemmas
 pub mod OpenLemmas
 pub mod RunLemmas
 pub mod RunningLemmas
+pub mod SinkLemmas
 pub mod StandsLemmas
 pub mod TellLemmas
 pub mod ToldLemmas

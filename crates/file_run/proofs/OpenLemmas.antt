@@ -1,7 +1,7 @@
--- Opening the inputs of a run and creating its output.
-use Rattle.std.proofs.Common.{◌≡◌, ◌≢◌, ℕ, zero, suc, ◌+◌, ◌<◌, ◌≤◌, Bool, true, false, List, [], ◌∷◌, ◌++◌, length, take, Option, Some, None}
+-- Opening the inputs of a run and beginning its output.
+use Rattle.std.proofs.Common.{◌≡◌, ℕ, zero, suc, ◌+◌, ◌<◌, ◌≤◌, Bool, true, false, List, [], ◌∷◌, ◌++◌, length, take, Option, Some, None}
 use Rattle.std.proofs.Common.{refl, ap, sym, subst, ◌∙◌, inl, inr, arith, append_assoc, append-nil, length-append}
-use Rattle.std.specs.Prelude.{IfSome, IsSome, slice_index_or, slice_set, option_map, option_and_then}
+use Rattle.std.specs.Prelude.{IsSome, slice_index_or, slice_set, option_map, option_and_then}
 use Rattle.std.specs.FinMap.{get}
 use Rattle.std.proofs.lemmas.Bool.{cases_eq}
 use Rattle.std.proofs.lemmas.List.{length-map, length-take-le, get_or-take, get_or-map, map-append, length_push, get_or_push}
@@ -10,26 +10,19 @@ use Rattle.terms.proofs.OptionLemmas.{was_some}
 use Rattle.ports.specs.declared.counts.Counts.{Counts}
 use Rattle.ports.specs.declared.fault.FaultKind.TheVariants as kind
 use Rattle.ports.specs.Counts.{Rose, first_of}
-use Rattle.ports.specs.Desk.{State, Held, Files, SameCounts, Keeps, Opens, Creates, FailsToCreate, with_name, with_empty, left_of}
-use Rattle.ports.specs.Desk.{out_name, bytes_of, SameButFor, has_run_out}
+use Rattle.ports.specs.Desk.{State, Held, Files, SameCounts, Keeps, Opens, FailsToCreate, with_name, left_of}
+use Rattle.ports.specs.Desk.{bytes_of, SameButFor, has_run_out}
 use Rattle.desk_io.specs.Faults.{ReadsFail, WritesFail}
 use Rattle.desk_io.specs.Laws.{CreatesEmpty}
 use Rattle.desk_io.specs.Reading.{Reading, given_of, rest_of}
-use Rattle.file_run.specs.FileRun.{AreApart, file_at, AreStarts, AreNamed, OpensInputs, FailsToCreateOutput, SameFiles}
+use Rattle.file_run.specs.FileRun.{file_at, AreStarts, AreNamed, OpensInputs, FailsToCreateOutput, SameFiles}
 use Rattle.file_run.specs.FileRun.{OtherFiles}
-use Rattle.file_run.specs.Running.{Start, reading_from, no_reading, reading_at, places_of, HoldsOut, Reached, IsRead, Runs}
-use Rattle.file_run.specs.Running.{HoldsIns, AreOpened}
-
--- options
-pub some_is : {A : Type 0} (o : Option A) (P : A → Type 0) → ((x : A) → o ≡ Some x → P x) → IfSome o P
-some_is None P f = tt
-some_is (Some x) P f = f x refl
-
-pub of_some : {A : Type 0} (o : Option A) (x : A) (P : A → Type 0) → o ≡ Some x → IfSome o P → P x
-of_some {A = A} o x P e h = subst (λ (p : Option A). IfSome p P) e h
-
-pub some_at : {A : Type 0} (o : Option A) (x : A) (P : A → Type 0) → o ≡ Some x → P x → IfSome o P
-some_at {A = A} o x P e h = subst (λ (p : Option A). IfSome p P) (sym e) h
+use Rattle.file_run.specs.Running.{Start, reading_from, no_reading, reading_at, places_of, HasOut, HoldsOut, Reached, IsRead}
+use Rattle.file_run.specs.Running.{Runs}
+use Rattle.file_run.specs.Running.{HoldsIns, AreOpened, IsBegun}
+use Rattle.file_run.specs.Sink.{AreOthers, Begins, creates}
+use Rattle.file_run.specs.declared.output.OpenOutput.{OpenOutput}
+use Rattle.file_run.proofs.SinkLemmas.{some_is, of_some, begins_at, holds_first, left_first, said_none}
 
 -- counts that only rose since then
 pub reads_fail : (a b c : State) → SameCounts a b → ReadsFail b c → ReadsFail a c
@@ -235,50 +228,45 @@ creating_failed old mid new out ins readings f fault a = (
   },
 )
 
--- The output was created.
-created_out : CreatesEmpty → (b : Start) (mid new : State) (h : Held) (out : ℕ) → Creates mid new b.out out
-    → HoldsIns b.desk mid h b.ins → HoldsOut b h new out []
-created_out law b mid new h out c t =
-    let k = law mid new b.out out t.is c t.held in
+-- The output was begun.
+held_first : CreatesEmpty → (b : Start) (mid new : State) (h : Held) (out : OpenOutput) → mid.created ≡ b.desk.created
+    → Begins b.sink mid new out → HoldsIns b.desk mid h b.ins → HoldsOut b h new []
+held_first law b mid new h out same c t =
+    let k = holds_first law b.sink h t.is mid new out t.held t.files c in
     record {
-      is = k.0;
-      held = k.1;
-      others = λ name differ. k.2.others name differ ∙ ap (λ (f : Files). get f name) t.files;
-      names = λ input lt. ap (λ (l : List (List ℕ)). slice_index_or l (length b.desk.opened + input) []) k.2.names
-          ∙ t.names input lt;
-      named = of_some new.held k.0 (λ h. out_name h out ≡ b.out) k.1 c.named;
-      there = k.2.there;
+      is = k.is;
+      held = k.held;
+      names = λ input lt. ap (λ (l : List (List ℕ)). slice_index_or l (length b.desk.opened + input) []) k.names ∙ t.names input lt;
+      has = subst (λ (n : ℕ). HasOut b.sink n h k.is []) same k.has;
     }
 
-begins : CreatesEmpty → (b : Start) (mid new : State) (readings : List Reading) (out : ℕ) → Creates mid new b.out out
-    → AreOpened b.desk mid b.ins readings → Reached b new readings out []
-begins law b mid new readings out c a = record {
-  opened = c.opened ∙ a.opened;
-  all = a.all;
-  handles = λ input lt. ap (λ (r : Reading). r.handle) (a.begin input lt);
-  created = c.created ∙ ap (λ (n : ℕ). n + 1) a.created;
-  out_is = c.number ∙ a.created;
-  said = c.said ∙ a.said;
-  untold = λ untold. c.held ∙ ap (option_map (with_empty b.out)) (a.untold untold);
-  tells = λ h held. created_out law b mid new h out c (a.tells h held);
-}
+begins : CreatesEmpty → (b : Start) (mid new : State) (readings : List Reading) (out : OpenOutput) → Begins b.sink mid new out
+    → AreOpened b.desk mid b.ins readings → Reached b new readings []
+begins law b mid new readings out c a =
+    let k = begins_at b.sink mid new out c in
+    record {
+      opened = k.opened ∙ a.opened;
+      all = a.all;
+      handles = λ input lt. ap (λ (r : Reading). r.handle) (a.begin input lt);
+      created = k.created ∙ ap (λ (n : ℕ). n + creates b.sink) a.created;
+      said = said_none b.sink b.desk.said new.said (k.said ∙ a.said);
+      untold = λ untold. k.untold (a.untold untold);
+      tells = λ h held. held_first law b mid new h out a.created c (a.tells h held);
+    }
 
 -- each file is whole before it is read
-first_read : (b : Start) (mid new : State) (h : Held) (readings : List Reading) (out input : ℕ) → AreApart b.out b.ins
-    → Creates mid new b.out out → AreOpened b.desk mid b.ins readings → b.desk.held ≡ Some h → input < length b.ins
-    → IsRead (file_at h b.ins input) (rest_of new (reading_at readings input)) [] false
+first_read : (b : Start) (mid new : State) (h : Held) (readings : List Reading) (out : OpenOutput) (input : ℕ)
+    → AreOthers b.sink b.ins → Begins b.sink mid new out → AreOpened b.desk mid b.ins readings → b.desk.held ≡ Some h
+    → input < length b.ins → IsRead (file_at h b.ins input) (rest_of new (reading_at readings input)) [] false
 first_read b mid new h readings out input apart c a held lt =
     let t = a.tells h held in
     let all = a.all in
-    let inside : input < length readings = omega (arith, lt, all) in
-    let begin = a.begin input inside in
+    let begin = a.begin input (omega (arith, lt, all)) in
     let handle : (reading_at readings input).handle ≡ length b.desk.opened + input = ap (λ (r : Reading). r.handle) begin in
     let name : slice_index_or t.is.names (reading_at readings input).handle [] ≡ slice_index_or b.ins input [] =
     ap (λ (k : ℕ). slice_index_or t.is.names k []) handle ∙ t.names input lt in
-    let differ : slice_index_or t.is.names (reading_at readings input).handle [] ≢ b.out = λ e. apart input lt (sym name ∙ e) in
     let left : left_of new (reading_at readings input).handle ≡ Some (file_at h b.ins input) =
-    c.others (reading_at readings input).handle
-    (some_at mid.held t.is (λ h. slice_index_or h.names (reading_at readings input).handle [] ≢ b.out) t.held differ)
+    left_first b.sink t.is mid new out _ (reading_at readings input).handle t.held name (apart input lt) c
     ∙ ap (left_of mid) handle ∙ t.left input lt in
     record {
       left = file_at h b.ins input;
@@ -289,23 +277,23 @@ first_read b mid new h readings out input apart c a held lt =
     }
 
 -- A run begins.
-pub runs_first : CreatesEmpty → (b : Start) (mid new : State) (readings : List Reading) (out : ℕ) (reach : ℕ → ℕ)
-    → AreApart b.out b.ins → AreOpened b.desk mid b.ins readings → Creates mid new b.out out → SameCounts mid new
-    → Runs b new readings out reach []
-runs_first law b mid new readings out reach apart a c calm = record {
+pub runs_first : CreatesEmpty → (b : Start) (mid new : State) (readings : List Reading) (out : OpenOutput) (reach : ℕ → ℕ)
+    → AreOthers b.sink b.ins → AreOpened b.desk mid b.ins readings → IsBegun mid new b.sink out → Runs b new readings reach []
+runs_first law b mid new readings out reach apart a c = record {
   apart = apart;
-  reached = begins law b mid new readings out c a;
-  counts = calm ∙ a.counts;
+  reached = begins law b mid new readings out c.begins a;
+  counts = c.counts ∙ a.counts;
   short = λ input lt. let n = ap given_of (a.begin input lt) in omega (arith, n);
   taken = λ input lt. ap (λ (r : Reading). r.taken) (a.begin input lt);
   ended = λ input lt. ap (λ (r : Reading). r.ended) (a.begin input lt);
   within = λ input lt. let n = ap given_of (a.begin input lt) in omega (arith, n);
   whole = λ input lt on. ap (λ (r : Reading). r.waiting) (a.begin input lt);
   goes_on = λ input lt going. ap (λ (r : Reading). has_run_out new r.handle) (a.begin input lt)
-      ∙ ap (λ (l : List Bool). slice_index_or l (length b.desk.opened + input) false) c.ended ∙ a.fresh input lt;
+      ∙ ap (λ (l : List Bool). slice_index_or l (length b.desk.opened + input) false) (begins_at b.sink mid new out c.begins).ended
+      ∙ a.fresh input lt;
   relates = λ h held. record {
     present = (a.tells h held).present;
-    reads = λ input lt. first_read b mid new h readings out input apart c a held lt;
+    reads = λ input lt. first_read b mid new h readings out input apart c.begins a held lt;
   };
 }
 

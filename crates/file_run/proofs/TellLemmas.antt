@@ -21,7 +21,7 @@ use Rattle.std.proofs.lemmas.List.{length_push}
 use Rattle.file_run.specs.TellingOn.{Telling, GivesWay}
 use Rattle.file_run.proofs.EventLemmas.{gave_piece}
 use Rattle.file_run.proofs.FedLemmas.{read_here, fed_here, ended_here, gives_none}
-use Rattle.file_run.proofs.OpenLemmas.{some_is, of_some}
+use Rattle.file_run.proofs.SinkLemmas.{some_is, of_some}
 use Rattle.file_run.proofs.RunLemmas.{read_same, moved, is_fed}
 
 -- where a reader comes to

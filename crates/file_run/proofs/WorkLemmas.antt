@@ -9,9 +9,10 @@ use Rattle.terms.proofs.OptionLemmas.{if_both}
 use Rattle.ports.specs.Desk.{State, Held}
 use Rattle.desk_io.specs.Reading.{longest_file}
 use Rattle.file_run.specs.Events.{Event, fed, has_ended, gave}
-use Rattle.file_run.specs.FileRun.{file_at, AreFed, AreTaken, Works, Stands, AllShort, Stops}
+use Rattle.file_run.specs.FileRun.{file_at, AreFed, AreTaken, Works, Passes, Stands, AllShort, Stops}
 use Rattle.file_run.specs.OneRun.{ComesToEnd, RunsOnce}
-use Rattle.file_run.specs.Work.{Work, AreWhole, Sink, Into, Passes, Does, Ends, IsRightAtEnd, DoesWork}
+use Rattle.file_run.specs.Sink.{Sink, Into}
+use Rattle.file_run.specs.Work.{Work, AreWhole, Does, Ends, IsRightAtEnd, DoesWork}
 use Rattle.file_run.specs.declared.machine.Step.{Step}
 use Rattle.file_run.specs.declared.stop.RunFault.{RunFault}
 use Rattle.file_run.specs.declared.stop.RunFault.TheVariants.{TooLong, ReadFault, WriteFault}
@@ -57,21 +58,7 @@ are_whole inputs files places events all are ended input lt =
 
 -- ---- where a run stands, by files
 
--- The output is these bytes.
-has_bytes : {old new : State} {out : List ℕ} {ins : List (List ℕ)} {places : List ℕ} (P : List ℕ → Type 0) (bytes : List ℕ)
-    → ((is : List ℕ) → P is → is ≡ bytes) → Works old new out ins places (λ h is. P is)
-    → Works old new out ins places (λ h is. is ≡ bytes)
-has_bytes {old = old} {new = new} {out = out} P bytes f w = record {
-  opened = w.opened;
-  all = w.all;
-  names = w.names;
-  files = w.files;
-  created = w.created;
-  said = w.said;
-  holds = IfSome_then old.held w.holds (λ h k. (k.0, k.1, (k.2.0, k.2.1, f k.2.0 k.2.2)));
-}
-
-pub does_of : {old new : State} {ins : List (List ℕ)} (sink : Sink) (work : (ℕ → List ℕ) → List ℕ → List ℕ → Type 0)
+does_of : {old new : State} {ins : List (List ℕ)} (sink : Sink) (work : (ℕ → List ℕ) → List ℕ → List ℕ → Type 0)
     (places : List ℕ) (events : List Event) (bytes : List ℕ) → length places ≡ length ins → Passes sink old new ins places bytes
     → AreTaken (length ins) places events
     → IfSome old.held (λ h. (input : ℕ) → input < length ins → IsSome (get h.files (slice_index_or ins input [])))
@@ -113,41 +100,41 @@ does_of {old = old} {new = new} {ins = ins} sink work places events bytes all pa
               );
         }
 
-does_by : {old new : State} {out : List ℕ} {ins : List (List ℕ)} {reach : ℕ → ℕ} {Came : List Event → Type 0}
+does_by : {old new : State} {sink : Sink} {ins : List (List ℕ)} {reach : ℕ → ℕ} {Came : List Event → Type 0}
     {Holds : List Event → List ℕ → Type 0} (work : (ℕ → List ℕ) → List ℕ → List ℕ → Type 0)
-    (s : Stands old new out ins reach Came Holds) (bytes : List ℕ) → ((is : List ℕ) → Holds s.events is → is ≡ bytes)
+    (s : Stands old new sink ins reach Came Holds) (bytes : List ℕ) → s.bytes ≡ bytes
     → ((files : ℕ → List ℕ) → length s.places ≡ length ins → AreFed (length ins) files s.places s.events
     → work files s.places bytes)
-    → Does work old new (Into out) ins
-does_by {out = out} work s bytes holds f =
-    does_of (Into out) work s.places s.events bytes s.works.all (has_bytes (λ is. _) bytes holds s.works) s.taken s.present s.inputs
-    (λ files are. f files s.works.all are)
+    → Does work old new sink ins
+does_by {old = old} {new = new} {sink = sink} {ins = ins} work s bytes same f =
+    does_of sink work s.places s.events bytes s.all (subst (Passes sink old new ins s.places) same s.passes) s.taken s.present s.inputs
+    (λ files are. f files s.all are)
 
 -- ---- how a run ends
 
-module _ {A R E : Type 0} (work : Work R E) (old new : State) (out : List ℕ)
+module _ {A R E : Type 0} (work : Work R E) (old new : State) (sink : Sink)
     (ins : List (List ℕ)) (reach : A → ℕ → ℕ) (next : A → Step) (Came : List Event → A → Type 0) (ending : A → Result R E) (now : A)
     (m : DoesWork work (length ins) reach next Came ending) where
   come_to_end : (told : Result R E) (result : Result R (RunStop E))
       → ((files : ℕ → List ℕ) (places bytes : List ℕ) → IsRightAtEnd work files places bytes told → work files result places bytes)
-      → ComesToEnd old new out ins reach next Came ending now told
-      → Does (λ files places bytes. AllShort places × work files result places bytes) old new (Into out) ins
+      → ComesToEnd old new sink ins reach next Came ending now told
+      → Does (λ files places bytes. AllShort places × work files result places bytes) old new sink ins
   come_to_end told result same e =
       let s = e.runs.stands in
-      does_by (λ files places bytes. AllShort places × work files result places bytes) s (gave s.events) (λ is h. h)
+      does_by (λ files places bytes. AllShort places × work files result places bytes) s (gave s.events) s.holds
       (λ files all are. (
         e.runs.short,
         same files s.places (gave s.events)
             (subst (IsRightAtEnd work files s.places (gave s.events)) e.told_is (m.ends files s.places s.events now all are s.within s.came e.end)),
       ))
 
-  stopped : (why : RunFault) → Stops old new out ins reach next Came now why → Ends work old new (Into out) ins (Err (Files why))
+  stopped : (why : RunFault) → Stops old new sink ins reach next Came now why → Ends work old new sink ins (Err (Files why))
   stopped (TooLong input) g =
       let s = g.stands in (
         g.counts,
         g.place,
         does_by (λ files places bytes. (slice_index places input ≡ longest_file)
-            × work files (Err (Files (TooLong input))) places bytes) s (gave s.events) (λ is h. h)
+            × work files (Err (Files (TooLong input))) places bytes) s (gave s.events) s.holds
             (λ files all are. (g.gave, m.too_long files s.places s.events now input all are s.within s.came g.place g.gave g.wants)),
       )
   stopped (ReadFault input) (counts, inl o) = (counts, inl o)
@@ -157,7 +144,7 @@ module _ {A R E : Type 0} (work : Work R E) (old new : State) (out : List ℕ)
         inr (
           g.place,
           does_by (λ files places bytes. AllShort places × work files (Err (Files (ReadFault input))) places bytes)
-              s (gave s.events) (λ is h. h)
+              s (gave s.events) s.holds
               (λ files all are. (g.short, m.unread files s.places s.events now input all are s.within s.came g.place g.wants)),
         ),
       )
@@ -166,7 +153,7 @@ module _ {A R E : Type 0} (work : Work R E) (old new : State) (out : List ℕ)
       let s = g.stands in (
         counts,
         inr (does_by (λ files places bytes. AllShort places × work files (Err (Files WriteFault)) places bytes) s
-            (gave s.events ++ g.front) (λ is h. h)
+            (gave s.events ++ g.front) s.holds
             (λ files all are. (
               g.short,
               m.unwritten files s.places s.events now (gave s.events ++ g.front) all are (record {
@@ -187,8 +174,8 @@ module _ {A R E : Type 0} (work : Work R E) (old new : State) (out : List ℕ)
             ))),
       )
 
-  pub ends_so : (result : Result R (RunStop E)) → RunsOnce old new out ins reach next Came ending now result
-      → Ends work old new (Into out) ins result
+  pub ends_so : (result : Result R (RunStop E)) → RunsOnce old new sink ins reach next Came ending now result
+      → Ends work old new sink ins result
   ends_so (Ok ran) e = (e.runs.counts, come_to_end (Ok ran) (Ok ran) (λ files places bytes w. w) e)
   ends_so (Err (Refused why)) e = (e.runs.counts, come_to_end (Err why) (Err (Refused why)) (λ files places bytes w. w) e)
   ends_so (Err (Files why)) g = stopped why g

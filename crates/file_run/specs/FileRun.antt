@@ -1,11 +1,13 @@
--- What a run between files does, from the opening of its inputs on.
-use Rattle.std.specs.Prelude.{◌≡◌, ◌≢◌, ◌⊎◌, ℕ, ◌+◌, ◌-◌, ◌<◌, ◌≤◌, Bool, true, List, [], ◌∷◌, ◌++◌, length, slice_index}
+-- What a run over files does, from the opening of its inputs on.
+use Rattle.std.specs.Prelude.{◌≡◌, ◌≢◌, ◌⊎◌, ℕ, ◌+◌, ◌-◌, ◌<◌, ◌≤◌, Bool, true, List, [], ◌++◌, length, slice_index}
 use Rattle.std.specs.Prelude.{slice_index_or, Option, None, Some, IsSome, IfSome}
 use Rattle.std.specs.FinMap.{get}
 use Rattle.ports.specs.Desk.{State, Held, SameCounts, bytes_of}
 use Rattle.desk_io.specs.Faults.{ReadsFail, WritesFail}
 use Rattle.desk_io.specs.Reading.{longest_file}
+use Rattle.desk_io.specs.Saying.{Grows}
 use Rattle.file_run.specs.Events.{Event, fed, has_ended, gave, OnlyGave}
+use Rattle.file_run.specs.Sink.{Sink, Into, Aloud}
 use Rattle.file_run.specs.Steps.{Needs, FallsShort}
 use Rattle.file_run.specs.declared.machine.Step.{Step}
 use Rattle.file_run.specs.declared.machine.Step.TheVariants.{Give}
@@ -71,9 +73,13 @@ pub record FailsToCreateOutput (old new : State) (out : List ℕ) (ins : List (L
   pub created : new.created ≡ old.created
   pub said : new.said ≡ old.said
 
+-- All inputs were opened, and then the output was not created. Standard output needs not be.
+abbrev pub FailsToBegin : Sink → State → State → List (List ℕ) → Type 0
+FailsToBegin (Into out) old new ins = FailsToCreateOutput old new out ins
+FailsToBegin Aloud old new ins = ⊥
+
 -- All inputs were opened, in turn, and read up to these places. Then the output was created, and the desk holds it so, if it
--- tells:
--- by what it held at first, the output has these bytes.
+-- tells: by what it held at first, the output has these bytes.
 pub record Works (old new : State) (out : List ℕ) (ins : List (List ℕ)) (places : List ℕ) (HoldsOut : Held → List ℕ
     → Type 0) : Type 0 where
   pub opened : new.opened ≡ old.opened ++ places
@@ -84,6 +90,21 @@ pub record Works (old new : State) (out : List ℕ) (ins : List (List ℕ)) (pla
   pub said : new.said ≡ old.said
   pub holds : IfSome old.held (λ h. (k : Held) × (new.held ≡ Some k)
       × ((bytes : List ℕ) × (get k.files out ≡ Some bytes) × HoldsOut h bytes))
+
+-- All inputs were opened, in turn, and read up to these places; no file changed, and none was created. Standard output grew by a
+-- text.
+pub record SaysOf (old new : State) (ins : List (List ℕ)) (places text : List ℕ) : Type 0 where
+  pub opened : new.opened ≡ old.opened ++ places
+  pub all : length places ≡ length ins
+  pub names : AreNamed old new ins places
+  pub files : SameFiles old.held new.held
+  pub created : new.created ≡ old.created
+  pub said : Grows old.said new.said text
+
+-- The inputs were opened and read up to these places, and these bytes went out; nothing else was done.
+abbrev pub Passes : Sink → State → State → List (List ℕ) → List ℕ → List ℕ → Type 0
+Passes (Into out) old new ins places bytes = Works old new out ins places (λ h is. is ≡ bytes)
+Passes Aloud old new ins places bytes = SaysOf old new ins places bytes
 
 -- These bytes of a file were taken, and so many read; if it ended, they are all.
 pub record IsFed (file : List ℕ) (place : ℕ) (taken : List ℕ) (ended : Bool) : Type 0 where
@@ -103,51 +124,54 @@ abbrev pub AreTaken : ℕ → List ℕ → List Event → Type 0
 AreTaken inputs places events = (input : ℕ) → input < inputs → (length (fed input events) ≤ slice_index places input)
     × (has_ended input events ≡ true → slice_index places input ≡ length (fed input events))
 
--- Where a run stands: what was done to its machine, what was read of each file, and what the output holds, if the desk tells.
-pub record Stands (old new : State) (out : List ℕ) (ins : List (List ℕ)) (reach : ℕ → ℕ) (Came : List Event → Type 0)
+-- Where a run stands: what was done to its machine, what was read of each file, if the desk tells, and which bytes went out.
+pub record Stands (old new : State) (sink : Sink) (ins : List (List ℕ)) (reach : ℕ → ℕ) (Came : List Event → Type 0)
     (Holds : List Event → List ℕ → Type 0) : Type 0 where
   pub events : List Event
   pub came : Came events
   pub places : List ℕ
-  pub works : Works old new out ins places (λ h bytes. Holds events bytes)
+  pub all : length places ≡ length ins
+  pub bytes : List ℕ
+  pub passes : Passes sink old new ins places bytes
+  pub holds : Holds events bytes
   pub within : (input : ℕ) → input < length ins → slice_index places input ≤ reach input
   pub short : (input : ℕ) → input < length ins → slice_index places input ≤ longest_file
   pub taken : AreTaken (length ins) places events
   pub present : IfSome old.held (λ h. (input : ℕ) → input < length ins → IsSome (get h.files (slice_index_or ins input [])))
   pub inputs : IfSome old.held (λ h. AreFed (length ins) (file_at h ins) places events)
 
--- the output is all that was given
+-- all that was given went out
 abbrev pub HoldsAll : List Event → List ℕ → Type 0
 HoldsAll events bytes = bytes ≡ gave events
 
 -- A run to the end of its machine.
-pub record RunsAll (old new : State) (out : List ℕ) (ins : List (List ℕ)) (reach : ℕ → ℕ)
+pub record RunsAll (old new : State) (sink : Sink) (ins : List (List ℕ)) (reach : ℕ → ℕ)
     (Came : List Event → Type 0) : Type 0 where
-  pub stands : Stands old new out ins reach Came HoldsAll
+  pub stands : Stands old new sink ins reach Came HoldsAll
   pub short : AllShort stands.places
   pub counts : SameCounts old new
 
 -- An input gave as many bytes as no file may have. What the machine had not taken of them is no more than it wanted, and it never
 -- looked at that.
-pub record GivesTooMuch (old new : State) (out : List ℕ) (ins : List (List ℕ)) (reach : ℕ → ℕ) (next : Step)
+pub record GivesTooMuch (old new : State) (sink : Sink) (ins : List (List ℕ)) (reach : ℕ → ℕ) (next : Step)
     (Came : List Event → Type 0) (input : ℕ) : Type 0 where
-  pub stands : Stands old new out ins reach Came HoldsAll
+  pub stands : Stands old new sink ins reach Came HoldsAll
   pub place : input < length ins
   pub wants : Needs next input (slice_index stands.places input - length (fed input stands.events))
   pub gave : slice_index stands.places input ≡ longest_file
   pub counts : SameCounts old new
 
--- An input, of which the machine wants more than was read, could not be read on. All that was given is written.
-pub record FailsToRead (old new : State) (out : List ℕ) (ins : List (List ℕ)) (reach : ℕ → ℕ) (next : Step)
+-- An input, of which the machine wants more than was read, could not be read on. All that was given went out.
+pub record FailsToRead (old new : State) (sink : Sink) (ins : List (List ℕ)) (reach : ℕ → ℕ) (next : Step)
     (Came : List Event → Type 0) (input : ℕ) : Type 0 where
-  pub stands : Stands old new out ins reach Came HoldsAll
+  pub stands : Stands old new sink ins reach Came HoldsAll
   pub place : input < length ins
   pub wants : FallsShort next input (slice_index stands.places input - length (fed input stands.events))
   pub short : AllShort stands.places
 
--- What a machine gave could not be written: it gives since the last reading, before which all is written, and a front of what it
+-- What a machine gave could not go out: it gives since the last reading, before which all went out, and a front of what it
 -- gave since, but not all. So no input was read further than was the machine's reach then.
-pub record StopsWriting {A : Type 0} (old new : State) (out : List ℕ) (ins : List (List ℕ)) (reach : A → ℕ → ℕ) (next : A → Step)
+pub record StopsWriting {A : Type 0} (old new : State) (sink : Sink) (ins : List (List ℕ)) (reach : A → ℕ → ℕ) (next : A → Step)
     (Came : List Event → A → Type 0) (now : A) : Type 0 where
   pub mid : A
   pub gives : next mid ≡ Give
@@ -157,26 +181,16 @@ pub record StopsWriting {A : Type 0} (old new : State) (out : List ℕ) (ins : L
   pub more : List ℕ
   pub some : more ≢ []
   pub parts : gave late ≡ front ++ more
-  pub stands : Stands old new out ins (reach mid) (λ events. Came events mid × Came (events ++ late) now)
+  pub stands : Stands old new sink ins (reach mid) (λ events. Came events mid × Came (events ++ late) now)
       (λ events bytes. bytes ≡ gave events ++ front)
   pub short : AllShort stands.places
 
 -- A run that did not come to the end of its machine, by its cause.
-abbrev pub Stops : {A : Type 0} → State → State → List ℕ → List (List ℕ) → (A → ℕ → ℕ) → (A → Step) → (List Event → A → Type 0)
+abbrev pub Stops : {A : Type 0} → State → State → Sink → List (List ℕ) → (A → ℕ → ℕ) → (A → Step) → (List Event → A → Type 0)
     → A → RunFault → Type 0
-Stops old new out ins reach next Came now (TooLong input) =
-    GivesTooMuch old new out ins (reach now) (next now) (λ events. Came events now) input
-Stops old new out ins reach next Came now (ReadFault input) = ReadsFail old new
-    × (OpensInputs old new ins input ⊎ FailsToRead old new out ins (reach now) (next now) (λ events. Came events now) input)
-Stops old new out ins reach next Came now WriteFault =
-    WritesFail old new × (FailsToCreateOutput old new out ins ⊎ StopsWriting old new out ins reach next Came now)
-
--- One input was opened and read up to a place, and then the output was created: by the bytes of the input, the output has these
--- bytes.
-abbrev pub Writes : State → State → List ℕ → List ℕ → ℕ → (List ℕ → List ℕ → Type 0) → Type 0
-Writes old new name out place Has = Works old new out (name ∷ []) (place ∷ []) (λ h bytes. Has (bytes_of h.files name) bytes)
-
--- It was read to its end.
-abbrev pub ReadsAll : State → List ℕ → ℕ → Type 0
-ReadsAll old name place = (place < longest_file)
-    × IfSome old.held (λ h. (IsSome (get h.files name)) × (place ≡ length (bytes_of h.files name)))
+Stops old new sink ins reach next Came now (TooLong input) =
+    GivesTooMuch old new sink ins (reach now) (next now) (λ events. Came events now) input
+Stops old new sink ins reach next Came now (ReadFault input) = ReadsFail old new
+    × (OpensInputs old new ins input ⊎ FailsToRead old new sink ins (reach now) (next now) (λ events. Came events now) input)
+Stops old new sink ins reach next Came now WriteFault =
+    WritesFail old new × (FailsToBegin sink old new ins ⊎ StopsWriting old new sink ins reach next Came now)

@@ -3,6 +3,7 @@ pub mod FileRun
 pub mod Laws
 pub mod OneRun
 pub mod Running
+pub mod Sink
 pub mod Steps
 pub mod Telling
 pub mod Work

@@ -3,25 +3,31 @@ use Rattle.std.specs.Prelude.{◌≡◌, ◌≢◌, ℕ, ◌+◌, ◌<◌, ◌�
 use Rattle.std.specs.Prelude.{None, Some, IsSome, IfSome, option_map}
 use Rattle.std.specs.declared.option.Option.{Option}
 use Rattle.std.specs.FinMap.{get}
-use Rattle.ports.specs.Desk.{State, Held, SameCounts, Creates, left_of, out_name, has_run_out}
+use Rattle.ports.specs.Desk.{State, Held, SameCounts, left_of, out_name, has_run_out}
 use Rattle.desk_io.specs.Reading.{Reading, given_of, rest_of, longest_file}
 use Rattle.desk_io.specs.declared.ahead.ReadStop.{ReadStop}
 use Rattle.desk_io.specs.declared.ahead.ReadStop.TheVariants as stop
-use Rattle.desk_io.specs.Writing.{Appends, AppendsFront}
+use Rattle.desk_io.specs.Saying.{Grows}
 use Rattle.file_run.specs.Events.{Event, Fed, Ended, Gave, fed, has_ended, gave, OnlyGave}
 use Rattle.desk_io.specs.Faults.{ReadsFail, WritesFail}
-use Rattle.file_run.specs.FileRun.{AreApart, file_at, OpensInputs, FailsToCreateOutput}
+use Rattle.file_run.specs.FileRun.{file_at, OpensInputs, FailsToBegin}
+use Rattle.file_run.specs.Sink.{Sink, Into, Aloud, creates, out_of, AreOthers, Begins, IsOpen, Puts}
+use Rattle.file_run.specs.declared.output.OpenOutput.{OpenOutput}
 use Rattle.file_run.specs.declared.stop.RunFault.{RunFault}
 use Rattle.file_run.specs.declared.stop.RunFault.TheVariants.{TooLong, ReadFault, WriteFault}
 
--- what a run is over: the desk before it, the name of the output and those of the inputs
+-- what a run is over: the desk before it, where its bytes go, and the names of the inputs
 pub record Start : Type 0 where
   pub desk : State
-  pub out : List ℕ
+  pub sink : Sink
   pub ins : List (List ℕ)
 
-abbrev pub start_of : State → List ℕ → List (List ℕ) → Start
-start_of desk out ins = record { desk = desk; out = out; ins = ins }
+abbrev pub start_of : State → Sink → List (List ℕ) → Start
+start_of desk sink ins = record { desk = desk; sink = sink; ins = ins }
+
+-- its output, once it was begun
+abbrev pub place_of : Start → OpenOutput
+place_of b = out_of b.sink b.desk.created
 
 -- a reader that begins with the file of a handle
 abbrev pub reading_from : ℕ → Reading
@@ -37,26 +43,34 @@ reading_at readings input = slice_index_or readings input no_reading
 abbrev pub places_of : List Reading → List ℕ
 places_of readings = map given_of readings
 
--- What the desk holds, if it told what it held: the output is these bytes, and no other file is another.
-pub record HoldsOut (b : Start) (h : Held) (now : State) (out : ℕ) (bytes : List ℕ) : Type 0 where
+-- The file that is written has these bytes, and no other file is another.
+abbrev pub HasOut : Sink → ℕ → Held → Held → List ℕ → Type 0
+HasOut (Into name) out was is bytes = (out_name is out ≡ name) × (get is.files name ≡ Some bytes)
+    × ((other : List ℕ) → other ≢ name → get is.files other ≡ get was.files other)
+HasOut Aloud out was is bytes = is.files ≡ was.files
+
+-- Standard output grew by these bytes if they go there, and by none if not.
+abbrev pub SaysOut : Sink → Option (List (List ℕ)) → Option (List (List ℕ)) → List ℕ → Type 0
+SaysOut (Into name) old new bytes = new ≡ old
+SaysOut Aloud old new bytes = Grows old new bytes
+
+-- What the desk holds, if it told what it held: these bytes went out, no other file is another, and the handles are of the inputs.
+pub record HoldsOut (b : Start) (h : Held) (now : State) (bytes : List ℕ) : Type 0 where
   pub is : Held
   pub held : now.held ≡ Some is
-  pub others : (name : List ℕ) → name ≢ b.out → get is.files name ≡ get h.files name
   pub names : (input : ℕ) → input < length b.ins → slice_index_or is.names (length b.desk.opened + input) []
       ≡ slice_index_or b.ins input []
-  pub named : out_name is out ≡ b.out
-  pub there : get is.files b.out ≡ Some bytes
+  pub has : HasOut b.sink b.desk.created h is bytes
 
--- All inputs were opened and read on, and these bytes were written to the output.
-pub record Reached (b : Start) (now : State) (readings : List Reading) (out : ℕ) (bytes : List ℕ) : Type 0 where
+-- All inputs were opened and read on, and these bytes went out.
+pub record Reached (b : Start) (now : State) (readings : List Reading) (bytes : List ℕ) : Type 0 where
   pub opened : now.opened ≡ b.desk.opened ++ places_of readings
   pub all : length readings ≡ length b.ins
   pub handles : (input : ℕ) → input < length readings → (reading_at readings input).handle ≡ length b.desk.opened + input
-  pub created : now.created ≡ b.desk.created + 1
-  pub out_is : out ≡ b.desk.created
-  pub said : now.said ≡ b.desk.said
+  pub created : now.created ≡ b.desk.created + creates b.sink
+  pub said : SaysOut b.sink b.desk.said now.said bytes
   pub untold : b.desk.held ≡ None → now.held ≡ None
-  pub tells : (h : Held) → b.desk.held ≡ Some h → HoldsOut b h now out bytes
+  pub tells : (h : Held) → b.desk.held ≡ Some h → HoldsOut b h now bytes
 
 -- These bytes of a file were taken, and if it ended nothing is left.
 pub record IsRead (file : List ℕ) (rest : Option (List ℕ)) (taken : List ℕ) (ended : Bool) : Type 0 where
@@ -79,10 +93,10 @@ IsWhole r = r.ended ≡ true → r.waiting ≡ []
 abbrev pub GoesOn : State → Reading → Type 0
 GoesOn s r = r.ended ≡ false → has_run_out s r.handle ≡ false
 
--- A run so far, of which all that was given is written.
-pub record Runs (b : Start) (now : State) (readings : List Reading) (out : ℕ) (reach : ℕ → ℕ) (events : List Event) : Type 0 where
-  pub apart : AreApart b.out b.ins
-  pub reached : Reached b now readings out (gave events)
+-- A run so far, of which all that was given went out.
+pub record Runs (b : Start) (now : State) (readings : List Reading) (reach : ℕ → ℕ) (events : List Event) : Type 0 where
+  pub apart : AreOthers b.sink b.ins
+  pub reached : Reached b now readings (gave events)
   pub counts : SameCounts b.desk now
   pub short : (input : ℕ) → input < length readings → given_of (reading_at readings input) < longest_file
   pub taken : (input : ℕ) → input < length readings → (reading_at readings input).taken ≡ length (fed input events)
@@ -98,36 +112,28 @@ pub record Gathers {A : Type 0} (Becomes : A → List Event → A → Type 0) (o
   pub becomes : (start : A) (events : List Event) → Becomes start events old → Becomes start (events ++ Gave piece ∷ []) new
   pub behind : is ≡ was ++ piece
 
--- Of the bytes that waited a front was written, and the others wait still.
-pub record AppendsSome (old new : State) (out : ℕ) (was is : List ℕ) : Type 0 where
+-- Of the bytes that waited a front went out, and the others wait still.
+pub record PutsSome (out : OpenOutput) (old new : State) (was is : List ℕ) : Type 0 where
   pub front : List ℕ
   pub parts : was ≡ front ++ is
-  pub appends : Appends old new out front
+  pub puts : Puts out old new front
 
--- Events went on, of which each gives, and all that was given is written.
-pub record Drains {A : Type 0} (Becomes : A → List Event → A → Type 0) (old new : A) (was is : State) (out : ℕ) : Type 0 where
-  pub late : List Event
-  pub only : OnlyGave late
-  pub becomes : (start : A) (events : List Event) → Becomes start events old → Becomes start (events ++ late) new
-  pub wrote : Appends was is out (gave late)
-
--- The same, but some bytes wait still.
-pub record DrainsPart {A : Type 0} (Becomes : A → List Event → A → Type 0) (old new : A) (was is : State) (out : ℕ)
+-- Events went on, of which each gives, and all that was given went out but for these bytes, which wait still.
+pub record Drains {A : Type 0} (Becomes : A → List Event → A → Type 0) (out : OpenOutput) (old new : A) (was is : State)
     (waiting : List ℕ) : Type 0 where
   pub late : List Event
   pub only : OnlyGave late
   pub becomes : (start : A) (events : List Event) → Becomes start events old → Becomes start (events ++ late) new
   pub front : List ℕ
   pub parts : gave late ≡ front ++ waiting
-  pub wrote : Appends was is out front
+  pub puts : Puts out was is front
 
--- The same, but only a front was written.
-pub record DrainsFront {A : Type 0} (Becomes : A → List Event → A → Type 0) (old new : A) (was is : State)
-    (out : ℕ) : Type 0 where
-  pub late : List Event
-  pub only : OnlyGave late
-  pub becomes : (start : A) (events : List Event) → Becomes start events old → Becomes start (events ++ late) new
-  pub wrote : AppendsFront was is out (gave late)
+-- The same, and some bytes could not go out.
+pub record DrainsFront {A : Type 0} (Becomes : A → List Event → A → Type 0) (out : OpenOutput) (old new : A)
+    (was is : State) : Type 0 where
+  pub more : List ℕ
+  pub some : more ≢ []
+  pub drains : Drains Becomes out old new was is more
 
 -- bytes of an input were taken, or it ended
 abbrev pub IsTaken : Event → ℕ → Option (List ℕ) → Option (List ℕ) → ℕ → Type 0
@@ -177,9 +183,10 @@ pub record AreOpened (old new : State) (ins : List (List ℕ)) (readings : List 
   pub untold : old.held ≡ None → new.held ≡ None
   pub tells : (h : Held) → old.held ≡ Some h → HoldsIns old new h ins
 
--- The output was created.
-pub record IsCreated (old new : State) (name : List ℕ) (out : ℕ) : Type 0 where
-  pub creates : Creates old new name out
+-- The output was begun.
+pub record IsBegun (old new : State) (sink : Sink) (out : OpenOutput) : Type 0 where
+  pub begins : Begins sink old new out
+  pub there : IsOpen out new
   pub counts : SameCounts old new
 
 -- An input could not be opened.
@@ -188,19 +195,19 @@ FailsToOpen old new ins (TooLong input) = ⊥
 FailsToOpen old new ins (ReadFault input) = ReadsFail old new × OpensInputs old new ins input
 FailsToOpen old new ins WriteFault = ⊥
 
--- The output could not be created, after inputs were opened.
-abbrev pub FailsToCreateFor : State → State → List ℕ → RunFault → Type 0
-FailsToCreateFor old new out (TooLong input) = ⊥
-FailsToCreateFor old new out (ReadFault input) = ⊥
-FailsToCreateFor old new out WriteFault = (start : State) (ins : List (List ℕ)) (readings : List Reading)
-    → AreOpened start old ins readings → WritesFail start new × FailsToCreateOutput start new out ins
+-- The output could not be begun, after inputs were opened.
+abbrev pub FailsToBeginFor : State → State → Sink → RunFault → Type 0
+FailsToBeginFor old new sink (TooLong input) = ⊥
+FailsToBeginFor old new sink (ReadFault input) = ⊥
+FailsToBeginFor old new sink WriteFault = (start : State) (ins : List (List ℕ)) (readings : List Reading)
+    → AreOpened start old ins readings → WritesFail start new × FailsToBegin sink start new ins
 
 -- There is a run so far, and the machine is where it came to.
 pub record IsRunning {A : Type 0} (Becomes : List Event → A → Type 0) (reach : A → ℕ → ℕ) (b : Start) (now : State) (machine : A)
-    (readings : List Reading) (out : ℕ) : Type 0 where
+    (readings : List Reading) : Type 0 where
   pub events : List Event
   pub came : Becomes events machine
-  pub runs : Runs b now readings out (reach machine) events
+  pub runs : Runs b now readings (reach machine) events
 
 -- why a run stops if an input could not be read on
 abbrev pub read_fault : ℕ → ReadStop → RunFault

@@ -5,9 +5,9 @@ use Rattle.std.specs.FinMap.{get}
 use Rattle.ports.specs.Desk.{State, SameCounts}
 use Rattle.desk_io.specs.Faults.{ReadsFail, WritesFail}
 use Rattle.desk_io.specs.Reading.{longest_file}
-use Rattle.desk_io.specs.Saying.{Grows}
 use Rattle.file_run.specs.Events.{Event, fed, gave, OnlyGave}
-use Rattle.file_run.specs.FileRun.{file_at, OpensInputs, FailsToCreateOutput, Works, AllShort, AreFed, AreNamed, SameFiles}
+use Rattle.file_run.specs.FileRun.{file_at, OpensInputs, FailsToBegin, Passes, AllShort, AreFed}
+pub use Rattle.file_run.specs.Sink.{Sink, Into, Aloud}
 use Rattle.file_run.specs.Steps.{Needs, FallsShort}
 use Rattle.file_run.specs.declared.machine.Step.{Step}
 use Rattle.file_run.specs.declared.machine.Step.TheVariants.{Give, End}
@@ -23,31 +23,6 @@ Work R E = (ℕ → List ℕ) → Result R (RunStop E) → List ℕ → List ℕ
 -- Each file was read to its end.
 abbrev pub AreWhole : (ℕ → List ℕ) → List ℕ → Type 0
 AreWhole files places = (input : ℕ) → input < length places → slice_index places input ≡ length (files input)
-
--- where the bytes go: into a file, which is created, or to standard output
-pub data Sink : Type 0 where
-  Into : List ℕ → Sink
-  Aloud : Sink
-
--- All inputs were opened, in turn, and read up to these places; no file changed, and none was created. Standard output grew by a
--- text.
-pub record SaysOf (old new : State) (ins : List (List ℕ)) (places text : List ℕ) : Type 0 where
-  pub opened : new.opened ≡ old.opened ++ places
-  pub all : length places ≡ length ins
-  pub names : AreNamed old new ins places
-  pub files : SameFiles old.held new.held
-  pub created : new.created ≡ old.created
-  pub said : Grows old.said new.said text
-
--- The inputs were opened and read up to these places, and these bytes went out; nothing else was done.
-abbrev pub Passes : Sink → State → State → List (List ℕ) → List ℕ → List ℕ → Type 0
-Passes (Into out) old new ins places bytes = Works old new out ins places (λ h is. is ≡ bytes)
-Passes Aloud old new ins places bytes = SaysOf old new ins places bytes
-
--- All inputs were opened, and then the output was not created.
-abbrev pub FailsToBegin : Sink → State → State → List (List ℕ) → Type 0
-FailsToBegin (Into out) old new ins = FailsToCreateOutput old new out ins
-FailsToBegin Aloud old new ins = ⊥
 
 -- A run came so far: by some files, those of the desk if it tells, this is as it must be.
 pub record Does (work : (ℕ → List ℕ) → List ℕ → List ℕ → Type 0) (old new : State) (sink : Sink) (ins : List (List ℕ)) : Type 0 where

@@ -1,7 +1,7 @@
 // A machine between files.
 ghost use Rattle.std.specs.Prelude.{◌≡◌, ◌<◌, ◌≤◌, ◌++◌, ◌∷◌, ℕ, List, [], length, take};
 ghost use Rattle.file_run.specs.Events.{Event, Fed, Ended, Gave};
-ghost use Rattle.file_run.specs.Steps.{Suffices, FallsShort, HasRoom, IsWanted};
+ghost use Rattle.file_run.specs.Steps.{Suffices, FallsShort, HasCome, HasRoom, IsWanted};
 ghost use Rattle.file_run.specs.declared.machine.Step.TheVariants.{Give};
 
 /// There is room for so many bytes whenever a machine gives.
@@ -72,6 +72,7 @@ pub trait Machine {
     /// Gives the next bytes, to the front of these: how many.
     fn give(&mut self, out: &mut [u8]) -> usize
         requires gives { next self.old ≡ Give }
+        requires came { ∥ HasCome Becomes self.old ∥₁ }
         requires room { PIECE ≤ length out.old }
         ensures count { result ≤ length out.old }
         ensures becomes { (start : Self) (events : List Event) → Becomes start events self.old
@@ -83,7 +84,6 @@ pub trait Machine {
 /// A machine that tells, at its end, what came of its run: what was done, or why it refuses what it was fed.
 pub trait Ending: Machine {
     ghost use Rattle.std.specs.declared.result.Result.{Result};
-    ghost use Rattle.file_run.specs.Steps.{HasCome};
     ghost use Rattle.file_run.specs.declared.machine.Step.TheVariants.{End};
 
     /// What is told of a run that is a success.

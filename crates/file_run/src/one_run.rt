@@ -1,11 +1,12 @@
 // One run of a machine, with the memory that it needs.
-ghost use Rattle.std.specs.Prelude.{◌≡◌, ◌≢◌, [], ◌∷◌, length, IfOk};
-ghost use Rattle.file_run.specs.FileRun.{AreApart};
+ghost use Rattle.std.specs.Prelude.{◌≡◌, [], ◌∷◌, length, IfOk};
 ghost use Rattle.file_run.specs.OneRun.{RunsOnce};
-ghost use Rattle.file_run.specs.Work.{Into, Ends};
+ghost use Rattle.file_run.specs.Sink.{AreOthers, IsOther, sink_of};
+ghost use Rattle.file_run.specs.Work.{Ends};
 
 use crate::machine::{Ending, Working};
 use crate::out_buffer::OutBuffer;
+use crate::output::Output;
 use crate::running::run;
 use crate::stop::RunStop;
 use bit_slice::OutOfMemory;
@@ -24,23 +25,23 @@ pub fn open_readers(alloc: Global, count: usize) -> Result<Vec<ReadAhead>, OutOf
     Ok(readers)
 }
 
-/// Runs a machine between files as `run` does, and tells what came of it. All memory is taken before the first input is opened.
+/// Runs a machine over files as `run` does, and tells what came of it. All memory is taken before the first input is opened.
 pub fn run_one<M: Ending, D: Desk>(
     alloc: Global,
     machine: &mut M,
-    out: &str,
+    output: Output<'_>,
     ins: &[Word],
     desk: &mut D,
 ) -> Result<M::Ran, RunStop<M::Stop>>
     requires inputs { M.inputs machine.old ≡ length ins.now }
     requires start { M.Becomes machine.old [] machine.old }
-    requires apart { AreApart out.now ins.now }
-    ensures { RunsOnce (D.state desk.old) (D.state desk.new) out.now ins.now M.reach M.next (M.Becomes machine.old) M.ending
+    requires apart { AreOthers (sink_of output) ins.now }
+    ensures { RunsOnce (D.state desk.old) (D.state desk.new) (sink_of output.entry) ins.now M.reach M.next (M.Becomes machine.old) M.ending
         machine.new result }
 {
     let mut readers = open_readers(alloc, ins.len())?;
     let mut buffer = OutBuffer::open(alloc)?;
-    run(machine, &mut readers, &mut buffer, out, ins, desk)?;
+    run(machine, &mut readers, &mut buffer, output, ins, desk)?;
     match machine.ending() {
         Ok(ran) => Ok(ran),
         Err(why) => Err(RunStop::Refused(why)),
@@ -52,17 +53,17 @@ pub fn run_over<M: Ending, D: Desk>(
     alloc: Global,
     machine: &mut M,
     input: &str,
-    out: &str,
+    output: Output<'_>,
     desk: &mut D,
 ) -> Result<M::Ran, RunStop<M::Stop>>
     requires inputs { M.inputs machine.old ≡ 1 }
     requires start { M.Becomes machine.old [] machine.old }
-    requires apart { input.now ≢ out.now }
-    ensures { RunsOnce (D.state desk.old) (D.state desk.new) out.now (input.now ∷ []) M.reach M.next (M.Becomes machine.old) M.ending
+    requires apart { IsOther (sink_of output) input.now }
+    ensures { RunsOnce (D.state desk.old) (D.state desk.new) (sink_of output.entry) (input.now ∷ []) M.reach M.next (M.Becomes machine.old) M.ending
         machine.new result }
 {
     let ins = [Word::new(alloc, input)?];
-    run_one(alloc, machine, out, &ins, desk)
+    run_one(alloc, machine, output, &ins, desk)
 }
 
 /// The same for a machine of two inputs, which are named.
@@ -71,18 +72,18 @@ pub fn run_over_two<M: Ending, D: Desk>(
     machine: &mut M,
     first: &str,
     second: &str,
-    out: &str,
+    output: Output<'_>,
     desk: &mut D,
 ) -> Result<M::Ran, RunStop<M::Stop>>
     requires inputs { M.inputs machine.old ≡ 2 }
     requires start { M.Becomes machine.old [] machine.old }
-    requires apart_first { first.now ≢ out.now }
-    requires apart_second { second.now ≢ out.now }
-    ensures { RunsOnce (D.state desk.old) (D.state desk.new) out.now (first.now ∷ second.now ∷ []) M.reach M.next
+    requires apart_first { IsOther (sink_of output) first.now }
+    requires apart_second { IsOther (sink_of output) second.now }
+    ensures { RunsOnce (D.state desk.old) (D.state desk.new) (sink_of output.entry) (first.now ∷ second.now ∷ []) M.reach M.next
         (M.Becomes machine.old) M.ending machine.new result }
 {
     let ins = [Word::new(alloc, first)?, Word::new(alloc, second)?];
-    run_one(alloc, machine, out, &ins, desk)
+    run_one(alloc, machine, output, &ins, desk)
 }
 
 /// Runs a machine of one input, which is named, and does its work.
@@ -90,14 +91,14 @@ pub fn run_work_over<M: Working, D: Desk>(
     alloc: Global,
     machine: &mut M,
     input: &str,
-    out: &str,
+    output: Output<'_>,
     desk: &mut D,
 ) -> Result<M::Ran, RunStop<M::Stop>>
     requires inputs { M.inputs machine.old ≡ 1 }
     requires start { M.Becomes machine.old [] machine.old }
-    requires apart { input.now ≢ out.now }
-    ensures { Ends (M.work machine.old) (D.state desk.old) (D.state desk.new) (Into out.now) (input.now ∷ []) result }
+    requires apart { IsOther (sink_of output) input.now }
+    ensures { Ends (M.work machine.old) (D.state desk.old) (D.state desk.new) (sink_of output.entry) (input.now ∷ []) result }
 {
     machine.work_law();
-    run_over(alloc, machine, input, out, desk)
+    run_over(alloc, machine, input, output, desk)
 }

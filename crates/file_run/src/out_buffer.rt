@@ -2,6 +2,7 @@
 ghost use Rattle.std.specs.Prelude.{◌≡◌, ◌↔◌, ◌<◌, ◌≤◌, ◌+◌, ℕ, [], length, take, IfOk, IsTrue};
 ghost use Rattle.desk_io.specs.declared.page.TheConstants.{PAGE};
 ghost use Rattle.file_run.specs.Running.{Gathers};
+ghost use Rattle.file_run.specs.Steps.{HasCome};
 ghost use Rattle.file_run.specs.declared.machine.Step.TheVariants.{Give};
 
 use crate::machine::{Machine, PIECE};
@@ -33,6 +34,7 @@ impl Model for OutBuffer {
 // Lets a machine give bytes behind so many: how many there are then.
 fn give_behind<M: Machine>(bytes: &mut [u8], count: usize, machine: &mut M) -> usize
     requires gives { M.next machine.old ≡ Give }
+    requires came { ∥ HasCome M.Becomes machine.old ∥₁ }
     requires size { length bytes.old ≡ PAGE }
     requires room { count + PIECE ≤ PAGE }
     ensures gathers { Gathers M.Becomes machine.old machine.new (take count bytes.old) (take result bytes.new) }
@@ -50,13 +52,6 @@ impl OutBuffer {
     {
         let bytes = vec![in alloc; 0; PAGE]?;
         Ok(OutBuffer { bytes, count: 0 })
-    }
-
-    /// Whether no byte waits.
-    pub fn is_empty(&self) -> bool
-        ensures { IsTrue result ↔ (self.now ≡ []) }
-    {
-        self.count == 0
     }
 
     /// Whether there is room for a piece.
@@ -83,6 +78,7 @@ impl OutBuffer {
     /// Lets a machine give bytes behind those that wait.
     pub fn take_from<M: Machine>(&mut self, machine: &mut M)
         requires gives { M.next machine.old ≡ Give }
+        requires came { ∥ HasCome M.Becomes machine.old ∥₁ }
         requires room { length self.old + PIECE ≤ PAGE }
         ensures gathers { Gathers M.Becomes machine.old machine.new self.old self.new }
         ensures few { length self.new ≤ PAGE }

@@ -1,13 +1,15 @@
-// The driver of a machine between files: some that are read, and one that is written.
+// The driver of a machine over files: some are read, and one is written or standard output said.
 ghost use Rattle.std.specs.Prelude.{◌≡◌, [], length, IfErr, OnOk};
-ghost use Rattle.file_run.specs.FileRun.{AreApart, RunsAll, Stops};
+ghost use Rattle.file_run.specs.FileRun.{RunsAll, Stops};
 ghost use Rattle.file_run.specs.Running.{read_fault};
+ghost use Rattle.file_run.specs.Sink.{AreOthers, sink_of};
 
 use crate::draining::drain;
 use crate::feeding::feed;
 use crate::machine::{Machine, Step};
-use crate::opening::{create_output, open_files};
+use crate::opening::{begin_output, open_files};
 use crate::out_buffer::OutBuffer;
+use crate::output::Output;
 use crate::stop::RunFault;
 use desk_io::{ReadAhead, ReadStop, creates_law};
 use ports::{Desk, Word};
@@ -22,32 +24,33 @@ pub fn fault_of(input: usize, why: ReadStop) -> RunFault
     }
 }
 
-/// Runs a machine between files: opens the inputs in turn, one for each reader; creates the output; and reads what the machine
-/// wants and writes what it gives until it has come to its end. What it gives is written before it is fed on. It takes no memory.
+/// Runs a machine over files: opens the inputs in turn, one for each reader; creates the output, if it is a file; and reads what the
+/// machine wants and puts out what it gives until it has come to its end. What it gives goes out before it is fed on. It takes no
+/// memory.
 pub fn run<M: Machine, D: Desk>(
     machine: &mut M,
     readers: &mut [ReadAhead],
     buffer: &mut OutBuffer,
-    out: &str,
+    output: Output<'_>,
     ins: &[Word],
     desk: &mut D,
 ) -> Result<(), RunFault>
     requires count { length readers.old ≡ length ins.now }
     requires inputs { M.inputs machine.old ≡ length ins.now }
     requires start { M.Becomes machine.old [] machine.old }
-    requires apart { AreApart out.now ins.now }
+    requires apart { AreOthers (sink_of output) ins.now }
     ensures ok { OnOk result
-        (RunsAll (D.state desk.old) (D.state desk.new) out.now ins.now (M.reach machine.new)
+        (RunsAll (D.state desk.old) (D.state desk.new) (sink_of output.entry) ins.now (M.reach machine.new)
         (λ events. M.Becomes machine.old events machine.new)) }
     ensures end { OnOk result (M.next machine.new ≡ Step.End) }
     ensures err { IfErr result
-        (Stops (D.state desk.old) (D.state desk.new) out.now ins.now M.reach M.next (M.Becomes machine.old) machine.new) }
+        (Stops (D.state desk.old) (D.state desk.new) (sink_of output.entry) ins.now M.reach M.next (M.Becomes machine.old) machine.new) }
 {
     creates_law();
     open_files(ins, readers, desk)?;
-    let handle = create_output(out, desk)?;
+    let out = begin_output(output, desk)?;
     buffer.clear();
-    match drain(machine, buffer, handle, desk) {
+    match drain(machine, buffer, out, desk) {
         Ok(()) => {}
         Err(_) => return Err(RunFault::WriteFault),
     }
@@ -56,7 +59,7 @@ pub fn run<M: Machine, D: Desk>(
             Ok(()) => {}
             Err(why) => return Err(fault_of(input, why)),
         }
-        match drain(machine, buffer, handle, desk) {
+        match drain(machine, buffer, out, desk) {
             Ok(()) => {}
             Err(_) => return Err(RunFault::WriteFault),
         }

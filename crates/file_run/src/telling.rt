@@ -4,6 +4,7 @@ ghost use Rattle.ports.specs.Counts.{MayFailWriting};
 ghost use Rattle.ports.specs.Desk.{State, Keeps};
 ghost use Rattle.desk_io.specs.Reading.{Reading};
 ghost use Rattle.desk_io.specs.Saying.{SaysPage};
+ghost use Rattle.file_run.specs.Steps.{HasCome};
 ghost use Rattle.file_run.specs.Telling.{TellsAll, StopsTelling};
 ghost use Rattle.file_run.specs.TellingOn.{Telling, HasBegun, GivesWay, Finishes, Breaks, TellsLast};
 ghost use Rattle.file_run.specs.declared.machine.TheConstants.{PIECE};
@@ -12,28 +13,26 @@ ghost use Rattle.desk_io.specs.declared.page.TheConstants.{PAGE};
 use crate::feeding::feed;
 use crate::machine::{Machine, Step};
 use crate::out_buffer::OutBuffer;
+use crate::output::say_all;
 use crate::stop::RunFault;
 use desk_io::{ReadAhead, ReadStop};
 use ports::{Desk, DeskFault};
 
-/// Says what waits on the page, by one call, or nothing if nothing waits.
-pub fn say_page<D: Desk>(desk: &mut D, page: &mut OutBuffer) -> Result<(), DeskFault>
+// Says what waits on the page, by one call, or nothing if nothing waits.
+fn say_page<D: Desk>(desk: &mut D, page: &mut OutBuffer) -> Result<(), DeskFault>
     ensures ok { OnOk result (SaysPage (D.state desk.old) (D.state desk.new) page.old) }
     ensures err { OnErr result (Keeps (D.state desk.old) (D.state desk.new)) }
     ensures page { page.new ≡ [] }
     ensures some { OnErr result (page.old ≢ []) }
     ensures counts { MayFailWriting (D.state desk.old).counts (D.state desk.new).counts result }
 {
-    if page.is_empty() {
-        return Ok(());
-    }
-    let said = desk.say(page.as_bytes());
+    let said = say_all(desk, page.as_bytes());
     page.clear();
     said
 }
 
-/// Makes room for a piece: if there is none, all that waits is said.
-pub fn make_room<D: Desk>(desk: &mut D, page: &mut OutBuffer) -> Result<(), DeskFault>
+// Makes room for a piece: if there is none, all that waits is said.
+fn make_room<D: Desk>(desk: &mut D, page: &mut OutBuffer) -> Result<(), DeskFault>
     ensures ok { OnOk result (GivesWay (D.state desk.old) (D.state desk.new) page.old page.new) }
     ensures room { OnOk result (length page.new + PIECE ≤ PAGE) }
     ensures err { OnErr result (Keeps (D.state desk.old) (D.state desk.new)) }
@@ -52,6 +51,7 @@ fn gather<M: Machine, D: Desk>(
     page: &mut OutBuffer,
     desk: &mut D,
 ) -> Result<(), DeskFault>
+    requires came { HasCome M.Becomes machine.old }
     ensures ok { OnOk result ((begin : M) (start : State) (name : List ℕ) (r : Reading)
         → Telling (M.Becomes begin) M.next start (D.state desk.old) name machine.old r page.old
         → Telling (M.Becomes begin) M.next start (D.state desk.new) name machine.new r page.new) }

@@ -211,6 +211,7 @@ module _ (way : Sharing) where
       (record {
         none = b.none;
         frame = sym h.frames ∙ most;
+        complete = b.complete;
         all = b.all;
         more = more_frames law own c done g place ran h b (not_last h.events h.stands);
       })) b.none

@@ -26,7 +26,7 @@ use Rattle.gateway_core.specs.StandsFor.{Status}
 use Rattle.common_plp.specs.Inputs.{place_of, input_count, streams_by}
 use Rattle.common_plp.specs.Sharing.{Sharing}
 use Rattle.gateway_run.specs.GatewayRun.{inputs_of, frames_of, units_of, MeetsNone, ReadsNoFurther, HasTooManyFrames}
-use Rattle.gateway_run.specs.GatewayRun.{RunsAll, StopsAtBad, StopsReading, StopsWriting, gateway_work}
+use Rattle.gateway_run.specs.GatewayRun.{RunsAll, StopsAtBad, StopsAtLate, StopsReading, StopsWriting, CompleteBefore, gateway_work}
 use Rattle.gateway_run.specs.Holds.{NoTails, HasGiven, IsOneTooMany, MetBad, IsIn, Holds}
 use Rattle.gateway_run.specs.Inputs.{IsBefore}
 use Rattle.gateway_run.specs.Phases.{step_by, reach_by, frame_read, ending_of}
@@ -107,6 +107,18 @@ module _ (way : Sharing) (c : Config) (s : Seen) (t : Status) (place : Place) (r
             (m.more (inputs_of files) (continue_files way c events s.stands place ran h files places are)),
       )
 
+  stops_at_late : UnitsLaw → FrontsGrow → place.phase ≡ phase.Stopped TooManyFrames
+      → StopsAtLate way c files places (run.gave events)
+  stops_at_late units grow e =
+      let m : IsOneTooMany way c h.events h.tails = subst (λ (p : Phase). IsIn way c h.events h.tails p) e h.is_in in
+      let most = h.frames ∙ m.frame in
+      record {
+        no_further = subst (ReadsNoFurther way c places) most (further_in (phase.Stopped TooManyFrames) e);
+        begins = gave_front way c events s.stands place ran h files places are grow;
+        output = subst (λ (n : ℕ). CompleteBefore way c files n (run.gave events)) most
+            (gave_complete way c events s.stands place ran h files places are units m.complete);
+      }
+
   ends_in : UnitsLaw → FrontsGrow → (p : Phase) → place.phase ≡ p → step_by (s.wants place.input) place.input p ≡ End
       → length places ≡ input_count way c → IsRightAtEnd (gateway_work way c) files places (run.gave events) (ending_of p ran)
   ends_in units grow phase.Wants e end all = absurd (let z : step_by (s.wants place.input) place.input phase.Wants ≡ End = end in cc)
@@ -116,7 +128,7 @@ module _ (way : Sharing) (c : Config) (s : Seen) (t : Status) (place : Place) (r
   ends_in units grow phase.Done e end all = runs_all e all
   ends_in units grow (phase.Stopped (Bad input packet)) e end all = stops_at_bad units input packet e
   ends_in units grow (phase.Stopped TooManyFrames) e end all =
-      (too_many_frames e, gave_front way c events s.stands place ran h files places are grow)
+      (too_many_frames e, stops_at_late units grow e)
 
   -- Of the input that is looked at no whole packet waits.
   stops_here : UnitsLaw → FrontsGrow → place.phase ≡ phase.Wants

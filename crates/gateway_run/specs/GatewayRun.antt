@@ -93,6 +93,12 @@ MeetsNoneBefore w c files frame input slot = MeetsNone w c files (frame - 1)
 abbrev pub HasTooManyFrames : Sharing → Config → (ℕ → List ℕ) → Type 0
 HasTooManyFrames w c files = MeetsNone w c files MOST_FRAMES × (MOST_FRAMES < frames_of w c files)
 
+-- No more was read than the frames want that may be, and the output is their complete units.
+pub record StopsAtLate (w : Sharing) (c : Config) (files : ℕ → List ℕ) (places bytes : List ℕ) : Type 0 where
+  pub no_further : ReadsNoFurther w c places MOST_FRAMES
+  pub begins : BeginsUnits w c files bytes
+  pub output : CompleteBefore w c files MOST_FRAMES bytes
+
 -- Behind the packets of a file, up to its first bad one, fewer bytes were read than a packet has: so no bad packet was read
 -- whole.
 abbrev pub ReadsNoBad : List ℕ → ℕ → Type 0
@@ -144,7 +150,7 @@ pub record StopsWriting (w : Sharing) (c : Config) (files : ℕ → List ℕ) (p
 abbrev pub gateway_work : Sharing → Config → Work Ran GatewayStop
 gateway_work w c files (Ok ran) places bytes = RunsAll w c files ran places bytes
 gateway_work w c files (Err (Refused (Bad input packet))) places bytes = StopsAtBad w c files input packet places bytes
-gateway_work w c files (Err (Refused TooManyFrames)) places bytes = HasTooManyFrames w c files × BeginsUnits w c files bytes
+gateway_work w c files (Err (Refused TooManyFrames)) places bytes = HasTooManyFrames w c files × StopsAtLate w c files places bytes
 gateway_work w c files (Err (Files (TooLong input))) places bytes = StopsReading w c files input places bytes
 gateway_work w c files (Err (Files (ReadFault input))) places bytes = StopsReading w c files input places bytes
 gateway_work w c files (Err (Files WriteFault)) places bytes = StopsWriting w c files places bytes

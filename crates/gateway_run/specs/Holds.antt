@@ -98,6 +98,7 @@ NoTails tails = (input : ℕ) → tails input ≡ []
 pub record IsOneTooMany (w : Sharing) (c : Config) (events : List Event) (tails : ℕ → List ℕ) : Type 0 where
   pub none : NoTails tails
   pub frame : begun events ≡ MOST_FRAMES
+  pub complete : AreComplete w c events
   pub all : (input : ℕ) → input < input_count w c → HasAll w c events input
   pub more : (inputs : ℕ → List (List ℕ)) → Continue w c events inputs
       → begun events < frame_count c (λ input. length (streams_by w c inputs input))

@@ -10,7 +10,7 @@ ghost use Rattle.gateway_run.specs.GatewayRun.{gateway_work};
 use crate::frame_gateway::FrameGateway;
 use crate::machine::GatewayMachine;
 use crate::stop::{GatewayStop, Ran};
-use file_run::{RunStop, events_law, run_one};
+use file_run::{Output, RunStop, events_law, run_one};
 use gateway_core::{Gateway, ahead_law, front_law, units_law};
 use plp_config::Plan;
 use ports::{Desk, Word};
@@ -39,7 +39,7 @@ fn run_with<G: FrameGateway + Drop, D: Desk>(
     units_law();
     ahead_law();
     let mut machine = GatewayMachine::new(plan, gateway);
-    run_one(alloc, &mut machine, out, ins, desk)
+    run_one(alloc, &mut machine, Output::File(out), ins, desk)
 }
 
 /// Runs the gateway of a plan: opens the inputs, one for each PLP, in turn; creates the output; and goes frame by frame

@@ -46,7 +46,7 @@ use Rattle.merge_run.specs.Shown.{feed_of, left_at, more_units, frame_bytes, Cou
 use Rattle.merge_run.specs.Steps.{left_in, left_of}
 use Rattle.merge_run.specs.Taking.{is_from, leaves, feed_in}
 use Rattle.two_feeds.specs.Seen.{seen_of}
-use Rattle.merge_run.specs.declared.merging.Merging.{Merging}
+use Rattle.merge_run.specs.declared.machine.MergeMachine.{MergeMachine}
 use Rattle.merge_run.specs.declared.phase.Phase.{Phase}
 use Rattle.merge_run.specs.declared.phase.Phase.TheVariants.{Reads, Gives, Rests}
 use Rattle.merge_run.specs.declared.stop.Ran.{Ran}
@@ -70,7 +70,7 @@ idle_left g idle =
     less n e = grind (arith)
 
 -- what is known of the records that were left behind
-pub record Takings (m : Merging) (a b : FrameFeed) (n : ℕ) (p : Pick) : Type 0 where
+pub record Takings (m : MergeMachine) (a b : FrameFeed) (n : ℕ) (p : Pick) : Type 0 where
   pub is : p ≡ pick_at n (seen_of (waiting_of m.a)) (seen_of (waiting_of m.b))
   pub least : least_of (waiting_of m.a) (waiting_of m.b) ≡ Some n
   pub busy_a : is_idle (waiting_of m.a) (feed.has_ended m.a) ≡ false
@@ -79,7 +79,7 @@ pub record Takings (m : Merging) (a b : FrameFeed) (n : ℕ) (p : Pick) : Type 0
   pub took_b : SkipsIf (leaves B p.leave_b p.source) m.b b
 
 -- no more records are left, and fewer if none is picked
-pub no_more_left : (m : Merging) (a b : FrameFeed) (n : ℕ) (p : Pick) → Takings m a b n p
+pub no_more_left : (m : MergeMachine) (a b : FrameFeed) (n : ℕ) (p : Pick) → Takings m a b n p
     → feed.left_of a + feed.left_of b ≤ feed.left_of m.a + feed.left_of m.b
 no_more_left m a b n p t = let u = t.took_a.left in let v = t.took_b.left in omega (arith, u, v)
 
@@ -87,7 +87,7 @@ all_leave : (from : Feed) (has : Bool) (source : Option Feed) → source ≡ Non
 all_leave from true source none = ap (leaves from true) none
 all_leave from false source none = ap (leaves from false) none
 
-pub fewer_left : (m : Merging) (a b : FrameFeed) (n : ℕ) (p : Pick) → Takings m a b n p → p.source ≡ None
+pub fewer_left : (m : MergeMachine) (a b : FrameFeed) (n : ℕ) (p : Pick) → Takings m a b n p → p.source ≡ None
     → feed.left_of a + feed.left_of b + 1 ≤ feed.left_of m.a + feed.left_of m.b
 fewer_left m a b n p t none =
     let some = some_taken (waiting_of m.a) (waiting_of m.b) n t.least in
@@ -141,7 +141,7 @@ pub record Waits (o : Option Waiting) (n : ℕ) : Type 0 where
 waits_in : (n : ℕ) (o : Option Waiting) → is_there n (seen_of o) ≡ true → Waits o n
 waits_in n o e = record { whole = whole_at n o e; number = number_at n o e }
 
-pub waits_now : (m : Merging) (a b : FrameFeed) (n : ℕ) (p : Pick) → Takings m a b n p → (from : Feed) → p.source ≡ Some from
+pub waits_now : (m : MergeMachine) (a b : FrameFeed) (n : ℕ) (p : Pick) → Takings m a b n p → (from : Feed) → p.source ≡ Some from
     → Waits (waiting_of (feed_in from a b)) n
 waits_now m a b n p t A own =
     let on = from_source A p.source own in
@@ -152,7 +152,7 @@ waits_now m a b n p t B own =
     subst (λ (f : FrameFeed). Waits (waiting_of f) n) (sym (t.took_b.stays (leaves_none B p.leave_b p.source on)))
     (waits_in n (waiting_of m.b) (there_second n (waiting_of m.a) (waiting_of m.b) (ap (λ (q : Pick). is_from B q.source) (sym t.is) ∙ on)))
 
-module _ (follow : DueFollow) (grow : PicksGrow) (c : Config) (m : Merging) (a b : FrameFeed) (events : List Event) (n : ℕ) (p : Pick)
+module _ (follow : DueFollow) (grow : PicksGrow) (c : Config) (m : MergeMachine) (a b : FrameFeed) (events : List Event) (n : ℕ) (p : Pick)
     (t : Takings m a b n p) (s : Shown c events m) (reads : m.phase ≡ Reads) where
   abbrev pub source : Option Feed
   source = source_at n (seen_of (waiting_of m.a)) (seen_of (waiting_of m.b))
@@ -320,18 +320,18 @@ begun_few field c g h f n view plan formed config idle b =
     omega (arith, most, few, same, idle_left g idle)
 
 -- both feeds are of the network of the merger
-pub network_in : (c : Config) (m : Merging) (a b : FrameFeed) (events : List Event) → m.phase ≡ Reads
+pub network_in : (c : Config) (m : MergeMachine) (a b : FrameFeed) (events : List Event) → m.phase ≡ Reads
     → feed.config_of a ≡ feed.config_of m.a → feed.config_of b ≡ feed.config_of m.b → (s : Shown c events m) → (from : Feed)
     → feed.config_of (feed_in from a b) ≡ merger.config_of m.merger
 network_in c m a b events reads same_a same_b s A = same_a ∙ (reading c m events s reads).of_a.network ∙ sym s.sends.network
 network_in c m a b events reads same_a same_b s B = same_b ∙ (reading c m events s reads).of_b.network ∙ sym s.sends.network
 
 -- what is known while records are read
-pub reading_of : (c : Config) (m : Merging) (events : List Event) (s : Shown c events m) → m.phase ≡ Reads
+pub reading_of : (c : Config) (m : MergeMachine) (events : List Event) (s : Shown c events m) → m.phase ≡ Reads
     → IsReading c m.merger (frames_of (picks c s.given_a s.given_b)) m.ran.units
 reading_of c m events s reads = subst (IsIn c m (frames_of (picks c s.given_a s.given_b))) reads s.is_in
 
-pub reading_sends : (c : Config) (m : Merging) (events : List Event) (s : Shown c events m) → m.phase ≡ Reads
+pub reading_sends : (c : Config) (m : MergeMachine) (events : List Event) (s : Shown c events m) → m.phase ≡ Reads
     → Sends c m.merger [] (frames_of (picks c s.given_a s.given_b)) m.ran.units (gave events)
 reading_sends c m events s reads =
     subst (λ (p : Phase). Sends c m.merger (left_at p m.merger (feed_of m)) (frames_of (picks c s.given_a s.given_b)) m.ran.units (gave events))
@@ -339,7 +339,7 @@ reading_sends c m events s reads =
 
 -- ---- where the merger is then
 
-module _ (follow : DueFollow) (grow : PicksGrow) (field : FieldRange) (c : Config) (m new : Merging) (events : List Event) (n : ℕ)
+module _ (follow : DueFollow) (grow : PicksGrow) (field : FieldRange) (c : Config) (m new : MergeMachine) (events : List Event) (n : ℕ)
     (given_a given_b : List FrameRecord) (source : Option Feed) (s : Shown c events m) (config : new.plan.now ≡ m.plan.now)
     (reads : m.phase ≡ Reads) (next : new.next ≡ n + 1) (early : n < MOST_FRAMES) (low : m.next ≤ n)
     (held_a : is_held new.phase new.source A ≡ is_from A source) (held_b : is_held new.phase new.source B ≡ is_from B source)
@@ -472,14 +472,14 @@ module _ (follow : DueFollow) (grow : PicksGrow) (field : FieldRange) (c : Confi
 
 -- ---- it goes on so often
 
-pub left_begun : (m : Merging) (a b f : FrameFeed) (g : Merger) → m.phase ≡ Reads
+pub left_begun : (m : MergeMachine) (a b f : FrameFeed) (g : Merger) → m.phase ≡ Reads
     → feed.left_of a + feed.left_of b ≤ feed.left_of m.a + feed.left_of m.b → more_units Gives g f ≤ frame_bytes
     → left_in Gives (feed.left_of a + feed.left_of b) g f < left_of m
 left_begun m a b f g reads fewer few =
     let was = ap (λ (p : Phase). left_in p (feed.left_of m.a + feed.left_of m.b) m.merger (feed_of m)) reads in
     omega (arith, was, fewer, few)
 
-pub left_passed : (m : Merging) (a b f : FrameFeed) (g : Merger) (p : Phase) → m.phase ≡ Reads → p ≡ Reads
+pub left_passed : (m : MergeMachine) (a b f : FrameFeed) (g : Merger) (p : Phase) → m.phase ≡ Reads → p ≡ Reads
     → feed.left_of a + feed.left_of b + 1 ≤ feed.left_of m.a + feed.left_of m.b
     → left_in p (feed.left_of a + feed.left_of b) g f < left_of m
 left_passed m a b f g p reads still fewer =
@@ -487,7 +487,7 @@ left_passed m a b f g p reads still fewer =
     let is = ap (λ (p : Phase). left_in p (feed.left_of a + feed.left_of b) g f) still in
     omega (arith, was, is, fewer)
 
-pub left_finished : (m : Merging) (g : Merger) (records : ℕ) (f : FrameFeed) → m.phase ≡ Reads → bytes_left g [] < 184
+pub left_finished : (m : MergeMachine) (g : Merger) (records : ℕ) (f : FrameFeed) → m.phase ≡ Reads → bytes_left g [] < 184
     → left_in Rests records g f < left_of m
 left_finished m g records f reads few =
     let was = ap (λ (p : Phase). left_in p (feed.left_of m.a + feed.left_of m.b) m.merger (feed_of m)) reads in
@@ -495,7 +495,7 @@ left_finished m g records f reads few =
 
 -- ---- no more frames come
 
-pub shown_finished : (c : Config) (m : Merging) (g : Merger) (events : List Event) → Shown c events m → m.phase ≡ Reads
+pub shown_finished : (c : Config) (m : MergeMachine) (g : Merger) (events : List Event) → Shown c events m → m.phase ≡ Reads
     → least_of (waiting_of m.a) (waiting_of m.b) ≡ None → is_idle (waiting_of m.a) (feed.has_ended m.a) ≡ false
     → is_idle (waiting_of m.b) (feed.has_ended m.b) ≡ false
     → ((left : List Body) (all : List (ℕ × Body)) (given : ℕ) → MergerStandsFor m.merger left all given → MergerStandsFor g left all given)
@@ -534,7 +534,7 @@ shown_finished c m g events s reads least busy_a busy_b stands config over all_f
 
 -- ---- so it is of both feeds and the merger
 
-module _ (follow : DueFollow) (grow : PicksGrow) (field : FieldRange) (c : Config) (m new : Merging) (events : List Event) (n : ℕ)
+module _ (follow : DueFollow) (grow : PicksGrow) (field : FieldRange) (c : Config) (m new : MergeMachine) (events : List Event) (n : ℕ)
     (p : Pick) (t : Takings m new.a new.b n p) (s : Shown c events m) (config : new.plan.now ≡ m.plan.now) (reads : m.phase ≡ Reads)
     (next : new.next ≡ n + 1) (early : n < MOST_FRAMES) where
   abbrev now_from : Option Feed
@@ -569,7 +569,7 @@ module _ (follow : DueFollow) (grow : PicksGrow) (field : FieldRange) (c : Confi
       b.config b.finished
       (subst (λ (k : FrameFeed). BeginsAs m.merger new.merger (left_for new.merger k) (numbered n f.view)) feed_is f.begun)
 
-pub begun_left : DueFollow → PicksGrow → FieldRange → FramesAreFormed → (c : Config) (m : Merging) (a b : FrameFeed)
+pub begun_left : DueFollow → PicksGrow → FieldRange → FramesAreFormed → (c : Config) (m : MergeMachine) (a b : FrameFeed)
     (g : Merger) (events : List Event) (n : ℕ) (p : Pick) → Takings m a b n p → Shown c events m → m.phase ≡ Reads
     → (from : Feed) → p.source ≡ Some from → Begins m.merger g (feed_in from a b) n
     → left_in Gives (feed.left_of a + feed.left_of b) g (feed_in from a b) < left_of m

@@ -29,7 +29,7 @@ use Rattle.merge_run.specs.Steps.{reach_of}
 use Rattle.feed_merge.specs.declared.seen.Feed.TheVariants.{A, B}
 use Rattle.two_feeds.specs.Both.{IsPast}
 use Rattle.merge_run.specs.Shown.{Shown, IsReading, IsDone, IsIn, is_held}
-use Rattle.merge_run.specs.declared.merging.Merging.{Merging}
+use Rattle.merge_run.specs.declared.machine.MergeMachine.{MergeMachine}
 use Rattle.merge_run.specs.declared.phase.Phase.{Phase}
 use Rattle.merge_run.specs.declared.phase.Phase.TheVariants as phase
 use Rattle.two_feeds.specs.Fed.{AreEarly, end_by, ReadsAhead, IsBehind, NoneComes}
@@ -51,7 +51,7 @@ nothing_sent k = refl
 
 -- ---- what is known of two files by what was fed of them
 
-module _ (front : DueFront) (follow : DueFollow) (law : CompleteLaw) (c : Config) (m : Merging) (events : List Event)
+module _ (front : DueFront) (follow : DueFollow) (law : CompleteLaw) (c : Config) (m : MergeMachine) (events : List Event)
     (s : Shown c events m) (files : ℕ → List ℕ) (places : List ℕ) (are : AreFed 2 files places events) where
   abbrev ga : List FrameRecord
   ga = s.given_a

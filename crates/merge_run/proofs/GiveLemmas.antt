@@ -1,8 +1,13 @@
--- Units are given, one by one.
-use Rattle.std.proofs.Common.{◌≡◌, ℕ, ◌+◌, ◌*◌, ◌^◌, ◌<◌, ◌≤◌, true, false, List, [], ◌∷◌, ◌++◌, length, Some}
+-- Units are given.
+use Rattle.std.proofs.Common.{◌≡◌, ◌≢◌, ℕ, ◌+◌, ◌*◌, ◌/◌, ◌^◌, ◌<◌, ◌≤◌, true, false, Bool, List, [], ◌∷◌, ◌++◌, length, drop}
+use Rattle.std.proofs.Common.{take, Some}
 use Rattle.std.proofs.Common.{refl, ap, sym, subst, ◌∙◌, arith, append-nil}
 use Rattle.std.specs.Prelude.{slice_get}
 use Rattle.std.proofs.lemmas.Bool.{true≢false}
+use Rattle.std.proofs.lemmas.List.{length-take-le}
+use Rattle.terms.proofs.ListLemmas.{drop_some}
+use Rattle.ts_packet.specs.declared.sizes.TheConstants.{SIZE}
+use Rattle.frame_groups.specs.Laws.{IsPrefix}
 use Rattle.plp_config.specs.declared.config.Config.{Config}
 use Rattle.plp_config.specs.declared.moment.TheConstants.{MOST_FRAMES}
 use Rattle.frame_groups.specs.declared.waiting.Waiting.{Waiting}
@@ -23,29 +28,29 @@ use Rattle.two_feeds.specs.Skips.{one_if, SkipsIf}
 use Rattle.held_feed.specs.StandsFor.{waiting_of, is_whole}
 use Rattle.held_feed.specs.StandsFor as feed
 use Rattle.held_feed.specs.declared.feed.FrameFeed.{FrameFeed}
-use Rattle.feed_merge.specs.StandsFor.{MergerStandsFor, has_finished, is_fed, bytes_left}
+use Rattle.feed_merge.specs.StandsFor.{MergerStandsFor, GivesUnits, has_finished, is_fed, bytes_left}
 use Rattle.feed_merge.specs.StandsFor as merger
 use Rattle.feed_merge.specs.declared.merger.Merger.{Merger}
-use Rattle.merge_run.specs.Sending.{left_for, GivesUnit, GivesNone, Nexts}
+use Rattle.merge_run.specs.Sending.{left_for}
 use Rattle.merge_run.specs.Shown.{Sends, IsGiving, IsResting, IsIn, is_held, feed_of, left_at}
 use Rattle.two_feeds.specs.Both.{OfFeed, IsPast, AreFedWith}
 use Rattle.two_feeds.specs.Fed.{IsFedWith, IsBehind}
 use Rattle.merge_run.specs.Shown.{more_units, frame_bytes, Shown}
 use Rattle.merge_run.specs.Steps.{left_in, left_of}
 use Rattle.merge_run.specs.Taking.{is_same, feed_in}
-use Rattle.merge_run.specs.declared.merging.Merging.{Merging}
+use Rattle.merge_run.specs.declared.machine.MergeMachine.{MergeMachine}
 use Rattle.merge_run.specs.declared.phase.Phase.{Phase}
 use Rattle.merge_run.specs.declared.phase.Phase.TheVariants.{Reads, Gives, Rests, Done}
 use Rattle.merge_run.specs.declared.stop.Ran.{Ran}
 use Rattle.two_feeds.proofs.HeldLemmas as held
 use Rattle.two_feeds.proofs.EventLemmas.{gave_both}
 use Rattle.merge_run.proofs.LiveLemmas.{live_given}
-use Rattle.merge_run.proofs.SendLemmas.{sends_next, sends_none}
+use Rattle.merge_run.proofs.SendLemmas.{sends_units, sends_none}
 use Rattle.merge_run.proofs.UnitLemmas.{left_is}
 
 -- ---- what is known while units are given
 
-module _ (c : Config) (m : Merging) (events : List Event) (s : Shown c events m) where
+module _ (c : Config) (m : MergeMachine) (events : List Event) (s : Shown c events m) where
   abbrev pub frames : List NumberedView
   frames = frames_of (picks c s.given_a s.given_b)
 
@@ -80,7 +85,7 @@ module _ (c : Config) (m : Merging) (events : List Event) (s : Shown c events m)
   few_units = let u = s.counts.units in let e = s.both.early in omega (arith, u, e)
 
 -- the record whose frame is under way can be left behind
-module _ (c : Config) (m : Merging) (events : List Event) (s : Shown c events m) (gives : m.phase ≡ Gives) where
+module _ (c : Config) (m : MergeMachine) (events : List Event) (s : Shown c events m) (gives : m.phase ≡ Gives) where
   of_first : is_same m.source A ≡ true → feed_of m ≡ m.a
   of_first on = go m.source on
     where
@@ -109,10 +114,29 @@ module _ (c : Config) (m : Merging) (events : List Event) (s : Shown c events m)
 
 -- ---- of a frame
 
-module _ (tell : EventsTell) (c : Config) (m : Merging) (g : Merger) (events : List Event) (unit : List ℕ) (s : Shown c events m)
-    (gives : m.phase ≡ Gives) (frame : PoolFrame) (is : IsFrameOf (feed_of m) frame) where
+-- where a merger and a number of units more are
+abbrev with_units : MergeMachine → Merger → ℕ → MergeMachine
+with_units m g count = record m { merger = g; ran = record m.ran { units = m.ran.units + count } }
+
+-- the bytes of units tell how many there are
+pub counted_units : (old new : Merger) (frame : PoolFrame) (full : Bool) (len : ℕ) (out : List ℕ) → len ≤ length out
+    → (n : GivesUnits old new frame full (take len out)) → len / SIZE ≡ length n.units
+counted_units old new frame full len out few n =
+    let e = length-take-le len out few in
+    let s = n.size in
+    omega (arith, e, s)
+
+pub record Skips (m : MergeMachine) (a b : FrameFeed) : Type 0 where
+  pub took_a : SkipsIf (is_same m.source A) m.a a
+  pub took_b : SkipsIf (is_same m.source B) m.b b
+
+module _ (tell : EventsTell) (c : Config) (m : MergeMachine) (g : Merger) (events : List Event) (s : Shown c events m) (gives : m.phase ≡ Gives)
+    (frame : PoolFrame) (is : IsFrameOf (feed_of m) frame) (full : Bool) (bytes : List ℕ) (n : GivesUnits m.merger g frame full bytes) where
   abbrev fs : List NumberedView
   fs = frames c m events s
+
+  abbrev more : List Event
+  more = events ++ Gave bytes ∷ []
 
   sending : Sends c m.merger (left_for m.merger (feed_of m)) fs m.ran.units (gave events)
   sending = giving_sends c m events s gives
@@ -124,141 +148,129 @@ module _ (tell : EventsTell) (c : Config) (m : Merging) (g : Merger) (events : L
   was : merger.left_in m.merger frame ≡ left_for m.merger (feed_of m)
   was = left_is m.merger (feed_of m) frame is (same_network c m events s)
 
-  now : merger.config_of g ≡ merger.config_of m.merger → merger.left_in g frame ≡ left_for g (feed_of m)
-  now config = left_is g (feed_of m) frame is (same_network c m events s ∙ sym config)
+  now : merger.left_in g frame ≡ left_for g (feed_of m)
+  now = left_is g (feed_of m) frame is (same_network c m events s ∙ sym n.network)
 
   stands : MergerStandsFor m.merger (merger.left_in m.merger frame) (remade_bodies c fs) m.ran.units
   stands = subst (λ (l : List Body). MergerStandsFor m.merger l (remade_bodies c fs) m.ran.units) (sym was) sending.stands
 
-  pub shown_given : Nexts m.merger g frame true unit
-      → Shown c (events ++ Gave unit ∷ []) (record m { merger = g; ran = record m.ran { units = m.ran.units + 1 } })
+  sent : (left : List Body) → merger.left_in g frame ≡ left → Sends c g left fs (m.ran.units + length n.units) (gave more)
   unfolding remade_packets
-  shown_given n =
-      let so : GivesUnit m.merger g frame unit = n.so in
-      let more : List Event = events ++ Gave unit ∷ [] in
-      record {
-        config = s.config;
-        plan = s.plan;
-        given_a = s.given_a;
-        given_b = s.given_b;
-        both = gave_both tell c events unit (is_held m.phase m.source A) (is_held m.phase m.source B) m.next m.a m.b s.given_a s.given_b
-            s.both;
-        sends = subst (λ (p : Phase). Sends c g (left_at p g (feed_of m)) fs (m.ran.units + 1) (gave more)) (sym gives)
-            (subst (Sends c g (left_for g (feed_of m)) fs (m.ran.units + 1)) (sym (tell.given unit events).gave)
-            (sends_next c m.merger g _ (left_for g (feed_of m)) fs m.ran.units (gave events) unit n.config n.finished
-            (λ rest over. subst (λ (k : Config). slice_get (pipe k.pid (packets_from k 0 (remade_bodies c fs) ++ rest)) m.ran.units ≡ Some unit)
-            sending.network (so.next (remade_bodies c fs) m.ran.units stands rest over))
-            (λ off. subst (λ (k : Config). m.ran.units < length (complete_units k.pid (packets_from k 0 (remade_bodies c fs))))
-            sending.network (so.complete off (remade_bodies c fs) m.ran.units stands))
-            (subst (λ (l : List Body). MergerStandsFor g l (remade_bodies c fs) (m.ran.units + 1)) (now n.config)
-            (so.stands (remade_bodies c fs) m.ran.units stands)) sending));
-        ran_is = ap (λ (r : Ran). record r { units = m.ran.units + 1 }) s.ran_is;
-        counts = record {
-          frames = s.counts.frames;
-          parts = s.counts.parts;
-          units = subst (λ (p : Phase). m.ran.units + 1 + more_units p g (feed_of m) ≤ m.next * frame_bytes + 184) (sym gives) (
-              let all = units_in c m events s Gives gives in
-              let less = so.less in
-              let before = ap (bytes_left m.merger) was in
-              let behind = ap (bytes_left g) (now n.config) in
-              omega (arith, all, less, before, behind));
-        };
-        live = live_given tell c events unit s.given_a s.given_b m.next m.ran.units (m.ran.units + 1) (omega arith) s.live;
-        is_in = subst (IsIn c (record m { merger = g; ran = record m.ran { units = m.ran.units + 1 } }) fs) (sym gives)
-            (record { is_open = n.finished ∙ i.is_open; whole = i.whole; early = i.early });
-      }
+  sent left e =
+      sends_units c m.merger g (left_for m.merger (feed_of m)) left fs m.ran.units n.units (gave events) (gave more)
+      ((tell.given bytes events).gave ∙ ap (λ (l : List ℕ). gave events ++ l) n.bytes_are) n.network n.finished
+      (λ rest over. subst (λ (k : Config). IsPrefix n.units (drop m.ran.units (pipe k.pid (packets_from k 0 (remade_bodies c fs) ++ rest))))
+      sending.network (n.next (remade_bodies c fs) m.ran.units stands rest over))
+      (λ off some. subst (λ (k : Config). m.ran.units + length n.units ≤ length (complete_units k.pid (packets_from k 0 (remade_bodies c fs))))
+      sending.network (n.complete off some (remade_bodies c fs) m.ran.units stands))
+      (subst (λ (l : List Body). MergerStandsFor g l (remade_bodies c fs) (m.ran.units + length n.units)) e
+      (n.stands (remade_bodies c fs) m.ran.units stands)) sending
 
-  pub left_given : Nexts m.merger g frame true unit → left_of (record m { merger = g; ran = record m.ran { units = m.ran.units + 1 } })
-      < left_of m
-  left_given n =
-      let so : GivesUnit m.merger g frame unit = n.so in
-      let less = so.less in
+  -- units were given, and the frame stays under way
+  pub shown_units : Shown c more (with_units m g (length n.units))
+  shown_units = record {
+    config = s.config;
+    plan = s.plan;
+    given_a = s.given_a;
+    given_b = s.given_b;
+    both = gave_both tell c events bytes (is_held m.phase m.source A) (is_held m.phase m.source B) m.next m.a m.b s.given_a s.given_b s.both;
+    sends = subst (λ (p : Phase). Sends c g (left_at p g (feed_of m)) fs (m.ran.units + length n.units) (gave more)) (sym gives)
+        (sent (left_for g (feed_of m)) now);
+    ran_is = ap (λ (r : Ran). record r { units = m.ran.units + length n.units }) s.ran_is;
+    counts = record {
+      frames = s.counts.frames;
+      parts = s.counts.parts;
+      units = subst (λ (p : Phase). m.ran.units + length n.units + more_units p g (feed_of m) ≤ m.next * frame_bytes + 184) (sym gives) (
+          let all = units_in c m events s Gives gives in
+          let less = n.less in
+          let before = ap (bytes_left m.merger) was in
+          let behind = ap (bytes_left g) now in
+          omega (arith, all, less, before, behind));
+    };
+    live = live_given tell c events bytes s.given_a s.given_b m.next m.ran.units (m.ran.units + length n.units) (omega arith) s.live;
+    is_in = subst (IsIn c (with_units m g (length n.units)) fs) (sym gives)
+        (record { is_open = n.finished ∙ i.is_open; whole = i.whole; early = i.early });
+  }
+
+  -- so they can be counted
+  pub few_more : m.ran.units + length n.units < 2 ^ 62
+  few_more = few_units c (with_units m g (length n.units)) more shown_units
+
+  -- if the room ended, bytes fewer are left
+  pub left_full : full ≡ true → left_of (with_units m g (length n.units)) < left_of m
+  left_full on =
+      let less = n.less in
       let records : ℕ = feed.left_of m.a + feed.left_of m.b in
       let old = ap (λ (p : Phase). left_in p records m.merger (feed_of m)) gives in
       let new = ap (λ (p : Phase). left_in p records g (feed_of m)) gives in
       let before = ap (bytes_left m.merger) was in
-      let behind = ap (bytes_left g) (now n.config) in
-      omega (arith, less, old, new, before, behind)
-
--- ---- the record is left behind whose frame was sent
-
-pub record Skips (m : Merging) (a b : FrameFeed) : Type 0 where
-  pub took_a : SkipsIf (is_same m.source A) m.a a
-  pub took_b : SkipsIf (is_same m.source B) m.b b
-
-module _ (tell : EventsTell) (c : Config) (m : Merging) (g : Merger) (events : List Event) (unit : List ℕ) (s : Shown c events m)
-    (gives : m.phase ≡ Gives) (frame : PoolFrame) (is : IsFrameOf (feed_of m) frame) (follow : DueFollow) (a b : FrameFeed)
-    (t : Skips m a b) where
-  abbrev more : List Event
-  more = events ++ Gave [] ∷ []
-
-  of_a : IsFedWith c a (fed 0 events) (has_ended 0 events) s.given_a
-  of_a = held.left_of (is_same m.source A) c m.a a (fed 0 events) (has_ended 0 events) s.given_a t.took_a.same.network t.took_a.stays
-      (t.took_a.takes (fed 0 events) (has_ended 0 events))
-      (subst (λ (p : Phase). OfFeed (is_held p m.source A) c m.a (fed 0 events) (has_ended 0 events) s.given_a) gives s.both.of_a)
-
-  of_b : IsFedWith c b (fed 1 events) (has_ended 1 events) s.given_b
-  of_b = held.left_of (is_same m.source B) c m.b b (fed 1 events) (has_ended 1 events) s.given_b t.took_b.same.network t.took_b.stays
-      (t.took_b.takes (fed 1 events) (has_ended 1 events))
-      (subst (λ (p : Phase). OfFeed (is_held p m.source B) c m.b (fed 1 events) (has_ended 1 events) s.given_b) gives s.both.of_b)
-
-  past_a : IsBehind m.next a s.given_a
-  past_a = held.left_past follow (is_same m.source A) c m.next m.a a (fed 0 events) (has_ended 0 events) s.given_a t.took_a.stays
-      (subst (λ (p : Phase). IsPast (is_held p m.source A) m.next m.a s.given_a) gives s.both.behind_a) of_a
-
-  past_b : IsBehind m.next b s.given_b
-  past_b = held.left_past follow (is_same m.source B) c m.next m.b b (fed 1 events) (has_ended 1 events) s.given_b t.took_b.stays
-      (subst (λ (p : Phase). IsPast (is_held p m.source B) m.next m.b s.given_b) gives s.both.behind_b) of_b
-
-  -- none is complete
-  pub shown_caught : Nexts m.merger g frame false unit → Shown c more (record m { a = a; b = b; merger = g; phase = Reads })
-  unfolding remade_packets
-  shown_caught n =
-      let fs = frames c m events s in
-      let so : GivesNone m.merger g frame = n.so in
-      let sends = giving_sends c m events s gives in
-      let was = left_is m.merger (feed_of m) frame is (same_network c m events s) in
-      let stands = subst (λ (l : List Body). MergerStandsFor m.merger l (remade_bodies c fs) m.ran.units) (sym was) sends.stands in
-      record {
-        config = s.config;
-        plan = s.plan;
-        given_a = s.given_a;
-        given_b = s.given_b;
-        both = gave_both tell c events [] false false m.next a b s.given_a s.given_b (record {
-          of_a = of_a;
-          of_b = of_b;
-          behind_a = past_a;
-          behind_b = past_b;
-          next_is = s.both.next_is;
-          early = s.both.early;
-        });
-        sends = subst (Sends c g [] fs m.ran.units) (sym (tell.given [] events).gave)
-            (sends_none c m.merger g _ [] fs m.ran.units (gave events) n.config n.finished
-            (subst (λ (l : List Body). MergerStandsFor g l (remade_bodies c fs) m.ran.units) so.spent
-            (so.stands (merger.left_in m.merger frame) (remade_bodies c fs) m.ran.units stands)) sends);
-        ran_is = s.ran_is;
-        counts = record {
-          frames = s.counts.frames;
-          parts = s.counts.parts;
-          units = (let all = units_in c m events s Gives gives in omega (arith, all));
-        };
-        live = live_given tell c events [] s.given_a s.given_b m.next m.ran.units m.ran.units (omega arith) s.live;
-        is_in = record {
-          is_open = n.finished ∙ i.is_open;
-          idle = so.idle;
-          complete = subst (λ (k : Config). m.ran.units ≡ length (complete_units k.pid (packets_from k 0 (remade_bodies c fs))))
-              sends.network (so.all i.is_open (remade_bodies c fs) m.ran.units stands);
-        };
-      }
+      let behind = ap (bytes_left g) now in
+      omega (arith, less, old, new, before, behind, some_units n.units (n.some on))
     where
-      i : IsGiving m.merger (feed_of m)
-      i = giving c m events s gives
+      some_units : (units : List (List ℕ)) → units ≢ [] → 0 < length units
+      some_units [] differ = absurd (differ refl)
+      some_units (u ∷ units) differ = omega arith
+
+  -- else no more is complete, and the record is left behind whose frame was sent
+  module _ (follow : DueFollow) (a b : FrameFeed) (t : Skips m a b) where
+    of_a : IsFedWith c a (fed 0 events) (has_ended 0 events) s.given_a
+    of_a = held.left_of (is_same m.source A) c m.a a (fed 0 events) (has_ended 0 events) s.given_a t.took_a.same.network t.took_a.stays
+        (t.took_a.takes (fed 0 events) (has_ended 0 events))
+        (subst (λ (p : Phase). OfFeed (is_held p m.source A) c m.a (fed 0 events) (has_ended 0 events) s.given_a) gives s.both.of_a)
+
+    of_b : IsFedWith c b (fed 1 events) (has_ended 1 events) s.given_b
+    of_b = held.left_of (is_same m.source B) c m.b b (fed 1 events) (has_ended 1 events) s.given_b t.took_b.same.network t.took_b.stays
+        (t.took_b.takes (fed 1 events) (has_ended 1 events))
+        (subst (λ (p : Phase). OfFeed (is_held p m.source B) c m.b (fed 1 events) (has_ended 1 events) s.given_b) gives s.both.of_b)
+
+    past_a : IsBehind m.next a s.given_a
+    past_a = held.left_past follow (is_same m.source A) c m.next m.a a (fed 0 events) (has_ended 0 events) s.given_a t.took_a.stays
+        (subst (λ (p : Phase). IsPast (is_held p m.source A) m.next m.a s.given_a) gives s.both.behind_a) of_a
+
+    past_b : IsBehind m.next b s.given_b
+    past_b = held.left_past follow (is_same m.source B) c m.next m.b b (fed 1 events) (has_ended 1 events) s.given_b t.took_b.stays
+        (subst (λ (p : Phase). IsPast (is_held p m.source B) m.next m.b s.given_b) gives s.both.behind_b) of_b
+
+    pub shown_behind : full ≡ false → Shown c more (record (with_units m g (length n.units)) { a = a; b = b; phase = Reads })
+    unfolding remade_packets
+    shown_behind off = record {
+      config = s.config;
+      plan = s.plan;
+      given_a = s.given_a;
+      given_b = s.given_b;
+      both = gave_both tell c events bytes false false m.next a b s.given_a s.given_b (record {
+        of_a = of_a;
+        of_b = of_b;
+        behind_a = past_a;
+        behind_b = past_b;
+        next_is = s.both.next_is;
+        early = s.both.early;
+      });
+      sends = sent [] (n.spent off);
+      ran_is = ap (λ (r : Ran). record r { units = m.ran.units + length n.units }) s.ran_is;
+      counts = record {
+        frames = s.counts.frames;
+        parts = s.counts.parts;
+        units = (
+            let all = units_in c m events s Gives gives in
+            let less = n.less in
+            let before = ap (bytes_left m.merger) was in
+            omega (arith, all, less, before));
+      };
+      live = live_given tell c events bytes s.given_a s.given_b m.next m.ran.units (m.ran.units + length n.units) (omega arith) s.live;
+      is_in = record {
+        is_open = n.finished ∙ i.is_open;
+        idle = n.idle off;
+        complete = subst (λ (k : Config). m.ran.units + length n.units ≡ length (complete_units k.pid (packets_from k 0 (remade_bodies c fs))))
+            sending.network (n.all off i.is_open (remade_bodies c fs) m.ran.units stands);
+      };
+    }
 
 one_same : (source : Feed) → one_if (is_same source A) + one_if (is_same source B) ≡ 1
 one_same A = refl
 one_same B = refl
 
-pub left_behind : (m : Merging) (a b f : FrameFeed) (g : Merger) → m.phase ≡ Gives → Skips m a b
+pub left_behind : (m : MergeMachine) (a b f : FrameFeed) (g : Merger) → m.phase ≡ Gives → Skips m a b
     → left_in Reads (feed.left_of a + feed.left_of b) g f < left_of m
 left_behind m a b f g gives t =
     let was = ap (λ (p : Phase). left_in p (feed.left_of m.a + feed.left_of m.b) m.merger (feed_of m)) gives in
@@ -268,7 +280,7 @@ left_behind m a b f g gives t =
 
 -- ---- behind the end
 
-module _ (tell : EventsTell) (c : Config) (m : Merging) (g : Merger) (events : List Event) (unit : List ℕ) (s : Shown c events m)
+module _ (tell : EventsTell) (c : Config) (m : MergeMachine) (g : Merger) (events : List Event) (unit : List ℕ) (s : Shown c events m)
     (rests : m.phase ≡ Rests) (config : merger.config_of g ≡ merger.config_of m.merger) (finished : has_finished g ≡ true)
     (all_fed : is_fed g ≡ true) where
   abbrev j : IsResting m.merger m.a m.b
@@ -294,14 +306,17 @@ module _ (tell : EventsTell) (c : Config) (m : Merging) (g : Merger) (events : L
         both = gave_both tell c events unit (is_held m.phase m.source A) (is_held m.phase m.source B) m.next m.a m.b s.given_a s.given_b
             s.both;
         sends = subst (λ (p : Phase). Sends c g (left_at p g (feed_of m)) fs (m.ran.units + 1) (gave (events ++ Gave unit ∷ []))) (sym rests)
-            (subst (Sends c g [] fs (m.ran.units + 1)) (sym (tell.given unit events).gave)
-            (sends_next c m.merger g [] [] fs m.ran.units (gave events) unit config over
-            (λ more none. subst (λ (l : List (List ℕ)). slice_get (pipe c.pid l) m.ran.units ≡ Some unit)
-            (sym (ap (λ (l : List (List ℕ)). remade_packets c fs ++ l) (none j.over) ∙ append-nil (remade_packets c fs)))
-            (subst (λ (k : Config). slice_get (pipe k.pid (packets_from k 0 (remade_bodies c fs))) m.ran.units ≡ Some unit) ending.network
-            (next (remade_bodies c fs) m.ran.units ending.stands)))
+            (sends_units c m.merger g [] [] fs m.ran.units (unit ∷ []) (gave events) (gave (events ++ Gave unit ∷ []))
+            ((tell.given unit events).gave ∙ ap (λ (l : List ℕ). gave events ++ l) (sym (append-nil unit))) config over
+            (λ more none. subst (λ (l : List (List ℕ)). IsPrefix (unit ∷ []) (drop m.ran.units (pipe c.pid l)))
+            (sym (ap (λ (l : List (List ℕ)). remade_packets c fs ++ l) (none j.over) ∙ append-nil (remade_packets c fs))) (
+              drop (m.ran.units + 1) (pipe c.pid (remade_packets c fs)),
+              drop_some (pipe c.pid (remade_packets c fs)) m.ran.units unit
+                  (subst (λ (k : Config). slice_get (pipe k.pid (packets_from k 0 (remade_bodies c fs))) m.ran.units ≡ Some unit) ending.network
+                  (next (remade_bodies c fs) m.ran.units ending.stands)),
+            ))
             (λ off. absurd (true≢false (sym j.over ∙ off)))
-            (stands (remade_bodies c fs) m.ran.units ending.stands) ending));
+            (stands (remade_bodies c fs) m.ran.units ending.stands) ending);
         ran_is = ap (λ (r : Ran). record r { units = m.ran.units + 1 }) s.ran_is;
         counts = record {
           frames = s.counts.frames;
@@ -349,7 +364,7 @@ module _ (tell : EventsTell) (c : Config) (m : Merging) (g : Merger) (events : L
         };
       }
 
-pub left_rest : (m : Merging) (g : Merger) → m.phase ≡ Rests → bytes_left g [] < bytes_left m.merger []
+pub left_rest : (m : MergeMachine) (g : Merger) → m.phase ≡ Rests → bytes_left g [] < bytes_left m.merger []
     → left_of (record m { merger = g; ran = record m.ran { units = m.ran.units + 1 } }) < left_of m
 left_rest m g rests less =
     let records : ℕ = feed.left_of m.a + feed.left_of m.b in
@@ -357,7 +372,7 @@ left_rest m g rests less =
     let is = ap (λ (p : Phase). left_in p records g (feed_of m)) rests in
     omega (arith, was, is, less)
 
-pub left_done : (m : Merging) (g : Merger) → m.phase ≡ Rests → left_of (record m { merger = g; phase = Done }) < left_of m
+pub left_done : (m : MergeMachine) (g : Merger) → m.phase ≡ Rests → left_of (record m { merger = g; phase = Done }) < left_of m
 left_done m g rests =
     let was = ap (λ (p : Phase). left_in p (feed.left_of m.a + feed.left_of m.b) m.merger (feed_of m)) rests in
     omega (arith, was)

@@ -13,5 +13,3 @@ pub mod SplitLemmas
 pub mod StepLemmas
 pub mod TakeLemmas
 pub mod UnitLemmas
-pub mod UnitsLemmas
-pub mod WantLemmas

@@ -1,12 +1,11 @@
 -- What the merger sends of the frames that are picked.
-use Rattle.std.proofs.Common.{◌≡◌, ℕ, ◌+◌, ◌<◌, true, false, List, [], ◌∷◌, ◌++◌, length, Some}
+use Rattle.std.proofs.Common.{◌≡◌, ◌≢◌, ℕ, ◌+◌, ◌≤◌, true, false, List, [], ◌∷◌, ◌++◌, length, drop}
 use Rattle.std.proofs.Common.{refl, ap, sym, subst, ◌∙◌, arith, append-nil, append_assoc, length-append}
-use Rattle.std.specs.Prelude.{slice_get}
 use Rattle.std.specs.List.{filter}
 use Rattle.std.proofs.lemmas.Bool.{true≢false}
 use Rattle.std.proofs.lemmas.List.Elements.{filter-append}
-use Rattle.terms.proofs.ListLemmas.{next_element, same_front, all_of}
-use Rattle.ts_packet.proofs.JoinedLemmas.{joined_push}
+use Rattle.terms.proofs.ListLemmas.{same_front, all_of}
+use Rattle.ts_packet.proofs.JoinedLemmas.{joined_append}
 use Rattle.plp_config.specs.declared.config.Config.{Config}
 use Rattle.t2mi_packet.specs.declared.packet.Body.{Body}
 use Rattle.ts_packet.specs.TsFile.{joined}
@@ -15,8 +14,9 @@ use Rattle.t2mi_stream.specs.Complete.{complete_units}
 use Rattle.t2mi_stream.specs.CompleteLaws.{CompleteLaw}
 use Rattle.t2mi_stream.specs.Pipe.{pipe}
 use Rattle.t2mi_stream.proofs.CompleteLemmas.{complete_law}
+use Rattle.frame_writer.proofs.UnitsLemmas.{front_then}
 use Rattle.formed_frames.specs.Remade.{NumberedView, remade_packets, remade_bodies}
-use Rattle.feed_merge.proofs.FrontLemmas.{packets_more}
+use Rattle.feed_merge.proofs.FrontLemmas.{packets_more, more_within}
 use Rattle.feed_merge.specs.declared.merger.Merger.{Merger}
 use Rattle.feed_merge.specs.declared.seen.Feed.{Feed}
 use Rattle.feed_merge.specs.declared.seen.Feed.TheVariants.{A, B}
@@ -59,34 +59,30 @@ sends_begun c g h left frames f count gave config going b s =
           omega (arith, size, same, few, length-append (complete_units c.pid (remade_packets c frames)) l.others);
     }
 
--- ---- a unit is given
+-- ---- units are given
 
--- the next of all units
-pub sends_next : (c : Config) (g h : Merger) (was left : List Body) (frames : List NumberedView) (count : ℕ) (gave unit : List ℕ)
-    → config_of h ≡ config_of g
-    → has_finished h ≡ has_finished g
+-- the next of all
+pub sends_units : (c : Config) (g h : Merger) (was left : List Body) (frames : List NumberedView) (count : ℕ) (units : List (List ℕ))
+    (gave now : List ℕ) → now ≡ gave ++ joined units → config_of h ≡ config_of g → has_finished h ≡ has_finished g
     → ((more : List (List ℕ)) → (has_finished g ≡ true → more ≡ [])
-    → slice_get (pipe c.pid (remade_packets c frames ++ more)) count ≡ Some unit)
-    → (has_finished g ≡ false → count < length (complete_units c.pid (remade_packets c frames)))
-    → MergerStandsFor h left (remade_bodies c frames) (count + 1) → Sends c g was frames count gave
-    → Sends c h left frames (count + 1) (gave ++ unit)
-sends_next c g h was left frames count gave unit config finished next complete stands s = record {
+    → IsPrefix units (drop count (pipe c.pid (remade_packets c frames ++ more))))
+    → (has_finished g ≡ false → units ≢ [] → count + length units ≤ length (complete_units c.pid (remade_packets c frames)))
+    → MergerStandsFor h left (remade_bodies c frames) (count + length units) → Sends c g was frames count gave
+    → Sends c h left frames (count + length units) now
+sends_units c g h was left frames count units gave now is config finished next complete stands s = record {
   network = config ∙ s.network;
   stands = stands;
-  units = s.units ++ unit ∷ [];
-  gave_is = ap (λ (l : List ℕ). l ++ unit) s.gave_is ∙ sym (joined_push s.units unit);
-  count_is = (let e = s.count_is in omega (arith, e, length-append s.units (unit ∷ [])));
+  units = s.units ++ units;
+  gave_is = is ∙ ap (λ (l : List ℕ). l ++ joined units) s.gave_is ∙ sym (joined_append s.units units);
+  count_is = (let e = s.count_is in omega (arith, e, length-append s.units units));
   front = λ more over.
-      let p = s.front more (λ on. over (finished ∙ on)) in
-      let at : slice_get (s.units ++ p.0) (length s.units) ≡ Some unit =
-      ap (λ (l : List (List ℕ)). slice_get l (length s.units)) (sym p.1)
-      ∙ ap (slice_get (pipe c.pid (remade_packets c frames ++ more))) (sym s.count_is) ∙ next more (λ on. over (finished ∙ on)) in
-      let r = next_element s.units p.0 unit at in
-      (r.0, p.1 ∙ ap (λ (l : List (List ℕ)). s.units ++ l) r.1 ∙ sym (append_assoc s.units (unit ∷ []) r.0));
-  whole = λ off. let less = complete (sym finished ∙ off) in omega (arith, less);
+      let going : has_finished g ≡ true → more ≡ [] = λ on. over (finished ∙ on) in
+      front_then s.units units (pipe c.pid (remade_packets c frames ++ more)) (s.front more going)
+      (subst (λ (k : ℕ). IsPrefix units (drop k (pipe c.pid (remade_packets c frames ++ more)))) s.count_is (next more going));
+  whole = λ off. more_within count _ units (s.whole (sym finished ∙ off)) (complete (sym finished ∙ off));
 }
 
--- no unit is given
+-- none is given
 pub sends_none : (c : Config) (g h : Merger) (was left : List Body) (frames : List NumberedView) (count : ℕ) (gave : List ℕ)
     → config_of h ≡ config_of g → has_finished h ≡ has_finished g → MergerStandsFor h left (remade_bodies c frames) count
     → Sends c g was frames count gave → Sends c h left frames count (gave ++ [])

@@ -1,5 +1,6 @@
 -- What is shown at first, of bytes that came, and of their end.
 use Rattle.std.proofs.Common.{◌≡◌, ◌+◌, ◌*◌, ◌≤◌, false, List, [], ◌∷◌, ◌++◌, length}
+use Rattle.std.proofs.Math.Logic.{∥∥₁_map}
 use Rattle.std.proofs.Common.{refl, ap, sym, subst, ◌∙◌, arith, append-nil}
 use Rattle.plp_config.specs.declared.config.Config.{Config}
 use Rattle.t2mi_stream.specs.Complete.{complete_units, complete_in}
@@ -7,19 +8,21 @@ use Rattle.t2mi_stream.specs.Pipe.{pipe}
 use Rattle.formed_frames.specs.Remade.{NumberedView, remade_packets}
 use Rattle.file_run.specs.Events.{Event, Gave, fed, gave}
 use Rattle.file_run.specs.Laws.{EventsTell}
+use Rattle.file_run.specs.Steps.{HasCome}
 use Rattle.held_feed.specs.declared.feed.FrameFeed.{FrameFeed}
 use Rattle.feed_merge.specs.Picks.{Picked, picks, frames_of}
 use Rattle.feed_merge.specs.StandsFor.{MergerStandsFor, has_unit, has_finished}
 use Rattle.feed_merge.specs.StandsFor as merger
 use Rattle.feed_merge.specs.declared.merger.Merger.{Merger}
 use Rattle.merge_run.specs.Counted.{counted}
-use Rattle.merge_run.specs.Shown.{Sends, IsReading, IsLive, IsIn, Shown}
+use Rattle.merge_run.specs.AsMachine.{Becomes}
+use Rattle.merge_run.specs.Shown.{Sends, IsReading, IsLive, IsIn, Shown, HasShown}
 use Rattle.two_feeds.specs.Both.{AreFedWith, GoOn}
 use Rattle.merge_run.specs.Shown.{is_held, feed_of, left_at, more_units, frame_bytes}
 use Rattle.merge_run.specs.Taking.{feed_in}
 use Rattle.feed_merge.specs.declared.seen.Feed.TheVariants.{A, B}
 use Rattle.merge_run.specs.declared.phase.Phase.{Phase}
-use Rattle.merge_run.specs.declared.merging.Merging.{Merging}
+use Rattle.merge_run.specs.declared.machine.MergeMachine.{MergeMachine}
 use Rattle.merge_run.specs.declared.phase.Phase.TheVariants.{Reads}
 use Rattle.merge_run.specs.declared.stop.Ran.{Ran}
 use Rattle.two_feeds.proofs.EventLemmas.{gave_both}
@@ -63,22 +66,27 @@ live_opened c = record {
 pub ran_opened : (c : Config) → (let r : Ran = record { frames = 0; a = 0; b = 0; units = 0 } in r) ≡ counted (picks c [] []) 0
 ran_opened c = sym (ap (λ (ps : List Picked). counted ps 0) (picks_nothing c))
 
+-- ---- something was done
+
+pub has_shown : (m : MergeMachine) → ∥ HasCome Becomes m ∥₁ → ∥ HasShown m ∥₁
+has_shown m came = ∥∥₁_map came (λ (h : HasCome Becomes m). record { network = h.start.plan.now; events = h.events; shown = h.came })
+
 -- ---- bytes came
 
 -- of a feed that is idle, by what its call gives
-still_reading : (c : Config) (m : Merging) (g h : FrameFeed) (frames : List NumberedView) → m.phase ≡ Reads → IsIn c m frames m.phase
+still_reading : (c : Config) (m : MergeMachine) (g h : FrameFeed) (frames : List NumberedView) → m.phase ≡ Reads → IsIn c m frames m.phase
     → IsIn c (record m { a = g; b = h }) frames m.phase
 still_reading c m g h frames reads i =
     subst (IsIn c (record m { a = g; b = h }) frames) (sym reads) (subst (IsIn c m frames) reads i)
 
 -- while records are read
-pub reading : (c : Config) (m : Merging) (events : List Event) (s : Shown c events m) → m.phase ≡ Reads
+pub reading : (c : Config) (m : MergeMachine) (events : List Event) (s : Shown c events m) → m.phase ≡ Reads
     → AreFedWith c events false false m.next m.a m.b s.given_a s.given_b
 reading c m events s reads =
     subst (λ (p : Phase). AreFedWith c events (is_held p m.source A) (is_held p m.source B) m.next m.a m.b s.given_a s.given_b) reads s.both
 
 -- so the feeds changed
-pub shown_read : (c : Config) (m : Merging) (g h : FrameFeed) (events more : List Event) (s : Shown c events m) → m.phase ≡ Reads
+pub shown_read : (c : Config) (m : MergeMachine) (g h : FrameFeed) (events more : List Event) (s : Shown c events m) → m.phase ≡ Reads
     → GoOn c events more m.next g h s.given_a s.given_b → Shown c more (record m { a = g; b = h })
 shown_read c m g h events more s reads go =
     let frames : List NumberedView = frames_of (picks c s.given_a s.given_b) in
@@ -106,7 +114,7 @@ shown_read c m g h events more s reads go =
     }
 
 -- Nothing was given.
-pub shown_still : EventsTell → (c : Config) (m : Merging) (events : List Event) → Shown c events m → Shown c (events ++ Gave [] ∷ []) m
+pub shown_still : EventsTell → (c : Config) (m : MergeMachine) (events : List Event) → Shown c events m → Shown c (events ++ Gave [] ∷ []) m
 shown_still tell c m events s = record {
   config = s.config;
   plan = s.plan;

@@ -6,7 +6,7 @@ use Rattle.held_feed.specs.StandsFor.{waiting_of, has_ended}
 use Rattle.two_feeds.specs.Reading.{step_for}
 use Rattle.two_feeds.proofs.StepLemmas.{GoesOn, goes_on}
 use Rattle.merge_run.specs.Steps.{step_in, step_of}
-use Rattle.merge_run.specs.declared.merging.Merging.{Merging}
+use Rattle.merge_run.specs.declared.machine.MergeMachine.{MergeMachine}
 use Rattle.merge_run.specs.declared.phase.Phase.{Phase}
 use Rattle.merge_run.specs.declared.phase.Phase.TheVariants.{Reads, Gives, Rests, Done}
 
@@ -19,12 +19,12 @@ asked Asks not_give not_end Gives step input count h = absurd (not_give input co
 asked Asks not_give not_end Rests step input count h = absurd (not_give input count h)
 asked Asks not_give not_end Done step input count h = absurd (not_end input count h)
 
-pub goes_on_at : (m : Merging) → m.phase ≡ Reads → step_of m ≡ Give
+pub goes_on_at : (m : MergeMachine) → m.phase ≡ Reads → step_of m ≡ Give
     → GoesOn (waiting_of m.a) (has_ended m.a) (waiting_of m.b) (has_ended m.b)
 goes_on_at m reads h = goes_on _ _ _ _ (sym (ap (λ (p : Phase). step_in p (step_for m.a m.b)) reads) ∙ h)
 
 -- and if it does not read, and gives no unit of a frame, it gives the rest
-pub rests_at : (m : Merging) → step_of m ≡ Give → (m.phase ≡ Reads → ⊥) → (m.phase ≡ Gives → ⊥) → m.phase ≡ Rests
+pub rests_at : (m : MergeMachine) → step_of m ≡ Give → (m.phase ≡ Reads → ⊥) → (m.phase ≡ Gives → ⊥) → m.phase ≡ Rests
 rests_at m h reads gives = go m.phase refl h
   where
     go : (p : Phase) → m.phase ≡ p → step_in p (step_for m.a m.b) ≡ Give → m.phase ≡ Rests

@@ -1,41 +1,19 @@
 -- A unit was given, or none.
-use Rattle.std.proofs.Common.{◌≡◌, ℕ, ◌+◌, ◌%◌, ◌<◌, Bool, true, false, List, [], ◌++◌, length, Some, refl, ap, ap₂, ◌∙◌}
-use Rattle.std.specs.Prelude.{slice_get}
+use Rattle.std.proofs.Common.{◌≡◌, ℕ, ◌%◌, Bool, List, length, ap, ap₂, ◌∙◌}
 use Rattle.plp_config.specs.declared.config.Config.{Config}
 use Rattle.t2mi_packet.specs.declared.packet.Body.{Body}
-use Rattle.t2mi_stream.specs.Complete.{complete_units}
-use Rattle.t2mi_stream.specs.Pipe.{pipe}
 use Rattle.frame_writer.specs.FirstPacket.{from_step}
-use Rattle.frame_writer.specs.FramePackets.{packets_from, l1_body}
+use Rattle.frame_writer.specs.FramePackets.{l1_body}
 use Rattle.pool_frame.specs.Left.{CanBeSent, blocks_left}
 use Rattle.pool_frame.specs.Signalling.{pre_part, conf_part}
 use Rattle.pool_frame.specs.declared.frame.PoolFrame.{PoolFrame}
 use Rattle.held_feed.specs.Frames.{IsFrameOf}
 use Rattle.held_feed.specs.StandsFor as feed
 use Rattle.held_feed.specs.declared.feed.FrameFeed.{FrameFeed}
-use Rattle.feed_merge.specs.StandsFor.{MergerStandsFor, config_of, left_in, has_unit, has_finished, bytes_left}
+use Rattle.feed_merge.specs.StandsFor.{config_of, left_in}
 use Rattle.feed_merge.specs.declared.merger.Merger.{Merger}
-use Rattle.merge_run.specs.Sending.{left_for, GivesSo}
+use Rattle.merge_run.specs.Sending.{left_for}
 use Rattle.two_feeds.proofs.CameLemmas.{number_of}
-
-pub gives_so : (old new : Merger) (frame : PoolFrame) (b : Bool) (unit : List ℕ)
-    → (b ≡ true → (all : List (ℕ × Body)) (given : ℕ) → MergerStandsFor old (left_in old frame) all given
-    → (more : List (List ℕ)) → (has_finished old ≡ true → more ≡ [])
-    → slice_get (pipe (config_of old).pid (packets_from (config_of old) 0 all ++ more)) given ≡ Some unit)
-    → (b ≡ true → (all : List (ℕ × Body)) (given : ℕ) → MergerStandsFor old (left_in old frame) all given
-    → MergerStandsFor new (left_in new frame) all (given + 1))
-    → (b ≡ true → has_finished old ≡ false → (all : List (ℕ × Body)) (given : ℕ) → MergerStandsFor old (left_in old frame) all given
-    → given < length (complete_units (config_of old).pid (packets_from (config_of old) 0 all)))
-    → (b ≡ true → bytes_left new (left_in new frame) < bytes_left old (left_in old frame))
-    → (b ≡ false → (left : List Body) (all : List (ℕ × Body)) (given : ℕ) → MergerStandsFor old left all given
-    → MergerStandsFor new left all given)
-    → (b ≡ false → has_finished old ≡ false → (all : List (ℕ × Body)) (given : ℕ) → MergerStandsFor old (left_in old frame) all given
-    → given ≡ length (complete_units (config_of old).pid (packets_from (config_of old) 0 all)))
-    → (b ≡ false → has_unit new ≡ false) → (b ≡ false → left_in old frame ≡ []) → GivesSo old new frame b unit
-gives_so old new frame true unit next stands complete less kept all idle spent =
-    record { next = next refl; stands = stands refl; complete = complete refl; less = less refl }
-gives_so old new frame false unit next stands complete less kept all idle spent =
-    record { stands = kept refl; all = all refl; idle = idle refl; spent = spent refl }
 
 -- what is left of a frame is what is left of it where it waits
 pub left_is : (g : Merger) (f : FrameFeed) (frame : PoolFrame) → IsFrameOf f frame → feed.config_of f ≡ config_of g

@@ -12,7 +12,7 @@ use Rattle.merge_run.specs.declared.stop.Ran.{Ran}
 
 -- To the first this was done, and then it is the second.
 abbrev pub Becomes : MergeMachine → List Event → MergeMachine → Type 0
-Becomes start events m = Shown start.merging.plan.now events m.merging
+Becomes start events m = Shown start.plan.now events m
 
 -- what comes of a run that came so far
 abbrev pub ending_in : Phase → ℕ → Ran → Result Ran MergeStop
@@ -22,4 +22,4 @@ ending_in Rests next ran = Err stop.TooManyFrames
 ending_in Done next ran = if next == 0 then Err stop.NoSuperframe else Ok ran
 
 abbrev pub ending_of : MergeMachine → Result Ran MergeStop
-ending_of m = ending_in m.merging.phase m.merging.next m.merging.ran
+ending_of m = ending_in m.phase m.next m.ran

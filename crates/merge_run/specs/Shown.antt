@@ -25,7 +25,7 @@ use Rattle.two_feeds.specs.Fed.{NoneComes}
 use Rattle.merge_run.specs.Counted.{counted}
 use Rattle.merge_run.specs.Sending.{left_for}
 use Rattle.merge_run.specs.Taking.{is_same, feed_in}
-use Rattle.merge_run.specs.declared.merging.Merging.{Merging}
+use Rattle.merge_run.specs.declared.machine.MergeMachine.{MergeMachine}
 use Rattle.merge_run.specs.declared.phase.Phase.{Phase}
 use Rattle.merge_run.specs.declared.phase.Phase.TheVariants.{Reads, Gives, Rests, Done}
 
@@ -67,10 +67,10 @@ pub record IsDone (c : Config) (frames : List NumberedView) (count : ℕ) (a b :
   pub none_b : NoneComes b
 
 -- the feed whose frame is under way, if one is
-abbrev pub feed_of : Merging → FrameFeed
+abbrev pub feed_of : MergeMachine → FrameFeed
 feed_of m = feed_in m.source m.a m.b
 
-abbrev pub IsIn : Config → Merging → List NumberedView → Phase → Type 0
+abbrev pub IsIn : Config → MergeMachine → List NumberedView → Phase → Type 0
 IsIn c m frames Reads = IsReading c m.merger frames m.ran.units
 IsIn c m frames Gives = IsGiving m.merger (feed_of m)
 IsIn c m frames Rests = IsResting m.merger m.a m.b
@@ -102,7 +102,7 @@ abbrev pub frame_bytes : ℕ
 frame_bytes = 2 ^ 30
 
 -- what was counted: frames by the numbers that were passed, and units by the bytes that frames have
-pub record CountsFrames (m : Merging) : Type 0 where
+pub record CountsFrames (m : MergeMachine) : Type 0 where
   pub frames : m.ran.frames ≤ m.next
   pub parts : m.ran.a + m.ran.b ≡ m.ran.frames
   pub units : m.ran.units + more_units m.phase m.merger (feed_of m) ≤ m.next * frame_bytes + 184
@@ -116,7 +116,7 @@ pub record IsLive (c : Config) (fed_a fed_b : List ℕ) (given_a given_b : List 
   pub done : length (complete_units c.pid (remade_packets c (frames_of (picks_below c given_a given_b low)))) ≤ count
 
 -- What was done, and where two feeds of a network and the merger are then.
-pub record Shown (c : Config) (events : List Event) (m : Merging) : Type 0 where
+pub record Shown (c : Config) (events : List Event) (m : MergeMachine) : Type 0 where
   pub config : m.plan.now ≡ c
   pub plan : IsPlan c
   pub given_a : List FrameRecord
@@ -129,7 +129,7 @@ pub record Shown (c : Config) (events : List Event) (m : Merging) : Type 0 where
   pub is_in : IsIn c m (frames_of (picks c given_a given_b)) m.phase
 
 -- Something was done, and then they are there.
-pub record HasShown (m : Merging) : Type 0 where
+pub record HasShown (m : MergeMachine) : Type 0 where
   pub network : Config
   pub events : List Event
   pub shown : Shown network events m

@@ -7,7 +7,7 @@ use Rattle.held_feed.specs.StandsFor as feed
 use Rattle.held_feed.specs.declared.feed.FrameFeed.{FrameFeed}
 use Rattle.feed_merge.specs.declared.merger.Merger.{Merger}
 use Rattle.merge_run.specs.Shown.{feed_of, more_units, frame_bytes}
-use Rattle.merge_run.specs.declared.merging.Merging.{Merging}
+use Rattle.merge_run.specs.declared.machine.MergeMachine.{MergeMachine}
 use Rattle.merge_run.specs.declared.phase.Phase.{Phase}
 use Rattle.merge_run.specs.declared.phase.Phase.TheVariants.{Reads, Gives, Rests, Done}
 
@@ -17,11 +17,11 @@ step_in Gives step = Give
 step_in Rests step = Give
 step_in Done step = End
 
-abbrev pub step_of : Merging → Step
+abbrev pub step_of : MergeMachine → Step
 step_of m = step_in m.phase (step_for m.a m.b)
 
 -- how far an input may have been read
-abbrev pub reach_of : Merging → ℕ → ℕ
+abbrev pub reach_of : MergeMachine → ℕ → ℕ
 reach_of m = reach_by m.a m.b
 
 -- It gives no more often before it wants bytes: so many records may come, and each has a frame's units.
@@ -31,5 +31,5 @@ left_in Gives records g f = records * (2 * frame_bytes) + more_units Gives g f
 left_in Rests records g f = 1 + more_units Rests g f
 left_in Done records g f = 0
 
-abbrev pub left_of : Merging → ℕ
+abbrev pub left_of : MergeMachine → ℕ
 left_of m = left_in m.phase (feed.left_of m.a + feed.left_of m.b) m.merger (feed_of m)

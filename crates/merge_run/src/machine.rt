@@ -1,19 +1,28 @@
 // The merger as a machine between files.
-ghost use Rattle.merge_run.specs.Shown.{HasShown};
-
-use crate::merging::Merging;
 use crate::phase::Phase;
 use crate::stop::{MergeStop, Ran};
 use bit_slice::OutOfMemory;
-use file_run::{Ending, Machine, Step};
+use feed_merge::{Feed, Merger};
+use file_run::{Ending, Machine, Step, events_law};
+use held_feed::FrameFeed;
 use plp_config::Plan;
 use std::alloc::Global;
+use two_feeds::{end_one, feed_one, next_step};
 
-/// A merger that is fed with the bytes of two inputs and gives the bytes of its units.
+/// A merger that is fed with the bytes of two inputs and gives the bytes of its units: two feeds of a network, and the merger of
+/// their frames.
 #[derive(Drop)]
 pub struct MergeMachine<'p> {
-    merging: Merging<'p>,
-    ghost came: { ∥ HasShown merging ∥₁ },
+    pub plan: &'p Plan,
+    pub a: FrameFeed<'p>,
+    pub b: FrameFeed<'p>,
+    pub merger: Merger<'p>,
+    // The feed whose frame was begun last.
+    pub source: Feed,
+    // The number behind those of all records that were taken.
+    pub next: u64,
+    pub phase: Phase,
+    pub ran: Ran,
 }
 
 impl<'p> Machine for MergeMachine<'p> {
@@ -24,26 +33,38 @@ impl<'p> Machine for MergeMachine<'p> {
 
     ghost inputs = { λ m. 2 };
 
-    ghost next = { λ m. step_of m.merging };
+    ghost next = { step_of };
 
-    ghost left = { λ m. left_of m.merging };
+    ghost left = { left_of };
 
-    ghost reach = { λ m. reach_of m.merging };
+    ghost reach = { reach_of };
 
     fn step(&self) -> Step {
-        self.merging.step()
+        match self.phase {
+            Phase::Reads => next_step(&self.a, &self.b),
+            Phase::Gives | Phase::Rests => Step::Give,
+            Phase::Done => Step::End,
+        }
     }
 
     fn feed(&mut self, input: usize, bytes: &[u8]) -> usize {
-        self.merging.feed(input, bytes)
+        feed_one(&mut self.a, &mut self.b, input, bytes)
     }
 
     fn end_input(&mut self, input: usize, bytes: &[u8]) {
-        self.merging.end_input(input, bytes);
+        end_one(&mut self.a, &mut self.b, input, bytes);
     }
 
     fn give(&mut self, out: &mut [u8]) -> usize {
-        self.merging.give(out)
+        events_law();
+        match self.phase {
+            Phase::Reads => {
+                self.go_on();
+                0
+            }
+            Phase::Gives => self.give_units(out),
+            _ => self.give_rest(out.first_chunk_mut().unwrap()),
+        }
     }
 }
 
@@ -57,12 +78,12 @@ impl<'p> Ending for MergeMachine<'p> {
     ghost ending = { ending_of };
 
     fn ending(&self) -> Result<Ran, MergeStop> {
-        match self.merging.phase {
+        match self.phase {
             Phase::Done => {
-                if self.merging.next == 0 {
+                if self.next == 0 {
                     return Err(MergeStop::NoSuperframe);
                 }
-                Ok(self.merging.ran)
+                Ok(self.ran)
             }
             _ => Err(MergeStop::TooManyFrames),
         }
@@ -73,12 +94,28 @@ impl<'p> MergeMachine<'p> {
     ghost use Rattle.std.specs.Prelude.{◌≡◌, [], IfOk};
     ghost use Rattle.merge_run.specs.AsMachine.{Becomes};
 
-    /// A merger to which nothing was fed, for a plan. Its one refusal is want of memory.
+    /// A merger to which nothing was fed, for a plan, and all its memory. Its one refusal is want of memory.
     pub fn open(alloc: Global, plan: &'p Plan) -> Result<MergeMachine<'p>, OutOfMemory>
-        ensures plan { IfOk result (λ m. m.merging.plan.now ≡ plan.now) }
+        ensures plan { IfOk result (λ m. m.plan.now ≡ plan.now) }
         ensures becomes { IfOk result (λ m. Becomes m [] m) }
     {
-        let merging = Merging::open(alloc, plan)?;
-        Ok(MergeMachine { merging })
+        plan.rules_law();
+        let a = FrameFeed::open(alloc, plan)?;
+        let b = FrameFeed::open(alloc, plan)?;
+        Ok(MergeMachine {
+            plan,
+            a,
+            b,
+            merger: Merger::new(plan),
+            source: Feed::A,
+            next: 0,
+            phase: Phase::Reads,
+            ran: Ran {
+                frames: 0,
+                a: 0,
+                b: 0,
+                units: 0,
+            },
+        })
     }
 }

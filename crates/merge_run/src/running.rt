@@ -6,7 +6,7 @@ ghost use Rattle.merge_run.specs.MergeRun.{merge_work};
 
 use crate::machine::MergeMachine;
 use crate::stop::{MergeStop, Ran};
-use file_run::{RunStop, run_over_two};
+use file_run::{Output, RunStop, run_over_two};
 use modulator::due_records_law;
 use plp_config::Plan;
 use ports::{Desk, Word};
@@ -31,5 +31,5 @@ pub fn run<D: Desk>(
     due_records_law();
     complete_law();
     let mut machine = MergeMachine::open(alloc, plan)?;
-    run_over_two(alloc, &mut machine, a, b, out, desk)
+    run_over_two(alloc, &mut machine, a, b, Output::File(out), desk)
 }

@@ -5,7 +5,7 @@ ghost use Rattle.modulate_run.specs.ModulateRun.{modulate_work};
 
 use crate::machine::ModulatorMachine;
 use crate::stop::{ModulateStop, Ran};
-use file_run::{RunStop, run_work_over};
+use file_run::{Output, RunStop, run_work_over};
 use plp_config::Plan;
 use ports::Desk;
 use std::alloc::Global;
@@ -24,7 +24,7 @@ pub fn run<D: Desk>(
     ensures ends { Ends (modulate_work plan.now) (D.state desk.old) (D.state desk.new) (Into out.now) (input.now ∷ []) result }
 {
     let mut machine = ModulatorMachine::open(alloc, plan)?;
-    let ended = run_work_over(alloc, &mut machine, input, out, desk);
+    let ended = run_work_over(alloc, &mut machine, input, Output::File(out), desk);
     machine.causes().note(desk);
     ended
 }

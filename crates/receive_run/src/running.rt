@@ -9,7 +9,7 @@ ghost use Rattle.receive_run.specs.ReceiveRun.{receive_work};
 use crate::machine::ReceiverMachine;
 use crate::stop::{Ran, ReceiveStop};
 use common_plp::common_of;
-use file_run::{RunStop, run_over};
+use file_run::{Output, RunStop, run_over};
 use plp_config::Plan;
 use ports::Desk;
 use record_feed::stands_law;
@@ -38,7 +38,7 @@ fn run_with<D: Desk>(
     stands_law();
     plan.rules_law();
     let mut machine = ReceiverMachine::open(alloc, plan, plp, joins)?;
-    run_over(alloc, &mut machine, input, out, desk)
+    run_over(alloc, &mut machine, input, Output::File(out), desk)
 }
 
 /// Runs the receiver of the PLP at a place of a plan: opens the input, creates the output, and writes the packets of all slots

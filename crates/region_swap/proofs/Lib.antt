@@ -4,4 +4,3 @@ pub mod RegionLemmas
 pub mod SwapLemmas
 pub mod SwappedLemmas
 pub mod TellLemmas
-pub mod UnitsLemmas

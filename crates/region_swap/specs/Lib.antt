@@ -7,7 +7,6 @@ pub mod RegionFed
 pub mod Telling
 pub mod Making
 pub mod Left
-pub mod Units
 pub mod Inside
 -- of the crates below, for those who read this one
 pub use Rattle.gateway_core.specs.InputSoFar

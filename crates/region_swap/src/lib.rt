@@ -6,6 +6,5 @@ mod laws;
 mod place;
 mod region;
 mod swapper;
-mod units;
 
 pub use swapper::Swapper;

@@ -10,7 +10,6 @@ use crate::dynamic::Dynamic;
 use crate::laws::{swapped_law, told_law};
 use crate::place::{SwapPlace, SwapSource, SwappedFrame};
 use crate::region::Region;
-use crate::units::give_units;
 use bit_slice::OutOfMemory;
 use frame_writer::Flow;
 use plp_config::Plan;
@@ -219,7 +218,7 @@ impl<'p> Swapper<'p> {
             sends,
         };
         let mut source = SwapSource::new(place, &swapped);
-        let (len, full) = give_units(&mut self.flow, &swapped, plan, &mut source, out);
+        let (len, full) = self.flow.give(&swapped, plan, &mut source, out);
         self.place = source.place;
         (len, full)
     }

@@ -17,7 +17,8 @@ use Rattle.file_run.specs.Work.{Work, Sink, Into, Aloud, Ends as RunEnds}
 use Rattle.file_run.specs.declared.stop.RunFault.TheVariants as run_fault
 use Rattle.file_run.specs.declared.stop.RunStop.{RunStop}
 use Rattle.file_run.specs.declared.stop.RunStop.TheVariants as run
-use Rattle.file_run.proofs.EndsLemmas.{OthersOf, creates, leaves_alone}
+use Rattle.file_run.proofs.EndsLemmas.{OthersOf, leaves_alone}
+use Rattle.file_run.specs.Sink.{creates}
 use Rattle.gateway_run.specs.GatewayRun.{gateway_work}
 use Rattle.modulate_run.specs.ModulateRun.{modulate_work}
 use Rattle.common_plp.specs.Sharing.{Sharing, joined_with}

@@ -51,7 +51,7 @@ use Rattle.swap_run.specs.declared.phase.Phase.{Phase}
 use Rattle.swap_run.specs.declared.phase.Phase.TheVariants as phase
 use Rattle.swap_run.specs.declared.stop.Ran.{Ran}
 use Rattle.swap_run.specs.declared.stop.SwapStop.TheVariants.{NoSuperframe, InputRefused, TooManyFrames}
-use Rattle.swap_run.specs.declared.swapping.Swapping.{Swapping}
+use Rattle.swap_run.specs.declared.machine.SwapMachine.{SwapMachine}
 use Rattle.swap_run.proofs.GoLemmas.{slots_rise}
 use Rattle.swap_run.proofs.NextLemmas.{slots_in, slots_is}
 use Rattle.swap_run.proofs.PacketLemmas.{file_continues, none_wanted, few_taken, all_taken, nothing_bad, bad_next}
@@ -71,7 +71,7 @@ ran_same r f m u n a b d e =
     (subst (λ (x : ℕ). r ≡ (let y : Ran = record { frames = r.frames; muted = r.muted; unsent = r.unsent; units = x } in y)) e refl)))
 
 module _ (front : DueFront) (follow : DueFollow) (law : CompleteLaw) (rises : CountRises) (slot : SlotLength) (c : Config) (plp : ℕ)
-    (m : Swapping) (events : List Event) (s : Shown c plp events m) (files : ℕ → List ℕ) (places : List ℕ)
+    (m : SwapMachine) (events : List Event) (s : Shown c plp events m) (files : ℕ → List ℕ) (places : List ℕ)
     (are : AreFed 2 files places events) where
   abbrev r : Read
   r = s.read
@@ -228,30 +228,6 @@ module _ (front : DueFront) (follow : DueFollow) (law : CompleteLaw) (rises : Co
       none_of [] ys is = refl
       none_of (x ∷ xs) ys is = absurd (let n = ap length is in omega (arith, n))
 
-  pub has_late : slice_index places 1 ≤ input_reach m → m.phase ≡ phase.Stopped TooManyFrames
-      → (has : HasLate c plp files (gave events)) × (slice_index places 1 ≤ SIZE * slots_of c plp has.before)
-  has_late near e =
-      let i : shown.StopsAtLate c plp m r = subst (IsIn c plp m r (has_ended 1 events)) e s.is_in in
-      let f = follows (of_in c plp events m s (phase.Stopped TooManyFrames) e) i.waiting i.waits in
-      let late = i.late in
-      let number = f.number in
-      let next = i.next in
-      let early = s.bound.early in
-      let read = read_to near i.quiet.calm (phase.Stopped TooManyFrames) e in
-      let slots = ap (λ (n : ℕ). slots_by c plp ((n - 1) * c.ticks)) next in (
-        record {
-          before = r.given;
-          late = f.next;
-          after = f.later;
-          parts = f.parts;
-          early = early_below (omega (arith, next, early));
-          number = omega (arith, late, number);
-          unwanted = unwanted;
-          output = complete i.caught (finished_is (phase.Stopped TooManyFrames) e);
-        },
-        omega (arith, read, slots),
-      )
-
   -- the next frame wants so many packets
   module _ (of : IsFedWith c m.feed (fed 0 events) (has_ended 0 events) r.given) (w : Waiting) (waits : waiting_of m.feed ≡ Some w)
       (early : w.frame < MOST_FRAMES) (behind : m.number ≤ w.frame) where
@@ -285,6 +261,33 @@ module _ (front : DueFront) (follow : DueFollow) (law : CompleteLaw) (rises : Co
       ap (take taken) fed_t2mi.parts ∙ take-append-le taken (fed 0 events) fed_t2mi.more (omega (arith, inside)) in
       subst (λ (l : List ℕ). IsPrefix (records_due c false l) r.given) (sym same)
       (subst (λ (k : Config). IsPrefix (records_due k false (take taken (fed 0 events))) r.given) of.network (of.stands.front taken inside))
+
+  pub has_late : slice_index places 0 ≤ feed.fed_of m.feed + read_ahead → slice_index places 1 ≤ input_reach m
+      → m.phase ≡ phase.Stopped TooManyFrames → (has : HasLate c plp files (gave events))
+      × (slice_index places 1 ≤ SIZE * slots_of c plp has.before) × TakesNoFurther c places files has.before
+  has_late close near e =
+      let i : shown.StopsAtLate c plp m r = subst (IsIn c plp m r (has_ended 1 events)) e s.is_in in
+      let of = of_in c plp events m s (phase.Stopped TooManyFrames) e in
+      let f = follows of i.waiting i.waits in
+      let late = i.late in
+      let number = f.number in
+      let next = i.next in
+      let early = s.bound.early in
+      let read = read_to near i.quiet.calm (phase.Stopped TooManyFrames) e in
+      let slots = ap (λ (n : ℕ). slots_by c plp ((n - 1) * c.ticks)) next in (
+        record {
+          before = r.given;
+          late = f.next;
+          after = f.later;
+          parts = f.parts;
+          early = early_below (omega (arith, next, early));
+          number = omega (arith, late, number);
+          unwanted = unwanted;
+          output = complete i.caught (finished_is (phase.Stopped TooManyFrames) e);
+        },
+        omega (arith, read, slots),
+        takes_no_further of close,
+      )
 
   pub meets_bad : slice_index places 0 ≤ feed.fed_of m.feed + read_ahead → slice_index places 1 ≤ input_reach m → (n : ℕ)
       → m.phase ≡ phase.Stopped (InputRefused n)

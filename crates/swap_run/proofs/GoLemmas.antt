@@ -58,7 +58,7 @@ use Rattle.swap_run.specs.SwapRun.{slots_of}
 use Rattle.swap_run.specs.declared.phase.Phase.{Phase}
 use Rattle.swap_run.specs.declared.phase.Phase.TheVariants as phase
 use Rattle.swap_run.specs.declared.stop.SwapStop.TheVariants.{NoSuperframe, TooManyFrames}
-use Rattle.swap_run.specs.declared.swapping.Swapping.{Swapping}
+use Rattle.swap_run.specs.declared.machine.SwapMachine.{SwapMachine}
 use Rattle.swap_run.proofs.BoundLemmas.{idle_left, few_swapped}
 use Rattle.swap_run.proofs.PacketLemmas.{reads_same}
 use Rattle.swap_run.proofs.SendLemmas.{frames_push, sends_told, caught_told, sends_begun, sends_units, sends_over}
@@ -89,7 +89,7 @@ pub record Passes (p q : Swapper) : Type 0 where
   pub unit : has_unit q ≡ has_unit p
   pub status : status_of q ≡ record (status_of p) { frame = frame_of p + 1; begun = false }
 
-module _ (c : Config) (plp : ℕ) (events : List Event) (m : Swapping) (s : Shown c plp events m) where
+module _ (c : Config) (plp : ℕ) (events : List Event) (m : SwapMachine) (s : Shown c plp events m) where
   abbrev pub r : Read
   r = s.read
 

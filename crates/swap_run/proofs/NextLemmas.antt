@@ -29,7 +29,7 @@ use Rattle.swap_run.specs.Steps.{left_in, left_of, wanted_in, reach_of, input_re
 use Rattle.swap_run.specs.declared.phase.Phase.{Phase}
 use Rattle.swap_run.specs.declared.phase.Phase.TheVariants as phase
 use Rattle.swap_run.specs.declared.stop.SwapStop.TheVariants.{InputRefused}
-use Rattle.swap_run.specs.declared.swapping.Swapping.{Swapping}
+use Rattle.swap_run.specs.declared.machine.SwapMachine.{SwapMachine}
 use Rattle.swap_run.proofs.GoLemmas.{slots_rise}
 use Rattle.swap_run.proofs.LiveLemmas.{live_on}
 use Rattle.swap_run.proofs.PacketLemmas.{reads_same}
@@ -61,33 +61,33 @@ one_zero e = absurd (omega (arith, e))
 
 -- ---- how far an input may be read
 
-pub reach_by : (m n : Swapping) → fed_of m.feed ≤ fed_of n.feed → input_reach m ≤ input_reach n → (other : ℕ) → reach_of m other ≤ reach_of n other
+pub reach_by : (m n : SwapMachine) → fed_of m.feed ≤ fed_of n.feed → input_reach m ≤ input_reach n → (other : ℕ) → reach_of m other ≤ reach_of n other
 reach_by m n a b other = bool_cases (other == 0) (λ e. rw e (omega (arith, a))) (λ e. rw e b)
 
 -- the slots that are over when a frame begins
-abbrev pub slots_before : Swapping → ℕ → ℕ
+abbrev pub slots_before : SwapMachine → ℕ → ℕ
 slots_before m frame = slots_by m.plan.now (status_of m.swapper).plp (frame * m.plan.now.ticks)
 
 -- and those whose packets were wanted
-abbrev pub slots_at : Swapping → ℕ
+abbrev pub slots_at : SwapMachine → ℕ
 slots_at m = slots_before m (wanted_in m.phase m.number)
 
-pub slots_in : (m : Swapping) (p : Phase) → m.phase ≡ p → slots_at m ≡ slots_before m (wanted_in p m.number)
+pub slots_in : (m : SwapMachine) (p : Phase) → m.phase ≡ p → slots_at m ≡ slots_before m (wanted_in p m.number)
 slots_in m p e = ap (λ (x : Phase). slots_before m (wanted_in x m.number)) e
 
-pub reach_on : (m n : Swapping) → fed_of m.feed ≤ fed_of n.feed → slots_at m ≤ slots_at n
+pub reach_on : (m n : SwapMachine) → fed_of m.feed ≤ fed_of n.feed → slots_at m ≤ slots_at n
     → drained m.draining m.ran.unsent ≤ drained n.draining n.ran.unsent → (other : ℕ) → reach_of m other ≤ reach_of n other
 reach_on m n f s d = reach_by m n f (omega (arith, s, d))
 
 -- what the configuration counts of them
-pub slots_is : (c : Config) (plp : ℕ) (events : List Event) (m : Swapping) → Shown c plp events m → (frame : ℕ)
+pub slots_is : (c : Config) (plp : ℕ) (events : List Event) (m : SwapMachine) → Shown c plp events m → (frame : ℕ)
     → slots_before m frame ≡ slots_by c plp (frame * c.ticks)
 slots_is c plp events m s frame =
     ap (λ (k : Config). slots_by k (status_of m.swapper).plp (frame * k.ticks)) s.base.config
     ∙ ap (λ (p : ℕ). slots_by c p (frame * c.ticks)) (ap (λ (x : Status). x.plp) s.status)
 
 -- a bad packet was met
-pub reach_refused : (m : Swapping) (p : Phase) → m.phase ≡ p → wanted_in p m.number ≡ m.number → (other : ℕ)
+pub reach_refused : (m : SwapMachine) (p : Phase) → m.phase ≡ p → wanted_in p m.number ≡ m.number → (other : ℕ)
     → reach_of m other ≤ reach_of (record m { phase = phase.Stopped (InputRefused m.taken) }) other
 reach_refused m p e same =
     let was = slots_in m p e ∙ ap (slots_before m) same in
@@ -101,13 +101,13 @@ pub drained_on : (b : Bool) (m n : ℕ) → m ≤ n → drained b m ≤ drained 
 drained_on true m n le = omega (arith, le)
 drained_on false m n le = omega arith
 
-pub slots_status : (m : Swapping) (q : Swapper) (frame : ℕ) → (status_of q).plp ≡ (status_of m.swapper).plp
+pub slots_status : (m : SwapMachine) (q : Swapper) (frame : ℕ) → (status_of q).plp ≡ (status_of m.swapper).plp
     → slots_before m frame ≤ slots_by m.plan.now (status_of q).plp (frame * m.plan.now.ticks)
 slots_status m q frame e =
     let s = ap (λ (p : ℕ). slots_by m.plan.now p (frame * m.plan.now.ticks)) e in
     omega (arith, s)
 
-pub slots_next : CountRises → SlotLength → (m : Swapping) (q : Swapper) (a b : ℕ) → ∥ HasShown m ∥₁ → a ≤ b
+pub slots_next : CountRises → SlotLength → (m : SwapMachine) (q : Swapper) (a b : ℕ) → ∥ HasShown m ∥₁ → a ≤ b
     → (status_of q).plp ≡ (status_of m.swapper).plp → slots_before m a ≤ slots_by m.plan.now (status_of q).plp (b * m.plan.now.ticks)
 slots_next rises slot m q a b came le e = most_of _ _ came (λ (h : HasShown m). go h)
   where
@@ -123,7 +123,7 @@ slots_next rises slot m q a b came le e = most_of _ _ came (λ (h : HasShown m).
         (sym s.base.config) (omega (arith, up, here, there))
 
 -- behind a frame its own packets are those that were wanted last
-pub slots_behind : (m : Swapping) (q : Swapper) (p : Phase) → m.phase ≡ p → wanted_in p m.number ≡ m.number
+pub slots_behind : (m : SwapMachine) (q : Swapper) (p : Phase) → m.phase ≡ p → wanted_in p m.number ≡ m.number
     → (status_of q).plp ≡ (status_of m.swapper).plp
     → slots_at m ≤ slots_by m.plan.now (status_of q).plp ((m.number + 1 - 1) * m.plan.now.ticks)
 slots_behind m q p e here plp =
@@ -134,15 +134,15 @@ slots_behind m q p e here plp =
 
 -- ---- what is left to give
 
-pub left_by : (m : Swapping) (p : Phase) → m.phase ≡ p → left_of m ≡ left_in p (feed.left_of m.feed) m.number m.swapper m.feed
+pub left_by : (m : SwapMachine) (p : Phase) → m.phase ≡ p → left_of m ≡ left_in p (feed.left_of m.feed) m.number m.swapper m.feed
 left_by m p e = ap (λ (x : Phase). left_in x (feed.left_of m.feed) m.number m.swapper m.feed) e
 
 -- ---- what is known of a machine that came
 
-pub number_most : (m : Swapping) → ∥ HasShown m ∥₁ → m.number ≤ MOST_FRAMES
+pub number_most : (m : SwapMachine) → ∥ HasShown m ∥₁ → m.number ≤ MOST_FRAMES
 number_most m came = most_of _ _ came (λ (h : HasShown m). h.shown.bound.early)
 
-pub few_counted : (m : Swapping) → ∥ HasShown m ∥₁ → m.ran.muted + m.ran.frames ≤ MOST_FRAMES + 1
+pub few_counted : (m : SwapMachine) → ∥ HasShown m ∥₁ → m.ran.muted + m.ran.frames ≤ MOST_FRAMES + 1
 few_counted m came = most_of _ _ came (λ (h : HasShown m). go h)
   where
     most_next : (p : Phase) → next_in p m.number ≤ m.number + 1
@@ -162,7 +162,7 @@ few_counted m came = most_of _ _ came (λ (h : HasShown m). go h)
         let e = most_next m.phase in
         omega (arith, a, b, d, e)
 
-pub few_unsent : (m : Swapping) → ∥ HasShown m ∥₁ → m.ran.unsent ≤ m.taken
+pub few_unsent : (m : SwapMachine) → ∥ HasShown m ∥₁ → m.ran.unsent ≤ m.taken
 few_unsent m came = most_of _ _ came (λ (h : HasShown m). go h)
   where
     go : HasShown m → m.ran.unsent ≤ m.taken
@@ -173,7 +173,7 @@ few_unsent m came = most_of _ _ came (λ (h : HasShown m). go h)
         let d = length-append s.read.told.packets s.read.rest in
         omega (arith, a, b, d)
 
-module _ (m : Swapping) (came : ∥ HasShown m ∥₁) where
+module _ (m : SwapMachine) (came : ∥ HasShown m ∥₁) where
   -- a frame of the feed is one of the network of the swapper
   pub sent_in : (f : PoolFrame) → CanBeSent (feed.config_of m.feed) f → CanBeSent (status_of m.swapper).network f
   sent_in f can = record {
@@ -286,7 +286,7 @@ not_muted (Some x) e = absurd (true≢false e)
 
 -- ---- nothing was given
 
-pub shown_still : EventsTell → (c : Config) (plp : ℕ) (m : Swapping) (events : List Event) → Shown c plp events m
+pub shown_still : EventsTell → (c : Config) (plp : ℕ) (m : SwapMachine) (events : List Event) → Shown c plp events m
     → Shown c plp (events ++ Gave [] ∷ []) m
 shown_still tell c plp m events s =
     let zero = gave_same tell 0 [] events in

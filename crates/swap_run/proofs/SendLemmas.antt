@@ -17,10 +17,10 @@ use Rattle.t2mi_stream.specs.Pipe.{pipe}
 use Rattle.t2mi_stream.proofs.CompleteLemmas.{complete_law}
 use Rattle.formed_frames.specs.Remade.{NumberedView, remade_packets}
 use Rattle.gateway_core.specs.InputSoFar.{Told, Continues}
-use Rattle.feed_merge.proofs.FrontLemmas.{packets_more}
+use Rattle.feed_merge.proofs.FrontLemmas.{packets_more, more_within}
 use Rattle.region_swap.specs.StandsFor.{SwapperStandsFor, status_of, has_unit}
 use Rattle.region_swap.specs.Swapped.{frame_in, frames_in, swapped, swapped_frame}
-use Rattle.region_swap.proofs.UnitsLemmas.{front_then}
+use Rattle.frame_writer.proofs.UnitsLemmas.{front_then}
 use Rattle.region_swap.specs.declared.swapper.Swapper.{Swapper}
 use Rattle.swap_run.specs.Shown.{Sends, HasCaughtUp}
 
@@ -108,12 +108,9 @@ sends_units c plp s q t left rest frames count units gave now is finished next c
       front_then h.units units (pipe c.pid (remade_packets c (swapped c plp input frames) ++ more)) (h.front input cont more going)
       (subst (λ (k : ℕ). IsPrefix units (drop k (pipe c.pid (remade_packets c (swapped c plp input frames) ++ more)))) h.count_is
       (next input cont more going));
-  whole = λ off input cont. whole units (h.whole (sym finished ∙ off) input cont) (λ some. complete (sym finished ∙ off) some input cont);
+  whole = λ off input cont.
+      more_within count _ units (h.whole (sym finished ∙ off) input cont) (λ some. complete (sym finished ∙ off) some input cont);
 }
-  where
-    whole : {n : ℕ} (us : List (List ℕ)) → count ≤ n → (us ≢ [] → count + length us ≤ n) → count + length us ≤ n
-    whole [] few all = omega (arith, few)
-    whole (u ∷ us) few all = all (λ e. (let z = ap length e in absurd (omega (arith, z))))
 
 -- all complete units, as bytes
 pub gave_complete : CompleteLaw → (c : Config) (plp : ℕ) (s : Swapper) (t : Told) (left : List Body) (frames : List NumberedView)

@@ -1,5 +1,6 @@
 -- What is shown of bytes that came, and of their end.
 use Rattle.std.proofs.Common.{◌≡◌, ◌≢◌, ◌⊎◌, ℕ, ◌+◌, ◌-◌, ◌*◌, ◌<◌, ◌≤◌, Bool, true, false, cond, List, [], ◌∷◌, ◌++◌, length}
+use Rattle.std.proofs.Math.Logic.{∥∥₁_map}
 use Rattle.std.proofs.Common.{refl, ap, sym, subst, ◌∙◌, arith, length-append, inl, inr}
 use Rattle.std.specs.Prelude.{slice_index}
 use Rattle.std.proofs.lemmas.Bool.{true≢false}
@@ -12,6 +13,7 @@ use Rattle.t2mi_packet.specs.declared.packet.Body.{Body}
 use Rattle.frame_groups.specs.Modulated.{FrameRecord}
 use Rattle.formed_frames.specs.Remade.{NumberedView}
 use Rattle.file_run.specs.Events.{Event, fed, has_ended, gave}
+use Rattle.file_run.specs.Steps.{HasCome}
 use Rattle.held_feed.specs.StandsFor as feed
 use Rattle.held_feed.specs.declared.feed.FrameFeed.{FrameFeed}
 use Rattle.gateway_core.specs.InputSoFar.{Told, with_packet, at_end, Continues}
@@ -22,15 +24,29 @@ use Rattle.region_swap.specs.StandsFor.{SwapperStandsFor, Status, status_of, wan
 use Rattle.region_swap.specs.Swapped.{frames_in}
 use Rattle.region_swap.specs.declared.swapper.Swapper.{Swapper}
 use Rattle.region_swap.proofs.SwapLemmas.{wants_told}
-use Rattle.swap_run.specs.Shown.{ReadsPackets, Sends, HasCaughtUp, Read, InRecords, InPackets, InUnits, InDrains, InRests}
+use Rattle.swap_run.specs.AsMachine.{Becomes}
+use Rattle.swap_run.specs.Shown.{HasShown, ReadsPackets, Sends, HasCaughtUp, Read, InRecords, InPackets, InUnits, InDrains, InRests}
 use Rattle.swap_run.specs.Shown.{IsBehindAll, IsWanted, IsIn, ShownAt, Shown, IsBound, begun_in, next_in, left_at, more_units, status_in}
 use Rattle.swap_run.specs.declared.phase.Phase.{Phase}
 use Rattle.swap_run.specs.declared.phase.Phase.TheVariants as phase
 use Rattle.swap_run.specs.declared.stop.SwapStop.TheVariants.{InputRefused}
-use Rattle.swap_run.specs.declared.swapping.Swapping.{Swapping}
+use Rattle.swap_run.specs.declared.machine.SwapMachine.{SwapMachine}
 use Rattle.swap_run.proofs.PacketLemmas.{reads_offer, reads_drain, reads_tail, reads_end, reads_over, reads_same}
 use Rattle.swap_run.proofs.SendLemmas.{sends_told, caught_told}
 use Rattle.swap_run.proofs.LiveLemmas.{live_caught, live_on}
+
+-- ---- something was done
+
+pub has_shown : (m : SwapMachine) → ∥ HasCome Becomes m ∥₁ → ∥ HasShown m ∥₁
+has_shown m came = ∥∥₁_map came (λ (h : HasCome Becomes m). record {
+  network = h.start.plan.now;
+  plp = (status_of h.start.swapper).plp;
+  events = h.events;
+  shown = h.came;
+})
+
+pub becomes_itself : (m : SwapMachine) (plp : ℕ) → (status_of m.swapper).plp ≡ plp → Shown m.plan.now plp [] m → Becomes m [] m
+becomes_itself m plp is s = subst (λ (p : ℕ). Shown m.plan.now p [] m) (sym is) s
 
 -- ---- by one event more
 
@@ -62,7 +78,7 @@ pub bound_as : (next number units more less : ℕ) (given : List FrameRecord) �
     → IsBound next number units less given
 bound_as next number units more less given le b = let m = b.most in record { few = b.few; early = b.early; most = omega (arith, m, le) }
 
-module _ (c : Config) (plp : ℕ) (events : List Event) (m : Swapping) (s : Shown c plp events m) where
+module _ (c : Config) (plp : ℕ) (events : List Event) (m : SwapMachine) (s : Shown c plp events m) where
   abbrev pub r : Read
   r = s.read
 
@@ -236,7 +252,7 @@ module _ (c : Config) (plp : ℕ) (events : List Event) (m : Swapping) (s : Show
       let i = in_drains e in
       let longer = length-append r.rest (p ∷ []) in
       let unsent = s.counted.unsent_is in
-      let now : Swapping = record m { taken = m.taken + 1; ran = record m.ran { unsent = m.ran.unsent + 1 } } in
+      let now : SwapMachine = record m { taken = m.taken + 1; ran = record m.ran { unsent = m.ran.unsent + 1 } } in
       subst (ShownAt c plp more now) (sym e) (record {
         base = s.base;
         read = record { given = r.given; told = r.told; rest = r.rest ++ p ∷ []; tail = r.tail };
@@ -266,7 +282,7 @@ module _ (c : Config) (plp : ℕ) (events : List Event) (m : Swapping) (s : Show
       → has_ended 1 more ≡ true → gave more ≡ gave events → Shown c plp more (record m { ended = true })
   shown_over more e off zero here ended gave_is =
       let i = in_drains e in
-      let now : Swapping = record m { ended = true } in
+      let now : SwapMachine = record m { ended = true } in
       subst (ShownAt c plp more now) (sym e) (record {
         base = s.base;
         read = r;
@@ -342,7 +358,7 @@ module _ (c : Config) (plp : ℕ) (events : List Event) (m : Swapping) (s : Show
       → gave more ≡ gave events → p ≢ [] → begins_with_packet p ≡ false → (slice_index p 0 ≢ SYNC) ⊎ (has_ended 1 more ≡ true)
       → Shown c plp more (record m { phase = phase.Stopped (InputRefused m.taken) })
   shown_refuse p more can zero here gave_is some bad cut =
-      let now : Swapping = record m { phase = phase.Stopped (InputRefused m.taken) } in
+      let now : SwapMachine = record m { phase = phase.Stopped (InputRefused m.taken) } in
       record {
         base = s.base;
         read = record { given = r.given; told = r.told; rest = r.rest; tail = p };

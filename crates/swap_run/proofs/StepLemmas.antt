@@ -15,7 +15,7 @@ use Rattle.file_run.specs.FileRun.{read_ahead}
 use Rattle.swap_run.specs.SwapRun.{least_of}
 use Rattle.swap_run.specs.declared.phase.Phase.{Phase}
 use Rattle.swap_run.specs.declared.phase.Phase.TheVariants as phase
-use Rattle.swap_run.specs.declared.swapping.Swapping.{Swapping}
+use Rattle.swap_run.specs.declared.machine.SwapMachine.{SwapMachine}
 
 -- how a step reads: no record waits; packets are wanted; the rest is
 pub record ReadsRecord (o : Option Waiting) (e : Bool) (input : ℕ) : Type 0 where
@@ -67,7 +67,7 @@ module _ (Asks : Step → ℕ → ℕ → Type 0) (not_give : (input count : ℕ
   asks_else phase.Done idle wants ended input count h r q = absurd (not_end input count h)
   asks_else (phase.Stopped why) idle wants ended input count h r q = absurd (not_end input count h)
 
-  in_phase : (m : Swapping) (p : Phase) (input count : ℕ) → m.phase ≡ p → Asks (step_of m) input count
+  in_phase : (m : SwapMachine) (p : Phase) (input count : ℕ) → m.phase ≡ p → Asks (step_of m) input count
       → Asks (step_in p (is_idle (waiting_of m.feed) (has_ended m.feed)) (wants_of m.swapper) m.ended) input count
   in_phase m p input count e h =
       subst (λ (x : Phase). Asks (step_in x (is_idle (waiting_of m.feed) (has_ended m.feed)) (wants_of m.swapper) m.ended) input count) e h
@@ -76,73 +76,73 @@ record_read : (o : Option Waiting) (e : Bool) (input : ℕ) → is_idle o e ≡ 
 record_read o e input i at = let p = idle_is o e i in record { none = p.0; going = p.1; at = at }
 
 -- so many are enough
-pub enough_records : (m : Swapping) (input count : ℕ) → m.phase ≡ phase.Records → Suffices (step_of m) input count
+pub enough_records : (m : SwapMachine) (input count : ℕ) → m.phase ≡ phase.Records → Suffices (step_of m) input count
     → ReadsRecord (waiting_of m.feed) (has_ended m.feed) input × (0 < count)
 enough_records m input count e h =
     let a = asks_record Suffices (λ i k n. n) (λ i k n. n) (waiting_of m.feed) (has_ended m.feed) input count
     (in_phase Suffices (λ i k n. n) (λ i k n. n) m phase.Records input count e h) in
     (record_read _ _ input a.0 a.1.0, (let l = a.1.1 in omega (arith, l)))
 
-pub enough_packets : (m : Swapping) (input count : ℕ) → m.phase ≡ phase.Packets → Suffices (step_of m) input count
+pub enough_packets : (m : SwapMachine) (input count : ℕ) → m.phase ≡ phase.Packets → Suffices (step_of m) input count
     → ReadsPacket (wants_of m.swapper) input × (SIZE ≤ count)
 enough_packets m input count e h =
     let a = asks_packet Suffices (λ i k n. n) (λ i k n. n) (wants_of m.swapper) input count
     (in_phase Suffices (λ i k n. n) (λ i k n. n) m phase.Packets input count e h) in
     (record { some = a.0; at = a.1.0 }, a.1.1)
 
-pub enough_rest : (m : Swapping) (input count : ℕ) → m.phase ≡ phase.Drains → Suffices (step_of m) input count
+pub enough_rest : (m : SwapMachine) (input count : ℕ) → m.phase ≡ phase.Drains → Suffices (step_of m) input count
     → ReadsRest m.ended input × (SIZE ≤ count)
 enough_rest m input count e h =
     let a = asks_rest Suffices (λ i k n. n) (λ i k n. n) m.ended input count
     (in_phase Suffices (λ i k n. n) (λ i k n. n) m phase.Drains input count e h) in
     (record { going = a.0; at = a.1.0 }, a.1.1)
 
-pub enough_else : (m : Swapping) (input count : ℕ) → Suffices (step_of m) input count → (m.phase ≡ phase.Records → ⊥)
+pub enough_else : (m : SwapMachine) (input count : ℕ) → Suffices (step_of m) input count → (m.phase ≡ phase.Records → ⊥)
     → (m.phase ≡ phase.Packets → ⊥) → m.phase ≡ phase.Drains
 enough_else m input count h r q =
     asks_else Suffices (λ i k n. n) (λ i k n. n) m.phase (is_idle (waiting_of m.feed) (has_ended m.feed)) (wants_of m.swapper) m.ended input count h r q
 
 -- or too few
-pub short_records : (m : Swapping) (input count : ℕ) → m.phase ≡ phase.Records → FallsShort (step_of m) input count
+pub short_records : (m : SwapMachine) (input count : ℕ) → m.phase ≡ phase.Records → FallsShort (step_of m) input count
     → ReadsRecord (waiting_of m.feed) (has_ended m.feed) input × (count ≡ 0)
 short_records m input count e h =
     let a = asks_record FallsShort (λ i k n. n) (λ i k n. n) (waiting_of m.feed) (has_ended m.feed) input count
     (in_phase FallsShort (λ i k n. n) (λ i k n. n) m phase.Records input count e h) in
     (record_read _ _ input a.0 a.1.0, (let l = a.1.1 in omega (arith, l)))
 
-pub short_packets : (m : Swapping) (input count : ℕ) → m.phase ≡ phase.Packets → FallsShort (step_of m) input count
+pub short_packets : (m : SwapMachine) (input count : ℕ) → m.phase ≡ phase.Packets → FallsShort (step_of m) input count
     → ReadsPacket (wants_of m.swapper) input × (count < SIZE)
 short_packets m input count e h =
     let a = asks_packet FallsShort (λ i k n. n) (λ i k n. n) (wants_of m.swapper) input count
     (in_phase FallsShort (λ i k n. n) (λ i k n. n) m phase.Packets input count e h) in
     (record { some = a.0; at = a.1.0 }, a.1.1)
 
-pub short_rest : (m : Swapping) (input count : ℕ) → m.phase ≡ phase.Drains → FallsShort (step_of m) input count
+pub short_rest : (m : SwapMachine) (input count : ℕ) → m.phase ≡ phase.Drains → FallsShort (step_of m) input count
     → ReadsRest m.ended input × (count < SIZE)
 short_rest m input count e h =
     let a = asks_rest FallsShort (λ i k n. n) (λ i k n. n) m.ended input count
     (in_phase FallsShort (λ i k n. n) (λ i k n. n) m phase.Drains input count e h) in
     (record { going = a.0; at = a.1.0 }, a.1.1)
 
-pub short_else : (m : Swapping) (input count : ℕ) → FallsShort (step_of m) input count → (m.phase ≡ phase.Records → ⊥)
+pub short_else : (m : SwapMachine) (input count : ℕ) → FallsShort (step_of m) input count → (m.phase ≡ phase.Records → ⊥)
     → (m.phase ≡ phase.Packets → ⊥) → m.phase ≡ phase.Drains
 short_else m input count h r q =
     asks_else FallsShort (λ i k n. n) (λ i k n. n) m.phase (is_idle (waiting_of m.feed) (has_ended m.feed)) (wants_of m.swapper) m.ended input count h r q
 
 -- ---- it gives
 
-gives_in : (m : Swapping) (p : Phase) → m.phase ≡ p → step_of m ≡ Give
+gives_in : (m : SwapMachine) (p : Phase) → m.phase ≡ p → step_of m ≡ Give
     → step_in p (is_idle (waiting_of m.feed) (has_ended m.feed)) (wants_of m.swapper) m.ended ≡ Give
 gives_in m p e h = subst (λ (x : Phase). step_in x (is_idle (waiting_of m.feed) (has_ended m.feed)) (wants_of m.swapper) m.ended ≡ Give) e h
 
-pub gives_record : (m : Swapping) → m.phase ≡ phase.Records → step_of m ≡ Give → is_idle (waiting_of m.feed) (has_ended m.feed) ≡ false
+pub gives_record : (m : SwapMachine) → m.phase ≡ phase.Records → step_of m ≡ Give → is_idle (waiting_of m.feed) (has_ended m.feed) ≡ false
 gives_record m e h = go (is_idle (waiting_of m.feed) (has_ended m.feed)) (gives_in m phase.Records e h)
   where
     go : (b : Bool) → record_step b ≡ Give → b ≡ false
     go true h = absurd (let z : Read 0 1 read_ahead ≡ Give = h in cc)
     go false h = refl
 
-pub gives_packet : (m : Swapping) → m.phase ≡ phase.Packets → step_of m ≡ Give → wants_of m.swapper ≡ 0
+pub gives_packet : (m : SwapMachine) → m.phase ≡ phase.Packets → step_of m ≡ Give → wants_of m.swapper ≡ 0
 gives_packet m e h = go (wants_of m.swapper == 0) refl (gives_in m phase.Packets e h)
   where
     go : (b : Bool) → (wants_of m.swapper == 0) ≡ b → cond b Give (Read 1 SIZE (SIZE * min (wants_of m.swapper) most_packets)) ≡ Give
@@ -150,14 +150,14 @@ gives_packet m e h = go (wants_of m.swapper == 0) refl (gives_in m phase.Packets
     go true i h = eqb-true (wants_of m.swapper) 0 i
     go false i h = absurd (let z : Read 1 SIZE (SIZE * min (wants_of m.swapper) most_packets) ≡ Give = h in cc)
 
-pub gives_rest : (m : Swapping) → m.phase ≡ phase.Drains → step_of m ≡ Give → m.ended ≡ true
+pub gives_rest : (m : SwapMachine) → m.phase ≡ phase.Drains → step_of m ≡ Give → m.ended ≡ true
 gives_rest m e h = go m.ended (gives_in m phase.Drains e h)
   where
     go : (b : Bool) → drain_step b ≡ Give → b ≡ true
     go true h = refl
     go false h = absurd (let z : Read 1 SIZE read_ahead ≡ Give = h in cc)
 
-pub rests_at : (m : Swapping) → step_of m ≡ Give → (m.phase ≡ phase.Records → ⊥) → (m.phase ≡ phase.Packets → ⊥)
+pub rests_at : (m : SwapMachine) → step_of m ≡ Give → (m.phase ≡ phase.Records → ⊥) → (m.phase ≡ phase.Packets → ⊥)
     → (m.phase ≡ phase.Drains → ⊥) → (m.phase ≡ phase.Units → ⊥) → m.phase ≡ phase.Rests
 rests_at m h a b d u = go m.phase refl h
   where
@@ -175,7 +175,7 @@ pub packets_apart : phase.Packets ≡ phase.Records → ⊥
 packets_apart e = absurd (let z : phase.Packets ≡ phase.Records = e in cc)
 
 -- another input is read where records are not
-pub enough_one : (m : Swapping) (input count : ℕ) → Suffices (step_of m) input count → (m.phase ≡ phase.Records → ⊥) → 1 ≡ input
+pub enough_one : (m : SwapMachine) (input count : ℕ) → Suffices (step_of m) input count → (m.phase ≡ phase.Records → ⊥) → 1 ≡ input
 enough_one m input count h off = go m.phase refl h
   where
     go : (p : Phase) → m.phase ≡ p
@@ -190,12 +190,12 @@ enough_one m input count h off = go m.phase refl h
 
 -- ---- how it reads
 
-pub data HowRead (m : Swapping) (input : ℕ) : Type 0 where
+pub data HowRead (m : SwapMachine) (input : ℕ) : Type 0 where
   OfRecords : m.phase ≡ phase.Records → ReadsRecord (waiting_of m.feed) (has_ended m.feed) input → HowRead m input
   OfPackets : m.phase ≡ phase.Packets → ReadsPacket (wants_of m.swapper) input → HowRead m input
   OfRest : m.phase ≡ phase.Drains → ReadsRest m.ended input → HowRead m input
 
-pub needs_read : (m : Swapping) (input count : ℕ) → Needs (step_of m) input count → HowRead m input × (count ≤ least_of input)
+pub needs_read : (m : SwapMachine) (input count : ℕ) → Needs (step_of m) input count → HowRead m input × (count ≤ least_of input)
 needs_read m input count h = go m.phase refl h
   where
     go : (p : Phase) → m.phase ≡ p
@@ -215,7 +215,7 @@ needs_read m input count h = go m.phase refl h
     go phase.Done is h = absurd h
     go (phase.Stopped why) is h = absurd h
 
-pub short_read : (m : Swapping) (input count : ℕ) → FallsShort (step_of m) input count
+pub short_read : (m : SwapMachine) (input count : ℕ) → FallsShort (step_of m) input count
     → HowRead m input × (0 ≡ input → count ≡ 0) × (count < SIZE)
 short_read m input count h = go m.phase refl h
   where

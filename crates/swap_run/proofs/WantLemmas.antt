@@ -32,7 +32,7 @@ use Rattle.swap_run.specs.Steps.{step_in, step_of, reach_of, record_step, drain_
 use Rattle.swap_run.specs.SwapRun.{slots_of}
 use Rattle.swap_run.specs.declared.phase.Phase.{Phase}
 use Rattle.swap_run.specs.declared.phase.Phase.TheVariants as phase
-use Rattle.swap_run.specs.declared.swapping.Swapping.{Swapping}
+use Rattle.swap_run.specs.declared.machine.SwapMachine.{SwapMachine}
 use Rattle.swap_run.proofs.GoLemmas.{slots_rise}
 use Rattle.swap_run.proofs.NextLemmas.{slots_in, slots_is}
 use Rattle.swap_run.proofs.ShownLemmas.{feed_end, feed_count, in_packets, in_drains, has_wanted, wants_is}
@@ -51,7 +51,7 @@ wants_open : (b : Bool) (x : ℕ) → b ≡ false → cond b 0 x ≡ x
 wants_open true x e = absurd (let z : true ≡ false = e in cc)
 wants_open false x e = refl
 
-module _ (rises : CountRises) (slot : SlotLength) (c : Config) (plp : ℕ) (events : List Event) (m : Swapping) (s : Shown c plp events m) where
+module _ (rises : CountRises) (slot : SlotLength) (c : Config) (plp : ℕ) (events : List Event) (m : SwapMachine) (s : Shown c plp events m) where
   records : (b : Bool) → is_idle (waiting_of m.feed) (feed.has_ended m.feed) ≡ b → IsWanted 2 events (reach_of m) (record_step b)
   records true on = record {
     place = omega arith;
@@ -130,7 +130,7 @@ module _ (rises : CountRises) (slot : SlotLength) (c : Config) (plp : ℕ) (even
       by (phase.Stopped why) e = tt
 
 -- so many bytes have room
-pub room_of : (c : Config) (plp : ℕ) (events : List Event) (m : Swapping) (input count : ℕ) → Shown c plp events m → Suffices (step_of m) input count
+pub room_of : (c : Config) (plp : ℕ) (events : List Event) (m : SwapMachine) (input count : ℕ) → Shown c plp events m → Suffices (step_of m) input count
     → length (fed input events) + count ≤ longest_file → m.phase ≡ phase.Records → fed_of m.feed + count < 2 ^ 60
 room_of c plp events m input count s wanted few e =
     let w = (enough_records m input count e wanted).0 in
@@ -138,7 +138,7 @@ room_of c plp events m input count s wanted few e =
     let n = feed_count c plp events m s in
     omega (arith, l, n)
 
-pub few_of : (c : Config) (plp : ℕ) (events : List Event) (m : Swapping) (input count : ℕ) → Shown c plp events m → Suffices (step_of m) input count
+pub few_of : (c : Config) (plp : ℕ) (events : List Event) (m : SwapMachine) (input count : ℕ) → Shown c plp events m → Suffices (step_of m) input count
     → length (fed input events) + count ≤ longest_file → (m.phase ≡ phase.Records → ⊥) → m.taken < 2 ^ 60
 few_of c plp events m input count s wanted few off =
     let at = enough_one m input count wanted off in

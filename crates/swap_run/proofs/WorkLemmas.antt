@@ -33,7 +33,7 @@ use Rattle.swap_run.specs.declared.machine.SwapMachine.{SwapMachine}
 use Rattle.swap_run.specs.declared.phase.Phase.{Phase}
 use Rattle.swap_run.specs.declared.phase.Phase.TheVariants as phase
 use Rattle.swap_run.specs.declared.stop.SwapStop.TheVariants.{NoSuperframe, InputRefused, TooManyFrames}
-use Rattle.swap_run.specs.declared.swapping.Swapping.{Swapping}
+use Rattle.swap_run.specs.declared.machine.SwapMachine.{SwapMachine}
 use Rattle.swap_run.proofs.PacketLemmas.{front_empty}
 use Rattle.swap_run.proofs.FileLemmas.{swaps_all, has_none, has_late, meets_bad, has_swapped, wants_packets, wants_rest, gave_front, since, ahead}
 use Rattle.swap_run.proofs.ShownLemmas.{feed_end, feed_count, in_packets, in_drains}
@@ -52,22 +52,19 @@ pub record Laws : Type 0 where
 
 -- the network and the PLP of a machine
 abbrev pub network_of : SwapMachine → Config
-network_of start = start.swapping.plan.now
+network_of start = start.plan.now
 
 abbrev pub plp_of : SwapMachine → ℕ
-plp_of start = (status_of start.swapping.swapper).plp
+plp_of start = (status_of start.swapper).plp
 
-module _ (law : Laws) (start now : SwapMachine) (files : ℕ → List ℕ) (places : List ℕ) (events : List Event) (all : length places ≡ 2)
-    (are : AreFed 2 files places events) (within : AreWithin 2 places (reach_of now.swapping))
-    (s : Shown (network_of start) (plp_of start) events now.swapping) where
+module _ (law : Laws) (start m : SwapMachine) (files : ℕ → List ℕ) (places : List ℕ) (events : List Event) (all : length places ≡ 2)
+    (are : AreFed 2 files places events) (within : AreWithin 2 places (reach_of m))
+    (s : Shown (network_of start) (plp_of start) events m) where
   abbrev k : Config
   k = network_of start
 
   abbrev plp : ℕ
   plp = plp_of start
-
-  abbrev m : Swapping
-  m = now.swapping
 
   whole : m.phase ≡ phase.Done → AreWhole files places
   whole done =
@@ -129,7 +126,8 @@ module _ (law : Laws) (start now : SwapMachine) (files : ℕ → List ℕ) (plac
       meets_bad law.front law.follow law.complete law.rises law.slot k plp m events s files places are (within 0 (omega arith))
       (within 1 (omega arith)) n is
   ends_in (phase.Stopped TooManyFrames) is end =
-      has_late law.front law.follow law.complete law.rises law.slot k plp m events s files places are (within 1 (omega arith)) is
+      has_late law.front law.follow law.complete law.rises law.slot k plp m events s files places are (within 0 (omega arith))
+      (within 1 (omega arith)) is
 
   -- what is written when an input is to be read on
   written : (place taken at : ℕ) → HowRead m place → (0 ≡ place → taken ≡ length (fed 0 events))
@@ -194,13 +192,13 @@ module _ (law : Laws) (start now : SwapMachine) (files : ℕ → List ℕ) (plac
 
 unwritten : Laws → (start now : SwapMachine) (files : ℕ → List ℕ) (places : List ℕ) (events : List Event) (bytes : List ℕ)
     → AreFed 2 files places events
-    → GaveSome (λ x. reach_of x.swapping) (λ x. step_of x.swapping) (Becomes start) 2 places events now bytes
+    → GaveSome reach_of step_of (Becomes start) 2 places events now bytes
     → HasSome (network_of start) (plp_of start) places files bytes
 unwritten law start now files places events bytes are g =
     let k : Config = network_of start in
     let plp : ℕ = plp_of start in
-    let mid : Swapping = g.mid.swapping in
-    let p = gave_front law.front law.follow law.complete law.rises law.slot k plp now.swapping (events ++ g.late) g.came_late files places
+    let mid : SwapMachine = g.mid in
+    let p = gave_front law.front law.follow law.complete law.rises law.slot k plp now (events ++ g.late) g.came_late files places
     (fed_since 2 files places events g.late g.only are) in
     record {
       more = g.more ++ p.0;
@@ -233,10 +231,10 @@ unwritten law start now files places events bytes are g =
     }
 
 pub swap_does : Laws → (start : SwapMachine) → DoesWork (swap_work (network_of start) (plp_of start)) 2
-    (λ x. reach_of x.swapping) (λ x. step_of x.swapping) (Becomes start) ending_of
+    reach_of step_of (Becomes start) ending_of
 swap_does law start = record {
   ends = λ files places events now all are within came end.
-      ends_in law start now files places events all are within came now.swapping.phase refl end;
+      ends_in law start now files places events all are within came now.phase refl end;
   too_long = λ files places events now input all are within came lt most wants.
       too_long law start now files places events all are within came input lt most wants;
   unread = λ files places events now input all are within came lt wants.

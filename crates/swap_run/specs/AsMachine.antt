@@ -11,7 +11,7 @@ use Rattle.swap_run.specs.declared.stop.SwapStop.{SwapStop}
 
 -- To the first this was done, and then it is the second.
 abbrev pub Becomes : SwapMachine → List Event → SwapMachine → Type 0
-Becomes start events m = Shown start.swapping.plan.now (status_of start.swapping.swapper).plp events m.swapping
+Becomes start events m = Shown start.plan.now (status_of start.swapper).plp events m
 
 -- what comes of a run that came so far
 abbrev pub ending_in : Phase → Ran → Result Ran SwapStop
@@ -19,4 +19,4 @@ ending_in (Stopped why) ran = Err why
 ending_in phase ran = Ok ran
 
 abbrev pub ending_of : SwapMachine → Result Ran SwapStop
-ending_of m = ending_in m.swapping.phase m.swapping.ran
+ending_of m = ending_in m.phase m.ran

@@ -32,7 +32,7 @@ use Rattle.swap_run.specs.declared.phase.Phase.{Phase}
 use Rattle.swap_run.specs.declared.phase.Phase.TheVariants.{Records, Packets, Units, Drains, Rests, Done, Stopped}
 use Rattle.swap_run.specs.declared.stop.SwapStop.{SwapStop}
 use Rattle.swap_run.specs.declared.stop.SwapStop.TheVariants.{NoSuperframe, InputRefused, TooManyFrames}
-use Rattle.swap_run.specs.declared.swapping.Swapping.{Swapping}
+use Rattle.swap_run.specs.declared.machine.SwapMachine.{SwapMachine}
 
 -- Of an input these packets were offered, and then others taken, so many in all; a tail is no packet. If it ended for the swapper, it
 -- did.
@@ -93,14 +93,14 @@ pub record IsQuiet (draining ended over : Bool) (rest : List (List ℕ)) (tail :
   pub ends : ended ≡ over
 
 -- The next record is looked for.
-pub record InRecords (c : Config) (plp : ℕ) (m : Swapping) (r : Read) : Type 0 where
+pub record InRecords (c : Config) (plp : ℕ) (m : SwapMachine) (r : Read) : Type 0 where
   pub caught : HasCaughtUp c plp m.swapper r.told (frames_in c r.given) m.ran.units
   pub next : m.number ≡ above_all r.given
   pub few : length r.told.packets ≤ slots_of c plp r.given
   pub quiet : IsQuiet m.draining m.ended r.told.ended r.rest r.tail
 
 -- A record waits, and packets of the frames up to its own are taken.
-pub record InPackets (c : Config) (plp : ℕ) (m : Swapping) (r : Read) : Type 0 where
+pub record InPackets (c : Config) (plp : ℕ) (m : SwapMachine) (r : Read) : Type 0 where
   pub caught : HasCaughtUp c plp m.swapper r.told (frames_in c r.given) m.ran.units
   pub waiting : Waiting
   pub waits : waiting_of m.feed ≡ Some waiting
@@ -111,7 +111,7 @@ pub record InPackets (c : Config) (plp : ℕ) (m : Swapping) (r : Read) : Type 0
   pub quiet : IsQuiet m.draining m.ended r.told.ended r.rest r.tail
 
 -- Units of the frame under way are given, behind those of the frames before. Its record waits still.
-pub record InUnits (c : Config) (plp : ℕ) (m : Swapping) (r : Read) : Type 0 where
+pub record InUnits (c : Config) (plp : ℕ) (m : SwapMachine) (r : Read) : Type 0 where
   pub before : List FrameRecord
   pub last : FrameRecord
   pub parts : r.given ≡ before ++ last ∷ []
@@ -133,20 +133,20 @@ pub record IsBehindAll (c : Config) (plp : ℕ) (f : FrameFeed) (number : ℕ) (
   pub next : number ≡ above_all given
   pub few : length packets ≤ slots_of c plp given
 
-pub record InDrains (c : Config) (plp : ℕ) (m : Swapping) (r : Read) : Type 0 where
+pub record InDrains (c : Config) (plp : ℕ) (m : SwapMachine) (r : Read) : Type 0 where
   pub caught : HasCaughtUp c plp m.swapper r.told (frames_in c r.given) m.ran.units
   pub behind : IsBehindAll c plp m.feed m.number r.given r.told.packets
   pub whole : r.tail ≡ []
   pub drains : m.draining ≡ true
 
-pub record InRests (c : Config) (plp : ℕ) (m : Swapping) (r : Read) : Type 0 where
+pub record InRests (c : Config) (plp : ℕ) (m : SwapMachine) (r : Read) : Type 0 where
   pub all_fed : is_fed m.swapper ≡ true
   pub done : WereGiven c plp r.told r.given m.ran.units
   pub behind : IsBehindAll c plp m.feed m.number r.given r.told.packets
   pub whole : r.tail ≡ []
   pub over : m.ended ≡ true
 
-pub record IsDone (c : Config) (plp : ℕ) (m : Swapping) (r : Read) : Type 0 where
+pub record IsDone (c : Config) (plp : ℕ) (m : SwapMachine) (r : Read) : Type 0 where
   pub all : (input : List (List ℕ)) → Continues r.told input
       → length (pipe c.pid (remade_packets c (swapped c plp input (frames_in c r.given)))) ≡ m.ran.units
   pub behind : IsBehindAll c plp m.feed m.number r.given r.told.packets
@@ -154,14 +154,14 @@ pub record IsDone (c : Config) (plp : ℕ) (m : Swapping) (r : Read) : Type 0 wh
   pub over : m.ended ≡ true
 
 -- The stream was read to its end, and had no record.
-pub record StopsWithNone (c : Config) (plp : ℕ) (m : Swapping) (r : Read) : Type 0 where
+pub record StopsWithNone (c : Config) (plp : ℕ) (m : SwapMachine) (r : Read) : Type 0 where
   pub none : NoneComes m.feed
   pub nothing : r.given ≡ []
   pub first : m.number ≡ 0
   pub quiet : IsQuiet m.draining m.ended r.told.ended r.rest r.tail
 
 -- A record waits whose number none may have.
-pub record StopsAtLate (c : Config) (plp : ℕ) (m : Swapping) (r : Read) : Type 0 where
+pub record StopsAtLate (c : Config) (plp : ℕ) (m : SwapMachine) (r : Read) : Type 0 where
   pub caught : HasCaughtUp c plp m.swapper r.told (frames_in c r.given) m.ran.units
   pub waiting : Waiting
   pub waits : waiting_of m.feed ≡ Some waiting
@@ -180,7 +180,7 @@ pub record IsWanted (c : Config) (plp : ℕ) (f : FrameFeed) (number : ℕ) (dra
   pub calm : draining ≡ false
 
 -- The next packet is bad, and wanted or of the rest.
-pub record StopsAtBad (c : Config) (plp : ℕ) (m : Swapping) (r : Read) (over : Bool) (packet : ℕ) : Type 0 where
+pub record StopsAtBad (c : Config) (plp : ℕ) (m : SwapMachine) (r : Read) (over : Bool) (packet : ℕ) : Type 0 where
   pub caught : HasCaughtUp c plp m.swapper r.told (frames_in c r.given) m.ran.units
   pub number : packet ≡ length (r.told.packets ++ r.rest)
   pub some : r.tail ≢ []
@@ -189,12 +189,12 @@ pub record StopsAtBad (c : Config) (plp : ℕ) (m : Swapping) (r : Read) (over :
   pub cut : (slice_index r.tail 0 ≢ SYNC) ⊎ (over ≡ true)
   pub met : IsWanted c plp m.feed m.number m.draining r.told.packets r.rest ⊎ IsBehindAll c plp m.feed m.number r.given r.told.packets
 
-abbrev pub StopsFor : Config → ℕ → Swapping → Read → Bool → SwapStop → Type 0
+abbrev pub StopsFor : Config → ℕ → SwapMachine → Read → Bool → SwapStop → Type 0
 StopsFor c plp m r over NoSuperframe = StopsWithNone c plp m r
 StopsFor c plp m r over (InputRefused packet) = StopsAtBad c plp m r over packet
 StopsFor c plp m r over TooManyFrames = StopsAtLate c plp m r
 
-abbrev pub IsIn : Config → ℕ → Swapping → Read → Bool → Phase → Type 0
+abbrev pub IsIn : Config → ℕ → SwapMachine → Read → Bool → Phase → Type 0
 IsIn c plp m r over Records = InRecords c plp m r
 IsIn c plp m r over Packets = InPackets c plp m r
 IsIn c plp m r over Units = InUnits c plp m r
@@ -284,7 +284,7 @@ pub record IsFor (c : Config) (plp : ℕ) (plan : Config) : Type 0 where
   pub rules : IsPlan c
   pub place : plp < length c.plps
 
-pub record ShownAt (c : Config) (plp : ℕ) (events : List Event) (m : Swapping) (at : Phase) : Type 0 where
+pub record ShownAt (c : Config) (plp : ℕ) (events : List Event) (m : SwapMachine) (at : Phase) : Type 0 where
   pub base : IsFor c plp m.plan.now
   pub read : Read
   pub of_feed : OfFeed (begun_in at) c m.feed (fed 0 events) (has_ended 0 events) read.given
@@ -299,11 +299,11 @@ pub record ShownAt (c : Config) (plp : ℕ) (events : List Event) (m : Swapping)
   pub live : IsLive c plp (fed 0 events) read.told read.given m.ran.units
   pub is_in : IsIn c plp m read (has_ended 1 events) at
 
-abbrev pub Shown : Config → ℕ → List Event → Swapping → Type 0
+abbrev pub Shown : Config → ℕ → List Event → SwapMachine → Type 0
 Shown c plp events m = ShownAt c plp events m m.phase
 
 -- Something was done, and then they are there.
-pub record HasShown (m : Swapping) : Type 0 where
+pub record HasShown (m : SwapMachine) : Type 0 where
   pub network : Config
   pub plp : ℕ
   pub events : List Event

@@ -16,7 +16,7 @@ use Rattle.file_run.specs.FileRun.{read_ahead}
 use Rattle.swap_run.specs.declared.phase.Phase.{Phase}
 use Rattle.swap_run.specs.declared.phase.Phase.TheVariants.{Records, Packets, Units, Drains, Rests, Done, Stopped}
 use Rattle.swap_run.specs.declared.stop.SwapStop.TheVariants.{NoSuperframe, InputRefused, TooManyFrames}
-use Rattle.swap_run.specs.declared.swapping.Swapping.{Swapping}
+use Rattle.swap_run.specs.declared.machine.SwapMachine.{SwapMachine}
 
 -- no more packets than these are to wait
 abbrev pub most_packets : ℕ
@@ -41,7 +41,7 @@ step_in Rests idle wants ended = Give
 step_in Done idle wants ended = End
 step_in (Stopped why) idle wants ended = End
 
-abbrev pub step_of : Swapping → Step
+abbrev pub step_of : SwapMachine → Step
 step_of m = step_in m.phase (is_idle (waiting_of m.feed) (has_ended m.feed)) (wants_of m.swapper) m.ended
 
 -- the frame whose packets were wanted last: the one under way, or the one before the next
@@ -61,12 +61,12 @@ wanted_in (Stopped TooManyFrames) number = number - 1
 abbrev pub drained : Bool → ℕ → ℕ
 drained draining unsent = if draining then SIZE * unsent + read_ahead else 0
 
-abbrev pub input_reach : Swapping → ℕ
+abbrev pub input_reach : SwapMachine → ℕ
 input_reach m =
     SIZE * slots_by m.plan.now (status_of m.swapper).plp (wanted_in m.phase m.number * m.plan.now.ticks)
     + drained m.draining m.ran.unsent
 
-abbrev pub reach_of : Swapping → ℕ → ℕ
+abbrev pub reach_of : SwapMachine → ℕ → ℕ
 reach_of m input = if input == 0 then fed_of m.feed + read_ahead else input_reach m
 
 -- It gives no more often before it wants bytes: so many records may come, and each has frames that are passed and a frame's units.
@@ -79,5 +79,5 @@ left_in Rests records number s f = 1 + more_units Rests s f
 left_in Done records number s f = 0
 left_in (Stopped why) records number s f = 0
 
-abbrev pub left_of : Swapping → ℕ
+abbrev pub left_of : SwapMachine → ℕ
 left_of m = left_in m.phase (feed.left_of m.feed) m.number m.swapper m.feed

@@ -185,7 +185,7 @@ pub record HasNearly (c : Config) (plp input : ℕ) (files : ℕ → List ℕ) (
   pub has : HasWritten c plp places input taken taken files bytes
 
 -- What a run tells, by its cause. A record that none may have waits, or a bad packet was met: then of the second file no more was read
--- than the frame wants that comes next, or those before the record.
+-- than the frame wants that comes next, or those before the record, and of the first no more than its record wants.
 abbrev pub swap_work : Config → ℕ → Work Ran SwapStop
 swap_work c plp files (Ok ran) places bytes = AreWhole files places × SwapsAll c plp files ran bytes
 swap_work c plp files (Err (Refused NoSuperframe)) places bytes =
@@ -193,7 +193,7 @@ swap_work c plp files (Err (Refused NoSuperframe)) places bytes =
 swap_work c plp files (Err (Refused (InputRefused packet))) places bytes = (meets : MeetsBad c plp files packet bytes)
     × ReadsNoFurther c plp places meets.before meets.after × TakesNoFurther c places files meets.before
 swap_work c plp files (Err (Refused TooManyFrames)) places bytes = (has : HasLate c plp files bytes)
-    × (slice_index places 1 ≤ SIZE * slots_of c plp has.before)
+    × (slice_index places 1 ≤ SIZE * slots_of c plp has.before) × TakesNoFurther c places files has.before
 swap_work c plp files (Err (Files (TooLong input))) places bytes = HasNearly c plp input files places bytes
 swap_work c plp files (Err (Files (ReadFault input))) places bytes =
     HasWritten c plp places input (slice_index places input) (slice_index places input) files bytes

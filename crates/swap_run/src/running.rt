@@ -6,7 +6,7 @@ ghost use Rattle.swap_run.specs.SwapRun.{swap_work};
 
 use crate::machine::SwapMachine;
 use crate::stop::{Ran, SwapStop};
-use file_run::{RunStop, run_over_two};
+use file_run::{Output, RunStop, run_over_two};
 use modulator::due_records_law;
 use plp_config::{Plan, length_law, slot_time_law};
 use ports::{Desk, Word};
@@ -36,5 +36,5 @@ pub fn run<D: Desk>(
     slot_time_law();
     length_law();
     let mut machine = SwapMachine::open(alloc, plan, plp)?;
-    run_over_two(alloc, &mut machine, t2mi, input, out, desk)
+    run_over_two(alloc, &mut machine, t2mi, input, Output::File(out), desk)
 }

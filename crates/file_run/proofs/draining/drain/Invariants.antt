@@ -1,13 +1,13 @@
 use Rattle.std.proofs.Common.{◌≡◌, ◌≤◌, ◌⊎◌, ℕ, []}
 use Rattle.ports.specs.Desk.{SameCounts}
-use Rattle.file_run.specs.Running.{DrainsPart}
+use Rattle.file_run.specs.Running.{Drains}
 use Rattle.file_run.specs.declared.machine.Step.TheVariants.{Give}
 use Rattle.file_run.proofs.draining.drain.Given as goal
 
 abbrev pub invariant-loop-desk : goal.invariant-loop-desk
 invariant-loop-desk g l = record {
-  part : DrainsPart g.M.Machine.Becomes l.initial.machine l.machine (g.D.Desk.state l.initial.desk)
-      (g.D.Desk.state l.desk) l.out l.buffer;
+  part : Drains g.M.Machine.Becomes l.out l.initial.machine l.machine (g.D.Desk.state l.initial.desk)
+      (g.D.Desk.state l.desk) l.buffer;
   first : ((l.machine ≡ l.initial.machine) × (l.buffer ≡ [])) ⊎ (g.M.Machine.next l.initial.machine ≡ Give);
   reach : (other : ℕ) → g.M.Machine.reach l.initial.machine other ≤ g.M.Machine.reach l.machine other;
   counts : SameCounts (g.D.Desk.state l.initial.desk) (g.D.Desk.state l.desk);

@@ -1,5 +1,6 @@
-use Rattle.std.proofs.Common.{sym, ◌∙◌}
+use Rattle.std.proofs.Common.{[], ◌∷◌, ◌++◌, sym, ◌∙◌}
 use Rattle.std.proofs.lemmas.Result.{err_from_is_err_and}
+use Rattle.file_run.specs.Events.{Gave}
 use Rattle.file_run.proofs.TellLemmas.{page_grown, room_made, telling_kept}
 use Rattle.file_run.proofs.telling.gather.Goals as goal
 
@@ -10,6 +11,10 @@ loop-desk-preserved g c = record {
       c.in_ok-make_room.ensures.room c.take_from.ensures.few (sym c.step.ensures.next ∙ c.in-Give.is)
       (room_made _ g.M.Machine.next _ start _ _ name r _ _ c.in_ok-make_room.ensures.ok
       (c.loop-desk.invariant.telling begin start name r t));
+  came =
+      let h = c.loop-desk.invariant.came in
+      let t = c.take_from.ensures.gathers in
+      record { start = h.start; events = h.events ++ Gave t.piece ∷ []; came = t.becomes h.start h.events h.came };
   counts = c.in_ok-make_room.ensures.counts.ok ∙ c.loop-desk.invariant.counts;
 }
 
@@ -22,3 +27,6 @@ returns-in_err-make_room-clause-err g c =
           (c.loop-desk.invariant.telling begin start name r t),
       c.in_err-make_room.ensures.some,
     ))
+
+pub take_from-requires-clause-came : goal.take_from-requires-clause-came
+take_from-requires-clause-came g c = ∣ c.loop-desk.invariant.came ∣₁

@@ -1,6 +1,7 @@
 use Rattle.std.proofs.Common.{ℕ, List}
 use Rattle.ports.specs.Desk.{State, SameCounts}
 use Rattle.desk_io.specs.Reading.{Reading}
+use Rattle.file_run.specs.Steps.{HasCome}
 use Rattle.file_run.specs.TellingOn.{Telling}
 use Rattle.file_run.proofs.telling.gather.Given as goal
 
@@ -10,6 +11,7 @@ invariant-loop-desk g l = record {
       → Telling (g.M.Machine.Becomes begin) g.M.Machine.next start (g.D.Desk.state l.initial.desk) name l.initial.machine r
       l.initial.page
       → Telling (g.M.Machine.Becomes begin) g.M.Machine.next start (g.D.Desk.state l.desk) name l.machine r l.page;
+  came : HasCome g.M.Machine.Becomes l.machine;
   counts : SameCounts (g.D.Desk.state l.initial.desk) (g.D.Desk.state l.desk);
 }
 

@@ -4,6 +4,7 @@ use Rattle.file_run.specs.TellingOn.{Telling}
 use Rattle.file_run.specs.declared.stop.RunFault.TheVariants.{TooLong, ReadFault, WriteFault}
 use Rattle.file_run.proofs.OpenLemmas.{reads_fail}
 use Rattle.file_run.proofs.TellLemmas.{telling_fed, telling_read, place_within, is_zero, needs, falls_short}
+use Rattle.file_run.proofs.RunningLemmas.{came_fed}
 use Rattle.file_run.proofs.telling.tell_on.Goals as goal
 
 pub returns-in-Err-clause-err : goal.returns-in-Err-clause-err
@@ -126,3 +127,11 @@ returns-in-Err-gather-clause-err g c = λ begin start name t.
     (telling_fed g.M.Machine.Becomes g.M.Machine.next begin _ _ start _ _ name _ _ _ _
     (is_zero _ _ w.place b.one) c.feed.ensures.reads c.in-Ok-feed.ensures.feeds told) in
     (lost.0, lost.1, (λ other. absurd (other refl)), λ same. lost.2)
+
+pub gather-requires-in-Read : goal.gather-requires-in-Read
+gather-requires-in-Read g c =
+    let b = c.requires.begun in
+    let t = c.loop-input.invariant.telling b.begin b.start b.name b.telling in
+    record {
+      came = came_fed _ _ _ _ _ _ _ _ (record { start = b.begin; events = t.events; came = t.came }) c.in-Ok-feed.ensures.feeds;
+    }

@@ -1,8 +1,35 @@
-use Rattle.std.proofs.Common.{[], sym, subst}
-use Rattle.plp_config.specs.declared.config.Config.{Config}
-use Rattle.compare_run.specs.Shown.{Shown}
+use Rattle.std.proofs.Common.{[], ◌∙◌, refl, ap, sym, subst, arith, length}
+use Rattle.frame_compare.specs.StandsFor.{TallyStandsFor}
+use Rattle.frame_compare.proofs.GrowLemmas.{answers_nothing}
+use Rattle.frame_compare.proofs.LineLemmas.{nothing_known}
+use Rattle.frame_compare.specs.Lines.{known_text}
 use Rattle.compare_run.proofs.machine.CompareMachine.open.Goals as goal
 
 pub returns-clause-becomes : goal.returns-clause-becomes
 returns-clause-becomes c =
-    subst (λ (k : Config). Shown k [] c.in_ok-comparing.comparing) (sym c.in_ok-comparing.ensures.plan) c.in_ok-comparing.ensures.shown
+    let a = c.in_ok-a.ensures in
+    let b = c.in_ok-b.ensures in
+    let k = c.args.plan.now in
+    record {
+      config = refl;
+      plps = c.in_ok-carried.ensures.plps;
+      given_a = [];
+      given_b = [];
+      both = record {
+        of_a = record { network = a.config; stands = a.stands };
+        of_b = record { network = b.config; stands = b.stands };
+        behind_a = record { waits = λ w is. omega arith; idle = λ _ _. omega arith };
+        behind_b = record { waits = λ w is. omega arith; idle = λ _ _. omega arith };
+        next_is = refl;
+        early = omega arith;
+      };
+      told = λ ga gb are_a are_b.
+          let none = answers_nothing k ga gb in
+          record {
+            carried = c.in_ok-carried.ensures.stands ga gb;
+            tallied = subst (TallyStandsFor c.new.result) (sym none) c.new.ensures;
+            few = (let e = ap length none in omega (arith, e));
+            said_is = sym (ap known_text none ∙ nothing_known);
+          };
+      over = λ on. absurd cc;
+    }

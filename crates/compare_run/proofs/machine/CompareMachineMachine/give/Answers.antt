@@ -1,17 +1,13 @@
-use Rattle.std.proofs.Common.{take, [], ◌∷◌, ◌++◌}
-use Rattle.std.proofs.Math.Logic.{∥∥₁_map}
+use Rattle.std.proofs.Common.{ℕ, List, [], ◌∷◌, ◌++◌, sym, subst}
 use Rattle.file_run.specs.Events.{Gave}
-use Rattle.compare_run.specs.Shown.{HasShown}
+use Rattle.compare_run.specs.Shown.{Shown}
+use Rattle.compare_run.proofs.ShownLemmas.{has_shown}
 use Rattle.compare_run.proofs.machine.CompareMachineMachine.give.Goals as goal
 
-pub invariant_of-self : goal.invariant_of-self
-invariant_of-self c = record {
-  came = ∥∥₁_map c.args.self.now.came (λ (h : HasShown c.args.self.now.comparing). record {
-    network = h.network;
-    events = h.events ++ Gave (take c.give.result c.give.new.out) ∷ [];
-    shown = c.give.ensures.shown h.network h.events h.shown;
-  });
-}
+pub go_on-line-requires-clause-came : goal.go_on-line-requires-clause-came
+go_on-line-requires-clause-came c = has_shown _ c.requires.came
 
 pub returns-clause-becomes : goal.returns-clause-becomes
-returns-clause-becomes c = λ start events came. c.give.ensures.shown _ events came
+returns-clause-becomes c = λ start events s.
+    subst (λ (l : List ℕ). Shown start.plan.now (events ++ Gave l ∷ []) c.go_on-line.new.self) (sym c.copy_line.ensures.bytes)
+    (c.go_on-line.ensures.shown _ events s)

@@ -1,17 +1,11 @@
-use Rattle.std.proofs.Common.{[], ◌∷◌, ◌++◌}
-use Rattle.std.proofs.Math.Logic.{∥∥₁_map}
-use Rattle.file_run.specs.Events.{Ended}
-use Rattle.merge_run.specs.Shown.{HasShown}
+use Rattle.file_run.specs.Steps.{FallsShort}
+use Rattle.merge_run.proofs.ShownLemmas.{shown_read, reading}
+use Rattle.merge_run.proofs.StepLemmas.{asked}
 use Rattle.merge_run.proofs.machine.MergeMachineMachine.end_input.Goals as goal
 
-pub invariant_of-self : goal.invariant_of-self
-invariant_of-self c = record {
-  came = ∥∥₁_map c.args.self.now.came (λ (h : HasShown c.args.self.now.merging). record {
-    network = h.network;
-    events = h.events ++ Ended c.args.input c.args.bytes.now ∷ [];
-    shown = c.end_input.ensures.shown h.network h.events h.shown;
-  });
-}
-
 pub returns-clause-becomes : goal.returns-clause-becomes
-returns-clause-becomes c = λ start events came. c.end_input.ensures.shown _ events came
+returns-clause-becomes c = λ start events s.
+    let m = c.args.self.now in
+    let reads = (asked FallsShort (λ i k h. h) (λ i k h. h) m.phase _ c.args.input _ c.requires.wanted).0 in
+    shown_read _ m c.end_one.new.a c.end_one.new.b events _ s reads
+    (c.end_one.ensures.go_on _ events m.next s.given_a s.given_b (reading _ m events s reads))

@@ -10,14 +10,14 @@ use Rattle.formed_frames.specs.Remade.{remade_bodies, remade_packets}
 use Rattle.region_swap.specs.Left.{left_by, own_list}
 use Rattle.region_swap.specs.StandsFor.{SwapperStandsFor, left_in}
 use Rattle.region_swap.specs.Swapped.{swapped}
-use Rattle.region_swap.specs.Units.{GivesAll}
+use Rattle.frame_writer.specs.Units.{GivesAll}
 use Rattle.region_swap.specs.declared.place.SwapPlace.{SwapPlace}
 use Rattle.region_swap.proofs.LeftLemmas.{can_build, over_left}
 use Rattle.region_swap.proofs.SwapLemmas.{swaps_flow, to_told}
 use Rattle.region_swap.proofs.swapper.Swapper.give.Goals as goal
 
-pub give_units-len-requires-clause-of : goal.give_units-len-requires-clause-of
-give_units-len-requires-clause-of c =
+pub give-len-requires-clause-of : goal.give-len-requires-clause-of
+give-len-requires-clause-of c =
     let s = c.args.self.now in
     let of = s.parts.region_is in
     let place = c.new-source.ensures.place in
@@ -28,12 +28,12 @@ give_units-len-requires-clause-of c =
     can_build s.plan.now c.new-source.result _ (omega (arith, number, early)) (omega (arith, plp, inside)) c.requires.can
     s.dynamic.short of.place of.lists of.short c.new-source.ensures.walks
 
-pub give_units-len-requires-clause-ends : goal.give_units-len-requires-clause-ends
-give_units-len-requires-clause-ends c = λ dry.
+pub give-len-requires-clause-ends : goal.give-len-requires-clause-ends
+give-len-requires-clause-ends c = λ dry.
     ap (λ (p : SwapPlace). p.step) c.new-source.ensures.place ∙ c.args.self.now.parts.over dry
 
-pub give_units-len-requires-clause-over : goal.give_units-len-requires-clause-over
-give_units-len-requires-clause-over c = λ dry.
+pub give-len-requires-clause-over : goal.give-len-requires-clause-over
+give-len-requires-clause-over c = λ dry.
     over_left _ c.new-source.result.place _ _ _ _
     (ap (λ (p : SwapPlace). p.step) c.new-source.ensures.place ∙ c.args.self.now.parts.over dry)
 
@@ -43,12 +43,12 @@ returns-clause-gives c =
     let s = c.args.self.now in
     let p = s.plan.now in
     let f = c.args.frame.now in
-    let u = c.give_units-len in
+    let u = c.give-len in
     let place = c.new-source.ensures.place in
     let lists : List (List (List ℕ)) = slice_set f.blocks.now.lists s.list (own_list s.region.sends s.region.blocks s.list) in
     let rest : List Body = left_by p u.new.source.place f.pre f.conf s.dynamic.bits lists in
-    let g : GivesAll p s.flow u.new.flow s.place.number (left_in s f) rest u.result.1 (take u.result.0 u.new.out) =
-    subst (λ (pl : SwapPlace). GivesAll p s.flow u.new.flow pl.number (left_by p pl f.pre f.conf s.dynamic.bits lists) rest u.result.1
+    let g : GivesAll p s.flow u.new.self s.place.number (left_in s f) rest u.result.1 (take u.result.0 u.new.out) =
+    subst (λ (pl : SwapPlace). GivesAll p s.flow u.new.self pl.number (left_by p pl f.pre f.conf s.dynamic.bits lists) rest u.result.1
     (take u.result.0 u.new.out)) place u.ensures.gives in
     let number : u.new.source.place.number ≡ s.place.number = u.ensures.number ∙ ap (λ (pl : SwapPlace). pl.number) place in
     record {
@@ -58,9 +58,9 @@ returns-clause-gives c =
       stands = λ config plp t frames given h. (
         h.0,
         h.1,
-        swaps_flow p s.list s.region s.flow u.new.flow s.place u.new.source.place s.number s.begun t (left_in s f) rest frames given
+        swaps_flow p s.list s.region s.flow u.new.self s.place u.new.source.place s.number s.begun t (left_in s f) rest frames given
             (given + length g.units)
-            (λ all x. subst (λ (n : ℕ). Flows u.new.flow.outlet p n rest all (given + length g.units)) (sym number)
+            (λ all x. subst (λ (n : ℕ). Flows u.new.self.outlet p n rest all (given + length g.units)) (sym number)
             (g.gives.flows all given x)) h.2,
       );
       next = λ config plp t frames given h input cont more over.
@@ -82,4 +82,4 @@ returns-clause-gives c =
     }
 
 pub returns-clause-idle : goal.returns-clause-idle
-returns-clause-idle c = λ off. (c.give_units-len.ensures.gives.caught off).idle
+returns-clause-idle c = λ off. (c.give-len.ensures.gives.caught off).idle

@@ -6,5 +6,5 @@ use Rattle.swap_run.proofs.machine.SwapMachineMachine.step.Goals as goal
 
 pub returns-clause-wanted : goal.returns-clause-wanted
 returns-clause-wanted c = λ start events came.
-    subst (IsWanted 2 events (reach_of c.args.self.now.swapping)) (sym c.step.ensures)
-    (wanted_by c.slot_time_law.ensures.count_rises c.length_law.ensures.slot _ _ events c.args.self.now.swapping came)
+    subst (IsWanted 2 events (reach_of c.args.self.now)) (sym c.next_step.ensures)
+    (wanted_by c.slot_time_law.ensures.count_rises c.length_law.ensures.slot _ _ events c.args.self.now came)

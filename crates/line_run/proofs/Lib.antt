@@ -1,3 +1,0 @@
-pub mod SpeakLemmas
-pub mod StandsLemmas
-pub mod WorkLemmas

@@ -1,3 +1,0 @@
-pub mod Speaking
--- inner: no public clause cites these
-pub mod SpeakingOn

@@ -1,0 +1,36 @@
+use Rattle.std.proofs.Common.{[], ◌∷◌, ◌++◌, inr, true, ◌∙◌, arith, refl}
+use Rattle.gateway_run.proofs.FileLemmas.{no_short}
+use Rattle.file_run.specs.Events.{Ended, fed}
+use Rattle.swap_run.specs.declared.phase.Phase.TheVariants as phase
+use Rattle.swap_run.proofs.ShownLemmas.{shown_over, shown_refuse, can_drains}
+use Rattle.swap_run.proofs.NextLemmas.{ended_same, zero_one, reach_on, some_length, nothing_more, reach_refused}
+use Rattle.swap_run.proofs.machine.SwapMachine.end_rest.Goals as goal
+
+pub returns-then-rest-gt0-clause-shown : goal.returns-then-rest-gt0-clause-shown
+returns-then-rest-gt0-clause-shown c = λ k plp events s.
+    let m = c.args.self.now in
+    let p = c.args.bytes.now in
+    let tell = c.events_law.ensures in
+    rw c.refuse.ensures (shown_refuse k plp events m s p (events ++ Ended 1 p ∷ []) (can_drains k plp events m s c.requires.drains c.requires.going)
+    (ended_same tell 1 0 p events zero_one) (tell.ended 1 p events).here (tell.ended 1 p events).gave
+    (some_length p (let l = c.if-rest-gt0.true in omega (arith, l)))
+    (no_short p c.requires.short) (inr (tell.ended 1 p events).ended))
+
+pub returns-then-rest-gt0-clause-reach : goal.returns-then-rest-gt0-clause-reach
+returns-then-rest-gt0-clause-reach c = λ other.
+    let m = c.args.self.now in
+    rw c.refuse.ensures (reach_refused m phase.Drains c.requires.drains refl other)
+
+pub returns-clause-shown : goal.returns-clause-shown
+returns-clause-shown c = λ k plp events s.
+    let p = c.args.bytes.now in
+    let tell = c.events_law.ensures in
+    shown_over k plp events c.args.self.now s (events ++ Ended 1 p ∷ []) c.requires.drains c.requires.going
+    (ended_same tell 1 0 p events zero_one)
+    ((tell.ended 1 p events).here ∙ nothing_more (fed 1 events) p (let l = c.if-rest-gt0.false in omega (arith, l)))
+    (tell.ended 1 p events).ended (tell.ended 1 p events).gave
+
+pub returns-clause-reach : goal.returns-clause-reach
+returns-clause-reach c =
+    let m = c.args.self.now in
+    reach_on m (record m { ended = true }) (omega arith) (omega arith) (omega arith)
