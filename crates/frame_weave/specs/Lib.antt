@@ -1,0 +1,9 @@
+pub mod Places
+pub mod Placed
+pub mod Woven
+pub mod Weaves
+-- inner: no public clause cites these
+pub mod Made
+pub mod Slots
+-- of the crate below, for those who read this one
+pub use Rattle.marked_group.specs.Marked
