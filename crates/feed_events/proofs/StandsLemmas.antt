@@ -21,12 +21,13 @@ use Rattle.t2mi_stream.proofs.UnitLemmas.{runs_same}
 use Rattle.feed_events.specs.Arrivals.{Arrival, came_of, is_idle, idle_if, arrivals_with, arrivals_from, arrivals}
 use Rattle.feed_events.specs.Arrivals.Arrival.{Came, Idle}
 use Rattle.feed_events.specs.FeedEvents.{FeedEvent, feed_events}
-use Rattle.feed_events.specs.StandsFor.{arrivals_behind, arrivals_left, EventsStandFor}
+use Rattle.feed_events.specs.StandsFor.{arrivals_behind, arrivals_left, CanBecome, EventsStandFor, IsNext}
 use Rattle.feed_events.specs.Under.{IsHeld, Went, Ended, course_events, head_events, events_behind, under_of, start}
 use Rattle.feed_events.specs.declared.course.Course.{Course}
+use Rattle.feed_events.specs.declared.course.Head.{Head}
 use Rattle.feed_events.specs.declared.course.Head.TheVariants as head
 use Rattle.t2mi_stream.specs.Skipping.{FewPackets}
-use Rattle.feed_events.proofs.UnderLemmas.{first_events}
+use Rattle.feed_events.proofs.UnderLemmas.{first_events, no_event}
 use Rattle.feed_events.proofs.ArrivalLemmas.{with_unit, behind_unit, behind_none}
 
 -- the packet that bytes are
@@ -423,3 +424,82 @@ pub has_next : (o : Option Packet) (ready : Bool) (v : Unpiper) → is_some o �
     → (a : AcceptedPacket) × (next_packet pid events ≡ Some a)
 has_next None ready v e is r pid events stands = absurd (true≢false (sym r ∙ sym e))
 has_next (Some p) ready v e is r pid events stands = let a = is pid events stands in (a.0, a.1)
+
+-- ---- what is next
+
+-- behind the last bytes of a feed nothing is left
+over_events : (Holds : List Numbered → Option Group → Type 0) (r : Rules) (u : Unpiper) (c : Course) (idle finished : Bool) (bytes : List ℕ)
+    (gone : List FeedEvent) (h : EventsStandFor Holds r u c idle finished bytes gone) → IsIdle u → idle ≡ false → finished ≡ true
+    → c.under_way ≡ false → (ended : Bool) (all : List ℕ) (later : List Arrival) → CanBecome finished r.network.pid bytes ended all later
+    → (ended ≡ true) × (events_behind r ended (under_of c.under_way h.group) c.last (arrivals_left r.network.pid h.events idle ++ later) ≡ [])
+over_events Holds r u c idle finished bytes gone h none not_idle at_end under ended all later can =
+    let pid = r.network.pid in
+    let z = subst (λ (f : Bool). CanBecome f pid bytes ended all later) at_end can in
+    let left : arrivals_left pid h.events idle ++ later ≡ [] =
+    ap₂ (λ (xs ys : List Arrival). xs ++ ys)
+    (ap (arrivals_left pid h.events) not_idle ∙ none_left pid h.events false (none pid h.events h.stands)) z.2 in (
+      z.0,
+      ap₂ (λ (t : Bool) (xs : List Arrival). events_behind r t (under_of c.under_way h.group) c.last xs) z.0 left
+          ∙ ap (λ (t : Bool). events_behind r true (under_of t h.group) c.last []) under,
+    )
+
+pub is_next : (Holds : List Numbered → Option Group → Type 0) (r : Rules) (u : Unpiper) (c : Course) (idle finished : Bool)
+    (bytes : List ℕ) (gone : List FeedEvent) (h : EventsStandFor Holds r u c idle finished bytes gone)
+    → ((n : ℕ) → c.head ≡ head.Frame n → (x : Group) × (h.group ≡ Some x))
+    → (c.head ≡ head.Over → IsIdle u × (idle ≡ false) × (finished ≡ true) × (c.under_way ≡ false))
+    → (ended : Bool) (all : List ℕ) (later : List Arrival) → CanBecome finished r.network.pid bytes ended all later
+    → IsNext c.head h.group ended gone (feed_events r ended all)
+is_next Holds r u c idle finished bytes gone h frame over ended all later can = go c.head refl
+  where
+    rest : List FeedEvent
+    rest = events_behind r ended (under_of c.under_way h.group) c.last (arrivals_left r.network.pid h.events idle ++ later)
+
+    is : feed_events r ended all ≡ gone ++ (head_events c.head h.group ++ rest)
+    is = h.all ended all later can
+
+    go : (k : Head) → c.head ≡ k → IsNext k h.group ended gone (feed_events r ended all)
+    go head.Unknown e = (rest, is ∙ ap (λ (k : Head). gone ++ (head_events k h.group ++ rest)) e)
+    go (head.Frame n) e =
+        let x = frame n e in (
+          x.0,
+          x.1,
+          (rest, is ∙ ap₂ (λ (k : Head) (g : Option Group). gone ++ (head_events k g ++ rest)) e x.1),
+        )
+    go head.Silent e = (rest, is ∙ ap (λ (k : Head). gone ++ (head_events k h.group ++ rest)) e)
+    go head.Over e =
+        let o = over e in
+        let z = over_events Holds r u c idle finished bytes gone h o.0 o.1 o.2 o.3 ended all later can in (
+          z.0,
+          is
+              ∙ ap (λ (k : Head). gone ++ (head_events k h.group ++ rest)) e
+              ∙ ap (λ (l : List FeedEvent). gone ++ l) z.1
+              ∙ append-nil gone,
+        )
+
+pub unknown_next : (Holds : List Numbered → Option Group → Type 0) (r : Rules) (u : Unpiper) (c : Course) (idle finished : Bool)
+    (bytes : List ℕ) (gone : List FeedEvent) (h : EventsStandFor Holds r u c idle finished bytes gone) → IsIdle u → idle ≡ false
+    → finished ≡ false → c.head ≡ head.Unknown → feed_events r false bytes ≡ gone
+unknown_next Holds r u c idle finished bytes gone h none not_idle going e =
+    let pid = r.network.pid in
+    let whole : length bytes % 188 ≡ 0 =
+    ap (λ (l : List ℕ). length l % 188) (h.bytes_are ∙ ap (λ (l : List ℕ). fed h.events ++ l) (h.no_tail going)
+    ∙ append-nil (fed h.events)) ∙ h.whole in
+    let later : arrivals_behind pid bytes [] ≡ [] = behind_none pid bytes [] whole (omega arith) in
+    let can : CanBecome finished pid bytes false bytes (arrivals_behind pid bytes []) =
+    subst (λ (f : Bool). CanBecome f pid bytes false bytes (arrivals_behind pid bytes [])) (sym going)
+    ([], sym (append-nil bytes), refl) in
+    let left : arrivals_left pid h.events idle ++ arrivals_behind pid bytes [] ≡ [] =
+    ap₂ (λ (xs ys : List Arrival). xs ++ ys)
+    (ap (arrivals_left pid h.events) not_idle ∙ none_left pid h.events false (none pid h.events h.stands)) later in
+    h.all false bytes (arrivals_behind pid bytes []) can
+    ∙ ap₂ (λ (k : Head) (xs : List Arrival). gone ++ (head_events k h.group ++ events_behind r false (under_of c.under_way h.group) c.last xs))
+    e left
+    ∙ ap (λ (l : List FeedEvent). gone ++ l) (no_event r (under_of c.under_way h.group) c.last)
+    ∙ append-nil gone
+
+unknown_or_over : head.Unknown ≡ head.Over → ⊥
+unknown_or_over e = let z : Unit {0} = tt in cc
+
+pub not_under : (under : Bool) (h : Head) → (under ≡ true → h ≡ head.Unknown) → h ≡ head.Over → under ≡ false
+not_under true h known over = absurd (unknown_or_over (sym (known refl) ∙ over))
+not_under false h known over = refl

@@ -1,5 +1,5 @@
 -- What a feed of events stands for.
-use Rattle.std.specs.Prelude.{◌≡◌, ℕ, ◌+◌, ◌-◌, ◌*◌, ◌/◌, ◌%◌, ◌<◌, ◌≤◌, Bool, true, false, List, [], ◌++◌, map, length, drop, Option}
+use Rattle.std.specs.Prelude.{◌≡◌, ℕ, ◌+◌, ◌-◌, ◌*◌, ◌/◌, ◌%◌, ◌<◌, ◌≤◌, Bool, true, false, List, [], ◌∷◌, ◌++◌, map, length, drop, Option, Some}
 use Rattle.std.specs.Prelude.{if◌then◌else◌}
 use Rattle.ts_packet.specs.declared.sizes.TheConstants.{SIZE}
 use Rattle.t2mi_stream.specs.Events.{UnpiperEvent, fed, released}
@@ -10,6 +10,7 @@ use Rattle.frame_groups.specs.Groups.{Group}
 use Rattle.frame_groups.specs.Modulated.{Numbered, Rules}
 use Rattle.feed_events.specs.Arrivals.{Arrival, came_of, arrivals_from, idle_if}
 use Rattle.feed_events.specs.FeedEvents.{FeedEvent, feed_events}
+use Rattle.feed_events.specs.FeedEvents.FeedEvent.{Has, Silent}
 use Rattle.feed_events.specs.Under.{IsHeld, head_events, course_events}
 use Rattle.frame_groups.specs.declared.group.OpenGroup as OpenGroup
 use Rattle.feed_events.specs.declared.course.Course.{Course}
@@ -48,6 +49,14 @@ pub record EventsStandFor (Holds : List Numbered → Option Group → Type 0) (r
   pub all : (ended : Bool) (all : List ℕ) (later : List Arrival) → CanBecome finished r.network.pid bytes ended all later
       → feed_events r ended all
       ≡ gone ++ course_events r course group ended (arrivals_left r.network.pid events idle ++ later)
+
+-- What is shown is next behind the events that were passed; at an end nothing is.
+abbrev pub IsNext : Head → Option Group → Bool → List FeedEvent → List FeedEvent → Type 0
+IsNext head.Unknown g ended gone all = (more : List FeedEvent) × (all ≡ gone ++ more)
+IsNext (head.Frame n) g ended gone all = (x : Group) × (g ≡ Some x) × ((more : List FeedEvent)
+    × (all ≡ gone ++ Has (record { number = n; group = x }) ∷ more))
+IsNext head.Silent g ended gone all = (more : List FeedEvent) × (all ≡ gone ++ Silent ∷ more)
+IsNext head.Over g ended gone all = (ended ≡ true) × (all ≡ gone)
 
 -- What is next is known.
 abbrev pub is_known : Head → Bool

@@ -1,5 +1,5 @@
 // A T2-MI stream in, events out.
-ghost use Rattle.std.specs.Prelude.{◌≡◌, ◌≤◌, false, length, take};
+ghost use Rattle.std.specs.Prelude.{◌≡◌, ◌≤◌, true, false, length, take};
 ghost use Rattle.ts_packet.specs.declared.sizes.TheConstants.{SIZE};
 ghost use Rattle.t2mi_stream.specs.UnpiperStandsFor.{is_ready};
 ghost use Rattle.feed_events.specs.declared.course.Head.TheVariants as head;
@@ -34,12 +34,15 @@ pub struct EventFeed<G: OpenGroup + Drop> {
     finished: bool,
     ghost network: { (G.rules frames.group).network.pid ≡ pid },
     ghost settled: { frames.course.head ≡ head.Unknown → (is_ready unpiper ≡ false) × (idle ≡ false) × (finished ≡ false) },
+    ghost over: { frames.course.head ≡ head.Over → (is_ready unpiper ≡ false) × (idle ≡ false) × (finished ≡ true) },
 }
 
 impl<G: OpenGroup + Drop> EventFeed<G> {
-    ghost use Rattle.std.specs.Prelude.{◌≡◌, ◌≢◌, ◌<◌, ◌≤◌, ◌+◌, ◌*◌, ◌^◌, ◌++◌, ℕ, List, [], None, IfOk, length, take, true, false};
+    ghost use Rattle.std.specs.Prelude.{◌≡◌, ◌≢◌, ◌<◌, ◌≤◌, ◌+◌, ◌*◌, ◌^◌, ◌++◌, ℕ, Bool, List, [], None, IfOk, length, take, true, false};
     ghost use Rattle.ts_packet.specs.declared.sizes.TheConstants.{SIZE};
+    ghost use Rattle.feed_events.specs.Arrivals.{Arrival};
     ghost use Rattle.feed_events.specs.FeedEvents.{FeedEvent, feed_events};
+    ghost use Rattle.feed_events.specs.StandsFor.{CanBecome, IsNext};
     ghost use Rattle.feed_events.specs.StandsFor.{EventFeedStandsFor, head_of, fed_of, left_of, group_of, has_ended, is_event, shown};
     ghost use Rattle.feed_events.specs.declared.course.Head.TheVariants as head;
 
@@ -65,8 +68,17 @@ impl<G: OpenGroup + Drop> EventFeed<G> {
 
     /// What is next, if it is known.
     pub fn head(&self) -> Head
-        ensures { result ≡ head_of self.now }
+        ensures head { result ≡ head_of self.now }
+        // It is next, however the feed goes on; if it is not known, nothing is known but the events that were passed.
+        ensures next { (bytes : List ℕ) (gone : List FeedEvent) → (h : EventFeedStandsFor G.OpenGroup self.now bytes gone)
+            → (ended : Bool) (all : List ℕ) (later : List Arrival)
+            → CanBecome (has_ended self.now) (G.rules (group_of self.now)).network.pid bytes ended all later
+            → IsNext result h.group ended gone (feed_events (G.rules (group_of self.now)) ended all) }
+        ensures unknown { result ≡ head.Unknown → (bytes : List ℕ) (gone : List FeedEvent)
+            → EventFeedStandsFor G.OpenGroup self.now bytes gone → feed_events (G.rules (group_of self.now)) false bytes ≡ gone }
     {
+        let _key = self.frames.group.key();
+        let _ready = self.unpiper.is_ready();
         self.frames.course.head
     }
 

@@ -31,6 +31,7 @@ pub(crate) struct Frames<G: OpenGroup + Drop> {
     ghost some: { course.under_way ≡ true → is_some (G.key_now group) ≡ true },
     ghost small: { (n : ℕ) → course.last ≡ Some n → n < MOST_FRAMES },
     ghost early: { (n : ℕ) → course.head ≡ head.Frame n → n < MOST_FRAMES },
+    ghost shown: { (n : ℕ) → course.head ≡ head.Frame n → is_some (G.key_now group) ≡ true },
     // What is next comes before the group under way.
     ghost known: { course.under_way ≡ true → course.head ≡ head.Unknown },
 }

@@ -1,8 +1,8 @@
 // What came into events.
-ghost use Rattle.std.specs.Prelude.{◌≡◌, ◌<◌, ◌≤◌, Bool, List, ℕ, true, false};
+ghost use Rattle.std.specs.Prelude.{◌≡◌, ◌≢◌, ◌<◌, ◌≤◌, Bool, List, ℕ, true, false};
 ghost use Rattle.t2mi_stream.specs.UnpiperStandsFor.{is_ready, fed_len, steps_left};
 ghost use Rattle.feed_events.specs.FeedEvents.{FeedEvent};
-ghost use Rattle.feed_events.specs.StandsFor.{EventsStandFor, is_known, events_left};
+ghost use Rattle.feed_events.specs.StandsFor.{EventsStandFor, is_event, events_left};
 ghost use Rattle.feed_events.specs.declared.course.Head.TheVariants as head;
 
 use crate::course::Head;
@@ -20,7 +20,7 @@ fn step<G: OpenGroup + Drop>(unpiper: &mut Unpiper, frames: &mut Frames<G>) -> b
         → EventsStandFor (G.holds frames.new.group) (G.rules frames.old.group) unpiper.new frames.new.course idle finished bytes
         gone }
     ensures rules { G.rules frames.new.group ≡ G.rules frames.old.group }
-    ensures known { result ≡ false → is_known frames.new.course.head ≡ true }
+    ensures known { result ≡ false → is_event frames.new.course.head ≡ true }
     ensures unknown { result ≡ true → frames.new.course.head ≡ head.Unknown }
     ensures less { result ≡ true → steps_left unpiper.new < steps_left unpiper.old }
     ensures left { (idle : Bool) → events_left unpiper.new frames.new.course idle ≤ events_left unpiper.old frames.old.course idle }
@@ -51,6 +51,7 @@ fn settle<G: OpenGroup + Drop>(unpiper: &mut Unpiper, frames: &mut Frames<G>)
         gone }
     ensures rules { G.rules frames.new.group ≡ G.rules frames.old.group }
     ensures done { frames.new.course.head ≡ head.Unknown → is_ready unpiper.new ≡ false }
+    ensures over { frames.old.course.head ≢ head.Over → frames.new.course.head ≢ head.Over }
     ensures left { (idle : Bool) → events_left unpiper.new frames.new.course idle ≤ events_left unpiper.old frames.old.course idle }
     ensures fed { fed_len unpiper.new ≡ fed_len unpiper.old }
 {
@@ -75,6 +76,8 @@ pub(crate) fn rest<G: OpenGroup + Drop>(
     ensures rules { G.rules frames.new.group ≡ G.rules frames.old.group }
     ensures done { (frames.old.course.head ≡ head.Unknown → is_ready unpiper.now ≡ false) → frames.new.course.head ≡ head.Unknown
         → (is_ready unpiper.now ≡ false) × (result ≡ false) × (finished ≡ false) }
+    ensures over { frames.old.course.head ≢ head.Over → frames.new.course.head ≡ head.Over
+        → (is_ready unpiper.now ≡ false) × (result ≡ false) × (finished ≡ true) }
     ensures left { events_left unpiper.now frames.new.course result ≤ events_left unpiper.now frames.old.course idle }
 {
     if frames.course.head != Head::Unknown || unpiper.is_ready() {
@@ -102,6 +105,8 @@ pub(crate) fn go_on<G: OpenGroup + Drop>(
         gone }
     ensures rules { G.rules frames.new.group ≡ G.rules frames.old.group }
     ensures done { frames.new.course.head ≡ head.Unknown → (is_ready unpiper.new ≡ false) × (result ≡ false) × (finished ≡ false) }
+    ensures over { frames.old.course.head ≢ head.Over → frames.new.course.head ≡ head.Over
+        → (is_ready unpiper.new ≡ false) × (result ≡ false) × (finished ≡ true) }
     ensures left { events_left unpiper.new frames.new.course result ≤ events_left unpiper.old frames.old.course idle }
     ensures fed { fed_len unpiper.new ≡ fed_len unpiper.old }
 {

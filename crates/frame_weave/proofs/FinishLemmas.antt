@@ -13,6 +13,7 @@ use Rattle.t2mi_packet.specs.declared.packet.Body.{Body}
 use Rattle.frame_groups.specs.Groups.{Group}
 use Rattle.open_group.specs.Holds.{Holds}
 use Rattle.frame_weave.proofs.SignalLemmas.{has_parts}
+use Rattle.frame_weave.proofs.SlotLemmas.{with_true}
 use Rattle.frame_weave.proofs.SumLemmas.{start_more, not_all_below}
 use Rattle.frame_weave.proofs.WeaveLemmas.{made_group, some_front}
 use Rattle.frame_weave.specs.Made.{HoldsMade, slot_bodies, all_bodies}
@@ -38,10 +39,6 @@ unlike_some : (blocks : List (List ℕ)) → are_alike blocks ≡ false → 0 < 
 unlike_some [] e = absurd (true≢false e)
 unlike_some (b ∷ more) e = omega arith
 
-and_true : (t : Bool) → t ≡ (t && true)
-and_true true = refl
-and_true false = refl
-
 and_false : (t : Bool) → (t && false) ≡ false
 and_false true = refl
 and_false false = refl
@@ -63,7 +60,7 @@ full_is c counts slots placed h sized = go slots.alike refl
         ∙ alls_same (λ k. nat_lt 0 (length (list_at slots.pool k))) (λ k. is_one (blocks_at placed k)) 0 (place_count c counts)
         (λ k low high.
         ap (λ (l : List (List ℕ)). nat_lt 0 (length l)) (h.first k)
-        ∙ take_some (blocks_at placed k) ∙ and_true (nat_lt 0 (length (blocks_at placed k)))
+        ∙ take_some (blocks_at placed k) ∙ with_true (nat_lt 0 (length (blocks_at placed k)))
         ∙ ap (λ (t : Bool). nat_lt 0 (length (blocks_at placed k)) && t) (sym (h.same e k)))
     go false e =
         let there = h.other e in

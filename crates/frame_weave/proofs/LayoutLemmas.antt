@@ -32,10 +32,10 @@ need_more c counts plp need count chunks before e size =
     let one = ap₂ (λ (a b : ℕ). a * b) e size in
     omega (arith, all, one, before)
 
-times_most : (a b w : ℕ) → b ≤ w → a * b ≤ a * w
-times_most zero b w l = omega arith
-times_most (suc a) b w l = let rest = times_most a b w l in omega (arith, rest, l)
+times_within : (a b w : ℕ) → b ≤ w → a * b ≤ a * w
+times_within zero b w l = omega arith
+times_within (suc a) b w l = let rest = times_within a b w l in omega (arith, rest, l)
 
 pub need_small : (plp need count chunks : ℕ) → need ≤ 1769445 * plp → count ≤ 65535 → chunks ≤ 27
     → need + count * chunks ≤ 1769445 * (plp + 1)
-need_small plp need count chunks small few most = let times = times_most count chunks 27 most in omega (arith, small, few, times)
+need_small plp need count chunks small few most = let times = times_within count chunks 27 most in omega (arith, small, few, times)

@@ -6,3 +6,4 @@ pub mod LayoutLemmas
 pub mod SignalLemmas
 pub mod WeaveLemmas
 pub mod FinishLemmas
+pub mod LawLemmas

@@ -42,6 +42,11 @@ more_elsewhere placed place k bytes ne =
     (ne_eqb place k (λ e. ne (sym e)))
     ∙ append-nil (blocks_at placed k)
 
+-- a test and one that holds
+pub with_true : (t : Bool) → t ≡ (t && true)
+with_true true = refl
+with_true false = refl
+
 -- whether one more is the same as the first
 abbrev fits_first : List (List ℕ) → List ℕ → Bool
 fits_first [] x = true
@@ -50,11 +55,7 @@ fits_first (b ∷ more) x = bytes_eq b x
 alike_more : (blocks : List (List ℕ)) (x : List ℕ) → are_alike (blocks ++ x ∷ []) ≡ (are_alike blocks && fits_first blocks x)
 alike_more [] x = refl
 alike_more (b ∷ more) x = list_all-append (bytes_eq b) more (x ∷ [])
-    ∙ ap (λ (t : Bool). list_all (bytes_eq b) more && t) (and_true (bytes_eq b x))
-  where
-    and_true : (t : Bool) → (t && true) ≡ t
-    and_true true = refl
-    and_true false = refl
+    ∙ ap (λ (t : Bool). list_all (bytes_eq b) more && t) (sym (with_true (bytes_eq b x)))
 
 both_true : (a b : Bool) → (a && b) ≡ true → (a ≡ true) × (b ≡ true)
 both_true true b e = (refl, e)
@@ -73,10 +74,6 @@ false_front a b e = ap (λ (t : Bool). t && b) e
 false_back : (a b : Bool) → b ≡ false → (a && b) ≡ false
 false_back true b e = e
 false_back false b e = refl
-
-with_true : (t : Bool) → t ≡ (t && true)
-with_true true = refl
-with_true false = refl
 
 -- the first of the blocks at a place stays the first
 take_more : (blocks : List (List ℕ)) (x : List ℕ) → 0 < length blocks → take 1 (blocks ++ x ∷ []) ≡ take 1 blocks

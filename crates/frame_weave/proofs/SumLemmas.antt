@@ -8,6 +8,7 @@ use Rattle.std.proofs.lemmas.List.FromFn.{length-range_with_len, get_or-range_wi
 use Rattle.std.proofs.lemmas.Bool.{cases_order, leb-true}
 use Rattle.std.proofs.lemmas.List.Sums.{sum_by-cons, sum_by-append, sum_by_push, list_all-from_AllPass}
 use Rattle.terms.proofs.RangeLemmas.{places_more, range_append}
+use Rattle.marked_group.proofs.MarkLemmas.{times_most}
 use Rattle.linked_pool.specs.Pool.{State, list_at, chunks_of, chunks_for, used_chunks}
 use Rattle.plp_config.specs.Capacity.{block_bytes}
 use Rattle.plp_config.specs.declared.config.Config.{Config}
@@ -112,10 +113,6 @@ count_most c counts (suc p) =
     let rest = count_most c counts p in
     let one = times_most (slice_index counts p) (chunks_for (block_bytes c p)) (omega arith) in
     omega (arith, left, right, rest, one)
-  where
-    times_most : (a w : ℕ) → 1 ≤ w → a ≤ a * w
-    times_most a zero least = absurd (omega (arith, least))
-    times_most a (suc w) least = omega arith
 
 pub places_few : (c : Config) (counts : List ℕ) → has_room c counts ≡ true → place_count c counts ≤ pool_chunks c
 places_few c counts room =

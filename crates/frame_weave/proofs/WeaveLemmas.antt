@@ -21,6 +21,7 @@ use Rattle.open_group.specs.Holds.{Holds}
 use Rattle.open_group.specs.Signals.{first_parts, signals, fits_pool}
 use Rattle.open_group.specs.declared.group.PooledGroup.{PooledGroup}
 use Rattle.marked_group.specs.Marked.{marked_blocks, first_count}
+use Rattle.frame_weave.proofs.SlotLemmas.{with_true}
 use Rattle.frame_weave.proofs.SignalLemmas.{has_parts, made_parts}
 use Rattle.frame_weave.specs.Made.{HoldsBodies, HoldsMade}
 use Rattle.frame_weave.specs.Placed.{Placed, placed_from}
@@ -88,10 +89,6 @@ compared c n old new (t ∷ more) h taken rest told signal first =
           ∙ sym (list_all-append (same_dynamic t) more (h ∷ []));
       sized = subst (λ (x : State). AreSized c (counts_by c n t) x.slots.pool) (sym rest) first.sized;
     }
-  where
-    with_true : (t : Bool) → t ≡ (t && true)
-    with_true true = refl
-    with_true false = refl
 
 -- places without blocks
 none_sized : (c : Config) (counts : List ℕ) (pool : Pool) → ((k : ℕ) → list_at pool k ≡ []) → pool.opened ≡ pool_chunks c

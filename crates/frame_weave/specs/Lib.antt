@@ -2,6 +2,7 @@ pub mod Places
 pub mod Placed
 pub mod Woven
 pub mod Weaves
+pub mod Laws
 -- inner: no public clause cites these
 pub mod Made
 pub mod Slots

@@ -2,10 +2,12 @@
 #![tactic(auto)]
 
 mod blocks;
+mod laws;
 mod layout;
 mod made;
 mod placing;
 mod slots;
 mod weaver;
 
+pub use laws::placed_law;
 pub use weaver::Weaver;

@@ -56,7 +56,7 @@ sums_most f g a (suc n) each =
 times_more : (a b w : ℕ) → (a + b) * w ≡ a * w + b * w
 times_more a b w = omega arith
 
-times_most : (a w : ℕ) → 1 ≤ w → a ≤ a * w
+pub times_most : (a w : ℕ) → 1 ≤ w → a ≤ a * w
 times_most a zero least = absurd (omega (arith, least))
 times_most a (suc w) least = omega arith
 

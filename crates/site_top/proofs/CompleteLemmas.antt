@@ -484,7 +484,7 @@ swapped_so ins id c plp at h (Err swap.NoSuperframe) places bytes (whole, unread
     inr (plp, at, λ short. (Err swap.NoSuperframe, (bytes, has), refl))
 swapped_so ins id c plp at h (Err (swap.InputRefused packet)) places bytes (meets, far, ahead) =
     inr (plp, at, λ short. (Err (swap.InputRefused packet), (bytes, meets), refl))
-swapped_so ins id c plp at h (Err swap.TooManyFrames) places bytes (has, far) =
+swapped_so ins id c plp at h (Err swap.TooManyFrames) places bytes (has, far, ahead) =
     inr (plp, at, λ short. (Err swap.TooManyFrames, (bytes, has), refl))
 
 swapped_long : (ins : List (List ℕ)) (id : ℕ) (c : Config) (plp : ℕ) → IsPlace c id plp → (h : Held) (input : ℕ) (outcome : Outcome)

@@ -1,4 +1,5 @@
-use Rattle.std.proofs.Common.{◌≡◌, ◌≤◌, Bool, List, ℕ}
+use Rattle.std.proofs.Common.{◌≡◌, ◌≢◌, ◌≤◌, Bool, List, ℕ}
+use Rattle.feed_events.specs.declared.course.Head.TheVariants as head
 use Rattle.t2mi_stream.specs.UnpiperStandsFor.{fed_len, steps_left}
 use Rattle.feed_events.specs.FeedEvents.{FeedEvent}
 use Rattle.feed_events.specs.StandsFor.{EventsStandFor, events_left}
@@ -14,6 +15,7 @@ invariant-loop-unpiper g l = record {
   rules : g.G.OpenGroup.rules l.frames.group ≡ g.G.OpenGroup.rules l.initial.frames.group;
   left : (idle : Bool) → events_left l.unpiper l.frames.course idle ≤ events_left l.initial.unpiper l.initial.frames.course idle;
   fed : fed_len l.unpiper ≡ fed_len l.initial.unpiper;
+  over : l.initial.frames.course.head ≢ head.Over → l.frames.course.head ≢ head.Over;
 }
 
 abbrev pub decreases-loop-unpiper : goal.decreases-loop-unpiper
