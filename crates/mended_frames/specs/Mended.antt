@@ -1,5 +1,5 @@
 -- The frames that are made of the groups of several feeds (ETSI TS 102 773, clause 5).
-use Rattle.std.specs.Prelude.{ℕ, ◌+◌, ◌-◌, not, min, Bool, true, false, is_some, List, [], ◌∷◌, ◌++◌, length, map, filter, find, Option, Some, None}
+use Rattle.std.specs.Prelude.{ℕ, not, Bool, true, false, is_some, List, [], ◌∷◌, ◌++◌, map, find, Option, Some, None}
 use Rattle.std.specs.Prelude.{option_map, option_to_list}
 use Rattle.std.specs.Option.{option_or}
 use Rattle.plp_config.specs.Places.{places}
@@ -8,7 +8,7 @@ use Rattle.t2mi_packet.specs.declared.packet.Packet.{Packet}
 use Rattle.frame_groups.specs.Groups.{Group}
 use Rattle.frame_groups.specs.Modulated.{Numbered}
 use Rattle.frame_tests.specs.Carried.{right_blocks}
-use Rattle.frame_tests.specs.Tests.{group_fault, capped}
+use Rattle.frame_tests.specs.Tests.{group_fault}
 use Rattle.frame_weave.specs.Woven.{woven}
 use Rattle.frame_writer.specs.FramePackets.{packets_from}
 use Rattle.open_group.specs.Sent.{held_bytes}
@@ -17,7 +17,6 @@ use Rattle.pool_frame.specs.Signalling.{pre_part, conf_part}
 use Rattle.feed_picks.specs.Picks.{Picked}
 use Rattle.spaced_frames.specs.Spaced.{SentFrame, spaced}
 use Rattle.spaced_frames.specs.StandsFor.{Content, sent_as}
-use Rattle.mend_run.specs.declared.stop.Ran.{Ran}
 
 -- a group is frame n, behind the frames before
 abbrev pub passes : Config → List Numbered → ℕ → Group → Bool
@@ -44,9 +43,12 @@ made_of c past p =
     option_or (option_map (made_as p.number false) (own_of c past p)) (option_map (made_as p.number true) (woven_of c past p))
 
 -- the frames that were made, the last one in front
+abbrev pub with_made : List Numbered → Made → List Numbered
+with_made past x = record { number = x.number; group = x.group } ∷ past
+
 abbrev pub past_with : List Numbered → Option Made → List Numbered
 past_with past None = past
-past_with past (Some x) = record { number = x.number; group = x.group } ∷ past
+past_with past (Some x) = with_made past x
 
 abbrev pub mended_behind : Config → List Numbered → List Picked → List Made
 mended_behind c past [] = []
@@ -79,20 +81,3 @@ frames_of c made = map (frame_of c) made
 -- frames as T2-MI packets, spaced
 abbrev pub packets_of : Config → List Made → List (List ℕ)
 packets_of c made = packets_from c 0 (spaced c (frames_of c made))
-
--- how many lack between frames
-abbrev pub missing_behind : ℕ → List Made → ℕ
-missing_behind m [] = 0
-missing_behind m (x ∷ made) = (x.number - m - 1) + missing_behind x.number made
-
-abbrev pub missing_in : List Made → ℕ
-missing_in [] = 0
-missing_in (x ∷ made) = missing_behind x.number made
-
-abbrev pub counted : List Made → ℕ → Ran
-counted made units = record {
-  frames = capped (length made);
-  woven = capped (length (filter (λ x. x.is_woven) made));
-  missing = capped (missing_in made);
-  units = capped units;
-}
