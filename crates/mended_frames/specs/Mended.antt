@@ -1,0 +1,83 @@
+-- The frames that are made of the groups of several feeds (ETSI TS 102 773, clause 5).
+use Rattle.std.specs.Prelude.{ℕ, not, Bool, true, false, is_some, List, [], ◌∷◌, ◌++◌, map, find, Option, Some, None}
+use Rattle.std.specs.Prelude.{option_map, option_to_list}
+use Rattle.std.specs.Option.{option_or}
+use Rattle.plp_config.specs.Places.{places}
+use Rattle.plp_config.specs.declared.config.Config.{Config}
+use Rattle.t2mi_packet.specs.declared.packet.Packet.{Packet}
+use Rattle.frame_groups.specs.Groups.{Group}
+use Rattle.frame_groups.specs.Modulated.{Numbered}
+use Rattle.frame_tests.specs.Carried.{right_blocks}
+use Rattle.frame_tests.specs.Tests.{group_fault}
+use Rattle.frame_weave.specs.Woven.{woven}
+use Rattle.frame_writer.specs.FramePackets.{packets_from}
+use Rattle.open_group.specs.Sent.{held_bytes}
+use Rattle.open_group.specs.Written.{dynamic_in}
+use Rattle.pool_frame.specs.Signalling.{pre_part, conf_part}
+use Rattle.feed_picks.specs.Picks.{Picked}
+use Rattle.spaced_frames.specs.Spaced.{SentFrame, spaced}
+use Rattle.spaced_frames.specs.StandsFor.{Content, sent_as}
+
+-- a group is frame n, behind the frames before
+abbrev pub passes : Config → List Numbered → ℕ → Group → Bool
+passes c past n g = not (is_some (group_fault c past g n))
+
+-- a frame, and whether it was made of several groups
+pub record Made : Type 0 where
+  pub number : ℕ
+  pub group : Group
+  pub is_woven : Bool
+
+abbrev pub made_as : ℕ → Bool → Group → Made
+made_as n is_woven g = record { number = n; group = g; is_woven = is_woven }
+
+-- the first group that is the frame by itself, and the one that all make together if it is
+abbrev pub own_of : Config → List Numbered → Picked → Option Group
+own_of c past p = find (passes c past p.number) p.groups
+
+abbrev pub woven_of : Config → List Numbered → Picked → Option Group
+woven_of c past p = find (passes c past p.number) (option_to_list (woven c p.number p.groups))
+
+abbrev pub made_of : Config → List Numbered → Picked → Option Made
+made_of c past p =
+    option_or (option_map (made_as p.number false) (own_of c past p)) (option_map (made_as p.number true) (woven_of c past p))
+
+-- the frames that were made, the last one in front
+abbrev pub with_made : List Numbered → Made → List Numbered
+with_made past x = record { number = x.number; group = x.group } ∷ past
+
+abbrev pub past_with : List Numbered → Option Made → List Numbered
+past_with past None = past
+past_with past (Some x) = with_made past x
+
+abbrev pub mended_behind : Config → List Numbered → List Picked → List Made
+mended_behind c past [] = []
+mended_behind c past (p ∷ ps) =
+    option_to_list (made_of c past p) ++ mended_behind c (past_with past (made_of c past p)) ps
+
+abbrev pub past_behind : Config → List Numbered → List Picked → List Numbered
+past_behind c past [] = past
+past_behind c past (p ∷ ps) = past_behind c (past_with past (made_of c past p)) ps
+
+-- the frames that are made of what was picked, in order
+unfoldable pub mended : Config → List Picked → List Made
+mended c ps = mended_behind c [] ps
+
+-- what packets have of their frame
+abbrev pub content_in : Config → List Packet → Content
+content_in c packets = record {
+  pre = pre_part c;
+  conf = conf_part c;
+  dynamic = dynamic_in packets;
+  lists = map (λ plp. map held_bytes (right_blocks c plp packets)) (places c);
+}
+
+abbrev pub frame_of : Config → Made → SentFrame
+frame_of c x = sent_as c x.number (content_in c x.group.packets)
+
+abbrev pub frames_of : Config → List Made → List SentFrame
+frames_of c made = map (frame_of c) made
+
+-- frames as T2-MI packets, spaced
+abbrev pub packets_of : Config → List Made → List (List ℕ)
+packets_of c made = packets_from c 0 (spaced c (frames_of c made))
