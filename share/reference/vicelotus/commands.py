@@ -4,12 +4,13 @@ from . import packets, records, shared, text, trial, ts
 from .desk import read_fault
 from .feeds import compared, merged, piped, swapped
 from .frames import frames_of, length
+from .mending import mended, missing, spaced
 from .modulator import is_shown, modulated
-from .plan import Plan
+from .plan import FRAMES_MOST, Plan
 from .receiver import readback
 from .text import Refused
 
-FILE_MOST, FRAMES_MOST = 2**40, 2**31
+FILE_MOST, FEEDS_MOST = 2**40, 8
 
 
 def usage():
@@ -120,6 +121,17 @@ def merge(desk, config, one, other, out):
     desk.say(f"merged frames={len(frames)} a={from_one} b={from_other} units={units(desk.files[out])}\n")
 
 
+def mend(desk, config, out, names):
+    plan = plan_of(desk, config)
+    sent = mended(plan, [desk.open(name) for name in names])
+    desk.files[out] = b""
+    if not sent:
+        raise no_superframe()
+    desk.files[out] = piped(plan, spaced(plan, [own.frame for own in sent]))
+    woven = sum(own.is_woven for own in sent)
+    desk.say(f"mended frames={len(sent)} woven={woven} missing={missing(sent)} units={units(desk.files[out])}\n")
+
+
 def swap(desk, config, plp_id, t2mi, name, out):
     plan = plan_of(desk, config)
     chain = chain_of(plan, plp_id, True)
@@ -214,6 +226,8 @@ def command(desk, words):
             return receive, [desk, config, decimal(plp, 0, 255), name, out, True], out, [config, name]
         case ["merge", config, one, other, out]:
             return merge, [desk, config, one, other, out], out, [config, one, other]
+        case ["mend", config, out, *names] if 1 <= len(names) <= FEEDS_MOST:
+            return mend, [desk, config, out, names], out, [config, *names]
         case ["swap", config, plp, t2mi, name, out]:
             return swap, [desk, config, decimal(plp, 0, 255), t2mi, name, out], out, [config, t2mi, name]
         case ["compare", config, one, other]:

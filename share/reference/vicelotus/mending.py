@@ -3,154 +3,172 @@
 from collections import deque
 
 from . import l1, packets, ts
-from .frames import packets_of
-from .modulator import Group, begins, first_cause, groups_of, shown
+from .frames import Frame
+from .modulator import Group, begins, chunks, first_cause, groups_of, need, room, shown
+from .plan import FRAMES_MOST
 
-# superframe_idx counts them: behind as many it begins anew, and a modulator knows 14 that lack.
-PERIOD = 16
+# A superframe of a timestamp alone stands as many superframes behind the one before.
 FARTHEST = 14
 
 
-def idle_units(pid, data):
-    """The units on the PID without payload, which say that nothing came."""
+# ---- the events of a feed
+
+
+def is_idle(pid, unit):
+    """Whether a unit on the PID says that nothing came: it has no payload."""
+    view = ts.read(unit)
+    return bool(view) and view.pid == pid and not view.error and not view.scrambling and not view.payload
+
+
+def arrivals(pid, data):
+    """What comes with each unit: the packets that end in it, or `None` if it is idle."""
+    found = deque(packets.accepted(pid, data))
     for place, unit in enumerate(ts.packets_of(data)):
-        view = ts.read(unit)
-        if view and view.pid == pid and not view.error and not view.scrambling and not view.payload:
-            yield place
+        while found and found[0].unit == place:
+            yield found.popleft()
+        if is_idle(pid, unit):
+            yield None
+
+
+def between_idle(pid, data):
+    """The packets before the first idle unit, those between it and the next, and so on."""
+    pieces = [[]]
+    for packet in arrivals(pid, data):
+        if packet is None:
+            pieces.append([])
+        else:
+            pieces[-1].append(packet)
+    return pieces
+
+
+def number_of(plan, last, group):
+    """The number of a group: that of the frame that its first timestamp names; without a timestamp the next one behind
+    the group before. The frame has the group's key, or there is no number."""
+    stamps = group.of(packets.STAMP)
+    if stamps:
+        number = plan.frame_at(stamps[0].seconds, stamps[0].subseconds)
+    else:
+        number = None if last is None or last + 1 >= FRAMES_MOST else last + 1
+    return None if number is None or plan.key(number) != group.key else number
 
 
 def events(plan, data):
-    """The groups of a feed, each where it is closed, and `None` for each idle unit."""
-    idle, piece = deque(idle_units(plan.config.pid, data)), []
-    for packet in packets.accepted(plan.config.pid, data):
-        while idle and idle[0] < packet.unit:
-            yield from groups_of(plan, piece)
+    """The groups of a feed that have numbers, each with its own, and `None` for each idle unit; it ends the counting."""
+    for place, piece in enumerate(between_idle(plan.config.pid, data)):
+        if place:
             yield None
-            idle.popleft()
-            piece = []
-        piece.append(packet)
-    yield from groups_of(plan, piece)
-    yield from [None] * len(idle)
+        last = None
+        for group in groups_of(plan, piece):
+            last = number_of(plan, last, group)
+            if last is not None:
+                yield last, group
 
 
-def named(plan, group):
-    """The frame that the first timestamp of a group tells that has CONFIG's bandwidth, is on its grid, and fits the key."""
-    for stamp in group.of(packets.STAMP):
-        number = plan.frame_at(stamp.seconds, stamp.subseconds) if stamp.bw == plan.bw else None
-        if number is not None and plan.key(number) == group.key:
-            return number
-    return None
+# ---- picking
 
 
-def numbered(plan, feed):
-    """Each event with its number: a group's is told by a timestamp, or counted on from the group before; never over a frame that
-    lacks, nor over an idle unit."""
-    last = None
-    for event in feed:
-        if event is None:
-            last = None
-        else:
-            told = named(plan, event)
-            on = last + 1 if last is not None and plan.key(last + 1) == event.key else None
-            last = on if told is None else told
-        yield event, last
+def picked(feeds):
+    """The frames of several feeds of events, in order, each with its groups. The least number that is next is picked,
+    and each silence that is next gives its feed up for it. One not above the last is passed over by itself."""
+    feeds, low = [deque(feed) for feed in feeds], 0
+    while any(feeds):
+        following = [feed[0] for feed in feeds if feed]
+        number = min((event[0] for event in following if event), default=None)
+        is_late = number is not None and number < low
+        if number is not None and not is_late:
+            yield number, [event[1] for event in following if event and event[0] == number]
+            low = number + 1
+        for feed in feeds:
+            if feed and (not is_late if feed[0] is None else feed[0][0] == number):
+                feed.popleft()
 
 
 # ---- the frame of several groups
 
 
-def currents(plan, number, groups):
-    """The L1-currents that are CONFIG's, of a frame with this number."""
+def signalling(plan, number, groups):
+    """The first L1-current of each group in which this is one of the network and of a frame."""
     for group in groups:
-        for packet in group.of(packets.CURRENT):
-            pre, conf, dynamic, _ = packet.parts
+        for current in group.of(packets.CURRENT)[:1]:
+            pre, conf, dynamic, _ = current.parts
             if l1.is_pre(plan, pre) and l1.is_conf(plan, conf) and l1.agrees(plan, number, l1.read_dyn(plan, dynamic)):
-                yield group, packet
+                yield current
 
 
-def places_of(plan, number, shape):
-    """The PLP of each block that is sent in a frame, in order."""
-    for chain, count in zip(plan.chains, shape.counts):
-        if begins(chain, number) == number:
-            yield from [chain] * count
+def places_of(plan, number, current):
+    """The PLP of each place for a block: as many as L1 tells, if an interleaving frame of the PLP begins there."""
+    counts = l1.read_dyn(plan, current.parts[2]).counts
+    pairs = [(chain, count) for chain, count in zip(plan.chains, counts) if begins(chain, number) == number]
+    return [chain for chain, count in pairs for _ in range(count)]
 
 
-def placed(group, current, chains):
-    """Which block of a group stands where in the frame: packet_count tells it modulo 256, counted from the L1-current."""
+def placed(plan, group, current, chains):
+    """The blocks of a group, each at the least place of its PLP, behind that of the block before it, that packet_count
+    tells. Place 0 is behind the first L1-current of the group, or else behind the one that was taken."""
+    if need(plan, group) > room(plan):
+        return
     own = group.of(packets.CURRENT)
-    origin = (own[0] if own else current).count + 1
-    place = -1
+    origin, first = (own[0] if own else current).count + 1, 0
     for packet in group.of(packets.BLOCK):
-        for at in range(place + 1, len(chains)):
-            chain = chains[at]
-            if (at - packet.count + origin) % 256 == 0 and packet.plp_id == chain.id and packet.block_bits == chain.bits:
-                place = at
-                yield place, packet
+        for place in range(first, len(chains)):
+            is_told = (origin + place - packet.count) % 256 == 0
+            if is_told and (packet.plp_id, packet.block_bits) == (chains[place].id, chains[place].bits):
+                yield place, packet.block
+                first = place + 1
                 break
 
 
 def woven(plan, number, groups):
-    """A group made of what several have of a frame, or nothing: two that disagree make none."""
-    found = list(currents(plan, number, groups))
-    if not found or any(packet.parts[2] != found[0][1].parts[2] for _, packet in found):
+    """The group that several make as a frame, or nothing: those that tell its L1 signalling tell one dynamic part, and
+    at each place stands one block, and no other one."""
+    currents = list(signalling(plan, number, groups))
+    if not currents or any(other.parts[2] != currents[0].parts[2] for other in currents):
         return None
-    current = found[0][1]
-    chains = list(places_of(plan, number, l1.read_dyn(plan, current.parts[2])))
-    blocks = {}
+    chains = places_of(plan, number, currents[0])
+    if sum(map(chunks, chains)) > room(plan):
+        return None
+    found = [set() for _ in chains]
     for group in groups:
-        for place, packet in placed(group, current, chains):
-            if blocks.setdefault(place, packet).block != packet.block:
-                return None
-    stamps = [stamp for group in groups for stamp in group.of(packets.STAMP)]
-    right = [stamp for stamp in stamps if (stamp.bw, stamp.seconds, stamp.subseconds) == (plan.bw, *plan.emission(number))]
+        for place, block in placed(plan, group, currents[0], chains):
+            found[place].add(block)
+    if any(len(blocks) != 1 for blocks in found):
+        return None
+    pre, conf, dynamic, _ = currents[0].parts
+    frame = Frame(plan, number, pre, conf, dynamic, [(chain.id, blocks.pop()) for chain, blocks in zip(chains, found)])
     made = Group(plan.key(number))
-    made.packets = right[:1] + [current] + [blocks[place] for place in sorted(blocks)]
+    made.packets = [packets.read(data) for data in frame.packets(0)]
     return made
-
-
-def frame_of(plan, number, groups, before):
-    """The group that is made of those with a number, and whether one has the frame whole by itself: the first that passes the tests
-    of a modulator behind the frames before, or else one that is woven."""
-    for group in groups:
-        if not first_cause(plan, group, number, before):
-            return group, True
-    return woven(plan, number, groups) or groups[0], False
 
 
 # ---- what is sent
 
 
-def picked(plan, feeds):
-    """The groups of each number, in the order of the numbers: each feed goes on by its next event, and idle gives one up for a frame."""
-    feeds = [deque(numbered(plan, feed)) for feed in feeds]
-    done = -1
-    while True:
-        for feed in feeds:
-            while feed and feed[0][0] is not None and (feed[0][1] is None or feed[0][1] <= done):
-                feed.popleft()
-        numbers = [feed[0][1] for feed in feeds if feed and feed[0][0] is not None]
-        if not numbers and not any(feeds):
-            return
-        number, groups = min(numbers, default=None), []
-        for feed in feeds:
-            if feed and feed[0][0] is None:
-                feed.popleft()
-            elif feed and feed[0][1] == number:
-                groups.append(feed.popleft()[0])
-        if numbers:
-            done = number
-            yield number, groups
+class Sent:
+    """A frame that is sent, and whether it was woven of several groups."""
+
+    def __init__(self, frame, is_woven):
+        self.frame, self.number, self.is_woven = frame, frame.number, is_woven
+
+
+def candidates(plan, number, groups):
+    """The groups that may be a frame, and last the one that all of them make."""
+    for group in groups:
+        yield group, False
+    made = woven(plan, number, groups)
+    if made:
+        yield made, True
 
 
 def mended(plan, inputs):
-    """The frames that are sent, and how many of them no feed had whole."""
-    before, sent, count = {}, [], 0
-    for number, groups in picked(plan, [events(plan, data) for data in inputs]):
-        before[number], is_own = frame_of(plan, number, groups, before)
-        if not first_cause(plan, before[number], number, before):
-            sent.append(shown(plan, before[number], number))
-            count += not is_own
-    return sent, count
+    """The frames that are sent: of each number the first candidate that passes behind those that were sent before."""
+    past, sent = {}, []
+    for number, groups in picked([events(plan, data) for data in inputs]):
+        for group, is_woven in candidates(plan, number, groups):
+            if not first_cause(plan, group, number, past):
+                past[number] = group
+                sent.append(Sent(shown(plan, group, number), is_woven))
+                break
+    return sent
 
 
 class Spacer:
@@ -177,6 +195,6 @@ def spaced(plan, frames):
         yield frame
 
 
-def mended_stream(plan, inputs):
-    frames, _ = mended(plan, inputs)
-    return packets.pipe(plan.config.pid, packets_of(spaced(plan, frames)))
+def missing(sent):
+    """How many frames lack between those that are sent."""
+    return sent[-1].number - sent[0].number + 1 - len(sent)

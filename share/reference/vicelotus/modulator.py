@@ -38,9 +38,19 @@ def groups_of(plan, found):
     return groups
 
 
+def chunks(chain):
+    """The chunks of 256 bytes that a block of a PLP needs."""
+    return -(-(chain.bits // 8) // 256)
+
+
 def need(plan, group):
-    """The chunks of 256 bytes that the blocks of a group need."""
-    return sum(len(group.right(chain)) * -(-(chain.bits // 8) // 256) for chain in plan.chains)
+    """Those that the blocks of a group need."""
+    return sum(len(group.right(chain)) * chunks(chain) for chain in plan.chains)
+
+
+def room(plan):
+    """Those that there are for a group."""
+    return 7 * plan.spread_max * plan.config.cells // 2_025
 
 
 class Cause:
@@ -56,7 +66,7 @@ def begins(chain, number):
 
 
 def pool_cause(plan, group, number, numbered):
-    spare = 7 * plan.spread_max * plan.config.cells // 2_025
+    spare = room(plan)
     carried = {begins(chain, number) for chain in plan.chains} | {number}
     for place in sorted(carried):
         own = group if place == number else numbered.get(place)

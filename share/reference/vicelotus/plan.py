@@ -4,6 +4,8 @@ from math import gcd
 
 from .text import BANDS, BLOCK_BITS, BLOCK_CELLS, MODULATIONS, RATES, RECORD_MOST, capacity_refused, validate
 
+FRAMES_MOST = 2**31
+
 
 def up(value, divisor):
     return -(-value // divisor)
@@ -89,12 +91,12 @@ class Plan:
         return divmod(total, self.second)
 
     def frame_at(self, seconds, subseconds):
-        """The number below 2^31 of the frame that leaves at a moment."""
+        """The number of the frame that leaves at a moment, below the most."""
         if subseconds >= self.second:
             return None
         since = (seconds - self.config.seconds) * self.second + subseconds - self.config.subseconds
         frame, rest = divmod(since, self.ticks * self.tick)
-        return frame if rest == 0 and 0 <= frame < 2**31 else None
+        return frame if rest == 0 and 0 <= frame < FRAMES_MOST else None
 
     def key(self, frame):
         return frame // self.frames % 16, frame % self.frames
