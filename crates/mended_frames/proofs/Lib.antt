@@ -1,1 +1,3 @@
 pub mod MendLemmas
+pub mod ChooseLemmas
+pub mod MakeLemmas
