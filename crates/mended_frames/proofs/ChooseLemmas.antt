@@ -11,7 +11,6 @@ use Rattle.frame_groups.specs.Modulated.{Numbered}
 use Rattle.feed_events.specs.StandsFor.{head_of, group_of}
 use Rattle.marked_group.specs.Holds.{HoldsMarked}
 use Rattle.frame_groups.specs.Sequenced.{IsAbove}
-use Rattle.open_group.specs.FrameBytes.{is_frame}
 use Rattle.open_group.specs.HoldsPast.{HoldsPast}
 use Rattle.open_group.specs.declared.past.HeldPast.{HeldPast}
 use Rattle.mended_frames.specs.Choosing.{Chooses}
@@ -62,9 +61,9 @@ left_more c before n feeds gs i f e tells l =
     go false is h = record { rest = l.rest; have = h; same = l.same }
 
 pub chosen : (c : Config) (before : List Numbered) (n : ℕ) (feeds : List Feed) (gs : List Group) (i : ℕ) (f : Feed)
-    → slice_get feeds i ≡ Some f → Tells c before n f true → is_at n (head_of f) ≡ true → is_frame (pooled_of f) ≡ true
+    → slice_get feeds i ≡ Some f → Tells c before n f true → is_at n (head_of f) ≡ true
     → Left c before n feeds gs i → Chooses c before n feeds gs i
-chosen c before n feeds gs i f e tells there frame l =
+chosen c before n feeds gs i f e tells there l =
     let h = subst (λ (t : Bool). HasIf t f (HaveGroups n (drop (suc i) feeds)) l.rest) there (at_feed n feeds l.rest i f e l.have) in
     let yes : passes c before n h.group ≡ true =
     sym (tells h.own h.group h.holds ∙ ap (λ (t : Bool). t && passes c before n h.group) there) in
@@ -78,7 +77,6 @@ chosen c before n feeds gs i f e tells there frame l =
           l.same
           ∙ ap (find (passes c before n)) h.are
           ∙ cond-true (passes c before n h.group) (Some h.group) (find (passes c before n) h.more) yes;
-      frame = frame;
     }
 
 pub none_left : (c : Config) (before : List Numbered) (n : ℕ) (feeds : List Feed) (gs : List Group) (i : ℕ) → length feeds ≤ i

@@ -1,9 +1,8 @@
 -- The first feed that has a frame whole. No public clause cites this module.
-use Rattle.std.specs.Prelude.{◌≡◌, ℕ, true, List, find, slice_get, Some}
+use Rattle.std.specs.Prelude.{◌≡◌, ℕ, List, find, slice_get, Some}
 use Rattle.plp_config.specs.declared.config.Config.{Config}
 use Rattle.frame_groups.specs.Groups.{Group}
 use Rattle.frame_groups.specs.Modulated.{Numbered}
-use Rattle.open_group.specs.FrameBytes.{is_frame}
 use Rattle.open_group.specs.Holds.{Holds}
 use Rattle.mended_frames.specs.Mended.{passes}
 use Rattle.mended_frames.specs.StandsFor.{Feed, pooled_of}
@@ -16,4 +15,3 @@ pub record Chooses (c : Config) (before : List Numbered) (n : ℕ) (feeds : List
   pub own : List Numbered
   pub holds : Holds (pooled_of feed) own (Some group)
   pub first : find (passes c before n) gs ≡ Some group
-  pub frame : is_frame (pooled_of feed) ≡ true

@@ -1,5 +1,5 @@
 -- What a mender of frames stands for.
-use Rattle.std.specs.Prelude.{◌≡◌, ℕ, ◌==◌, Bool, true, false, option_map, List, [], ◌∷◌, slice_get, Option, Some}
+use Rattle.std.specs.Prelude.{◌≡◌, ℕ, ◌==◌, Bool, true, false, option_map, List, [], ◌∷◌, slice_get, Option, Some, ◌<◌, length}
 use Rattle.plp_config.specs.declared.config.Config.{Config}
 use Rattle.frame_groups.specs.Groups.{Group}
 use Rattle.frame_groups.specs.Modulated.{Numbered}
@@ -76,13 +76,16 @@ is_woven_by source.Woven = true
 abbrev pub picked_as : ℕ → List Group → Picked
 picked_as n gs = record { number = n; groups = gs }
 
--- A group is lent that is a frame, with all its packets.
-pub record Lends (c : Config) (lent : PooledGroup) (g : Group) : Type 0 where
-  pub own : List Numbered
-  pub holds : Holds lent own (Some g)
-  pub intact : lent.intact ≡ true
-  pub network : lent.network ≡ c
-  pub frame : is_frame lent ≡ true
+-- A feed is there, of the network, and what is next in it can be given as a frame.
+pub record FeedCanLend (c : Config) (feeds : List Feed) (i : ℕ) : Type 0 where
+  pub inside : i < length feeds
+  pub network : (f : Feed) → slice_get feeds i ≡ Some f → (pooled_of f).network ≡ c
+  pub frame : (f : Feed) → slice_get feeds i ≡ Some f → is_frame (pooled_of f) ≡ true
+
+-- So can what one lends.
+abbrev pub CanLend : Source → Mender → List Feed → Type 0
+CanLend (source.Feed i) m feeds = FeedCanLend m.plan.now feeds i
+CanLend source.Woven m feeds = is_frame m.weaver.made.group ≡ true
 
 -- A frame is made, and one lends it.
 pub record Makes (m : Mender) (feeds : List Feed) (past : List Numbered) (p : Picked) (from : Source) : Type 0 where
@@ -91,4 +94,5 @@ pub record Makes (m : Mender) (feeds : List Feed) (past : List Numbered) (p : Pi
   pub stands : MenderStandsFor m (record { number = p.number; group = group } ∷ past)
   pub lent : PooledGroup
   pub is : lent_by from m feeds ≡ Some lent
-  pub lends : Lends m.plan.now lent group
+  pub own : List Numbered
+  pub holds : Holds lent own (Some group)

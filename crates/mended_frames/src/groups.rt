@@ -1,5 +1,5 @@
 // The groups of feeds.
-ghost use Rattle.std.specs.Prelude.{◌≡◌, ◌<◌, ◌^◌, ◌&&◌, ◌++◌, ◌∷◌, ℕ, List, [], Some, None, true, false, find, length, IfSome, IfNone};
+ghost use Rattle.std.specs.Prelude.{◌≡◌, ◌<◌, ◌^◌, ◌&&◌, ◌++◌, ◌∷◌, ℕ, List, [], Some, None, true, false, find, length, IfSome, IfNone, slice_get};
 ghost use Rattle.frame_groups.specs.Groups.{Group};
 ghost use Rattle.frame_groups.specs.Modulated.{Numbered};
 ghost use Rattle.frame_groups.specs.Sequenced.{IsAbove};
@@ -10,7 +10,7 @@ ghost use Rattle.open_group.specs.FrameBytes.{is_frame};
 ghost use Rattle.open_group.specs.HoldsPast.{AreSized, HoldsPast};
 ghost use Rattle.mended_frames.specs.Choosing.{Chooses};
 ghost use Rattle.mended_frames.specs.Mended.{passes};
-ghost use Rattle.mended_frames.specs.StandsFor.{is_at, HaveGroups, AreOf, pooled_of};
+ghost use Rattle.mended_frames.specs.StandsFor.{Feed, is_at, HaveGroups, AreOf, pooled_of};
 
 use feed_events::{EventFeed, Head};
 use frame_weave::Weaver;
@@ -55,6 +55,7 @@ pub(crate) fn whole_feed(
     requires of { AreOf plan.now feeds.now }
     requires sized { AreSized plan.now past.now }
     ensures inside { IfSome result (λ i. i < length feeds.now) }
+    ensures frame { IfSome result (λ i. (f : Feed) → slice_get feeds.now i ≡ Some f → is_frame (pooled_of f) ≡ true) }
     ensures some { IfSome result (λ i. (gs : List Group) (before : List Numbered) → HaveGroups number feeds.now gs
         → HoldsPast plan.now past.now before → IsAbove before number → Chooses plan.now before number feeds.now gs i) }
     ensures none { IfNone result ((gs : List Group) (before : List Numbered) → HaveGroups number feeds.now gs

@@ -8,8 +8,9 @@ use bit_slice::OutOfMemory;
 use feed_events::EventFeed;
 use frame_weave::Weaver;
 use marked_group::MarkedGroup;
-use open_group::HeldPast;
+use open_group::{HeldPast, PooledGroup};
 use plp_config::Plan;
+use pool_frame::{PoolFrame, Signalling};
 use std::alloc::Global;
 
 /// Who lends a frame.
@@ -26,8 +27,11 @@ pub enum Source {
 #[derive(Drop)]
 pub struct Mender<'p> {
     plan: &'p Plan,
+    signalling: Signalling,
     weaver: Weaver<'p>,
     past: HeldPast,
+    ghost pre: { signalling.pre ≡ pre_part plan.now },
+    ghost conf: { signalling.conf ≡ conf_part plan.now },
     ghost same: { weaver.plan.now ≡ plan.now },
     ghost sized: { AreSized plan.now past },
 }
@@ -42,8 +46,11 @@ impl<'p> Mender<'p> {
     ghost use Rattle.open_group.specs.FrameBytes.{is_frame};
     ghost use Rattle.open_group.specs.Holds.{Holds};
     ghost use Rattle.open_group.specs.HoldsPast.{HoldsPast};
-    ghost use Rattle.mended_frames.specs.Mended.{made_of, woven_of, passes};
-    ghost use Rattle.mended_frames.specs.StandsFor.{AreOf, HaveGroups, MenderStandsFor, Makes, picked_as, pooled_of};
+    ghost use Rattle.open_group.specs.declared.group.PooledGroup.{PooledGroup};
+    ghost use Rattle.pool_frame.specs.Left.{CanBeSent};
+    ghost use Rattle.spaced_frames.specs.StandsFor.{content_of};
+    ghost use Rattle.mended_frames.specs.Mended.{content_in, made_of, woven_of, passes};
+    ghost use Rattle.mended_frames.specs.StandsFor.{AreOf, HaveGroups, MenderStandsFor, Makes, CanLend, lent_by, picked_as, pooled_of};
 
     /// Takes the memory for a plan. No frame was made.
     pub fn open(alloc: Global, plan: &'p Plan) -> Result<Mender<'p>, OutOfMemory>
@@ -52,6 +59,7 @@ impl<'p> Mender<'p> {
     {
         Ok(Mender {
             plan,
+            signalling: Signalling::open(alloc, plan)?,
             weaver: Weaver::open(alloc, plan)?,
             past: HeldPast::open(alloc, plan)?,
         })
@@ -139,6 +147,7 @@ impl<'p> Mender<'p> {
         ensures some { IfSome result (λ from. (gs : List Group) (past : List Numbered) → MenderStandsFor self.old past
             → IsAbove past number → HaveGroups number feeds.now gs
             → Makes self.new feeds.now past (picked_as number gs) from) }
+        ensures lends { IfSome result (λ from. CanLend from self.new feeds.now) }
         ensures none { IfNone result ((gs : List Group) (past : List Numbered) → MenderStandsFor self.old past
             → IsAbove past number → HaveGroups number feeds.now gs
             → (made_of self.old.plan.now past (picked_as number gs) ≡ None) × MenderStandsFor self.new past) }
@@ -153,5 +162,44 @@ impl<'p> Mender<'p> {
         }
         self.note_woven(number);
         Some(Source::Woven)
+    }
+
+    // The group of who lends a frame.
+    fn lent<'g>(
+        &'g self,
+        feeds: &'g [EventFeed<MarkedGroup<'p>>],
+        from: Source,
+    ) -> &'g PooledGroup<'p>
+        requires can { CanLend from self.now feeds.now }
+        ensures is { lent_by from self.now feeds.now ≡ Some result.now }
+        ensures intact { result.now.intact ≡ true }
+        ensures network { result.now.network ≡ self.now.plan.now }
+        ensures frame { is_frame result.now ≡ true }
+    {
+        match from {
+            Source::Feed(feed) => feeds[feed].group().group(),
+            Source::Woven => self.weaver.group(),
+        }
+    }
+
+    /// The frame that was made last, of who lends it; no feed passed it yet.
+    pub fn frame<'g>(
+        &'g self,
+        feeds: &'g [EventFeed<MarkedGroup<'p>>],
+        from: Source,
+    ) -> PoolFrame<'g>
+        requires can { CanLend from self.now feeds.now }
+        ensures content { (lent : PooledGroup) (own : List Numbered) (g : Group)
+            → lent_by from self.now feeds.now ≡ Some lent → Holds lent own (Some g)
+            → content_of result ≡ content_in self.now.plan.now g.packets }
+        ensures can { CanBeSent self.now.plan.now result }
+    {
+        let group = self.lent(feeds, from);
+        PoolFrame {
+            pre: self.signalling.pre.as_slice(),
+            conf: self.signalling.conf.as_slice(),
+            dynamic: group.dynamic(),
+            blocks: group.blocks(),
+        }
     }
 }

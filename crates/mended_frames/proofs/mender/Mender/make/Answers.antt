@@ -28,13 +28,8 @@ returns-in-Some-clause-some c = λ gs past m above have.
       stands = c.note_feed.ensures.stands past chosen.own chosen.group m holds above;
       lent = pooled_of f;
       is = ap (option_map pooled_of) e;
-      lends = record {
-        own = chosen.own;
-        holds = holds;
-        intact = c.note_feed.ensures.intact;
-        network = c.requires.of i f e ∙ sym c.note_feed.ensures.plan;
-        frame = ap (λ (x : Feed). is_frame (pooled_of x)) (sym same) ∙ chosen.frame;
-      };
+      own = chosen.own;
+      holds = holds;
     }
 
 pub returns-clause-some : goal.returns-clause-some
@@ -52,11 +47,18 @@ returns-clause-some c = λ gs past m above have.
       stands = c.note_woven.ensures.stands past g (w.stands past m) held above;
       lent = c.note_woven.new.self.weaver.made.group;
       is = refl;
-      lends = record {
-        own = [];
-        holds = subst (λ (x : Weaver). Holds x.made.group [] (Some g)) (sym is-new.1) held;
-        intact = c.note_woven.ensures.intact;
-        network = c.note_woven.ensures.network;
-        frame = ap (λ (x : Weaver). is_frame x.made.group) is-new.1 ∙ w.frame c.if-not-weave_frame.false;
-      };
+      own = [];
+      holds = subst (λ (x : Weaver). Holds x.made.group [] (Some g)) (sym is-new.1) held;
     })
+
+pub returns-in-Some-clause-lends : goal.returns-in-Some-clause-lends
+returns-in-Some-clause-lends c = record {
+  inside = c.in-Some.ensures.inside;
+  network = λ f at. c.requires.of c.in-Some.feed f at ∙ sym c.note_feed.ensures.plan;
+  frame = c.in-Some.ensures.frame;
+}
+
+pub returns-clause-lends : goal.returns-clause-lends
+returns-clause-lends c =
+    ap (λ (x : Weaver). is_frame x.made.group) c.note_woven.ensures.same.1
+    ∙ c.weave_frame.ensures.frame c.if-not-weave_frame.false
