@@ -84,7 +84,8 @@ impl<G: OpenGroup + Drop> EventFeed<G> {
 
     /// The packets of the frame that is next.
     pub fn group(&self) -> &G
-        ensures { result.now ≡ group_of self.now }
+        ensures value { result.now ≡ group_of self.now }
+        ensures intact { G.is_intact result.now ≡ true }
     {
         &self.frames.group
     }

@@ -9,7 +9,7 @@ use Rattle.frame_groups.specs.Groups.{Group}
 use Rattle.frame_groups.specs.Modulated.{Numbered}
 use Rattle.feed_events.specs.FeedEvents.{FeedEvent}
 use Rattle.feed_events.specs.FeedEvents.FeedEvent.{Has, Silent}
-use Rattle.feed_picks.specs.Picks.{Coming, Picked, waits_by, one_waits, number_next, lesser, least_next, is_number, group_next}
+use Rattle.feed_picks.specs.Picks.{Coming, Picked, Taking, picked_of, waits_by, one_waits, number_next, lesser, least_next, is_number, group_next}
 use Rattle.feed_picks.specs.Picks.{groups_next, behind, all_behind, pick_next, picked_from, events_in, picks_from}
 
 -- ---- feeds that are the same
@@ -51,33 +51,38 @@ range_same n a (suc k) f g s =
 groups_same : (n k : ℕ) (f g : ℕ → Coming) → AreSame k f g → groups_next n k f ≡ groups_next n k g
 groups_same n k f g s = range_same n 0 k f g (λ i l h. s i (omega (arith, h)))
 
-pick_same : (o : Option ℕ) (k low : ℕ) (f g : ℕ → Coming) (rest : ℕ → (ℕ → Coming) → List Picked) → AreSame k f g
-    → ((low : ℕ) (f g : ℕ → Coming) → AreSame k f g → rest low f ≡ rest low g)
-    → pick_next o k low f rest ≡ pick_next o k low g rest
-pick_same None k low f g rest s r = r low (all_behind None true f) (all_behind None true g) (behind_same None true k f g s)
-pick_same (Some n) k low f g rest s r = go (nat_lt n low)
-  where
-    go : (t : Bool)
-        → cond t (rest low (all_behind (Some n) false f))
-        (record { number = n; groups = groups_next n k f } ∷ rest (n + 1) (all_behind (Some n) true f))
-        ≡ cond t (rest low (all_behind (Some n) false g))
-        (record { number = n; groups = groups_next n k g } ∷ rest (n + 1) (all_behind (Some n) true g))
-    go true = r low (all_behind (Some n) false f) (all_behind (Some n) false g) (behind_same (Some n) false k f g s)
-    go false = ap₂ (λ (gs : List Group) (l : List Picked). record { number = n; groups = gs } ∷ l) (groups_same n k f g s)
-        (r (n + 1) (all_behind (Some n) true f) (all_behind (Some n) true g) (behind_same (Some n) true k f g s))
+module _ {S X : Type 0} (t : Taking S X) where
+  pick_same : (o : Option ℕ) (k : ℕ) (s : S) (f g : ℕ → Coming) (rest : S → (ℕ → Coming) → List X) → AreSame k f g
+      → ((s : S) (f g : ℕ → Coming) → AreSame k f g → rest s f ≡ rest s g)
+      → pick_next t o k s f rest ≡ pick_next t o k s g rest
+  pick_same None k s f g rest same r = r s (all_behind None true f) (all_behind None true g) (behind_same None true k f g same)
+  pick_same (Some n) k s f g rest same r =
+      go (nat_lt n (t.low s)) (ap (λ (gs : List Group). record { number = n; groups = gs }) (groups_same n k f g same))
+    where
+      go : (u : Bool) → picked_of n k f ≡ picked_of n k g
+          → cond u (rest s (all_behind (Some n) false f))
+          (t.made s (picked_of n k f) ++ rest (t.behind s (picked_of n k f)) (all_behind (Some n) true f))
+          ≡ cond u (rest s (all_behind (Some n) false g))
+          (t.made s (picked_of n k g) ++ rest (t.behind s (picked_of n k g)) (all_behind (Some n) true g))
+      go true e = r s (all_behind (Some n) false f) (all_behind (Some n) false g) (behind_same (Some n) false k f g same)
+      go false e =
+          ap (λ (p : Picked). t.made s p ++ rest (t.behind s p) (all_behind (Some n) true f)) e
+          ∙ ap (λ (l : List X). t.made s (picked_of n k g) ++ l)
+          (r (t.behind s (picked_of n k g)) (all_behind (Some n) true f) (all_behind (Some n) true g)
+          (behind_same (Some n) true k f g same))
 
-picked_same : (steps k low : ℕ) (f g : ℕ → Coming) → AreSame k f g → picked_from steps k low f ≡ picked_from steps k low g
-picked_same zero k low f g s = refl
-picked_same (suc steps) k low f g s =
-    ap₂ (λ (t : Bool) (o : Option ℕ). cond t [] (pick_next o k low f (λ low feeds. picked_from steps k low feeds)))
-    (waits_same k f g s) (least_same k f g s)
-    ∙ ap (λ (l : List Picked). cond (one_waits k g) [] l)
-    (pick_same (least_next k g) k low f g (λ low feeds. picked_from steps k low feeds) s
-    (λ low f g s. picked_same steps k low f g s))
+  picked_same : (steps k : ℕ) (s : S) (f g : ℕ → Coming) → AreSame k f g → picked_from t steps k s f ≡ picked_from t steps k s g
+  picked_same zero k s f g same = refl
+  picked_same (suc steps) k s f g same =
+      ap₂ (λ (u : Bool) (o : Option ℕ). cond u [] (pick_next t o k s f (λ s feeds. picked_from t steps k s feeds)))
+      (waits_same k f g same) (least_same k f g same)
+      ∙ ap (λ (l : List X). cond (one_waits k g) [] l)
+      (pick_same (least_next k g) k s f g (λ s feeds. picked_from t steps k s feeds) same
+      (λ s f g same. picked_same steps k s f g same))
 
-pub picks_same : (k low : ℕ) (f g : ℕ → Coming) → AreSame k f g → picks_from k low f ≡ picks_from k low g
-picks_same k low f g s =
-    ap (λ (n : ℕ). picked_from n k low f) (events_same k f g s) ∙ picked_same (events_in k g) k low f g s
+  pub picks_same : (k : ℕ) (s : S) (f g : ℕ → Coming) → AreSame k f g → picks_from t k s f ≡ picks_from t k s g
+  picks_same k s f g same =
+      ap (λ (n : ℕ). picked_from t n k s f) (events_same k f g same) ∙ picked_same (events_in k g) k s f g same
 
 -- ---- each step passes an event
 
@@ -170,20 +175,6 @@ behind_next k f None silent e s n l =
     go (inr a) = omega (arith, a, l)
 behind_next k f (Some m) silent e s n l = let x = passes_least silent m k f e in omega (arith, x, l)
 
-rest_same : (o : Option ℕ) (k low : ℕ) (f : ℕ → Coming) (r s : ℕ → (ℕ → Coming) → List Picked)
-    → ((silent : Bool) → (o ≡ None → silent ≡ true) → (low : ℕ) → r low (all_behind o silent f) ≡ s low (all_behind o silent f))
-    → pick_next o k low f r ≡ pick_next o k low f s
-rest_same None k low f r s e = e true (λ _. refl) low
-rest_same (Some n) k low f r s e = go (nat_lt n low)
-  where
-    go : (t : Bool)
-        → cond t (r low (all_behind (Some n) false f))
-        (record { number = n; groups = groups_next n k f } ∷ r (n + 1) (all_behind (Some n) true f))
-        ≡ cond t (s low (all_behind (Some n) false f))
-        (record { number = n; groups = groups_next n k f } ∷ s (n + 1) (all_behind (Some n) true f))
-    go true = e false (λ x. none_some n (sym x)) low
-    go false = ap (λ (l : List Picked). record { number = n; groups = groups_next n k f } ∷ l) (e true (λ _. refl) (n + 1))
-
 least_nothing : (k : ℕ) (f : ℕ → Coming) → events_in k f ≡ 0 → least_next k f ≡ None
 least_nothing zero f e = refl
 least_nothing (suc k) f e = ap₂ lesser (least_nothing k f (omega (arith, e))) (none (f k).events (omega (arith, e)))
@@ -192,50 +183,65 @@ least_nothing (suc k) f e = ap₂ lesser (least_nothing k f (omega (arith, e))) 
     none [] e = refl
     none (x ∷ es) e = absurd (omega (arith, e))
 
-nothing : (a k low : ℕ) (f : ℕ → Coming) → events_in k f ≡ 0 → picked_from a k low f ≡ []
-nothing zero k low f e = refl
-nothing (suc a) k low f e =
-    let x = all_less None true k f in
-    ap (λ (o : Option ℕ). cond (one_waits k f) [] (pick_next o k low f (λ low feeds. picked_from a k low feeds))) (least_nothing k f e)
-    ∙ ap (λ (l : List Picked). cond (one_waits k f) [] l) (nothing a k low (all_behind None true f) (omega (arith, e, x)))
-    ∙ both (one_waits k f)
-  where
-    both : (t : Bool) → cond {A = List Picked} t [] [] ≡ []
-    both true = refl
-    both false = refl
+module _ {S X : Type 0} (t : Taking S X) where
+  rest_same : (o : Option ℕ) (k : ℕ) (s : S) (f : ℕ → Coming) (a b : S → (ℕ → Coming) → List X)
+      → ((silent : Bool) → (o ≡ None → silent ≡ true) → (s : S) → a s (all_behind o silent f) ≡ b s (all_behind o silent f))
+      → pick_next t o k s f a ≡ pick_next t o k s f b
+  rest_same None k s f a b e = e true (λ _. refl) s
+  rest_same (Some n) k s f a b e = go (nat_lt n (t.low s))
+    where
+      go : (u : Bool)
+          → cond u (a s (all_behind (Some n) false f))
+          (t.made s (picked_of n k f) ++ a (t.behind s (picked_of n k f)) (all_behind (Some n) true f))
+          ≡ cond u (b s (all_behind (Some n) false f))
+          (t.made s (picked_of n k f) ++ b (t.behind s (picked_of n k f)) (all_behind (Some n) true f))
+      go true = e false (λ x. none_some n (sym x)) s
+      go false = ap (λ (l : List X). t.made s (picked_of n k f) ++ l) (e true (λ _. refl) (t.behind s (picked_of n k f)))
 
-enough : (a b k low : ℕ) (f : ℕ → Coming) → events_in k f ≤ a → events_in k f ≤ b → picked_from a k low f ≡ picked_from b k low f
-enough zero b k low f x y = sym (nothing b k low f (omega (arith, x)))
-enough (suc a) zero k low f x y = nothing (suc a) k low f (omega (arith, y))
-enough (suc a) (suc b) k low f x y =
-    ap (λ (l : List Picked). cond (one_waits k f) [] l)
-    (rest_same (least_next k f) k low f (λ low feeds. picked_from a k low feeds) (λ low feeds. picked_from b k low feeds)
-    (λ silent s low. enough a b k low (all_behind (least_next k f) silent f)
-    (behind_next k f (least_next k f) silent refl s a x) (behind_next k f (least_next k f) silent refl s b y)))
+  nothing : (a k : ℕ) (s : S) (f : ℕ → Coming) → events_in k f ≡ 0 → picked_from t a k s f ≡ []
+  nothing zero k s f e = refl
+  nothing (suc a) k s f e =
+      let x = all_less None true k f in
+      ap (λ (o : Option ℕ). cond (one_waits k f) [] (pick_next t o k s f (λ s feeds. picked_from t a k s feeds))) (least_nothing k f e)
+      ∙ ap (λ (l : List X). cond (one_waits k f) [] l) (nothing a k s (all_behind None true f) (omega (arith, e, x)))
+      ∙ both (one_waits k f)
+    where
+      both : (u : Bool) → cond {A = List X} u [] [] ≡ []
+      both true = refl
+      both false = refl
 
--- ---- the laws
+  enough : (a b k : ℕ) (s : S) (f : ℕ → Coming) → events_in k f ≤ a → events_in k f ≤ b → picked_from t a k s f ≡ picked_from t b k s f
+  enough zero b k s f x y = sym (nothing b k s f (omega (arith, x)))
+  enough (suc a) zero k s f x y = nothing (suc a) k s f (omega (arith, y))
+  enough (suc a) (suc b) k s f x y =
+      ap (λ (l : List X). cond (one_waits k f) [] l)
+      (rest_same (least_next k f) k s f (λ s feeds. picked_from t a k s feeds) (λ s feeds. picked_from t b k s feeds)
+      (λ silent q s. enough a b k s (all_behind (least_next k f) silent f)
+      (behind_next k f (least_next k f) silent refl q a x) (behind_next k f (least_next k f) silent refl q b y)))
 
-pub picks_wait : (k low : ℕ) (f : ℕ → Coming) → one_waits k f ≡ true → picks_from k low f ≡ []
-picks_wait k low f w = go (events_in k f)
-  where
-    go : (n : ℕ) → picked_from n k low f ≡ []
-    go zero = refl
-    go (suc n) = ap (λ (t : Bool). cond t [] (pick_next (least_next k f) k low f (λ low feeds. picked_from n k low feeds))) w
+  -- ---- the laws
 
-pub picks_over : (k low : ℕ) (f : ℕ → Coming) → events_in k f ≡ 0 → picks_from k low f ≡ []
-picks_over k low f e = nothing (events_in k f) k low f e
+  pub picks_wait : (k : ℕ) (s : S) (f : ℕ → Coming) → one_waits k f ≡ true → picks_from t k s f ≡ []
+  picks_wait k s f w = go (events_in k f)
+    where
+      go : (n : ℕ) → picked_from t n k s f ≡ []
+      go zero = refl
+      go (suc n) = ap (λ (u : Bool). cond u [] (pick_next t (least_next k f) k s f (λ s feeds. picked_from t n k s feeds))) w
 
-pub picks_on : (k low : ℕ) (f : ℕ → Coming) → one_waits k f ≡ false → 0 < events_in k f
-    → picks_from k low f ≡ pick_next (least_next k f) k low f (λ low feeds. picks_from k low feeds)
-picks_on k low f w some = go (events_in k f) refl
-  where
-    go : (n : ℕ) → events_in k f ≡ n → picked_from n k low f
-        ≡ pick_next (least_next k f) k low f (λ low feeds. picks_from k low feeds)
-    go zero e = absurd (omega (arith, e, some))
-    go (suc n) e =
-        ap (λ (t : Bool). cond t [] (pick_next (least_next k f) k low f (λ low feeds. picked_from n k low feeds))) w
-        ∙ rest_same (least_next k f) k low f (λ low feeds. picked_from n k low feeds) (λ low feeds. picks_from k low feeds)
-        (λ silent s low.
-        let less = behind_next k f (least_next k f) silent refl s n (omega (arith, e)) in
-        enough n (events_in k (all_behind (least_next k f) silent f)) k low (all_behind (least_next k f) silent f) less
-        (omega arith))
+  pub picks_over : (k : ℕ) (s : S) (f : ℕ → Coming) → events_in k f ≡ 0 → picks_from t k s f ≡ []
+  picks_over k s f e = nothing (events_in k f) k s f e
+
+  pub picks_on : (k : ℕ) (s : S) (f : ℕ → Coming) → one_waits k f ≡ false → 0 < events_in k f
+      → picks_from t k s f ≡ pick_next t (least_next k f) k s f (λ s feeds. picks_from t k s feeds)
+  picks_on k s f w some = go (events_in k f) refl
+    where
+      go : (n : ℕ) → events_in k f ≡ n → picked_from t n k s f
+          ≡ pick_next t (least_next k f) k s f (λ s feeds. picks_from t k s feeds)
+      go zero e = absurd (omega (arith, e, some))
+      go (suc n) e =
+          ap (λ (u : Bool). cond u [] (pick_next t (least_next k f) k s f (λ s feeds. picked_from t n k s feeds))) w
+          ∙ rest_same (least_next k f) k s f (λ s feeds. picked_from t n k s feeds) (λ s feeds. picks_from t k s feeds)
+          (λ silent q s.
+          let less = behind_next k f (least_next k f) silent refl q n (omega (arith, e)) in
+          enough n (events_in k (all_behind (least_next k f) silent f)) k s (all_behind (least_next k f) silent f) less
+          (omega arith))

@@ -1,5 +1,5 @@
 -- Which frames come next of several feeds, by their events.
-use Rattle.std.specs.Prelude.{ℕ, zero, suc, ◌+◌, ◌==◌, ◌||◌, not, min, nat_lt, Bool, true, false, List, [], ◌∷◌, length, Option, Some, None}
+use Rattle.std.specs.Prelude.{ℕ, zero, suc, ◌+◌, ◌==◌, ◌||◌, not, min, nat_lt, Bool, true, false, List, [], ◌∷◌, ◌++◌, length, Option, Some, None}
 use Rattle.std.specs.Prelude.{if◌then◌else◌}
 use Rattle.std.specs.List.{flat_map, range_with_len}
 use Rattle.frame_groups.specs.Groups.{Group}
@@ -65,29 +65,35 @@ pub record Picked : Type 0 where
   pub number : ℕ
   pub groups : List Group
 
--- The least number is next; one below those that were picked is passed over. A silence gives its feed up for one frame, so a feed that
--- is given up holds no other up. Where no feed has packets next, silences are passed over.
-abbrev pub pick_next : Option ℕ → ℕ → ℕ → (ℕ → Coming) → (ℕ → (ℕ → Coming) → List Picked) → List Picked
-pick_next None k low feeds rest = rest low (all_behind None true feeds)
-pick_next (Some n) k low feeds rest =
-    if nat_lt n low then rest low (all_behind (Some n) false feeds)
-    else record { number = n; groups = groups_next n k feeds } ∷ rest (n + 1) (all_behind (Some n) true feeds)
+-- what is done with the frames that are picked, one after another: from which number on they are, what is made of one, and what is
+-- known then
+pub record Taking (S X : Type 0) : Type 0 where
+  pub low : S → ℕ
+  pub made : S → Picked → List X
+  pub behind : S → Picked → S
+
+abbrev pub picked_of : ℕ → ℕ → (ℕ → Coming) → Picked
+picked_of n k feeds = record { number = n; groups = groups_next n k feeds }
+
+-- The least number is next; one that is too low is passed over. A silence gives its feed up for one frame, so a feed that is given up
+-- holds no other up. Where no feed has packets next, silences are passed over.
+abbrev pub pick_next : {S X : Type 0} → Taking S X → Option ℕ → ℕ → S → (ℕ → Coming) → (S → (ℕ → Coming) → List X) → List X
+pick_next t None k s feeds rest = rest s (all_behind None true feeds)
+pick_next t (Some n) k s feeds rest =
+    if nat_lt n (t.low s) then rest s (all_behind (Some n) false feeds)
+    else t.made s (picked_of n k feeds) ++ rest (t.behind s (picked_of n k feeds)) (all_behind (Some n) true feeds)
 
 -- It ends where it is not known what is next in a feed. So many steps are made at most.
-abbrev pub picked_from : ℕ → ℕ → ℕ → (ℕ → Coming) → List Picked
-picked_from zero k low feeds = []
-picked_from (suc steps) k low feeds = if one_waits k feeds then []
-    else pick_next (least_next k feeds) k low feeds (λ low feeds. picked_from steps k low feeds)
+abbrev pub picked_from : {S X : Type 0} → Taking S X → ℕ → ℕ → S → (ℕ → Coming) → List X
+picked_from t zero k s feeds = []
+picked_from t (suc steps) k s feeds = if one_waits k feeds then []
+    else pick_next t (least_next k feeds) k s feeds (λ s feeds. picked_from t steps k s feeds)
 
 -- how many events so many feeds have; each step passes one
 abbrev pub events_in : ℕ → (ℕ → Coming) → ℕ
 events_in zero feeds = 0
 events_in (suc k) feeds = events_in k feeds + length (feeds k).events
 
--- the frames from a number on
-abbrev pub picks_from : ℕ → ℕ → (ℕ → Coming) → List Picked
-picks_from k low feeds = picked_from (events_in k feeds) k low feeds
-
--- all frames of so many feeds
-unfoldable pub picks : ℕ → (ℕ → Coming) → List Picked
-picks k feeds = picks_from k 0 feeds
+-- all that is made of so many feeds
+abbrev pub picks_from : {S X : Type 0} → Taking S X → ℕ → S → (ℕ → Coming) → List X
+picks_from t k s feeds = picked_from t (events_in k feeds) k s feeds

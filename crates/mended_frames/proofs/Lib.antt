@@ -1,1 +1,4 @@
 pub mod MendLemmas
+pub mod ChooseLemmas
+pub mod MakeLemmas
+pub mod FrameLemmas

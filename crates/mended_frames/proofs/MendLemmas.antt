@@ -14,13 +14,12 @@ use Rattle.frame_groups.specs.Groups.{Group}
 use Rattle.frame_groups.specs.Modulated.{Numbered}
 use Rattle.frame_groups.specs.declared.cause.MuteCause.{MuteCause}
 use Rattle.frame_tests.specs.Tests.{group_fault}
-use Rattle.feed_picks.specs.Picks.{Coming, Picked, one_waits, least_next, groups_next, all_behind, pick_next, picked_from, picks, events_in}
-use Rattle.spaced_frames.specs.Laws.{Rise, RiseFrom, AreNear}
-use Rattle.spaced_frames.specs.Spaced.{SentFrame, spaced}
+use Rattle.feed_picks.specs.Picks.{Coming, Picked, one_waits, least_next, all_behind, picked_of, pick_next, picked_from, events_in}
+use Rattle.spaced_frames.specs.Laws.{Rise, RiseFrom}
 use Rattle.spaced_frames.proofs.NearLemmas.{spaced_near}
 use Rattle.mended_frames.specs.Feeds.{all_of, made_of_all}
 use Rattle.mended_frames.specs.Laws.{PassBehind, MadePass, MadeRise, MadeAreNear}
-use Rattle.mended_frames.specs.Mended.{Made, passes, made_as, own_of, woven_of, made_of, with_made, past_with, mended_behind, mended, frame_of}
+use Rattle.mended_frames.specs.Mended.{Made, passes, made_as, own_of, woven_of, made_of, with_made, past_with, low_of, taking, mended}
 use Rattle.mended_frames.specs.Mended.{frames_of}
 
 -- ---- they pass
@@ -66,84 +65,96 @@ is_made c past p x e = go (option_map (made_as p.number false) (own_of c past p)
     go None is e = by_one c past p true _ x e
     go (Some y) is e = by_one c past p false p.groups x (is ∙ e)
 
-pass_behind : (c : Config) (past : List Numbered) (ps : List Picked) → PassBehind c past (mended_behind c past ps)
-pass_behind c past [] = tt
-pass_behind c past (p ∷ ps) = go (made_of c past p) refl (λ past. pass_behind c past ps)
+abbrev Rest : Type 0
+Rest = List Numbered → (ℕ → Coming) → List Made
+
+next_pass : (c : Config) (o : Option ℕ) (k : ℕ) (past : List Numbered) (feeds : ℕ → Coming) (rest : Rest)
+    → ((past : List Numbered) (feeds : ℕ → Coming) → PassBehind c past (rest past feeds))
+    → PassBehind c past (pick_next (taking c) o k past feeds rest)
+next_pass c None k past feeds rest h = h past (all_behind None true feeds)
+next_pass c (Some n) k past feeds rest h = go (nat_lt n (low_of past))
   where
-    go : (o : Option Made) → made_of c past p ≡ o → ((past : List Numbered) → PassBehind c past (mended_behind c past ps))
-        → PassBehind c past (option_to_list o ++ mended_behind c (past_with past o) ps)
-    go None is rest = rest past
-    go (Some x) is rest =
-        let m = is_made c past p x is in
-        (subst (λ (n : ℕ). group_fault c past x.group n ≡ None) (sym m.number) m.pass, rest (with_made past x))
+    made : (o : Option Made) → made_of c past (picked_of n k feeds) ≡ o
+        → PassBehind c past (option_to_list o ++ rest (past_with past o) (all_behind (Some n) true feeds))
+    made None is = h past (all_behind (Some n) true feeds)
+    made (Some x) is =
+        let m = is_made c past (picked_of n k feeds) x is in (
+          subst (λ (i : ℕ). group_fault c past x.group i ≡ None) (sym m.number) m.pass,
+          h (with_made past x) (all_behind (Some n) true feeds),
+        )
+
+    go : (t : Bool)
+        → PassBehind c past (cond t (rest past (all_behind (Some n) false feeds))
+        (option_to_list (made_of c past (picked_of n k feeds))
+        ++ rest (past_with past (made_of c past (picked_of n k feeds))) (all_behind (Some n) true feeds)))
+    go true = h past (all_behind (Some n) false feeds)
+    go false = made (made_of c past (picked_of n k feeds)) refl
+
+pass_from : (c : Config) (steps k : ℕ) (past : List Numbered) (feeds : ℕ → Coming)
+    → PassBehind c past (picked_from (taking c) steps k past feeds)
+pass_from c zero k past feeds = tt
+pass_from c (suc steps) k past feeds = go (one_waits k feeds) (λ past feeds. pass_from c steps k past feeds)
+  where
+    go : (t : Bool) → ((past : List Numbered) (feeds : ℕ → Coming) → PassBehind c past (picked_from (taking c) steps k past feeds))
+        → PassBehind c past (cond t [] (pick_next (taking c) (least_next k feeds) k past feeds
+        (λ past feeds. picked_from (taking c) steps k past feeds)))
+    go true h = tt
+    go false h = next_pass c (least_next k feeds) k past feeds (λ past feeds. picked_from (taking c) steps k past feeds) h
 
 pub made_pass : MadePass
 unfolding mended
-made_pass c k streams = pass_behind c [] (picks k (all_of c streams))
+made_pass c k streams = pass_from c (events_in k (all_of c streams)) k [] (all_of c streams)
 
 -- ---- their numbers rise
 
--- The numbers of what was picked are not below one, and rise.
-abbrev PicksFrom : ℕ → List Picked → Type 0
-PicksFrom low [] = Unit {0}
-PicksFrom low (p ∷ ps) = (low ≤ p.number) × PicksFrom (p.number + 1) ps
+-- Their numbers are not below one, and rise.
+abbrev RiseOn : ℕ → List Made → Type 0
+RiseOn low [] = Unit {0}
+RiseOn low (x ∷ made) = (low ≤ x.number) × RiseOn (x.number + 1) made
 
-next_from : (o : Option ℕ) (k low : ℕ) (feeds : ℕ → Coming) (rest : ℕ → (ℕ → Coming) → List Picked)
-    → ((low : ℕ) (feeds : ℕ → Coming) → PicksFrom low (rest low feeds)) → PicksFrom low (pick_next o k low feeds rest)
-next_from None k low feeds rest h = h low (all_behind None true feeds)
-next_from (Some n) k low feeds rest h = go (nat_lt n low) refl
+next_rise : (c : Config) (o : Option ℕ) (k : ℕ) (past : List Numbered) (feeds : ℕ → Coming) (rest : Rest)
+    → ((past : List Numbered) (feeds : ℕ → Coming) → RiseOn (low_of past) (rest past feeds))
+    → RiseOn (low_of past) (pick_next (taking c) o k past feeds rest)
+next_rise c None k past feeds rest h = h past (all_behind None true feeds)
+next_rise c (Some n) k past feeds rest h = go (nat_lt n (low_of past)) refl
   where
-    go : (t : Bool) → nat_lt n low ≡ t
-        → PicksFrom low (cond t (rest low (all_behind (Some n) false feeds))
-        (record { number = n; groups = groups_next n k feeds } ∷ rest (n + 1) (all_behind (Some n) true feeds)))
-    go true e = h low (all_behind (Some n) false feeds)
-    go false e = (ltb-false n low e, h (n + 1) (all_behind (Some n) true feeds))
+    made : low_of past ≤ n → (o : Option Made) → made_of c past (picked_of n k feeds) ≡ o
+        → RiseOn (low_of past) (option_to_list o ++ rest (past_with past o) (all_behind (Some n) true feeds))
+    made l None is = h past (all_behind (Some n) true feeds)
+    made l (Some x) is =
+        let m = (is_made c past (picked_of n k feeds) x is).number in
+        (omega (arith, l, m), h (with_made past x) (all_behind (Some n) true feeds))
 
-picked_rise : (steps k low : ℕ) (feeds : ℕ → Coming) → PicksFrom low (picked_from steps k low feeds)
-picked_rise zero k low feeds = tt
-picked_rise (suc steps) k low feeds = go (one_waits k feeds) (λ low feeds. picked_rise steps k low feeds)
+    go : (t : Bool) → nat_lt n (low_of past) ≡ t
+        → RiseOn (low_of past) (cond t (rest past (all_behind (Some n) false feeds))
+        (option_to_list (made_of c past (picked_of n k feeds))
+        ++ rest (past_with past (made_of c past (picked_of n k feeds))) (all_behind (Some n) true feeds)))
+    go true e = h past (all_behind (Some n) false feeds)
+    go false e = made (ltb-false n (low_of past) e) (made_of c past (picked_of n k feeds)) refl
+
+rise_from : (c : Config) (steps k : ℕ) (past : List Numbered) (feeds : ℕ → Coming)
+    → RiseOn (low_of past) (picked_from (taking c) steps k past feeds)
+rise_from c zero k past feeds = tt
+rise_from c (suc steps) k past feeds = go (one_waits k feeds) (λ past feeds. rise_from c steps k past feeds)
   where
-    go : (t : Bool) → ((low : ℕ) (feeds : ℕ → Coming) → PicksFrom low (picked_from steps k low feeds))
-        → PicksFrom low (cond t [] (pick_next (least_next k feeds) k low feeds (λ low feeds. picked_from steps k low feeds)))
+    go : (t : Bool) → ((past : List Numbered) (feeds : ℕ → Coming) → RiseOn (low_of past) (picked_from (taking c) steps k past feeds))
+        → RiseOn (low_of past) (cond t [] (pick_next (taking c) (least_next k feeds) k past feeds
+        (λ past feeds. picked_from (taking c) steps k past feeds)))
     go true h = tt
-    go false h = next_from (least_next k feeds) k low feeds (λ low feeds. picked_from steps k low feeds) h
+    go false h = next_rise c (least_next k feeds) k past feeds (λ past feeds. picked_from (taking c) steps k past feeds) h
 
-lower : (low next : ℕ) (ps : List Picked) → low ≤ next → PicksFrom next ps → PicksFrom low ps
-lower low next [] l h = tt
-lower low next (p ∷ ps) l h = (let a = h.0 in omega (arith, l, a), h.1)
+frames_rise : (c : Config) (m : ℕ) (made : List Made) → RiseOn (m + 1) made → RiseFrom m (frames_of c made)
+frames_rise c m [] h = tt
+frames_rise c m (x ∷ made) h = (let a = h.0 in omega (arith, a), frames_rise c x.number made h.1)
 
-made_rise_from : (c : Config) (past : List Numbered) (m : ℕ) (ps : List Picked) → PicksFrom (m + 1) ps
-    → RiseFrom m (frames_of c (mended_behind c past ps))
-made_rise_from c past m [] h = tt
-made_rise_from c past m (p ∷ ps) h = go (made_of c past p) refl (λ past m h. made_rise_from c past m ps h)
-  where
-    go : (o : Option Made) → made_of c past p ≡ o
-        → ((past : List Numbered) (m : ℕ) → PicksFrom (m + 1) ps → RiseFrom m (frames_of c (mended_behind c past ps)))
-        → RiseFrom m (frames_of c (option_to_list o ++ mended_behind c (past_with past o) ps))
-    go None is rest = let a = h.0 in rest past m (lower (m + 1) (p.number + 1) ps (omega (arith, a)) h.1)
-    go (Some x) is rest =
-        let n = (is_made c past p x is).number in
-        let a = h.0 in (
-          omega (arith, n, a),
-          rest (with_made past x) x.number (subst (λ (i : ℕ). PicksFrom (i + 1) ps) (sym n) h.1),
-        )
-
-made_rise_first : (c : Config) (past : List Numbered) (low : ℕ) (ps : List Picked) → PicksFrom low ps
-    → Rise (frames_of c (mended_behind c past ps))
-made_rise_first c past low [] h = tt
-made_rise_first c past low (p ∷ ps) h = go (made_of c past p) refl (λ low h. made_rise_first c past low ps h)
-  where
-    go : (o : Option Made) → made_of c past p ≡ o → ((low : ℕ) → PicksFrom low ps → Rise (frames_of c (mended_behind c past ps)))
-        → Rise (frames_of c (option_to_list o ++ mended_behind c (past_with past o) ps))
-    go None is rest = rest (p.number + 1) h.1
-    go (Some x) is rest =
-        made_rise_from c (with_made past x) x.number ps
-        (subst (λ (i : ℕ). PicksFrom (i + 1) ps) (sym (is_made c past p x is).number) h.1)
+first_rise : (c : Config) (low : ℕ) (made : List Made) → RiseOn low made → Rise (frames_of c made)
+first_rise c low [] h = tt
+first_rise c low (x ∷ made) h = frames_rise c x.number made h.1
 
 pub made_rise : MadeRise
-unfolding mended picks
+unfolding mended
 made_rise c k streams =
-    made_rise_first c [] 0 (picks k (all_of c streams)) (picked_rise (events_in k (all_of c streams)) k 0 (all_of c streams))
+    first_rise c 0 (made_of_all c k streams) (rise_from c (events_in k (all_of c streams)) k [] (all_of c streams))
 
 -- ---- and they are near
 

@@ -4,7 +4,7 @@ use Rattle.plp_config.specs.declared.config.Config.{Config}
 use Rattle.t2mi_stream.specs.Pipe.{pipe}
 use Rattle.frame_tests.specs.Tests.{rules}
 use Rattle.feed_events.specs.FeedEvents.{feed_events}
-use Rattle.feed_picks.specs.Picks.{Coming, picks}
+use Rattle.feed_picks.specs.Picks.{Coming}
 use Rattle.mended_frames.specs.Mended.{Made, mended, packets_of}
 
 -- all events of a stream
@@ -20,10 +20,10 @@ known_of c streams taken ended input = record {
 
 -- the frames that are made of so many streams, and of what is known of them
 abbrev pub made_of_all : Config → ℕ → (ℕ → List ℕ) → List Made
-made_of_all c k streams = mended c (picks k (all_of c streams))
+made_of_all c k streams = mended c k (all_of c streams)
 
 abbrev pub made_of_known : Config → ℕ → (ℕ → List ℕ) → (ℕ → ℕ) → (ℕ → Bool) → List Made
-made_of_known c k streams taken ended = mended c (picks k (known_of c streams taken ended))
+made_of_known c k streams taken ended = mended c k (known_of c streams taken ended)
 
 -- all units of all frames
 abbrev pub units_of : Config → ℕ → (ℕ → List ℕ) → List (List ℕ)

@@ -1,5 +1,5 @@
 -- The frames that are made of the groups of several feeds (ETSI TS 102 773, clause 5).
-use Rattle.std.specs.Prelude.{ℕ, not, Bool, true, false, is_some, List, [], ◌∷◌, ◌++◌, map, find, Option, Some, None}
+use Rattle.std.specs.Prelude.{ℕ, ◌+◌, not, Bool, true, false, is_some, List, [], ◌∷◌, map, find, Option, Some, None}
 use Rattle.std.specs.Prelude.{option_map, option_to_list}
 use Rattle.std.specs.Option.{option_or}
 use Rattle.plp_config.specs.Places.{places}
@@ -14,7 +14,7 @@ use Rattle.frame_writer.specs.FramePackets.{packets_from}
 use Rattle.open_group.specs.Sent.{held_bytes}
 use Rattle.open_group.specs.Written.{dynamic_in}
 use Rattle.pool_frame.specs.Signalling.{pre_part, conf_part}
-use Rattle.feed_picks.specs.Picks.{Picked}
+use Rattle.feed_picks.specs.Picks.{Picked, Coming, Taking, picks_from}
 use Rattle.spaced_frames.specs.Spaced.{SentFrame, spaced}
 use Rattle.spaced_frames.specs.StandsFor.{Content, sent_as}
 
@@ -50,18 +50,21 @@ abbrev pub past_with : List Numbered → Option Made → List Numbered
 past_with past None = past
 past_with past (Some x) = with_made past x
 
-abbrev pub mended_behind : Config → List Numbered → List Picked → List Made
-mended_behind c past [] = []
-mended_behind c past (p ∷ ps) =
-    option_to_list (made_of c past p) ++ mended_behind c (past_with past (made_of c past p)) ps
+-- only a frame behind the last one is made
+abbrev pub low_of : List Numbered → ℕ
+low_of [] = 0
+low_of (b ∷ past) = b.number + 1
 
-abbrev pub past_behind : Config → List Numbered → List Picked → List Numbered
-past_behind c past [] = past
-past_behind c past (p ∷ ps) = past_behind c (past_with past (made_of c past p)) ps
+abbrev pub taking : Config → Taking (List Numbered) Made
+taking c = record {
+  low = low_of;
+  made = λ past p. option_to_list (made_of c past p);
+  behind = λ past p. past_with past (made_of c past p);
+}
 
--- the frames that are made of what was picked, in order
-unfoldable pub mended : Config → List Picked → List Made
-mended c ps = mended_behind c [] ps
+-- the frames that are made of so many feeds, in order
+unfoldable pub mended : Config → ℕ → (ℕ → Coming) → List Made
+mended c k feeds = picks_from (taking c) k [] feeds
 
 -- what packets have of their frame
 abbrev pub content_in : Config → List Packet → Content

@@ -1,0 +1,9 @@
+use Rattle.std.proofs.Common.{Some, sym, subst}
+use Rattle.marked_group.specs.Holds.{HoldsMarked}
+use Rattle.marked_group.specs.declared.group.MarkedGroup.{MarkedGroup}
+use Rattle.mended_frames.proofs.groups.place_one.Goals as goal
+
+pub returns-then-is_at-clause-takes : goal.returns-then-is_at-clause-takes
+returns-then-is_at-clause-takes c = λ on own h gs seen holds w.
+    let marked = subst (λ (g : MarkedGroup). HoldsMarked g own (Some h)) (sym c.group.ensures.value) holds in
+    c.place.ensures.weaves own h c.args.number gs seen marked w
