@@ -53,7 +53,7 @@ def number_of(plan, last, group):
 
 
 def events(plan, data):
-    """The groups of a feed that have numbers, each with its own, and `None` for each idle unit; it ends the counting."""
+    """The groups of a feed that have numbers, each with its own, and `None` for each idle unit, which ends counting."""
     for place, piece in enumerate(between_idle(plan.config.pid, data)):
         if place:
             yield None
