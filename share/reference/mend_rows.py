@@ -13,7 +13,8 @@ outages    16, 17 and 300 superframes lost on one feed, while the other is whole
            order of the feeds. Lost on both at once: each frame that is sent is the whole stream's (`compare` says
            differ=0), and it goes on with the next timestamp; also if the outage begins and ends within frames.
 limits     what mend cannot know: to the frame 16 superframes were lost, and the next timestamp too, or none since the
-           frame with the same superframe_idx and frame_idx. An idle unit there is enough.
+           frame with the same superframe_idx and frame_idx; an idle unit there is enough. And that feeds are of two
+           streams with two inputs, if no block of a frame came on both.
 order      a superframe twice, two superframes exchanged, a stream that begins again: no frame twice or at a wrong
            instant.
 gateways   two gateways of one CONFIG are feeds of one stream; if their inputs differ, no frame is made of both.
@@ -38,6 +39,7 @@ subslices 1"""
 # Two PLPs, one of them over two frames; and the least network, for long outages.
 TWO = "plp 0 type1 1 1/2 qpsk short 0 50 1 delete 30000000 1", "plp 1 type1 2 1/2 qpsk short 0 40 1 delete 12000000 2"
 TINY = ("plp 0 type1 1 1/2 qpsk short 0 1 1 delete 500000 1",)
+PAIR = ("plp 0 type1 1 1/2 qpsk short 0 2 1 delete 1200000 1",)
 PID = 256
 
 
@@ -187,6 +189,27 @@ def limits(rows, starts):
         rows.is_of_stream()
 
 
+def without_block(name, stream, number):
+    """The units of a stream but for one within a block."""
+    blocks = [packet for packet in packets.accepted(PID, stream) if packet.kind == packets.BLOCK]
+    lost = blocks[number].place // ts.UNIT + 2
+    return [f"@{name}:0u:{lost}u", f"@{name}:{lost + 1}u"]
+
+
+def two_streams(rows):
+    rows.begin("two streams, the first block of a frame lost in one, and the second in the other")
+    rows.config("c", PAIR)
+    rows.file("0", ["#0:300"])
+    rows.run("gateway c s 0")
+    rows.file("0", ["#10000:10300"])
+    rows.run("gateway c t 0")
+    rows.file("a", without_block("s", rows.bytes("s"), 20))
+    rows.file("b", without_block("t", rows.bytes("t"), 21))
+    rows.law(" woven=1 missing=0 " in rows.run("mend c o a b"))
+    rows.law(rows.run("compare c o s").endswith(" differs"))
+    rows.law(rows.run("compare c o t").endswith(" differs"))
+
+
 def order(rows, starts):
     rows.line("## mend, order")
     third, fourth, fifth = starts[3:6]
@@ -277,6 +300,7 @@ def main(is_listed):
     losses(rows)
     starts, count = outages(rows)
     limits(rows, starts)
+    two_streams(rows)
     order(rows, starts)
     gateways(rows, starts, count)
     silence(rows, starts, count)
