@@ -53,7 +53,7 @@ def number_of(plan, last, group):
 
 
 def events(plan, data):
-    """The groups of a feed that have numbers, each with its own, and `None` for each idle unit; it ends the counting."""
+    """The groups of a feed that have numbers, each with its own, and `None` for each idle unit, which ends counting."""
     for place, piece in enumerate(between_idle(plan.config.pid, data)):
         if place:
             yield None
@@ -67,20 +67,26 @@ def events(plan, data):
 # ---- picking
 
 
-def picked(feeds):
+def picked(feeds, sent):
     """The frames of several feeds of events, in order, each with its groups. The least number that is next is picked,
-    and each silence that is next gives its feed up for it. One not above the last is passed over by itself."""
-    feeds, low = [deque(feed) for feed in feeds], 0
+    and each silence that is next gives its feed up for it. One not above the last of `sent` is passed over by itself.
+    Who takes what is picked adds the frame that is made of it to `sent`, before it asks for more."""
+    feeds = [deque(feed) for feed in feeds]
     while any(feeds):
         following = [feed[0] for feed in feeds if feed]
         number = min((event[0] for event in following if event), default=None)
-        is_late = number is not None and number < low
+        is_late = number is not None and number < low_of(sent)
         if number is not None and not is_late:
             yield number, [event[1] for event in following if event and event[0] == number]
-            low = number + 1
         for feed in feeds:
             if feed and (not is_late if feed[0] is None else feed[0][0] == number):
                 feed.popleft()
+
+
+def low_of(sent):
+    """The least number that is picked behind the frames that were sent. A number of which no frame is made does not
+    raise it, however far ahead it is."""
+    return sent[-1].number + 1 if sent else 0
 
 
 # ---- the frame of several groups
@@ -162,7 +168,7 @@ def candidates(plan, number, groups):
 def mended(plan, inputs):
     """The frames that are sent: of each number the first candidate that passes behind those that were sent before."""
     past, sent = {}, []
-    for number, groups in picked([events(plan, data) for data in inputs]):
+    for number, groups in picked([events(plan, data) for data in inputs], sent):
         for group, is_woven in candidates(plan, number, groups):
             if not first_cause(plan, group, number, past):
                 past[number] = group
