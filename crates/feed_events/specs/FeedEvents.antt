@@ -36,8 +36,8 @@ abbrev pub number_after : ℕ → Option ℕ → Key → Option ℕ
 number_after frames None key = None
 number_after frames (Some n) key = if nat_lt (n + 1) MOST_FRAMES && is_same (frame_key frames (n + 1)) key then Some (n + 1) else None
 
--- The number of a group behind another: that of the frame which its first timestamp names; without a timestamp the next one. It never
--- counts over a frame that lacks, so it never counts modulo 16.
+-- The number of a group behind another: that of the frame which its first timestamp names; without a timestamp the next one, if it has
+-- the key of that frame. So frames that lack are not counted over, but for those of a multiple of 16 superframes, to the frame.
 abbrev pub number_of : Rules → Option ℕ → Group → Option ℕ
 number_of r last g = if has_stamp g.packets then r.named g else number_after r.frames last g.key
 

@@ -22,7 +22,7 @@ fn stamped_with(stamped: bool, packet: &Packet<'_>) -> bool
     stamped || is_stamp(packet)
 }
 
-// The group under way, or the last one, and where the groups are. None has a number that the feed counted over a frame that lacks.
+// The group under way, or the last one, and where the groups are. One without a timestamp has the number behind that of the one before.
 #[derive(Drop)]
 pub(crate) struct Frames<G: OpenGroup + Drop> {
     pub group: G,
