@@ -3,11 +3,12 @@ use Rattle.std.proofs.Common.{◌≡◌, ◌≢◌, ℕ, ◌+◌, ◌<◌, ◌�
 use Rattle.std.proofs.Common.{take, filter, refl, ap, sym, subst, ◌∙◌, ⊎_elim, arith, append-nil, inr, inl}
 use Rattle.std.specs.Prelude.{bytes_eq, slice_index_or, cond}
 use Rattle.std.specs.List.{list_all}
-use Rattle.std.proofs.lemmas.Bool.{cases_eq, eq-eqb, ne_eqb, true≢false}
+use Rattle.std.proofs.lemmas.Bool.{cases_eq, eq-eqb, ne_eqb}
 use Rattle.std.proofs.lemmas.List.{map-append, get_or-set_same, get_or-set_other, length-set}
 use Rattle.std.proofs.lemmas.List.Elements.{filter-append}
 use Rattle.std.proofs.lemmas.List.Folds.{list_all-append}
 use Rattle.std.proofs.lemmas.List.Sums.{sum_by-cons, sum_by-set}
+use Rattle.terms.proofs.CaseLemmas.{both}
 use Rattle.linked_pool.specs.Pool.{State, list_at, chunks_of, chunks_for, appended, IsWhole}
 use Rattle.plp_config.specs.Capacity.{block_bytes}
 use Rattle.plp_config.specs.declared.config.Config.{Config}
@@ -57,10 +58,6 @@ alike_more [] x = refl
 alike_more (b ∷ more) x = list_all-append (bytes_eq b) more (x ∷ [])
     ∙ ap (λ (t : Bool). list_all (bytes_eq b) more && t) (sym (with_true (bytes_eq b x)))
 
-both_true : (a b : Bool) → (a && b) ≡ true → (a ≡ true) × (b ≡ true)
-both_true true b e = (refl, e)
-both_true false b e = absurd (true≢false (sym e))
-
 one_false : (a b : Bool) → (a && b) ≡ false → (a ≡ false) ⊎ (b ≡ false)
 one_false true b e = inr e
 one_false false b e = inl refl
@@ -90,13 +87,13 @@ told_more old new placed place bytes first told h =
     record {
       first = first;
       same = λ e k.
-          let both = both_true old.alike (fits_first (blocks_at placed place) bytes) (sym told ∙ e) in
+          let two = both old.alike (fits_first (blocks_at placed place) bytes) (sym told ∙ e) in
           ⊎_elim
           (λ (s : k ≡ place).
           subst (λ (j : ℕ). are_alike (blocks_at (placed ++ at place bytes ∷ []) j) ≡ true) (sym s)
           (here ∙ and_by (are_alike (blocks_at placed place)) (fits_first (blocks_at placed place) bytes)
-          (h.same both.0 place) both.1))
-          (λ (ne : k ≡ place → ⊥). ap are_alike (more_elsewhere placed place k bytes ne) ∙ h.same both.0 k)
+          (h.same two.0 place) two.1))
+          (λ (ne : k ≡ place → ⊥). ap are_alike (more_elsewhere placed place k bytes ne) ∙ h.same two.0 k)
           (cases_eq k place);
       other = λ e.
           ⊎_elim

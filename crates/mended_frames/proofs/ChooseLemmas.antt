@@ -140,7 +140,3 @@ pub split_last : (n : ℕ) (feeds : List Feed) (gs : List Group) (P : List Group
 split_last n feeds gs P i over s =
     let none : s.rest ≡ [] = subst (λ (x : List Feed). HaveGroups n x s.rest) (drop_all i feeds over) s.have in
     subst P (sym (s.are ∙ ap (λ (l : List Group). s.seen ++ l) none ∙ append-nil s.seen)) s.holds
-
-pub either : (t : Bool) (P : Type 0) → (t ≡ true → P) → (t ≡ false → P) → P
-either true P a b = a refl
-either false P a b = b refl

@@ -1,5 +1,5 @@
 -- A frame as it is lent.
-use Rattle.std.proofs.Common.{◌≡◌, ◌<◌, ℕ, ◌+◌, suc, List, [], ◌∷◌, map, length, Bool, true, false, ◌&&◌, refl, ap, ap₂, subst, ◌∙◌, arith}
+use Rattle.std.proofs.Common.{◌≡◌, ◌<◌, ℕ, ◌+◌, suc, List, [], ◌∷◌, map, length, Bool, refl, ap, ap₂, subst, ◌∙◌, arith}
 use Rattle.std.specs.Prelude.{slice_index_or}
 use Rattle.std.specs.List.{range_with_len}
 use Rattle.plp_config.specs.Places.{places}
@@ -12,10 +12,6 @@ use Rattle.spaced_frames.specs.StandsFor.{Content}
 use Rattle.mended_frames.specs.Mended.{content_in}
 use Rattle.open_group.specs.Written.{dynamic_in}
 use Rattle.pool_frame.specs.Signalling.{pre_part, conf_part}
-
-pub first_holds : (a b : Bool) → (a && b) ≡ true → a ≡ true
-first_holds true b e = refl
-first_holds false b e = e
 
 -- what stands at each place, from one on
 by_places : {X : Type 0} (d : X) (f : ℕ → X) (xs : List X) (a : ℕ)

@@ -1,4 +1,5 @@
 use Rattle.std.proofs.Common.{◌≡◌, ◌∙◌, ℕ, true, List, Some, length, ap, sym, subst}
+use Rattle.terms.proofs.CaseLemmas.{both}
 use Rattle.terms.proofs.OptionLemmas.{some_injective}
 use Rattle.plp_config.specs.declared.config.Config.{Config}
 use Rattle.frame_tests.specs.Tests.{has_map}
@@ -6,7 +7,7 @@ use Rattle.open_group.specs.FrameBytes.{has_room, shape_of}
 use Rattle.open_group.specs.Holds.{Holds}
 use Rattle.open_group.specs.Shown.{AreBlocks}
 use Rattle.open_group.specs.declared.group.PooledGroup.{PooledGroup}
-use Rattle.mended_frames.proofs.FrameLemmas.{first_holds, content_is}
+use Rattle.mended_frames.proofs.FrameLemmas.{content_is}
 use Rattle.mended_frames.proofs.mender.Mender.frame.Goals as goal
 
 pub returns-clause-content : goal.returns-clause-content
@@ -16,7 +17,7 @@ returns-clause-content c = λ lent own g is holds.
     let same : lent ≡ held = some_injective lent held (sym is ∙ c.lent-group.ensures.is) in
     let h = subst (λ (x : PooledGroup). Holds x own (Some g)) same holds in
     let network = c.lent-group.ensures.network in
-    let room : has_room held ≡ true = first_holds (has_room held) (has_map held.network (shape_of held)) c.lent-group.ensures.frame in
+    let room : has_room held ≡ true = (both (has_room held) (has_map held.network (shape_of held)) c.lent-group.ensures.frame).0 in
     let lists : List (List (List ℕ)) = c.blocks-2.result.now.lists in
     content_is plan g.packets c.as_slice.result c.as_slice-2.result c.dynamic.result lists
     (c.as_slice.ensures ∙ c.args.self.now.pre) (c.as_slice-2.ensures ∙ c.args.self.now.conf)
