@@ -22,7 +22,7 @@ use Rattle.spaced_frames.specs.StandsFor.{Content, sent_as}
 abbrev pub passes : Config → List Numbered → ℕ → Group → Bool
 passes c past n g = not (is_some (group_fault c past g n))
 
--- a frame, and whether it was made of several groups
+-- a frame, and whether it was woven: of several groups, or of what one has that is not the frame by itself
 pub record Made : Type 0 where
   pub number : ℕ
   pub group : Group
@@ -66,7 +66,7 @@ taking c = record {
 unfoldable pub mended : Config → ℕ → (ℕ → Coming) → List Made
 mended c k feeds = picks_from (taking c) k [] feeds
 
--- what packets have of their frame
+-- what is sent of a frame: the L1 signalling that all frames share, and of its packets the dynamic part and the blocks of the right length
 abbrev pub content_in : Config → List Packet → Content
 content_in c packets = record {
   pre = pre_part c;

@@ -87,6 +87,11 @@ abbrev pub CanLend : Source → Mender → List Feed → Type 0
 CanLend (source.Feed i) m feeds = FeedCanLend m.plan.now feeds i
 CanLend source.Woven m feeds = is_frame m.weaver.made.group ≡ true
 
+-- If a feed lends frame n, packets of it are next there.
+abbrev pub IsNextIn : ℕ → Source → List Feed → Type 0
+IsNextIn n (source.Feed i) feeds = (f : Feed) → slice_get feeds i ≡ Some f → is_at n (head_of f) ≡ true
+IsNextIn n source.Woven feeds = Unit {0}
+
 -- A frame is made, and one lends it.
 pub record Makes (m : Mender) (feeds : List Feed) (past : List Numbered) (p : Picked) (from : Source) : Type 0 where
   pub group : Group

@@ -55,6 +55,7 @@ pub(crate) fn whole_feed(
     requires of { AreOf plan.now feeds.now }
     requires sized { AreSized plan.now past.now }
     ensures inside { IfSome result (λ i. i < length feeds.now) }
+    ensures next { IfSome result (λ i. (f : Feed) → slice_get feeds.now i ≡ Some f → is_at number (head_of f) ≡ true) }
     ensures frame { IfSome result (λ i. (f : Feed) → slice_get feeds.now i ≡ Some f → is_frame (pooled_of f) ≡ true) }
     ensures some { IfSome result (λ i. (gs : List Group) (before : List Numbered) → HaveGroups number feeds.now gs
         → HoldsPast plan.now past.now before → IsAbove before number → Chooses plan.now before number feeds.now gs i) }

@@ -18,7 +18,7 @@ use std::alloc::Global;
 pub enum Source {
     /// The feed at a place, which has it whole.
     Feed(usize),
-    /// Several feeds together.
+    /// The mender, which wove it of all that the feeds have of it.
     Woven,
 }
 
@@ -50,7 +50,7 @@ impl<'p> Mender<'p> {
     ghost use Rattle.pool_frame.specs.Left.{CanBeSent};
     ghost use Rattle.spaced_frames.specs.StandsFor.{content_of};
     ghost use Rattle.mended_frames.specs.Mended.{content_in, made_of, woven_of, passes};
-    ghost use Rattle.mended_frames.specs.StandsFor.{AreOf, HaveGroups, MenderStandsFor, Makes, CanLend, lent_by, picked_as, pooled_of};
+    ghost use Rattle.mended_frames.specs.StandsFor.{AreOf, HaveGroups, MenderStandsFor, Makes, CanLend, IsNextIn, lent_by, picked_as, pooled_of};
 
     /// Takes the memory for a plan. No frame was made.
     pub fn open(alloc: Global, plan: &'p Plan) -> Result<Mender<'p>, OutOfMemory>
@@ -140,7 +140,7 @@ impl<'p> Mender<'p> {
         self.weaver.group().note_in(&mut self.past, number);
     }
 
-    /// Makes a frame of what the feeds have of it, behind those that were made: who lends it, if it is made.
+    /// Makes a frame, above those that were made, of what the feeds have of it: who lends it, if it is made.
     pub fn make(&mut self, feeds: &[EventFeed<MarkedGroup<'p>>], number: u64) -> Option<Source>
         requires small { number < 2 ^ 32 }
         requires of { AreOf self.old.plan.now feeds.now }
@@ -148,6 +148,7 @@ impl<'p> Mender<'p> {
             → IsAbove past number → HaveGroups number feeds.now gs
             → Makes self.new feeds.now past (picked_as number gs) from) }
         ensures lends { IfSome result (λ from. CanLend from self.new feeds.now) }
+        ensures next { IfSome result (λ from. IsNextIn number from feeds.now) }
         ensures none { IfNone result ((gs : List Group) (past : List Numbered) → MenderStandsFor self.old past
             → IsAbove past number → HaveGroups number feeds.now gs
             → (made_of self.old.plan.now past (picked_as number gs) ≡ None) × MenderStandsFor self.new past) }
@@ -182,7 +183,7 @@ impl<'p> Mender<'p> {
         }
     }
 
-    /// The frame that was made last, of who lends it; no feed passed it yet.
+    /// The frame that one lends now: the one that was made last, until its feed goes on or [`Mender::make`] is called again.
     pub fn frame<'g>(
         &'g self,
         feeds: &'g [EventFeed<MarkedGroup<'p>>],

@@ -1,8 +1,9 @@
 use Rattle.std.proofs.Common.{◌∙◌, ◌≡◌, true, false, ap, sym}
 use Rattle.terms.proofs.OptionLemmas.{some_injective}
 use Rattle.open_group.specs.FrameBytes.{is_frame}
+use Rattle.feed_events.specs.StandsFor.{head_of}
 use Rattle.feed_picks.proofs.RowLemmas.{got}
-use Rattle.mended_frames.specs.StandsFor.{Feed, pooled_of}
+use Rattle.mended_frames.specs.StandsFor.{Feed, is_at, pooled_of}
 use Rattle.mended_frames.proofs.ChooseLemmas.{left_more, chosen, none_left, tells_by}
 use Rattle.mended_frames.proofs.groups.whole_feed.Goals as goal
 
@@ -24,6 +25,13 @@ returns-then-is_whole-clause-frame c = λ f at.
     let e = got c.args.feeds.now c.loop-i.i g c.loop-i-test.true c.index-feeds-i.is in
     let same : f ≡ g = some_injective f g (sym at ∙ e) in
     ap (λ (x : Feed). is_frame (pooled_of x)) same ∙ c.is_whole.ensures.frame c.if-is_whole.true
+
+pub returns-then-is_whole-clause-next : goal.returns-then-is_whole-clause-next
+returns-then-is_whole-clause-next c = λ f at.
+    let g : Feed = c.index-feeds-i.result in
+    let e = got c.args.feeds.now c.loop-i.i g c.loop-i-test.true c.index-feeds-i.is in
+    let same : f ≡ g = some_injective f g (sym at ∙ e) in
+    ap (λ (x : Feed). is_at c.args.number (head_of x)) same ∙ c.is_whole.ensures.there c.if-is_whole.true
 
 pub loop-i-preserved : goal.loop-i-preserved
 loop-i-preserved c = λ gs before have past above.
