@@ -31,6 +31,7 @@ fn lesser(one: Option<u64>, other: Option<u64>) -> Option<u64>
 /// The first of several feeds of which it is not known what is next.
 pub fn waiting<G: OpenGroup + Drop>(feeds: &[EventFeed<G>]) -> Option<usize>
     ensures some { IfSome result (λ i. (i < length feeds.now) × (head_at feeds.now i ≡ head.Unknown)) }
+    ensures first { IfSome result (λ i. (j : ℕ) → j < i → is_known (head_at feeds.now j) ≡ true) }
     ensures none { IfNone result ((i : ℕ) → is_known (head_at feeds.now i) ≡ true) }
 {
     for i in 0..feeds.len() {
