@@ -19,7 +19,7 @@ order      a superframe twice, two superframes exchanged, a stream that begins a
            instant.
 gateways   two gateways of one CONFIG are feeds of one stream; if their inputs differ, no frame is made of both.
 silence    idle units: they change nothing if another feed is whole; within a frame of the only feed they end it.
-words      one to eight feeds, of which OUT is none; no frame at all.
+words      one to eight feeds, of which OUT is none, however few bytes move; no frame at all.
 """
 
 import random
@@ -279,6 +279,15 @@ def words(rows, starts):
     rows.file("s", [span(0, starts[4])])
     for feeds in ("s", "s s s s s s s s"):
         rows.run(f"mend c o {feeds}")
+    for size in (1_048_576, 1):
+        rows.begin_tiny(f"two feeds that lost a unit each, {size} bytes at a time", f"cap {size}")
+        rows.file("a", [span(0, starts[1] + 3), span(starts[1] + 4, starts[4])])
+        rows.file("b", [span(0, starts[2] + 3), span(starts[2] + 4, starts[4])])
+        rows.file("s", [span(0, starts[4])])
+        rows.run("mend c p s")
+        rows.run("mend c o a b")
+        rows.line("same o p")
+        rows.law(rows.bytes("o") == rows.bytes("p"))
     rows.begin_tiny("no feed, and nine")
     for feeds in ("", " s s s s s s s s s"):
         rows.law(rows.run(f"mend c o{feeds}") == "refused: usage")

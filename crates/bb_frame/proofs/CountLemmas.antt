@@ -18,7 +18,7 @@ length-frame h body size fits =
     ∙ ap (λ (v : ℕ). 80 + length body + v) (length-replicate (size - 80 - length body) false)
     ∙ sum
 
-length-added : (i : ℕ) (bits : List Bool) → length (added i bits) ≡ length bits
+pub length-added : (i : ℕ) (bits : List Bool) → length (added i bits) ≡ length bits
 length-added i [] = refl
 length-added i (b ∷ bits) = ap suc (length-added (i + 1) bits)
 

@@ -7,36 +7,36 @@ use Rattle.plp_config.specs.declared.config.Config.{Config}
 use Rattle.plp_config.specs.declared.moment.TheConstants.{MOST_FRAMES}
 use Rattle.frame_groups.specs.Modulated.{FrameRecord, Numbered}
 use Rattle.frame_groups.specs.declared.waiting.Waiting.{Waiting}
-use Rattle.frame_tests.specs.Begun.{packets_at}
+use Rattle.frame_groups.specs.Begun.{packets_at}
 use Rattle.modulator.specs.Laws.{DueFront, DueFollow}
 use Rattle.file_run.specs.Events.{Event, Gave, fed, has_ended, gave}
 use Rattle.file_run.specs.Laws.{EventsTell}
-use Rattle.held_feed.specs.Groups.{AreGroups, groups_of}
-use Rattle.held_feed.specs.StandsFor.{waiting_of}
-use Rattle.held_feed.specs.StandsFor as feed
-use Rattle.held_feed.specs.declared.feed.FrameFeed.{FrameFeed}
+use Rattle.feed_merge.specs.Groups.{AreGroups, groups_of}
+use Rattle.feed_merge.specs.FeedStandsFor.{waiting_of}
+use Rattle.feed_merge.specs.FeedStandsFor as feed
+use Rattle.feed_merge.specs.declared.feed.FrameFeed.{FrameFeed}
 use Rattle.feed_merge.specs.Picking.{is_at}
 use Rattle.feed_merge.specs.Picks.{above_all}
-use Rattle.two_feeds.specs.Both.{AreFedWith}
-use Rattle.two_feeds.specs.Fed.{IsFedWith, IsBehind}
-use Rattle.two_feeds.specs.Reading.{is_idle, least_of}
-use Rattle.two_feeds.specs.Seen.{seen_of}
-use Rattle.two_feeds.specs.Skips.{one_if, Takes, SkipsIf}
-use Rattle.two_feeds.proofs.EventLemmas.{gave_both}
-use Rattle.two_feeds.proofs.FeedLemmas.{took_behind}
-use Rattle.two_feeds.proofs.GroupsLemmas.{behind_busy, behind_absent, nothing_between}
-use Rattle.two_feeds.proofs.LeastLemmas.{least_first, least_second, least_most, least_none, some_taken, are_of, next_taken, none_comes}
-use Rattle.two_feeds.proofs.NumberLemmas.{below_of}
-use Rattle.frame_compare.specs.Comparing.{Answered, answered, record_at, side_of, sides_answer, whole_answer}
-use Rattle.frame_compare.specs.Comparing.{answered_at, answers}
-use Rattle.frame_compare.specs.Laws.{AnswersGrow, frames_by}
-use Rattle.frame_compare.specs.Lines.{known_text, text_of}
-use Rattle.frame_compare.specs.StandsFor.{TallyStandsFor, CarriedStandsFor, NothingBetween, plps_in, frames_in}
-use Rattle.frame_compare.specs.declared.answer.Answer.{Answer}
-use Rattle.frame_compare.specs.declared.answer.Side.{Side}
-use Rattle.frame_compare.specs.declared.comparing.Carried.{Carried}
-use Rattle.frame_compare.specs.declared.counts.Counts.{Counts}
-use Rattle.frame_compare.specs.declared.tally.Tally.{Tally}
+use Rattle.feed_merge.specs.Both.{AreFedWith}
+use Rattle.feed_merge.specs.Fed.{IsFedWith, IsBehind}
+use Rattle.feed_merge.specs.Reading.{is_idle, least_of}
+use Rattle.feed_merge.specs.Seen.{seen_of}
+use Rattle.feed_merge.specs.Skips.{one_if, Takes, SkipsIf}
+use Rattle.feed_merge.proofs.EventLemmas.{gave_both}
+use Rattle.feed_merge.proofs.BothFeedLemmas.{took_behind}
+use Rattle.feed_merge.proofs.BothGroupsLemmas.{behind_busy, behind_absent, nothing_between}
+use Rattle.feed_merge.proofs.LeastLemmas.{least_first, least_second, least_most, least_none, some_taken, are_of, next_taken, none_comes}
+use Rattle.feed_merge.proofs.NumberLemmas.{below_of}
+use Rattle.compare_run.specs.Comparing.{Answered, answered, record_at, side_of, sides_answer, whole_answer}
+use Rattle.compare_run.specs.Comparing.{answered_at, answers}
+use Rattle.compare_run.specs.AnswerLaws.{AnswersGrow, frames_by}
+use Rattle.compare_run.specs.Lines.{known_text, text_of}
+use Rattle.compare_run.specs.TallyStandsFor.{TallyStandsFor, CarriedStandsFor, NothingBetween, plps_in, frames_in}
+use Rattle.compare_run.specs.declared.answer.Answer.{Answer}
+use Rattle.compare_run.specs.declared.answer.Side.{Side}
+use Rattle.compare_run.specs.declared.answering.Carried.{Carried}
+use Rattle.compare_run.specs.declared.counts.Counts.{Counts}
+use Rattle.compare_run.specs.declared.tally.Tally.{Tally}
 use Rattle.compare_run.specs.Shown.{Shown, IsTold, text_in}
 use Rattle.compare_run.specs.Steps.{left_of}
 use Rattle.compare_run.specs.Taking.{side_at, IsOfFeed}

@@ -5,15 +5,15 @@ use Rattle.terms.proofs.OptionLemmas.{some_injective, none_some}
 use Rattle.plp_config.specs.declared.config.Config.{Config}
 use Rattle.frame_groups.specs.Modulated.{FrameRecord}
 use Rattle.modulator.specs.StandsFor.{records_of}
-use Rattle.two_feeds.specs.Fed.{AreEarly}
-use Rattle.two_feeds.proofs.FilesLemmas.{two}
-use Rattle.frame_compare.specs.Runs.{counts_of, first_differing}
-use Rattle.frame_compare.specs.declared.counts.Counts.{Counts}
+use Rattle.feed_merge.specs.Fed.{AreEarly}
+use Rattle.feed_merge.proofs.FilesLemmas.{two}
+use Rattle.compare_run.specs.Runs.{counts_of, first_differing}
+use Rattle.compare_run.specs.declared.counts.Counts.{Counts}
 use Rattle.compare_run.specs.CompareRun.{compared_of, HaveRecords}
 use Rattle.compare_run.specs.Laws.{MustRun, OneRun, RunEnds}
 use Rattle.compare_run.specs.declared.stop.CompareStop.{CompareStop}
 use Rattle.compare_run.specs.declared.stop.CompareStop.TheVariants.{NoSuperframe, TooManyFrames, Differs}
-use Rattle.two_feeds.proofs.EarlyLemmas.{not_late, early_none, early_or_late, some_is}
+use Rattle.feed_merge.proofs.EarlyLemmas.{not_late, early_none, early_or_late, some_is}
 
 none_have : (c : Config) (files : ℕ → List ℕ) → ((input : ℕ) → input < 2 → records_of c (files input) ≡ []) → HaveRecords c files → ⊥
 none_have c files none have = by have.some

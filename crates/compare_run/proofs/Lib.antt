@@ -6,3 +6,13 @@ pub mod SplitLemmas
 pub mod StepLemmas
 pub mod TakeLemmas
 pub mod NoteLemmas
+pub mod BlockLemmas
+pub mod CarriedLemmas
+pub mod GrowLemmas
+pub mod JoinLemmas
+pub mod AnswerLawLemmas
+pub mod LineLemmas
+pub mod PastLemmas
+pub mod RecordLemmas
+pub mod AnswerRunLemmas
+pub mod SameLemmas

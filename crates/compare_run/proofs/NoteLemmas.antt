@@ -6,16 +6,16 @@ use Rattle.plp_config.specs.declared.config.Config.{Config}
 use Rattle.linked_pool.specs.Pool.{State}
 use Rattle.frame_groups.specs.Modulated.{FrameRecord, Numbered}
 use Rattle.frame_groups.specs.declared.waiting.Waiting.{Waiting}
-use Rattle.frame_tests.specs.Begun.{packets_at}
+use Rattle.frame_groups.specs.Begun.{packets_at}
 use Rattle.open_group.specs.Shown.{AreBlocks, Shows}
-use Rattle.held_feed.specs.Frames.{dynamic_of, lists_of}
-use Rattle.held_feed.specs.Groups.{AreGroups, HasRoom, CarriesRoom}
-use Rattle.held_feed.specs.StandsFor.{FrameFeedStandsFor, config_of, waiting_of}
-use Rattle.held_feed.specs.declared.feed.FrameFeed.{FrameFeed}
+use Rattle.feed_merge.specs.Frames.{dynamic_of, lists_of}
+use Rattle.feed_merge.specs.Groups.{AreGroups, HasRoom, CarriesRoom}
+use Rattle.feed_merge.specs.FeedStandsFor.{FrameFeedStandsFor, config_of, waiting_of}
+use Rattle.feed_merge.specs.declared.feed.FrameFeed.{FrameFeed}
 use Rattle.feed_merge.specs.Picking.{is_at}
-use Rattle.two_feeds.specs.Seen.{seen_of}
-use Rattle.frame_compare.specs.Comparing.{dynamic_at}
-use Rattle.frame_compare.specs.StandsFor.{lists_in, Brings}
+use Rattle.feed_merge.specs.Seen.{seen_of}
+use Rattle.compare_run.specs.Comparing.{dynamic_at}
+use Rattle.compare_run.specs.TallyStandsFor.{lists_in, Brings}
 use Rattle.compare_run.specs.Taking.{IsOfFeed}
 use Rattle.compare_run.proofs.TakeLemmas.{WaitsWhole}
 

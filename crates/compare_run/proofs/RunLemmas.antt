@@ -3,16 +3,16 @@ use Rattle.std.proofs.Common.{◌≡◌, ℕ, ◌+◌, ◌-◌, ◌<◌, ◌≤�
 use Rattle.std.proofs.Common.{length, Option, Some, None, refl, ap, ap₂, sym, subst, ◌∙◌, inl, inr, arith, append_assoc, append-nil}
 use Rattle.std.specs.Prelude.{Err, slice_index}
 use Rattle.terms.proofs.CaseLemmas.{bool_cases}
-use Rattle.desk_io.specs.Reading.{longest_file}
+use Rattle.file_run.specs.Reading.{longest_file}
 use Rattle.plp_config.specs.declared.config.Config.{Config}
 use Rattle.plp_config.specs.declared.moment.TheConstants.{MOST_FRAMES}
 use Rattle.frame_groups.specs.Laws.{IsPrefix}
 use Rattle.frame_groups.specs.Modulated.{FrameRecord, Numbered}
 use Rattle.modulator.specs.Laws.{DueFront, DueFollow}
 use Rattle.modulator.specs.StandsFor.{records_of}
-use Rattle.held_feed.specs.StandsFor.{waiting_of}
-use Rattle.held_feed.specs.Groups.{AreGroups, groups_of}
-use Rattle.held_feed.specs.StandsFor as feed
+use Rattle.feed_merge.specs.FeedStandsFor.{waiting_of}
+use Rattle.feed_merge.specs.Groups.{AreGroups, groups_of}
+use Rattle.feed_merge.specs.FeedStandsFor as feed
 use Rattle.file_run.specs.Events.{Event, fed, gave}
 use Rattle.file_run.specs.FileRun.{AreFed, IsFed}
 use Rattle.file_run.specs.Steps.{Needs, FallsShort}
@@ -21,20 +21,20 @@ use Rattle.file_run.specs.declared.machine.Step.TheVariants.{End}
 use Rattle.file_run.specs.declared.stop.RunFault.TheVariants.{TooLong, ReadFault}
 use Rattle.file_run.specs.declared.stop.RunStop.TheVariants.{Files}
 use Rattle.file_run.proofs.StandsLemmas.{fed_since}
-use Rattle.two_feeds.specs.Both.{IsDueBelow}
-use Rattle.two_feeds.specs.Fed.{AreEarly, end_by, ReadsAhead, IsBehind}
-use Rattle.two_feeds.proofs.BothLemmas.{above_a, above_b, none_given, split_a, split_b, ends_before, reads_ahead, all_a, all_b, whole_all}
-use Rattle.two_feeds.proofs.BothLemmas.{early_all, none_all, some_all, due_below, ends_next, late_a, late_b, late_is}
-use Rattle.two_feeds.proofs.StepLemmas.{Wants, IsLate, is_late, needs_by, short_by}
-use Rattle.two_feeds.proofs.WantLemmas.{fed_count}
-use Rattle.frame_compare.specs.Comparing.{Answered, answers, answers_below}
-use Rattle.frame_compare.specs.Laws.{KnownBegins, frames_by}
-use Rattle.frame_compare.specs.Lines.{known_text, text_of}
-use Rattle.frame_compare.specs.Runs.{counts_of}
-use Rattle.frame_compare.specs.StandsFor.{counts_in}
-use Rattle.frame_compare.specs.declared.counts.Counts.{Counts}
-use Rattle.frame_compare.proofs.GrowLemmas.{answers_nothing}
-use Rattle.frame_compare.proofs.LineLemmas.{nothing_told, known_front}
+use Rattle.feed_merge.specs.Both.{IsDueBelow}
+use Rattle.feed_merge.specs.Fed.{AreEarly, end_by, ReadsAhead, IsBehind}
+use Rattle.feed_merge.proofs.BothLemmas.{above_a, above_b, none_given, split_a, split_b, ends_before, reads_ahead, all_a, all_b, whole_all}
+use Rattle.feed_merge.proofs.BothLemmas.{early_all, none_all, some_all, due_below, ends_next, late_a, late_b, late_is}
+use Rattle.feed_merge.proofs.StepLemmas.{Wants, IsLate, is_late, needs_by, short_by}
+use Rattle.feed_merge.proofs.WantLemmas.{fed_count}
+use Rattle.compare_run.specs.Comparing.{Answered, answers, answers_below}
+use Rattle.compare_run.specs.AnswerLaws.{KnownBegins, frames_by}
+use Rattle.compare_run.specs.Lines.{known_text, text_of}
+use Rattle.compare_run.specs.Runs.{counts_of}
+use Rattle.compare_run.specs.TallyStandsFor.{counts_in}
+use Rattle.compare_run.specs.declared.counts.Counts.{Counts}
+use Rattle.compare_run.proofs.GrowLemmas.{answers_nothing}
+use Rattle.compare_run.proofs.LineLemmas.{nothing_told, known_front}
 use Rattle.compare_run.specs.AsMachine.{Becomes, ending_by, ending_in, ending_of}
 use Rattle.compare_run.specs.CompareRun.{compared_below, compared_of, HaveRecords, AreAlike, AreOther, HasNone}
 use Rattle.compare_run.specs.CompareRun.{IsKnownBelow, HasLate, HasSaid, MaySay, HasSome}

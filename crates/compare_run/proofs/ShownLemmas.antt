@@ -5,8 +5,8 @@ use Rattle.std.proofs.lemmas.Bool.{true≢false}
 use Rattle.plp_config.specs.declared.config.Config.{Config}
 use Rattle.file_run.specs.Events.{Event}
 use Rattle.file_run.specs.Steps.{HasCome}
-use Rattle.held_feed.specs.declared.feed.FrameFeed.{FrameFeed}
-use Rattle.two_feeds.specs.Both.{GoOn}
+use Rattle.feed_merge.specs.declared.feed.FrameFeed.{FrameFeed}
+use Rattle.feed_merge.specs.Both.{GoOn}
 use Rattle.compare_run.specs.AsMachine.{Becomes}
 use Rattle.compare_run.specs.Shown.{Shown, HasShown}
 use Rattle.compare_run.specs.declared.machine.CompareMachine.{CompareMachine}

@@ -8,10 +8,10 @@ use Rattle.plp_config.specs.declared.config.Config.{Config}
 use Rattle.frame_groups.specs.Laws.{IsPrefix}
 use Rattle.frame_groups.specs.Modulated.{FrameRecord, Numbered}
 use Rattle.feed_merge.specs.Picks.{above_all}
-use Rattle.two_feeds.proofs.NumberLemmas.{AllFrom, below_of}
-use Rattle.frame_compare.specs.Comparing.{record_at, answers_below, answers}
-use Rattle.frame_compare.specs.Laws.{frames_by}
-use Rattle.frame_compare.proofs.GrowLemmas.{at_front, listed, listed_same, all_below}
+use Rattle.feed_merge.proofs.NumberLemmas.{AllFrom, below_of}
+use Rattle.compare_run.specs.Comparing.{record_at, answers_below, answers}
+use Rattle.compare_run.specs.AnswerLaws.{frames_by}
+use Rattle.compare_run.proofs.GrowLemmas.{at_front, listed, listed_same, all_below}
 
 none_above : (n m : ℕ) (records : List FrameRecord) → AllFrom n records → m < n → record_at m records ≡ None
 none_above n m [] h l = refl

@@ -7,12 +7,12 @@ use Rattle.frame_groups.specs.Modulated.Content.{Whole as WholeContent, Muted as
 use Rattle.frame_groups.specs.declared.cause.MuteCause.{MuteCause}
 use Rattle.frame_groups.specs.declared.waiting.Waiting.{Waiting}
 use Rattle.modulator.specs.StandsFor.{mute_of}
-use Rattle.held_feed.specs.StandsFor.{is_whole}
+use Rattle.feed_merge.specs.FeedStandsFor.{is_whole}
 use Rattle.feed_merge.specs.Picking.{is_at}
-use Rattle.two_feeds.specs.Seen.{seen_of}
-use Rattle.two_feeds.specs.Skips.{AreTaken}
-use Rattle.frame_compare.specs.Comparing.{content_side, side_of, record_at}
-use Rattle.frame_compare.specs.declared.answer.Side.TheVariants.{Absent, Muted, Whole}
+use Rattle.feed_merge.specs.Seen.{seen_of}
+use Rattle.feed_merge.specs.Skips.{AreTaken}
+use Rattle.compare_run.specs.Comparing.{content_side, side_of, record_at}
+use Rattle.compare_run.specs.declared.answer.Side.TheVariants.{Absent, Muted, Whole}
 use Rattle.compare_run.specs.Taking.{side_by, side_at}
 
 -- ---- which side it is

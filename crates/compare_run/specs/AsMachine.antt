@@ -2,8 +2,8 @@
 use Rattle.std.specs.Prelude.{ℕ, ◌==◌, Bool, List, Result, Ok, Err, Option, Some, None}
 use Rattle.std.specs.Prelude.{if◌then◌else◌}
 use Rattle.file_run.specs.Events.{Event}
-use Rattle.frame_compare.specs.StandsFor.{counts_in}
-use Rattle.frame_compare.specs.declared.counts.Counts.{Counts}
+use Rattle.compare_run.specs.TallyStandsFor.{counts_in}
+use Rattle.compare_run.specs.declared.counts.Counts.{Counts}
 use Rattle.compare_run.specs.Shown.{Shown}
 use Rattle.compare_run.specs.declared.machine.CompareMachine.{CompareMachine}
 use Rattle.compare_run.specs.declared.stop.CompareStop.{CompareStop}

@@ -4,16 +4,16 @@ use Rattle.plp_config.specs.declared.config.Config.{Config}
 use Rattle.plp_config.specs.declared.moment.TheConstants.{MOST_FRAMES}
 use Rattle.frame_groups.specs.Laws.{IsPrefix}
 use Rattle.modulator.specs.StandsFor.{records_of}
-use Rattle.desk_io.specs.Reading.{longest_file}
+use Rattle.file_run.specs.Reading.{longest_file}
 use Rattle.file_run.specs.FileRun.{read_ahead}
 use Rattle.file_run.specs.Work.{Work, AreWhole}
 use Rattle.file_run.specs.declared.stop.RunFault.TheVariants.{TooLong, ReadFault, WriteFault}
 use Rattle.file_run.specs.declared.stop.RunStop.TheVariants.{Refused, Files, OutOfMemory}
-use Rattle.two_feeds.specs.Fed.{AreEarly, end_by, ReadsAhead}
-use Rattle.frame_compare.specs.Comparing.{Answered, answers, answers_below, frames_of}
-use Rattle.frame_compare.specs.Lines.{known_text, text_of}
-use Rattle.frame_compare.specs.Runs.{counts_of, first_differing}
-use Rattle.frame_compare.specs.declared.counts.Counts.{Counts}
+use Rattle.feed_merge.specs.Fed.{AreEarly, end_by, ReadsAhead}
+use Rattle.compare_run.specs.Comparing.{Answered, answers, answers_below, frames_of}
+use Rattle.compare_run.specs.Lines.{known_text, text_of}
+use Rattle.compare_run.specs.Runs.{counts_of, first_differing}
+use Rattle.compare_run.specs.declared.counts.Counts.{Counts}
 use Rattle.compare_run.specs.declared.stop.CompareStop.{CompareStop}
 use Rattle.compare_run.specs.declared.stop.CompareStop.TheVariants.{NoSuperframe, TooManyFrames, Differs}
 

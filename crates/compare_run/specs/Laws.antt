@@ -2,9 +2,9 @@
 use Rattle.std.specs.Prelude.{◌≡◌, ◌⊎◌, ◌<◌, ℕ, List, [], Result, Ok, Err, Some, None}
 use Rattle.plp_config.specs.declared.config.Config.{Config}
 use Rattle.modulator.specs.StandsFor.{records_of}
-use Rattle.two_feeds.specs.Fed.{AreEarly}
-use Rattle.frame_compare.specs.Runs.{counts_of, first_differing}
-use Rattle.frame_compare.specs.declared.counts.Counts.{Counts}
+use Rattle.feed_merge.specs.Fed.{AreEarly}
+use Rattle.compare_run.specs.Runs.{counts_of, first_differing}
+use Rattle.compare_run.specs.declared.counts.Counts.{Counts}
 use Rattle.compare_run.specs.CompareRun.{compared_of, HaveRecords}
 use Rattle.compare_run.specs.declared.stop.CompareStop.{CompareStop}
 use Rattle.compare_run.specs.declared.stop.CompareStop.TheVariants.{NoSuperframe, TooManyFrames, Differs}

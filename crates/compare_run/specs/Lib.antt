@@ -1,5 +1,10 @@
 pub mod CompareRun
 pub mod Laws
+pub mod Comparing
+pub mod Runs
+pub mod Lines
+pub mod TallyStandsFor
+pub mod AnswerLaws
 -- inner: no public clause cites these
 pub mod AsMachine
 pub mod Shown

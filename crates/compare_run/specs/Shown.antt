@@ -3,13 +3,13 @@ use Rattle.std.specs.Prelude.{◌≡◌, ℕ, ◌≤◌, Bool, true, false, List
 use Rattle.plp_config.specs.declared.config.Config.{Config}
 use Rattle.frame_groups.specs.Modulated.{FrameRecord, Numbered}
 use Rattle.file_run.specs.Events.{Event, fed, has_ended, gave}
-use Rattle.held_feed.specs.Groups.{AreGroups}
-use Rattle.two_feeds.specs.Both.{AreFedWith}
-use Rattle.two_feeds.specs.Fed.{NoneComes}
-use Rattle.frame_compare.specs.Comparing.{Answered, answers}
-use Rattle.frame_compare.specs.Lines.{known_text, text_of}
-use Rattle.frame_compare.specs.Laws.{frames_by}
-use Rattle.frame_compare.specs.StandsFor.{TallyStandsFor, CarriedStandsFor, plps_in}
+use Rattle.feed_merge.specs.Groups.{AreGroups}
+use Rattle.feed_merge.specs.Both.{AreFedWith}
+use Rattle.feed_merge.specs.Fed.{NoneComes}
+use Rattle.compare_run.specs.Comparing.{Answered, answers}
+use Rattle.compare_run.specs.Lines.{known_text, text_of}
+use Rattle.compare_run.specs.AnswerLaws.{frames_by}
+use Rattle.compare_run.specs.TallyStandsFor.{TallyStandsFor, CarriedStandsFor, plps_in}
 use Rattle.compare_run.specs.declared.machine.CompareMachine.{CompareMachine}
 
 -- the text of some frames: what is known by them, or all

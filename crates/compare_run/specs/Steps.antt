@@ -2,8 +2,8 @@
 use Rattle.std.specs.Prelude.{ℕ, ◌+◌, if◌then◌else◌}
 use Rattle.file_run.specs.declared.machine.Step.{Step}
 use Rattle.file_run.specs.declared.machine.Step.TheVariants.{End}
-use Rattle.held_feed.specs.StandsFor as feed
-use Rattle.two_feeds.specs.Reading.{reach_by, step_for}
+use Rattle.feed_merge.specs.FeedStandsFor as feed
+use Rattle.feed_merge.specs.Reading.{reach_by, step_for}
 use Rattle.compare_run.specs.declared.machine.CompareMachine.{CompareMachine}
 
 abbrev pub step_of : CompareMachine → Step

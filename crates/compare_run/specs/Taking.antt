@@ -2,11 +2,11 @@
 use Rattle.std.specs.Prelude.{ℕ, ◌==◌, is_some, Bool, List, Option, Some, None, if◌then◌else◌}
 use Rattle.frame_groups.specs.Modulated.{FrameRecord, Numbered}
 use Rattle.frame_groups.specs.declared.waiting.Waiting.{Waiting}
-use Rattle.held_feed.specs.Groups.{AreGroups}
-use Rattle.held_feed.specs.StandsFor.{FrameFeedStandsFor, config_of}
-use Rattle.held_feed.specs.declared.feed.FrameFeed.{FrameFeed}
-use Rattle.frame_compare.specs.declared.answer.Side.{Side}
-use Rattle.frame_compare.specs.declared.answer.Side.TheVariants.{Absent, Muted, Whole}
+use Rattle.feed_merge.specs.Groups.{AreGroups}
+use Rattle.feed_merge.specs.FeedStandsFor.{FrameFeedStandsFor, config_of}
+use Rattle.feed_merge.specs.declared.feed.FrameFeed.{FrameFeed}
+use Rattle.compare_run.specs.declared.answer.Side.{Side}
+use Rattle.compare_run.specs.declared.answer.Side.TheVariants.{Absent, Muted, Whole}
 
 -- by whether it is muted
 abbrev pub side_by : Bool → Side

@@ -5,19 +5,18 @@ ghost use Rattle.plp_config.specs.declared.moment.TheConstants.{MOST_FRAMES};
 ghost use Rattle.file_run.specs.Events.{Event, Gave};
 ghost use Rattle.file_run.specs.declared.machine.TheConstants.{PIECE};
 ghost use Rattle.file_run.specs.declared.machine.Step.TheVariants.{Give};
-ghost use Rattle.held_feed.specs.StandsFor.{waiting_of, has_ended, fed_of};
-ghost use Rattle.frame_compare.specs.declared.tally.TheConstants.{LONGEST_TEXT};
-ghost use Rattle.two_feeds.specs.Reading.{is_idle as is_idle_by, least_of};
+ghost use Rattle.feed_merge.specs.FeedStandsFor.{waiting_of, has_ended, fed_of};
+ghost use Rattle.compare_run.specs.declared.tally.TheConstants.{LONGEST_TEXT};
+ghost use Rattle.feed_merge.specs.Reading.{is_idle as is_idle_by, least_of};
 ghost use Rattle.compare_run.specs.Shown.{Shown, HasShown};
 ghost use Rattle.compare_run.specs.Steps.{step_of, left_of};
 
+use crate::answer_laws::answers_law;
 use crate::machine::CompareMachine;
 use crate::taking::{answer_at, is_at, note};
-use desk_io::Line;
-use file_run::events_law;
-use frame_compare::answers_law;
+use feed_merge::{least_number, skip_if};
+use file_run::{Line, events_law};
 use modulator::due_records_law;
-use two_feeds::{least_number, skip_if};
 
 /// Copies a line to the front of these bytes: how many it has.
 pub fn copy_line(line: &Line, out: &mut [u8]) -> usize

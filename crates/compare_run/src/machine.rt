@@ -1,13 +1,14 @@
 // Two feeds that are compared, as a machine over files.
+use crate::answering::Carried;
 use crate::comparing::copy_line;
+use crate::counts::Counts;
 use crate::stop::CompareStop;
+use crate::tally::Tally;
 use bit_slice::OutOfMemory;
+use feed_merge::{FrameFeed, end_one, feed_one, next_step};
 use file_run::{Ending, Machine, Step};
-use frame_compare::{Carried, Counts, Tally};
-use held_feed::FrameFeed;
 use plp_config::Plan;
 use std::alloc::Global;
-use two_feeds::{end_one, feed_one, next_step};
 
 /// Two feeds of a network that are fed with the bytes of two inputs, and the lines of their frames.
 #[derive(Drop)]

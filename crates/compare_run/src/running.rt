@@ -3,10 +3,11 @@ ghost use Rattle.std.specs.Prelude.{[], ◌∷◌};
 ghost use Rattle.file_run.specs.Work.{Ends, Aloud};
 ghost use Rattle.compare_run.specs.CompareRun.{compare_work};
 
+use crate::answer_laws::known_law;
+use crate::counts::Counts;
 use crate::machine::CompareMachine;
 use crate::stop::CompareStop;
 use file_run::{Output, RunStop, run_over_two};
-use frame_compare::{Counts, known_law};
 use modulator::due_records_law;
 use plp_config::Plan;
 use ports::Desk;

@@ -2,19 +2,20 @@
 ghost use Rattle.std.specs.Prelude.{◌≡◌, ◌≤◌, ◌+◌, ◌↔◌, IsTrue, List, [], Some, None, IfSome, length, true, false};
 ghost use Rattle.std.specs.Option.{option_copied};
 ghost use Rattle.frame_groups.specs.Modulated.{Numbered};
-ghost use Rattle.frame_tests.specs.Begun.{packets_at};
-ghost use Rattle.held_feed.specs.StandsFor.{config_of, waiting_of};
+ghost use Rattle.frame_groups.specs.Begun.{packets_at};
+ghost use Rattle.feed_merge.specs.FeedStandsFor.{config_of, waiting_of};
 ghost use Rattle.feed_merge.specs.Picking.{is_at as is_at_by};
-ghost use Rattle.two_feeds.specs.Reading.{least_of};
-ghost use Rattle.two_feeds.specs.Seen.{seen_of};
-ghost use Rattle.frame_compare.specs.Comparing.{place_of, sides_answer, whole_answer};
-ghost use Rattle.frame_compare.specs.StandsFor.{lists_in, Brings, NothingBetween, CarriedStandsFor, plps_in};
-ghost use Rattle.frame_compare.specs.declared.answer.Side.TheVariants.{Whole};
+ghost use Rattle.feed_merge.specs.Reading.{least_of};
+ghost use Rattle.feed_merge.specs.Seen.{seen_of};
+ghost use Rattle.compare_run.specs.Comparing.{place_of, sides_answer, whole_answer};
+ghost use Rattle.compare_run.specs.TallyStandsFor.{lists_in, Brings, NothingBetween, CarriedStandsFor, plps_in};
+ghost use Rattle.compare_run.specs.declared.answer.Side.TheVariants.{Whole};
 ghost use Rattle.compare_run.specs.Taking.{side_at as side_at_by, IsOfFeed};
 
-use frame_compare::{Answer, Carried, Place, Side, answer_by};
+use crate::answer::{Answer, Place, Side};
+use crate::answering::{Carried, answer_by};
+use feed_merge::FrameFeed;
 use frame_groups::Waiting;
-use held_feed::FrameFeed;
 use linked_pool::Pool;
 use plp_config::Plan;
 

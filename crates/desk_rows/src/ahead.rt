@@ -1,10 +1,10 @@
 // The file "hello" as it is read ahead, and a file that is written, however few bytes a call moves.
 ghost use Rattle.std.specs.Prelude.{◌<◌, ◌≤◌, ◌≡◌, false, length, not, IfOk, IfSome};
 ghost use Rattle.ports.specs.Desk.{has_run_out};
-ghost use Rattle.desk_io.specs.Reading.{given_of, longest_file};
+ghost use Rattle.file_run.specs.Reading.{given_of, longest_file};
 
 use crate::failed;
-use desk_io::{MOST_WANTED, ReadAhead, write_all};
+use file_run::{MOST_WANTED, ReadAhead, write_all};
 use ports::{Desk, MemoryDesk};
 use std::alloc::Global;
 use std::io::{self, Print};

@@ -4,8 +4,7 @@ ghost use Rattle.file_run.specs.FileRun.{AreApart};
 
 use crate::copy_machine::CopyMachine;
 use crate::failed;
-use desk_io::ReadAhead;
-use file_run::{OutBuffer, Output, RunFault, run, tell};
+use file_run::{OutBuffer, Output, ReadAhead, RunFault, run, tell};
 use ports::{Desk, MemoryDesk, Word};
 use std::alloc::Global;
 use std::io::{self, Print};

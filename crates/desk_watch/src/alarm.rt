@@ -3,6 +3,12 @@ use crate::counts::{OutCounts, RunCounts};
 use crate::records::RecordCounts;
 use std::io::{self, Eprint};
 
+// How many feeds are looked at, at most.
+const MOST_FEEDS: usize = 8;
+
+// How it is told that a feed gives nothing that fits CONFIG.
+const NOTHING_FITS: &str = "nothing that fits CONFIG came: ";
+
 /// What is worth a line at once.
 #[derive(Clone, Copy, PartialEq, Eq)]
 pub struct Alarm {
@@ -12,6 +18,21 @@ pub struct Alarm {
     pub is_muted: bool,
     /// How many units were lost or passed over, as far as they tell it.
     pub damaged: u64,
+    /// Which feeds are silent, and which gave much and nothing that fits CONFIG.
+    pub silent: Feeds,
+    pub foreign: Feeds,
+}
+
+/// Some of the inputs of a run, by their places.
+#[derive(Clone, Copy, PartialEq, Eq)]
+pub struct Feeds([bool; MOST_FEEDS]);
+
+impl Feeds {
+    const NONE: Feeds = Feeds([false; MOST_FEEDS]);
+
+    fn has(&self, place: usize) -> bool {
+        self.0.get(place).copied().unwrap_or(false)
+    }
 }
 
 impl Alarm {
@@ -21,6 +42,8 @@ impl Alarm {
             muted: 0,
             is_muted: false,
             damaged: 0,
+            silent: Feeds::NONE,
+            foreign: Feeds::NONE,
         }
     }
 }
@@ -42,6 +65,24 @@ impl RunCounts<'_> {
         }
     }
 
+    // The feeds that are silent.
+    fn silent(&self) -> Feeds {
+        let mut feeds = Feeds::NONE;
+        for (is, input) in feeds.0.iter_mut().zip(self.inputs.as_slice()) {
+            *is = input.is_silent();
+        }
+        feeds
+    }
+
+    // Those that gave much and nothing that fits CONFIG.
+    fn foreign(&self) -> Feeds {
+        let mut feeds = Feeds::NONE;
+        for (is, input) in feeds.0.iter_mut().zip(self.inputs.as_slice()) {
+            *is = input.is_foreign();
+        }
+        feeds
+    }
+
     fn damaged(&self) -> u64 {
         let mut sum: u64 = 0;
         for input in self.inputs.as_slice() {
@@ -57,6 +98,8 @@ impl RunCounts<'_> {
             muted: records.map_or(0, |records| records.muted().count()),
             is_muted: records.map_or(false, |records| records.ends_muted(1)),
             damaged: self.damaged(),
+            silent: self.silent(),
+            foreign: self.foreign(),
         }
     }
 
@@ -81,6 +124,19 @@ impl RunCounts<'_> {
         Ok(())
     }
 
+    // Says which feeds fell silent or come again, and which give nothing that fits CONFIG.
+    fn say_feeds_now(&self, rt: &impl Eprint, before: Alarm, now: Alarm) -> io::Result<()> {
+        for (place, input) in self.inputs.as_slice().iter().enumerate() {
+            if now.silent.has(place) != before.silent.has(place) {
+                input.say_silence(rt)?;
+            }
+            if now.foreign.has(place) && !before.foreign.has(place) {
+                input.say_none(rt, NOTHING_FITS)?;
+            }
+        }
+        Ok(())
+    }
+
     /// Says what is new since this was wrong.
     pub fn say_news(&self, rt: &impl Eprint, before: Alarm) -> io::Result<()> {
         let now = self.alarm();
@@ -89,6 +145,7 @@ impl RunCounts<'_> {
                 input.say_damaged_units(rt)?;
             }
         }
+        self.say_feeds_now(rt, before, now)?;
         self.say_muting(rt, before, now)
     }
 }

@@ -26,6 +26,8 @@ pub enum Kind {
     Receive { plp: Option<usize> },
     /// Units that were passed over in two streams, and from which of them no frame came.
     Two,
+    /// Units that were passed over in each feed, and which of them gave none.
+    Mend,
     /// Units that were passed over, and where the packets for the PLP at a place end.
     Swap { plp: Option<usize> },
 }
@@ -200,6 +202,22 @@ impl<'a> RunCounts<'a> {
         b: &'a str,
     ) -> Result<RunCounts<'a>, OutOfMemory> {
         let mut counts = RunCounts::of_compare(alloc, plan, a, b)?;
+        counts.out = OutCounts::T2mi(T2miCounts::new());
+        Ok(counts)
+    }
+
+    /// Of `mend`.
+    pub fn of_mend(
+        alloc: Global,
+        plan: Option<&'a Plan>,
+        ins: &'a [Word],
+    ) -> Result<RunCounts<'a>, OutOfMemory> {
+        let mut counts = RunCounts::new(alloc, Kind::Mend, plan);
+        for word in ins {
+            counts
+                .inputs
+                .push(Input::of_feed(word.as_str(), pid_of(plan)))?;
+        }
         counts.out = OutCounts::T2mi(T2miCounts::new());
         Ok(counts)
     }

@@ -28,6 +28,14 @@ impl<'a> Input<'a> {
         }
     }
 
+    /// A feed, which may say that it is silent.
+    pub fn of_feed(name: &'a str, pid: Option<u16>) -> Input<'a> {
+        Input {
+            name,
+            counts: InputCounts::Units(UnitCounts::of_feed(pid)),
+        }
+    }
+
     pub fn of_records(name: &'a str, records: RecordCounts<'a>) -> Input<'a> {
         Input {
             name,
@@ -94,6 +102,31 @@ impl<'a> Input<'a> {
             ),
             _ => Ok(()),
         }
+    }
+
+    /// Whether it is a feed that is silent.
+    pub fn is_silent(&self) -> bool {
+        matches!(&self.counts, InputCounts::Units(units) if units.is_silent())
+    }
+
+    /// Says that it is silent, or that it is not any more.
+    pub fn say_silence(&self, rt: &impl Eprint) -> io::Result<()> {
+        let file = Shown(self.name);
+        match &self.counts {
+            InputCounts::Units(units) if units.is_silent() => eprintln!(rt;
+                "{file}: it fell silent"
+            ),
+            InputCounts::Units(units) => eprintln!(rt;
+                "{file}: it comes again; idle units so far: {}",
+                units.idle()
+            ),
+            _ => Ok(()),
+        }
+    }
+
+    /// Whether many units came, and none of them can carry T2-MI.
+    pub fn is_foreign(&self) -> bool {
+        matches!(&self.counts, InputCounts::Units(units) if units.is_foreign())
     }
 
     /// Whether it has no unit that can carry T2-MI.

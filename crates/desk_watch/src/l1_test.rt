@@ -2,7 +2,7 @@
 ghost use Rattle.std.specs.Prelude.{◌≤◌, ◌*◌, length};
 
 use bit_slice::{BitSlice, OutOfMemory};
-use frame_tests::{Network, is_network_conf, is_pre, read_dynamic};
+use frame_groups::{Network, is_network_conf, is_pre, read_dynamic};
 use l1_signal::{L1Dyn, MOST_POST_BYTES, PRE_BYTES, check_post, conf_len, dyn_len, post_len};
 use plp_config::Plan;
 use std::alloc::Global;

@@ -210,6 +210,17 @@ impl RunCounts<'_> {
         self.say_unused(rt)
     }
 
+    // Says which feeds gave nothing, and why.
+    fn say_mend(&self, rt: &impl Eprint) -> io::Result<()> {
+        self.say_inputs(rt)?;
+        for input in self.inputs.as_slice() {
+            if input.has_no_units() {
+                input.say_none(rt, NONE_CAME)?;
+            }
+        }
+        Ok(())
+    }
+
     // Says from which frame on null packets stand for the file of a PLP, if no packet of it was left.
     fn say_region(&self, rt: &impl Eprint, plp: usize) -> io::Result<()> {
         let (Some(plan), Some(input)) = (self.plan, self.input(1)) else {
@@ -247,6 +258,7 @@ impl RunCounts<'_> {
             Kind::Modulate => self.say_modulate(rt),
             Kind::Receive { .. } => self.say_inputs(rt),
             Kind::Two => self.say_two(rt),
+            Kind::Mend => self.say_mend(rt),
             Kind::Swap { plp } => self.say_swap(rt, plp),
         }
     }

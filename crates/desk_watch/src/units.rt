@@ -11,8 +11,16 @@ const MASK: u32 = 0xFF9F_FFD0;
 
 const PLAIN: u32 = 0x4700_0010;
 
+// The same of an idle unit, which has no payload and says that a feed is silent.
+const IDLE_MASK: u32 = 0xFF9F_FFF0;
+
+const IDLE: u32 = 0x4700_0020;
+
 // How many units without a sync byte are looked behind at most.
 const MOST_LOOKS: u64 = 8;
+
+// From so many units on it is told of a feed that none of them can carry T2-MI.
+const MANY: u64 = 10_000;
 
 /// How many came of a kind, and the byte at which the first one begins.
 #[derive(Clone, Copy)]
@@ -54,10 +62,14 @@ pub struct UnitCounts {
     // What the header of a unit on the PID reads under the mask, and the continuity counter that comes next there.
     plain: Option<u32>,
     next: Option<u32>,
+    // How that of an idle unit reads, if these are looked for, and whether the last unit on the PID is idle.
+    idle_plain: Option<u32>,
+    is_silent: bool,
     no_sync: Tally,
     other_pid: Tally,
     // Those on the PID that are marked as wrong or scrambled, or have no payload.
     unread: Tally,
+    idle: Tally,
     jumps: Tally,
     slip: Option<Slip>,
 }
@@ -89,11 +101,22 @@ impl UnitCounts {
             header: 0,
             plain: pid.map(|pid| PLAIN | u32::from(pid) << 8),
             next: None,
+            idle_plain: None,
+            is_silent: false,
             no_sync: Tally::new(),
             other_pid: Tally::new(),
             unread: Tally::new(),
+            idle: Tally::new(),
             jumps: Tally::new(),
             slip: None,
+        }
+    }
+
+    /// Nothing came of a feed that may say that it is silent.
+    pub fn of_feed(pid: Option<u16>) -> UnitCounts {
+        UnitCounts {
+            idle_plain: pid.map(|pid| IDLE | u32::from(pid) << 8),
+            ..UnitCounts::new(pid)
         }
     }
 
@@ -101,6 +124,10 @@ impl UnitCounts {
     fn note(&mut self, header: u32) {
         if Some(header & MASK) == self.plain {
             self.note_counter(header & 15);
+            self.is_silent = false;
+        } else if Some(header & IDLE_MASK) == self.idle_plain {
+            self.idle.note(self.place);
+            self.is_silent = true;
         } else {
             self.note_passed_over(header);
         }
@@ -192,14 +219,37 @@ impl UnitCounts {
         self.pid.is_some()
     }
 
+    // How many of these carry no T2-MI.
+    fn without_t2mi(&self) -> u64 {
+        self.unread.count.saturating_add(self.idle.count)
+    }
+
     /// Whether none of them can carry T2-MI, by their first bytes.
     pub fn has_none(&self) -> bool {
-        self.unread.count >= self.on_pid()
+        self.without_t2mi() >= self.on_pid()
+    }
+
+    /// Whether many came of a feed, and none of them can.
+    pub fn is_foreign(&self) -> bool {
+        self.idle_plain.is_some() && self.has_none() && self.units() >= MANY
+    }
+
+    /// Whether the last one on the PID says that the feed is silent.
+    pub fn is_silent(&self) -> bool {
+        self.is_silent
+    }
+
+    /// How many say so.
+    pub fn idle(&self) -> u64 {
+        self.idle.count
     }
 
     /// Whether all came whole, on the PID none was passed over, and no counter jumps. A stream may have other PIDs besides.
     pub fn is_clean(&self) -> bool {
-        self.came == 0 && self.no_sync.count == 0 && self.unread.count == 0 && self.jumps.count == 0
+        self.came == 0
+            && self.no_sync.count == 0
+            && self.without_t2mi() == 0
+            && self.jumps.count == 0
     }
 
     /// How many of those that can be T2-MI were passed over, and jumps of the counter.
@@ -218,7 +268,7 @@ impl UnitCounts {
             "CONFIG is not read twice, so it is not known which units are on its PID; `show t2mi` tells which PIDs come"
         } else if self.on_pid() == 0 {
             "none of its units is on the PID of CONFIG; `show t2mi` tells which PIDs come"
-        } else if self.unread.count == self.on_pid() {
+        } else if self.without_t2mi() == self.on_pid() {
             "all units on the PID are marked as wrong or scrambled, or have no payload"
         } else {
             "units come on the PID: their L1 or timestamps are not those of CONFIG, or no first frame of a superframe came whole"
@@ -260,6 +310,7 @@ impl Display for UnitCounts {
         }
         write_tally(f, "of other PIDs", self.other_pid)?;
         write_tally(f, "marked as wrong or scrambled, or empty", self.unread)?;
+        write_tally(f, "idle", self.idle)?;
         write_tally(f, "jumps of the continuity counter", self.jumps)
     }
 }

@@ -1,19 +1,13 @@
 -- What arrives, unit by unit.
 use Rattle.std.proofs.Common.{◌≡◌, ℕ, suc, ◌+◌, ◌-◌, ◌*◌, ◌/◌, ◌%◌, ◌<◌, ◌≤◌, List, [], ◌++◌, ap, ap₂, sym, ◌∙◌, arith, length, take, drop}
-use Rattle.std.proofs.Common.{append_assoc, length-append, length-drop}
+use Rattle.std.proofs.Common.{append_assoc, length-append}
 use Rattle.std.specs.Prelude.{map}
 use Rattle.std.proofs.lemmas.List.{take-append-le, drop-append-le, take_all, drop_all}
 use Rattle.t2mi_stream.specs.Accepted.{AcceptedPacket}
 use Rattle.t2mi_stream.specs.Units.{unit_at, accepted_of}
+use Rattle.t2mi_stream.proofs.UnitLemmas.{unit_on}
 use Rattle.feed_events.specs.Arrivals.{Arrival, came_of, idle_if, is_idle, arrivals_with, arrivals_from}
 use Rattle.feed_events.specs.StandsFor.{arrivals_behind}
-
--- what follows whole units leaves them as they are
-unit_on : (bytes more : List ℕ) (n : ℕ) → 188 * (n + 1) ≤ length bytes → unit_at (bytes ++ more) n ≡ unit_at bytes n
-unit_on bytes more n h =
-    let a : 188 * n ≤ length bytes = omega arith in
-    let b : 188 ≤ length (drop (188 * n) bytes) = rw length-drop (omega arith) in
-    ap (take 188) (drop-append-le (188 * n) bytes more a) ∙ take-append-le 188 (drop (188 * n) bytes) more b
 
 with_on : (pid : ℕ) (bytes more : List ℕ) (n : ℕ) → 188 * (n + 1) ≤ length bytes
     → arrivals_with pid (bytes ++ more) n ≡ arrivals_with pid bytes n

@@ -2,6 +2,7 @@
 use Rattle.std.proofs.Common.{◌≡◌, ℕ, Bool, true, false, List, [], ◌∷◌, ◌++◌, ◌||◌, Option, Some, None, refl, ap, ap₂, sym, ◌∙◌}
 use Rattle.std.specs.Prelude.{is_some}
 use Rattle.std.proofs.lemmas.Bool.{true≢false}
+use Rattle.std.proofs.Math.Bool.{or_assoc}
 use Rattle.terms.proofs.OptionLemmas.{some_injective, none_some}
 use Rattle.t2mi_packet.specs.declared.packet.Packet.{Packet}
 use Rattle.frame_groups.specs.Groups.{Group, is_counted, is_same, key_behind}
@@ -37,13 +38,9 @@ or_false : (t : Bool) → t ≡ (t || false)
 or_false true = refl
 or_false false = refl
 
-or_assoc : (a b c : Bool) → (a || (b || c)) ≡ ((a || b) || c)
-or_assoc true b c = refl
-or_assoc false b c = refl
-
 stamp_more : (ps : List Packet) (p : Packet) → has_stamp (ps ++ p ∷ []) ≡ (has_stamp ps || is_stamp p)
 stamp_more [] p = sym (or_false (is_stamp p))
-stamp_more (q ∷ ps) p = ap (λ (t : Bool). is_stamp q || t) (stamp_more ps p) ∙ or_assoc (is_stamp q) (has_stamp ps) (is_stamp p)
+stamp_more (q ∷ ps) p = ap (λ (t : Bool). is_stamp q || t) (stamp_more ps p) ∙ sym (or_assoc (is_stamp q) (has_stamp ps) (is_stamp p))
 
 -- a packet that belongs to no frame
 pub skipped : (Holds : List Numbered → Option Group → Type 0) (r : Rules) (c : Course) (p : Packet) (g : Option Group)

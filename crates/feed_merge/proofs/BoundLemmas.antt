@@ -9,7 +9,7 @@ use Rattle.std.proofs.Math.Nat.{mul-le-mul}
 use Rattle.std.proofs.lemmas.List.FromFn.{get_or-map-range_with_len}
 use Rattle.std.proofs.lemmas.List.Sums.{sum_by-cons}
 use Rattle.terms.proofs.CaseLemmas.{bool_cases}
-use Rattle.formed_frames.proofs.SizeLemmas.{size_of}
+use Rattle.stream_laws.proofs.SizeLemmas.{size_of}
 use Rattle.plp_config.specs.Capacity.{IsPlan, RecordLength, block_bytes, block_room, longest_rest}
 use Rattle.plp_config.specs.InterleavingFrames.{is_first}
 use Rattle.plp_config.specs.Laws.{FieldRange}
@@ -24,11 +24,11 @@ use Rattle.t2mi_packet.specs.declared.packet.Body.{Body}
 use Rattle.site_frame.specs.Record.{Block}
 use Rattle.site_frame.specs.declared.reading.RecordView.{RecordView}
 use Rattle.site_frame.specs.declared.reading.RecordView.TheVariants.{Frame, Muted}
-use Rattle.frame_tests.specs.Readable.{BlockSize, block_sizes, coming, has_size}
+use Rattle.frame_groups.specs.Readable.{BlockSize, block_sizes, coming, has_size}
 use Rattle.frame_writer.specs.Flowing.{packet_bound}
 use Rattle.frame_writer.specs.FramePackets.{with_stamp}
-use Rattle.formed_frames.specs.Formed.{IsFormed}
-use Rattle.formed_frames.specs.Remade.{record_bodies, view_bodies, signal_of}
+use Rattle.stream_laws.specs.Formed.{IsFormed}
+use Rattle.stream_laws.specs.Remade.{record_bodies, view_bodies, signal_of}
 
 abbrev sizes_of : Config → List ℕ → ℕ → List BlockSize
 sizes_of c counts plp = replicate (slice_index counts plp) (size_of c plp)

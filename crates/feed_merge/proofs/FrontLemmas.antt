@@ -9,7 +9,7 @@ use Rattle.t2mi_stream.specs.Pipe.{pipe}
 use Rattle.t2mi_stream.proofs.CompleteLemmas.{shorter_front}
 use Rattle.frame_writer.specs.FramePackets.{packets_from}
 use Rattle.frame_writer.proofs.CarriedLemmas.{packets_append}
-use Rattle.formed_frames.specs.Remade.{NumberedView, remade_packets, remade_bodies, frame_pairs}
+use Rattle.stream_laws.specs.Remade.{NumberedView, remade_packets, remade_bodies, frame_pairs}
 
 -- Some more are within a bound, if those before are, and if more are they are too.
 pub more_within : {X : Type 0} (count n : ℕ) (xs : List X) → count ≤ n → (xs ≢ [] → count + length xs ≤ n) → count + length xs ≤ n

@@ -10,9 +10,9 @@ use Rattle.frame_writer.specs.FramePackets.{l1_body}
 use Rattle.frame_writer.specs.declared.flow.Outlet.{Outlet}
 use Rattle.frame_writer.specs.declared.step.FrameStep.{FrameStep}
 use Rattle.frame_writer.proofs.CarriedLemmas.{carries_more}
-use Rattle.pool_frame.specs.Left.{IsOver, left_of, blocks_left}
-use Rattle.pool_frame.specs.declared.frame.PoolFrame.{PoolFrame}
-use Rattle.pool_frame.specs.declared.frame.PoolPlace.{PoolPlace}
+use Rattle.frame_writer.specs.Left.{IsOver, left_of, blocks_left}
+use Rattle.frame_writer.specs.declared.frame.PoolFrame.{PoolFrame}
+use Rattle.frame_writer.specs.declared.frame.PoolPlace.{PoolPlace}
 
 -- nothing is left of a place that is over
 pub over_left : (c : Config) (p : PoolPlace) (f : PoolFrame) → IsOver p → left_of c p f ≡ []

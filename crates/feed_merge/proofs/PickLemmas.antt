@@ -12,18 +12,18 @@ use Rattle.plp_config.specs.declared.moment.TheConstants.{MOST_FRAMES}
 use Rattle.t2mi_stream.specs.Received.{Fate}
 use Rattle.frame_groups.specs.Modulated.{FrameRecord}
 use Rattle.frame_groups.specs.Modulated.Content.{Whole, Muted}
-use Rattle.frame_tests.specs.Tests.{rules}
+use Rattle.frame_groups.specs.Tests.{rules}
 use Rattle.record_laws.specs.Frames.{frame_of}
 use Rattle.record_laws.specs.Records.{numbers_from, record_numbers}
 use Rattle.open_group.specs.Written.{content_view}
-use Rattle.damage_laws.specs.SentPackets.{Sent, frame_packets, frame_group}
-use Rattle.damage_laws.specs.StreamLaws.{SurvivalLength, HonestRecords}
-use Rattle.damage_laws.specs.Streams.{Stream, IsStream, Honest, stream_survival}
-use Rattle.damage_laws.specs.Survivors.{is_whole, loss_of, sent_content, sent_record, end_of}
-use Rattle.frame_laws.specs.Laws.{SentAreFrames, FramesAreStream, TestsMeet, WrittenIsFrame}
-use Rattle.frame_laws.specs.SentFrames.{sent_frames, frames_stream, stream_bytes}
-use Rattle.frame_laws.specs.Types.{TypesFit}
-use Rattle.frame_laws.proofs.RecordLemmas.{last_below}
+use Rattle.stream_laws.specs.SentPackets.{Sent, frame_packets, frame_group}
+use Rattle.stream_laws.specs.UnitLaws.{SurvivalLength, HonestRecords}
+use Rattle.stream_laws.specs.Streams.{Stream, IsStream, Honest, stream_survival}
+use Rattle.stream_laws.specs.Survivors.{is_whole, loss_of, sent_content, sent_record, end_of}
+use Rattle.stream_laws.specs.FrameLaws.{SentAreFrames, FramesAreStream, TestsMeet, WrittenIsFrame}
+use Rattle.stream_laws.specs.SentFrames.{sent_frames, frames_stream, stream_bytes}
+use Rattle.stream_laws.specs.Types.{TypesFit}
+use Rattle.stream_laws.proofs.FrameRecordLemmas.{last_below}
 use Rattle.feed_merge.specs.declared.seen.Feed.{Feed}
 use Rattle.feed_merge.specs.declared.seen.Feed.TheVariants.{A, B}
 use Rattle.modulator.specs.StandsFor.{records_due}

@@ -7,9 +7,9 @@ use Rattle.plp_config.specs.declared.moment.TheConstants.{MOST_FRAMES}
 use Rattle.t2mi_stream.specs.Received.{Fate}
 use Rattle.record_laws.specs.Frames.{frame_of}
 use Rattle.modulator.specs.StandsFor.{records_due}
-use Rattle.damage_laws.specs.Streams.{Honest}
-use Rattle.frame_laws.specs.SentFrames.{frames_stream, stream_bytes}
-use Rattle.frame_laws.specs.Types.{TypesFit}
+use Rattle.stream_laws.specs.Streams.{Honest}
+use Rattle.stream_laws.specs.SentFrames.{frames_stream, stream_bytes}
+use Rattle.stream_laws.specs.Types.{TypesFit}
 use Rattle.frame_groups.specs.Modulated.{FrameRecord}
 use Rattle.feed_merge.specs.Picks.{Picked, pick_of, picks}
 

@@ -2,3 +2,11 @@ pub mod Picking
 pub mod Picks
 pub mod StandsFor
 pub mod Laws
+pub mod Frames
+pub mod Groups
+pub mod FeedStandsFor
+pub mod Both
+pub mod Fed
+pub mod Reading
+pub mod Seen
+pub mod Skips

@@ -7,7 +7,7 @@ use Rattle.plp_config.specs.declared.config.Config.{Config}
 use Rattle.frame_groups.specs.Modulated.{Content, FrameRecord}
 use Rattle.frame_groups.specs.Modulated.Content.{Whole, Muted}
 use Rattle.open_group.specs.Written.{content_view}
-use Rattle.formed_frames.specs.Remade.{NumberedView}
+use Rattle.stream_laws.specs.Remade.{NumberedView}
 use Rattle.feed_merge.specs.declared.seen.Feed.{Feed}
 use Rattle.feed_merge.specs.declared.seen.Feed.TheVariants.{A, B}
 

@@ -10,9 +10,9 @@ use Rattle.frame_groups.specs.Laws.{IsPrefix}
 use Rattle.frame_writer.specs.FirstPacket.{from_step}
 use Rattle.frame_writer.specs.FramePackets.{l1_body, packets_from}
 use Rattle.frame_writer.specs.Flowing.{Flows, bytes_bound, gives_unit}
-use Rattle.pool_frame.specs.Left.{left_of, blocks_left}
-use Rattle.pool_frame.specs.Signalling.{pre_part, conf_part}
-use Rattle.pool_frame.specs.declared.frame.PoolFrame.{PoolFrame}
+use Rattle.frame_writer.specs.Left.{left_of, blocks_left}
+use Rattle.frame_writer.specs.Signalling.{pre_part, conf_part}
+use Rattle.frame_writer.specs.declared.frame.PoolFrame.{PoolFrame}
 use Rattle.feed_merge.specs.declared.merger.Merger.{Merger}
 
 -- its network, and the number of the last frame that was begun

@@ -1,8 +1,7 @@
 // Laws of the definitions. Their functions do nothing.
 ghost use Rattle.feed_merge.specs.Laws.{PicksAreFrames, PicksGrow};
 
-use damage_laws::honest_law;
-use frame_laws::{frame_law, sent_law, stream_law, tests_law};
+use stream_laws::{frame_law, honest_law, sent_law, stream_law, tests_law};
 
 /// If both feeds are honest damage of one run, each picked frame is that of the run.
 pub fn picks_law()

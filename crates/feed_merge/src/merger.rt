@@ -1,11 +1,10 @@
 // Frames that are held in, units out.
 ghost use Rattle.std.specs.Prelude.{◌≡◌, ◌<◌, ◌≤◌, ◌^◌, true, length};
 ghost use Rattle.plp_config.specs.declared.moment.TheConstants.{MOST_FRAMES};
-ghost use Rattle.pool_frame.specs.Left.{IsOver};
+ghost use Rattle.frame_writer.specs.Left.{IsOver};
 
-use frame_writer::Flow;
+use frame_writer::{Flow, PoolFrame, PoolPlace, PoolWalk, WalkedPlace};
 use plp_config::Plan;
-use pool_frame::{PoolFrame, PoolPlace, PoolWalk, WalkedPlace};
 use ts_packet::SIZE;
 
 /// Makes one T2-MI stream of frames: begin a frame, take the units, each with the same frame; behind the last frame finish, and take
@@ -38,7 +37,7 @@ impl<'p> Merger<'p> {
     ghost use Rattle.frame_writer.specs.Carried.{of_frame};
     ghost use Rattle.frame_writer.specs.Flowing.{packet_bound};
     ghost use Rattle.frame_writer.specs.FramePackets.{packets_from};
-    ghost use Rattle.pool_frame.specs.Left.{CanBeSent, bodies_of};
+    ghost use Rattle.frame_writer.specs.Left.{CanBeSent, bodies_of};
     ghost use Rattle.feed_merge.specs.StandsFor.{MergerStandsFor, GivesUnits, config_of, frame_of, left_in, has_unit, has_finished, is_fed, bytes_left};
 
     /// A merger to which no frame was given, for a plan. It takes no memory.

@@ -4,7 +4,7 @@ use Rattle.std.proofs.Common.{length-append, arith}
 use Rattle.std.specs.Prelude.{◌⊎◌}
 use Rattle.std.proofs.lemmas.List.{nil_from_length}
 use Rattle.ports.specs.Desk.{State}
-use Rattle.desk_io.specs.Laws.{AppendsNone, AppendsThen}
+use Rattle.file_run.specs.DeskLaws.{AppendsNone, AppendsThen}
 use Rattle.file_run.specs.Events.{Event, Gave}
 use Rattle.file_run.specs.Running.{Drains, DrainsFront, Gathers, PutsSome}
 use Rattle.file_run.specs.Sink.{Puts, PutsFront}

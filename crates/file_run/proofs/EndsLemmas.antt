@@ -6,9 +6,9 @@ use Rattle.std.specs.FinMap.{get}
 use Rattle.std.proofs.lemmas.Option.{IfSome_then}
 use Rattle.ports.specs.Counts.{Rose}
 use Rattle.ports.specs.Desk.{State, Held, SameCounts}
-use Rattle.desk_io.specs.Reading.{longest_file}
-use Rattle.desk_io.specs.Saying.{Grows}
-use Rattle.desk_io.proofs.SayLemmas.{grows_none, grows_same}
+use Rattle.file_run.specs.Reading.{longest_file}
+use Rattle.file_run.specs.Saying.{Grows}
+use Rattle.file_run.proofs.SayLemmas.{grows_none, grows_same}
 use Rattle.file_run.specs.FileRun.{file_at, OtherFiles, SameFiles, OpensInputs, Passes, FailsToBegin}
 use Rattle.file_run.specs.Sink.{Sink, Into, Aloud, creates}
 use Rattle.file_run.specs.Work.{Work, Ends}

@@ -95,13 +95,6 @@ pub record Adds (was now : List Event) (piece : List ℕ) : Type 0 where
   pub fed_is : fed 0 now ≡ fed 0 was ++ piece
   pub gave_is : gave now ≡ gave was
 
--- so it is if that input is fed, and if it ends
-pub fed_adds : EventsTell → (was : List Event) (piece : List ℕ) → Adds was (was ++ Fed 0 piece ∷ []) piece
-fed_adds law was piece = let more = law.fed 0 piece was in record { fed_is = more.here; gave_is = more.gave }
-
-pub ended_adds : EventsTell → (was : List Event) (piece : List ℕ) → Adds was (was ++ Ended 0 piece ∷ []) piece
-ended_adds law was piece = let more = law.ended 0 piece was in record { fed_is = more.here; gave_is = more.gave }
-
 -- giving alone
 pub only_none : OnlyGave []
 only_none = record { fed = λ input. refl; ended = λ input. refl }

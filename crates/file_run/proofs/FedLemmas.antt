@@ -6,9 +6,9 @@ use Rattle.std.specs.List.{sum_by}
 use Rattle.std.proofs.lemmas.List.{nil_from_length, length-set}
 use Rattle.std.proofs.lemmas.List.Sums.{sum_by-set}
 use Rattle.ports.specs.Desk.{State, SameCounts}
-use Rattle.desk_io.specs.Reading.{Reading, given_of, rest_of, spare, longest_file, ReadsOn, TakesNone, StopsReading}
-use Rattle.desk_io.specs.declared.ahead.ReadStop.{ReadStop}
-use Rattle.desk_io.specs.declared.ahead.ReadStop.TheVariants as stop
+use Rattle.file_run.specs.Reading.{Reading, given_of, rest_of, spare, longest_file, ReadsOn, TakesNone, StopsReading}
+use Rattle.file_run.specs.declared.ahead.ReadStop.{ReadStop}
+use Rattle.file_run.specs.declared.ahead.ReadStop.TheVariants as stop
 use Rattle.file_run.specs.Events.{Event, Fed, Ended, Gave, fed, has_ended, gave}
 use Rattle.file_run.specs.FileRun.{file_at, Stands, HoldsAll, Stops}
 use Rattle.file_run.specs.Running.{Start, reading_at, places_of, Reached, IsRead, IsWhole, GoesOn, Runs, IsTaken, IsMarked, Feeds}

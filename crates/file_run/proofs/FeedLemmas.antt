@@ -6,8 +6,8 @@ use Rattle.std.proofs.lemmas.Bool.{true≢false}
 use Rattle.std.proofs.lemmas.List.{take-append-drop, length-take-le}
 use Rattle.std.proofs.Math.Seq.{take-length, drop-length}
 use Rattle.ports.specs.Desk.{State, left_of, has_run_out}
-use Rattle.desk_io.specs.Ahead.{IsAtEnd}
-use Rattle.desk_io.specs.Reading.{Reading, given_of, rest_of, spare, longest_file, TakesNone}
+use Rattle.file_run.specs.Ahead.{IsAtEnd}
+use Rattle.file_run.specs.Reading.{Reading, given_of, rest_of, longest_file, TakesNone}
 use Rattle.file_run.specs.Events.{Event, Fed, Ended}
 use Rattle.file_run.specs.Running.{Feeds, IsReader}
 use Rattle.file_run.specs.Steps.{HasRoom}
@@ -85,13 +85,6 @@ ended_by Becomes old new before after was mid is input count bytes same all none
             (subst (λ (k : ℕ). IsAtEnd after k) (sym reader) end)),
       );
     }
-
--- Each feeding makes less of what may still be read.
-pub spare_fed : (was is : Reading) → is.ended ≡ was.ended → was.taken < is.taken → is.taken ≤ longest_file → spare is < spare was
-spare_fed was is same more few = rw same (omega (arith, more, few))
-
-pub spare_ended : (was is : Reading) → was.ended ≡ false → is.ended ≡ true → was.taken ≤ is.taken → spare is < spare was
-spare_ended was is off on more = rw (off, on) (omega (arith, more))
 
 pub room_for : {A : Type 0} (Becomes : A → List Event → A → Type 0) (m : A) (input : ℕ) (before after : State) (was mid : Reading)
     (bytes : List ℕ) → bytes ≡ mid.waiting → TakesNone before after was mid → given_of mid < longest_file

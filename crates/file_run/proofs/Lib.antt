@@ -13,3 +13,9 @@ pub mod ToldLemmas
 pub mod OneInputLemmas
 pub mod WorkLemmas
 pub mod EndsLemmas
+pub mod InputLemmas
+pub mod SayLemmas
+pub mod WriteLemmas
+pub mod ConfigLawLemmas
+pub mod ConfigReadingLemmas
+pub mod ConfigEndLemmas

@@ -12,9 +12,9 @@ use Rattle.ports.specs.declared.fault.FaultKind.TheVariants as kind
 use Rattle.ports.specs.Counts.{Rose, first_of}
 use Rattle.ports.specs.Desk.{State, Held, Files, SameCounts, Keeps, Opens, FailsToCreate, with_name, left_of}
 use Rattle.ports.specs.Desk.{bytes_of, SameButFor, has_run_out}
-use Rattle.desk_io.specs.Faults.{ReadsFail, WritesFail}
-use Rattle.desk_io.specs.Laws.{CreatesEmpty}
-use Rattle.desk_io.specs.Reading.{Reading, given_of, rest_of}
+use Rattle.file_run.specs.Faults.{ReadsFail, WritesFail}
+use Rattle.file_run.specs.DeskLaws.{CreatesEmpty}
+use Rattle.file_run.specs.Reading.{Reading, given_of, rest_of}
 use Rattle.file_run.specs.FileRun.{file_at, AreStarts, AreNamed, OpensInputs, FailsToCreateOutput, SameFiles}
 use Rattle.file_run.specs.FileRun.{OtherFiles}
 use Rattle.file_run.specs.Running.{Start, reading_from, no_reading, reading_at, places_of, HasOut, HoldsOut, Reached, IsRead}

@@ -7,7 +7,7 @@ use Rattle.std.proofs.lemmas.Bool.{cases_eq}
 use Rattle.std.proofs.lemmas.List.{length-set, length-map, map-set, get_or-set_same, get_or-set_other, get_or-append-add}
 use Rattle.std.proofs.lemmas.List.{set-append_right, get_or-map}
 use Rattle.ports.specs.Desk.{State, Held, SameCounts, left_of, has_run_out}
-use Rattle.desk_io.specs.Reading.{Reading, given_of, longest_file, ReadsOn}
+use Rattle.file_run.specs.Reading.{Reading, given_of, longest_file, ReadsOn}
 use Rattle.file_run.specs.Events.{Event, fed, has_ended, gave, OnlyGave}
 use Rattle.file_run.specs.FileRun.{file_at, AreNamed, OtherFiles, SameFiles, Passes, IsFed, AreFed, Stands, HoldsAll, AllShort}
 use Rattle.file_run.specs.FileRun.{StopsWriting}

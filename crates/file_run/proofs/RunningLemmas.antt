@@ -4,10 +4,10 @@ use Rattle.std.proofs.Common.{arith}
 use Rattle.std.specs.Prelude.{◌⊎◌, slice_index_or, slice_set}
 use Rattle.std.proofs.lemmas.List.{get_or_default}
 use Rattle.ports.specs.Desk.{State, SameCounts, has_run_out}
-use Rattle.desk_io.specs.Faults.{WritesFail}
-use Rattle.desk_io.specs.Laws.{CreatesEmpty}
-use Rattle.desk_io.specs.Reading.{Reading, given_of, longest_file, ReadsOn, TakesNone, StopsReading}
-use Rattle.desk_io.specs.declared.ahead.ReadStop.{ReadStop}
+use Rattle.file_run.specs.Faults.{WritesFail}
+use Rattle.file_run.specs.DeskLaws.{CreatesEmpty}
+use Rattle.file_run.specs.Reading.{Reading, given_of, longest_file, ReadsOn, TakesNone, StopsReading}
+use Rattle.file_run.specs.declared.ahead.ReadStop.{ReadStop}
 use Rattle.file_run.specs.Events.{Event, fed, has_ended}
 use Rattle.file_run.specs.FileRun.{FailsToBegin, StopsWriting, RunsAll, Stops}
 use Rattle.file_run.specs.Running.{Start, place_of, no_reading, reading_at, AreOpened, IsBegun, Drains, DrainsFront, Feeds, IsRunning}

@@ -4,9 +4,9 @@ use Rattle.std.proofs.Common.{arith}
 use Rattle.std.specs.Prelude.{IfSome, IsSome, slice_index_or, option_map, unwrap_or}
 use Rattle.std.specs.FinMap.{get}
 use Rattle.ports.specs.Desk.{State, Held, Files, IsApart, with_empty, out_name, left_of, written_of, bytes_of}
-use Rattle.desk_io.specs.Laws.{AppendsNone, AppendsThen, CreatesEmpty}
-use Rattle.desk_io.specs.Writing.{OnlyOut}
-use Rattle.desk_io.proofs.SayLemmas.{grows_same, grows_then, says_none, says_then}
+use Rattle.file_run.specs.DeskLaws.{AppendsNone, AppendsThen, CreatesEmpty}
+use Rattle.file_run.specs.Writing.{OnlyOut}
+use Rattle.file_run.proofs.SayLemmas.{grows_same, grows_then, says_none, says_then}
 use Rattle.file_run.specs.Running.{HasOut, SaysOut}
 use Rattle.file_run.specs.Sink.{Sink, Into, Aloud, creates, out_of, IsOther, Begins, Puts}
 use Rattle.file_run.specs.declared.output.OpenOutput.{OpenOutput}

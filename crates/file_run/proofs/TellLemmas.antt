@@ -5,10 +5,10 @@ use Rattle.std.specs.Prelude.{◌⊎◌, IsSome, option_map, option_and_then, sl
 use Rattle.std.specs.FinMap.{get}
 use Rattle.terms.proofs.OptionLemmas.{was_some}
 use Rattle.ports.specs.Desk.{State, Keeps, Says, Opens, left_of, bytes_of, has_run_out}
-use Rattle.desk_io.specs.Reading.{Reading, given_of, rest_of, ReadsOn, TakesNone}
-use Rattle.desk_io.specs.Saying.{SaysBytes, SaysPage}
-use Rattle.desk_io.proofs.SayLemmas.{grows_same, grows_then, grows_one, grows_as, grows_kept, page_says}
-use Rattle.desk_io.specs.declared.page.TheConstants.{PAGE}
+use Rattle.file_run.specs.Reading.{Reading, given_of, rest_of, ReadsOn, TakesNone}
+use Rattle.file_run.specs.Saying.{SaysBytes}
+use Rattle.file_run.proofs.SayLemmas.{grows_same, grows_then, grows_one, grows_as, grows_kept}
+use Rattle.file_run.specs.declared.page.TheConstants.{PAGE}
 use Rattle.file_run.specs.Events.{Event, Gave, fed, has_ended, gave}
 use Rattle.file_run.specs.FileRun.{IsFed}
 use Rattle.file_run.specs.Running.{IsTaken, Feeds, Gathers, reading_from}
@@ -206,11 +206,6 @@ telling_kept Came next machine start was is name r page keeps t = record {
   held = keeps.held ∙ t.held;
   reads = λ h told. read_same _ _ _ _ _ _ _ (rest_kept was is r keeps.held keeps.opened) refl refl (t.reads h told);
 }
-
--- All that waited, or nothing, was said.
-pub way_given : (old new : State) (waiting left : List ℕ) → SaysPage old new waiting → left ≡ [] → PAGE < length waiting + PIECE
-    → GivesWay old new waiting left
-way_given old new waiting left says none full = inr (page_says old new waiting (some_page waiting full) says, none, full)
 
 pub room_made : {A : Type 0} (Came : List Event → A → Type 0) (next : A → Step) (machine : A) (start was is : State)
     (name : List ℕ) (r : Reading) (waiting left : List ℕ) → GivesWay was is waiting left

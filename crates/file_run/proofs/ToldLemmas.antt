@@ -7,10 +7,10 @@ use Rattle.ports.specs.declared.fault.FaultKind.{FaultKind}
 use Rattle.ports.specs.declared.fault.FaultKind.TheVariants as kind
 use Rattle.ports.specs.Counts.{Rose, first_of}
 use Rattle.ports.specs.Desk.{State, SameCounts, Keeps}
-use Rattle.desk_io.specs.Faults.{ReadsFail, WritesFail}
-use Rattle.desk_io.specs.Reading.{Reading, given_of, longest_file}
-use Rattle.desk_io.specs.Saying.{SaysBytes}
-use Rattle.desk_io.proofs.SayLemmas.{says_page}
+use Rattle.file_run.specs.Faults.{ReadsFail, WritesFail}
+use Rattle.file_run.specs.Reading.{Reading, given_of, longest_file}
+use Rattle.file_run.specs.Saying.{SaysBytes}
+use Rattle.file_run.proofs.SayLemmas.{says_page}
 use Rattle.file_run.specs.Events.{Event, fed}
 use Rattle.file_run.specs.Steps.{Needs, FallsShort}
 use Rattle.file_run.specs.Laws.{FirstIsTold}

@@ -7,7 +7,7 @@ use Rattle.std.proofs.lemmas.List.{length-replicate}
 use Rattle.std.proofs.lemmas.Option.{IfSome_then}
 use Rattle.terms.proofs.OptionLemmas.{if_both}
 use Rattle.ports.specs.Desk.{State, Held}
-use Rattle.desk_io.specs.Reading.{longest_file}
+use Rattle.file_run.specs.Reading.{longest_file}
 use Rattle.file_run.specs.Events.{Event, fed, has_ended, gave}
 use Rattle.file_run.specs.FileRun.{file_at, AreFed, AreTaken, Works, Passes, Stands, AllShort, Stops}
 use Rattle.file_run.specs.OneRun.{ComesToEnd, RunsOnce}

@@ -1,7 +1,7 @@
 -- What one event more tells of inputs and of the output, and which fault is told. Functions without a body ensure it.
 use Rattle.std.specs.Prelude.{◌≡◌, ◌≢◌, ℕ, true, List, [], ◌∷◌, ◌++◌, None}
 use Rattle.ports.specs.Desk.{State}
-use Rattle.desk_io.specs.Faults.{ReadsFail, WritesFail}
+use Rattle.file_run.specs.Faults.{ReadsFail, WritesFail}
 use Rattle.file_run.specs.Events.{Event, Fed, Ended, Gave, fed, has_ended, gave, OnlyGave}
 use Rattle.file_run.specs.Telling.{ReadsFailAtLeast}
 

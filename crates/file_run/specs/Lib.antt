@@ -7,5 +7,17 @@ pub mod Sink
 pub mod Steps
 pub mod Telling
 pub mod Work
+pub mod Ahead
+pub mod Faults
+pub mod DeskLaws
+pub mod Opening
+pub mod Reading
+pub mod Saying
+pub mod Writing
+pub mod ConfigFile
+pub mod ConfigLaws
 -- inner: no public clause cites these
 pub mod TellingOn
+pub mod Codes
+pub mod Waiting
+pub mod TextReading

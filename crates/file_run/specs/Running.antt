@@ -4,12 +4,12 @@ use Rattle.std.specs.Prelude.{None, Some, IsSome, IfSome, option_map}
 use Rattle.std.specs.declared.option.Option.{Option}
 use Rattle.std.specs.FinMap.{get}
 use Rattle.ports.specs.Desk.{State, Held, SameCounts, left_of, out_name, has_run_out}
-use Rattle.desk_io.specs.Reading.{Reading, given_of, rest_of, longest_file}
-use Rattle.desk_io.specs.declared.ahead.ReadStop.{ReadStop}
-use Rattle.desk_io.specs.declared.ahead.ReadStop.TheVariants as stop
-use Rattle.desk_io.specs.Saying.{Grows}
+use Rattle.file_run.specs.Reading.{Reading, given_of, rest_of, longest_file}
+use Rattle.file_run.specs.declared.ahead.ReadStop.{ReadStop}
+use Rattle.file_run.specs.declared.ahead.ReadStop.TheVariants as stop
+use Rattle.file_run.specs.Saying.{Grows}
 use Rattle.file_run.specs.Events.{Event, Fed, Ended, Gave, fed, has_ended, gave, OnlyGave}
-use Rattle.desk_io.specs.Faults.{ReadsFail, WritesFail}
+use Rattle.file_run.specs.Faults.{ReadsFail, WritesFail}
 use Rattle.file_run.specs.FileRun.{file_at, OpensInputs, FailsToBegin}
 use Rattle.file_run.specs.Sink.{Sink, Into, Aloud, creates, out_of, AreOthers, Begins, IsOpen, Puts}
 use Rattle.file_run.specs.declared.output.OpenOutput.{OpenOutput}

@@ -1,8 +1,8 @@
 -- Where the bytes of a run go.
 use Rattle.std.specs.Prelude.{◌≡◌, ◌≢◌, ℕ, ◌<◌, List, [], ◌++◌, length, slice_index_or}
 use Rattle.ports.specs.Desk.{State, Creates}
-use Rattle.desk_io.specs.Saying.{SaysBytes}
-use Rattle.desk_io.specs.Writing.{Appends}
+use Rattle.file_run.specs.Saying.{SaysBytes}
+use Rattle.file_run.specs.Writing.{Appends}
 use Rattle.file_run.specs.declared.output.Output.{Output}
 use Rattle.file_run.specs.declared.output.Output.TheVariants as asked
 use Rattle.file_run.specs.declared.output.OpenOutput.{OpenOutput}

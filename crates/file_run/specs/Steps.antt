@@ -1,7 +1,7 @@
 -- What a machine may want.
 use Rattle.std.specs.Prelude.{◌<◌, ◌≤◌, ◌≡◌, ◌+◌, ℕ, false, List, length}
-use Rattle.desk_io.specs.declared.input.TheConstants.{MOST_WANTED}
-use Rattle.desk_io.specs.Reading.{longest_file}
+use Rattle.file_run.specs.declared.input.TheConstants.{MOST_WANTED}
+use Rattle.file_run.specs.Reading.{longest_file}
 use Rattle.file_run.specs.Events.{Event, fed, has_ended}
 use Rattle.file_run.specs.declared.machine.Step.{Step}
 use Rattle.file_run.specs.declared.machine.Step.TheVariants.{Read, Give, End}

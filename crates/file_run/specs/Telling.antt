@@ -3,10 +3,10 @@ use Rattle.std.specs.Prelude.{◌≡◌, ◌≢◌, ◌⊎◌, ℕ, ◌+◌, ◌
 use Rattle.ports.specs.Counts.{Rose, first_of}
 use Rattle.ports.specs.Desk.{State, SameCounts, bytes_of}
 use Rattle.ports.specs.declared.fault.FaultKind.TheVariants.{Reading}
-use Rattle.desk_io.specs.Faults.{ReadsFail, WritesFail}
-use Rattle.desk_io.specs.Opening.{Opened, Unopened}
-use Rattle.desk_io.specs.Reading.{longest_file}
-use Rattle.desk_io.specs.Saying.{Grows}
+use Rattle.file_run.specs.Faults.{ReadsFail, WritesFail}
+use Rattle.file_run.specs.Opening.{Opened, Unopened}
+use Rattle.file_run.specs.Reading.{longest_file}
+use Rattle.file_run.specs.Saying.{Grows}
 use Rattle.file_run.specs.Events.{Event, Gave, fed, has_ended, gave}
 use Rattle.file_run.specs.FileRun.{IsFed}
 use Rattle.file_run.specs.Steps.{Needs, FallsShort}

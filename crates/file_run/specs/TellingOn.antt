@@ -3,10 +3,10 @@ use Rattle.std.specs.Prelude.{◌≡◌, ◌≢◌, ◌⊎◌, ℕ, ◌+◌, ◌
 use Rattle.std.specs.Prelude.{Result, Err}
 use Rattle.std.specs.FinMap.{get}
 use Rattle.ports.specs.Desk.{State, Held, SameCounts, Keeps, Says, bytes_of, with_name}
-use Rattle.desk_io.specs.Faults.{ReadsFail, WritesFail}
-use Rattle.desk_io.specs.Reading.{Reading, given_of, rest_of, longest_file}
-use Rattle.desk_io.specs.Saying.{Grows, SaysPage}
-use Rattle.desk_io.specs.declared.page.TheConstants.{PAGE}
+use Rattle.file_run.specs.Faults.{ReadsFail, WritesFail}
+use Rattle.file_run.specs.Reading.{Reading, given_of, rest_of, longest_file}
+use Rattle.file_run.specs.Saying.{Grows, SaysPage}
+use Rattle.file_run.specs.declared.page.TheConstants.{PAGE}
 use Rattle.file_run.specs.Events.{Event, fed, has_ended, gave}
 use Rattle.file_run.specs.Running.{IsRead, GoesOn}
 use Rattle.file_run.specs.Telling.{StartsWith, SaidPages, MayWait}

@@ -3,8 +3,8 @@ use Rattle.std.specs.Prelude.{◌≡◌, ◌≢◌, ◌⊎◌, ℕ, ◌-◌, ◌
 use Rattle.std.specs.Prelude.{Ok, Err, IsSome, IfSome}
 use Rattle.std.specs.FinMap.{get}
 use Rattle.ports.specs.Desk.{State, SameCounts}
-use Rattle.desk_io.specs.Faults.{ReadsFail, WritesFail}
-use Rattle.desk_io.specs.Reading.{longest_file}
+use Rattle.file_run.specs.Faults.{ReadsFail, WritesFail}
+use Rattle.file_run.specs.Reading.{longest_file}
 use Rattle.file_run.specs.Events.{Event, fed, gave, OnlyGave}
 use Rattle.file_run.specs.FileRun.{file_at, OpensInputs, FailsToBegin, Passes, AllShort, AreFed}
 pub use Rattle.file_run.specs.Sink.{Sink, Into, Aloud}

@@ -5,12 +5,12 @@ ghost use Rattle.file_run.specs.Running.{Drains, DrainsFront, PutsSome};
 ghost use Rattle.file_run.specs.Sink.{IsOpen, Puts, PutsFront};
 ghost use Rattle.file_run.specs.Steps.{HasCome};
 ghost use Rattle.file_run.specs.declared.machine.TheConstants.{PIECE};
-ghost use Rattle.desk_io.specs.declared.page.TheConstants.{PAGE};
+ghost use Rattle.file_run.specs.declared.page.TheConstants.{PAGE};
 
+use crate::desk_laws::appends_law;
 use crate::machine::{Machine, Step};
 use crate::out_buffer::OutBuffer;
 use crate::output::OpenOutput;
-use desk_io::appends_law;
 use ports::{Desk, DeskFault};
 
 // Puts out all that waits.

@@ -1,11 +1,12 @@
 // Reading what a machine wants.
 ghost use Rattle.std.specs.Prelude.{◌≡◌, ◌<◌, ◌≤◌, ◌+◌, ℕ, length, false, IfErr, OnOk, OnErr};
 ghost use Rattle.ports.specs.Desk.{SameCounts, has_run_out};
-ghost use Rattle.desk_io.specs.Reading.{given_of, spare, longest_file, ReadsOn, TakesNone, StopsReading};
+ghost use Rattle.file_run.specs.Reading.{given_of, spare, longest_file, ReadsOn, TakesNone, StopsReading};
 ghost use Rattle.file_run.specs.Running.{Feeds, IsReader};
 
+use crate::ahead::{ReadAhead, ReadStop};
+use crate::input::MOST_WANTED;
 use crate::machine::{Machine, Step};
-use desk_io::{MOST_WANTED, ReadAhead, ReadStop};
 use ports::Desk;
 
 /// Reads what a machine wants of an input, and feeds it, or ends the input where its file ends.

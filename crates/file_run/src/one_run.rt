@@ -4,13 +4,13 @@ ghost use Rattle.file_run.specs.OneRun.{RunsOnce};
 ghost use Rattle.file_run.specs.Sink.{AreOthers, IsOther, sink_of};
 ghost use Rattle.file_run.specs.Work.{Ends};
 
+use crate::ahead::ReadAhead;
 use crate::machine::{Ending, Working};
 use crate::out_buffer::OutBuffer;
 use crate::output::Output;
 use crate::running::run;
 use crate::stop::RunStop;
 use bit_slice::OutOfMemory;
-use desk_io::ReadAhead;
 use ports::{Desk, Word};
 use std::alloc::Global;
 

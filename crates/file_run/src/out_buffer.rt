@@ -1,13 +1,13 @@
 // Bytes that a machine gave and that are not written or said yet.
 ghost use Rattle.std.specs.Prelude.{◌≡◌, ◌↔◌, ◌<◌, ◌≤◌, ◌+◌, ℕ, [], length, take, IfOk, IsTrue};
-ghost use Rattle.desk_io.specs.declared.page.TheConstants.{PAGE};
+ghost use Rattle.file_run.specs.declared.page.TheConstants.{PAGE};
 ghost use Rattle.file_run.specs.Running.{Gathers};
 ghost use Rattle.file_run.specs.Steps.{HasCome};
 ghost use Rattle.file_run.specs.declared.machine.Step.TheVariants.{Give};
 
 use crate::machine::{Machine, PIECE};
+use crate::page::PAGE;
 use bit_slice::OutOfMemory;
-use desk_io::PAGE;
 use std::alloc::Global;
 use std::marker::Model;
 
@@ -22,7 +22,7 @@ pub struct OutBuffer {
 
 impl Model for OutBuffer {
     ghost use Rattle.std.specs.Prelude.{◌≡◌, ◌≤◌, List, ℕ, take, vec_len};
-    ghost use Rattle.desk_io.specs.declared.page.TheConstants.{PAGE};
+    ghost use Rattle.file_run.specs.declared.page.TheConstants.{PAGE};
 
     ghost Value = { List ℕ };
 

@@ -2,10 +2,10 @@
 ghost use Rattle.std.specs.Prelude.{◌≢◌, [], OnOk, OnErr};
 ghost use Rattle.ports.specs.Counts.{MayFailWriting};
 ghost use Rattle.ports.specs.Desk.{Keeps};
-ghost use Rattle.desk_io.specs.Saying.{SaysPage};
+ghost use Rattle.file_run.specs.Saying.{SaysPage};
 ghost use Rattle.file_run.specs.Sink.{IsOpen, Puts, PutsFront};
 
-use desk_io::write_all;
+use crate::writing::write_all;
 use ports::{Desk, DeskFault};
 
 /// Where the bytes of a run go.

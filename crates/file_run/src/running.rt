@@ -4,6 +4,8 @@ ghost use Rattle.file_run.specs.FileRun.{RunsAll, Stops};
 ghost use Rattle.file_run.specs.Running.{read_fault};
 ghost use Rattle.file_run.specs.Sink.{AreOthers, sink_of};
 
+use crate::ahead::{ReadAhead, ReadStop};
+use crate::desk_laws::creates_law;
 use crate::draining::drain;
 use crate::feeding::feed;
 use crate::machine::{Machine, Step};
@@ -11,7 +13,6 @@ use crate::opening::{begin_output, open_files};
 use crate::out_buffer::OutBuffer;
 use crate::output::Output;
 use crate::stop::RunFault;
-use desk_io::{ReadAhead, ReadStop, creates_law};
 use ports::{Desk, Word};
 
 /// How a run stops if an input could not be read on.

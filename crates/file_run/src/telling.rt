@@ -2,20 +2,20 @@
 ghost use Rattle.std.specs.Prelude.{◌≡◌, ◌≢◌, ◌≤◌, ◌+◌, ℕ, List, [], length, IfErr, OnOk, OnErr};
 ghost use Rattle.ports.specs.Counts.{MayFailWriting};
 ghost use Rattle.ports.specs.Desk.{State, Keeps};
-ghost use Rattle.desk_io.specs.Reading.{Reading};
-ghost use Rattle.desk_io.specs.Saying.{SaysPage};
+ghost use Rattle.file_run.specs.Reading.{Reading};
+ghost use Rattle.file_run.specs.Saying.{SaysPage};
 ghost use Rattle.file_run.specs.Steps.{HasCome};
 ghost use Rattle.file_run.specs.Telling.{TellsAll, StopsTelling};
 ghost use Rattle.file_run.specs.TellingOn.{Telling, HasBegun, GivesWay, Finishes, Breaks, TellsLast};
 ghost use Rattle.file_run.specs.declared.machine.TheConstants.{PIECE};
-ghost use Rattle.desk_io.specs.declared.page.TheConstants.{PAGE};
+ghost use Rattle.file_run.specs.declared.page.TheConstants.{PAGE};
 
+use crate::ahead::{ReadAhead, ReadStop};
 use crate::feeding::feed;
 use crate::machine::{Machine, Step};
 use crate::out_buffer::OutBuffer;
 use crate::output::say_all;
 use crate::stop::RunFault;
-use desk_io::{ReadAhead, ReadStop};
 use ports::{Desk, DeskFault};
 
 // Says what waits on the page, by one call, or nothing if nothing waits.

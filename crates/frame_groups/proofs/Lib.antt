@@ -8,3 +8,10 @@ pub mod SequenceLemmas
 pub mod DueLemmas
 pub mod WantLemmas
 pub mod LeftLemmas
+pub mod IdLemmas
+pub mod MapLemmas
+pub mod PartsLemmas
+pub mod TallyLemmas
+pub mod BegunLemmas
+pub mod AloneLemmas
+pub mod NamedLemmas

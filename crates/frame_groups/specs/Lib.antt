@@ -7,3 +7,10 @@ pub mod Waits
 pub mod Sequenced
 pub mod Due
 pub mod Laws
+pub mod Carried
+pub mod Begun
+pub mod MapTest
+pub mod Tests
+pub mod Tally
+pub mod Readable
+pub mod TestLaws

@@ -7,3 +7,4 @@ pub mod SignalLemmas
 pub mod WeaveLemmas
 pub mod FinishLemmas
 pub mod LawLemmas
+pub mod MarkLemmas

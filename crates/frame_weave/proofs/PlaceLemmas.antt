@@ -6,12 +6,12 @@ use Rattle.std.proofs.lemmas.Bool.{lt-ltb}
 use Rattle.std.proofs.lemmas.List.{length-map, drop_more, drop_all}
 use Rattle.plp_config.specs.declared.config.Config.{Config}
 use Rattle.t2mi_packet.specs.declared.packet.Packet.{Packet}
-use Rattle.frame_tests.specs.Carried.{right_blocks}
+use Rattle.frame_groups.specs.Carried.{right_blocks}
 use Rattle.open_group.specs.Sent.{held_bytes}
 use Rattle.open_group.specs.Shown.{AreBlocks}
-use Rattle.marked_group.specs.Holds.{Marks, no_block}
-use Rattle.marked_group.specs.Marked.{MarkedBlock}
-use Rattle.marked_group.specs.declared.marks.Mark.{Mark}
+use Rattle.frame_weave.specs.Holds.{Marks, no_block}
+use Rattle.frame_weave.specs.Marked.{MarkedBlock}
+use Rattle.frame_weave.specs.declared.marks.Mark.{Mark}
 use Rattle.frame_weave.proofs.SlotLemmas.{at, filled}
 use Rattle.frame_weave.specs.Placed.{Placed, next_place, place_of, has_place, one_placed, first_behind, placed_from}
 use Rattle.frame_weave.specs.Places.{start_of, has_room}

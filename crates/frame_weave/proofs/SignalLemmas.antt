@@ -7,33 +7,30 @@ use Rattle.std.proofs.lemmas.Bool.{and_parts, false≢true}
 use Rattle.std.proofs.lemmas.List.{length-map}
 use Rattle.plp_config.specs.declared.config.Config.{Config}
 use Rattle.l1_signal.specs.L1Configurable.{conf_read, info_size}
-use Rattle.l1_signal.specs.L1Of.{pre_of, conf_of, conf_plp_of, told_shape}
+use Rattle.l1_signal.specs.L1Of.{pre_of, conf_of, told_shape}
 use Rattle.l1_signal.specs.L1Pre.{pre_reading}
 use Rattle.l1_signal.specs.Laws.{PreLength, ConfLength, DynLength}
 use Rattle.l1_signal.specs.Lengths.{conf_len, dyn_len}
 use Rattle.l1_signal.specs.declared.dynamic.L1Dyn.{L1Dyn}
 use Rattle.l1_signal.specs.declared.lengths.TheConstants.{MOST_CONF_BITS, MOST_DYN_BITS}
+use Rattle.l1_signal.proofs.PostLemmas.{conf_plps-len}
 use Rattle.t2mi_packet.specs.declared.packet.Packet.{Packet}
-use Rattle.frame_tests.specs.Carried.{L1Parts}
-use Rattle.frame_tests.specs.Laws.{PartsTold}
-use Rattle.frame_tests.specs.Tests.{read_whole, pre_agrees, conf_agrees, dyn_agrees, read_dynamic, parts_agree, first_shape}
-use Rattle.frame_tests.specs.Tests.{l1_shape, begins_superframe}
+use Rattle.frame_groups.specs.Carried.{L1Parts}
+use Rattle.frame_groups.specs.TestLaws.{PartsTold}
+use Rattle.frame_groups.specs.Tests.{read_whole, pre_agrees, conf_agrees, dyn_agrees, read_dynamic, parts_agree, first_shape}
+use Rattle.frame_groups.specs.Tests.{l1_shape, begins_superframe}
 use Rattle.frame_writer.specs.FramePackets.{packet_with, stamp_of}
 use Rattle.open_group.specs.Signals.{first_parts, signals}
 use Rattle.frame_weave.specs.Made.{Fitting}
 use Rattle.frame_weave.specs.Woven.{l1_bodies, stamp_bodies}
 use Rattle.t2mi_packet.specs.declared.packet.Body.TheVariants.{Timestamp}
 
-conf_plps : (c : Config) → length (conf_of c).plps ≡ length c.plps
-unfolding conf_of
-conf_plps c = length-map c.plps conf_plp_of
-
 -- its parts fit
 pub fitting : PartsTold → PreLength → ConfLength → DynLength → (c : Config) (n : ℕ) (l1 : L1Parts)
     → conf_len (length c.plps) ≤ MOST_CONF_BITS → dyn_len (length c.plps) ≤ MOST_DYN_BITS → parts_agree c n l1 ≡ true → Fitting l1
 fitting told pre_len conf_length dyn_length c n l1 conf_most dyn_most e =
     let of = (told c n l1).0 e in
-    let conf = conf_length (conf_of c) l1.conf of.conf ∙ ap conf_len (conf_plps c) in
+    let conf = conf_length (conf_of c) l1.conf of.conf ∙ ap conf_len (conf_plps-len c) in
     let plps : length of.dynamic.plps ≡ length c.plps = sym (length-map of.dynamic.plps (λ plp. plp.plp_id)) ∙ ap length of.ids
     ∙ length-map c.plps (λ plp. plp.id) in
     let dynamic = dyn_length of.dynamic l1.dynamic of.spells ∙ ap dyn_len plps in

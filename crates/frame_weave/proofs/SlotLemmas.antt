@@ -3,7 +3,7 @@ use Rattle.std.proofs.Common.{◌≡◌, ◌≢◌, ℕ, ◌+◌, ◌<◌, ◌�
 use Rattle.std.proofs.Common.{take, filter, refl, ap, sym, subst, ◌∙◌, ⊎_elim, arith, append-nil, inr, inl}
 use Rattle.std.specs.Prelude.{bytes_eq, slice_index_or, cond}
 use Rattle.std.specs.List.{list_all}
-use Rattle.std.proofs.lemmas.Bool.{cases_eq, eq-eqb, ne_eqb}
+use Rattle.std.proofs.lemmas.Bool.{cases_eq, eq-eqb, ne_eqb, and_left, and_right}
 use Rattle.std.proofs.lemmas.List.{map-append, get_or-set_same, get_or-set_other, length-set}
 use Rattle.std.proofs.lemmas.List.Elements.{filter-append}
 use Rattle.std.proofs.lemmas.List.Folds.{list_all-append}
@@ -65,13 +65,6 @@ one_false false b e = inl refl
 and_by : (a b : Bool) → a ≡ true → b ≡ true → (a && b) ≡ true
 and_by a b x y = ap (λ (t : Bool). t && b) x ∙ y
 
-false_front : (a b : Bool) → a ≡ false → (a && b) ≡ false
-false_front a b e = ap (λ (t : Bool). t && b) e
-
-false_back : (a b : Bool) → b ≡ false → (a && b) ≡ false
-false_back true b e = e
-false_back false b e = refl
-
 -- the first of the blocks at a place stays the first
 take_more : (blocks : List (List ℕ)) (x : List ℕ) → 0 < length blocks → take 1 (blocks ++ x ∷ []) ≡ take 1 blocks
 take_more [] x some = absurd (omega (arith, some))
@@ -103,14 +96,14 @@ told_more old new placed place bytes first told h =
           (λ (s : there.0 ≡ place). (
             place,
             here
-                ∙ false_front (are_alike (blocks_at placed place)) (fits_first (blocks_at placed place) bytes)
+                ∙ and_left (are_alike (blocks_at placed place)) (fits_first (blocks_at placed place) bytes)
                 (subst (λ (j : ℕ). are_alike (blocks_at placed j) ≡ false) s there.1),
           ))
           (λ (ne : there.0 ≡ place → ⊥).
           (there.0, ap are_alike (more_elsewhere placed place there.0 bytes ne) ∙ there.1))
           (cases_eq there.0 place))
           (λ (o : fits_first (blocks_at placed place) bytes ≡ false).
-          (place, here ∙ false_back (are_alike (blocks_at placed place)) (fits_first (blocks_at placed place) bytes) o))
+          (place, here ∙ and_right (are_alike (blocks_at placed place)) (fits_first (blocks_at placed place) bytes) o))
           (one_false old.alike (fits_first (blocks_at placed place) bytes) (sym told ∙ e));
     }
 

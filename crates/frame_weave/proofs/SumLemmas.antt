@@ -8,11 +8,11 @@ use Rattle.std.proofs.lemmas.List.FromFn.{length-range_with_len, get_or-range_wi
 use Rattle.std.proofs.lemmas.Bool.{cases_order, leb-true}
 use Rattle.std.proofs.lemmas.List.Sums.{sum_by-cons, sum_by-append, sum_by_push, list_all-from_AllPass}
 use Rattle.terms.proofs.RangeLemmas.{places_more, range_append}
-use Rattle.marked_group.proofs.MarkLemmas.{times_most}
+use Rattle.frame_weave.proofs.MarkLemmas.{times_most}
 use Rattle.linked_pool.specs.Pool.{State, list_at, chunks_of, chunks_for, used_chunks}
 use Rattle.plp_config.specs.Capacity.{block_bytes}
 use Rattle.plp_config.specs.declared.config.Config.{Config}
-use Rattle.frame_tests.specs.Tests.{pool_chunks}
+use Rattle.frame_groups.specs.Tests.{pool_chunks}
 use Rattle.frame_weave.specs.Places.{start_of, place_count, plp_need, has_room}
 use Rattle.frame_weave.specs.Slots.{AreSized}
 

@@ -15,12 +15,12 @@ use Rattle.linked_pool.specs.Pool.{State as Pool, list_at, chunks_of}
 use Rattle.plp_config.specs.declared.config.Config.{Config}
 use Rattle.t2mi_packet.specs.declared.packet.Body.{Body}
 use Rattle.frame_groups.specs.Groups.{Group}
-use Rattle.frame_tests.specs.Carried.{L1Parts}
-use Rattle.frame_tests.specs.Tests.{pool_chunks}
+use Rattle.frame_groups.specs.Carried.{L1Parts}
+use Rattle.frame_groups.specs.Tests.{pool_chunks}
 use Rattle.open_group.specs.Holds.{Holds}
 use Rattle.open_group.specs.Signals.{first_parts, signals, fits_pool}
 use Rattle.open_group.specs.declared.group.PooledGroup.{PooledGroup}
-use Rattle.marked_group.specs.Marked.{marked_blocks, first_count}
+use Rattle.frame_weave.specs.Marked.{marked_blocks, first_count}
 use Rattle.frame_weave.proofs.SlotLemmas.{with_true}
 use Rattle.frame_weave.proofs.SignalLemmas.{has_parts, made_parts}
 use Rattle.frame_weave.specs.Made.{HoldsBodies, HoldsMade}

@@ -1,6 +1,6 @@
 -- Laws of where blocks stand: what came of a frame stands where it stood in it.
 use Rattle.std.specs.Prelude.{◌≡◌, ℕ, ◌+◌, ◌%◌, ◌<◌, ◌≤◌, max, true, List, [], ◌∷◌, map, length, All}
-use Rattle.marked_group.specs.Marked.{MarkedBlock}
+use Rattle.frame_weave.specs.Marked.{MarkedBlock}
 use Rattle.frame_weave.specs.Placed.{Placed, placed_from, blocks_at, block_at, are_alike}
 use Rattle.frame_weave.specs.Places.{start_of}
 

@@ -6,7 +6,7 @@ use Rattle.linked_pool.specs.Pool.{State, list_at}
 use Rattle.plp_config.specs.declared.config.Config.{Config}
 use Rattle.t2mi_packet.specs.declared.packet.Body.{Body}
 use Rattle.frame_groups.specs.Groups.{Group}
-use Rattle.frame_tests.specs.Carried.{L1Parts}
+use Rattle.frame_groups.specs.Carried.{L1Parts}
 use Rattle.l1_signal.specs.declared.lengths.TheConstants.{PRE_BITS, MOST_CONF_BITS, MOST_DYN_BITS}
 use Rattle.open_group.specs.Holds.{Holds}
 use Rattle.open_group.specs.declared.group.PooledGroup.{PooledGroup}

@@ -2,7 +2,7 @@
 use Rattle.std.specs.Prelude.{ℕ, ◌+◌, ◌*◌, ◌%◌, ◌==◌, ◌&&◌, max, nat_lt, Bool, true, bytes_eq, List, length, [], ◌∷◌, ◌++◌, map, filter}
 use Rattle.std.specs.Prelude.{slice_index_or, if◌then◌else◌}
 use Rattle.std.specs.List.{list_all}
-use Rattle.marked_group.specs.Marked.{MarkedBlock}
+use Rattle.frame_weave.specs.Marked.{MarkedBlock}
 use Rattle.frame_weave.specs.Places.{start_of}
 
 -- a block at a place

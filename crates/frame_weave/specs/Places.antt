@@ -5,7 +5,7 @@ use Rattle.linked_pool.specs.Pool.{chunks_for}
 use Rattle.plp_config.specs.Capacity.{block_bytes}
 use Rattle.plp_config.specs.Places.{places}
 use Rattle.plp_config.specs.declared.config.Config.{Config}
-use Rattle.frame_tests.specs.Tests.{pool_chunks}
+use Rattle.frame_groups.specs.Tests.{pool_chunks}
 
 -- those of a PLP begin behind those of the PLPs before it
 abbrev pub start_of : List ℕ → ℕ → ℕ

@@ -4,7 +4,7 @@ use Rattle.std.specs.Prelude.{slice_index_or}
 use Rattle.linked_pool.specs.Pool.{State, list_at, chunks_of, chunks_for, appended, IsWhole}
 use Rattle.plp_config.specs.Capacity.{block_bytes}
 use Rattle.plp_config.specs.declared.config.Config.{Config}
-use Rattle.frame_tests.specs.Tests.{pool_chunks}
+use Rattle.frame_groups.specs.Tests.{pool_chunks}
 use Rattle.frame_weave.specs.Placed.{Placed, blocks_at, are_alike}
 use Rattle.frame_weave.specs.Places.{start_of, place_count, has_room}
 use Rattle.frame_weave.specs.declared.layout.Layout.{Layout}

@@ -5,7 +5,7 @@ use Rattle.std.specs.Option.{unwrap_or}
 use Rattle.plp_config.specs.declared.config.Config.{Config}
 use Rattle.frame_groups.specs.Groups.{Group}
 use Rattle.open_group.specs.Signals.{signals}
-use Rattle.marked_group.specs.Marked.{first_count}
+use Rattle.frame_weave.specs.Marked.{first_count}
 use Rattle.frame_weave.specs.Made.{IsAlone, HoldsMade}
 use Rattle.frame_weave.specs.Slots.{IsLaid, HoldsPlaced, AreSized}
 use Rattle.frame_weave.specs.Woven.{signalling, same_dynamic, counts_by, placed_of, stamp_bodies, front_bodies}

@@ -13,13 +13,13 @@ use Rattle.t2mi_packet.specs.declared.packet.Body.{Body}
 use Rattle.t2mi_packet.specs.declared.packet.Body.TheVariants.{Block, Timestamp}
 use Rattle.frame_groups.specs.Groups.{Group}
 use Rattle.frame_groups.specs.Numbers.{frame_key}
-use Rattle.frame_tests.specs.Carried.{L1Parts}
-use Rattle.frame_tests.specs.Readable.{coming}
-use Rattle.frame_tests.specs.Tests.{begins_superframe}
+use Rattle.frame_groups.specs.Carried.{L1Parts}
+use Rattle.frame_groups.specs.Readable.{coming}
+use Rattle.frame_groups.specs.Tests.{begins_superframe}
 use Rattle.frame_writer.specs.FramePackets.{stamp_of, l1_body, packet_with}
 use Rattle.open_group.specs.Signals.{first_parts, signals, fits_pool}
 use Rattle.open_group.specs.Written.{dynamic_in, shape_in}
-use Rattle.marked_group.specs.Marked.{marked_blocks, first_count}
+use Rattle.frame_weave.specs.Marked.{marked_blocks, first_count}
 use Rattle.frame_weave.specs.Places.{start_of, place_count, has_room}
 use Rattle.frame_weave.specs.Placed.{Placed, placed_from, blocks_at, block_at, is_one}
 

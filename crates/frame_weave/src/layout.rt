@@ -2,7 +2,7 @@
 ghost use Rattle.std.specs.Prelude.{◌≡◌, ◌<◌, ◌≤◌, ◌+◌, length, slice_index};
 ghost use Rattle.linked_pool.specs.Pool.{chunks_for};
 ghost use Rattle.plp_config.specs.Capacity.{block_bytes};
-ghost use Rattle.frame_tests.specs.Readable.{coming};
+ghost use Rattle.frame_groups.specs.Readable.{coming};
 
 use bit_slice::OutOfMemory;
 use linked_pool::{CHUNK, group_chunks};

@@ -49,7 +49,7 @@ impl<'p> MadeGroup<'p> {
     ghost use Rattle.t2mi_packet.specs.declared.packet.Body.{Body};
     ghost use Rattle.t2mi_packet.specs.declared.packet.Packet.{Packet};
     ghost use Rattle.frame_groups.specs.Groups.{Group};
-    ghost use Rattle.frame_tests.specs.Carried.{L1Parts};
+    ghost use Rattle.frame_groups.specs.Carried.{L1Parts};
     ghost use Rattle.frame_writer.specs.FramePackets.{packet_with, l1_body};
     ghost use Rattle.open_group.specs.Holds.{Holds};
     ghost use Rattle.open_group.specs.Parts.{parts_of};

@@ -4,20 +4,20 @@ ghost use Rattle.linked_pool.specs.Pool.{list_at};
 ghost use Rattle.plp_config.specs.declared.plp.TheConstants.{MOST_BLOCK_BYTES};
 ghost use Rattle.plp_config.specs.declared.config.Config.{Config};
 ghost use Rattle.t2mi_packet.specs.declared.packet.Packet.{Packet};
-ghost use Rattle.record_writer.specs.RecordBytes.{AreShort};
+ghost use Rattle.open_group.specs.RecordBytes.{AreShort};
 ghost use Rattle.open_group.specs.Shown.{AreBlocks};
-ghost use Rattle.marked_group.specs.Holds.{Marks, AreMarks};
-ghost use Rattle.marked_group.specs.Marked.{MarkedBlock};
+ghost use Rattle.frame_weave.specs.Holds.{Marks, AreMarks};
+ghost use Rattle.frame_weave.specs.Marked.{MarkedBlock};
 ghost use Rattle.frame_weave.specs.Placed.{Placed, next_place as next_place_by, placed_from, one_placed, first_behind};
 ghost use Rattle.frame_weave.specs.Places.{has_room};
 ghost use Rattle.frame_weave.specs.Slots.{IsLaid, Puts, Fills};
 
 use crate::layout::Layout;
+use crate::marks::Mark;
 use crate::slots::Slots;
+use frame_writer::PoolWalk;
 use linked_pool::{BlockRef, Pool};
-use marked_group::Mark;
 use plp_config::MOST_BLOCK_BYTES;
-use pool_frame::PoolWalk;
 
 // The least place from one on that packet_count tells.
 fn next_place(origin: u64, count: u8, first: u64) -> u64

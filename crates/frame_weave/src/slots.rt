@@ -2,12 +2,12 @@
 ghost use Rattle.std.specs.Prelude.{◌≡◌, ◌<◌, ◌≤◌, ℕ, [], bytes_eq, length};
 ghost use Rattle.linked_pool.specs.Pool.{list_at};
 ghost use Rattle.plp_config.specs.declared.plp.TheConstants.{MOST_BLOCK_BYTES};
-ghost use Rattle.record_writer.specs.RecordBytes.{AreShort};
+ghost use Rattle.open_group.specs.RecordBytes.{AreShort};
 
 use bit_slice::OutOfMemory;
 use linked_pool::{BlockRef, Pool, group_chunks};
+use open_group::short_law;
 use plp_config::{MOST_BLOCK_BYTES, Plan};
-use record_writer::short_law;
 use std::alloc::Global;
 
 /// The blocks of a frame, at their places: of each place the first one that was placed there. It is told whether the others are
@@ -54,7 +54,7 @@ impl Slots {
     ghost use Rattle.std.specs.Prelude.{IsNone, slice_index_or, nat_lt};
     ghost use Rattle.std.specs.List.{list_all, range_with_len};
     ghost use Rattle.linked_pool.specs.Pool.{list_at, chunks_for, appended};
-    ghost use Rattle.frame_tests.specs.Tests.{pool_chunks};
+    ghost use Rattle.frame_groups.specs.Tests.{pool_chunks};
     ghost use Rattle.frame_weave.specs.Slots.{Puts};
 
     /// Takes the memory for the blocks of a frame of a plan. There is none yet.

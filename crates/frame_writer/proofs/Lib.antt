@@ -2,3 +2,4 @@ mod BlockLemmas
 pub mod CarriedLemmas
 pub mod FlowLemmas
 pub mod UnitsLemmas
+pub mod PlaceLemmas

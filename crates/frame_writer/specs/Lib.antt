@@ -5,6 +5,9 @@ pub mod Whole
 pub mod Carried
 pub mod Flowing
 pub mod Units
+pub mod Bodies
+pub mod Left
+pub mod Signalling
 -- of the crates below, for those who read this one
 pub use Rattle.terms.specs.Bits
 pub use Rattle.plp_config.specs.Emission

@@ -24,7 +24,7 @@ use Rattle.gateway_core.specs.Laws.{WaitsThreeFrames}
 use Rattle.frame_writer.specs.FramePackets.{l1_body, packet_with, packets_from}
 use Rattle.gateway_core.specs.Packets.{plp_bodies, frame_bodies, bodies_before}
 use Rattle.gateway_core.specs.Packets.{front_packets}
-use Rattle.pool_frame.specs.Signalling.{pre_part, conf_part}
+use Rattle.frame_writer.specs.Signalling.{pre_part, conf_part}
 use Rattle.gateway_core.specs.Signalling.{dyn_part}
 use Rattle.frame_writer.proofs.CarriedLemmas.{packets_append}
 use Rattle.gateway_core.proofs.HoldsLemmas.{bodies_more}

@@ -10,7 +10,7 @@ use Rattle.gateway_core.specs.Lists.{own_in}
 use Rattle.gateway_core.specs.declared.frame.Frame.{Frame}
 use Rattle.frame_writer.specs.declared.step.FrameStep.{FrameStep}
 use Rattle.frame_writer.specs.declared.step.FrameStep.TheVariants.{Over}
-use Rattle.pool_frame.specs.declared.signalling.Signalling.{Signalling}
+use Rattle.frame_writer.specs.declared.signalling.Signalling.{Signalling}
 
 -- Nothing is left of a frame that is over.
 pub over_left : (c : Config) (s : Signalling) (f : Frame) → f.step ≡ Over → left c s f ≡ []

@@ -34,13 +34,13 @@ use Rattle.mode_adapt.specs.Blocks.{own_blocks, told_counts}
 use Rattle.frame_writer.specs.FramePackets.{packets_from, l1_body}
 use Rattle.gateway_core.specs.Packets.{front_packets, block_bodies, plp_bodies, frame_bodies}
 use Rattle.gateway_core.specs.Packets.{bodies_before}
-use Rattle.pool_frame.specs.Signalling.{pre_part, conf_part}
+use Rattle.frame_writer.specs.Signalling.{pre_part, conf_part}
 use Rattle.gateway_core.specs.Signalling.{dyn_part}
 use Rattle.gateway_core.specs.StandsFor.{Holds, IsLast, wants_by}
 use Rattle.gateway_core.specs.InputSoFar.{Told, told, with_packet, at_end, Continues}
 use Rattle.frame_writer.specs.declared.flow.Flow.{Flow}
 use Rattle.gateway_core.specs.declared.input.Input.{Input}
-use Rattle.pool_frame.specs.declared.signalling.Signalling.{Signalling}
+use Rattle.frame_writer.specs.declared.signalling.Signalling.{Signalling}
 use Rattle.frame_writer.specs.declared.step.FrameStep.{FrameStep}
 use Rattle.frame_writer.specs.declared.step.FrameStep.TheVariants.{Stamp, Signal, Over}
 use Rattle.frame_writer.proofs.CarriedLemmas.{carries_more}

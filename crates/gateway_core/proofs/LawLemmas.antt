@@ -24,7 +24,7 @@ use Rattle.frame_writer.specs.FramePackets.{l1_body, with_stamp}
 use Rattle.gateway_core.specs.Packets.{block_bodies, plp_bodies, frame_bodies, bodies_before}
 use Rattle.frame_writer.specs.FramePackets.{packets_from}
 use Rattle.gateway_core.specs.Packets.{front_packets}
-use Rattle.pool_frame.specs.Signalling.{pre_part, conf_part}
+use Rattle.frame_writer.specs.Signalling.{pre_part, conf_part}
 use Rattle.gateway_core.specs.Signalling.{dyn_part}
 use Rattle.frame_writer.proofs.CarriedLemmas.{packets_append}
 use Rattle.gateway_core.proofs.EpochLemmas.{begins_by}

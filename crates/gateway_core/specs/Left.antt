@@ -11,7 +11,7 @@ use Rattle.gateway_core.specs.Signalling.{dyn_part}
 use Rattle.frame_writer.specs.declared.step.FrameStep.{FrameStep}
 use Rattle.frame_writer.specs.declared.step.FrameStep.TheVariants.{Stamp, Signal, Blocks, Over}
 use Rattle.gateway_core.specs.declared.frame.Frame.{Frame}
-use Rattle.pool_frame.specs.declared.signalling.Signalling.{Signalling}
+use Rattle.frame_writer.specs.declared.signalling.Signalling.{Signalling}
 
 abbrev pub left : Config → Signalling → Frame → List Body
 left c s f = from_step c f.number f.step (l1_body c f.number s.pre s.conf f.dynamic.bits)

@@ -5,12 +5,18 @@ pub mod Signalling
 pub mod Packets
 pub mod StandsFor
 pub mod Laws
+pub mod Order
+pub mod Continuing
+pub mod SplitStandsFor
 -- inner: no public clause cites these
 pub mod Served
 pub mod Lists
 pub mod IsFed
 pub mod BlocksLeft
 pub mod Left
+pub mod Splitting
+pub mod Slots
+pub mod Works
 -- of the crates below, for those who read this one
 pub use Rattle.terms.specs.Bits
 pub use Rattle.plp_config.specs.RunLength

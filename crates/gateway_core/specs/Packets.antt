@@ -8,7 +8,7 @@ use Rattle.mode_adapt.specs.Blocks.{own_blocks, told_counts}
 use Rattle.t2mi_packet.specs.declared.packet.Body.{Body}
 use Rattle.t2mi_packet.specs.declared.packet.Body.TheVariants.{Block}
 use Rattle.frame_writer.specs.FramePackets.{l1_body, with_stamp, packets_from}
-use Rattle.pool_frame.specs.Signalling.{pre_part, conf_part}
+use Rattle.frame_writer.specs.Signalling.{pre_part, conf_part}
 use Rattle.gateway_core.specs.Signalling.{dyn_part}
 
 -- blocks of a PLP by its identifier; intl_frame_start is 1 on the first one in the frame

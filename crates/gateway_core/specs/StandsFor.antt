@@ -10,11 +10,11 @@ use Rattle.gateway_core.specs.InputsStandFor.{AllFed, AllContinue, CountsStay}
 use Rattle.gateway_core.specs.IsFed.{wanted}
 use Rattle.gateway_core.specs.Left.{left, early_of}
 use Rattle.gateway_core.specs.Packets.{bodies_before}
-use Rattle.pool_frame.specs.Signalling.{pre_part, conf_part}
+use Rattle.frame_writer.specs.Signalling.{pre_part, conf_part}
 use Rattle.frame_writer.specs.declared.flow.Flow.{Flow}
 use Rattle.gateway_core.specs.declared.gateway.Gateway.{Gateway}
 use Rattle.gateway_core.specs.declared.input.Input.{Input}
-use Rattle.pool_frame.specs.declared.signalling.Signalling.{Signalling}
+use Rattle.frame_writer.specs.declared.signalling.Signalling.{Signalling}
 
 -- Its inputs were fed, and their chains put these blocks already; so many frames were begun, and for all inputs that continue
 -- what was offered the packets of those frames have come so far.

@@ -10,11 +10,10 @@ ghost use Rattle.frame_writer.specs.declared.step.FrameStep.TheVariants.{Over};
 use crate::dynamic::Dynamic;
 use bit_slice::{FixedBits, OutOfMemory};
 use frame_writer::{
-    FrameSource, FrameStep, first_step, write_block, write_l1_current, write_timestamp,
+    FrameSource, FrameStep, Signalling, first_step, write_block, write_l1_current, write_timestamp,
 };
 use linked_pool::{BlockRef, Pool, frame_chunks};
 use plp_config::{Plan, block_law};
-use pool_frame::Signalling;
 use std::alloc::Global;
 use t2mi_packet::LARGEST;
 
@@ -77,7 +76,7 @@ impl Frame {
     ghost use Rattle.gateway_core.specs.Lists.{own_in, later_in};
     ghost use Rattle.frame_writer.specs.Builds.{Builds};
     ghost use Rattle.gateway_core.specs.Left.{left, all_of, early_of, layout_of};
-    ghost use Rattle.pool_frame.specs.declared.signalling.Signalling.{Signalling};
+    ghost use Rattle.frame_writer.specs.declared.signalling.Signalling.{Signalling};
 
     /// One of which nothing is left, with the memory of all frames of a plan.
     pub fn open(alloc: Global, plan: &Plan) -> Result<Frame, OutOfMemory>

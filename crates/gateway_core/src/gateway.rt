@@ -12,10 +12,9 @@ use crate::input::Input;
 use crate::inputs::{cut, end, offer, open_inputs, wanted};
 use crate::run_length::frame_count;
 use bit_slice::OutOfMemory;
-use frame_writer::Flow;
+use frame_writer::{Flow, Signalling};
 use mode_adapt::early_fits_law;
 use plp_config::Plan;
-use pool_frame::Signalling;
 use std::alloc::Global;
 use ts_packet::{SIZE, TsPacket};
 

@@ -1,8 +1,8 @@
 -- The packets of a file of which some were taken.
 use Rattle.std.proofs.Common.{◌≡◌, ◌≢◌, ℕ, zero, suc, ◌+◌, ◌*◌, ◌<◌, ◌≤◌, Bool, true, false, List, [], ◌∷◌, ◌++◌, length, take}
 use Rattle.std.proofs.Common.{drop, refl, ap, sym, ◌∙◌, arith, append_assoc, append-nil, length-append, inl, inr}
-use Rattle.std.specs.Prelude.{slice_index, nat_le, ◌==◌, ◌&&◌, ◌⊎◌}
-use Rattle.std.proofs.lemmas.Bool.{cases_Bool, ne_eqb}
+use Rattle.std.specs.Prelude.{slice_index, nat_le, ◌==◌, ◌⊎◌}
+use Rattle.std.proofs.lemmas.Bool.{cases_Bool, ne_eqb, and_right}
 use Rattle.std.proofs.lemmas.List.{take_at, drop_at, length-drop, drop-drop, get_or_append_left}
 use Rattle.gateway_core.specs.InputSoFar.{Told, Continues}
 use Rattle.ts_packet.specs.TsFile.{begins_with_packet, packets_up_to, packets_in, left_in, joined, HasBad}
@@ -154,12 +154,8 @@ next_bad file packets ended left r some off =
     }
 
 -- a packet is bad that does not begin with the sync byte, or is cut short
-and_off : (a b : Bool) → b ≡ false → (a && b) ≡ false
-and_off true b off = off
-and_off false b off = refl
-
 pub no_sync : (bytes : List ℕ) → slice_index bytes 0 ≢ SYNC → begins_with_packet bytes ≡ false
-no_sync bytes differ = and_off (nat_le SIZE (length bytes)) (slice_index bytes 0 == SYNC)
+no_sync bytes differ = and_right (nat_le SIZE (length bytes)) (slice_index bytes 0 == SYNC)
     (ne_eqb (slice_index bytes 0) SYNC differ)
 
 first_byte : (tail more : List ℕ) → tail ≢ [] → slice_index (tail ++ more) 0 ≡ slice_index tail 0

@@ -14,12 +14,12 @@ use Rattle.common_plp.proofs.InputLemmas.{behind_own, place_inside, place_own}
 use Rattle.gateway_core.specs.Events.{Event, offered, has_ended, begun, finished}
 use Rattle.gateway_core.specs.InputSoFar.{told, Continues}
 use Rattle.gateway_core.proofs.LawLemmas.{frame_count_same}
-use Rattle.split_gateway.specs.Continuing.{InputsContinue, IsLast, frames_of}
-use Rattle.split_gateway.specs.Order.{IsInput, IsWanted, IsWantedFirst, turn_of}
-use Rattle.split_gateway.specs.StandsFor.{SplitGatewayStandsFor, IsAsked, NoneWanted, config_of, has_finished, wants_of}
-use Rattle.split_gateway.specs.declared.gateway.SplitGateway.{SplitGateway}
-use Rattle.split_gateway.proofs.MemberLemmas.{member_input, split_depends}
-use Rattle.split_gateway.proofs.StandLemmas.{asked_wants}
+use Rattle.gateway_core.specs.Continuing.{InputsContinue, IsLast, frames_of}
+use Rattle.gateway_core.specs.Order.{IsInput, IsWanted, IsWantedFirst, turn_of}
+use Rattle.gateway_core.specs.SplitStandsFor.{SplitGatewayStandsFor, IsAsked, NoneWanted, config_of, has_finished, wants_of}
+use Rattle.gateway_core.specs.declared.split_gateway.SplitGateway.{SplitGateway}
+use Rattle.gateway_core.proofs.MemberLemmas.{member_input, split_depends}
+use Rattle.gateway_core.proofs.StandLemmas.{asked_wants}
 use Rattle.gateway_run.specs.Holds.{HasAll}
 use Rattle.gateway_run.specs.Inputs.{Continue, frames_by, IsLastBy}
 use Rattle.gateway_run.specs.Joint.{seen_of}

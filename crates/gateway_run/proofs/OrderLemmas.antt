@@ -5,7 +5,7 @@ use Rattle.plp_config.specs.declared.config.Config.{Config}
 use Rattle.common_plp.specs.Inputs.{place_of}
 use Rattle.common_plp.specs.Sharing.{Sharing, Apart, Joint}
 use Rattle.gateway_run.specs.Inputs.{IsBefore}
-use Rattle.split_gateway.specs.Order.{turn_of}
+use Rattle.gateway_core.specs.Order.{turn_of}
 
 -- The order of three numbers, the first of which tells most.
 abbrev IsLess : ℕ → ℕ → ℕ → ℕ → ℕ → ℕ → Type 0

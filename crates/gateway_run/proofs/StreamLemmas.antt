@@ -11,8 +11,8 @@ use Rattle.common_plp.proofs.InputLemmas.{behind_own, place_own}
 use Rattle.gateway_core.specs.Events.{Event, offered, has_ended}
 use Rattle.gateway_core.specs.InputSoFar.{Told, told}
 use Rattle.gateway_core.proofs.LawLemmas.{frame_count_same}
-use Rattle.split_gateway.specs.Order.{turn_of}
-use Rattle.split_gateway.proofs.MemberLemmas.{member_input, split_depends}
+use Rattle.gateway_core.specs.Order.{turn_of}
+use Rattle.gateway_core.proofs.MemberLemmas.{member_input, split_depends}
 use Rattle.gateway_run.specs.Inputs.{frames_by, IsLastBy}
 
 -- What goes in the PLP of an input is as long as the input.

@@ -5,7 +5,7 @@ use Rattle.std.specs.Prelude.{slice_index}
 use Rattle.std.proofs.Math.Nat.{div-mul-le_self}
 use Rattle.std.proofs.lemmas.List.{nil_from_length}
 use Rattle.std.proofs.lemmas.Nat.{le-div}
-use Rattle.desk_io.specs.Reading.{longest_file}
+use Rattle.file_run.specs.Reading.{longest_file}
 use Rattle.plp_config.specs.SlotTime.{slots_by}
 use Rattle.plp_config.specs.declared.config.Config.{Config}
 use Rattle.ts_packet.specs.TsFile.{packets_in, joined}

@@ -6,7 +6,7 @@ use Rattle.common_plp.specs.Inputs.{place_of, input_count, streams_by}
 use Rattle.common_plp.specs.Sharing.{Sharing, Apart, Joint}
 use Rattle.gateway_core.specs.Events.{Event, offered, has_ended, begun}
 use Rattle.gateway_core.specs.InputSoFar.{told, Continues}
-use Rattle.split_gateway.specs.Order.{IsEarlier}
+use Rattle.gateway_core.specs.Order.{IsEarlier}
 
 -- Inputs continue what events tell of the PLP of each.
 abbrev pub Continue : Sharing → Config → List Event → (ℕ → List (List ℕ)) → Type 0

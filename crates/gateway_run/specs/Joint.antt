@@ -4,8 +4,8 @@ use denote.Struct.Props as logic
 use Rattle.plp_config.specs.declared.config.Config.{Config}
 use Rattle.common_plp.specs.Inputs.{place_of}
 use Rattle.common_plp.specs.Sharing.{Joint}
-use Rattle.split_gateway.specs.StandsFor.{SplitGatewayStandsFor, IsAsked, NoneWanted, config_of, wants_of}
-use Rattle.split_gateway.specs.declared.gateway.SplitGateway.{SplitGateway}
+use Rattle.gateway_core.specs.SplitStandsFor.{SplitGatewayStandsFor, IsAsked, NoneWanted, config_of, wants_of}
+use Rattle.gateway_core.specs.declared.split_gateway.SplitGateway.{SplitGateway}
 use Rattle.gateway_run.specs.Seen.{Seen}
 
 abbrev pub AsksFor : SplitGateway → Config → Option ℕ → Type 0

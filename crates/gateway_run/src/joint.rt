@@ -1,12 +1,12 @@
 // The gateway with common PLPs.
 ghost use Rattle.common_plp.specs.Sharing.{Joint};
-ghost use Rattle.split_gateway.specs.StandsFor.{status_of};
+ghost use Rattle.gateway_core.specs.SplitStandsFor.{status_of};
 ghost use Rattle.gateway_run.specs.Joint.{seen_of};
 
 use crate::frame_gateway::FrameGateway;
 use common_plp::commons;
+use gateway_core::SplitGateway;
 use plp_config::Plan;
-use split_gateway::SplitGateway;
 use ts_packet::{SIZE, TsPacket};
 
 impl<'p> FrameGateway for SplitGateway<'p> {

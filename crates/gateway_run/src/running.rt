@@ -11,10 +11,9 @@ use crate::frame_gateway::FrameGateway;
 use crate::machine::GatewayMachine;
 use crate::stop::{GatewayStop, Ran};
 use file_run::{Output, RunStop, events_law, run_one};
-use gateway_core::{Gateway, ahead_law, front_law, units_law};
+use gateway_core::{Gateway, SplitGateway, ahead_law, front_law, units_law};
 use plp_config::Plan;
 use ports::{Desk, Word};
-use split_gateway::SplitGateway;
 use std::alloc::Global;
 
 // Runs a gateway to which nothing was told.

@@ -63,7 +63,7 @@ length-dyn_bits dynamic =
       length-row_bits dyn_back_rows dynamic,
     )
 
-conf_plps-len : (c : Config) → length (conf_of c).plps ≡ length c.plps
+pub conf_plps-len : (c : Config) → length (conf_of c).plps ≡ length c.plps
 unfolding conf_of
 conf_plps-len c = length-map c.plps conf_plp_of
 

@@ -1,5 +1,5 @@
 -- The blocks of a list, one after another.
-use Rattle.std.proofs.Common.{◌≡◌, ℕ, zero, suc, ◌+◌, ◌-◌, ◌<◌, ◌≤◌, ltb, min, List, [], ◌∷◌, length, take, drop, get_or}
+use Rattle.std.proofs.Common.{◌≡◌, ℕ, zero, suc, ◌+◌, ◌-◌, ◌<◌, ◌≤◌, ltb, List, [], ◌∷◌, length, take, drop, get_or}
 use Rattle.std.proofs.Common.{Option, Some, None, true, false, refl, ap, sym, ◌∙◌, arith, length-drop}
 use Rattle.std.specs.Prelude.{◌↔◌, IfNone, IfSome, IsNone}
 use Rattle.std.proofs.lemmas.Bool.{ltb-true, ltb-false}
@@ -28,12 +28,6 @@ from_some xs rest x p e =
     let some = ap length e in
     let at : get_or (drop p xs) 0 [] ≡ get_or xs p [] = get_or-drop p xs 0 [] ∙ ap (λ (v : ℕ). get_or xs v []) (omega arith) in
     (omega (arith, gone, some), ap (λ (ys : List (List ℕ)). get_or ys 0 []) (sym e) ∙ at)
-
-pub drop_least : (xs : List (List ℕ)) (p n : ℕ) → n ≡ min p (length xs) → drop n xs ≡ drop p xs
-drop_least xs p n e =
-    bool_cases (ltb p (length xs)) (λ z. let lt = ltb-true p (length xs) z in
-    ap (λ (v : ℕ). drop v xs) (omega (arith, e, lt)))
-    (λ z. let ge = ltb-false p (length xs) z in drop_all n xs (omega (arith, e, ge)) ∙ sym (drop_all p xs ge))
 
 -- what a call of `next` leaves
 pub next_leaves : (block : Option (List ℕ)) (old new xs : List (List ℕ)) (p : ℕ) → IfNone block ((old ≡ []) × (new ≡ []))

@@ -9,7 +9,7 @@ use Rattle.plp_config.specs.declared.config.Config.{Config}
 use Rattle.frame_groups.specs.Groups.{Group}
 use Rattle.frame_groups.specs.Modulated.{Numbered}
 use Rattle.feed_events.specs.StandsFor.{head_of, group_of}
-use Rattle.marked_group.specs.Holds.{HoldsMarked}
+use Rattle.frame_weave.specs.Holds.{HoldsMarked}
 use Rattle.frame_groups.specs.Sequenced.{IsAbove}
 use Rattle.open_group.specs.HoldsPast.{HoldsPast}
 use Rattle.open_group.specs.declared.past.HeldPast.{HeldPast}

@@ -5,13 +5,13 @@ use Rattle.std.specs.List.{range_with_len}
 use Rattle.plp_config.specs.Places.{places}
 use Rattle.plp_config.specs.declared.config.Config.{Config}
 use Rattle.t2mi_packet.specs.declared.packet.Packet.{Packet}
-use Rattle.frame_tests.specs.Carried.{right_blocks}
+use Rattle.frame_groups.specs.Carried.{right_blocks}
 use Rattle.open_group.specs.Sent.{held_bytes}
 use Rattle.open_group.specs.Shown.{AreBlocks}
 use Rattle.spaced_frames.specs.StandsFor.{Content}
 use Rattle.mended_frames.specs.Mended.{content_in}
 use Rattle.open_group.specs.Written.{dynamic_in}
-use Rattle.pool_frame.specs.Signalling.{pre_part, conf_part}
+use Rattle.frame_writer.specs.Signalling.{pre_part, conf_part}
 
 -- what stands at each place, from one on
 by_places : {X : Type 0} (d : X) (f : ℕ → X) (xs : List X) (a : ℕ)
@@ -28,14 +28,21 @@ lists_are c packets lists len are =
     (λ i l. are i (omega (arith, l, len)) ∙ ap (λ (k : ℕ). map held_bytes (right_blocks c k packets)) (omega arith))
     ∙ ap (λ (k : ℕ). map (λ plp. map held_bytes (right_blocks c plp packets)) (range_with_len 0 k)) len
 
+abbrev pub content : List Bool → List Bool → List Bool → List (List (List ℕ)) → Content
+content x y z l = record { pre = x; conf = y; dynamic = z; lists = l }
+
+-- contents are the same whose parts are
+pub content_as : (pre conf dynamic p k d : List Bool) (lists l : List (List (List ℕ))) → pre ≡ p → conf ≡ k → dynamic ≡ d → lists ≡ l
+    → content pre conf dynamic lists ≡ content p k d l
+content_as pre conf dynamic p k d lists l is_pre is_conf is_dynamic are =
+    ap (λ (x : List Bool). content x conf dynamic lists) is_pre
+    ∙ ap (λ (x : List Bool). content p x dynamic lists) is_conf
+    ∙ ap₂ (λ (x : List Bool) (y : List (List (List ℕ))). content p k x y) is_dynamic are
+
 pub content_is : (c : Config) (packets : List Packet) (pre conf dynamic : List Bool) (lists : List (List (List ℕ)))
     → pre ≡ pre_part c → conf ≡ conf_part c → dynamic ≡ dynamic_in packets → length lists ≡ length c.plps
     → AreBlocks c packets lists
     → record { pre = pre; conf = conf; dynamic = dynamic; lists = lists } ≡ content_in c packets
 content_is c packets pre conf dynamic lists p k d len are =
-    ap (λ (x : List Bool). content x conf dynamic lists) p
-    ∙ ap (λ (x : List Bool). content (pre_part c) x dynamic lists) k
-    ∙ ap₂ (λ (x : List Bool) (y : List (List (List ℕ))). content (pre_part c) (conf_part c) x y) d (lists_are c packets lists len are)
-  where
-    content : List Bool → List Bool → List Bool → List (List (List ℕ)) → Content
-    content x y z l = record { pre = x; conf = y; dynamic = z; lists = l }
+    content_as pre conf dynamic (pre_part c) (conf_part c) (dynamic_in packets) lists
+    (map (λ plp. map held_bytes (right_blocks c plp packets)) (places c)) p k d (lists_are c packets lists len are)

@@ -13,8 +13,8 @@ use Rattle.frame_writer.specs.FramePackets.{stamp_of, with_stamp}
 use Rattle.frame_groups.specs.Groups.{Group}
 use Rattle.frame_groups.specs.Modulated.{Numbered}
 use Rattle.frame_groups.specs.declared.cause.MuteCause.{MuteCause}
-use Rattle.frame_tests.specs.Tests.{group_fault}
-use Rattle.feed_picks.specs.Picks.{Coming, Picked, one_waits, least_next, all_behind, picked_of, pick_next, picked_from, events_in}
+use Rattle.frame_groups.specs.Tests.{group_fault}
+use Rattle.mended_frames.specs.Picks.{Coming, Picked, one_waits, least_next, all_behind, picked_of, pick_next, picked_from, events_in}
 use Rattle.spaced_frames.specs.Laws.{Rise, RiseFrom}
 use Rattle.spaced_frames.proofs.NearLemmas.{spaced_near}
 use Rattle.mended_frames.specs.Feeds.{all_of, made_of_all}

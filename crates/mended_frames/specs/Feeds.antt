@@ -2,9 +2,9 @@
 use Rattle.std.specs.Prelude.{ℕ, Bool, true, List, take}
 use Rattle.plp_config.specs.declared.config.Config.{Config}
 use Rattle.t2mi_stream.specs.Pipe.{pipe}
-use Rattle.frame_tests.specs.Tests.{rules}
+use Rattle.frame_groups.specs.Tests.{rules}
 use Rattle.feed_events.specs.FeedEvents.{feed_events}
-use Rattle.feed_picks.specs.Picks.{Coming}
+use Rattle.mended_frames.specs.Picks.{Coming}
 use Rattle.mended_frames.specs.Mended.{Made, mended, packets_of}
 
 -- all events of a stream

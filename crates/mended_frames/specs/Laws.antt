@@ -2,7 +2,7 @@
 use Rattle.std.specs.Prelude.{◌<◌, ◌≡◌, ℕ, List, [], ◌∷◌, None}
 use Rattle.plp_config.specs.declared.config.Config.{Config}
 use Rattle.frame_groups.specs.Modulated.{Numbered}
-use Rattle.frame_tests.specs.Tests.{group_fault}
+use Rattle.frame_groups.specs.Tests.{group_fault}
 use Rattle.spaced_frames.specs.Laws.{Rise, AreNear}
 use Rattle.spaced_frames.specs.Spaced.{spaced}
 use Rattle.mended_frames.specs.Feeds.{made_of_all}

@@ -7,14 +7,14 @@ use Rattle.plp_config.specs.declared.config.Config.{Config}
 use Rattle.t2mi_packet.specs.declared.packet.Packet.{Packet}
 use Rattle.frame_groups.specs.Groups.{Group}
 use Rattle.frame_groups.specs.Modulated.{Numbered}
-use Rattle.frame_tests.specs.Carried.{right_blocks}
-use Rattle.frame_tests.specs.Tests.{group_fault}
+use Rattle.frame_groups.specs.Carried.{right_blocks}
+use Rattle.frame_groups.specs.Tests.{group_fault}
 use Rattle.frame_weave.specs.Woven.{woven}
 use Rattle.frame_writer.specs.FramePackets.{packets_from}
 use Rattle.open_group.specs.Sent.{held_bytes}
 use Rattle.open_group.specs.Written.{dynamic_in}
-use Rattle.pool_frame.specs.Signalling.{pre_part, conf_part}
-use Rattle.feed_picks.specs.Picks.{Picked, Coming, Taking, picks_from}
+use Rattle.frame_writer.specs.Signalling.{pre_part, conf_part}
+use Rattle.mended_frames.specs.Picks.{Picked, Coming, Taking, picks_from}
 use Rattle.spaced_frames.specs.Spaced.{SentFrame, spaced}
 use Rattle.spaced_frames.specs.StandsFor.{Content, sent_as}
 

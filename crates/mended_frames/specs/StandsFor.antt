@@ -1,5 +1,6 @@
 -- What a mender of frames stands for.
 use Rattle.std.specs.Prelude.{◌≡◌, ℕ, ◌==◌, Bool, true, false, option_map, List, [], ◌∷◌, slice_get, Option, Some, ◌<◌, length}
+use Rattle.std.specs.Option.{option_map_or}
 use Rattle.plp_config.specs.declared.config.Config.{Config}
 use Rattle.frame_groups.specs.Groups.{Group}
 use Rattle.frame_groups.specs.Modulated.{Numbered}
@@ -8,14 +9,15 @@ use Rattle.feed_events.specs.declared.course.Head.{Head}
 use Rattle.feed_events.specs.declared.course.Head.TheVariants as head
 use Rattle.feed_events.specs.declared.feed.EventFeed.{EventFeed}
 use Rattle.frame_weave.specs.Weaves.{IsOwn}
-use Rattle.marked_group.specs.Holds.{HoldsMarked}
-use Rattle.marked_group.specs.contracts.group.MarkedGroupOpenGroup.TheImpl as marked
-use Rattle.marked_group.specs.declared.group.MarkedGroup.{MarkedGroup}
-use Rattle.open_group.specs.FrameBytes.{is_frame}
+use Rattle.frame_weave.specs.Holds.{HoldsMarked}
+use Rattle.frame_weave.specs.contracts.group.MarkedGroupOpenGroup.TheImpl as marked
+use Rattle.frame_weave.specs.declared.group.MarkedGroup.{MarkedGroup}
+use Rattle.open_group.specs.FrameBytes.{is_frame, dynamic_of, lists_of}
 use Rattle.open_group.specs.Holds.{Holds}
 use Rattle.open_group.specs.HoldsPast.{HoldsPast}
 use Rattle.open_group.specs.declared.group.PooledGroup.{PooledGroup}
-use Rattle.feed_picks.specs.Picks.{Picked}
+use Rattle.mended_frames.specs.Picks.{Picked}
+use Rattle.spaced_frames.specs.StandsFor.{Content}
 use Rattle.mended_frames.specs.Mended.{made_of, made_as}
 use Rattle.mended_frames.specs.declared.mender.Mender.{Mender}
 use Rattle.mended_frames.specs.declared.mender.Source.{Source}
@@ -67,6 +69,16 @@ pub record MenderStandsFor (m : Mender) (past : List Numbered) : Type 0 where
 abbrev pub lent_by : Source → Mender → List Feed → Option PooledGroup
 lent_by (source.Feed i) m feeds = option_map pooled_of (slice_get feeds i)
 lent_by source.Woven m feeds = Some m.weaver.made.group
+
+-- what is sent of it
+abbrev pub nothing : Content
+nothing = record { pre = []; conf = []; dynamic = []; lists = [] }
+
+abbrev pub held_content : Mender → PooledGroup → Content
+held_content m g = record { pre = m.signalling.pre; conf = m.signalling.conf; dynamic = dynamic_of g; lists = lists_of g }
+
+abbrev pub lent_content : Source → Mender → List Feed → Content
+lent_content from m feeds = option_map_or (held_content m) (lent_by from m feeds) nothing
 
 abbrev pub is_woven_by : Source → Bool
 is_woven_by (source.Feed i) = false

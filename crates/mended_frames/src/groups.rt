@@ -5,7 +5,7 @@ ghost use Rattle.frame_groups.specs.Modulated.{Numbered};
 ghost use Rattle.frame_groups.specs.Sequenced.{IsAbove};
 ghost use Rattle.feed_events.specs.StandsFor.{head_of, group_of};
 ghost use Rattle.frame_weave.specs.Weaves.{Weaves, IsOwn};
-ghost use Rattle.marked_group.specs.Holds.{HoldsMarked};
+ghost use Rattle.frame_weave.specs.Holds.{HoldsMarked};
 ghost use Rattle.open_group.specs.FrameBytes.{is_frame};
 ghost use Rattle.open_group.specs.HoldsPast.{AreSized, HoldsPast};
 ghost use Rattle.mended_frames.specs.Choosing.{Chooses};
@@ -13,8 +13,7 @@ ghost use Rattle.mended_frames.specs.Mended.{passes};
 ghost use Rattle.mended_frames.specs.StandsFor.{Feed, is_at, HaveGroups, AreOf, pooled_of};
 
 use feed_events::{EventFeed, Head};
-use frame_weave::Weaver;
-use marked_group::MarkedGroup;
+use frame_weave::{MarkedGroup, Weaver};
 use open_group::HeldPast;
 use plp_config::Plan;
 

@@ -1,16 +1,15 @@
 // Frames out of feeds.
 ghost use Rattle.std.specs.Prelude.{◌≡◌};
 ghost use Rattle.open_group.specs.HoldsPast.{AreSized};
-ghost use Rattle.pool_frame.specs.Signalling.{pre_part, conf_part};
+ghost use Rattle.frame_writer.specs.Signalling.{pre_part, conf_part};
 
 use crate::groups::{look_all, place_all, whole_feed};
 use bit_slice::OutOfMemory;
 use feed_events::EventFeed;
-use frame_weave::Weaver;
-use marked_group::MarkedGroup;
+use frame_weave::{MarkedGroup, Weaver};
+use frame_writer::{PoolFrame, Signalling};
 use open_group::{HeldPast, PooledGroup};
 use plp_config::Plan;
-use pool_frame::{PoolFrame, Signalling};
 use std::alloc::Global;
 
 /// Who lends a frame.
@@ -47,10 +46,10 @@ impl<'p> Mender<'p> {
     ghost use Rattle.open_group.specs.Holds.{Holds};
     ghost use Rattle.open_group.specs.HoldsPast.{HoldsPast};
     ghost use Rattle.open_group.specs.declared.group.PooledGroup.{PooledGroup};
-    ghost use Rattle.pool_frame.specs.Left.{CanBeSent};
+    ghost use Rattle.frame_writer.specs.Left.{CanBeSent};
     ghost use Rattle.spaced_frames.specs.StandsFor.{content_of};
     ghost use Rattle.mended_frames.specs.Mended.{content_in, made_of, woven_of, passes};
-    ghost use Rattle.mended_frames.specs.StandsFor.{AreOf, HaveGroups, MenderStandsFor, Makes, CanLend, IsNextIn, lent_by, picked_as, pooled_of};
+    ghost use Rattle.mended_frames.specs.StandsFor.{AreOf, HaveGroups, MenderStandsFor, Makes, CanLend, IsNextIn, lent_by, lent_content, picked_as, pooled_of};
 
     /// Takes the memory for a plan. No frame was made.
     pub fn open(alloc: Global, plan: &'p Plan) -> Result<Mender<'p>, OutOfMemory>
@@ -193,6 +192,7 @@ impl<'p> Mender<'p> {
         ensures content { (lent : PooledGroup) (own : List Numbered) (g : Group)
             → lent_by from self.now feeds.now ≡ Some lent → Holds lent own (Some g)
             → content_of result ≡ content_in self.now.plan.now g.packets }
+        ensures held { content_of result ≡ lent_content from self.now feeds.now }
         ensures can { CanBeSent self.now.plan.now result }
     {
         let group = self.lent(feeds, from);

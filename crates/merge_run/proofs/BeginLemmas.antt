@@ -18,9 +18,9 @@ use Rattle.modulator.specs.Laws.{DueFollow}
 use Rattle.modulator.specs.StandsFor.{records_due}
 use Rattle.frame_writer.specs.Flowing.{at_hand}
 use Rattle.t2mi_stream.specs.PiperStandsFor.{waiting_of as piper_waiting, is_finished}
-use Rattle.formed_frames.specs.Formed.{IsFormed}
-use Rattle.formed_frames.specs.Laws.{FramesAreFormed}
-use Rattle.formed_frames.specs.Remade.{NumberedView, remade_bodies, view_bodies}
+use Rattle.stream_laws.specs.Formed.{IsFormed}
+use Rattle.stream_laws.specs.FormedLaws.{FramesAreFormed}
+use Rattle.stream_laws.specs.Remade.{NumberedView, remade_bodies, view_bodies}
 use Rattle.file_run.specs.Events.{Event, fed, has_ended, gave}
 use Rattle.feed_merge.specs.declared.seen.Feed.{Feed}
 use Rattle.feed_merge.specs.declared.seen.Feed.TheVariants.{A, B}
@@ -28,24 +28,24 @@ use Rattle.feed_merge.specs.declared.seen.Pick.{Pick}
 use Rattle.feed_merge.specs.Laws.{PicksGrow}
 use Rattle.feed_merge.specs.Picking.{is_at, is_there, source_at, pick_at}
 use Rattle.feed_merge.specs.Picks.{Picked, pick_of, picks, above_all, frames_of}
-use Rattle.two_feeds.specs.Reading.{is_idle, least_of}
-use Rattle.two_feeds.specs.Skips.{one_if, Takes, SkipsIf}
-use Rattle.held_feed.specs.StandsFor.{waiting_of, is_whole}
-use Rattle.held_feed.specs.StandsFor as feed
-use Rattle.held_feed.specs.declared.feed.FrameFeed.{FrameFeed}
+use Rattle.feed_merge.specs.Reading.{is_idle, least_of}
+use Rattle.feed_merge.specs.Skips.{one_if, Takes, SkipsIf}
+use Rattle.feed_merge.specs.FeedStandsFor.{waiting_of, is_whole}
+use Rattle.feed_merge.specs.FeedStandsFor as feed
+use Rattle.feed_merge.specs.declared.feed.FrameFeed.{FrameFeed}
 use Rattle.feed_merge.specs.StandsFor.{MergerStandsFor, has_unit, has_finished, is_fed, bytes_left}
 use Rattle.feed_merge.specs.StandsFor as merger
 use Rattle.feed_merge.specs.declared.merger.Merger.{Merger}
-use Rattle.two_feeds.proofs.LeastLemmas.{next_taken, none_comes}
+use Rattle.feed_merge.proofs.LeastLemmas.{next_taken, none_comes}
 use Rattle.merge_run.specs.Counted.{counted, added}
 use Rattle.merge_run.specs.Sending.{numbered, frame_by, left_for, BeginsAs, Begins}
 use Rattle.merge_run.specs.Shown.{Sends, IsReading, IsLive, IsIn, is_held}
-use Rattle.two_feeds.specs.Both.{IsHeld, OfFeed, IsPast, AreFedWith}
-use Rattle.two_feeds.specs.Fed.{IsFedWith}
+use Rattle.feed_merge.specs.Both.{IsHeld, OfFeed, IsPast, AreFedWith}
+use Rattle.feed_merge.specs.Fed.{IsFedWith}
 use Rattle.merge_run.specs.Shown.{feed_of, left_at, more_units, frame_bytes, CountsFrames, Shown}
 use Rattle.merge_run.specs.Steps.{left_in, left_of}
 use Rattle.merge_run.specs.Taking.{is_from, leaves, feed_in}
-use Rattle.two_feeds.specs.Seen.{seen_of}
+use Rattle.feed_merge.specs.Seen.{seen_of}
 use Rattle.merge_run.specs.declared.machine.MergeMachine.{MergeMachine}
 use Rattle.merge_run.specs.declared.phase.Phase.{Phase}
 use Rattle.merge_run.specs.declared.phase.Phase.TheVariants.{Reads, Gives, Rests}
@@ -53,9 +53,9 @@ use Rattle.merge_run.specs.declared.stop.Ran.{Ran}
 use Rattle.merge_run.proofs.LiveLemmas.{live_taken}
 use Rattle.merge_run.proofs.FeedLemmas.{TookFor, took_of, took_past, there_at, due_held, formed_due}
 use Rattle.feed_merge.proofs.BoundLemmas.{few_bodies}
-use Rattle.two_feeds.proofs.NumberLemmas.{below_of}
+use Rattle.feed_merge.proofs.NumberLemmas.{below_of}
 use Rattle.merge_run.proofs.PickLemmas.{PickIs, pick_first}
-use Rattle.two_feeds.proofs.LeastLemmas.{least_first, least_second, least_most, least_none, some_taken, are_of}
+use Rattle.feed_merge.proofs.LeastLemmas.{least_first, least_second, least_most, least_none, some_taken, are_of}
 use Rattle.merge_run.proofs.PickLemmas.{pick_second, pick_none}
 use Rattle.merge_run.proofs.SendLemmas.{frames_append, sends_begun, sends_over, counted_push}
 use Rattle.merge_run.proofs.ShownLemmas.{reading}

@@ -11,23 +11,23 @@ use Rattle.frame_groups.specs.declared.waiting.Waiting.{Waiting}
 use Rattle.open_group.specs.Written.{content_view}
 use Rattle.modulator.specs.Laws.{DueFollow}
 use Rattle.modulator.specs.StandsFor.{records_due}
-use Rattle.formed_frames.specs.Formed.{IsFormed}
-use Rattle.formed_frames.specs.Laws.{FramesAreFormed, IsFormedRecord}
+use Rattle.stream_laws.specs.Formed.{IsFormed}
+use Rattle.stream_laws.specs.FormedLaws.{FramesAreFormed, IsFormedRecord}
 use Rattle.feed_merge.specs.declared.seen.Feed.{Feed}
 use Rattle.feed_merge.specs.Picking.{is_at, is_there}
 use Rattle.feed_merge.specs.Picks.{Picked}
-use Rattle.two_feeds.specs.Reading.{is_idle}
-use Rattle.two_feeds.specs.Skips.{one_if, AreTaken, IsOnly, Takes}
-use Rattle.held_feed.specs.StandsFor.{IsFirst, waiting_of}
-use Rattle.held_feed.specs.StandsFor as feed
-use Rattle.held_feed.specs.declared.feed.FrameFeed.{FrameFeed}
-use Rattle.two_feeds.specs.Both.{IsHeld, OfFeed, IsPast}
-use Rattle.two_feeds.specs.Fed.{IsFedWith}
+use Rattle.feed_merge.specs.Reading.{is_idle}
+use Rattle.feed_merge.specs.Skips.{one_if, AreTaken, IsOnly, Takes}
+use Rattle.feed_merge.specs.FeedStandsFor.{IsFirst, waiting_of}
+use Rattle.feed_merge.specs.FeedStandsFor as feed
+use Rattle.feed_merge.specs.declared.feed.FrameFeed.{FrameFeed}
+use Rattle.feed_merge.specs.Both.{IsHeld, OfFeed, IsPast}
+use Rattle.feed_merge.specs.Fed.{IsFedWith}
 use Rattle.merge_run.specs.Taking.{is_from, leaves}
-use Rattle.two_feeds.specs.Seen.{seen_of}
-use Rattle.two_feeds.proofs.FeedLemmas.{due_of, took_behind, one_of}
-use Rattle.two_feeds.proofs.LeastLemmas.{above_taken}
-use Rattle.two_feeds.proofs.NumberLemmas.{above_append}
+use Rattle.feed_merge.specs.Seen.{seen_of}
+use Rattle.feed_merge.proofs.BothFeedLemmas.{due_of, took_behind, one_of}
+use Rattle.feed_merge.proofs.LeastLemmas.{above_taken}
+use Rattle.feed_merge.proofs.NumberLemmas.{above_append}
 use Rattle.merge_run.proofs.PickLemmas.{PickIs}
 
 -- ---- a record was taken, or none: its frame is sent, or it was left behind

@@ -13,11 +13,11 @@ use Rattle.modulator.specs.StandsFor.{records_of}
 use Rattle.t2mi_stream.specs.Complete.{complete_units}
 use Rattle.t2mi_stream.specs.CompleteLaws.{CompleteLaw}
 use Rattle.t2mi_stream.specs.Pipe.{pipe, units_in}
-use Rattle.formed_frames.specs.Remade.{NumberedView, remade_packets}
+use Rattle.stream_laws.specs.Remade.{NumberedView, remade_packets}
 use Rattle.feed_merge.specs.Picks.{Picked, picks, picks_below, frames_of}
 use Rattle.feed_merge.specs.StandsFor.{has_finished}
-use Rattle.held_feed.specs.StandsFor.{waiting_of}
-use Rattle.held_feed.specs.StandsFor as feed
+use Rattle.feed_merge.specs.FeedStandsFor.{waiting_of}
+use Rattle.feed_merge.specs.FeedStandsFor as feed
 use Rattle.file_run.specs.Events.{Event, fed, gave}
 use Rattle.file_run.specs.FileRun.{AreFed}
 use Rattle.file_run.specs.Work.{AreWithin}
@@ -27,16 +27,16 @@ use Rattle.merge_run.specs.MergeRun.{HasNone, AreCompleteBelow, HasLate, HasWrit
 use Rattle.merge_run.specs.MergeRun.{HasRead}
 use Rattle.merge_run.specs.Steps.{reach_of}
 use Rattle.feed_merge.specs.declared.seen.Feed.TheVariants.{A, B}
-use Rattle.two_feeds.specs.Both.{IsPast}
+use Rattle.feed_merge.specs.Both.{IsPast}
 use Rattle.merge_run.specs.Shown.{Shown, IsReading, IsDone, IsIn, is_held}
 use Rattle.merge_run.specs.declared.machine.MergeMachine.{MergeMachine}
 use Rattle.merge_run.specs.declared.phase.Phase.{Phase}
 use Rattle.merge_run.specs.declared.phase.Phase.TheVariants as phase
-use Rattle.two_feeds.specs.Fed.{AreEarly, end_by, ReadsAhead, IsBehind, NoneComes}
-use Rattle.two_feeds.proofs.BothLemmas.{none_given, split_a, split_b, ends_before, reads_ahead, all_a, all_b, early_all, none_all, some_all}
-use Rattle.two_feeds.proofs.BothLemmas.{ends_next, late_a, late_b, late_is}
-use Rattle.two_feeds.proofs.NumberLemmas.{below_of}
-use Rattle.two_feeds.proofs.StepLemmas.{Wants, IsLate}
+use Rattle.feed_merge.specs.Fed.{AreEarly, end_by, ReadsAhead, IsBehind, NoneComes}
+use Rattle.feed_merge.proofs.BothLemmas.{none_given, split_a, split_b, ends_before, reads_ahead, all_a, all_b, early_all, none_all, some_all}
+use Rattle.feed_merge.proofs.BothLemmas.{ends_next, late_a, late_b, late_is}
+use Rattle.feed_merge.proofs.NumberLemmas.{below_of}
+use Rattle.feed_merge.proofs.StepLemmas.{Wants, IsLate}
 use Rattle.feed_merge.proofs.FrontLemmas.{packets_more, given_front}
 use Rattle.merge_run.proofs.SendLemmas.{frames_append, gave_complete, gave_all}
 use Rattle.merge_run.proofs.SplitLemmas.{picks_front, below_split, picks_split, picks_nothing}

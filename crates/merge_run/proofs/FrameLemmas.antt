@@ -8,7 +8,7 @@ use Rattle.t2mi_packet.specs.declared.packet.Body.{Body}
 use Rattle.frame_groups.specs.Groups.{Group, groups}
 use Rattle.frame_groups.specs.Modulated.{FrameRecord, Content, past_after}
 use Rattle.frame_groups.specs.Modulated.Content.{Whole}
-use Rattle.frame_tests.specs.Tests.{rules}
+use Rattle.frame_groups.specs.Tests.{rules}
 use Rattle.frame_writer.specs.Carried.{of_frame}
 use Rattle.t2mi_stream.specs.Units.{accepted_of}
 use Rattle.modulator.specs.Laws.{DuePass, IsRight}
@@ -16,17 +16,17 @@ use Rattle.modulator.specs.Modulating.{packets_of}
 use Rattle.modulator.specs.StandsFor.{records_due}
 use Rattle.open_group.specs.Shown.{Shows}
 use Rattle.open_group.specs.Written.{content_view}
-use Rattle.pool_frame.specs.Bodies.{pool_bodies}
-use Rattle.pool_frame.specs.Left.{bodies_of}
-use Rattle.pool_frame.specs.Signalling.{pre_part, conf_part}
-use Rattle.pool_frame.specs.declared.frame.PoolFrame.{PoolFrame}
-use Rattle.held_feed.specs.Frames.{IsFrameOf, dynamic_of, lists_of}
-use Rattle.held_feed.specs.StandsFor.{config_of}
-use Rattle.held_feed.specs.declared.feed.FrameFeed.{FrameFeed}
-use Rattle.formed_frames.specs.Laws.{ShownIsSent}
-use Rattle.formed_frames.specs.Remade.{NumberedView, view_bodies, frame_pairs, remade_bodies}
+use Rattle.frame_writer.specs.Bodies.{pool_bodies}
+use Rattle.frame_writer.specs.Left.{bodies_of}
+use Rattle.frame_writer.specs.Signalling.{pre_part, conf_part}
+use Rattle.frame_writer.specs.declared.frame.PoolFrame.{PoolFrame}
+use Rattle.feed_merge.specs.Frames.{IsFrameOf, dynamic_of, lists_of}
+use Rattle.feed_merge.specs.FeedStandsFor.{config_of}
+use Rattle.feed_merge.specs.declared.feed.FrameFeed.{FrameFeed}
+use Rattle.stream_laws.specs.FormedLaws.{ShownIsSent}
+use Rattle.stream_laws.specs.Remade.{NumberedView, view_bodies, frame_pairs, remade_bodies}
 use Rattle.merge_run.specs.Sending.{frame_by}
-use Rattle.two_feeds.proofs.FeedLemmas.{one_of}
+use Rattle.feed_merge.proofs.BothFeedLemmas.{one_of}
 
 -- one frame more
 pub pushed : (c : Config) (frames : List NumberedView) (f : NumberedView) (bodies : List Body)

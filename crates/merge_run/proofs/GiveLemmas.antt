@@ -16,25 +16,25 @@ use Rattle.t2mi_stream.specs.Complete.{complete_units}
 use Rattle.t2mi_stream.specs.Pipe.{pipe}
 use Rattle.frame_writer.specs.FramePackets.{packets_from}
 use Rattle.modulator.specs.Laws.{DueFollow}
-use Rattle.formed_frames.specs.Remade.{NumberedView, remade_bodies, remade_packets}
+use Rattle.stream_laws.specs.Remade.{NumberedView, remade_bodies, remade_packets}
 use Rattle.file_run.specs.Events.{Event, Gave, fed, has_ended, gave}
 use Rattle.file_run.specs.Laws.{EventsTell}
 use Rattle.feed_merge.specs.Picks.{picks, frames_of}
 use Rattle.feed_merge.specs.declared.seen.Feed.{Feed}
 use Rattle.feed_merge.specs.declared.seen.Feed.TheVariants.{A, B}
-use Rattle.pool_frame.specs.declared.frame.PoolFrame.{PoolFrame}
-use Rattle.held_feed.specs.Frames.{IsFrameOf}
-use Rattle.two_feeds.specs.Skips.{one_if, SkipsIf}
-use Rattle.held_feed.specs.StandsFor.{waiting_of, is_whole}
-use Rattle.held_feed.specs.StandsFor as feed
-use Rattle.held_feed.specs.declared.feed.FrameFeed.{FrameFeed}
+use Rattle.frame_writer.specs.declared.frame.PoolFrame.{PoolFrame}
+use Rattle.feed_merge.specs.Frames.{IsFrameOf}
+use Rattle.feed_merge.specs.Skips.{one_if, SkipsIf}
+use Rattle.feed_merge.specs.FeedStandsFor.{waiting_of, is_whole}
+use Rattle.feed_merge.specs.FeedStandsFor as feed
+use Rattle.feed_merge.specs.declared.feed.FrameFeed.{FrameFeed}
 use Rattle.feed_merge.specs.StandsFor.{MergerStandsFor, GivesUnits, has_finished, is_fed, bytes_left}
 use Rattle.feed_merge.specs.StandsFor as merger
 use Rattle.feed_merge.specs.declared.merger.Merger.{Merger}
 use Rattle.merge_run.specs.Sending.{left_for}
 use Rattle.merge_run.specs.Shown.{Sends, IsGiving, IsResting, IsIn, is_held, feed_of, left_at}
-use Rattle.two_feeds.specs.Both.{OfFeed, IsPast, AreFedWith}
-use Rattle.two_feeds.specs.Fed.{IsFedWith, IsBehind}
+use Rattle.feed_merge.specs.Both.{OfFeed, IsPast, AreFedWith}
+use Rattle.feed_merge.specs.Fed.{IsFedWith, IsBehind}
 use Rattle.merge_run.specs.Shown.{more_units, frame_bytes, Shown}
 use Rattle.merge_run.specs.Steps.{left_in, left_of}
 use Rattle.merge_run.specs.Taking.{is_same, feed_in}
@@ -42,8 +42,8 @@ use Rattle.merge_run.specs.declared.machine.MergeMachine.{MergeMachine}
 use Rattle.merge_run.specs.declared.phase.Phase.{Phase}
 use Rattle.merge_run.specs.declared.phase.Phase.TheVariants.{Reads, Gives, Rests, Done}
 use Rattle.merge_run.specs.declared.stop.Ran.{Ran}
-use Rattle.two_feeds.proofs.HeldLemmas as held
-use Rattle.two_feeds.proofs.EventLemmas.{gave_both}
+use Rattle.feed_merge.proofs.HeldLemmas as held
+use Rattle.feed_merge.proofs.EventLemmas.{gave_both}
 use Rattle.merge_run.proofs.LiveLemmas.{live_given}
 use Rattle.merge_run.proofs.SendLemmas.{sends_units, sends_none}
 use Rattle.merge_run.proofs.UnitLemmas.{left_is}

@@ -7,12 +7,12 @@ use Rattle.frame_groups.specs.Modulated.{FrameRecord}
 use Rattle.merge_run.specs.Counted.{counted}
 use Rattle.merge_run.specs.Laws.{MustRun, OneRun, RunEnds}
 use Rattle.merge_run.specs.MergeRun.{picked_of, units_of}
-use Rattle.two_feeds.specs.Fed.{AreEarly}
+use Rattle.feed_merge.specs.Fed.{AreEarly}
 use Rattle.merge_run.specs.declared.stop.MergeStop.{MergeStop}
 use Rattle.merge_run.specs.declared.stop.MergeStop.TheVariants.{NoSuperframe, TooManyFrames}
 use Rattle.merge_run.specs.declared.stop.Ran.{Ran}
-use Rattle.two_feeds.proofs.EarlyLemmas.{not_late, early_none, early_or_late, some_is}
-use Rattle.two_feeds.proofs.FilesLemmas.{two}
+use Rattle.feed_merge.proofs.EarlyLemmas.{not_late, early_none, early_or_late, some_is}
+use Rattle.feed_merge.proofs.FilesLemmas.{two}
 
 none_some : (c : Config) (files : ℕ → List ℕ) → ((input : ℕ) → input < 2 → records_of c (files input) ≡ [])
     → (records_of c (files 0) ≢ []) ⊎ (records_of c (files 1) ≢ []) → ⊥

@@ -3,18 +3,18 @@ use Rattle.std.proofs.Common.{◌≡◌, ℕ, ◌≤◌, max, Bool, List, [], �
 use Rattle.plp_config.specs.declared.config.Config.{Config}
 use Rattle.frame_groups.specs.Modulated.{FrameRecord}
 use Rattle.t2mi_stream.specs.Complete.{complete_units}
-use Rattle.formed_frames.specs.Remade.{remade_packets}
+use Rattle.stream_laws.specs.Remade.{remade_packets}
 use Rattle.file_run.specs.Events.{Event, Gave, fed}
 use Rattle.file_run.specs.Laws.{EventsTell}
-use Rattle.held_feed.specs.declared.feed.FrameFeed.{FrameFeed}
+use Rattle.feed_merge.specs.declared.feed.FrameFeed.{FrameFeed}
 use Rattle.feed_merge.specs.Laws.{AreOf}
 use Rattle.feed_merge.specs.Picks.{Picked, picks, above_all, frames_of}
 use Rattle.feed_merge.proofs.GrowLemmas.{all_below}
 use Rattle.merge_run.specs.Shown.{IsLive}
-use Rattle.two_feeds.specs.Both.{IsDueBelow}
-use Rattle.two_feeds.specs.Fed.{IsFedWith}
-use Rattle.two_feeds.proofs.BothLemmas.{due_below}
-use Rattle.two_feeds.proofs.NumberLemmas.{AllFrom, below_of}
+use Rattle.feed_merge.specs.Both.{IsDueBelow}
+use Rattle.feed_merge.specs.Fed.{IsFedWith}
+use Rattle.feed_merge.proofs.BothLemmas.{due_below}
+use Rattle.feed_merge.proofs.NumberLemmas.{AllFrom, below_of}
 use Rattle.merge_run.proofs.SplitLemmas.{picks_split}
 
 -- all complete units of the frames that were picked were given

@@ -18,9 +18,9 @@ use Rattle.feed_merge.specs.declared.seen.Feed.TheVariants.{A, B}
 use Rattle.feed_merge.specs.Picking.{is_at, is_there, source_at, pick_at, picked}
 use Rattle.feed_merge.specs.Picks.{is_frame, Picked, frame_from, pick_of}
 use Rattle.merge_run.specs.Sending.{numbered}
-use Rattle.two_feeds.specs.Reading.{least_of}
-use Rattle.two_feeds.specs.Skips.{IsOnly, AreTaken}
-use Rattle.two_feeds.specs.Seen.{seen_of}
+use Rattle.feed_merge.specs.Reading.{least_of}
+use Rattle.feed_merge.specs.Skips.{IsOnly, AreTaken}
+use Rattle.feed_merge.specs.Seen.{seen_of}
 
 -- the least number is the one that is picked
 pub picked_at : (v w : Option Waiting) (n : ℕ) → least_of v w ≡ Some n → picked (seen_of v) (seen_of w)

@@ -15,7 +15,7 @@ use Rattle.t2mi_stream.specs.CompleteLaws.{CompleteLaw}
 use Rattle.t2mi_stream.specs.Pipe.{pipe}
 use Rattle.t2mi_stream.proofs.CompleteLemmas.{complete_law}
 use Rattle.frame_writer.proofs.UnitsLemmas.{front_then}
-use Rattle.formed_frames.specs.Remade.{NumberedView, remade_packets, remade_bodies}
+use Rattle.stream_laws.specs.Remade.{NumberedView, remade_packets, remade_bodies}
 use Rattle.feed_merge.proofs.FrontLemmas.{packets_more, more_within}
 use Rattle.feed_merge.specs.declared.merger.Merger.{Merger}
 use Rattle.feed_merge.specs.declared.seen.Feed.{Feed}

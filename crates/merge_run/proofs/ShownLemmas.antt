@@ -5,11 +5,11 @@ use Rattle.std.proofs.Common.{refl, ap, sym, subst, ◌∙◌, arith, append-nil
 use Rattle.plp_config.specs.declared.config.Config.{Config}
 use Rattle.t2mi_stream.specs.Complete.{complete_units, complete_in}
 use Rattle.t2mi_stream.specs.Pipe.{pipe}
-use Rattle.formed_frames.specs.Remade.{NumberedView, remade_packets}
+use Rattle.stream_laws.specs.Remade.{NumberedView, remade_packets}
 use Rattle.file_run.specs.Events.{Event, Gave, fed, gave}
 use Rattle.file_run.specs.Laws.{EventsTell}
 use Rattle.file_run.specs.Steps.{HasCome}
-use Rattle.held_feed.specs.declared.feed.FrameFeed.{FrameFeed}
+use Rattle.feed_merge.specs.declared.feed.FrameFeed.{FrameFeed}
 use Rattle.feed_merge.specs.Picks.{Picked, picks, frames_of}
 use Rattle.feed_merge.specs.StandsFor.{MergerStandsFor, has_unit, has_finished}
 use Rattle.feed_merge.specs.StandsFor as merger
@@ -17,7 +17,7 @@ use Rattle.feed_merge.specs.declared.merger.Merger.{Merger}
 use Rattle.merge_run.specs.Counted.{counted}
 use Rattle.merge_run.specs.AsMachine.{Becomes}
 use Rattle.merge_run.specs.Shown.{Sends, IsReading, IsLive, IsIn, Shown, HasShown}
-use Rattle.two_feeds.specs.Both.{AreFedWith, GoOn}
+use Rattle.feed_merge.specs.Both.{AreFedWith, GoOn}
 use Rattle.merge_run.specs.Shown.{is_held, feed_of, left_at, more_units, frame_bytes}
 use Rattle.merge_run.specs.Taking.{feed_in}
 use Rattle.feed_merge.specs.declared.seen.Feed.TheVariants.{A, B}
@@ -25,7 +25,7 @@ use Rattle.merge_run.specs.declared.phase.Phase.{Phase}
 use Rattle.merge_run.specs.declared.machine.MergeMachine.{MergeMachine}
 use Rattle.merge_run.specs.declared.phase.Phase.TheVariants.{Reads}
 use Rattle.merge_run.specs.declared.stop.Ran.{Ran}
-use Rattle.two_feeds.proofs.EventLemmas.{gave_both}
+use Rattle.feed_merge.proofs.EventLemmas.{gave_both}
 use Rattle.merge_run.proofs.LiveLemmas.{live_all, live_given}
 use Rattle.merge_run.proofs.SplitLemmas.{picks_nothing}
 

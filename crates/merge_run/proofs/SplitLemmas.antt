@@ -17,7 +17,7 @@ use Rattle.feed_merge.specs.declared.seen.Feed.{Feed}
 use Rattle.feed_merge.specs.declared.seen.Feed.TheVariants.{A, B}
 use Rattle.feed_merge.specs.Picks.{Picked, frame_from, picks_below, above_all, picks}
 use Rattle.feed_merge.proofs.GrowLemmas.{test, or_none, pick, all_below}
-use Rattle.two_feeds.proofs.NumberLemmas.{AllFrom, below_of}
+use Rattle.feed_merge.proofs.NumberLemmas.{AllFrom, below_of}
 
 -- ---- which frames are found
 

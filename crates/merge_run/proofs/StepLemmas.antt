@@ -2,9 +2,9 @@
 use Rattle.std.proofs.Common.{◌≡◌, ℕ, refl, ap, sym, ◌∙◌}
 use Rattle.file_run.specs.declared.machine.Step.{Step}
 use Rattle.file_run.specs.declared.machine.Step.TheVariants.{Give, End}
-use Rattle.held_feed.specs.StandsFor.{waiting_of, has_ended}
-use Rattle.two_feeds.specs.Reading.{step_for}
-use Rattle.two_feeds.proofs.StepLemmas.{GoesOn, goes_on}
+use Rattle.feed_merge.specs.FeedStandsFor.{waiting_of, has_ended}
+use Rattle.feed_merge.specs.Reading.{step_for}
+use Rattle.feed_merge.proofs.StepLemmas.{GoesOn, goes_on}
 use Rattle.merge_run.specs.Steps.{step_in, step_of}
 use Rattle.merge_run.specs.declared.machine.MergeMachine.{MergeMachine}
 use Rattle.merge_run.specs.declared.phase.Phase.{Phase}

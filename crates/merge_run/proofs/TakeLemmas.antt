@@ -4,9 +4,9 @@ use Rattle.std.proofs.lemmas.Bool.{true≢false}
 use Rattle.plp_config.specs.declared.moment.TheConstants.{MOST_FRAMES}
 use Rattle.frame_groups.specs.declared.waiting.Waiting.{Waiting}
 use Rattle.feed_merge.specs.declared.seen.Feed.{Feed}
-use Rattle.two_feeds.specs.Skips.{CanBeLeft}
-use Rattle.held_feed.specs.StandsFor.{is_whole}
-use Rattle.two_feeds.proofs.CameLemmas.{less_of, nothing_of}
+use Rattle.feed_merge.specs.Skips.{CanBeLeft}
+use Rattle.feed_merge.specs.FeedStandsFor.{is_whole}
+use Rattle.feed_merge.proofs.BothCameLemmas.{less_of, nothing_of}
 
 -- if fewer are left behind
 pub can_less : (b t : Bool) (o : Option Waiting) → CanBeLeft b o → CanBeLeft (b && t) o

@@ -4,16 +4,16 @@ use Rattle.plp_config.specs.declared.config.Config.{Config}
 use Rattle.t2mi_packet.specs.declared.packet.Body.{Body}
 use Rattle.frame_writer.specs.FirstPacket.{from_step}
 use Rattle.frame_writer.specs.FramePackets.{l1_body}
-use Rattle.pool_frame.specs.Left.{CanBeSent, blocks_left}
-use Rattle.pool_frame.specs.Signalling.{pre_part, conf_part}
-use Rattle.pool_frame.specs.declared.frame.PoolFrame.{PoolFrame}
-use Rattle.held_feed.specs.Frames.{IsFrameOf}
-use Rattle.held_feed.specs.StandsFor as feed
-use Rattle.held_feed.specs.declared.feed.FrameFeed.{FrameFeed}
+use Rattle.frame_writer.specs.Left.{CanBeSent, blocks_left}
+use Rattle.frame_writer.specs.Signalling.{pre_part, conf_part}
+use Rattle.frame_writer.specs.declared.frame.PoolFrame.{PoolFrame}
+use Rattle.feed_merge.specs.Frames.{IsFrameOf}
+use Rattle.feed_merge.specs.FeedStandsFor as feed
+use Rattle.feed_merge.specs.declared.feed.FrameFeed.{FrameFeed}
 use Rattle.feed_merge.specs.StandsFor.{config_of, left_in}
 use Rattle.feed_merge.specs.declared.merger.Merger.{Merger}
 use Rattle.merge_run.specs.Sending.{left_for}
-use Rattle.two_feeds.proofs.CameLemmas.{number_of}
+use Rattle.feed_merge.proofs.BothCameLemmas.{number_of}
 
 -- what is left of a frame is what is left of it where it waits
 pub left_is : (g : Merger) (f : FrameFeed) (frame : PoolFrame) → IsFrameOf f frame → feed.config_of f ≡ config_of g

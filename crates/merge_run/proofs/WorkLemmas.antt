@@ -5,7 +5,7 @@ use Rattle.std.specs.Prelude.{Err, slice_index}
 use Rattle.terms.proofs.CaseLemmas.{bool_cases}
 use Rattle.plp_config.specs.declared.config.Config.{Config}
 use Rattle.plp_config.specs.declared.moment.TheConstants.{MOST_FRAMES}
-use Rattle.desk_io.specs.Reading.{longest_file}
+use Rattle.file_run.specs.Reading.{longest_file}
 use Rattle.modulator.specs.Laws.{DueFront, DueFollow}
 use Rattle.t2mi_stream.specs.CompleteLaws.{CompleteLaw}
 use Rattle.feed_merge.specs.Picks.{picks, frames_of}
@@ -22,14 +22,14 @@ use Rattle.merge_run.specs.MergeRun.{MayWrite, HasSome}
 use Rattle.merge_run.specs.MergeRun.{merge_work}
 use Rattle.merge_run.specs.Shown.{Shown, IsDone, IsIn, is_held}
 use Rattle.feed_merge.specs.declared.seen.Feed.TheVariants.{A, B}
-use Rattle.two_feeds.specs.Reading.{step_for}
+use Rattle.feed_merge.specs.Reading.{step_for}
 use Rattle.merge_run.specs.Steps.{step_in, step_of, reach_of}
 use Rattle.merge_run.specs.declared.machine.MergeMachine.{MergeMachine}
 use Rattle.merge_run.specs.declared.phase.Phase.{Phase}
 use Rattle.merge_run.specs.declared.phase.Phase.TheVariants as phase
-use Rattle.two_feeds.proofs.BothLemmas.{whole_all}
-use Rattle.two_feeds.proofs.StepLemmas.{is_late, needs_by, short_by}
-use Rattle.two_feeds.proofs.WantLemmas.{fed_count}
+use Rattle.feed_merge.proofs.BothLemmas.{whole_all}
+use Rattle.feed_merge.proofs.StepLemmas.{is_late, needs_by, short_by}
+use Rattle.feed_merge.proofs.WantLemmas.{fed_count}
 use Rattle.merge_run.proofs.StepLemmas.{asked}
 use Rattle.merge_run.proofs.FilesLemmas.{merges_all, has_none, has_late, has_read, ahead, gave_front, since}
 

@@ -4,7 +4,7 @@ use Rattle.modulator.specs.StandsFor.{records_of}
 use Rattle.plp_config.specs.declared.config.Config.{Config}
 use Rattle.merge_run.specs.Counted.{counted}
 use Rattle.merge_run.specs.MergeRun.{picked_of, units_of}
-use Rattle.two_feeds.specs.Fed.{AreEarly}
+use Rattle.feed_merge.specs.Fed.{AreEarly}
 use Rattle.merge_run.specs.declared.stop.Ran.{Ran}
 use Rattle.merge_run.specs.declared.stop.MergeStop.{MergeStop}
 use Rattle.merge_run.specs.declared.stop.MergeStop.TheVariants.{NoSuperframe, TooManyFrames}

@@ -7,14 +7,14 @@ use Rattle.t2mi_stream.specs.Complete.{complete_units}
 use Rattle.t2mi_stream.specs.Pipe.{pipe}
 use Rattle.frame_groups.specs.Laws.{IsPrefix}
 use Rattle.modulator.specs.StandsFor.{records_of}
-use Rattle.formed_frames.specs.Remade.{remade_packets}
+use Rattle.stream_laws.specs.Remade.{remade_packets}
 use Rattle.feed_merge.specs.Picks.{Picked, picks, picks_below, frames_of}
-use Rattle.desk_io.specs.Reading.{longest_file}
+use Rattle.file_run.specs.Reading.{longest_file}
 use Rattle.file_run.specs.FileRun.{read_ahead}
 use Rattle.file_run.specs.Work.{Work, AreWhole}
 use Rattle.file_run.specs.declared.stop.RunFault.TheVariants.{TooLong, ReadFault, WriteFault}
 use Rattle.file_run.specs.declared.stop.RunStop.TheVariants.{Refused, Files, OutOfMemory}
-use Rattle.two_feeds.specs.Fed.{AreEarly, end_by, ReadsAhead}
+use Rattle.feed_merge.specs.Fed.{AreEarly, end_by, ReadsAhead}
 use Rattle.merge_run.specs.Counted.{counted}
 use Rattle.merge_run.specs.declared.stop.MergeStop.{MergeStop}
 use Rattle.merge_run.specs.declared.stop.MergeStop.TheVariants.{NoSuperframe, TooManyFrames}

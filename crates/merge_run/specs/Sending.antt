@@ -10,11 +10,11 @@ use Rattle.frame_groups.specs.Modulated.Content.{Whole}
 use Rattle.frame_writer.specs.Flowing.{packet_bound}
 use Rattle.open_group.specs.Written.{content_view}
 use Rattle.modulator.specs.StandsFor.{records_due}
-use Rattle.formed_frames.specs.Remade.{NumberedView, remade_bodies, view_bodies}
-use Rattle.held_feed.specs.Frames.{dynamic_of, lists_of}
-use Rattle.held_feed.specs.StandsFor.{FrameFeedStandsFor}
-use Rattle.held_feed.specs.StandsFor as feed
-use Rattle.held_feed.specs.declared.feed.FrameFeed.{FrameFeed}
+use Rattle.stream_laws.specs.Remade.{NumberedView, remade_bodies, view_bodies}
+use Rattle.feed_merge.specs.Frames.{dynamic_of, lists_of}
+use Rattle.feed_merge.specs.FeedStandsFor.{FrameFeedStandsFor}
+use Rattle.feed_merge.specs.FeedStandsFor as feed
+use Rattle.feed_merge.specs.declared.feed.FrameFeed.{FrameFeed}
 use Rattle.feed_merge.specs.StandsFor.{MergerStandsFor, config_of, left_by, has_finished, bytes_left}
 use Rattle.feed_merge.specs.declared.merger.Merger.{Merger}
 

@@ -10,18 +10,18 @@ use Rattle.frame_groups.specs.Modulated.{FrameRecord}
 use Rattle.frame_groups.specs.declared.waiting.Waiting.{Waiting}
 use Rattle.t2mi_stream.specs.Complete.{complete_units}
 use Rattle.t2mi_stream.specs.Pipe.{pipe}
-use Rattle.formed_frames.specs.Remade.{NumberedView, remade_bodies, remade_packets}
+use Rattle.stream_laws.specs.Remade.{NumberedView, remade_bodies, remade_packets}
 use Rattle.file_run.specs.Events.{Event, fed, gave}
 use Rattle.feed_merge.specs.Picks.{picks, picks_below, frames_of}
 use Rattle.feed_merge.specs.declared.seen.Feed.{Feed}
 use Rattle.feed_merge.specs.declared.seen.Feed.TheVariants.{A, B}
-use Rattle.held_feed.specs.StandsFor.{waiting_of, is_whole}
-use Rattle.held_feed.specs.declared.feed.FrameFeed.{FrameFeed}
+use Rattle.feed_merge.specs.FeedStandsFor.{waiting_of, is_whole}
+use Rattle.feed_merge.specs.declared.feed.FrameFeed.{FrameFeed}
 use Rattle.feed_merge.specs.StandsFor.{MergerStandsFor, has_unit, has_finished, is_fed, bytes_left}
 use Rattle.feed_merge.specs.StandsFor as merger
 use Rattle.feed_merge.specs.declared.merger.Merger.{Merger}
-use Rattle.two_feeds.specs.Both.{AreFedWith, IsDueBelow}
-use Rattle.two_feeds.specs.Fed.{NoneComes}
+use Rattle.feed_merge.specs.Both.{AreFedWith, IsDueBelow}
+use Rattle.feed_merge.specs.Fed.{NoneComes}
 use Rattle.merge_run.specs.Counted.{counted}
 use Rattle.merge_run.specs.Sending.{left_for}
 use Rattle.merge_run.specs.Taking.{is_same, feed_in}

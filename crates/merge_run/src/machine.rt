@@ -2,12 +2,10 @@
 use crate::phase::Phase;
 use crate::stop::{MergeStop, Ran};
 use bit_slice::OutOfMemory;
-use feed_merge::{Feed, Merger};
+use feed_merge::{Feed, FrameFeed, Merger, end_one, feed_one, next_step};
 use file_run::{Ending, Machine, Step, events_law};
-use held_feed::FrameFeed;
 use plp_config::Plan;
 use std::alloc::Global;
-use two_feeds::{end_one, feed_one, next_step};
 
 /// A merger that is fed with the bytes of two inputs and gives the bytes of its units: two feeds of a network, and the merger of
 /// their frames.

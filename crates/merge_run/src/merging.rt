@@ -6,8 +6,8 @@ ghost use Rattle.ts_packet.specs.declared.sizes.TheConstants.{SIZE};
 ghost use Rattle.file_run.specs.Events.{Event, Gave};
 ghost use Rattle.file_run.specs.declared.machine.TheConstants.{PIECE};
 ghost use Rattle.file_run.specs.declared.machine.Step.TheVariants.{Give};
-ghost use Rattle.two_feeds.specs.Reading.{is_idle, least_of};
-ghost use Rattle.held_feed.specs.StandsFor.{waiting_of, has_ended, fed_of};
+ghost use Rattle.feed_merge.specs.Reading.{is_idle, least_of};
+ghost use Rattle.feed_merge.specs.FeedStandsFor.{waiting_of, has_ended, fed_of};
 ghost use Rattle.merge_run.specs.Shown.{Shown, HasShown};
 ghost use Rattle.merge_run.specs.Steps.{step_of, left_of};
 ghost use Rattle.merge_run.specs.declared.phase.Phase.TheVariants as phase;
@@ -16,13 +16,12 @@ use crate::machine::MergeMachine;
 use crate::phase::Phase;
 use crate::sending::{begin_frame, give_frame};
 use crate::taking::{is_picked, pick_next, skip_others, skip_source, source_of};
-use feed_merge::grow_law;
+use feed_merge::{grow_law, least_number};
 use file_run::events_law;
-use formed_frames::formed_law;
 use modulator::due_records_law;
 use plp_config::block_law;
+use stream_laws::formed_law;
 use ts_packet::SIZE;
-use two_feeds::least_number;
 
 impl<'p> MergeMachine<'p> {
     // Leaves the records of the least number behind, but for the one that is picked: its frame is begun.

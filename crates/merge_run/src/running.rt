@@ -1,7 +1,7 @@
 // A run of the merger of a plan.
 ghost use Rattle.std.specs.Prelude.{◌≢◌};
 ghost use Rattle.file_run.specs.Work.{Ends, Into};
-ghost use Rattle.two_feeds.specs.Fed.{names_of};
+ghost use Rattle.feed_merge.specs.Fed.{names_of};
 ghost use Rattle.merge_run.specs.MergeRun.{merge_work};
 
 use crate::machine::MergeMachine;

@@ -2,16 +2,15 @@
 ghost use Rattle.std.specs.Prelude.{◌≡◌, ◌<◌, ◌≤◌, false, true, length, take, ◌+◌};
 ghost use Rattle.plp_config.specs.declared.moment.TheConstants.{MOST_FRAMES};
 ghost use Rattle.ts_packet.specs.declared.sizes.TheConstants.{SIZE};
-ghost use Rattle.pool_frame.specs.declared.frame.PoolFrame.{PoolFrame};
-ghost use Rattle.held_feed.specs.Frames.{IsFrameOf};
-ghost use Rattle.held_feed.specs.StandsFor.{config_of as network_of, waiting_of, is_whole};
+ghost use Rattle.frame_writer.specs.declared.frame.PoolFrame.{PoolFrame};
+ghost use Rattle.feed_merge.specs.Frames.{IsFrameOf};
+ghost use Rattle.feed_merge.specs.FeedStandsFor.{config_of as network_of, waiting_of, is_whole};
 ghost use Rattle.feed_merge.specs.StandsFor.{GivesUnits, config_of, has_unit, has_finished};
 ghost use Rattle.merge_run.specs.Sending.{Begins};
 
-use feed_merge::Merger;
-use formed_frames::shown_law;
-use held_feed::FrameFeed;
+use feed_merge::{FrameFeed, Merger};
 use modulator::due_records_law;
+use stream_laws::shown_law;
 
 /// Begins the frame that waits in a feed of the same network.
 pub fn begin_frame(merger: &mut Merger<'_>, feed: &FrameFeed<'_>, number: u64)

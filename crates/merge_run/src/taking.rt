@@ -2,15 +2,13 @@
 ghost use Rattle.std.specs.Prelude.{◌≡◌, is_some};
 ghost use Rattle.feed_merge.specs.Picking.{picked};
 ghost use Rattle.feed_merge.specs.declared.seen.Feed.TheVariants.{A, B};
-ghost use Rattle.held_feed.specs.StandsFor.{waiting_of};
-ghost use Rattle.two_feeds.specs.Skips.{CanBeLeft, SkipsIf};
+ghost use Rattle.feed_merge.specs.FeedStandsFor.{waiting_of};
+ghost use Rattle.feed_merge.specs.Skips.{CanBeLeft, SkipsIf};
 ghost use Rattle.merge_run.specs.Taking.{is_same, is_from, leaves, feed_in};
-ghost use Rattle.two_feeds.specs.Seen.{seen_of};
+ghost use Rattle.feed_merge.specs.Seen.{seen_of};
 
-use feed_merge::{Feed, Pick, Seen, pick};
+use feed_merge::{Feed, FrameFeed, Pick, Seen, pick, skip_if};
 use frame_groups::Waiting;
-use held_feed::FrameFeed;
-use two_feeds::skip_if;
 
 // A record that waits, as it is seen.
 fn seen(waiting: Option<Waiting>) -> Option<Seen>

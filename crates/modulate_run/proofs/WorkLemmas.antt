@@ -15,7 +15,7 @@ use Rattle.frame_groups.specs.declared.waiting.Waiting.{Waiting}
 use Rattle.open_group.specs.Written.{spelled}
 use Rattle.modulator.specs.Laws.{DueFront}
 use Rattle.modulator.specs.StandsFor.{records_due, bytes_due, config_of, fed_of, next_of, records_of}
-use Rattle.desk_io.specs.Reading.{longest_file}
+use Rattle.file_run.specs.Reading.{longest_file}
 use Rattle.file_run.specs.Events.{Event, fed, has_ended, gave}
 use Rattle.file_run.specs.FileRun.{IsFed, AreFed, read_ahead}
 use Rattle.file_run.specs.Steps.{Needs, FallsShort}

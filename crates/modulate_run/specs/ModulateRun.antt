@@ -8,7 +8,7 @@ use Rattle.frame_groups.specs.Laws.{IsPrefix}
 use Rattle.frame_groups.specs.Modulated.{FrameRecord}
 use Rattle.open_group.specs.Written.{spelled}
 use Rattle.modulator.specs.StandsFor.{records_due, bytes_due, records_of}
-use Rattle.desk_io.specs.Reading.{longest_file}
+use Rattle.file_run.specs.Reading.{longest_file}
 use Rattle.file_run.specs.FileRun.{read_ahead}
 use Rattle.file_run.specs.Work.{Work, AreWhole}
 use Rattle.file_run.specs.declared.stop.RunFault.TheVariants.{TooLong, ReadFault, WriteFault}

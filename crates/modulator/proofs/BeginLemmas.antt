@@ -14,7 +14,7 @@ use Rattle.frame_groups.specs.declared.cause.MuteCause.{MuteCause}
 use Rattle.frame_groups.specs.declared.cause.MuteCause.TheVariants.{Gap}
 use Rattle.frame_groups.specs.declared.waiting.Progress.{Progress}
 use Rattle.frame_groups.specs.declared.waiting.Waiting.{Waiting}
-use Rattle.frame_tests.specs.Tests.{rules}
+use Rattle.frame_groups.specs.Tests.{rules}
 use Rattle.open_group.specs.FrameBytes.{bytes_left}
 use Rattle.open_group.specs.Holds.{Holds}
 use Rattle.open_group.specs.Written.{spelled}

@@ -20,7 +20,7 @@ use Rattle.frame_groups.specs.Modulated.Content.{Whole, Muted}
 use Rattle.frame_groups.specs.declared.cause.MuteCause.{MuteCause}
 use Rattle.frame_groups.specs.declared.cause.MuteCause.TheVariants.{Gap}
 use Rattle.record_laws.specs.Frames.{HasByteIds}
-use Rattle.frame_tests.specs.Tests.{rules}
+use Rattle.frame_groups.specs.Tests.{rules}
 use Rattle.open_group.specs.Laws.{RecordSpelled}
 use Rattle.modulator.specs.Laws.{DueFront, DueFollow, DueSpelled, AreSpelled, DuePass, PassesAmong, IsRight}
 use Rattle.modulator.specs.Modulating.{packet_of, packets_of}

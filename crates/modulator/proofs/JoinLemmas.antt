@@ -16,7 +16,7 @@ use Rattle.frame_groups.specs.Records.{record_of}
 use Rattle.frame_groups.specs.Sequenced.{Follows, Sequenced, known_number}
 use Rattle.frame_groups.specs.Waits.{waits_by}
 use Rattle.frame_groups.specs.declared.cause.MuteCause.{MuteCause}
-use Rattle.frame_tests.specs.Tests.{rules}
+use Rattle.frame_groups.specs.Tests.{rules}
 use Rattle.modulator.specs.Modulating.{StandsAt, IsSettled, has_record}
 use Rattle.modulator.specs.StandsFor.{records_due}
 use Rattle.modulator.specs.declared.modulating.Modulating.{Modulating}

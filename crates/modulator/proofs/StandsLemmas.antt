@@ -25,7 +25,7 @@ use Rattle.t2mi_stream.specs.Laws.{EventsPush, AcceptedFront}
 use Rattle.t2mi_stream.specs.Units.{accepted_of}
 use Rattle.t2mi_stream.specs.UnpiperStandsFor.{UnpiperStandsFor, is_ready, next_packet, AllReleased}
 use Rattle.t2mi_stream.specs.declared.unpiper.Unpiper.{Unpiper}
-use Rattle.frame_tests.specs.Tests.{rules}
+use Rattle.frame_groups.specs.Tests.{rules}
 use Rattle.open_group.specs.Holds.{Holds}
 use Rattle.open_group.specs.declared.group.PooledGroup.{PooledGroup}
 use Rattle.plp_config.specs.declared.config.Config.{Config}

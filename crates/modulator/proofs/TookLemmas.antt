@@ -16,7 +16,7 @@ use Rattle.frame_groups.specs.Sequenced.{Keeps, Sequenced}
 use Rattle.frame_groups.specs.Waits.{waits, waits_by, waiting_of}
 use Rattle.frame_groups.specs.declared.waiting.Progress.{Progress}
 use Rattle.frame_groups.specs.declared.waiting.Waiting.{Waiting}
-use Rattle.frame_tests.specs.Tests.{rules}
+use Rattle.frame_groups.specs.Tests.{rules}
 use Rattle.open_group.specs.FrameBytes.{bytes_left}
 use Rattle.open_group.specs.Holds.{Holds}
 use Rattle.open_group.specs.Written.{spelled}
@@ -38,7 +38,7 @@ pub record IsNow (g : Option Group) (at : Progress) : Type 0 where
   pub group : Group
   pub has : g ≡ Some group
 
-some_of : {X : Type 0} (o : Option X) → is_some o ≡ true → (x : X) × (o ≡ Some x)
+pub some_of : {X : Type 0} (o : Option X) → is_some o ≡ true → (x : X) × (o ≡ Some x)
 some_of None e = absurd (true≢false (sym e))
 some_of (Some x) e = (x, refl)
 

@@ -12,7 +12,7 @@ use Rattle.open_group.specs.Written.{content_view, spelled}
 use Rattle.modulator.specs.StandsFor.{WaitsAs, records_due, bytes_due}
 use Rattle.frame_groups.specs.Groups.{Group, groups}
 use Rattle.frame_groups.specs.Modulated.Content.{Whole}
-use Rattle.frame_tests.specs.Tests.{group_fault, rules}
+use Rattle.frame_groups.specs.Tests.{group_fault, rules}
 use Rattle.t2mi_stream.specs.Units.{accepted_of}
 use Rattle.modulator.specs.Modulating.{packets_of}
 

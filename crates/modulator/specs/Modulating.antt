@@ -17,7 +17,7 @@ use Rattle.frame_groups.specs.Sequenced.{Keeps, Ends}
 use Rattle.frame_groups.specs.Waits.{waits, records_left, most_records, greatest_step, IsWithin}
 use Rattle.frame_groups.specs.declared.key.Key.{Key}
 use Rattle.frame_groups.specs.declared.waiting.Progress.{Progress}
-use Rattle.frame_tests.specs.Tests.{rules}
+use Rattle.frame_groups.specs.Tests.{rules}
 use Rattle.open_group.specs.Holds.{Holds}
 use Rattle.modulator.specs.declared.modulating.Modulating.{Modulating}
 

@@ -9,7 +9,7 @@ use Rattle.frame_groups.specs.Modulated.{Content, FrameRecord}
 use Rattle.frame_groups.specs.Modulated.Content.{Whole, Muted}
 use Rattle.frame_groups.specs.declared.cause.MuteCause.{MuteCause}
 use Rattle.frame_groups.specs.declared.waiting.Waiting.{Waiting}
-use Rattle.frame_tests.specs.Tests.{rules}
+use Rattle.frame_groups.specs.Tests.{rules}
 use Rattle.open_group.specs.FrameBytes.{bytes_left, most_left}
 use Rattle.open_group.specs.Written.{spelled}
 use Rattle.modulator.specs.Gives.{Gives}

@@ -11,7 +11,7 @@ use Rattle.std.proofs.lemmas.List.Folds.{list_any_at, list_any_none}
 use Rattle.std.proofs.lemmas.List.FromFn.{length-range_with_len, get_or-range_with_len}
 use Rattle.std.proofs.lemmas.List.Sums.{sum_by-cons}
 use Rattle.terms.proofs.RangeLemmas.{sums_same}
-use Rattle.frame_tests.proofs.TallyLemmas.{at_place}
+use Rattle.frame_groups.proofs.TallyLemmas.{at_place}
 use Rattle.linked_pool.specs.Pool.{State, list_at, chunks_for, appended}
 use Rattle.plp_config.specs.Capacity.{block_bytes}
 use Rattle.plp_config.specs.Places.{places, IsPlace, HasNoPlace}
@@ -20,9 +20,9 @@ use Rattle.plp_config.specs.declared.config.Config.{Config}
 use Rattle.t2mi_packet.specs.declared.packet.Body.{Body}
 use Rattle.t2mi_packet.specs.declared.packet.Body.TheVariants.{Block}
 use Rattle.t2mi_packet.specs.declared.packet.Packet.{Packet}
-use Rattle.frame_tests.specs.Carried.{body_block, has_length, blocks_of, right_blocks}
-use Rattle.frame_tests.specs.Tally.{Tally, tally_with, tally_need}
-use Rattle.frame_tests.specs.Tests.{body_known, is_known, greatest, capped}
+use Rattle.frame_groups.specs.Carried.{body_block, has_length, blocks_of, right_blocks}
+use Rattle.frame_groups.specs.Tally.{Tally, tally_with, tally_need}
+use Rattle.frame_groups.specs.Tests.{body_known, is_known, greatest, capped}
 use Rattle.open_group.specs.HoldsBlocks.{HoldsCounts, HoldsLists, Held, held_of}
 use Rattle.open_group.specs.Sent.{held_bytes}
 use Rattle.open_group.specs.declared.blocks.HeldBlocks.{HeldBlocks}

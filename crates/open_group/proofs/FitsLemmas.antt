@@ -4,9 +4,9 @@ use Rattle.std.specs.Prelude.{nat_le}
 use Rattle.std.proofs.lemmas.Bool.{cases_order, le-leb, lt-leb}
 use Rattle.plp_config.specs.declared.config.Config.{Config}
 use Rattle.t2mi_packet.specs.declared.packet.Packet.{Packet}
-use Rattle.frame_tests.proofs.TallyLemmas.{need_is}
-use Rattle.frame_tests.specs.Tally.{tally}
-use Rattle.frame_tests.specs.Tests.{pool_need, pool_chunks, capped}
+use Rattle.frame_groups.proofs.TallyLemmas.{need_is}
+use Rattle.frame_groups.specs.Tally.{tally}
+use Rattle.frame_groups.specs.Tests.{pool_need, pool_chunks, capped}
 use Rattle.open_group.specs.HoldsBlocks.{HoldsCounts}
 use Rattle.open_group.specs.Signals.{fits_pool}
 use Rattle.open_group.specs.declared.blocks.HeldBlocks.{HeldBlocks}

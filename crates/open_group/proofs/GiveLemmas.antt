@@ -6,7 +6,7 @@ use Rattle.frame_groups.specs.Modulated.{Numbered}
 use Rattle.linked_pool.specs.Pool.{State, list_at}
 use Rattle.plp_config.specs.declared.config.Config.{Config}
 use Rattle.t2mi_packet.specs.declared.packet.Packet.{Packet}
-use Rattle.frame_tests.specs.Tally.{Tally, tally}
+use Rattle.frame_groups.specs.Tally.{Tally, tally}
 use Rattle.open_group.specs.Holds.{HoldsPackets, Holds}
 use Rattle.open_group.specs.HoldsBlocks.{HoldsCounts, HoldsLists, Held, held_of}
 use Rattle.open_group.specs.HoldsL1.{HoldsL1}

@@ -28,20 +28,20 @@ use Rattle.t2mi_packet.specs.declared.packet.Body.TheVariants.{Block, L1Current,
 use Rattle.t2mi_packet.specs.declared.packet.Packet.{Packet}
 use Rattle.frame_groups.specs.declared.cause.MuteCause.{MuteCause}
 use Rattle.frame_groups.specs.declared.cause.MuteCause.TheVariants.{PacketMissing}
-use Rattle.frame_tests.specs.Carried.{body_block, has_length, blocks_of, right_blocks}
+use Rattle.frame_groups.specs.Carried.{body_block, has_length, blocks_of, right_blocks}
 use Rattle.frame_groups.specs.Modulated.{Numbered}
-use Rattle.frame_tests.specs.Begun.{packets_at}
-use Rattle.frame_tests.specs.Tests.{pool_test, missing_test, l1_test, time_test, first_shape, has_begun, has_count, has_counts}
-use Rattle.frame_tests.specs.Tests.{body_known, is_known}
-use Rattle.frame_tests.specs.Tests.{blocks_test, map_test, packets_fault}
+use Rattle.frame_groups.specs.Begun.{packets_at}
+use Rattle.frame_groups.specs.Tests.{pool_test, missing_test, l1_test, time_test, first_shape, has_begun, has_count, has_counts}
+use Rattle.frame_groups.specs.Tests.{body_known, is_known}
+use Rattle.frame_groups.specs.Tests.{blocks_test, map_test, packets_fault}
 use Rattle.record_laws.specs.Frames.{sent_block, sent_blocks, frame_view}
 use Rattle.record_laws.specs.Laws.{rest_size}
 use Rattle.site_frame.specs.Whole.{written_rest, record_bytes}
-use Rattle.record_writer.specs.Front.{post_with, front_bytes}
-use Rattle.record_writer.specs.Laws.{RecordWritten, BlockCount, RestLength, HasBlocks, post_size, written_frame}
-use Rattle.record_writer.specs.RecordBytes.{own_count, plp_block, list_blocks, list_at}
-use Rattle.record_writer.specs.Steps.{step_bytes}
-use Rattle.record_writer.specs.declared.step.Step.TheVariants.{Blocks}
+use Rattle.open_group.specs.Front.{post_with, front_bytes}
+use Rattle.open_group.specs.WriterLaws.{RecordWritten, BlockCount, RestLength, HasBlocks, post_size, written_frame}
+use Rattle.open_group.specs.RecordBytes.{own_count, plp_block, list_blocks, list_at}
+use Rattle.open_group.specs.Steps.{step_bytes}
+use Rattle.open_group.specs.declared.step.Step.TheVariants.{Blocks}
 use Rattle.open_group.specs.Sent.{held_bytes}
 use Rattle.open_group.specs.Written.{dynamic_in, packets_view}
 use Rattle.open_group.proofs.RoomLemmas.{none_first, none_behind}

@@ -13,10 +13,10 @@ use Rattle.plp_config.specs.Capacity.{block_bytes}
 use Rattle.plp_config.specs.declared.config.Config.{Config}
 use Rattle.t2mi_packet.specs.declared.packet.Packet.{Packet}
 use Rattle.t2mi_packet.specs.declared.packet.Stamp.{Stamp}
-use Rattle.frame_tests.specs.Carried.{l1s_of, stamps_of}
-use Rattle.frame_tests.specs.Laws.{TallyGrows}
-use Rattle.frame_tests.specs.Tally.{Tally, tally, tally_with, unlike_behind}
-use Rattle.frame_tests.specs.Tests.{capped}
+use Rattle.frame_groups.specs.Carried.{l1s_of, stamps_of}
+use Rattle.frame_groups.specs.TestLaws.{TallyGrows}
+use Rattle.frame_groups.specs.Tally.{Tally, tally, tally_with, unlike_behind}
+use Rattle.frame_groups.specs.Tests.{capped}
 use Rattle.open_group.specs.HoldsBlocks.{HoldsCounts, Held, held_of}
 use Rattle.open_group.specs.HoldsL1.{HoldsL1, AddsL1}
 use Rattle.open_group.specs.HoldsStamps.{AddsStamps, HoldsStamps}

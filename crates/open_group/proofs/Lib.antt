@@ -11,3 +11,10 @@ pub mod GiveLemmas
 pub mod TellLemmas
 pub mod SpelledLemmas
 pub mod FitsLemmas
+pub mod ScrambleLemmas
+pub mod RecordLemmas
+pub mod FittingLemmas
+pub mod ByteLemmas
+pub mod WrittenLemmas
+pub mod SizeLemmas
+pub mod LengthLemmas

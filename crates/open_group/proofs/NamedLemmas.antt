@@ -8,10 +8,10 @@ use Rattle.plp_config.specs.declared.config.Config.{Config}
 use Rattle.t2mi_packet.specs.declared.packet.Stamp.{Stamp}
 use Rattle.frame_groups.specs.Groups.{Group}
 use Rattle.frame_groups.specs.Numbers.{frame_key}
-use Rattle.frame_tests.specs.Carried.{stamps_of}
-use Rattle.frame_tests.specs.Laws.{IsNamed, FrameNamed}
+use Rattle.frame_groups.specs.Carried.{stamps_of}
+use Rattle.frame_groups.specs.TestLaws.{IsNamed, FrameNamed}
 use Rattle.plp_config.specs.declared.moment.TheConstants.{MOST_FRAMES}
-use Rattle.frame_tests.specs.Tests.{moment_of, named_frame}
+use Rattle.frame_groups.specs.Tests.{moment_of, named_frame}
 
 module _ (law : FrameNamed) (c : Config) (all : AllRules c) (g : Group) where
   -- a frame that it names is the one that is named

@@ -4,7 +4,7 @@ use Rattle.std.proofs.lemmas.Bool.{true≢false}
 use Rattle.frame_groups.specs.Groups.{Group}
 use Rattle.frame_groups.specs.Modulated.{Numbered, past_with}
 use Rattle.frame_groups.specs.Sequenced.{IsAbove, past_of}
-use Rattle.frame_tests.specs.Tally.{tally}
+use Rattle.frame_groups.specs.Tally.{tally}
 use Rattle.open_group.specs.Holds.{Holds}
 use Rattle.open_group.specs.HoldsBlocks.{HoldsCounts}
 use Rattle.open_group.specs.HoldsPast.{HoldsPast}

@@ -18,13 +18,13 @@ use Rattle.frame_groups.specs.Modulated.{Numbered}
 use Rattle.frame_groups.specs.Sequenced.{IsAbove}
 use Rattle.frame_groups.specs.declared.cause.MuteCause.{MuteCause}
 use Rattle.frame_groups.specs.declared.cause.MuteCause.TheVariants.{PoolFull}
-use Rattle.frame_tests.specs.Begun.{is_begin, packets_at}
-use Rattle.frame_tests.specs.Carried.{blocks_of, right_blocks}
-use Rattle.frame_tests.specs.Tally.{tally}
-use Rattle.frame_tests.specs.Tests.{pool_chunks, pool_need, capped, room_test, begun_test, first_failure}
-use Rattle.frame_tests.proofs.BegunLemmas.{at_own, at_other, no_need, none_begins, none_fails, one_fails, has_room, lacks_room}
-use Rattle.frame_tests.proofs.BegunLemmas.{no_room_asked}
-use Rattle.frame_tests.proofs.TallyLemmas.{at_place, need_is}
+use Rattle.frame_groups.specs.Begun.{is_begin, packets_at}
+use Rattle.frame_groups.specs.Carried.{blocks_of, right_blocks}
+use Rattle.frame_groups.specs.Tally.{tally}
+use Rattle.frame_groups.specs.Tests.{pool_chunks, pool_need, capped, room_test, begun_test, first_failure}
+use Rattle.frame_groups.proofs.BegunLemmas.{at_own, at_other, no_need, none_begins, none_fails, one_fails, has_room, lacks_room}
+use Rattle.frame_groups.proofs.BegunLemmas.{no_room_asked}
+use Rattle.frame_groups.proofs.TallyLemmas.{at_place, need_is}
 use Rattle.open_group.specs.HoldsBlocks.{HoldsCounts}
 use Rattle.open_group.specs.HoldsPast.{begun_at, need_at, noted, AreFalling, IsBegun, IsNeeded, HoldsPast}
 use Rattle.open_group.specs.declared.blocks.HeldBlocks.{HeldBlocks}
@@ -61,7 +61,7 @@ above_less [] n m above low = tt
 above_less (b ∷ past) n m above low = omega (arith, above, low)
 
 -- no group has a number above all
-none_above : (past : List Numbered) (n m : ℕ) → AreFalling past → IsAbove past n → n ≤ m → packets_at past m ≡ []
+pub none_above : (past : List Numbered) (n m : ℕ) → AreFalling past → IsAbove past n → n ≤ m → packets_at past m ≡ []
 none_above [] n m falling above low = refl
 none_above (b ∷ past) n m falling above low = at_other b past m (λ e. omega (arith, above, low, e))
     ∙ none_above past b.number m falling.1 falling.0 (omega (arith, above, low))

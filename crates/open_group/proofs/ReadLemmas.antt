@@ -9,7 +9,7 @@ use Rattle.l1_signal.specs.L1Dynamic.{dyn_read}
 use Rattle.l1_signal.specs.Laws.{DynReadSpelled, DynLength}
 use Rattle.l1_signal.specs.Lengths.{dyn_len}
 use Rattle.l1_signal.specs.declared.dynamic.L1Dyn.{L1Dyn}
-use Rattle.frame_tests.specs.Tests.{read_whole}
+use Rattle.frame_groups.specs.Tests.{read_whole}
 
 -- how long it is, and how many PLPs it tells
 record IsRead (plps : ℕ) (bits : List Bool) (d : L1Dyn) : Type 0 where

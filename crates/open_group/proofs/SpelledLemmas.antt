@@ -16,17 +16,17 @@ use Rattle.frame_groups.specs.Modulated.Content.{Whole, Muted}
 use Rattle.frame_groups.specs.declared.cause.MuteCause.TheVariants.{MapRefused}
 use Rattle.record_laws.specs.Frames.{HasByteIds}
 use Rattle.record_laws.specs.Laws.{MutedFits}
-use Rattle.frame_tests.specs.Carried.{right_blocks, L1Parts, l1s_of}
-use Rattle.frame_tests.specs.Laws.{MapPasses}
-use Rattle.frame_tests.specs.Tests.{has_map, l1_shape, first_shape, read_dynamic, map_test, packets_fault, group_fault}
+use Rattle.frame_groups.specs.Carried.{right_blocks, L1Parts, l1s_of}
+use Rattle.frame_groups.specs.TestLaws.{MapPasses}
+use Rattle.frame_groups.specs.Tests.{has_map, l1_shape, first_shape, read_dynamic, map_test, packets_fault, group_fault}
 use Rattle.l1_signal.specs.L1Of.{told_shape}
 use Rattle.l1_signal.specs.Laws.{DynReadSpelled, DynLength}
 use Rattle.l1_signal.specs.declared.dynamic.L1Dyn.{L1Dyn}
-use Rattle.record_writer.specs.RecordBytes.{list_at}
+use Rattle.open_group.specs.RecordBytes.{list_at}
 use Rattle.plp_config.specs.Capacity.{IsPlan}
 use Rattle.plp_config.specs.declared.config.Config.{Config}
 use Rattle.l1_signal.specs.Lengths.{dyn_len}
-use Rattle.record_writer.specs.Laws.{RecordFits}
+use Rattle.open_group.specs.WriterLaws.{RecordFits}
 use Rattle.scheduler.specs.Shape.{FrameShape}
 use Rattle.site_frame.specs.Whole.{FitsRecord}
 use Rattle.t2mi_packet.specs.declared.packet.Packet.{Packet}

@@ -6,8 +6,8 @@ use Rattle.std.proofs.lemmas.Bool.{true≢false, cond-true}
 use Rattle.l1_signal.specs.L1Of.{told_shape}
 use Rattle.plp_config.specs.declared.config.Config.{Config}
 use Rattle.t2mi_packet.specs.declared.packet.Packet.{Packet}
-use Rattle.frame_tests.specs.Carried.{L1Parts, l1s_of}
-use Rattle.frame_tests.specs.Tests.{has_map, l1_shape, first_shape}
+use Rattle.frame_groups.specs.Carried.{L1Parts, l1s_of}
+use Rattle.frame_groups.specs.Tests.{has_map, l1_shape, first_shape}
 use Rattle.open_group.specs.HoldsL1.{HoldsL1, shape_told}
 use Rattle.open_group.specs.Parts.{parts_of}
 use Rattle.open_group.specs.Written.{dynamic_in}

@@ -2,9 +2,9 @@
 use Rattle.std.specs.Prelude.{ℕ, ◌&&◌, nat_le, Bool, List, Option}
 use Rattle.plp_config.specs.declared.config.Config.{Config}
 use Rattle.frame_groups.specs.declared.key.Key.{Key}
-use Rattle.record_writer.specs.Writes as writer
+use Rattle.open_group.specs.Writes as writer
 use Rattle.scheduler.specs.Shape.{FrameShape}
-use Rattle.frame_tests.specs.Tests.{has_map, pool_chunks}
+use Rattle.frame_groups.specs.Tests.{has_map, pool_chunks}
 use Rattle.open_group.specs.HoldsL1.{shape_told}
 use Rattle.open_group.specs.Parts.{parts_of}
 use Rattle.open_group.specs.declared.group.PooledGroup.{PooledGroup}

@@ -3,8 +3,8 @@ use Rattle.std.specs.Prelude.{Bool, true, false, List, ℕ}
 use denote.Struct.Props as logic
 use Rattle.plp_config.specs.declared.config.Config.{Config}
 use Rattle.scheduler.specs.Shape.{FrameShape}
-use Rattle.record_writer.specs.Writes.{IsLast, IsReady, IsReady-prop}
-use Rattle.record_writer.specs.declared.writer.Writer.{Writer}
+use Rattle.open_group.specs.Writes.{IsLast, IsReady, IsReady-prop}
+use Rattle.open_group.specs.declared.writer.Writer.{Writer}
 
 -- Of a group that is intact it gives nothing; of another it can give what stands in the lists.
 abbrev pub CanGive : Bool → Writer → Config → FrameShape → List (List (List ℕ)) → Type 0

@@ -3,7 +3,7 @@ use Rattle.std.specs.Prelude.{◌≡◌, true, List, Option, Some, None}
 use Rattle.t2mi_packet.specs.declared.packet.Packet.{Packet}
 use Rattle.frame_groups.specs.Groups.{Group}
 use Rattle.frame_groups.specs.Modulated.{Numbered}
-use Rattle.frame_tests.specs.Tally.{tally}
+use Rattle.frame_groups.specs.Tally.{tally}
 use Rattle.open_group.specs.HoldsBlocks.{HoldsCounts, HoldsLists}
 use Rattle.open_group.specs.HoldsL1.{HoldsL1}
 use Rattle.open_group.specs.HoldsPast.{HoldsPast}

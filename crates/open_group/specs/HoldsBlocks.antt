@@ -3,9 +3,9 @@ use Rattle.std.specs.Prelude.{◌≡◌, ◌<◌, ◌≤◌, ℕ, Bool, List, le
 use Rattle.linked_pool.specs.Pool.{State, list_at}
 use Rattle.plp_config.specs.declared.config.Config.{Config}
 use Rattle.t2mi_packet.specs.declared.packet.Packet.{Packet}
-use Rattle.frame_tests.specs.Carried.{right_blocks}
-use Rattle.frame_tests.specs.Tally.{Tally, tally_need}
-use Rattle.frame_tests.specs.Tests.{capped}
+use Rattle.frame_groups.specs.Carried.{right_blocks}
+use Rattle.frame_groups.specs.Tally.{Tally, tally_need}
+use Rattle.frame_groups.specs.Tests.{capped}
 use Rattle.open_group.specs.Sent.{held_bytes}
 use Rattle.open_group.specs.declared.blocks.HeldBlocks.{HeldBlocks}
 

@@ -6,9 +6,9 @@ use Rattle.scheduler.specs.Shape.{FrameShape}
 use Rattle.l1_signal.specs.L1Configurable.{conf_read, info_size}
 use Rattle.l1_signal.specs.L1Of.{told_shape}
 use Rattle.l1_signal.specs.L1Pre.{pre_reading}
-use Rattle.frame_tests.specs.Carried.{L1Parts}
-use Rattle.frame_tests.specs.Tally.{alike_behind}
-use Rattle.frame_tests.specs.Tests.{read_whole, pre_agrees, conf_agrees, read_dynamic}
+use Rattle.frame_groups.specs.Carried.{L1Parts}
+use Rattle.frame_groups.specs.Tally.{alike_behind}
+use Rattle.frame_groups.specs.Tests.{read_whole, pre_agrees, conf_agrees, read_dynamic}
 use Rattle.open_group.specs.Parts.{parts_of}
 use Rattle.open_group.specs.declared.l1.HeldL1.{HeldL1}
 

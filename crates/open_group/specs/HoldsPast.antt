@@ -5,9 +5,9 @@ use Rattle.plp_config.specs.declared.config.Config.{Config}
 use Rattle.frame_groups.specs.Modulated.{Numbered}
 use Rattle.frame_groups.specs.Sequenced.{IsAbove}
 use Rattle.plp_config.specs.InterleavingFrames.{is_first, begin_of}
-use Rattle.frame_tests.specs.Begun.{packets_at}
-use Rattle.frame_tests.specs.Carried.{blocks_of, right_blocks}
-use Rattle.frame_tests.specs.Tests.{pool_need, capped}
+use Rattle.frame_groups.specs.Begun.{packets_at}
+use Rattle.frame_groups.specs.Carried.{blocks_of, right_blocks}
+use Rattle.frame_groups.specs.Tests.{pool_need, capped}
 use Rattle.open_group.specs.declared.blocks.HeldBlocks.{HeldBlocks}
 use Rattle.open_group.specs.declared.past.Begun.{Begun}
 use Rattle.open_group.specs.declared.past.HeldPast.{HeldPast}

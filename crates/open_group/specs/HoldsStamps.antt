@@ -2,7 +2,7 @@
 use Rattle.std.specs.Prelude.{◌≡◌, List, slice_get}
 use Rattle.std.specs.Option.{option_or}
 use Rattle.t2mi_packet.specs.declared.packet.Stamp.{Stamp}
-use Rattle.frame_tests.specs.Tally.{Tally, unlike_behind}
+use Rattle.frame_groups.specs.Tally.{Tally, unlike_behind}
 use Rattle.open_group.specs.declared.stamps.HeldStamps.{HeldStamps}
 
 -- More timestamps were added.

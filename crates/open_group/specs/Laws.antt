@@ -6,7 +6,7 @@ use Rattle.frame_groups.specs.Groups.{Group}
 use Rattle.frame_groups.specs.Modulated.{Numbered, FrameRecord}
 use Rattle.frame_groups.specs.Modulated.Content.{Whole}
 use Rattle.record_laws.specs.Frames.{HasByteIds}
-use Rattle.frame_tests.specs.Tests.{group_fault}
+use Rattle.frame_groups.specs.Tests.{group_fault}
 use Rattle.site_frame.specs.Whole.{Spells}
 use Rattle.open_group.specs.Written.{content_view, spelled}
 

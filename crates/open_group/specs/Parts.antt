@@ -1,7 +1,7 @@
 -- The parts of an L1-current, as they are held: one behind another.
 use Rattle.std.specs.Prelude.{◌+◌, drop}
 use Rattle.terms.specs.Bits.{part}
-use Rattle.frame_tests.specs.Carried.{L1Parts}
+use Rattle.frame_groups.specs.Carried.{L1Parts}
 use Rattle.open_group.specs.declared.parts.HeldParts.{HeldParts}
 
 -- the parts that are held

@@ -2,7 +2,7 @@
 use Rattle.std.specs.Prelude.{◌≡◌, ◌<◌, ℕ, Bool, List, [], length, map, slice_index_or}
 use Rattle.plp_config.specs.declared.config.Config.{Config}
 use Rattle.t2mi_packet.specs.declared.packet.Packet.{Packet}
-use Rattle.frame_tests.specs.Carried.{right_blocks}
+use Rattle.frame_groups.specs.Carried.{right_blocks}
 use Rattle.open_group.specs.Sent.{held_bytes}
 use Rattle.open_group.specs.Written.{dynamic_in}
 

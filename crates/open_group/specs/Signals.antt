@@ -3,8 +3,8 @@ use Rattle.std.specs.Prelude.{ℕ, nat_le, Bool, false, List, slice_get, Option}
 use Rattle.std.specs.Option.{option_map_or}
 use Rattle.plp_config.specs.declared.config.Config.{Config}
 use Rattle.t2mi_packet.specs.declared.packet.Packet.{Packet}
-use Rattle.frame_tests.specs.Carried.{L1Parts, l1s_of}
-use Rattle.frame_tests.specs.Tests.{parts_agree, pool_need, pool_chunks}
+use Rattle.frame_groups.specs.Carried.{L1Parts, l1s_of}
+use Rattle.frame_groups.specs.Tests.{parts_agree, pool_need, pool_chunks}
 
 -- the first L1-current, if there is one
 abbrev pub first_parts : List Packet → Option L1Parts

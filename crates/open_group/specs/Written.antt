@@ -7,10 +7,10 @@ use Rattle.scheduler.specs.Shape.{FrameShape, blank}
 use Rattle.t2mi_packet.specs.declared.packet.Packet.{Packet}
 use Rattle.frame_groups.specs.Modulated.{Content, FrameRecord}
 use Rattle.frame_groups.specs.Modulated.Content.{Whole, Muted}
-use Rattle.frame_tests.specs.Carried.{right_blocks, l1s_of}
-use Rattle.frame_tests.specs.Tests.{first_shape}
+use Rattle.frame_groups.specs.Carried.{right_blocks, l1s_of}
+use Rattle.frame_groups.specs.Tests.{first_shape}
 use Rattle.record_laws.specs.Frames.{sent_blocks, frame_view}
-use Rattle.record_writer.specs.Front.{post_with}
+use Rattle.open_group.specs.Front.{post_with}
 use Rattle.site_frame.specs.Whole.{record_bytes}
 use Rattle.site_frame.specs.declared.reading.RecordView.{RecordView}
 use Rattle.site_frame.specs.declared.reading.RecordView.TheVariants.{Muted as MutedRecord}

@@ -4,7 +4,7 @@ ghost use Rattle.std.specs.Option.{option_copied};
 ghost use Rattle.frame_groups.specs.Groups.{Group};
 ghost use Rattle.frame_groups.specs.Modulated.{Numbered};
 ghost use Rattle.frame_groups.specs.Sequenced.{IsAbove};
-ghost use Rattle.frame_tests.specs.Tests.{group_fault, first_shape};
+ghost use Rattle.frame_groups.specs.Tests.{group_fault, first_shape};
 ghost use Rattle.open_group.specs.FrameBytes.{is_frame, has_room};
 ghost use Rattle.open_group.specs.Holds.{Holds};
 ghost use Rattle.open_group.specs.HoldsPast.{AreSized, HoldsPast};
@@ -15,8 +15,7 @@ use crate::faults::first_fault;
 use crate::group::PooledGroup;
 use crate::parts::HeldParts;
 use crate::past::HeldPast;
-use frame_groups::MuteCause;
-use frame_tests::tally_law;
+use frame_groups::{MuteCause, tally_law};
 use scheduler::Shape;
 
 impl<'p> PooledGroup<'p> {

@@ -1,14 +1,15 @@
 // The blocks of a group.
 ghost use Rattle.std.specs.Prelude.{◌≡◌, ◌+◌, ◌<◌, ◌≤◌, ℕ, [], length};
 ghost use Rattle.linked_pool.specs.Pool.{list_at};
-ghost use Rattle.record_writer.specs.RecordBytes.{AreShort};
+ghost use Rattle.open_group.specs.RecordBytes.{AreShort};
 ghost use Rattle.plp_config.specs.declared.plp.TheConstants.{MOST_BLOCK_BYTES};
 
 use crate::plps::block_chunks;
+use crate::writer::Writer;
+use crate::writer_laws::short_law;
 use bit_slice::{BitSlice, OutOfMemory};
 use linked_pool::{BlockRef, Pool, group_chunks};
 use plp_config::Plan;
-use record_writer::{Writer, short_law};
 use scheduler::Shape;
 use std::alloc::Global;
 use t2mi_packet::{Body, Packet};
@@ -63,12 +64,12 @@ impl HeldBlocks {
     ghost use Rattle.plp_config.specs.Capacity.{block_bytes};
     ghost use Rattle.t2mi_packet.specs.declared.packet.Packet.{Packet};
     ghost use Rattle.t2mi_packet.specs.declared.packet.Body.TheVariants.{Block};
-    ghost use Rattle.frame_tests.specs.Tally.{Tally, tally_with};
-    ghost use Rattle.frame_tests.specs.Tests.{pool_chunks, capped};
+    ghost use Rattle.frame_groups.specs.Tally.{Tally, tally_with};
+    ghost use Rattle.frame_groups.specs.Tests.{pool_chunks, capped};
     ghost use Rattle.open_group.specs.HoldsBlocks.{IsOpenFor, HoldsCounts, HoldsLists, held_of};
     ghost use Rattle.open_group.specs.Sent.{held_bytes};
     ghost use Rattle.std.specs.Prelude.{◌↔◌, ◌⊎◌, take, drop};
-    ghost use Rattle.record_writer.specs.Writes.{bytes_left, IsLast, IsReady, is_done};
+    ghost use Rattle.open_group.specs.Writes.{bytes_left, IsLast, IsReady, is_done};
 
     /// Takes the memory for the PLPs of a plan. Nothing is held yet.
     pub fn open(alloc: Global, plan: &Plan) -> Result<HeldBlocks, OutOfMemory>

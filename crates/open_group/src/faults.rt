@@ -1,12 +1,12 @@
-// Our six tests of a group, by what is held of it; `frame_tests` defines them. The fields are those of ETSI TS 102 773, clause 5.
+// Our six tests of a group, by what is held of it; `frame_groups` defines them. The fields are those of ETSI TS 102 773, clause 5.
 ghost use Rattle.std.specs.Prelude.{◌≡◌, ◌<◌, ◌≤◌, ◌^◌, true, IsNone, List, length};
 ghost use Rattle.std.specs.Option.{option_and_then};
 ghost use Rattle.frame_groups.specs.Modulated.{Numbered};
 ghost use Rattle.frame_groups.specs.Sequenced.{IsAbove};
-ghost use Rattle.frame_tests.specs.Tally.{Tally, tally_room, tally_pool, tally_missing, tally_l1, first_late, tally_time};
-ghost use Rattle.frame_tests.specs.Tally.{tally_counts};
-ghost use Rattle.frame_tests.specs.Tally.{tally_shape, tally_blocks, tally_map, tally_fault};
-ghost use Rattle.frame_tests.specs.Tests.{begins_superframe, pool_chunks, stamp_agrees, disagrees, has_map};
+ghost use Rattle.frame_groups.specs.Tally.{Tally, tally_room, tally_pool, tally_missing, tally_l1, first_late, tally_time};
+ghost use Rattle.frame_groups.specs.Tally.{tally_counts};
+ghost use Rattle.frame_groups.specs.Tally.{tally_shape, tally_blocks, tally_map, tally_fault};
+ghost use Rattle.frame_groups.specs.Tests.{begins_superframe, pool_chunks, stamp_agrees, disagrees, has_map};
 ghost use Rattle.open_group.specs.HoldsBlocks.{IsOpenFor, HoldsCounts};
 ghost use Rattle.open_group.specs.HoldsL1.{HoldsL1, shape_told};
 ghost use Rattle.open_group.specs.HoldsPast.{AreSized, HoldsPast};
@@ -16,8 +16,7 @@ use crate::blocks::HeldBlocks;
 use crate::l1::HeldL1;
 use crate::past::HeldPast;
 use crate::stamps::HeldStamps;
-use frame_groups::MuteCause;
-use frame_tests::map_passes;
+use frame_groups::{MuteCause, map_passes};
 use plp_config::Plan;
 use t2mi_packet::Stamp;
 
@@ -193,7 +192,7 @@ pub fn map_fault(plan: &Plan, l1: &HeldL1) -> Option<MuteCause>
 }
 
 /// The cause of the first test that fails.
-#[tactic(auto, unfolding(frame_tests::specs::Tally::tally_fault))]
+#[tactic(auto, unfolding(frame_groups::specs::Tally::tally_fault))]
 pub fn first_fault(
     plan: &Plan,
     number: u64,

@@ -6,17 +6,16 @@ ghost use Rattle.site_frame.specs.Whole.{record_bytes};
 ghost use Rattle.frame_groups.specs.Groups.{Group};
 ghost use Rattle.frame_groups.specs.Modulated.{Numbered, FrameRecord};
 ghost use Rattle.frame_groups.specs.Records.{record_of};
-ghost use Rattle.frame_tests.specs.Tests.{group_fault};
+ghost use Rattle.frame_groups.specs.Tests.{group_fault};
 ghost use Rattle.open_group.specs.FrameBytes.{is_frame, bytes_left, most_left, status_of};
 ghost use Rattle.open_group.specs.Holds.{Holds};
 ghost use Rattle.open_group.specs.Written.{spelled, packets_view};
 
 use crate::group::PooledGroup;
+use crate::writer_laws::written_law;
 use bb_frame::bit_counts_law;
-use frame_groups::Waiting;
-use frame_tests::tally_law;
+use frame_groups::{Waiting, tally_law};
 use plp_config::Moment;
-use record_writer::written_law;
 
 impl<'p> PooledGroup<'p> {
     // Begins the record of its frame: its number, the moment at which it leaves, and its number in its superframe.

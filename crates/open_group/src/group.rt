@@ -2,7 +2,7 @@
 ghost use Rattle.std.specs.Prelude.{◌≡◌, length};
 ghost use Rattle.l1_signal.specs.L1Configurable.{conf_bits};
 ghost use Rattle.l1_signal.specs.L1Of.{conf_of};
-ghost use Rattle.frame_tests.specs.Tests.{pool_chunks};
+ghost use Rattle.frame_groups.specs.Tests.{pool_chunks};
 ghost use Rattle.open_group.specs.Giving.{CanGive, CanGive-prop};
 ghost use Rattle.open_group.specs.HoldsBlocks.{IsOpenFor};
 ghost use Rattle.open_group.specs.HoldsPast.{AreSized};
@@ -12,13 +12,13 @@ use crate::faults::first_fault;
 use crate::l1::HeldL1;
 use crate::named::named;
 use crate::past::HeldPast;
+use crate::signalling::Signalling;
 use crate::stamps::HeldStamps;
+use crate::writer::Writer;
 use bit_slice::{BitSlice, OutOfMemory};
-use frame_groups::{Key, MuteCause, OpenGroup};
-use frame_tests::{Network, tally_law};
+use frame_groups::{Key, MuteCause, Network, OpenGroup, tally_law};
 use linked_pool::BlockRef;
 use plp_config::Plan;
-use record_writer::{Signalling, Writer};
 use scheduler::Shape;
 use std::alloc::Global;
 use t2mi_packet::Packet;
@@ -57,8 +57,8 @@ impl<'p> PooledGroup<'p> {
     ghost use Rattle.frame_groups.specs.Groups.{Group};
     ghost use Rattle.frame_groups.specs.Modulated.{Numbered};
     ghost use Rattle.frame_groups.specs.Sequenced.{IsAbove, past_of};
-    ghost use Rattle.frame_tests.specs.Carried.{L1Parts, right_blocks, l1s_of};
-    ghost use Rattle.frame_tests.specs.Tests.{first_shape, named_frame, group_fault};
+    ghost use Rattle.frame_groups.specs.Carried.{L1Parts, right_blocks, l1s_of};
+    ghost use Rattle.frame_groups.specs.Tests.{first_shape, named_frame, group_fault};
     ghost use Rattle.open_group.specs.Holds.{HoldsPackets, Holds};
     ghost use Rattle.open_group.specs.HoldsPast.{HoldsPast};
     ghost use Rattle.open_group.specs.Sent.{held_bytes};
@@ -130,7 +130,7 @@ impl<'p> PooledGroup<'p> {
 }
 
 impl<'p> OpenGroup for PooledGroup<'p> {
-    ghost use Rattle.frame_tests.specs.Tests.{rules};
+    ghost use Rattle.frame_groups.specs.Tests.{rules};
     ghost use Rattle.open_group.specs.FrameBytes.{is_frame};
     ghost use Rattle.open_group.specs.Holds.{Holds};
 

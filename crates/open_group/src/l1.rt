@@ -3,13 +3,15 @@ ghost use Rattle.std.specs.Prelude.{◌≡◌, ◌≤◌, true, length};
 ghost use Rattle.l1_signal.specs.declared.lengths.TheConstants.{MOST_DYN_BITS};
 
 use crate::parts::HeldParts;
+use crate::signalling::Signalling;
+use crate::sizes::{block_count, rest_len};
+use crate::writer::Writer;
 use bit_slice::{BitSlice, OutOfMemory};
-use frame_tests::{
+use frame_groups::{
     Network, is_network_conf, is_of_frame, is_pre, map_test_law, read_dynamic, tell_shape,
 };
 use l1_signal::{L1Dyn, dyn_law};
 use plp_config::{Moment, Plan};
-use record_writer::{Signalling, Writer, block_count, rest_len};
 use scheduler::Shape;
 use std::alloc::Global;
 use t2mi_packet::{Body, Packet};
@@ -38,26 +40,26 @@ impl HeldL1 {
     ghost use Rattle.std.specs.Prelude.{IfSome, if◌then◌else◌};
     ghost use Rattle.std.specs.Option.{option_and_then, option_copied, option_map_or};
     ghost use Rattle.plp_config.specs.declared.config.Config.{Config};
-    ghost use Rattle.frame_tests.specs.Carried.{L1Parts};
-    ghost use Rattle.frame_tests.specs.Tests.{dyn_agrees, read_dynamic, parts_agree, l1_shape};
-    ghost use Rattle.frame_tests.specs.Carried.{l1s_of};
+    ghost use Rattle.frame_groups.specs.Carried.{L1Parts};
+    ghost use Rattle.frame_groups.specs.Tests.{dyn_agrees, read_dynamic, parts_agree, l1_shape};
+    ghost use Rattle.frame_groups.specs.Carried.{l1s_of};
     ghost use Rattle.t2mi_packet.specs.T2miPacket.{Fits};
     ghost use Rattle.open_group.specs.declared.parts.TheConstants.{MOST_BITS};
     ghost use Rattle.open_group.specs.HoldsL1.{HasRead, HoldsL1, AddsL1, shape_told};
     ghost use Rattle.open_group.specs.Parts.{parts_of};
     ghost use Rattle.std.specs.Prelude.{List, ℕ, ◌++◌, sum_by};
     ghost use Rattle.plp_config.specs.Places.{places};
-    ghost use Rattle.record_writer.specs.RecordBytes.{own_count};
+    ghost use Rattle.open_group.specs.RecordBytes.{own_count};
     ghost use Rattle.l1_signal.specs.L1Configurable.{conf_bits};
     ghost use Rattle.l1_signal.specs.L1Of.{conf_of};
-    ghost use Rattle.frame_tests.specs.Tests.{has_map};
+    ghost use Rattle.frame_groups.specs.Tests.{has_map};
     ghost use Rattle.record_laws.specs.Laws.{rest_size};
-    ghost use Rattle.record_writer.specs.Front.{front_bytes};
-    ghost use Rattle.record_writer.specs.Laws.{post_size};
-    ghost use Rattle.record_writer.specs.Steps.{step_bytes, HasLists};
+    ghost use Rattle.open_group.specs.Front.{front_bytes};
+    ghost use Rattle.open_group.specs.WriterLaws.{post_size};
+    ghost use Rattle.open_group.specs.Steps.{step_bytes, HasLists};
     ghost use Rattle.linked_pool.specs.Pool.{used_chunks};
-    ghost use Rattle.record_writer.specs.Writes.{bytes_left, most_record, IsReady, is_done};
-    ghost use Rattle.record_writer.specs.declared.step.Step.TheVariants.{Blocks};
+    ghost use Rattle.open_group.specs.Writes.{bytes_left, most_record, IsReady, is_done};
+    ghost use Rattle.open_group.specs.declared.step.Step.TheVariants.{Blocks};
 
     /// Takes the memory for the PLPs of a plan. Nothing is held yet.
     pub fn open(alloc: Global, plan: &Plan) -> Result<HeldL1, OutOfMemory>
@@ -192,7 +194,7 @@ impl HeldL1 {
     }
 
     // Whether the first one is of the configuration and of a frame.
-    #[tactic(auto, unfolding(frame_tests::specs::Tests::parts_agree))]
+    #[tactic(auto, unfolding(frame_groups::specs::Tests::parts_agree))]
     pub(crate) fn is_first(&self, plan: &Plan, number: u64) -> bool
         requires rows { length self.now.dynamic.plps ≡ length plan.now.plps }
         ensures { HasRead plan.now self.now → result ≡ parts_agree plan.now number (parts_of self.now.parts) }

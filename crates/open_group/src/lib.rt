@@ -1,4 +1,4 @@
-//! The group under way of a modulator, of fixed size, and the six tests of it.
+//! The group under way of a modulator, of fixed size, its six tests, and the bytes of its record, given out piece by piece.
 #![tactic(auto)]
 
 mod behind;
@@ -11,11 +11,21 @@ mod laws;
 mod named;
 mod parts;
 mod past;
+mod piece;
 mod plps;
 mod shown;
+mod signalling;
+mod sizes;
 mod stamps;
+mod step;
+mod writer;
+mod writer_laws;
 
 pub use group::PooledGroup;
 pub use laws::record_law;
 pub use parts::HeldParts;
 pub use past::HeldPast;
+pub use signalling::Signalling;
+pub use sizes::{block_count, rest_len};
+pub use writer::Writer;
+pub use writer_laws::{short_law, written_law};

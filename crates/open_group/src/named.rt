@@ -3,13 +3,12 @@ ghost use Rattle.std.specs.Prelude.{◌≡◌, ◌≢◌, ◌↔◌, ◌<◌, �
 ghost use Rattle.plp_config.specs.Emission.{emission};
 ghost use Rattle.frame_groups.specs.Groups.{Group};
 ghost use Rattle.frame_groups.specs.Numbers.{frame_key};
-ghost use Rattle.frame_tests.specs.Carried.{stamps_of};
+ghost use Rattle.frame_groups.specs.Carried.{stamps_of};
 ghost use Rattle.plp_config.specs.declared.moment.TheConstants.{MOST_FRAMES};
-ghost use Rattle.frame_tests.specs.Tests.{moment_of, named_frame};
+ghost use Rattle.frame_groups.specs.Tests.{moment_of, named_frame};
 
 use crate::stamps::HeldStamps;
-use frame_groups::Key;
-use frame_tests::named_law;
+use frame_groups::{Key, named_law};
 use plp_config::{Moment, Plan, emission_law};
 use site_frame::place_record;
 use t2mi_packet::Stamp;

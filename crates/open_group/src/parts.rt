@@ -39,7 +39,7 @@ fn is_same(one: &BitSlice<'_>, other: &BitSlice<'_>) -> bool
 
 impl HeldParts {
     ghost use Rattle.std.specs.Prelude.{◌≡◌, ◌+◌, ◌≤◌, [], length};
-    ghost use Rattle.frame_tests.specs.Tests.{same_parts};
+    ghost use Rattle.frame_groups.specs.Tests.{same_parts};
     ghost use Rattle.open_group.specs.Parts.{parts_of};
 
     /// Room for the parts, of which there are none yet.

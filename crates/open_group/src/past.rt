@@ -1,6 +1,6 @@
 // What is held of the groups before: those in which interleaving frames began.
 ghost use Rattle.std.specs.Prelude.{◌≡◌, ◌<◌, length};
-ghost use Rattle.frame_tests.specs.Begun.{is_begin};
+ghost use Rattle.frame_groups.specs.Begun.{is_begin};
 
 use crate::blocks::HeldBlocks;
 use bit_slice::OutOfMemory;
@@ -55,8 +55,8 @@ impl HeldPast {
     ghost use Rattle.frame_groups.specs.Groups.{Group};
     ghost use Rattle.frame_groups.specs.Modulated.{Numbered};
     ghost use Rattle.frame_groups.specs.Sequenced.{IsAbove};
-    ghost use Rattle.frame_tests.specs.Tally.{Tally, tally, tally_counts};
-    ghost use Rattle.frame_tests.specs.Tests.{capped, has_count, begun_test, first_failure};
+    ghost use Rattle.frame_groups.specs.Tally.{Tally, tally, tally_counts};
+    ghost use Rattle.frame_groups.specs.Tests.{capped, has_count, begun_test, first_failure};
     ghost use Rattle.open_group.specs.HoldsBlocks.{IsOpenFor, HoldsCounts};
     ghost use Rattle.open_group.specs.HoldsPast.{begun_at, need_at, told_begun, noted, AreSized, HoldsPast};
 

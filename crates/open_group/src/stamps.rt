@@ -1,6 +1,6 @@
 // The timestamps of a group.
 ghost use Rattle.std.specs.Prelude.{◌≡◌};
-ghost use Rattle.frame_tests.specs.Tally.{is_unlike};
+ghost use Rattle.frame_groups.specs.Tally.{is_unlike};
 
 use t2mi_packet::{Body, Packet, Stamp};
 
@@ -24,7 +24,7 @@ fn is_unlike(first: Stamp, stamp: Stamp) -> bool
 
 impl HeldStamps {
     ghost use Rattle.std.specs.Prelude.{◌≡◌, ◌∷◌, [], None};
-    ghost use Rattle.frame_tests.specs.Carried.{stamps_of};
+    ghost use Rattle.frame_groups.specs.Carried.{stamps_of};
     ghost use Rattle.open_group.specs.HoldsStamps.{AddsStamps};
 
     /// No timestamps.

@@ -10,8 +10,8 @@ use Rattle.std.proofs.lemmas.List.Folds.{list_all-append}
 use Rattle.std.proofs.lemmas.Nat.{div-add-mod'}
 use Rattle.std.proofs.Math.Nat.{mod-lt, div-mul-le_self, mul-le-mul_right}
 use Rattle.terms.proofs.RangeLemmas.{range_more}
-use Rattle.packet_slots.proofs.TimeLemmas.{next_epoch, same_epoch}
-use Rattle.packet_slots.specs.Epochs.{Epoch}
+use Rattle.plp_receiver.proofs.TimeLemmas.{next_epoch, same_epoch}
+use Rattle.plp_receiver.specs.SlotEpochs.{Epoch}
 use Rattle.plp_config.specs.declared.config.Config.{Config}
 use Rattle.site_frame.specs.declared.reading.RecordView.{RecordView}
 use Rattle.plp_receiver.specs.Parts.{Part, count_of}

@@ -18,10 +18,10 @@ use Rattle.cell_map.specs.declared.places.Cell.{Cell}
 use Rattle.site_frame.specs.Record as frame
 use Rattle.site_frame.specs.declared.reading.RecordView.{RecordView}
 use Rattle.site_frame.specs.declared.reading.RecordView.TheVariants.{Frame, Muted}
-use Rattle.packet_slots.specs.Epochs.{lost_epoch, epoch_with}
-use Rattle.packet_slots.specs.Strings.{Block}
-use Rattle.packet_slots.specs.declared.slots.PacketSlots.{PacketSlots}
-use Rattle.frame_tests.specs.Readable.{coming, readable}
+use Rattle.plp_receiver.specs.SlotEpochs.{lost_epoch, epoch_with}
+use Rattle.plp_receiver.specs.Strings.{Block}
+use Rattle.plp_receiver.specs.declared.slots.PacketSlots.{PacketSlots}
+use Rattle.frame_groups.specs.Readable.{coming, readable}
 use Rattle.plp_receiver.specs.Parts.{Part, part_with, count_of, all_stand}
 use Rattle.plp_config.specs.Plps.{spread}
 use Rattle.plp_receiver.specs.Taken.{IsGiven, bytes_at}

@@ -2,14 +2,14 @@
 use Rattle.std.proofs.Common.{◌≡◌, ◌&&◌, ◌∙◌, ℕ, Bool, true, List, Option, Some, None, ap, sym, cond}
 use Rattle.std.specs.Prelude.{option_map}
 use Rattle.cell_map.specs.declared.places.Cell.{Cell}
-use Rattle.frame_tests.specs.Tests.{read_whole, pre_agrees}
+use Rattle.frame_groups.specs.Tests.{read_whole, pre_agrees}
 use Rattle.l1_signal.specs.L1Of.{told_shape}
 use Rattle.l1_signal.specs.L1Pre.{pre_reading}
 use Rattle.l1_signal.specs.declared.dynamic.L1Dyn.{L1Dyn}
 use Rattle.plp_config.specs.declared.config.Config.{Config}
 use Rattle.scheduler.specs.Shape.{FrameShape}
 use Rattle.site_frame.specs.Record.{Block}
-use Rattle.frame_tests.specs.Readable.{told_dynamic, post_agrees, shape_agrees, fitting, readable}
+use Rattle.frame_groups.specs.Readable.{told_dynamic, post_agrees, shape_agrees, fitting, readable}
 
 pub told_readable : (c : Config) (n : ℕ) (pre post : List Bool) (blocks : List Block) (cells : List (Option Cell)) (d : L1Dyn)
     (shape : FrameShape) (fits : Bool)

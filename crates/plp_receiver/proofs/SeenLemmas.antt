@@ -5,7 +5,7 @@ use Rattle.std.proofs.Common.{Some, None, refl, ap, ap₂, sym, subst, ◌∙◌
 use Rattle.std.specs.Prelude.{slice_get, not, ◌||◌}
 use Rattle.std.specs.FinMap.{get}
 use Rattle.std.specs.List.{list_all, range_with_len}
-use Rattle.std.proofs.lemmas.Bool.{and_from, and_parts, eqb-true, eq-eqb}
+use Rattle.std.proofs.lemmas.Bool.{and_from, and_parts, eqb-true, eq-eqb, or_right}
 use Rattle.std.proofs.lemmas.List.Folds.{list_all-append}
 use Rattle.terms.proofs.CaseLemmas.{bool_cases, same_test}
 use Rattle.terms.proofs.RangeLemmas.{range_more}
@@ -16,7 +16,7 @@ use Rattle.cell_map.specs.Address.{IsCell, IsCarried, address_of}
 use Rattle.cell_map.specs.CellMap.{Passes, ordinal_of, is_carried, cell_map}
 use Rattle.cell_map.specs.Laws.{MapHasEachCell, MapHasOnlyCells}
 use Rattle.cell_map.specs.declared.places.Cell.{Cell}
-use Rattle.frame_tests.specs.MapTest.{each_below}
+use Rattle.frame_groups.specs.MapTest.{each_below}
 use Rattle.plp_receiver.specs.Parts.{Part, part_with, is_cell, stands, all_stand}
 use Rattle.site_frame.specs.Record.{Block}
 use Rattle.plp_receiver.specs.Seeing.{is_right, is_seen, right_at, seen_from, all_seen}
@@ -135,10 +135,6 @@ right_one ordinal cell found e =
     let yes : (ordinal == ordinal) ≡ true = eq-eqb ordinal ordinal refl in
     sym (ap (λ (t : Bool). not t || is_cell ordinal cell found) yes) ∙ e
 
-or_second : (a b : Bool) → b ≡ true → (a || b) ≡ true
-or_second true b h = refl
-or_second false b h = h
-
 module _ (has : MapHasEachCell) (only : MapHasOnlyCells) (c : Config) (shape : FrameShape) (cells : List (Option Cell))
     (number : ℕ) (blocks : List Block) (plp block : ℕ) (passes : Passes c shape)
     (configured : plp < length c.plps) (sent : block < get_or shape.counts plp 0) where
@@ -163,7 +159,7 @@ module _ (has : MapHasEachCell) (only : MapHasOnlyCells) (c : Config) (shape : F
       (λ yes.
       let here : IsCarried c shape frame_idx plp block cell = record { there = there cell l; carried = eqb-true _ _ yes } in
       let right = each_true (right_at c shape frame_idx cells own) c.cells e at (passes.below frame_idx plp block cell here) in
-      or_second (not (is_carried c shape frame_idx plp block cell)) (is_cell own cell (slice_get cells at))
+      or_right (not (is_carried c shape frame_idx plp block cell)) (is_cell own cell (slice_get cells at))
       (right_one own cell (slice_get cells at)
       (ap (λ (o : Option Cell). is_right own o (slice_get cells at)) (sym (has c shape frame_idx plp block cell passes here))
       ∙ right)))
@@ -190,7 +186,7 @@ module _ (has : MapHasEachCell) (only : MapHasOnlyCells) (c : Config) (shape : F
       let found : is_cell x.ordinal x.cell (slice_get cells at) ≡ true =
       ap (λ (o : ℕ). is_cell o x.cell (slice_get cells at)) is ∙ ap (λ (a : ℕ). is_cell own x.cell (slice_get cells a))
       (sym place) ∙ standing in
-      or_second (not (x.ordinal == own)) (is_cell x.ordinal x.cell (slice_get cells at)) found)
+      or_right (not (x.ordinal == own)) (is_cell x.ordinal x.cell (slice_get cells at)) found)
       (λ other. ap (λ (t : Bool). not t || is_cell x.ordinal x.cell (slice_get cells at)) other)
 
   pub seen_stand : all_seen c shape frame_idx cells own ≡ all_stand c plp part block

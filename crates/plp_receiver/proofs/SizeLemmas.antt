@@ -14,7 +14,7 @@ use Rattle.plp_config.specs.declared.config.Config.{Config}
 use Rattle.scheduler.specs.Shape.{FrameShape}
 use Rattle.std.proofs.lemmas.List.FromFn.{get_or-map-range_with_len}
 use Rattle.site_frame.specs.Record.{Block}
-use Rattle.frame_tests.specs.Readable.{BlockSize, coming, has_size, block_sizes}
+use Rattle.frame_groups.specs.Readable.{BlockSize, coming, has_size, block_sizes}
 use Rattle.plp_config.specs.Plps.{spread}
 use Rattle.plp_receiver.specs.Sizes.{size_of, plp_sizes, sizes_from}
 use Rattle.plp_receiver.specs.Taken.{bytes_at}

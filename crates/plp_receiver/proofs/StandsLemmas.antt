@@ -6,10 +6,10 @@ use Rattle.std.proofs.lemmas.Bool.{eqb-true, both_ways}
 use Rattle.terms.proofs.CaseLemmas.{bool_cases}
 use Rattle.plp_config.specs.declared.config.Config.{Config}
 use Rattle.site_frame.specs.declared.reading.RecordView.{RecordView}
-use Rattle.packet_slots.specs.Epochs.{Epoch, readback, held_slots}
-use Rattle.packet_slots.specs.StandsFor as slots
-use Rattle.packet_slots.specs.declared.slots.PacketSlots.{PacketSlots}
-use Rattle.packet_slots.specs.declared.slot_rule.SlotRule.{SlotRule}
+use Rattle.plp_receiver.specs.SlotEpochs.{Epoch, readback, held_slots}
+use Rattle.plp_receiver.specs.SlotsStandFor as slots
+use Rattle.plp_receiver.specs.declared.slots.PacketSlots.{PacketSlots}
+use Rattle.plp_receiver.specs.declared.slot_rule.SlotRule.{SlotRule}
 use Rattle.plp_receiver.specs.Laws.{ReadbackOnce}
 use Rattle.plp_config.specs.Plps.{spread}
 use Rattle.plp_receiver.specs.Parts.{Part}

@@ -10,18 +10,18 @@ use Rattle.terms.proofs.RangeLemmas.{places_more}
 use Rattle.bb_frame.specs.Scrambled.{scrambled}
 use Rattle.cell_map.specs.CellMap.{Passes}
 use Rattle.cell_map.specs.declared.places.Cell.{Cell}
-use Rattle.frame_tests.specs.Laws.{MapPasses}
-use Rattle.frame_tests.specs.MapTest.{map_passes}
+use Rattle.frame_groups.specs.TestLaws.{MapPasses}
+use Rattle.frame_groups.specs.MapTest.{map_passes}
 use Rattle.plp_config.specs.Capacity.{IsPlan}
 use Rattle.plp_config.specs.declared.config.Config.{Config}
 use Rattle.scheduler.specs.Shape.{FrameShape}
-use Rattle.packet_slots.specs.Epochs.{Epoch, epoch_with}
-use Rattle.packet_slots.specs.StandsFor.{PacketSlotsStandsFor, StandsWithin}
-use Rattle.packet_slots.specs.Strings.{Block}
-use Rattle.packet_slots.specs.declared.slot_rule.SlotRule.{SlotRule}
-use Rattle.packet_slots.specs.declared.slots.PacketSlots.{PacketSlots}
+use Rattle.plp_receiver.specs.SlotEpochs.{Epoch, epoch_with}
+use Rattle.plp_receiver.specs.SlotsStandFor.{PacketSlotsStandsFor, StandsWithin}
+use Rattle.plp_receiver.specs.Strings.{Block}
+use Rattle.plp_receiver.specs.declared.slot_rule.SlotRule.{SlotRule}
+use Rattle.plp_receiver.specs.declared.slots.PacketSlots.{PacketSlots}
 use Rattle.site_frame.specs.Record as frame
-use Rattle.frame_tests.specs.Readable.{coming, has_size, block_sizes, shape_agrees}
+use Rattle.frame_groups.specs.Readable.{coming, has_size, block_sizes, shape_agrees}
 use Rattle.plp_receiver.specs.Taken.{IsTaken, IsTold, IsGiven}
 use Rattle.plp_receiver.specs.Holds.{block_at}
 use Rattle.plp_receiver.specs.declared.held.HeldBlocks.{HeldBlocks}

@@ -11,8 +11,8 @@ use Rattle.bb_frame.specs.declared.header.Header.{Header}
 use Rattle.bb_frame.specs.Laws.{BitCounts}
 use Rattle.bb_frame.specs.declared.fault.BbFault.{BbFault}
 use Rattle.bb_frame.specs.declared.reading.BbView.{BbView}
-use Rattle.packet_slots.specs.Strings.{Block}
-use Rattle.packet_slots.specs.TakenBlocks.{IsPlace}
+use Rattle.plp_receiver.specs.Strings.{Block}
+use Rattle.plp_receiver.specs.TakenBlocks.{IsPlace}
 use Rattle.plp_receiver.specs.Taken.{IsOfStream, IsTaken}
 use Rattle.plp_receiver.proofs.SpelledLemmas.{field_behind}
 

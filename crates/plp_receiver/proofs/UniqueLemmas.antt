@@ -13,12 +13,12 @@ use Rattle.terms.proofs.RangeLemmas.{range_append}
 use Rattle.plp_config.specs.Plps.{plp_at}
 use Rattle.plp_config.specs.declared.config.Config.{Config}
 use Rattle.site_frame.specs.declared.reading.RecordView.{RecordView}
-use Rattle.packet_slots.specs.Laws as slots
-use Rattle.packet_slots.specs.Epochs.{Epoch, HaveEnded, epoch_with, readback}
-use Rattle.packet_slots.specs.Strings.{Block}
+use Rattle.plp_receiver.specs.SlotLaws as slots
+use Rattle.plp_receiver.specs.SlotEpochs.{Epoch, HaveEnded, epoch_with, readback}
+use Rattle.plp_receiver.specs.Strings.{Block}
 use Rattle.bb_frame.specs.declared.header.TheConstants.{NO_START}
 use Rattle.plp_config.specs.Plps.{spread}
-use Rattle.packet_slots.specs.Sound.{IsSound}
+use Rattle.plp_receiver.specs.Sound.{IsSound}
 use Rattle.plp_receiver.specs.Parts.{Part, count_of}
 use Rattle.plp_receiver.specs.Taken.{block_read, IsTaken, IsTold, IsGiven, bytes_at}
 use Rattle.plp_receiver.specs.Epochs.{epoch_parts, cells_stand, place_of, Tells, epochs_in, TellAll, slot_rule, Readback}

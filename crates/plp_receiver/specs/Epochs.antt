@@ -9,10 +9,10 @@ use Rattle.plp_config.specs.SlotTimes.{slot_times}
 use Rattle.plp_config.specs.declared.config.Config.{Config}
 use Rattle.site_frame.specs.declared.reading.RecordView.{RecordView}
 use Rattle.site_frame.specs.declared.reading.RecordView.TheVariants.{Frame, Muted}
-use Rattle.packet_slots.specs.Epochs.{Epoch, lost_epoch, epoch_with, readback}
-use Rattle.packet_slots.specs.Strings.{Block}
-use Rattle.packet_slots.specs.declared.slot_rule.SlotRule.{SlotRule}
-use Rattle.frame_tests.specs.Readable.{coming, readable}
+use Rattle.plp_receiver.specs.SlotEpochs.{Epoch, lost_epoch, epoch_with, readback}
+use Rattle.plp_receiver.specs.Strings.{Block}
+use Rattle.plp_receiver.specs.declared.slot_rule.SlotRule.{SlotRule}
+use Rattle.frame_groups.specs.Readable.{coming, readable}
 use Rattle.plp_receiver.specs.Parts.{Part, part_with, count_of, all_stand}
 use Rattle.plp_receiver.specs.Taken.{IsGiven, bytes_at}
 

@@ -7,7 +7,7 @@ use Rattle.plp_config.specs.Plps.{spread, StandsAlone}
 use Rattle.plp_config.specs.declared.config.Config.{Config}
 use Rattle.scheduler.specs.Shape.{FrameShape}
 use Rattle.site_frame.specs.declared.reading.RecordView.{RecordView}
-use Rattle.frame_tests.specs.Readable.{coming}
+use Rattle.frame_groups.specs.Readable.{coming}
 use Rattle.plp_receiver.specs.Epochs.{part_of, epoch_parts, epochs_in, Readback}
 
 -- Records give back one list of packets at most.

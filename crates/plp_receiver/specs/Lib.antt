@@ -3,10 +3,33 @@ pub mod Taken
 pub mod Epochs
 pub mod StandsFor
 pub mod Laws
+pub mod Sound
+pub mod Strings
+pub mod Packets
+pub mod Pieces
+pub mod Assembles
+pub mod Times
+pub mod Readback
+pub mod SlotEpochs
+pub mod Window
+pub mod SlotsStandFor
+pub mod SlotLaws
+pub mod LaterBlocks
+pub mod JoinedBack
+pub mod JointStandsFor
+pub mod JointLaws
 -- inner: no public clause cites these
 pub mod Sizes
 pub mod Seeing
 pub mod Taking
 pub mod Holds
+pub mod Machine
+pub mod Base
+pub mod Filling
+pub mod SlotsHold
+pub mod TakenBlocks
+pub mod Both
 -- of the crates below, for those who read this one
-pub use Rattle.frame_tests.specs.Readable
+pub use Rattle.frame_groups.specs.Readable
+pub use Rattle.common_plp.specs.Groups
+pub use Rattle.common_plp.specs.Split

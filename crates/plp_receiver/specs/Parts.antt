@@ -7,7 +7,7 @@ use Rattle.cell_map.specs.Address.{address_of}
 use Rattle.cell_map.specs.CellMap.{ordinal_of, is_carried}
 use Rattle.cell_map.specs.declared.places.Cell.{Cell}
 use Rattle.site_frame.specs.Record.{Block}
-use Rattle.frame_tests.specs.MapTest.{each_below}
+use Rattle.frame_groups.specs.MapTest.{each_below}
 
 -- what stands at an address is the cell
 abbrev pub is_cell : ℕ → ℕ → Option (Option Cell) → Bool

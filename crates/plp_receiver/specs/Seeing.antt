@@ -6,7 +6,7 @@ use Rattle.plp_config.specs.declared.config.Config.{Config}
 use Rattle.scheduler.specs.Shape.{FrameShape}
 use Rattle.cell_map.specs.CellMap.{cell_map}
 use Rattle.cell_map.specs.declared.places.Cell.{Cell}
-use Rattle.frame_tests.specs.MapTest.{each_below}
+use Rattle.frame_groups.specs.MapTest.{each_below}
 use Rattle.plp_receiver.specs.Parts.{is_cell}
 
 -- if the map has a cell of the block with an ordinal, it is what is found

@@ -4,7 +4,7 @@ use Rattle.std.specs.List.{flat_map, range_with_len}
 use Rattle.plp_config.specs.Capacity.{block_bytes}
 use Rattle.plp_config.specs.Plps.{plp_at}
 use Rattle.plp_config.specs.declared.config.Config.{Config}
-use Rattle.frame_tests.specs.Readable.{BlockSize}
+use Rattle.frame_groups.specs.Readable.{BlockSize}
 
 abbrev pub size_of : ℕ → ℕ → BlockSize
 size_of id len = record { plp_id = id; len = len }

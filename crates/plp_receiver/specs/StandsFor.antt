@@ -4,9 +4,9 @@ use Rattle.plp_config.specs.Plps.{spread}
 use Rattle.plp_config.specs.SlotTime.{slots_by}
 use Rattle.plp_config.specs.declared.config.Config.{Config}
 use Rattle.site_frame.specs.declared.reading.RecordView.{RecordView}
-use Rattle.packet_slots.specs.Epochs.{Epoch}
-use Rattle.packet_slots.specs.StandsFor as slots
-use Rattle.packet_slots.specs.declared.slots.PacketSlots.{PacketSlots}
+use Rattle.plp_receiver.specs.SlotEpochs.{Epoch}
+use Rattle.plp_receiver.specs.SlotsStandFor as slots
+use Rattle.plp_receiver.specs.declared.slots.PacketSlots.{PacketSlots}
 use Rattle.plp_receiver.specs.Epochs.{slot_rule, TellAll, Readback}
 use Rattle.plp_receiver.specs.Holds.{Holds, seen}
 use Rattle.plp_receiver.specs.declared.held.HeldBlocks.{HeldBlocks}

@@ -8,7 +8,7 @@ use Rattle.bb_frame.specs.Scrambled.{scrambled}
 use Rattle.bb_frame.specs.declared.header.Header.{Header}
 use Rattle.bb_frame.specs.declared.header.TheConstants.{NO_START}
 use Rattle.site_frame.specs.Record as frame
-use Rattle.packet_slots.specs.Strings.{Block}
+use Rattle.plp_receiver.specs.Strings.{Block}
 
 -- TS/GS is 11, ISSYI is 1, and NPD says whether null packets are deleted (EN 302 755, clause 5.1.7).
 pub record IsOfStream (deletes : Bool) (matype1 : ℕ) : Type 0 where

@@ -3,11 +3,11 @@ use Rattle.std.specs.Prelude.{◌≡◌, ℕ, ◌+◌, ◌<◌, ◌≤◌, Bool,
 use Rattle.std.specs.List.{AllZip, range_with_len}
 use Rattle.plp_config.specs.declared.config.Config.{Config}
 use Rattle.site_frame.specs.Record as frame
-use Rattle.packet_slots.specs.Epochs.{Epoch, epoch_with}
-use Rattle.packet_slots.specs.StandsFor.{PacketSlotsStandsFor, StandsWithin, ends_epoch}
-use Rattle.packet_slots.specs.Strings.{Block}
-use Rattle.packet_slots.specs.declared.slot_rule.SlotRule.{SlotRule}
-use Rattle.packet_slots.specs.declared.slots.PacketSlots.{PacketSlots}
+use Rattle.plp_receiver.specs.SlotEpochs.{Epoch, epoch_with}
+use Rattle.plp_receiver.specs.SlotsStandFor.{PacketSlotsStandsFor, StandsWithin, ends_epoch}
+use Rattle.plp_receiver.specs.Strings.{Block}
+use Rattle.plp_receiver.specs.declared.slot_rule.SlotRule.{SlotRule}
+use Rattle.plp_receiver.specs.declared.slots.PacketSlots.{PacketSlots}
 use Rattle.plp_receiver.specs.Parts.{Part}
 use Rattle.plp_receiver.specs.Taken.{IsGiven, bytes_at}
 use Rattle.plp_receiver.specs.Epochs.{Tells}

@@ -3,14 +3,14 @@ ghost use Rattle.std.specs.Prelude.{◌≡◌, ◌+◌, ◌*◌, ◌^◌, ◌<�
 ghost use Rattle.terms.specs.Bits.{bits_of};
 ghost use Rattle.bb_frame.specs.Scrambled.{scrambled};
 ghost use Rattle.plp_config.specs.declared.moment.TheConstants.{MOST_FRAMES};
-ghost use Rattle.packet_slots.specs.StandsFor.{frame_of, is_within, due_of, ends_epoch, slots_status};
+ghost use Rattle.plp_receiver.specs.SlotsStandFor.{frame_of, is_within, due_of, ends_epoch, slots_status};
 ghost use Rattle.plp_receiver.specs.Holds.{room_of};
 ghost use Rattle.plp_receiver.specs.Taking.{TakesBlock, TakesBlocks, TakesEpoch};
 
 use crate::held::HeldBlocks;
+use crate::slots::PacketSlots;
 use crate::taking::taken_block;
 use bb_frame::scramble;
-use packet_slots::PacketSlots;
 
 // The block at a place.
 fn block_in(bytes: &[u8], at: usize, len: usize) -> &[u8]

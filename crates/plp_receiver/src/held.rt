@@ -2,13 +2,13 @@
 ghost use Rattle.std.specs.Prelude.{◌≡◌, ◌*◌, ◌^◌, ◌<◌, ◌≤◌, ℕ, true, false, length, vec_len, take};
 ghost use Rattle.std.specs.Prelude.{slice_index_or};
 ghost use Rattle.plp_config.specs.declared.moment.TheConstants.{MOST_FRAMES};
-ghost use Rattle.packet_slots.specs.StandsFor.{frame_of, is_within, slots_status};
+ghost use Rattle.plp_receiver.specs.SlotsStandFor.{frame_of, is_within, slots_status};
 
 use crate::blocks::take_blocks;
 use crate::copying::copy_blocks;
+use crate::slots::PacketSlots;
 use crate::standing::see_standing;
 use bit_slice::OutOfMemory;
-use packet_slots::PacketSlots;
 use plp_config::Plan;
 use scheduler::Shape;
 use site_frame::{BlocksIter, Cells};

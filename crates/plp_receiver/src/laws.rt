@@ -1,8 +1,8 @@
 // Laws of the definitions. Their functions do nothing.
 ghost use Rattle.plp_receiver.specs.Laws.{ReadbackOnce, ReadbackFront, OneFrame, AllCome};
 
+use crate::slot_laws::slots_readback_law as slots_law;
 use bb_frame::bit_counts_law;
-use packet_slots::readback_law as slots_law;
 use plp_config::{block_law, length_law, spread_law};
 
 /// A PLP is given back one list of packets, and of the first records a prefix of that of more.

@@ -3,12 +3,12 @@ ghost use Rattle.std.specs.Prelude.{◌≡◌, ◌<◌, ◌∷◌, [], true, len
 ghost use Rattle.plp_config.specs.Capacity.{block_bytes};
 ghost use Rattle.plp_config.specs.InterleavingFrames.{is_first};
 ghost use Rattle.plp_config.specs.Plps.{plp_at};
-ghost use Rattle.frame_tests.specs.Readable.{shape_agrees, coming};
+ghost use Rattle.frame_groups.specs.Readable.{shape_agrees, coming};
 ghost use Rattle.plp_receiver.specs.Parts.{part_with};
 ghost use Rattle.plp_receiver.specs.Holds.{Sees, Keeps, room_of};
 
 use crate::held::HeldBlocks;
-use frame_tests::map_test_law;
+use frame_groups::map_test_law;
 use plp_config::Plan;
 use scheduler::Shape;
 use site_frame::{Blocks, BlocksIter, Cells};

@@ -2,12 +2,13 @@
 ghost use Rattle.std.specs.Prelude.{◌≡◌, ◌<◌, length, IfOk};
 ghost use Rattle.plp_config.specs.SlotTime.{window, window_slots};
 ghost use Rattle.plp_config.specs.SlotTimes.{delay_of};
-ghost use Rattle.packet_slots.specs.Sound.{IsSound};
-ghost use Rattle.packet_slots.specs.StandsFor.{IsFresh, rule_of, slots_status};
-ghost use Rattle.packet_slots.specs.StandsFor as slots;
+ghost use Rattle.plp_receiver.specs.Sound.{IsSound};
+ghost use Rattle.plp_receiver.specs.SlotsStandFor.{IsFresh, rule_of, slots_status};
+ghost use Rattle.plp_receiver.specs.SlotsStandFor as slots;
 ghost use Rattle.plp_receiver.specs.Epochs.{slot_rule};
 
-use packet_slots::{PacketSlots, SlotRule};
+use crate::slot_rule::SlotRule;
+use crate::slots::PacketSlots;
 use plp_config::{Plan, length_law};
 use std::alloc::{AllocError, Global};
 

@@ -5,13 +5,13 @@ ghost use Rattle.std.specs.Bool.{beq};
 ghost use Rattle.std.specs.Cmp.Lexicographic.{pointwise};
 ghost use Rattle.l1_signal.specs.Laws.{crc_behind};
 ghost use Rattle.l1_signal.specs.declared.lengths.TheConstants.{CRC_BITS};
-ghost use Rattle.frame_tests.specs.Readable.{told_dynamic, post_agrees, BlockSize};
-ghost use Rattle.frame_tests.specs.Readable.{has_size, block_sizes, coming, shape_agrees, readable};
+ghost use Rattle.frame_groups.specs.Readable.{told_dynamic, post_agrees, BlockSize};
+ghost use Rattle.frame_groups.specs.Readable.{has_size, block_sizes, coming, shape_agrees, readable};
 ghost use Rattle.plp_receiver.specs.Sizes.{size_of};
 
 use crate::parts::begun_count;
 use bit_slice::BitSlice;
-use frame_tests::{
+use frame_groups::{
     Network, is_network_conf, is_of_frame, is_pre, map_passes, read_dynamic, tell_shape,
 };
 use l1_signal::{CRC_BITS, L1Dyn, check_post, conf_len, dyn_len, post_law, post_len};
@@ -101,7 +101,7 @@ fn has_shape(
 }
 
 /// Whether the record of a frame with these parts is readable. The shape that it tells is given to `shape` then.
-#[tactic(auto, unfolding(frame_tests::specs::Readable::readable))]
+#[tactic(auto, unfolding(frame_groups::specs::Readable::readable))]
 pub fn is_readable(
     network: &Network<'_>,
     number: u64,

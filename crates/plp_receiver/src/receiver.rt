@@ -4,7 +4,7 @@ ghost use Rattle.std.specs.Prelude.{slice_get, Some, nat_lt, if◌then◌else◌
 ghost use Rattle.plp_config.specs.Plps.{plp_at, spread};
 ghost use Rattle.plp_config.specs.Capacity.{block_bytes};
 ghost use Rattle.plp_config.specs.SlotTime.{window, window_slots};
-ghost use Rattle.packet_slots.specs.StandsFor.{is_within, rule_of};
+ghost use Rattle.plp_receiver.specs.SlotsStandFor.{is_within, rule_of};
 ghost use Rattle.plp_config.specs.SlotTimes.{delay_of};
 
 use crate::blocks::take_epoch;
@@ -13,10 +13,10 @@ use crate::laws::readback_law;
 use crate::parts::see_part;
 use crate::plp_rule::open_slots;
 use crate::readable::is_readable;
+use crate::slots::PacketSlots;
 use bit_slice::{BitSlice, OutOfMemory};
-use frame_tests::Network;
+use frame_groups::Network;
 use l1_signal::L1Dyn;
-use packet_slots::PacketSlots;
 use plp_config::{Plan, block_law};
 use scheduler::Shape;
 use site_frame::{Blocks, Cells, RecordView};
@@ -64,7 +64,7 @@ impl<'p> Receiver<'p> {
     ghost use Rattle.site_frame.specs.declared.reading.RecordView.TheVariants.{Frame};
     ghost use Rattle.plp_receiver.specs.Holds.{Sees, Holds, is_begun};
     ghost use Rattle.plp_receiver.specs.Parts.{Part};
-    ghost use Rattle.packet_slots.specs.StandsFor.{ends_epoch};
+    ghost use Rattle.plp_receiver.specs.SlotsStandFor.{ends_epoch};
     ghost use Rattle.std.specs.Prelude.{Option};
     ghost use Rattle.plp_receiver.specs.Taking.{EndsRecord, TellsEpoch};
     ghost use Rattle.plp_receiver.specs.StandsFor.{ReceiverStandsFor, IsFresh, slots_come, network_of, plp_of, frame_of, due_of};

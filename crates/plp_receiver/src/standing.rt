@@ -8,10 +8,9 @@ ghost use Rattle.plp_receiver.specs.Parts.{is_cell, all_stand, part_with};
 ghost use Rattle.plp_receiver.specs.Seeing.{is_seen, seen_from, all_seen};
 
 use cell_map::{Cell, Cells, map_law};
-use cell_words::agree;
 use plp_config::Plan;
 use scheduler::Shape;
-use site_frame::Cells as Words;
+use site_frame::{Cells as Words, agree};
 
 // Whether a cell is what is found.
 fn is_found(cell: Cell, found: Option<Cell>) -> bool

@@ -3,13 +3,13 @@ ghost use Rattle.std.specs.Prelude.{◌≡◌, ◌↔◌, ◌==◌, ◌+◌, ◌
 ghost use Rattle.std.specs.Prelude.{if◌then◌else◌};
 ghost use Rattle.terms.specs.Bits.{bits_of};
 ghost use Rattle.bb_frame.specs.declared.header.TheConstants.{NO_START, HEADER_BYTES};
-ghost use Rattle.packet_slots.specs.Strings.{Block};
-ghost use Rattle.packet_slots.specs.TakenBlocks.{block_of, IsPlace};
+ghost use Rattle.plp_receiver.specs.Strings.{Block};
+ghost use Rattle.plp_receiver.specs.TakenBlocks.{block_of, IsPlace};
 ghost use Rattle.plp_receiver.specs.Taken.{IsOfStream, IsTaken};
 
+use crate::block::TakenBlock;
 use bb_frame::{HEADER_BYTES, NO_START, bit_counts_law, read_frame};
 use bit_slice::BitSlice;
-use packet_slots::TakenBlock;
 
 // Whether MATYPE-1 is that of a transport stream with ISSY, with null packets deleted or not.
 fn is_of_stream(matype1: u8, deletes: bool) -> bool

@@ -14,10 +14,10 @@ use Rattle.plp_config.specs.declared.moment.Moment.{Moment}
 use Rattle.site_frame.specs.Placing.{IsFrameOf, IsPlaced}
 use Rattle.site_frame.specs.Whole.{moment_of}
 use Rattle.site_frame.specs.declared.reading.RecordView.{RecordView}
-use Rattle.joined_receiver.specs.Laws.{JoinedFront}
-use Rattle.joined_receiver.specs.StandsFor.{JoinedReceiverStandsFor, network_of, plp_of, joins_of, frame_of, due_of}
-use Rattle.joined_receiver.specs.JoinedBack.{MayJoin, JoinedBackWith}
-use Rattle.joined_receiver.specs.declared.receiver.JoinedReceiver.{JoinedReceiver}
+use Rattle.plp_receiver.specs.JointLaws.{JoinedFront}
+use Rattle.plp_receiver.specs.JointStandsFor.{JoinedReceiverStandsFor, network_of, plp_of, joins_of, frame_of, due_of}
+use Rattle.plp_receiver.specs.JoinedBack.{MayJoin, JoinedBackWith}
+use Rattle.plp_receiver.specs.declared.joined_receiver.JoinedReceiver.{JoinedReceiver}
 use Rattle.receive_run.specs.Received.{expected_after}
 use Rattle.receive_run.specs.AsMachine.{GavePackets, Given, first_of}
 use Rattle.receive_run.specs.Taking.{expected_by, TakesView, TellsDue}

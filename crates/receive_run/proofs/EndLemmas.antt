@@ -29,12 +29,12 @@ use Rattle.site_frame.specs.Whole.{BeginsWith, Refuses, moment_of}
 use Rattle.site_frame.specs.declared.fault.RecordWhy.{RecordWhy}
 use Rattle.site_frame.specs.declared.fault.RecordWhy.TheVariants as why
 use Rattle.site_frame.specs.declared.reading.RecordView.{RecordView}
-use Rattle.packet_slots.specs.Epochs.{Epoch, lost_epoch, epoch_with, readback}
-use Rattle.packet_slots.specs.Strings.{Block}
+use Rattle.plp_receiver.specs.SlotEpochs.{Epoch, lost_epoch, epoch_with, readback}
+use Rattle.plp_receiver.specs.Strings.{Block}
 use Rattle.common_plp.specs.Laws.{InStep}
 use Rattle.common_plp.specs.Split.{joined}
-use Rattle.joined_receiver.specs.JoinedBack.{MayJoin, JoinedBackWith}
-use Rattle.joined_receiver.proofs.LengthLemmas.{same_length}
+use Rattle.plp_receiver.specs.JoinedBack.{MayJoin, JoinedBackWith}
+use Rattle.plp_receiver.proofs.LengthLemmas.{same_length}
 use Rattle.plp_receiver.specs.Epochs.{epoch_parts, cells_stand, place_of, Tells, epochs_in, TellAll, slot_rule, Readback}
 use Rattle.plp_receiver.specs.Parts.{Part, count_of}
 use Rattle.plp_receiver.specs.Taken.{IsOfStream, block_read, IsTaken, IsGiven, bytes_at}

@@ -3,11 +3,11 @@ use Rattle.std.proofs.Common.{◌≡◌, ◌≢◌, ℕ, Bool, true, List, [], �
 use Rattle.std.proofs.Common.{arith, append-nil}
 use Rattle.std.proofs.lemmas.List.{nil_from_length}
 use Rattle.site_frame.specs.declared.reading.RecordView.{RecordView}
-use Rattle.record_feed.specs.StandsFor.{RecordFeedStandsFor, coming_of, Takes}
-use Rattle.record_feed.specs.declared.coming.Coming.TheVariants.{Whole}
-use Rattle.record_feed.specs.declared.feed.RecordFeed.{RecordFeed}
-use Rattle.joined_receiver.specs.Laws.{JoinedFront}
-use Rattle.joined_receiver.specs.StandsFor.{network_of, plp_of, joins_of}
+use Rattle.site_frame.specs.FeedStandsFor.{RecordFeedStandsFor, coming_of, Takes}
+use Rattle.site_frame.specs.declared.coming.Coming.TheVariants.{Whole}
+use Rattle.site_frame.specs.declared.feed.RecordFeed.{RecordFeed}
+use Rattle.plp_receiver.specs.JointLaws.{JoinedFront}
+use Rattle.plp_receiver.specs.JointStandsFor.{network_of, plp_of, joins_of}
 use Rattle.file_run.specs.Events.{Event, Fed, Ended, fed, has_ended}
 use Rattle.file_run.specs.Laws.{EventsTell}
 use Rattle.file_run.specs.Steps.{Suffices, FallsShort}

@@ -8,13 +8,13 @@ use Rattle.plp_config.specs.SlotTimes.{delay_of}
 use Rattle.plp_config.specs.declared.config.Config.{Config}
 use Rattle.plp_config.specs.declared.moment.TheConstants.{MOST_FRAMES}
 use Rattle.site_frame.specs.declared.reading.RecordView.{RecordView}
-use Rattle.packet_slots.specs.Epochs.{first_slot}
-use Rattle.packet_slots.specs.Times.{due_after}
-use Rattle.packet_slots.specs.declared.slot_rule.SlotRule.{SlotRule}
-use Rattle.packet_slots.proofs.StandsLemmas.{length_readback}
+use Rattle.plp_receiver.specs.SlotEpochs.{first_slot}
+use Rattle.plp_receiver.specs.Times.{due_after}
+use Rattle.plp_receiver.specs.declared.slot_rule.SlotRule.{SlotRule}
+use Rattle.plp_receiver.proofs.SlotsStandLemmas.{length_readback}
 use Rattle.plp_receiver.specs.Epochs.{slot_rule, Readback}
 use Rattle.common_plp.specs.Laws.{JoinedSlots}
-use Rattle.joined_receiver.specs.JoinedBack.{JoinedBackWith}
+use Rattle.plp_receiver.specs.JoinedBack.{JoinedBackWith}
 
 -- slots that last a tick or more are no more than ticks
 count_few : (n d t : ℕ) → d ≤ n → div_ceil (t * d) n ≤ t + 1

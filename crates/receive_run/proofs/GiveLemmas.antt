@@ -9,9 +9,9 @@ use Rattle.std.proofs.lemmas.Option.{slice_get_within}
 use Rattle.terms.proofs.OptionLemmas.{some_injective, none_some}
 use Rattle.site_frame.specs.declared.reading.RecordView.{RecordView}
 use Rattle.plp_receiver.specs.StandsFor.{Status}
-use Rattle.joined_receiver.specs.JoinedBack.{JoinedBackWith}
-use Rattle.joined_receiver.specs.StandsFor.{JoinedReceiverStandsFor, status_of, network_of, plp_of, joins_of, due_of}
-use Rattle.joined_receiver.specs.declared.receiver.JoinedReceiver.{JoinedReceiver}
+use Rattle.plp_receiver.specs.JoinedBack.{JoinedBackWith}
+use Rattle.plp_receiver.specs.JointStandsFor.{JoinedReceiverStandsFor, status_of, network_of, plp_of, joins_of, due_of}
+use Rattle.plp_receiver.specs.declared.joined_receiver.JoinedReceiver.{JoinedReceiver}
 use Rattle.receive_run.specs.Taking.{GivesPacket}
 
 -- ---- lists of packets

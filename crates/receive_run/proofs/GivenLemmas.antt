@@ -5,12 +5,12 @@ use Rattle.std.specs.List.{concat}
 use Rattle.plp_config.specs.declared.config.Config.{Config}
 use Rattle.site_frame.specs.RecordFile.{IsOnGrid}
 use Rattle.site_frame.specs.declared.reading.RecordView.{RecordView}
-use Rattle.record_feed.specs.StandsFor.{RecordFeedStandsFor, coming_of, left_of}
-use Rattle.record_feed.specs.declared.coming.Coming.TheVariants.{Head, Whole}
-use Rattle.record_feed.specs.declared.feed.RecordFeed.{RecordFeed}
-use Rattle.joined_receiver.specs.StandsFor.{network_of, plp_of, joins_of, due_of}
-use Rattle.joined_receiver.specs.JoinedBack.{JoinedBackWith}
-use Rattle.joined_receiver.specs.declared.receiver.JoinedReceiver.{JoinedReceiver}
+use Rattle.site_frame.specs.FeedStandsFor.{RecordFeedStandsFor, coming_of, left_of}
+use Rattle.site_frame.specs.declared.coming.Coming.TheVariants.{Head, Whole}
+use Rattle.site_frame.specs.declared.feed.RecordFeed.{RecordFeed}
+use Rattle.plp_receiver.specs.JointStandsFor.{network_of, plp_of, joins_of, due_of}
+use Rattle.plp_receiver.specs.JoinedBack.{JoinedBackWith}
+use Rattle.plp_receiver.specs.declared.joined_receiver.JoinedReceiver.{JoinedReceiver}
 use Rattle.file_run.specs.Events.{Event, Gave, fed, has_ended, gave}
 use Rattle.file_run.specs.Laws.{EventsTell}
 use Rattle.receive_run.specs.Received.{expected_after}

@@ -14,8 +14,8 @@ use Rattle.site_frame.specs.Whole.{Refuses, moment_of}
 use Rattle.site_frame.specs.declared.fault.RecordWhy.{RecordWhy}
 use Rattle.site_frame.specs.declared.fault.RecordWhy.TheVariants as why
 use Rattle.site_frame.specs.declared.reading.RecordView.{RecordView}
-use Rattle.joined_receiver.specs.Laws.{JoinedOnce}
-use Rattle.joined_receiver.specs.JoinedBack.{JoinedBackWith}
+use Rattle.plp_receiver.specs.JointLaws.{JoinedOnce}
+use Rattle.plp_receiver.specs.JoinedBack.{JoinedBackWith}
 use Rattle.receive_run.specs.JoinedLaws.{OneRun, OneOutput}
 use Rattle.receive_run.specs.JoinedRun.{HasAll, HasBefore}
 use Rattle.receive_run.specs.JoinedReceived.{GivesBack, Received}

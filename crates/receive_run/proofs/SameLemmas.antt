@@ -17,8 +17,8 @@ use Rattle.site_frame.specs.Whole.{BeginsWith, Spells, Refuses, moment_of}
 use Rattle.site_frame.specs.declared.fault.RecordWhy.{RecordWhy}
 use Rattle.site_frame.specs.declared.fault.RecordWhy.TheVariants as why
 use Rattle.site_frame.specs.declared.reading.RecordView.{RecordView}
-use Rattle.record_feed.specs.Laws.{NoneWaits}
-use Rattle.record_feed.specs.StandsFor.{coming_of}
+use Rattle.site_frame.specs.FeedLaws.{NoneWaits}
+use Rattle.site_frame.specs.FeedStandsFor.{coming_of}
 use Rattle.file_run.specs.Events.{Event, fed, has_ended}
 use Rattle.receive_run.specs.AsMachine.{Judged, Shown}
 use Rattle.receive_run.specs.Received.{expected_after, RefusesNext}

@@ -3,13 +3,13 @@ use Rattle.std.proofs.Common.{◌≡◌, ◌≢◌, ℕ, ◌<◌, List, Option, 
 use Rattle.plp_config.specs.Capacity.{IsPlan}
 use Rattle.plp_config.specs.declared.config.Config.{Config}
 use Rattle.site_frame.specs.declared.fault.RecordWhy.{RecordWhy}
-use Rattle.record_feed.specs.Behind.{Behind}
-use Rattle.record_feed.specs.StandsFor.{RecordFeedStandsFor, coming_of}
-use Rattle.record_feed.specs.declared.coming.Coming.{Coming}
-use Rattle.record_feed.specs.declared.coming.Coming.TheVariants.{Whole}
-use Rattle.joined_receiver.specs.JoinedBack.{MayJoin}
-use Rattle.joined_receiver.specs.StandsFor.{network_of, plp_of, joins_of, due_of}
-use Rattle.joined_receiver.specs.declared.receiver.JoinedReceiver.{JoinedReceiver}
+use Rattle.site_frame.specs.Behind.{Behind}
+use Rattle.site_frame.specs.FeedStandsFor.{RecordFeedStandsFor, coming_of}
+use Rattle.site_frame.specs.declared.coming.Coming.{Coming}
+use Rattle.site_frame.specs.declared.coming.Coming.TheVariants.{Whole}
+use Rattle.plp_receiver.specs.JoinedBack.{MayJoin}
+use Rattle.plp_receiver.specs.JointStandsFor.{network_of, plp_of, joins_of, due_of}
+use Rattle.plp_receiver.specs.declared.joined_receiver.JoinedReceiver.{JoinedReceiver}
 use Rattle.file_run.specs.Events.{Event, fed, has_ended, gave}
 use Rattle.receive_run.specs.Received.{expected_after}
 use Rattle.receive_run.specs.AsMachine.{SameTaken, Judged, Given, first_of, Shown}

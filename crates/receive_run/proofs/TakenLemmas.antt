@@ -6,14 +6,14 @@ use Rattle.site_frame.specs.Placing.{IsPlaced}
 use Rattle.site_frame.specs.Whole.{moment_of}
 use Rattle.site_frame.specs.declared.fault.RecordWhy.{RecordWhy}
 use Rattle.site_frame.specs.declared.reading.RecordView.{RecordView}
-use Rattle.record_feed.specs.Behind.{Behind}
-use Rattle.record_feed.specs.StandsFor.{RecordFeedStandsFor, coming_of, count_of}
-use Rattle.record_feed.specs.declared.coming.Coming.{Coming}
-use Rattle.record_feed.specs.declared.coming.Coming.TheVariants.{Head, Whole, Refused}
-use Rattle.record_feed.specs.declared.feed.RecordFeed.{RecordFeed}
-use Rattle.joined_receiver.specs.Laws.{JoinedFront}
-use Rattle.joined_receiver.specs.StandsFor.{network_of, plp_of, joins_of, due_of}
-use Rattle.joined_receiver.specs.declared.receiver.JoinedReceiver.{JoinedReceiver}
+use Rattle.site_frame.specs.Behind.{Behind}
+use Rattle.site_frame.specs.FeedStandsFor.{RecordFeedStandsFor, coming_of, count_of}
+use Rattle.site_frame.specs.declared.coming.Coming.{Coming}
+use Rattle.site_frame.specs.declared.coming.Coming.TheVariants.{Head, Whole, Refused}
+use Rattle.site_frame.specs.declared.feed.RecordFeed.{RecordFeed}
+use Rattle.plp_receiver.specs.JointLaws.{JoinedFront}
+use Rattle.plp_receiver.specs.JointStandsFor.{network_of, plp_of, joins_of, due_of}
+use Rattle.plp_receiver.specs.declared.joined_receiver.JoinedReceiver.{JoinedReceiver}
 use Rattle.file_run.specs.Events.{Event, fed, has_ended, gave}
 use Rattle.receive_run.specs.Received.{expected_after, IsMisplaced}
 use Rattle.receive_run.specs.AsMachine.{IsTaken, SameTaken, IsRefused, IsStopped, IsLookedAt, Judged, GavePackets, Given}

@@ -6,12 +6,12 @@ use Rattle.plp_config.specs.declared.config.Config.{Config}
 use Rattle.plp_config.specs.declared.moment.TheConstants.{MOST_FRAMES}
 use Rattle.site_frame.specs.declared.fault.RecordWhy.{RecordWhy}
 use Rattle.site_frame.specs.declared.reading.RecordView.{RecordView}
-use Rattle.record_feed.specs.Laws.{TakesOn}
-use Rattle.record_feed.specs.StandsFor.{coming_of, came_of, lacks_at, left_of, lacks_of}
-use Rattle.record_feed.specs.declared.coming.Coming.{Coming}
-use Rattle.record_feed.specs.declared.coming.Coming.TheVariants.{Head, Rest, Whole, Refused, NoRoom, Finished}
-use Rattle.joined_receiver.specs.StandsFor.{network_of, plp_of, joins_of, due_of}
-use Rattle.desk_io.specs.Reading.{longest_file}
+use Rattle.site_frame.specs.FeedLaws.{TakesOn}
+use Rattle.site_frame.specs.FeedStandsFor.{coming_of, came_of, lacks_at, left_of, lacks_of}
+use Rattle.site_frame.specs.declared.coming.Coming.{Coming}
+use Rattle.site_frame.specs.declared.coming.Coming.TheVariants.{Head, Rest, Whole, Refused, NoRoom, Finished}
+use Rattle.plp_receiver.specs.JointStandsFor.{network_of, plp_of, joins_of, due_of}
+use Rattle.file_run.specs.Reading.{longest_file}
 use Rattle.file_run.specs.Events.{Event, fed, has_ended, gave}
 use Rattle.file_run.specs.Steps.{Suffices, FallsShort, Needs, CanBeRead, HasRoom}
 use Rattle.file_run.specs.declared.machine.Step.{Step}

@@ -15,14 +15,14 @@ use Rattle.site_frame.specs.RecordFile.{AreRecords, IsOnGrid, EndsWithin, bytes_
 use Rattle.site_frame.specs.declared.fault.RecordWhy.{RecordWhy}
 use Rattle.site_frame.specs.declared.reading.RecordView.{RecordView}
 use Rattle.site_frame.proofs.RecordFileLemmas.{records_file, rest_inside, announces_on, begins_on}
-use Rattle.record_feed.specs.Laws.{Lacks, TakesOn, LacksWithin, NoneWaits}
-use Rattle.record_feed.specs.StandsFor.{coming_of, count_of, came_of, left_of, lacks_at, lacks_of}
-use Rattle.record_feed.specs.declared.coming.Coming.{Coming}
-use Rattle.record_feed.specs.declared.coming.Coming.TheVariants.{Head, Rest, Whole, Refused, NoRoom, Finished}
+use Rattle.site_frame.specs.FeedLaws.{Lacks, TakesOn, LacksWithin, NoneWaits}
+use Rattle.site_frame.specs.FeedStandsFor.{coming_of, count_of, came_of, left_of, lacks_at, lacks_of}
+use Rattle.site_frame.specs.declared.coming.Coming.{Coming}
+use Rattle.site_frame.specs.declared.coming.Coming.TheVariants.{Head, Rest, Whole, Refused, NoRoom, Finished}
 use Rattle.common_plp.specs.Groups.{common_of}
-use Rattle.joined_receiver.specs.JoinedBack.{MayJoin, JoinedBackWith}
-use Rattle.joined_receiver.specs.StandsFor.{network_of, plp_of, joins_of, due_of}
-use Rattle.joined_receiver.specs.declared.receiver.JoinedReceiver.{JoinedReceiver}
+use Rattle.plp_receiver.specs.JoinedBack.{MayJoin, JoinedBackWith}
+use Rattle.plp_receiver.specs.JointStandsFor.{network_of, plp_of, joins_of, due_of}
+use Rattle.plp_receiver.specs.declared.joined_receiver.JoinedReceiver.{JoinedReceiver}
 use Rattle.file_run.specs.Events.{Event, fed, has_ended, gave}
 use Rattle.file_run.specs.FileRun.{IsFed, AreFed}
 use Rattle.file_run.specs.Steps.{FallsShort, Needs}

@@ -9,14 +9,14 @@ use Rattle.site_frame.specs.Record.{head_len}
 use Rattle.site_frame.specs.RecordFile.{IsOnGrid}
 use Rattle.site_frame.specs.declared.fault.RecordWhy.{RecordWhy}
 use Rattle.site_frame.specs.declared.reading.RecordView.{RecordView}
-use Rattle.record_feed.specs.StandsFor.{RecordFeedStandsFor, coming_of, count_of, came_of, left_of, lacks_of, record_of}
-use Rattle.record_feed.specs.declared.coming.Coming.{Coming}
-use Rattle.record_feed.specs.declared.coming.Coming.TheVariants.{Head, Whole, Refused}
-use Rattle.joined_receiver.specs.StandsFor as stands
+use Rattle.site_frame.specs.FeedStandsFor.{RecordFeedStandsFor, coming_of, count_of, came_of, left_of, lacks_of, record_of}
+use Rattle.site_frame.specs.declared.coming.Coming.{Coming}
+use Rattle.site_frame.specs.declared.coming.Coming.TheVariants.{Head, Whole, Refused}
+use Rattle.plp_receiver.specs.JointStandsFor as stands
 use Rattle.plp_receiver.specs.StandsFor.{slots_over}
-use Rattle.joined_receiver.specs.StandsFor.{IsFresh, network_of, plp_of, joins_of, frame_of, due_of}
-use Rattle.joined_receiver.specs.JoinedBack.{JoinedBackWith}
-use Rattle.joined_receiver.specs.declared.receiver.JoinedReceiver.{JoinedReceiver}
+use Rattle.plp_receiver.specs.JointStandsFor.{IsFresh, network_of, plp_of, joins_of, frame_of, due_of}
+use Rattle.plp_receiver.specs.JoinedBack.{JoinedBackWith}
+use Rattle.plp_receiver.specs.declared.joined_receiver.JoinedReceiver.{JoinedReceiver}
 use Rattle.file_run.specs.Events.{Event, fed, has_ended, gave}
 use Rattle.file_run.specs.declared.machine.Step.{Step}
 use Rattle.receive_run.specs.NextStep.{next_from, left_by}

@@ -5,7 +5,7 @@ use Rattle.plp_config.specs.Capacity.{IsPlan}
 use Rattle.plp_config.specs.declared.config.Config.{Config}
 use Rattle.site_frame.specs.RecordFile.{AreRecords, IsOnGrid, AreBytes}
 use Rattle.site_frame.specs.declared.reading.RecordView.{RecordView}
-use Rattle.joined_receiver.specs.JoinedBack.{MayJoin}
+use Rattle.plp_receiver.specs.JoinedBack.{MayJoin}
 use Rattle.receive_run.specs.JoinedRun.{HasAll, HasBefore}
 use Rattle.receive_run.specs.JoinedReceived.{GivesBack}
 use Rattle.receive_run.specs.Received.{ran_of}

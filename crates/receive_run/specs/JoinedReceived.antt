@@ -4,7 +4,7 @@ use Rattle.std.specs.List.{concat}
 use Rattle.plp_config.specs.declared.config.Config.{Config}
 use Rattle.site_frame.specs.RecordFile.{IsOnGrid}
 use Rattle.site_frame.specs.declared.reading.RecordView.{RecordView}
-use Rattle.joined_receiver.specs.JoinedBack.{JoinedBackWith}
+use Rattle.plp_receiver.specs.JoinedBack.{JoinedBackWith}
 
 -- What a PLP is given back of the records of the frames from one on: nothing if there are none.
 abbrev pub GivesBack : Option ℕ → Config → ℕ → ℕ → List RecordView → List (List ℕ) → Type 0

@@ -3,8 +3,8 @@ use Rattle.std.specs.Prelude.{ℕ, zero, suc, Option, Some, None}
 use Rattle.file_run.specs.declared.machine.Step.{Step}
 use Rattle.file_run.specs.declared.machine.Step.TheVariants.{Read, Give, End}
 use Rattle.site_frame.specs.declared.fault.RecordWhy.{RecordWhy}
-use Rattle.record_feed.specs.declared.coming.Coming.{Coming}
-use Rattle.record_feed.specs.declared.coming.Coming.TheVariants.{Refused}
+use Rattle.site_frame.specs.declared.coming.Coming.{Coming}
+use Rattle.site_frame.specs.declared.coming.Coming.TheVariants.{Refused}
 
 -- what is done next, by how many slots are due, why a record is misplaced, and how many bytes of the next one are lacking
 abbrev pub next_from : ℕ → Option RecordWhy → ℕ → Step

@@ -5,9 +5,9 @@ use Rattle.plp_config.specs.declared.config.Config.{Config}
 use Rattle.site_frame.specs.Placing.{IsPlaced}
 use Rattle.site_frame.specs.Whole.{BeginsWith, Refuses, moment_of}
 use Rattle.site_frame.specs.declared.reading.RecordView.{RecordView}
-use Rattle.joined_receiver.specs.StandsFor.{JoinedReceiverStandsFor, IsFresh, network_of, plp_of, joins_of, frame_of, due_of}
-use Rattle.joined_receiver.specs.JoinedBack.{JoinedBackWith}
-use Rattle.joined_receiver.specs.declared.receiver.JoinedReceiver.{JoinedReceiver}
+use Rattle.plp_receiver.specs.JointStandsFor.{JoinedReceiverStandsFor, IsFresh, network_of, plp_of, joins_of, frame_of, due_of}
+use Rattle.plp_receiver.specs.JoinedBack.{JoinedBackWith}
+use Rattle.plp_receiver.specs.declared.joined_receiver.JoinedReceiver.{JoinedReceiver}
 use Rattle.receive_run.specs.Received.{IsMisplaced}
 use Rattle.receive_run.specs.declared.record.Look.{Look}
 use Rattle.receive_run.specs.declared.record.Look.TheVariants.{Taken, NoRecord, Misplaced}

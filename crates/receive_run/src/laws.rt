@@ -4,7 +4,7 @@ ghost use Rattle.receive_run.specs.JoinedLaws as joined;
 
 use bb_frame::{bit_counts_law, no_refusal_law, spelled_or_refused_law};
 use common_plp::groups_law;
-use joined_receiver::joined_law;
+use plp_receiver::joined_law;
 use site_frame::{place_law, reading_law, refusal_law};
 
 /// A file that is not too long decides how a run over it ends, if nothing outside fails: that of a PLP alone, and one that is joined

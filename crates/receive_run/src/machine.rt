@@ -2,10 +2,10 @@
 ghost use Rattle.std.specs.Prelude.{◌≡◌, ◌<◌, ◌≤◌, ◌+◌, ℕ, length, Some};
 ghost use Rattle.plp_config.specs.Laws.{FrameTicks, SoundTimes};
 ghost use Rattle.plp_config.specs.declared.moment.TheConstants.{MOST_FRAMES};
-ghost use Rattle.record_feed.specs.StandsFor.{NeverLacksRoom};
-ghost use Rattle.record_feed.specs.declared.coming.Coming.TheVariants.{Whole};
-ghost use Rattle.joined_receiver.specs.JoinedBack.{MayJoin};
-ghost use Rattle.joined_receiver.specs.StandsFor.{IsFresh, network_of, plp_of, joins_of, due_of};
+ghost use Rattle.site_frame.specs.FeedStandsFor.{NeverLacksRoom};
+ghost use Rattle.site_frame.specs.declared.coming.Coming.TheVariants.{Whole};
+ghost use Rattle.plp_receiver.specs.JoinedBack.{MayJoin};
+ghost use Rattle.plp_receiver.specs.JointStandsFor.{IsFresh, network_of, plp_of, joins_of, due_of};
 ghost use Rattle.receive_run.specs.Taking.{TellsDue};
 
 use crate::record::{Look, give_packet, take_record};
@@ -13,10 +13,9 @@ use crate::stop::{Ran, ReceiveStop};
 use bit_slice::OutOfMemory;
 use common_plp::join_law;
 use file_run::{Ending, Machine, Step, events_law};
-use joined_receiver::{JoinedReceiver, joined_law};
 use plp_config::{Plan, length_law};
-use record_feed::{Coming, RecordFeed, stands_law};
-use site_frame::RecordWhy;
+use plp_receiver::{JoinedReceiver, joined_law};
+use site_frame::{Coming, RecordFeed, RecordWhy, stands_law};
 use std::alloc::Global;
 use ts_packet::SIZE;
 
@@ -72,7 +71,7 @@ fn due_law(receiver: &JoinedReceiver<'_>)
 }
 
 impl<'p> Ending for ReceiverMachine<'p> {
-    ghost use Rattle.record_feed.specs.StandsFor.{coming_of, count_of};
+    ghost use Rattle.site_frame.specs.FeedStandsFor.{coming_of, count_of};
     ghost use Rattle.receive_run.specs.AsMachine.{ending_of, ran_by};
     ghost use Rattle.receive_run.specs.NextStep.{refusal_of};
 
@@ -99,7 +98,7 @@ impl<'p> Ending for ReceiverMachine<'p> {
 
 impl<'p> ReceiverMachine<'p> {
     ghost use Rattle.std.specs.Prelude.{List, [], IfOk};
-    ghost use Rattle.record_feed.specs.StandsFor.{coming_of, count_of, came_of};
+    ghost use Rattle.site_frame.specs.FeedStandsFor.{coming_of, count_of, came_of};
     ghost use Rattle.receive_run.specs.AsMachine.{Becomes, IsReady, IsLookedAt, slot_by};
     ghost use Rattle.receive_run.specs.NextStep.{refusal_of};
     ghost use Rattle.receive_run.specs.Taking.{expected_by};
@@ -191,7 +190,7 @@ impl<'p> ReceiverMachine<'p> {
 impl<'p> Machine for ReceiverMachine<'p> {
     ghost use Rattle.std.specs.Prelude.{◌+◌, ◌++◌, ◌∷◌, List, []};
     ghost use Rattle.file_run.specs.Events.{Event, Fed, Ended, Gave};
-    ghost use Rattle.joined_receiver.specs.StandsFor.{due_of};
+    ghost use Rattle.plp_receiver.specs.JointStandsFor.{due_of};
     ghost use Rattle.receive_run.specs.AsMachine.{Becomes, next_of, reach_of};
 
     ghost Becomes = { Becomes };

@@ -2,15 +2,14 @@
 ghost use Rattle.std.specs.Prelude.{◌≡◌, ◌<◌, ◌+◌, length};
 ghost use Rattle.site_frame.specs.Placing.{IsPlaced};
 ghost use Rattle.site_frame.specs.Whole.{moment_of as moment_in};
-ghost use Rattle.record_feed.specs.StandsFor.{coming_of, record_of};
-ghost use Rattle.record_feed.specs.declared.coming.Coming.TheVariants.{Whole};
-ghost use Rattle.joined_receiver.specs.StandsFor.{frame_of, due_of, network_of};
+ghost use Rattle.site_frame.specs.FeedStandsFor.{coming_of, record_of};
+ghost use Rattle.site_frame.specs.declared.coming.Coming.TheVariants.{Whole};
+ghost use Rattle.plp_receiver.specs.JointStandsFor.{frame_of, due_of, network_of};
 ghost use Rattle.receive_run.specs.Taking.{Awaits, SamePlp, TakesView, IsLook, GivesPacket};
 
-use joined_receiver::JoinedReceiver;
 use plp_config::{Moment, Plan};
-use record_feed::RecordFeed;
-use site_frame::{RecordView, RecordWhy, place_record};
+use plp_receiver::JoinedReceiver;
+use site_frame::{RecordFeed, RecordView, RecordWhy, place_record};
 use ts_packet::SIZE;
 
 // When the frame of a record leaves.

@@ -1,7 +1,7 @@
 // A run of the receiver of a PLP.
 ghost use Rattle.std.specs.Prelude.{◌≢◌, ◌<◌, [], ◌∷◌, length};
 ghost use Rattle.common_plp.specs.Groups.{common_of};
-ghost use Rattle.joined_receiver.specs.JoinedBack.{MayJoin};
+ghost use Rattle.plp_receiver.specs.JoinedBack.{MayJoin};
 ghost use Rattle.file_run.specs.Work.{Ends, Into};
 ghost use Rattle.receive_run.specs.JoinedRun as joined;
 ghost use Rattle.receive_run.specs.ReceiveRun.{receive_work};
@@ -12,8 +12,7 @@ use common_plp::common_of;
 use file_run::{Output, RunStop, run_over};
 use plp_config::Plan;
 use ports::Desk;
-use record_feed::stands_law;
-use site_frame::{place_law, reading_law, refusal_law};
+use site_frame::{place_law, reading_law, refusal_law, stands_law};
 use std::alloc::Global;
 
 // Runs the receiver of a PLP, with which another is joined, or none.

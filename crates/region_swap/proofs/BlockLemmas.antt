@@ -11,7 +11,7 @@ use Rattle.plp_config.specs.Plps.{plp_at}
 use Rattle.plp_config.specs.declared.config.Config.{Config}
 use Rattle.site_frame.specs.Record.{Block}
 use Rattle.record_laws.specs.Frames.{sent_block, sent_blocks}
-use Rattle.formed_frames.proofs.MadeLemmas.{ids_differ}
+use Rattle.stream_laws.proofs.MadeLemmas.{ids_differ}
 use Rattle.region_swap.specs.Swapped.{is_among, blocks_among, replaced}
 
 -- ---- blocks of some PLPs

@@ -18,9 +18,9 @@ use Rattle.frame_writer.specs.FirstPacket.{first_step, from_step}
 use Rattle.frame_writer.specs.FramePackets.{stamp_of, l1_body}
 use Rattle.frame_writer.specs.declared.step.FrameStep.{FrameStep}
 use Rattle.frame_writer.specs.declared.step.FrameStep.TheVariants as step
-use Rattle.pool_frame.specs.Left.{CanBeSent, blocks_left}
-use Rattle.pool_frame.specs.Bodies.{list_bodies, pool_bodies}
-use Rattle.pool_frame.proofs.PlaceLemmas.{from_first}
+use Rattle.frame_writer.specs.Left.{CanBeSent, blocks_left}
+use Rattle.frame_writer.specs.Bodies.{list_bodies, pool_bodies}
+use Rattle.frame_writer.proofs.PlaceLemmas.{from_first}
 use Rattle.region_swap.specs.Left.{own_list, lists_in, left_by, IsOver, HasLists, HasWalks, CanBuild}
 use Rattle.region_swap.specs.declared.place.SwapPlace.{SwapPlace}
 use Rattle.region_swap.specs.declared.place.SwapSource.{SwapSource}

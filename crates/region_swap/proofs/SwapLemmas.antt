@@ -20,9 +20,9 @@ use Rattle.frame_writer.specs.declared.flow.Flow.{Flow}
 use Rattle.frame_writer.specs.declared.flow.Outlet.{Outlet}
 use Rattle.frame_writer.proofs.CarriedLemmas.{carries_more}
 use Rattle.site_frame.specs.declared.reading.RecordView.{RecordView}
-use Rattle.pool_frame.specs.Bodies.{pool_bodies}
-use Rattle.pool_frame.specs.declared.frame.PoolFrame.{PoolFrame}
-use Rattle.formed_frames.specs.Remade.{NumberedView, frame_pairs, remade_bodies, view_bodies}
+use Rattle.frame_writer.specs.Bodies.{pool_bodies}
+use Rattle.frame_writer.specs.declared.frame.PoolFrame.{PoolFrame}
+use Rattle.stream_laws.specs.Remade.{NumberedView, frame_pairs, remade_bodies, view_bodies}
 use Rattle.gateway_core.specs.InputSoFar.{Told, with_packet, at_end, in_next, Continues}
 use Rattle.gateway_core.specs.IsFed.{IsFed, wanted}
 use Rattle.gateway_core.specs.declared.input.Input.{Input}

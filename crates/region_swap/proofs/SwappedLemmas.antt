@@ -19,24 +19,24 @@ use Rattle.t2mi_packet.specs.declared.packet.Body.{Body}
 use Rattle.t2mi_packet.specs.declared.packet.Body.TheVariants.{Block as BlockBody}
 use Rattle.site_frame.specs.Record.{Block}
 use Rattle.site_frame.specs.declared.reading.RecordView.{RecordView}
-use Rattle.frame_tests.specs.Carried.{right_blocks}
+use Rattle.frame_groups.specs.Carried.{right_blocks}
 use Rattle.frame_writer.specs.FramePackets.{l1_body, with_stamp}
 use Rattle.gateway_core.specs.Packets.{block_bodies as sent_bodies}
 use Rattle.gateway_core.specs.Signalling.{dyn_part}
 use Rattle.record_laws.specs.Frames.{sent_block, sent_blocks, l1_pre}
-use Rattle.record_writer.specs.Front.{post_with}
+use Rattle.open_group.specs.Front.{post_with}
 use Rattle.open_group.specs.Sent.{held_bytes}
-use Rattle.pool_frame.specs.Bodies.{block_bodies, list_bodies, pool_bodies}
-use Rattle.pool_frame.specs.Signalling.{pre_part, conf_part}
-use Rattle.pool_frame.specs.declared.frame.PoolFrame.{PoolFrame}
-use Rattle.formed_frames.specs.Remade.{signal_of, record_bodies, view_bodies}
-use Rattle.formed_frames.proofs.BackLemmas.{made_carries}
-use Rattle.formed_frames.proofs.FormedLemmas.{told, dynamic_is}
-use Rattle.formed_frames.proofs.MadeLemmas.{made_l1, made_bodies}
-use Rattle.formed_frames.proofs.PassedLemmas.{Passed, passed}
-use Rattle.formed_frames.proofs.SignalLemmas.{Knows, conf_there, dynamic_there, dyn_size}
-use Rattle.formed_frames.proofs.SizeLemmas.{AreLong, right_long}
-use Rattle.frame_laws.proofs.BlockLemmas.{own_long}
+use Rattle.frame_writer.specs.Bodies.{block_bodies, list_bodies, pool_bodies}
+use Rattle.frame_writer.specs.Signalling.{pre_part, conf_part}
+use Rattle.frame_writer.specs.declared.frame.PoolFrame.{PoolFrame}
+use Rattle.stream_laws.specs.Remade.{signal_of, record_bodies, view_bodies}
+use Rattle.stream_laws.proofs.BackLemmas.{made_carries}
+use Rattle.stream_laws.proofs.FormedLemmas.{told, dynamic_is}
+use Rattle.stream_laws.proofs.MadeLemmas.{made_l1, made_bodies}
+use Rattle.stream_laws.proofs.PassedLemmas.{Passed, passed}
+use Rattle.stream_laws.proofs.FormedSignalLemmas.{Knows, conf_there, dynamic_there, dyn_size}
+use Rattle.stream_laws.proofs.SizeLemmas.{AreLong, right_long}
+use Rattle.stream_laws.proofs.BlockLemmas.{own_long}
 use Rattle.region_swap.specs.Held.{IsHeld}
 use Rattle.region_swap.specs.Laws.{HeldIsSwapped}
 use Rattle.region_swap.specs.Making.{IsMade}

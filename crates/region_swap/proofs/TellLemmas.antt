@@ -7,9 +7,9 @@ use Rattle.terms.proofs.OptionLemmas.{none_some, some_injective}
 use Rattle.scheduler.specs.Shape.{FrameShape}
 use Rattle.l1_signal.specs.L1Of.{told_shape}
 use Rattle.l1_signal.specs.declared.dynamic.L1Dyn.{L1Dyn}
-use Rattle.frame_tests.specs.Carried.{L1Parts}
-use Rattle.frame_tests.specs.Laws.{MapPasses}
-use Rattle.formed_frames.proofs.PassedLemmas.{Passed, passed}
+use Rattle.frame_groups.specs.Carried.{L1Parts}
+use Rattle.frame_groups.specs.TestLaws.{MapPasses}
+use Rattle.stream_laws.proofs.PassedLemmas.{Passed, passed}
 use Rattle.region_swap.specs.Laws.{HeldTells}
 use Rattle.region_swap.specs.Telling.{told_by}
 

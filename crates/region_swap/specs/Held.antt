@@ -4,11 +4,11 @@ use Rattle.plp_config.specs.declared.config.Config.{Config}
 use Rattle.t2mi_packet.specs.declared.packet.Packet.{Packet}
 use Rattle.site_frame.specs.declared.reading.RecordView.{RecordView}
 use Rattle.frame_groups.specs.Modulated.{Numbered}
-use Rattle.frame_tests.specs.Tests.{packets_fault}
+use Rattle.frame_groups.specs.Tests.{packets_fault}
 use Rattle.open_group.specs.Shown.{Shows}
 use Rattle.open_group.specs.Written.{packets_view}
-use Rattle.pool_frame.specs.Signalling.{pre_part, conf_part}
-use Rattle.pool_frame.specs.declared.frame.PoolFrame.{PoolFrame}
+use Rattle.frame_writer.specs.Signalling.{pre_part, conf_part}
+use Rattle.frame_writer.specs.declared.frame.PoolFrame.{PoolFrame}
 
 -- It shows packets that pass the tests as frame n and make this record, and has the parts of L1 that all frames of the network share.
 pub record IsHeld (c : Config) (n : ℕ) (view : RecordView) (f : PoolFrame) : Type 0 where

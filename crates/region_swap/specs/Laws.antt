@@ -5,9 +5,9 @@ use Rattle.plp_config.specs.Capacity.{IsPlan}
 use Rattle.plp_config.specs.declared.config.Config.{Config}
 use Rattle.mode_adapt.specs.Blocks.{own_blocks, told_count}
 use Rattle.site_frame.specs.declared.reading.RecordView.{RecordView}
-use Rattle.formed_frames.specs.Remade.{view_bodies}
-use Rattle.pool_frame.specs.Bodies.{pool_bodies}
-use Rattle.pool_frame.specs.declared.frame.PoolFrame.{PoolFrame}
+use Rattle.stream_laws.specs.Remade.{view_bodies}
+use Rattle.frame_writer.specs.Bodies.{pool_bodies}
+use Rattle.frame_writer.specs.declared.frame.PoolFrame.{PoolFrame}
 use Rattle.region_swap.specs.Held.{IsHeld}
 use Rattle.region_swap.specs.Making.{IsMade}
 use Rattle.region_swap.specs.Telling.{TellsCounts}

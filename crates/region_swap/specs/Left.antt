@@ -9,7 +9,7 @@ use Rattle.t2mi_packet.specs.declared.packet.Body.{Body}
 use Rattle.frame_writer.specs.FirstPacket.{from_step}
 use Rattle.frame_writer.specs.FramePackets.{l1_body}
 use Rattle.frame_writer.specs.declared.step.FrameStep.TheVariants.{Over}
-use Rattle.pool_frame.specs.Left.{blocks_left, CanBeSent}
+use Rattle.frame_writer.specs.Left.{blocks_left, CanBeSent}
 use Rattle.region_swap.specs.declared.place.SwapPlace.{SwapPlace}
 use Rattle.region_swap.specs.declared.place.SwapSource.{SwapSource}
 use Rattle.region_swap.specs.declared.place.SwappedFrame.{SwappedFrame}

@@ -12,4 +12,4 @@ pub mod Inside
 pub use Rattle.gateway_core.specs.InputSoFar
 pub use Rattle.mode_adapt.specs.Blocks
 pub use Rattle.record_laws.specs.Frames
-pub use Rattle.formed_frames.specs.Remade
+pub use Rattle.stream_laws.specs.Remade

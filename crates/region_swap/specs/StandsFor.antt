@@ -10,9 +10,9 @@ use Rattle.t2mi_stream.specs.Pipe.{pipe}
 use Rattle.frame_groups.specs.Laws.{IsPrefix}
 use Rattle.frame_writer.specs.Flowing.{Flows, bytes_bound, gives_unit}
 use Rattle.frame_writer.specs.declared.flow.Flow.{Flow}
-use Rattle.pool_frame.specs.Signalling.{pre_part, conf_part}
-use Rattle.pool_frame.specs.declared.frame.PoolFrame.{PoolFrame}
-use Rattle.formed_frames.specs.Remade.{NumberedView, remade_bodies, remade_packets}
+use Rattle.frame_writer.specs.Signalling.{pre_part, conf_part}
+use Rattle.frame_writer.specs.declared.frame.PoolFrame.{PoolFrame}
+use Rattle.stream_laws.specs.Remade.{NumberedView, remade_bodies, remade_packets}
 use Rattle.gateway_core.specs.InputSoFar.{Told, Continues}
 use Rattle.gateway_core.specs.IsFed as supply
 use Rattle.region_swap.specs.Left.{left_by, own_list, number_of}

@@ -15,10 +15,10 @@ use Rattle.site_frame.specs.declared.reading.RecordView.TheVariants.{Frame, Mute
 use Rattle.frame_groups.specs.Modulated.{Content, FrameRecord}
 use Rattle.frame_groups.specs.Modulated.Content.{Whole, Muted}
 use Rattle.open_group.specs.Written.{content_view}
-use Rattle.frame_tests.specs.Readable.{told_dynamic}
+use Rattle.frame_groups.specs.Readable.{told_dynamic}
 use Rattle.record_laws.specs.Frames.{sent_block, frame_cells}
 use Rattle.gateway_core.specs.Signalling.{dyn_part}
-use Rattle.formed_frames.specs.Remade.{NumberedView}
+use Rattle.stream_laws.specs.Remade.{NumberedView}
 
 -- one of so many PLPs, from a place on, has this identifier (PLP_ID)
 abbrev pub is_among : Config → ℕ → ℕ → ℕ → Bool

@@ -7,7 +7,7 @@ use Rattle.plp_config.specs.declared.config.Config.{Config}
 use Rattle.l1_signal.specs.L1Dynamic.{dyn_read}
 use Rattle.l1_signal.specs.L1Of.{told_shape}
 use Rattle.l1_signal.specs.declared.dynamic.L1Dyn.{L1Dyn}
-use Rattle.frame_tests.specs.Tests.{read_whole}
+use Rattle.frame_groups.specs.Tests.{read_whole}
 
 -- what a dynamic part tells, if it reads, and how many blocks of each PLP (PLP_NUM_BLOCKS)
 abbrev pub told_by : Config → List Bool → Option L1Dyn

@@ -5,7 +5,7 @@ ghost use Rattle.l1_signal.specs.declared.lengths.TheConstants.{MOST_DYN_BITS};
 ghost use Rattle.region_swap.specs.Telling.{counts_told, TellsCounts};
 
 use bit_slice::{BitSlice, FixedBits, OutOfMemory};
-use frame_tests::{read_dynamic, tell_shape};
+use frame_groups::{read_dynamic, tell_shape};
 use gateway_core::write_dynamic;
 use l1_signal::{L1Dyn, MOST_DYN_BYTES};
 use plp_config::Plan;

@@ -2,7 +2,7 @@
 ghost use Rattle.region_swap.specs.Laws.{HeldIsSwapped, HeldTells};
 
 use bb_frame::{bit_counts_law, scramble_twice_law};
-use frame_tests::{map_test_law, parts_law};
+use frame_groups::{map_test_law, parts_law};
 use l1_signal::{conf_law, dyn_law, post_law, pre_law};
 use plp_config::block_law;
 

@@ -1,17 +1,17 @@
 // The packets of a frame of which a PLP is replaced.
 ghost use Rattle.std.specs.Prelude.{◌≡◌, ◌<◌, ◌≤◌, ◌+◌, ◌^◌, ℕ, [], length, slice_index_or};
 ghost use Rattle.plp_config.specs.declared.config.Config.{Config};
-ghost use Rattle.pool_frame.specs.Left.{blocks_left};
+ghost use Rattle.frame_writer.specs.Left.{blocks_left};
 ghost use Rattle.region_swap.specs.Left.{lists_in, HasLists};
 
 use bit_slice::FixedBits;
 use frame_writer::{
-    FrameSource, FrameStep, first_step, write_block, write_l1_current, write_timestamp,
+    FrameSource, FrameStep, PoolFrame, PoolWalk, first_step, write_block, write_l1_current,
+    write_timestamp,
 };
 use l1_signal::MOST_DYN_BYTES;
 use linked_pool::{BlockRef, Pool};
 use plp_config::Plan;
-use pool_frame::{PoolFrame, PoolWalk};
 use t2mi_packet::LARGEST;
 
 /// A frame that is held, with another dynamic part, and with the blocks of a region in place of those of one PLP. It
@@ -75,7 +75,7 @@ fn next_block(frame: &SwappedFrame<'_, '_>, plp: u32, place: u32, end: u32) -> (
 
 impl SwapPlace {
     ghost use Rattle.std.specs.Prelude.{◌≡◌, ℕ, Bool, List};
-    ghost use Rattle.pool_frame.specs.Bodies.{pool_bodies};
+    ghost use Rattle.frame_writer.specs.Bodies.{pool_bodies};
     ghost use Rattle.region_swap.specs.Left.{IsOver, left_by};
 
     /// The place of which nothing is left, whatever the frame is.

@@ -11,9 +11,8 @@ use crate::laws::{swapped_law, told_law};
 use crate::place::{SwapPlace, SwapSource, SwappedFrame};
 use crate::region::Region;
 use bit_slice::OutOfMemory;
-use frame_writer::Flow;
+use frame_writer::{Flow, PoolFrame};
 use plp_config::Plan;
-use pool_frame::PoolFrame;
 use std::alloc::Global;
 use ts_packet::{SIZE, TsPacket};
 
@@ -76,8 +75,8 @@ impl<'p> Swapper<'p> {
     ghost use Rattle.t2mi_stream.specs.Pipe.{pipe};
     ghost use Rattle.site_frame.specs.declared.reading.RecordView.{RecordView};
     ghost use Rattle.frame_writer.specs.Flowing.{packet_bound};
-    ghost use Rattle.pool_frame.specs.Left.{CanBeSent};
-    ghost use Rattle.formed_frames.specs.Remade.{NumberedView, remade_packets, view_bodies};
+    ghost use Rattle.frame_writer.specs.Left.{CanBeSent};
+    ghost use Rattle.stream_laws.specs.Remade.{NumberedView, remade_packets, view_bodies};
     ghost use Rattle.gateway_core.specs.InputSoFar.{Told, with_packet, at_end, in_next, Continues};
     ghost use Rattle.region_swap.specs.Held.{IsHeld, HasRecord};
     ghost use Rattle.region_swap.specs.Swapped.{swapped, swapped_view};

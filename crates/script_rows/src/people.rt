@@ -85,6 +85,7 @@ fn open<'a>(
             alloc, plan, plp_id, true, input,
         ),
         Request::Merge { a, b, .. } => RunCounts::of_merge(alloc, plan, a, b),
+        Request::Mend { ins, .. } => RunCounts::of_mend(alloc, plan, ins),
         Request::Swap {
             plp_id,
             t2mi,

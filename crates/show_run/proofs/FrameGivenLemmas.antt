@@ -1,15 +1,15 @@
 -- Lines of records are given.
 use Rattle.std.proofs.Common.{◌≡◌, ◌≢◌, ℕ, zero, suc, Bool, List, [], ◌∷◌, ◌++◌, refl, ap, sym, subst, ◌∙◌, inl, inr}
 use Rattle.std.proofs.Common.{append-nil}
-use Rattle.desk_io.specs.declared.input.TheConstants.{BUFFER}
+use Rattle.file_run.specs.declared.input.TheConstants.{BUFFER}
 use Rattle.file_run.specs.Events.{Event, Gave, fed, has_ended, gave}
 use Rattle.file_run.specs.Laws.{EventsTell}
 use Rattle.file_run.specs.declared.machine.Step.TheVariants.{Read, Give, End}
 use Rattle.site_frame.specs.declared.reading.RecordView.{RecordView}
-use Rattle.record_feed.specs.StandsFor.{RecordFeedStandsFor, coming_of}
-use Rattle.record_feed.specs.declared.coming.Coming.{Coming}
-use Rattle.record_feed.specs.declared.coming.Coming.TheVariants.{Head, Rest, Whole, Refused, NoRoom, Finished}
-use Rattle.record_feed.specs.declared.feed.RecordFeed.{RecordFeed}
+use Rattle.site_frame.specs.FeedStandsFor.{RecordFeedStandsFor, coming_of}
+use Rattle.site_frame.specs.declared.coming.Coming.{Coming}
+use Rattle.site_frame.specs.declared.coming.Coming.TheVariants.{Head, Rest, Whole, Refused, NoRoom, Finished}
+use Rattle.site_frame.specs.declared.feed.RecordFeed.{RecordFeed}
 use Rattle.show_run.specs.FrameLines.{next_from, Given, IsNew, Comes}
 use Rattle.show_run.specs.declared.frame_lines.FrameLines.{FrameLines}
 use Rattle.show_run.proofs.FrameLinesLemmas.{lines_next}

@@ -6,10 +6,10 @@ use Rattle.file_run.specs.Events.{Event, Fed, Ended, fed, has_ended, gave}
 use Rattle.file_run.specs.Laws.{EventsTell}
 use Rattle.file_run.specs.Steps.{Suffices, FallsShort}
 use Rattle.site_frame.specs.declared.reading.RecordView.{RecordView}
-use Rattle.record_feed.specs.StandsFor.{RecordFeedStandsFor, coming_of, count_of, lacks_of, IsOver, Takes}
-use Rattle.record_feed.specs.declared.coming.Coming.{Coming}
-use Rattle.record_feed.specs.declared.coming.Coming.TheVariants.{Head, Rest, Whole, Refused, NoRoom, Finished}
-use Rattle.record_feed.specs.declared.feed.RecordFeed.{RecordFeed}
+use Rattle.site_frame.specs.FeedStandsFor.{RecordFeedStandsFor, coming_of, count_of, lacks_of, IsOver, Takes}
+use Rattle.site_frame.specs.declared.coming.Coming.{Coming}
+use Rattle.site_frame.specs.declared.coming.Coming.TheVariants.{Head, Rest, Whole, Refused, NoRoom, Finished}
+use Rattle.site_frame.specs.declared.feed.RecordFeed.{RecordFeed}
 use Rattle.show_run.specs.FrameLines.{next_of, IsSeen, IsLookedAt, Given, Shown, Comes}
 use Rattle.show_run.specs.SaidLines.{record_line, record_lines, records_line}
 use Rattle.show_run.specs.declared.frame_lines.FrameLines.{FrameLines}

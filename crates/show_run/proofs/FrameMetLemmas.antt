@@ -2,7 +2,7 @@
 use Rattle.std.proofs.Common.{◌≡◌, ℕ, zero, suc, ◌+◌, ◌-◌, ◌<◌, ◌≤◌, List, [], ◌∷◌, ◌++◌, length, refl, ap}
 use Rattle.std.proofs.Common.{sym, subst, ◌∙◌, inl, inr, arith, append-nil, length-append}
 use Rattle.std.specs.Prelude.{codes, ◌⊎◌, Ok, Err}
-use Rattle.desk_io.specs.declared.input.TheConstants.{BUFFER}
+use Rattle.file_run.specs.declared.input.TheConstants.{BUFFER}
 use Rattle.file_run.specs.Telling.{most_waiting}
 use Rattle.file_run.specs.Events.{Event, fed, has_ended, gave}
 use Rattle.file_run.specs.FileRun.{IsFed}
@@ -11,11 +11,11 @@ use Rattle.file_run.specs.declared.machine.Step.TheVariants.{Read, Give, End}
 use Rattle.site_frame.specs.RecordFile.{AreRecords, EndsWithin, bytes_before}
 use Rattle.site_frame.specs.declared.fault.RecordWhy.{RecordWhy}
 use Rattle.site_frame.specs.declared.reading.RecordView.{RecordView}
-use Rattle.record_feed.specs.Behind.{Behind}
-use Rattle.record_feed.specs.Laws.{TakesOn, LacksWithin}
-use Rattle.record_feed.specs.StandsFor.{coming_of, count_of, lacks_of}
-use Rattle.record_feed.specs.declared.coming.Coming.{Coming}
-use Rattle.record_feed.specs.declared.coming.Coming.TheVariants.{Head, Rest, Whole, Refused, NoRoom, Finished}
+use Rattle.site_frame.specs.Behind.{Behind}
+use Rattle.site_frame.specs.FeedLaws.{TakesOn, LacksWithin}
+use Rattle.site_frame.specs.FeedStandsFor.{coming_of, count_of, lacks_of}
+use Rattle.site_frame.specs.declared.coming.Coming.{Coming}
+use Rattle.site_frame.specs.declared.coming.Coming.TheVariants.{Head, Rest, Whole, Refused, NoRoom, Finished}
 use Rattle.show_run.specs.FrameLines.{next_from, next_of, Given, Shown, Comes}
 use Rattle.show_run.specs.RecordText.{AreFirstRecords, LacksFewRecords, SaysMetRecords, IsRecordText}
 use Rattle.show_run.specs.SaidLines.{record_lines, records_line}

@@ -6,8 +6,8 @@ use Rattle.std.proofs.lemmas.List.{nil_from_length}
 use Rattle.std.proofs.lemmas.Option.{IfSome_then}
 use Rattle.terms.proofs.OptionLemmas.{if_any, if_both}
 use Rattle.ports.specs.Desk.{State, Held, bytes_of}
-use Rattle.desk_io.specs.Reading.{longest_file}
-use Rattle.desk_io.proofs.SayLemmas.{grows_same}
+use Rattle.file_run.specs.Reading.{longest_file}
+use Rattle.file_run.proofs.SayLemmas.{grows_same}
 use Rattle.file_run.specs.Events.{Event, fed, has_ended, gave}
 use Rattle.file_run.specs.FileRun.{IsFed}
 use Rattle.file_run.specs.Telling.{StartsWith, Tells, TellsAll}
@@ -16,10 +16,10 @@ use Rattle.file_run.specs.declared.stop.RunFault.TheVariants.{TooLong, ReadFault
 use Rattle.site_frame.specs.Laws.{OneRecord, NoRefusal}
 use Rattle.site_frame.specs.declared.fault.RecordWhy.{RecordWhy}
 use Rattle.site_frame.specs.declared.reading.RecordView.{RecordView}
-use Rattle.record_feed.specs.Laws.{TakesOn, LacksWithin}
-use Rattle.record_feed.specs.StandsFor.{coming_of, count_of, lacks_at, lacks_of}
-use Rattle.record_feed.specs.declared.coming.Coming.{Coming}
-use Rattle.record_feed.specs.declared.coming.Coming.TheVariants.{Head, Rest, Whole, Refused, NoRoom, Finished}
+use Rattle.site_frame.specs.FeedLaws.{TakesOn, LacksWithin}
+use Rattle.site_frame.specs.FeedStandsFor.{coming_of, count_of, lacks_at, lacks_of}
+use Rattle.site_frame.specs.declared.coming.Coming.{Coming}
+use Rattle.site_frame.specs.declared.coming.Coming.TheVariants.{Head, Rest, Whole, Refused, NoRoom, Finished}
 use Rattle.show_run.specs.FrameLines.{next_of, Given, Shown, Comes, records_end}
 use Rattle.site_frame.specs.RecordFile.{AreRecords, IsNoRecord}
 use Rattle.show_run.specs.RecordText.{AreFirstRecords, SaysMetRecords, LeavesRecords, IsRecordText}

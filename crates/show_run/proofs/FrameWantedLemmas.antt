@@ -1,15 +1,15 @@
 -- What of a file of records is wanted next, and what is known if it is fed.
 use Rattle.std.proofs.Common.{◌≡◌, ◌≢◌, ℕ, zero, suc, ◌+◌, ◌<◌, ◌≤◌, List, [], ◌∷◌, length, refl, sym, subst, arith}
-use Rattle.desk_io.specs.Reading.{longest_file}
-use Rattle.desk_io.specs.declared.input.TheConstants.{BUFFER}
+use Rattle.file_run.specs.Reading.{longest_file}
+use Rattle.file_run.specs.declared.input.TheConstants.{BUFFER}
 use Rattle.file_run.specs.Events.{fed}
 use Rattle.file_run.specs.Steps.{Suffices, FallsShort, Needs, HasRoom}
 use Rattle.file_run.specs.declared.machine.Step.{Step}
 use Rattle.file_run.specs.declared.machine.Step.TheVariants.{Read, Give, End}
-use Rattle.record_feed.specs.StandsFor.{coming_of, came_of, lacks_at, lacks_of}
-use Rattle.record_feed.specs.declared.coming.Coming.{Coming}
-use Rattle.record_feed.specs.declared.coming.Coming.TheVariants.{Finished}
-use Rattle.record_feed.specs.declared.feed.RecordFeed.{RecordFeed}
+use Rattle.site_frame.specs.FeedStandsFor.{coming_of, came_of, lacks_at, lacks_of}
+use Rattle.site_frame.specs.declared.coming.Coming.{Coming}
+use Rattle.site_frame.specs.declared.coming.Coming.TheVariants.{Finished}
+use Rattle.site_frame.specs.declared.feed.RecordFeed.{RecordFeed}
 use Rattle.show_run.specs.FrameLines.{next_from, next_of, Comes}
 use Rattle.show_run.specs.declared.frame_lines.FrameLines.{FrameLines}
 

@@ -1,6 +1,6 @@
 -- Packets back to back: one more, and their bytes and lines.
 use Rattle.std.proofs.Common.{◌≡◌, ℕ, ◌+◌, ◌≤◌, List, [], ◌∷◌, ◌++◌, length, drop, refl, ap, sym, subst, ◌∙◌, arith, append_assoc}
-use Rattle.std.proofs.Common.{append-nil, length-drop}
+use Rattle.std.proofs.Common.{length-drop}
 use Rattle.std.proofs.lemmas.List.{take-append-le, length-take}
 use Rattle.show_run.specs.PacketFile.{Begins, Packs, bytes_in}
 use Rattle.show_run.specs.SaidLines.{line_of, lines_of}
@@ -31,12 +31,6 @@ lines_of-append at (p ∷ ps) qs =
     ap (λ (text : List ℕ). line_of at p ++ text) (lines_of-append (at + length p) ps qs
     ∙ ap (λ (k : ℕ). lines_of (at + length p) ps ++ lines_of k qs) e)
     ∙ sym (append_assoc (line_of at p) (lines_of (at + length p) ps) (lines_of (at + (length p + bytes_in ps)) qs))
-
--- the line of one more packet
-pub lines_of-push : (at : ℕ) (ps : List (List ℕ)) (p : List ℕ) → lines_of at (ps ++ p ∷ []) ≡ lines_of at ps
-    ++ line_of (at + bytes_in ps) p
-lines_of-push at ps p = lines_of-append at ps (p ∷ []) ∙ ap (λ (text : List ℕ). lines_of at ps ++ text)
-    (append-nil (line_of (at + bytes_in ps) p))
 
 -- packets and what they leave are the file
 pub file_len : (file rest : List ℕ) (ps : List (List ℕ)) → Packs file ps rest → bytes_in ps + length rest ≡ length file

@@ -9,8 +9,8 @@ use Rattle.t2mi_packet.specs.declared.fault.PacketFault.{PacketFault}
 use Rattle.t2mi_packet.specs.declared.fault.PacketWhy.TheVariants.{Short}
 use Rattle.file_run.specs.Events.{Event, Fed, Ended, Gave, fed, has_ended, gave}
 use Rattle.file_run.specs.Laws.{EventsTell}
-use Rattle.desk_io.specs.Reading.{longest_file}
-use Rattle.desk_io.specs.declared.input.TheConstants.{BUFFER}
+use Rattle.file_run.specs.Reading.{longest_file}
+use Rattle.file_run.specs.declared.input.TheConstants.{BUFFER}
 use Rattle.file_run.specs.declared.machine.Step.TheVariants.{Read, Give, End}
 use Rattle.file_run.specs.Steps.{Suffices, FallsShort, HasRoom, CanBeRead}
 use Rattle.show_run.specs.PacketFile.{Begins, Packs, bytes_in}

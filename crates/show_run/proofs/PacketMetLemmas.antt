@@ -5,8 +5,8 @@ use Rattle.std.specs.Fmt.{decimal}
 use Rattle.std.specs.Prelude.{codes, ◌⊎◌, Ok, Err}
 use Rattle.ports.specs.declared.counts.Counts.{Counts}
 use Rattle.ports.specs.Desk.{State}
-use Rattle.desk_io.specs.Faults.{ReadsFail}
-use Rattle.desk_io.specs.Opening.{Opened, Unopened}
+use Rattle.file_run.specs.Faults.{ReadsFail}
+use Rattle.file_run.specs.Opening.{Opened, Unopened}
 use Rattle.t2mi_packet.specs.declared.fault.PacketWhy.{PacketWhy}
 use Rattle.file_run.specs.Telling.{most_waiting}
 use Rattle.file_run.specs.Events.{Event, fed, has_ended, gave}

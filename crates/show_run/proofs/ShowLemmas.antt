@@ -6,9 +6,9 @@ use Rattle.std.proofs.lemmas.List.{nil_from_length}
 use Rattle.std.proofs.lemmas.Option.{IfSome_then}
 use Rattle.terms.proofs.OptionLemmas.{if_any, if_both}
 use Rattle.ports.specs.Desk.{State, Held, bytes_of}
-use Rattle.desk_io.specs.Reading.{longest_file}
-use Rattle.desk_io.proofs.SayLemmas.{grows_same}
-use Rattle.desk_io.specs.declared.input.TheConstants.{BUFFER}
+use Rattle.file_run.specs.Reading.{longest_file}
+use Rattle.file_run.proofs.SayLemmas.{grows_same}
+use Rattle.file_run.specs.declared.input.TheConstants.{BUFFER}
 use Rattle.t2mi_packet.specs.Laws.{OnePacket, NoRefusal, PacketLength}
 use Rattle.t2mi_packet.specs.declared.fault.PacketWhy.{PacketWhy}
 use Rattle.file_run.specs.Events.{Event, fed, has_ended, gave}

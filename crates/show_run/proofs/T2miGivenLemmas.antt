@@ -1,16 +1,15 @@
 -- Lines of packets in units are given.
 use Rattle.std.proofs.Common.{◌≡◌, ◌≢◌, ℕ, ◌+◌, ◌-◌, ◌^◌, ◌<◌, ◌≤◌, List, [], ◌∷◌, ◌++◌, length, take, drop, map, min, Option}
-use Rattle.std.proofs.Common.{Some, None, refl, ap, ap₂, sym, subst, ◌∙◌, inl, inr, arith, append-nil, length-append}
+use Rattle.std.proofs.Common.{Some, None, refl, ap, ap₂, sym, subst, ◌∙◌, arith, append-nil, length-append}
 use Rattle.std.specs.Prelude.{option_map, slice_get, codes}
 use Rattle.std.proofs.lemmas.List.{length-map, take_more}
 use Rattle.std.proofs.lemmas.List.Concat.{flat_map-append}
 use Rattle.std.proofs.lemmas.Option.{slice_get-map, slice_get_within, get_or_from_slice_get}
-use Rattle.desk_io.specs.Reading.{longest_file}
+use Rattle.file_run.specs.Reading.{longest_file}
 use Rattle.t2mi_packet.specs.T2miPacket.{view_of}
 use Rattle.t2mi_stream.specs.Accepted.{AcceptedPacket}
 use Rattle.t2mi_stream.specs.Events as stream
 use Rattle.t2mi_stream.specs.Events.UnpiperEvent.{Released}
-use Rattle.t2mi_stream.specs.FirstPid.{t2mi_packets_in}
 use Rattle.t2mi_stream.specs.Laws.{EventsPush}
 use Rattle.t2mi_stream.specs.Skipping.{further, PacketPlaces, FewPackets}
 use Rattle.t2mi_stream.specs.Units.{accepted_of}
@@ -18,11 +17,11 @@ use Rattle.t2mi_stream.specs.UnpiperStandsFor.{UnpiperStandsFor, next_packet}
 use Rattle.t2mi_stream.specs.declared.unpiper.Unpiper.{Unpiper}
 use Rattle.file_run.specs.Events.{Event, Gave}
 use Rattle.file_run.specs.Laws.{EventsTell}
-use Rattle.show_run.specs.SaidLines.{view_line, count_line}
+use Rattle.show_run.specs.SaidLines.{view_line}
 use Rattle.show_run.specs.T2miLines.{packets_from, Unpiped, Comes}
 use Rattle.show_run.specs.T2miText.{place_line, place_lines}
 use Rattle.show_run.specs.declared.t2mi_lines.T2miLines.{T2miLines}
-use Rattle.show_run.specs.declared.t2mi_lines.Search.TheVariants.{Unpipes, Finished}
+use Rattle.show_run.specs.declared.t2mi_lines.Search.TheVariants.{Unpipes}
 use Rattle.show_run.proofs.T2miLinesLemmas.{found_as, found_in}
 
 given_up : EventsPush → (old new : Unpiper) (pid : ℕ) (bytes : List ℕ) (number : ℕ) →
@@ -123,34 +122,6 @@ gave_packet law push places few start m n events place at bytes line unpipes sam
               (append-nil (place_line (further (length f.front) k.0))));
           is_open = more.ended 0 ∙ f.is_open;
           idle = idle ∙ f.idle;
-        });
-      };
-    }
-
--- the line of the number was given
-pub gave_count : EventsTell → (start m n : T2miLines) (events : List Event) (line : List ℕ) → m.search ≡ Finished → m.line ≢ []
-    → line ≡ m.line → n.search ≡ m.search → n.at ≡ m.at → n.count ≡ m.count → n.line ≡ [] → Comes start events m
-    → Comes start (events ++ Gave line ∷ []) n
-gave_count law start m n events line done some is same at count none c =
-    let f = found_in m _ _ _ Finished done c.shown.found in
-    let more = law.given line events in
-    record {
-      fresh = c.fresh;
-      shown = record {
-        place = at ∙ c.shown.place ∙ ap length (sym (more.fed 0));
-        found = found_as n _ _ _ Finished (same ∙ done) (record {
-          over = more.ended 0 ∙ f.over;
-          number = count ∙ f.number ∙ ap (λ (l : List ℕ). length (t2mi_packets_in l)) (sym (more.fed 0));
-          lines = elim f.lines [
-            | inl waits ↦
-                inr (
-                  none,
-                  more.gave ∙ ap₂ (λ (x : List ℕ) (y : List ℕ). x ++ y) waits.1
-                      (is ∙ waits.0 ∙ ap count_line (sym count))
-                      ∙ ap (λ (l : List ℕ). place_lines (t2mi_packets_in l) ++ count_line n.count) (sym (more.fed 0)),
-                )
-            | inr given ↦ absurd (some given.0)
-          ];
         });
       };
     }

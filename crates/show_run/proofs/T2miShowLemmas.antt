@@ -8,9 +8,9 @@ use Rattle.std.proofs.lemmas.Option.{IfSome_then}
 use Rattle.terms.proofs.OptionLemmas.{if_any, if_both}
 use Rattle.show_run.proofs.ShowLemmas.{shows_none}
 use Rattle.ports.specs.Desk.{State, Held, bytes_of}
-use Rattle.desk_io.specs.Reading.{longest_file}
-use Rattle.desk_io.proofs.SayLemmas.{grows_same}
-use Rattle.desk_io.specs.declared.input.TheConstants.{BUFFER}
+use Rattle.file_run.specs.Reading.{longest_file}
+use Rattle.file_run.proofs.SayLemmas.{grows_same}
+use Rattle.file_run.specs.declared.input.TheConstants.{BUFFER}
 use Rattle.ts_packet.specs.declared.sizes.TheConstants.{SIZE}
 use Rattle.t2mi_stream.specs.Accepted.{AcceptedPacket}
 use Rattle.t2mi_stream.specs.FirstPid.{PacketsBehind, NoPackets, t2mi_packets_in}

@@ -1,7 +1,7 @@
 -- How far the lines of packets have come that stand back to back. No public clause cites this module.
 use Rattle.std.specs.Prelude.{◌≡◌, ◌⊎◌, ℕ, ◌+◌, ◌-◌, ◌≤◌, nat_lt, Bool, true, false, if◌then◌else◌, List, [], ◌∷◌, ◌++◌}
 use Rattle.std.specs.Prelude.{length, Result, Ok, Err}
-use Rattle.desk_io.specs.declared.input.TheConstants.{BUFFER}
+use Rattle.file_run.specs.declared.input.TheConstants.{BUFFER}
 use Rattle.t2mi_packet.specs.T2miPacket.{told_len, IsShort}
 use Rattle.t2mi_packet.specs.declared.fault.PacketWhy.{PacketWhy}
 use Rattle.file_run.specs.Events.{Event, fed, has_ended, gave}

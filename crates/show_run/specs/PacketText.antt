@@ -1,6 +1,6 @@
 -- The text of a file of T2-MI packets that stand back to back.
 use Rattle.std.specs.Prelude.{◌≡◌, ℕ, ◌+◌, ◌≤◌, List, [], ◌++◌, length, Result, Ok, Err}
-use Rattle.desk_io.specs.Reading.{longest_file}
+use Rattle.file_run.specs.Reading.{longest_file}
 use Rattle.file_run.specs.Telling.{most_waiting}
 use Rattle.file_run.specs.declared.stop.RunFault.TheVariants.{TooLong, ReadFault, WriteFault}
 use Rattle.t2mi_packet.specs.declared.fault.PacketWhy.{PacketWhy}

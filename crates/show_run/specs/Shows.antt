@@ -2,10 +2,10 @@
 use Rattle.std.specs.Prelude.{◌≡◌, ◌⊎◌, ℕ, ◌<◌, ◌≤◌, List, [], Result, Ok, Err, IfSome}
 use Rattle.ports.specs.Counts.{Rose}
 use Rattle.ports.specs.Desk.{State, SameCounts, bytes_of}
-use Rattle.desk_io.specs.Faults.{ReadsFail, WritesFail}
-use Rattle.desk_io.specs.Reading.{longest_file}
-use Rattle.desk_io.specs.Opening.{Opened, Unopened}
-use Rattle.desk_io.specs.Saying.{Grows}
+use Rattle.file_run.specs.Faults.{ReadsFail, WritesFail}
+use Rattle.file_run.specs.Reading.{longest_file}
+use Rattle.file_run.specs.Opening.{Opened, Unopened}
+use Rattle.file_run.specs.Saying.{Grows}
 use Rattle.file_run.specs.Telling.{ReadsFailAtLeast}
 use Rattle.file_run.specs.declared.stop.RunFault.TheVariants.{TooLong, ReadFault, WriteFault}
 use Rattle.file_run.specs.declared.stop.RunStop.{RunStop}

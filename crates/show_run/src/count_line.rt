@@ -3,7 +3,7 @@ ghost use Rattle.std.specs.Prelude.{◌≡◌, ◌≤◌, [], length, take};
 ghost use Rattle.file_run.specs.declared.machine.TheConstants.{PIECE};
 ghost use Rattle.show_run.specs.SaidLines.{count_line as line_of_count, records_line as line_of_records};
 
-use desk_io::{Line, ROOM};
+use file_run::{Line, ROOM};
 
 /// The line of the number of packets.
 pub fn count_line(count: u64) -> Line

@@ -1,13 +1,12 @@
 // The lines of records.
 ghost use Rattle.std.specs.Prelude.{◌≡◌};
-ghost use Rattle.record_feed.specs.StandsFor.{coming_of};
-ghost use Rattle.record_feed.specs.declared.coming.Coming.TheVariants.{Whole};
+ghost use Rattle.site_frame.specs.FeedStandsFor.{coming_of};
+ghost use Rattle.site_frame.specs.declared.coming.Coming.TheVariants.{Whole};
 
 use crate::count_line::{give_line, records_line};
 use crate::record_line::line_of;
-use desk_io::{BUFFER, Line};
-use file_run::{Machine, Step, events_law};
-use record_feed::{Coming, RecordFeed, stands_law};
+use file_run::{BUFFER, Line, Machine, Step, events_law};
+use site_frame::{Coming, RecordFeed, stands_law};
 use std::alloc::Global;
 
 /// A line for each record of a file, and last their number. It holds one record at most.
@@ -21,7 +20,7 @@ pub struct FrameLines {
 impl FrameLines {
     ghost use Rattle.std.specs.Prelude.{ℕ, Bool, List, []};
     ghost use Rattle.site_frame.specs.declared.reading.RecordView.{RecordView};
-    ghost use Rattle.record_feed.specs.StandsFor.{RecordFeedStandsFor, came_of};
+    ghost use Rattle.site_frame.specs.FeedStandsFor.{RecordFeedStandsFor, came_of};
     ghost use Rattle.show_run.specs.FrameLines.{IsNew, IsLookedAt};
 
     /// No record was seen. It takes no memory: that of a record is taken once its head is there.
@@ -54,10 +53,10 @@ impl FrameLines {
 
 impl Machine for FrameLines {
     ghost use Rattle.std.specs.Prelude.{◌≡◌, ◌<◌, ◌≤◌, ◌+◌, ◌++◌, ◌∷◌, ℕ, List, [], length, take};
-    ghost use Rattle.desk_io.specs.declared.input.TheConstants.{BUFFER};
+    ghost use Rattle.file_run.specs.declared.input.TheConstants.{BUFFER};
     ghost use Rattle.file_run.specs.Events.{Event, Fed, Ended, Gave};
     ghost use Rattle.file_run.specs.Steps.{Suffices, FallsShort, HasRoom, IsWanted};
-    ghost use Rattle.record_feed.specs.StandsFor.{came_of};
+    ghost use Rattle.site_frame.specs.FeedStandsFor.{came_of};
     ghost use Rattle.show_run.specs.FrameLines.{Comes, next_of, left_of};
 
     ghost Becomes = { Comes };

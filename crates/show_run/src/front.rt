@@ -4,7 +4,7 @@ ghost use Rattle.show_run.specs.Front.{IsFront, RefusesFront, IsLacking};
 ghost use Rattle.t2mi_packet.specs.declared.reading.TheConstants.{LARGEST};
 
 use crate::packet_line::packet_line;
-use desk_io::Line;
+use file_run::Line;
 use t2mi_packet::{LARGEST, PacketWhy, needed, view};
 
 // Bytes of a header.

@@ -4,7 +4,7 @@ ghost use Rattle.terms.specs.Bits.{byte_at};
 ghost use Rattle.show_run.specs.SaidLines.{head_of, view_line};
 
 use bit_slice::BitSlice;
-use desk_io::Line;
+use file_run::Line;
 use t2mi_packet::PacketView;
 
 // Byte k of some bits, a last part of a byte filled with zero bits.

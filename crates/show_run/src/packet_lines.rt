@@ -1,13 +1,12 @@
 // The lines of T2-MI packets that stand back to back.
 ghost use Rattle.std.specs.Prelude.{◌≡◌, ◌<◌, ◌≤◌, ◌-◌, length, vec_len, vec_capacity, IfOk};
-ghost use Rattle.desk_io.specs.Reading.{longest_file};
+ghost use Rattle.file_run.specs.Reading.{longest_file};
 ghost use Rattle.t2mi_packet.specs.declared.reading.TheConstants.{LARGEST};
 
 use crate::count_line::{count_line, give_line};
 use crate::front::{front_line, lacking};
 use bit_slice::OutOfMemory;
-use desk_io::{BUFFER, Line};
-use file_run::{Machine, Step, events_law};
+use file_run::{BUFFER, Line, Machine, Step, events_law};
 use std::alloc::Global;
 use t2mi_packet::{LARGEST, PacketWhy, spell_law};
 
@@ -81,7 +80,7 @@ impl PacketLines {
 
 impl Machine for PacketLines {
     ghost use Rattle.std.specs.Prelude.{◌≡◌, ◌<◌, ◌≤◌, ◌+◌, ◌++◌, ◌∷◌, ℕ, List, [], length, take};
-    ghost use Rattle.desk_io.specs.declared.input.TheConstants.{BUFFER};
+    ghost use Rattle.file_run.specs.declared.input.TheConstants.{BUFFER};
     ghost use Rattle.file_run.specs.Events.{Event, Fed, Ended, Gave};
     ghost use Rattle.file_run.specs.Steps.{Suffices, FallsShort, HasRoom, IsWanted};
     ghost use Rattle.show_run.specs.PacketLines.{Comes, next_of, left_of};

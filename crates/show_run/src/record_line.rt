@@ -1,17 +1,16 @@
 // The line that is said of a record.
 ghost use Rattle.std.specs.Prelude.{◌≡◌, ◌≤◌, ◌+◌, ◌++◌, ℕ, codes, length, IfOk, IfErr};
 ghost use Rattle.std.specs.Fmt.{decimal};
-ghost use Rattle.desk_io.specs.declared.line.TheConstants.{ROOM};
+ghost use Rattle.file_run.specs.declared.line.TheConstants.{ROOM};
 ghost use Rattle.site_frame.specs.Whole.{Refuses};
-ghost use Rattle.record_feed.specs.StandsFor.{coming_of, count_of, record_of};
-ghost use Rattle.record_feed.specs.declared.coming.Coming.TheVariants.{Whole};
+ghost use Rattle.site_frame.specs.FeedStandsFor.{coming_of, count_of, record_of};
+ghost use Rattle.site_frame.specs.declared.coming.Coming.TheVariants.{Whole};
 ghost use Rattle.show_run.specs.FrameLines.{IsLineOf};
 ghost use Rattle.show_run.specs.SaidLines.{record_line as line_of_record};
 
-use desk_io::Line;
+use file_run::Line;
 use plp_config::Moment;
-use record_feed::RecordFeed;
-use site_frame::{RecordView, RecordWhy};
+use site_frame::{RecordFeed, RecordView, RecordWhy};
 
 // Bytes of the key in front of the seconds at most, and digits of a number at most: those of 2^64 - 1.
 const KEY: usize = 20;

@@ -1,7 +1,7 @@
 // The commands that show a file by lines.
 ghost use Rattle.std.specs.Prelude.{◌≡◌, ◌-◌, [], length, OnOk, IfErr};
 ghost use Rattle.file_run.specs.Telling.{TellsAll};
-ghost use Rattle.record_feed.specs.StandsFor.{coming_of, count_of};
+ghost use Rattle.site_frame.specs.FeedStandsFor.{coming_of, count_of};
 ghost use Rattle.show_run.specs.FrameLines.{records_end};
 ghost use Rattle.show_run.specs.PacketLines.{packets_end};
 ghost use Rattle.show_run.specs.PacketText.{IsPacketText};
@@ -14,11 +14,9 @@ use crate::frame_lines::FrameLines;
 use crate::packet_lines::{PacketLines, Phase};
 use crate::stop::ShowStop;
 use crate::t2mi_lines::T2miLines;
-use desk_io::ReadAhead;
-use file_run::{Machine, OutBuffer, RunStop, tell};
+use file_run::{Machine, OutBuffer, ReadAhead, RunStop, tell};
 use ports::Desk;
-use record_feed::{Coming, stands_law};
-use site_frame::{reading_law, refusal_law};
+use site_frame::{Coming, reading_law, refusal_law, stands_law};
 use std::alloc::Global;
 use t2mi_packet::{no_refusal_law, one_packet_law, packet_length_law};
 use t2mi_stream::{accepted_front_law, first_pid_law};

@@ -1,6 +1,6 @@
 // The lines of the T2-MI packets in units.
 ghost use Rattle.std.specs.Prelude.{◌≡◌, ◌<◌, ◌+◌, ◌-◌, ◌≤◌, ℕ, false, List, length, take, IfOk};
-ghost use Rattle.desk_io.specs.Reading.{longest_file};
+ghost use Rattle.file_run.specs.Reading.{longest_file};
 ghost use Rattle.ts_packet.specs.declared.sizes.TheConstants.{SIZE};
 ghost use Rattle.t2mi_stream.specs.Events.{UnpiperEvent};
 ghost use Rattle.t2mi_stream.specs.UnpiperStandsFor.{UnpiperStandsFor, AllReleased, fed_len, is_ready};
@@ -8,8 +8,7 @@ ghost use Rattle.t2mi_stream.specs.UnpiperStandsFor.{UnpiperStandsFor, AllReleas
 use crate::count_line::{count_line, give_line};
 use crate::packet_line::packet_line;
 use bit_slice::OutOfMemory;
-use desk_io::{BUFFER, Line};
-use file_run::{Machine, Step, events_law};
+use file_run::{BUFFER, Line, Machine, Step, events_law};
 use std::alloc::Global;
 use t2mi_packet::view_known;
 use t2mi_stream::{
@@ -220,7 +219,7 @@ impl T2miLines {
 
 impl Machine for T2miLines {
     ghost use Rattle.std.specs.Prelude.{◌≡◌, ◌<◌, ◌≤◌, ◌+◌, ◌++◌, ◌∷◌, ℕ, List, [], length, take};
-    ghost use Rattle.desk_io.specs.declared.input.TheConstants.{BUFFER};
+    ghost use Rattle.file_run.specs.declared.input.TheConstants.{BUFFER};
     ghost use Rattle.file_run.specs.Events.{Event, Fed, Ended, Gave};
     ghost use Rattle.file_run.specs.Steps.{Suffices, FallsShort, HasRoom, IsWanted};
     ghost use Rattle.show_run.specs.T2miLines.{Comes, next_of, left_of};

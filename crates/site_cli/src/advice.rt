@@ -157,6 +157,9 @@ fn say_no_superframe(
             Shown(a),
             Shown(b)
         ),
+        Some(Request::Mend { .. }) => eprintln!(rt;
+            "no frame is whole in all INs together; see that each is a T2-MI stream of the network of CONFIG, on its PID"
+        ),
         _ => eprintln!(rt;
             "{file}: no superframe begins in it with a frame that passes the tests; see that it is the T2-MI stream of the network of CONFIG, on its PID"
         ),
@@ -345,8 +348,10 @@ fn file_of(request: Option<Request<'_>>, outcome: Outcome) -> &str {
         ) => ins
             .get(usize::from(input))
             .map_or("an IN", |word| word.as_str()),
-        (Some(Request::Gateway { .. } | Request::CommonGateway { .. }), Outcome::TooLong { .. }) =>
-            "an IN",
+        (
+            Some(Request::Gateway { .. } | Request::CommonGateway { .. } | Request::Mend { .. }),
+            Outcome::TooLong { .. },
+        ) => "an IN",
         (Some(Request::Modulate { input, .. }), Outcome::TooLong { .. } | Outcome::NoSuperframe) =>
             input,
         (
@@ -369,6 +374,7 @@ fn file_of(request: Option<Request<'_>>, outcome: Outcome) -> &str {
                 | Request::Receive { config, .. }
                 | Request::CommonReceive { config, .. }
                 | Request::Merge { config, .. }
+                | Request::Mend { config, .. }
                 | Request::Swap { config, .. }
                 | Request::Compare { config, .. }
                 | Request::Plan { config },

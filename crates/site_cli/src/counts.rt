@@ -16,6 +16,7 @@ fn config_of(request: Request<'_>) -> Option<&str> {
         | Request::Receive { config, .. }
         | Request::CommonReceive { config, .. }
         | Request::Merge { config, .. }
+        | Request::Mend { config, .. }
         | Request::Swap { config, .. }
         | Request::Compare { config, .. } => Some(config),
         _ => None,
@@ -43,6 +44,7 @@ fn open<'a>(
             alloc, plan, plp_id, true, input,
         ),
         Request::Merge { a, b, .. } => RunCounts::of_merge(alloc, plan, a, b),
+        Request::Mend { ins, .. } => RunCounts::of_mend(alloc, plan, ins),
         Request::Swap {
             plp_id,
             t2mi,

@@ -100,7 +100,7 @@ impl Command {
 }
 
 /// The commands.
-pub const COMMANDS: [Command; 14] = [
+pub const COMMANDS: [Command; 15] = [
     Command {
         name: "gateway",
         words: "gateway CONFIG OUT IN..",
@@ -142,6 +142,13 @@ pub const COMMANDS: [Command; 14] = [
         what: "writes to OUT one T2-MI stream of two of a network, A and B: each frame from the first of them that has it whole",
         example: "merge small.txt stream.ts late.ts merged.ts",
         rule: Some("OUT must be neither CONFIG nor A nor B"),
+    },
+    Command {
+        name: "mend",
+        words: "mend CONFIG OUT IN..",
+        what: "writes to OUT one T2-MI stream of one to eight of a network, the INs: each frame of which they have every packet together, at the instant that its timestamp tells",
+        example: "mend small.txt mended.ts stream.ts late.ts",
+        rule: Some("there must be one to eight INs, and OUT must be neither CONFIG nor an IN"),
     },
     Command {
         name: "swap",

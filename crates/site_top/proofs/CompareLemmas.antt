@@ -8,19 +8,19 @@ use Rattle.ports.specs.Desk.{State, Held, bytes_of}
 use Rattle.plp_config.specs.Capacity.{IsPlan}
 use Rattle.plp_config.specs.declared.config.Config.{Config}
 use Rattle.plp_config.specs.declared.moment.TheConstants.{MOST_FRAMES}
-use Rattle.frame_laws.specs.SentFrames.{run_length, run_stream, stream_bytes}
-use Rattle.frame_laws.specs.Types.{TypesFit}
+use Rattle.stream_laws.specs.SentFrames.{run_length, run_stream, stream_bytes}
+use Rattle.stream_laws.specs.Types.{TypesFit}
 use Rattle.file_run.specs.FileRun.{file_at}
 use Rattle.file_run.specs.Work.{Ends, Aloud}
 use Rattle.file_run.specs.declared.stop.RunFault.TheVariants as run_fault
 use Rattle.file_run.specs.declared.stop.RunStop.{RunStop}
 use Rattle.file_run.specs.declared.stop.RunStop.TheVariants as run
 use Rattle.file_run.proofs.EndsLemmas.{decides}
-use Rattle.two_feeds.specs.Fed.{names_of}
-use Rattle.frame_compare.specs.Comparing.{answers, frames_of}
-use Rattle.frame_compare.specs.Laws.{NoneDiffers}
-use Rattle.frame_compare.specs.Runs.{first_differing}
-use Rattle.frame_compare.specs.declared.counts.Counts.{Counts}
+use Rattle.feed_merge.specs.Fed.{names_of}
+use Rattle.compare_run.specs.Comparing.{answers, frames_of}
+use Rattle.compare_run.specs.AnswerLaws.{NoneDiffers}
+use Rattle.compare_run.specs.Runs.{first_differing}
+use Rattle.compare_run.specs.declared.counts.Counts.{Counts}
 use Rattle.compare_run.specs.CompareRun.{compare_work}
 use Rattle.compare_run.specs.Laws.{MustRun as CompareMust, OneRun as OneComparison}
 use Rattle.compare_run.specs.declared.stop.CompareStop.{CompareStop}

@@ -16,11 +16,11 @@ use Rattle.plp_config.specs.Capacity.{IsPlan}
 use Rattle.plp_config.specs.Places.{IsPlace}
 use Rattle.plp_config.specs.declared.config.Config.{Config}
 use Rattle.plp_config.specs.declared.moment.TheConstants.{MOST_FRAMES}
-use Rattle.config_file.specs.ConfigFile.{GivesNone, GivesNoPlan}
-use Rattle.config_file.specs.Laws.{GivesConfig, GivesPlan, OnePlan}
-use Rattle.config_file.specs.declared.stop.ConfigStop.{ConfigStop}
-use Rattle.config_file.specs.declared.stop.ConfigStop.TheVariants as config
-use Rattle.desk_io.specs.Reading.{longest_file}
+use Rattle.file_run.specs.ConfigFile.{GivesNone, GivesNoPlan}
+use Rattle.file_run.specs.ConfigLaws.{GivesConfig, GivesPlan, OnePlan}
+use Rattle.file_run.specs.declared.config_stop.ConfigStop.{ConfigStop}
+use Rattle.file_run.specs.declared.config_stop.ConfigStop.TheVariants as config
+use Rattle.file_run.specs.Reading.{longest_file}
 use Rattle.file_run.specs.FileRun.{file_at}
 use Rattle.file_run.specs.Work.{Work, Sink, Into, Aloud, IsRightAtEnd, Ends as RunEnds}
 use Rattle.file_run.specs.declared.stop.RunFault.TheVariants as run_fault
@@ -46,10 +46,14 @@ use Rattle.receive_run.specs.declared.stop.ReceiveStop.{ReceiveStop}
 use Rattle.receive_run.specs.declared.stop.ReceiveStop.TheVariants as receive
 use Rattle.merge_run.specs.Laws.{OneRun as OneMerging}
 use Rattle.merge_run.specs.MergeRun.{merge_work}
-use Rattle.two_feeds.specs.Fed.{names_of}
+use Rattle.feed_merge.specs.Fed.{names_of}
 use Rattle.merge_run.specs.declared.stop.Ran.{Ran as Merged}
 use Rattle.merge_run.specs.declared.stop.MergeStop.{MergeStop}
 use Rattle.merge_run.specs.declared.stop.MergeStop.TheVariants as merge
+use Rattle.mend_run.specs.MendRun.{mend_work}
+use Rattle.mend_run.specs.declared.stop.Ran.{Ran as Mended}
+use Rattle.mend_run.specs.declared.stop.MendStop.{MendStop}
+use Rattle.mend_run.specs.declared.stop.MendStop.TheVariants as mend
 use Rattle.swap_run.specs.Laws.{OneRun as OneSwapping}
 use Rattle.swap_run.specs.SwapRun.{swap_work}
 use Rattle.swap_run.specs.declared.stop.Ran.{Ran as Swapped}
@@ -59,7 +63,7 @@ use Rattle.compare_run.specs.CompareRun.{compare_work}
 use Rattle.compare_run.specs.Laws.{OneRun as OneComparison}
 use Rattle.compare_run.specs.declared.stop.CompareStop.{CompareStop}
 use Rattle.compare_run.specs.declared.stop.CompareStop.TheVariants as compare
-use Rattle.frame_compare.specs.declared.counts.Counts.{Counts as Compared}
+use Rattle.compare_run.specs.declared.counts.Counts.{Counts as Compared}
 use Rattle.show_run.specs.PacketText.{IsPacketText}
 use Rattle.show_run.specs.RecordText.{IsRecordText}
 use Rattle.show_run.specs.Shows.{Counted}
@@ -69,7 +73,7 @@ use Rattle.show_run.specs.declared.stop.ShowStop.TheVariants as show
 use Rattle.site_top.specs.declared.outcome.Outcome.{Outcome}
 use Rattle.site_top.specs.declared.outcome.Outcome.TheVariants.{Done, ReadFault, WriteFault, OutOfMemory}
 use Rattle.site_top.specs.Commands.{Command, ShowPackets, ShowT2mi, ShowFrames, ShowConfig, Plan, Gateway, Modulate, Receive}
-use Rattle.site_top.specs.Commands.{Merge, Swap, Trial}
+use Rattle.site_top.specs.Commands.{Merge, Mend, Swap, Trial}
 use Rattle.site_top.specs.Commands.{Compare}
 use Rattle.site_top.specs.CompareCommand as compares
 use Rattle.site_top.specs.Outcomes.{compare_cause}
@@ -79,15 +83,17 @@ use Rattle.site_top.specs.ConfigCommands.{ShowsConfig, Plans}
 use Rattle.trial_run.specs.declared.stop.TrialStop.TheVariants as trial
 use Rattle.site_top.specs.GatewayCommand as gateways
 use Rattle.site_top.specs.Laws.{OneEnding, Completeness}
+use Rattle.site_top.specs.MendCommand as mends
 use Rattle.site_top.specs.MergeCommand as merges
 use Rattle.site_top.specs.ModulateCommand as modulates
 use Rattle.site_top.specs.Outcomes.{run_outcome, stop_outcome, config_outcome, gateway_cause, modulate_cause, receive_cause}
-use Rattle.site_top.specs.Outcomes.{merge_cause, swap_cause, show_cause}
+use Rattle.site_top.specs.Outcomes.{merge_cause, mend_cause, swap_cause, show_cause}
 use Rattle.site_top.specs.PlanCommand.{RunsAndTells, ByPlan}
 use Rattle.site_top.specs.ReceiveCommand.{receive_line}
 use Rattle.site_top.specs.Reception as receives
 use Rattle.site_top.specs.Runs.{PlanMustEnd, ModulateMustEnd, ReceiveMustEnd, MergeMustEnd, OverPlan, MustEnd, IsComplete}
-use Rattle.site_top.specs.Runs.{SwapMustEnd}
+use Rattle.site_top.specs.Runs.{MendMustEnd, SwapMustEnd}
+use Rattle.site_top.proofs.MendLemmas.{MendsIfShort, mend_one}
 use Rattle.site_top.specs.Saying.{Tells}
 use Rattle.site_top.specs.SwapCommand as swaps
 use Rattle.site_top.specs.TrialCommand.{Tries}
@@ -471,6 +477,36 @@ merge_so one run old new config a b out result does =
     old mid new result same runs)
     old new result does
 
+-- ---- `mend`
+
+abbrev MendingMust : List (List ℕ) → Config → State → Outcome → Type 0
+MendingMust ins c mid outcome = IfSome mid.held (λ h. MendsIfShort h ins c outcome)
+
+mended_so : (ins : List (List ℕ)) (c : Config) (h : Held) (result : Result Mended MendStop) (places bytes : List ℕ)
+    → IsRightAtEnd (mend_work c (length ins)) (file_at h ins) places bytes result
+    → MendsIfShort h ins c (run_outcome mend_cause result)
+mended_so ins c h (Ok ran) places bytes (whole, all) = λ short. (Ok ran, (all.some, all.ran_is), refl)
+mended_so ins c h (Err mend.NoFrame) places bytes (whole, has) = λ short. (Err mend.NoFrame, has.none, refl)
+
+mended_long : (ins : List (List ℕ)) (c : Config) (h : Held) (input : ℕ) (outcome : Outcome) → input < length ins
+    → longest_file ≤ length (file_at h ins input) → MendsIfShort h ins c outcome
+mended_long ins c h input outcome lt most = λ short. let few = short input lt in absurd (omega (arith, most, few))
+
+mend_so : OnePlan → (old new : State) (config out : List ℕ) (ins : List (List ℕ)) (result : Outcome)
+    → mends.Mends old new config out ins result → IsComplete (Mend config out ins) old new result
+mend_so one old new config out ins result does =
+    by_plan one (Mend config out ins) config (mends.Follows out ins) (λ held. MendsIfShort held ins)
+    (λ held. MendMustEnd held ins) (λ held outcome m. m) (λ held c outcome m. m)
+    (λ held c mine outcome plan. mend_one held ins c mine outcome)
+    (λ c old mid new result same runs.
+    let work = mend_work c (length ins) in
+    let must = λ (h : Held). MendsIfShort h ins c in
+    ways (mends.Ends out ins c) (mends.StopsSo out ins c) mends.mend_line mend_cause (MendingMust ins c)
+    (λ x y stop e. asked work (Into out) ins mend_cause must (mended_so ins c) (mended_long ins c) x y (Err stop) e)
+    (λ x y ran e. asked_at_end work (Into out) ins mend_cause must (mended_so ins c) x y ran e.0)
+    old mid new result same runs)
+    old new result does
+
 -- ---- `swap`
 
 abbrev SwappingMust : List (List ℕ) → ℕ → Config → State → Outcome → Type 0
@@ -581,6 +617,8 @@ is_complete law one run modulation reception merging swapping comparison (Receiv
     receive_so one reception sharing old new config id file out result s
 is_complete law one run modulation reception merging swapping comparison (Merge config a b out) old new result s =
     merge_so one merging old new config a b out result s
+is_complete law one run modulation reception merging swapping comparison (Mend config out ins) old new result s =
+    mend_so one old new config out ins result s
 is_complete law one run modulation reception merging swapping comparison (Swap config id t2mi file out) old new result s =
     swap_so one swapping old new config id t2mi file out result s
 is_complete law one run modulation reception merging swapping comparison (Compare config a b) old new result s =

@@ -6,8 +6,8 @@ use Rattle.ports.specs.Desk.{Held, bytes_of}
 use Rattle.plp_config.specs.Capacity.{IsPlan}
 use Rattle.plp_config.specs.Places.{IsPlace, HasNoPlace}
 use Rattle.plp_config.specs.declared.config.Config.{Config}
-use Rattle.config_file.specs.Laws.{GivesPlan, OneConfig, OnePlan}
-use Rattle.config_file.specs.declared.stop.ConfigStop.{ConfigStop}
+use Rattle.file_run.specs.ConfigLaws.{GivesPlan, OneConfig, OnePlan}
+use Rattle.file_run.specs.declared.config_stop.ConfigStop.{ConfigStop}
 use Rattle.file_run.specs.FileRun.{file_at}
 use Rattle.gateway_run.specs.Laws.{MustRun, OneRun}
 use Rattle.gateway_run.specs.declared.stop.Ran.{Ran}
@@ -21,7 +21,7 @@ use Rattle.receive_run.specs.JoinedLaws.{MustRun as ReceiveMust, OneRun as OneRe
 use Rattle.receive_run.specs.declared.stop.Ran.{Ran as Received}
 use Rattle.receive_run.specs.declared.stop.ReceiveStop.{ReceiveStop}
 use Rattle.merge_run.specs.Laws.{MustRun as MergeMust, OneRun as OneMerging}
-use Rattle.two_feeds.specs.Fed.{names_of}
+use Rattle.feed_merge.specs.Fed.{names_of}
 use Rattle.merge_run.specs.declared.stop.Ran.{Ran as Merged}
 use Rattle.merge_run.specs.declared.stop.MergeStop.{MergeStop}
 use Rattle.swap_run.specs.Laws.{MustRun as SwapMust, OneRun as OneSwapping}
@@ -35,13 +35,14 @@ use Rattle.site_top.proofs.CompareLemmas.{ComparesIfShort, compare_one}
 use Rattle.site_top.specs.declared.outcome.Outcome.{Outcome}
 use Rattle.site_top.specs.declared.outcome.Outcome.TheVariants.{UnknownPlp}
 use Rattle.site_top.specs.Commands.{ShowPackets, ShowT2mi, ShowFrames, ShowConfig, Plan, Gateway, Modulate, Receive, Merge, Trial}
-use Rattle.site_top.specs.Commands.{Swap}
+use Rattle.site_top.specs.Commands.{Mend, Swap}
 use Rattle.site_top.specs.Laws.{OneEnding}
 use Rattle.site_top.specs.Outcomes.{run_outcome, gateway_cause, modulate_cause, receive_cause, merge_cause, show_cause}
 use Rattle.site_top.specs.Outcomes.{swap_cause, config_outcome, Miscounts}
-use Rattle.desk_io.specs.Reading.{longest_file}
+use Rattle.file_run.specs.Reading.{longest_file}
 use Rattle.site_top.specs.Runs.{AreShort, PlanMustEnd, ModulateMustEnd, ReceiveMustEnd, MergeMustEnd, OverPlan}
-use Rattle.site_top.specs.Runs.{SwapMustEnd}
+use Rattle.site_top.specs.Runs.{MendMustEnd, SwapMustEnd}
+use Rattle.site_top.proofs.MendLemmas.{MendsIfShort, mend_one}
 use Rattle.site_top.proofs.PlaceLemmas.{place_by, never_by}
 
 -- what texts give
@@ -215,6 +216,9 @@ one_ending packets records config plan run modulate receive merge swap compare (
     one_by_plan plan (bytes_of held.files config_file) (MergesIfShort held (names_of a b)) (MergeMustEnd held (names_of a b))
     (λ c outcome must short. must.1)
     (λ c result outcome is mine must. merge_one merge held (names_of a b) c result outcome mine must) outcome other x y
+one_ending packets records config plan run modulate receive merge swap compare (Mend config_file out ins) held outcome other x y =
+    one_by_plan plan (bytes_of held.files config_file) (MendsIfShort held ins) (MendMustEnd held ins) (λ c outcome must short. must.1)
+    (λ c result outcome is mine must. mend_one held ins c result outcome mine must) outcome other x y
 one_ending packets records config plan run modulate receive merge swap compare (Swap config_file id t2mi file out) held outcome other x y =
     one_by_plan plan (bytes_of held.files config_file) (SwapsIfShort held (names_of t2mi file) id)
     (SwapMustEnd held (names_of t2mi file) id) (swap_if_short held (names_of t2mi file) id)

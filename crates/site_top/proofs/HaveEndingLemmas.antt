@@ -6,9 +6,9 @@ use Rattle.ports.specs.Desk.{Held, bytes_of}
 use Rattle.plp_config.specs.Capacity.{IsPlan}
 use Rattle.plp_config.specs.declared.config.Config.{Config}
 use Rattle.site_frame.specs.RecordFile.{AreBytes}
-use Rattle.config_file.specs.Laws.{GivesPlan, ConfigEnds, PlanEnds}
-use Rattle.config_file.specs.declared.stop.ConfigStop.{ConfigStop}
-use Rattle.desk_io.specs.Reading.{longest_file}
+use Rattle.file_run.specs.ConfigLaws.{GivesPlan, ConfigEnds, PlanEnds}
+use Rattle.file_run.specs.declared.config_stop.ConfigStop.{ConfigStop}
+use Rattle.file_run.specs.Reading.{longest_file}
 use Rattle.file_run.specs.FileRun.{file_at}
 use Rattle.gateway_run.specs.Laws.{RunEnds}
 use Rattle.modulate_run.specs.Laws.{RunEnds as ModulationEnds}
@@ -16,7 +16,7 @@ use Rattle.common_plp.specs.Inputs.{input_count}
 use Rattle.common_plp.specs.Sharing.{Sharing, joined_with}
 use Rattle.receive_run.specs.JoinedLaws.{RunEnds as ReceptionEnds}
 use Rattle.merge_run.specs.Laws.{RunEnds as MergingEnds}
-use Rattle.two_feeds.specs.Fed.{names_of}
+use Rattle.feed_merge.specs.Fed.{names_of}
 use Rattle.swap_run.specs.Laws.{RunEnds as SwappingEnds}
 use Rattle.compare_run.specs.Laws.{RunEnds as ComparisonEnds}
 use Rattle.show_run.specs.Laws.{EachEnds, EachRecordsEnd}
@@ -26,12 +26,13 @@ use Rattle.site_top.specs.Runs.{CompareMustEnd}
 use Rattle.site_top.specs.declared.outcome.Outcome.{Outcome}
 use Rattle.site_top.specs.declared.outcome.Outcome.TheVariants.{Done, UnknownPlp, WrongInputs}
 use Rattle.site_top.specs.Commands.{ShowPackets, ShowT2mi, ShowFrames, ShowConfig, Plan, Gateway, Modulate, Receive, Merge, Trial}
-use Rattle.site_top.specs.Commands.{Swap}
+use Rattle.site_top.specs.Commands.{Mend, Swap}
 use Rattle.site_top.specs.Laws.{CommandsHaveEnding}
 use Rattle.site_top.specs.Outcomes.{run_outcome, config_outcome, gateway_cause, modulate_cause, receive_cause, merge_cause}
-use Rattle.site_top.specs.Outcomes.{swap_cause, show_cause}
+use Rattle.site_top.specs.Outcomes.{mend_cause, swap_cause, show_cause}
 use Rattle.site_top.specs.Runs.{AreShort, PlanMustEnd, ModulateMustEnd, ReceiveMustEnd, MergeMustEnd, OverPlan}
-use Rattle.site_top.specs.Runs.{SwapMustEnd}
+use Rattle.site_top.specs.Runs.{MendMustEnd, SwapMustEnd}
+use Rattle.site_top.proofs.MendLemmas.{mend_ends}
 use Rattle.site_top.proofs.PlaceLemmas.{has_place_by, place_by, may_join, has_place}
 
 -- over a plan
@@ -95,6 +96,11 @@ commands_end packets records config plan run modulate receive merge swap compare
     let end = plan (bytes_of held.files config_file) in
     by_plan (bytes_of held.files config_file) (MergeMustEnd held (names_of a b))
     (λ c is. let m = merge c (file_at held (names_of a b)) in (run_outcome merge_cause m.0, (short, (m.0, m.1, refl))))
+    end.0 end.1
+commands_end packets records config plan run modulate receive merge swap compare (Mend config_file out ins) held short =
+    let end = plan (bytes_of held.files config_file) in
+    by_plan (bytes_of held.files config_file) (MendMustEnd held ins)
+    (λ c is. let m = mend_ends c (length ins) (file_at held ins) in (run_outcome mend_cause m.0, (short, (m.0, m.1, refl))))
     end.0 end.1
 commands_end packets records config plan run modulate receive merge swap compare (Swap config_file id t2mi file out) held short =
     let end = plan (bytes_of held.files config_file) in

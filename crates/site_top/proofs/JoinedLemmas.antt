@@ -7,9 +7,9 @@ use Rattle.plp_config.specs.Capacity.{IsPlan}
 use Rattle.plp_config.specs.declared.config.Config.{Config}
 use Rattle.common_plp.specs.Groups.{common_of}
 use Rattle.common_plp.specs.Split.{split}
-use Rattle.joined_receiver.specs.JoinedBack.{JoinedBack}
-use Rattle.common_laws.specs.Laws.{CommonComesBack}
-use Rattle.frame_laws.specs.Types.{TypesFit}
+use Rattle.plp_receiver.specs.JoinedBack.{JoinedBack}
+use Rattle.network_laws.specs.CommonLaws.{CommonComesBack}
+use Rattle.stream_laws.specs.Types.{TypesFit}
 use Rattle.file_run.specs.Work.{Ends, Into}
 use Rattle.receive_run.specs.JoinedReceived.{Received}
 use Rattle.receive_run.specs.JoinedRun.{receive_work}

@@ -5,6 +5,7 @@ pub mod GatewayLemmas
 pub mod RequestLemmas
 pub mod RunLemmas
 pub mod HaveEndingLemmas
+pub mod MendLemmas
 mod MergeLemmas
 mod SurvivorLemmas
 mod SwapLemmas

@@ -20,18 +20,18 @@ use Rattle.frame_groups.specs.Modulated.{FrameRecord}
 use Rattle.record_laws.specs.Frames.{frame_of}
 use Rattle.open_group.specs.Written.{content_view}
 use Rattle.modulator.specs.StandsFor.{records_due}
-use Rattle.formed_frames.specs.Remade.{NumberedView, remade_packets}
-use Rattle.frame_laws.specs.SentFrames.{run_length}
-use Rattle.frame_laws.specs.Types.{TypesFit}
-use Rattle.remade_laws.specs.Again.{run_frame, RunSentAgain}
+use Rattle.stream_laws.specs.Remade.{NumberedView, remade_packets}
+use Rattle.stream_laws.specs.SentFrames.{run_length}
+use Rattle.stream_laws.specs.Types.{TypesFit}
+use Rattle.stream_laws.specs.Again.{run_frame, RunSentAgain}
 use Rattle.feed_merge.specs.declared.seen.Feed.{Feed}
 use Rattle.feed_merge.specs.declared.seen.Feed.TheVariants.{A, B}
 use Rattle.feed_merge.specs.Laws.{PicksAreFrames}
 use Rattle.feed_merge.specs.Picks.{Picked, frame_from, pick_of, picks_below, above_all, picks, frames_of}
 use Rattle.feed_merge.proofs.GrowLemmas.{test, pick, nothing, below_more, above_is, all_below}
-use Rattle.merge_laws.specs.Merged.{merged, MergedComesBack}
+use Rattle.network_laws.specs.Merged.{merged, MergedComesBack}
 use Rattle.merge_run.specs.MergeRun.{MergesAll, merge_work}
-use Rattle.two_feeds.specs.Fed.{names_of}
+use Rattle.feed_merge.specs.Fed.{names_of}
 use Rattle.merge_run.specs.declared.stop.Ran.{Ran}
 use Rattle.file_run.specs.FileRun.{file_at}
 use Rattle.file_run.specs.Work.{Ends, Into}

@@ -5,7 +5,7 @@ use Rattle.terms.proofs.DecisionLemmas.{first_other}
 use Rattle.terms.proofs.OptionLemmas.{none_some}
 use Rattle.common_plp.specs.Sharing.{Sharing, Apart, Joint, joined_with, IsPlaceBy, HasNoPlaceBy}
 use Rattle.common_plp.proofs.OwnLemmas.{own_or_none}
-use Rattle.joined_receiver.specs.JoinedBack.{MayJoin}
+use Rattle.plp_receiver.specs.JoinedBack.{MayJoin}
 use Rattle.plp_config.specs.Places.{IsPlace, HasNoPlace}
 use Rattle.plp_config.specs.Plps.{plp_at}
 use Rattle.plp_config.specs.Rules.{AllRules}

@@ -28,18 +28,18 @@ use Rattle.record_laws.specs.Frames.{frame_of, run_frames}
 use Rattle.record_laws.specs.Laws.{RangeFits}
 use Rattle.record_laws.specs.Records.{record_of, file_bytes}
 use Rattle.record_laws.specs.Recover.{recover}
-use Rattle.frame_laws.specs.SentFrames.{run_length}
-use Rattle.frame_laws.specs.Types.{TypesFit}
+use Rattle.stream_laws.specs.SentFrames.{run_length}
+use Rattle.stream_laws.specs.Types.{TypesFit}
 use Rattle.plp_receiver.specs.Epochs.{Readback}
-use Rattle.joined_receiver.specs.JoinedBack.{JoinedBackWith}
+use Rattle.plp_receiver.specs.JoinedBack.{JoinedBackWith}
 use Rattle.file_run.specs.Work.{Ends, Into}
 use Rattle.file_run.proofs.WorkLemmas.{works_of}
 use Rattle.receive_run.specs.JoinedReceived as joined
 use Rattle.receive_run.specs.JoinedRun as run
 use Rattle.receive_run.specs.Received.{Received}
 use Rattle.receive_run.specs.declared.stop.Ran.{Ran}
-use Rattle.recover_laws.specs.Laws.{RunRecovers, RunComesBack, IsCanonical}
-use Rattle.recover_laws.specs.ToldEpochs.{IsPacket}
+use Rattle.network_laws.specs.RecoverLaws.{RunRecovers, RunComesBack, IsCanonical}
+use Rattle.network_laws.specs.ToldEpochs.{IsPacket}
 use Rattle.site_top.specs.ReceiveCommand.{ComesBack, HoldsWhatComesBack, ReceivedComesBack}
 
 -- what the laws say that are wanted

@@ -15,8 +15,8 @@ use Rattle.modulate_run.specs.ModulateRun.{modulate_work}
 use Rattle.modulate_run.specs.declared.stop.Ran.{Ran}
 use Rattle.modulate_run.specs.declared.stop.ModulateStop.{ModulateStop}
 use Rattle.modulate_run.specs.declared.stop.ModulateStop.TheVariants.{NoSuperframe, TooManyFrames}
-use Rattle.frame_laws.specs.Laws.{WrittenMustCome, UndamagedMustCome}
-use Rattle.frame_laws.specs.SentFrames.{run_length}
+use Rattle.stream_laws.specs.FrameLaws.{WrittenMustCome, UndamagedMustCome}
+use Rattle.stream_laws.specs.SentFrames.{run_length}
 use Rattle.site_top.specs.ModulateCommand.{MustCome, HoldsWhatMustCome, StopsWith}
 
 must_come : (c : Config) (file bytes : List ℕ) → WrittenMustCome c → UndamagedMustCome c → bytes ≡ bytes_due c true file

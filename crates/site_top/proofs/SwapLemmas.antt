@@ -13,15 +13,15 @@ use Rattle.t2mi_stream.specs.Received.{Fate}
 use Rattle.frame_groups.specs.Modulated.{FrameRecord}
 use Rattle.open_group.specs.Written.{content_view}
 use Rattle.modulator.specs.StandsFor.{records_due}
-use Rattle.formed_frames.specs.Remade.{NumberedView, remade_packets}
-use Rattle.damage_laws.specs.Streams.{Honest}
-use Rattle.frame_laws.specs.SentFrames.{run_length, run_stream, stream_bytes}
-use Rattle.frame_laws.specs.Types.{TypesFit}
+use Rattle.stream_laws.specs.Remade.{NumberedView, remade_packets}
+use Rattle.stream_laws.specs.Streams.{Honest}
+use Rattle.stream_laws.specs.SentFrames.{run_length, run_stream, stream_bytes}
+use Rattle.stream_laws.specs.Types.{TypesFit}
 use Rattle.file_run.specs.FileRun.{file_at}
 use Rattle.file_run.specs.Work.{Ends, Into}
 use Rattle.file_run.proofs.WorkLemmas.{works_of}
-use Rattle.two_feeds.specs.Fed.{names_of}
-use Rattle.swap_laws.specs.Region.{region_frames, region_of_run, RegionIsOfRun, RegionComesBack, WholeIsReplaced}
+use Rattle.feed_merge.specs.Fed.{names_of}
+use Rattle.network_laws.specs.Region.{region_frames, region_of_run, RegionIsOfRun, RegionComesBack, WholeIsReplaced}
 use Rattle.swap_run.specs.SwapRun.{SwapsAll, swap_work}
 use Rattle.swap_run.specs.declared.stop.Ran.{Ran}
 use Rattle.site_top.specs.SwapCommand.{ComesOfSwapped, HoldsSwapped, UnitsAreSwapped}

@@ -7,10 +7,10 @@ use Rattle.std.specs.FinMap.{get}
 use Rattle.terms.proofs.OptionLemmas.{append-none, append_twice, none_some}
 use Rattle.ports.specs.Desk.{State, Held, with_name}
 use Rattle.plp_config.specs.declared.config.Config.{Config}
-use Rattle.config_file.specs.ConfigFile.{ReadsText, FailsToRead, Gives, GivesNone, GivesNoPlan}
-use Rattle.config_file.specs.declared.stop.ConfigStop.{ConfigStop}
-use Rattle.config_file.specs.declared.stop.ConfigStop.TheVariants as config
-use Rattle.desk_io.specs.Opening.{Opened, Unopened}
+use Rattle.file_run.specs.ConfigFile.{ReadsText, FailsToRead, Gives, GivesNone, GivesNoPlan}
+use Rattle.file_run.specs.declared.config_stop.ConfigStop.{ConfigStop}
+use Rattle.file_run.specs.declared.config_stop.ConfigStop.TheVariants as config
+use Rattle.file_run.specs.Opening.{Opened, Unopened}
 use Rattle.file_run.specs.FileRun as running
 use Rattle.file_run.specs.FileRun.{SameFiles}
 use Rattle.file_run.specs.Work.{Work, Sink, Into, Aloud, Ends as RunEnds}
@@ -23,8 +23,9 @@ use Rattle.gateway_run.specs.GatewayRun.{gateway_work}
 use Rattle.modulate_run.specs.ModulateRun.{modulate_work}
 use Rattle.common_plp.specs.Sharing.{Sharing, joined_with}
 use Rattle.receive_run.specs.JoinedRun.{receive_work}
-use Rattle.two_feeds.specs.Fed.{names_of}
+use Rattle.feed_merge.specs.Fed.{names_of}
 use Rattle.merge_run.specs.MergeRun.{merge_work}
+use Rattle.mend_run.specs.MendRun.{mend_work}
 use Rattle.swap_run.specs.SwapRun.{swap_work}
 use Rattle.compare_run.specs.CompareRun.{compare_work}
 use Rattle.show_run.specs.Shows.{Shows, ReadsFile}
@@ -32,18 +33,19 @@ use Rattle.show_run.specs.declared.stop.ShowStop.{ShowStop}
 use Rattle.site_top.specs.declared.outcome.Outcome.{Outcome}
 use Rattle.site_top.specs.declared.outcome.Outcome.TheVariants as outcome
 use Rattle.site_top.specs.Commands.{Command, ShowPackets, ShowT2mi, ShowFrames, ShowConfig, Plan, Gateway, Modulate, Receive}
-use Rattle.site_top.specs.Commands.{Merge, Swap, Trial}
+use Rattle.site_top.specs.Commands.{Merge, Mend, Swap, Trial}
 use Rattle.site_top.specs.Commands.{Compare}
 use Rattle.site_top.specs.CompareCommand as compares
 use Rattle.site_top.specs.ConfigCommands.{ShowsConfig, Plans}
 use Rattle.site_top.specs.GatewayCommand as gateways
+use Rattle.site_top.specs.MendCommand as mends
 use Rattle.site_top.specs.MergeCommand as merges
 use Rattle.site_top.specs.ModulateCommand as modulates
 use Rattle.site_top.specs.ReceiveCommand.{receive_line}
 use Rattle.site_top.specs.Reception as receives
 use Rattle.site_top.specs.Endings.{Ends}
 use Rattle.site_top.specs.Laws.{OnlyOutChanges}
-use Rattle.site_top.specs.Outcomes.{gateway_cause, modulate_cause, receive_cause, merge_cause, swap_cause}
+use Rattle.site_top.specs.Outcomes.{gateway_cause, modulate_cause, receive_cause, merge_cause, mend_cause, swap_cause}
 use Rattle.site_top.specs.PlanCommand.{RunsAndTells, ByPlan}
 use Rattle.site_top.specs.Runs.{Does}
 use Rattle.site_top.specs.Saying.{Tells}
@@ -270,6 +272,14 @@ merge_follows a b out c mid new result f =
     runs_touch (merges.Ends a b out c) (merges.StopsSo a b out c) merges.merge_line merge_cause (Some out) 2
     (λ x y stop s. touches x y (Err stop) s) (λ x y ran r. touches x y (Ok ran) r.0) mid new result f
 
+-- that of a mender
+mend_follows : (out : List ℕ) (ins : List (List ℕ)) (c : Config) (mid new : State) (result : Outcome)
+    → mends.Follows out ins c mid new result → Touches (Some out) (length ins) mid new
+mend_follows out ins c mid new result f =
+    let touches = work_touches (mend_work c (length ins)) (Into out) ins in
+    runs_touch (mends.Ends out ins c) (mends.StopsSo out ins c) mends.mend_line mend_cause (Some out) (length ins)
+    (λ x y stop s. touches x y (Err stop) s) (λ x y ran r. touches x y (Ok ran) r.0) mid new result f
+
 -- that of a swapper
 swap_follows : (id : ℕ) (t2mi file out : List ℕ) (c : Config) (mid new : State) (result : Outcome)
     → swaps.Follows id t2mi file out c mid new result → Touches (Some out) 2 mid new
@@ -336,6 +346,10 @@ only_out_changes (Receive sharing config id file out) old new result does =
     plan_then (receives.Follows sharing id file out) (Some out) 1 (receive_follows sharing id file out) old new config result does
 only_out_changes (Merge config a b out) old new result does =
     plan_then (merges.Follows a b out) (Some out) 2 (merge_follows a b out) old new config result does
+only_out_changes (Mend config out ins) old new result does =
+    let more : 1 + length ins ≡ suc (length ins) = omega arith in
+    subst (λ (n : ℕ). Touches (Some out) n old new) more
+    (plan_then (mends.Follows out ins) (Some out) (length ins) (mend_follows out ins) old new config result does)
 only_out_changes (Swap config id t2mi file out) old new result does =
     plan_then (swaps.Follows id t2mi file out) (Some out) 2 (swap_follows id t2mi file out) old new config result does
 only_out_changes (Compare config a b) old new result does =

@@ -1,6 +1,6 @@
 -- The commands, and the words that name them.
 use Rattle.std.specs.Prelude.{◌≡◌, ℕ, ◌+◌, ◌-◌, ◌^◌, Bool, true, false, not, ◌&&◌, List, [], ◌∷◌, codes, if◌then◌else◌, Some}
-use Rattle.std.specs.Prelude.{None}
+use Rattle.std.specs.Prelude.{None, length, nat_lt, nat_le}
 use Rattle.std.specs.declared.option.Option.{Option}
 use Rattle.std.specs.Fmt.{decimal}
 use Rattle.std.specs.List.{find, list_all, range_with_len}
@@ -8,7 +8,7 @@ use Rattle.std.specs.Option.{option_map, option_and_then}
 use Rattle.std.specs.Str.{bytes_eq}
 use Rattle.common_plp.specs.Sharing.{Sharing, Apart, Joint}
 use Rattle.site_top.specs.declared.request.Request.{Request}
-use Rattle.site_top.specs.declared.request.TheConstants.{FEWEST_TRIED, MOST_TRIED}
+use Rattle.site_top.specs.declared.request.TheConstants.{FEWEST_TRIED, MOST_TRIED, MOST_FEEDS}
 use Rattle.site_top.specs.declared.request.Request.TheVariants as asked
 
 -- a command, with the names of its files
@@ -23,6 +23,7 @@ pub data Command : Type 0 where
   -- its third part is the identifier of a PLP
   Receive : Sharing → List ℕ → ℕ → List ℕ → List ℕ → Command
   Merge : List ℕ → List ℕ → List ℕ → List ℕ → Command
+  Mend : List ℕ → List ℕ → List (List ℕ) → Command
   -- its second part is the identifier of a PLP
   Swap : List ℕ → ℕ → List ℕ → List ℕ → List ℕ → Command
   Compare : List ℕ → List ℕ → List ℕ → Command
@@ -91,6 +92,13 @@ abbrev pub merge_of : List ℕ → List ℕ → List ℕ → List ℕ → Option
 merge_of config a b out =
     if not (is_empty out) && is_input out config && is_input out a && is_input out b then Some (Merge config a b out) else None
 
+-- the command of the words `mend CONFIG OUT IN..`: one to eight feeds, of which two may be one file; the output is none of the files
+-- that are read
+abbrev pub mend_of : List ℕ → List ℕ → List (List ℕ) → Option Command
+mend_of config out ins =
+    if nat_lt 0 (length ins) && nat_le (length ins) MOST_FEEDS && not (is_empty out) && are_inputs out (config ∷ ins)
+    then Some (Mend config out ins) else None
+
 -- the command of the words `swap CONFIG PLP T2MI IN OUT`: T2MI and IN may be one file
 abbrev pub swap_of : List ℕ → List ℕ → List ℕ → List ℕ → List ℕ → List ℕ → Option Command
 swap_of swap config plp t2mi file out =
@@ -124,6 +132,7 @@ counted_of first second third (fourth ∷ fifth ∷ sixth ∷ more) = None
 abbrev pub command_of : List (List ℕ) → Option Command
 command_of (plan ∷ config ∷ []) = if bytes_eq plan (codes "plan") && not (is_empty config) then Some (Plan config) else None
 command_of (first ∷ second ∷ third ∷ more) = if bytes_eq first (codes "gateway") then gateway_of Apart second third more
+    else if bytes_eq first (codes "mend") then mend_of second third more
     else if bytes_eq first (codes "common") then common_of second third more
     else counted_of first second third more
 command_of words = None
@@ -141,6 +150,7 @@ meant (asked.Modulate config file out) = Modulate config.now file.now out.now
 meant (asked.Receive config plp file out) = Receive Apart config.now plp file.now out.now
 meant (asked.CommonReceive config plp file out) = Receive Joint config.now plp file.now out.now
 meant (asked.Merge config a b out) = Merge config.now a.now b.now out.now
+meant (asked.Mend config out ins) = Mend config.now out.now ins.now
 meant (asked.Swap config plp t2mi file out) = Swap config.now plp t2mi.now file.now out.now
 meant (asked.Compare config a b) = Compare config.now a.now b.now
 meant (asked.Trial seed frames) = Trial seed frames
@@ -153,5 +163,6 @@ IsApart (asked.Modulate config file out) = is_input out.now file.now ≡ true
 IsApart (asked.Receive config plp file out) = is_input out.now file.now ≡ true
 IsApart (asked.CommonReceive config plp file out) = is_input out.now file.now ≡ true
 IsApart (asked.Merge config a b out) = (is_input out.now a.now ≡ true) × (is_input out.now b.now ≡ true)
+IsApart (asked.Mend config out ins) = are_inputs out.now ins.now ≡ true
 IsApart (asked.Swap config plp t2mi file out) = (is_input out.now t2mi.now ≡ true) × (is_input out.now file.now ≡ true)
 IsApart request = Unit {0}

@@ -10,8 +10,8 @@ use Rattle.site_frame.specs.RecordFile.{AreRecords}
 use Rattle.site_frame.specs.declared.reading.RecordView.{RecordView}
 use Rattle.record_laws.specs.Records.{record_of, file_bytes}
 use Rattle.record_laws.specs.Recover.{due_slots}
-use Rattle.recover_laws.specs.ToldEpochs.{IsPacket}
-use Rattle.common_laws.specs.Laws as common
+use Rattle.network_laws.specs.ToldEpochs.{IsPacket}
+use Rattle.network_laws.specs.CommonLaws as common
 use Rattle.receive_run.specs.JoinedReceived.{Received}
 use Rattle.site_top.specs.ReceiveCommand.{ComesBack}
 

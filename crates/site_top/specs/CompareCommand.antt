@@ -3,13 +3,13 @@ use Rattle.std.specs.Prelude.{◌≡◌, ◌≢◌, ◌≤◌, ℕ, List, None, 
 use Rattle.ports.specs.Desk.{State, bytes_of}
 use Rattle.plp_config.specs.declared.config.Config.{Config}
 use Rattle.plp_config.specs.declared.moment.TheConstants.{MOST_FRAMES}
-use Rattle.frame_laws.specs.SentFrames.{run_length}
+use Rattle.stream_laws.specs.SentFrames.{run_length}
 use Rattle.file_run.specs.Work.{Ends, Aloud}
 use Rattle.file_run.specs.declared.stop.RunStop.{RunStop}
-use Rattle.two_feeds.specs.Fed.{names_of}
-use Rattle.frame_compare.specs.Comparing.{answers, frames_of}
-use Rattle.frame_compare.specs.Runs.{first_differing}
-use Rattle.frame_compare.specs.declared.counts.Counts.{Counts}
+use Rattle.feed_merge.specs.Fed.{names_of}
+use Rattle.compare_run.specs.Comparing.{answers, frames_of}
+use Rattle.compare_run.specs.Runs.{first_differing}
+use Rattle.compare_run.specs.declared.counts.Counts.{Counts}
 use Rattle.compare_run.specs.CompareRun.{compare_work}
 use Rattle.compare_run.specs.declared.stop.CompareStop.{CompareStop}
 use Rattle.site_top.specs.declared.outcome.Outcome.{Outcome}

@@ -4,8 +4,8 @@ use Rattle.ports.specs.Desk.{State}
 use Rattle.plp_config.specs.Capacity.{IsPlan}
 use Rattle.plp_config.specs.declared.config.Config.{Config}
 use Rattle.config_text.specs.ConfigText.{canonical_text}
-use Rattle.config_file.specs.ConfigFile.{Gives, GivesNone, GivesNoPlan}
-use Rattle.config_file.specs.declared.stop.ConfigStop.{ConfigStop}
+use Rattle.file_run.specs.ConfigFile.{Gives, GivesNone, GivesNoPlan}
+use Rattle.file_run.specs.declared.config_stop.ConfigStop.{ConfigStop}
 use Rattle.site_top.specs.declared.outcome.Outcome.{Outcome}
 use Rattle.site_top.specs.Outcomes.{config_outcome}
 use Rattle.site_top.specs.PlanLines.{IsPlanText}

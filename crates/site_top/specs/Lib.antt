@@ -5,6 +5,7 @@ pub mod ConfigCommands
 pub mod Endings
 pub mod GatewayCommand
 pub mod Laws
+pub mod MendCommand
 pub mod MergeCommand
 pub mod ModulateCommand
 pub mod ReceiveCommand

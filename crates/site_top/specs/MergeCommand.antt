@@ -11,15 +11,15 @@ use Rattle.record_laws.specs.Frames.{frame_of}
 use Rattle.open_group.specs.Written.{content_view}
 use Rattle.gateway_core.specs.Packets.{packets_of}
 use Rattle.modulator.specs.StandsFor.{records_due}
-use Rattle.formed_frames.specs.Remade.{remade_packets, AreSpaced}
-use Rattle.damage_laws.specs.Streams.{Honest}
-use Rattle.frame_laws.specs.SentFrames.{run_length, run_stream, stream_bytes}
+use Rattle.stream_laws.specs.Remade.{remade_packets, AreSpaced}
+use Rattle.stream_laws.specs.Streams.{Honest}
+use Rattle.stream_laws.specs.SentFrames.{run_length, run_stream, stream_bytes}
 use Rattle.feed_merge.specs.Picks.{Picked, pick_of}
-use Rattle.merge_laws.specs.Merged.{merged, must_come}
+use Rattle.network_laws.specs.Merged.{merged, must_come}
 use Rattle.file_run.specs.Work.{Ends as RunEnds, Into}
 use Rattle.file_run.specs.declared.stop.RunStop.{RunStop}
 use Rattle.merge_run.specs.MergeRun.{merge_work}
-use Rattle.two_feeds.specs.Fed.{names_of, AreEarly}
+use Rattle.feed_merge.specs.Fed.{names_of, AreEarly}
 use Rattle.merge_run.specs.declared.stop.Ran.{Ran}
 use Rattle.merge_run.specs.declared.stop.MergeStop.{MergeStop}
 use Rattle.site_top.specs.declared.outcome.Outcome.{Outcome}

@@ -6,8 +6,8 @@ use Rattle.plp_config.specs.declared.config.Config.{Config}
 use Rattle.plp_config.specs.declared.moment.TheConstants.{MOST_FRAMES}
 use Rattle.t2mi_stream.specs.Received.{Fate}
 use Rattle.record_laws.specs.Records.{file_bytes}
-use Rattle.damage_laws.specs.Streams.{Honest}
-use Rattle.frame_laws.specs.SentFrames.{run_length, run_stream, stream_bytes, all_kept, run_records}
+use Rattle.stream_laws.specs.Streams.{Honest}
+use Rattle.stream_laws.specs.SentFrames.{run_length, run_stream, stream_bytes, all_kept, run_records}
 use Rattle.file_run.specs.Work.{Ends as RunEnds, Into}
 use Rattle.file_run.specs.declared.stop.RunStop.{RunStop}
 use Rattle.file_run.specs.declared.stop.RunStop.TheVariants.{Refused, Files, OutOfMemory}

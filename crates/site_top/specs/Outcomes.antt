@@ -12,11 +12,11 @@ use Rattle.site_frame.specs.declared.fault.RecordWhy.TheVariants.{Head, Kind, Le
 use Rattle.config_text.specs.declared.fault.TextWhy.{TextWhy}
 use Rattle.config_text.specs.declared.fault.TextWhy.TheVariants.{NotAscii, WrongKey, WrongCount, BadWord, BadNumber, EndsEarly}
 use Rattle.config_text.specs.declared.fault.TextWhy.TheVariants.{TooLong as TextTooLong}
-use Rattle.config_file.specs.declared.stop.ConfigCause.TheVariants.{Text, Rule}
-use Rattle.config_file.specs.declared.stop.ConfigStop.{ConfigStop}
-use Rattle.config_file.specs.declared.stop.ConfigStop.TheVariants as config
+use Rattle.file_run.specs.declared.config_stop.ConfigCause.TheVariants.{Text, Rule}
+use Rattle.file_run.specs.declared.config_stop.ConfigStop.{ConfigStop}
+use Rattle.file_run.specs.declared.config_stop.ConfigStop.TheVariants as config
 use Rattle.plp_config.specs.declared.moment.TheConstants.{MOST_FRAMES}
-use Rattle.desk_io.specs.Reading.{longest_file}
+use Rattle.file_run.specs.Reading.{longest_file}
 use Rattle.file_run.specs.declared.stop.RunFault.{RunFault}
 use Rattle.file_run.specs.declared.stop.RunFault.TheVariants as run_fault
 use Rattle.file_run.specs.declared.stop.RunStop.{RunStop}
@@ -29,6 +29,8 @@ use Rattle.receive_run.specs.declared.stop.ReceiveStop.{ReceiveStop}
 use Rattle.receive_run.specs.declared.stop.ReceiveStop.TheVariants as receive
 use Rattle.merge_run.specs.declared.stop.MergeStop.{MergeStop}
 use Rattle.merge_run.specs.declared.stop.MergeStop.TheVariants as merge
+use Rattle.mend_run.specs.declared.stop.MendStop.{MendStop}
+use Rattle.mend_run.specs.declared.stop.MendStop.TheVariants as mend
 use Rattle.swap_run.specs.declared.stop.SwapStop.{SwapStop}
 use Rattle.swap_run.specs.declared.stop.SwapStop.TheVariants as swap
 use Rattle.compare_run.specs.declared.stop.CompareStop.{CompareStop}
@@ -153,6 +155,9 @@ receive_cause (receive.RecordRefused number why) = RecordRefused number why
 abbrev pub merge_cause : MergeStop → Outcome
 merge_cause merge.NoSuperframe = NoSuperframe
 merge_cause merge.TooManyFrames = TooLong MOST_FRAMES
+
+abbrev pub mend_cause : MendStop → Outcome
+mend_cause mend.NoFrame = NoSuperframe
 
 -- Of a swap the transport stream is the only input that has bad packets.
 abbrev pub swap_cause : SwapStop → Outcome

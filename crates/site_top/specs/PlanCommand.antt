@@ -3,8 +3,8 @@ use Rattle.std.specs.Prelude.{◌≡◌, ◌⊎◌, List, ℕ}
 use Rattle.ports.specs.Desk.{State}
 use Rattle.plp_config.specs.Capacity.{IsPlan}
 use Rattle.plp_config.specs.declared.config.Config.{Config}
-use Rattle.config_file.specs.ConfigFile.{Gives, GivesNoPlan}
-use Rattle.config_file.specs.declared.stop.ConfigStop.{ConfigStop}
+use Rattle.file_run.specs.ConfigFile.{Gives, GivesNoPlan}
+use Rattle.file_run.specs.declared.config_stop.ConfigStop.{ConfigStop}
 use Rattle.file_run.specs.declared.stop.RunStop.{RunStop}
 use Rattle.site_top.specs.declared.outcome.Outcome.{Outcome}
 use Rattle.site_top.specs.Outcomes.{config_outcome, stop_outcome}

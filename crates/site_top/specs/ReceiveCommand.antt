@@ -13,9 +13,9 @@ use Rattle.site_frame.specs.declared.reading.RecordView.{RecordView}
 use Rattle.record_laws.specs.Frames.{run_frames}
 use Rattle.record_laws.specs.Records.{record_of, file_bytes}
 use Rattle.record_laws.specs.Recover.{recover}
-use Rattle.frame_laws.specs.SentFrames.{run_length}
-use Rattle.recover_laws.specs.Laws.{IsCanonical}
-use Rattle.recover_laws.specs.ToldEpochs.{IsPacket}
+use Rattle.stream_laws.specs.SentFrames.{run_length}
+use Rattle.network_laws.specs.RecoverLaws.{IsCanonical}
+use Rattle.network_laws.specs.ToldEpochs.{IsPacket}
 use Rattle.receive_run.specs.Received.{Received}
 use Rattle.receive_run.specs.declared.stop.Ran.{Ran}
 

@@ -6,9 +6,9 @@ use Rattle.common_plp.specs.Inputs.{input_count}
 use Rattle.common_plp.specs.Sharing.{Sharing, joined_with, IsPlaceBy, HasNoPlaceBy}
 use Rattle.plp_config.specs.declared.config.Config.{Config}
 use Rattle.plp_config.specs.Places.{IsPlace, HasNoPlace}
-use Rattle.config_file.specs.Laws.{GivesConfig, GivesPlan}
-use Rattle.config_file.specs.declared.stop.ConfigStop.{ConfigStop}
-use Rattle.desk_io.specs.Reading.{longest_file}
+use Rattle.file_run.specs.ConfigLaws.{GivesConfig, GivesPlan}
+use Rattle.file_run.specs.declared.config_stop.ConfigStop.{ConfigStop}
+use Rattle.file_run.specs.Reading.{longest_file}
 use Rattle.file_run.specs.FileRun.{file_at}
 use Rattle.file_run.specs.declared.stop.RunStop.{RunStop}
 use Rattle.gateway_run.specs.Laws.{MustRun}
@@ -21,15 +21,17 @@ use Rattle.receive_run.specs.JoinedLaws.{MustRun as ReceiveMust}
 use Rattle.receive_run.specs.declared.stop.Ran.{Ran as Received}
 use Rattle.receive_run.specs.declared.stop.ReceiveStop.{ReceiveStop}
 use Rattle.merge_run.specs.Laws.{MustRun as MergeMust}
-use Rattle.two_feeds.specs.Fed.{names_of}
+use Rattle.feed_merge.specs.Fed.{names_of}
 use Rattle.merge_run.specs.declared.stop.Ran.{Ran as Merged}
 use Rattle.merge_run.specs.declared.stop.MergeStop.{MergeStop}
+use Rattle.mend_run.specs.declared.stop.Ran.{Ran as Mended}
+use Rattle.mend_run.specs.declared.stop.MendStop.{MendStop}
 use Rattle.swap_run.specs.Laws.{MustRun as SwapMust}
 use Rattle.swap_run.specs.declared.stop.Ran.{Ran as Swapped}
 use Rattle.swap_run.specs.declared.stop.SwapStop.{SwapStop}
 use Rattle.compare_run.specs.Laws.{MustRun as CompareMust}
 use Rattle.compare_run.specs.declared.stop.CompareStop.{CompareStop}
-use Rattle.frame_compare.specs.declared.counts.Counts.{Counts as Compared}
+use Rattle.compare_run.specs.declared.counts.Counts.{Counts as Compared}
 use Rattle.show_run.specs.Laws.{PacketsEnd, RecordsEnd}
 use Rattle.show_run.specs.PacketText.{IsPacketText}
 use Rattle.show_run.specs.RecordText.{IsRecordText}
@@ -40,19 +42,20 @@ use Rattle.site_frame.specs.RecordFile.{AreBytes}
 use Rattle.site_top.specs.declared.outcome.Outcome.{Outcome}
 use Rattle.site_top.specs.declared.outcome.Outcome.TheVariants.{Done, UnknownPlp, OutOfMemory, TrialFault}
 use Rattle.site_top.specs.Commands.{Command, ShowPackets, ShowT2mi, ShowFrames, ShowConfig, Plan, Gateway, Modulate, Receive}
-use Rattle.site_top.specs.Commands.{Merge, Swap, Trial}
+use Rattle.site_top.specs.Commands.{Merge, Mend, Swap, Trial}
 use Rattle.site_top.specs.Commands.{Compare}
 use Rattle.site_top.specs.CompareCommand.{Compares}
 use Rattle.site_top.specs.Outcomes.{compare_cause}
 use Rattle.site_top.specs.ConfigCommands.{ShowsConfig, Plans}
 use Rattle.site_top.specs.GatewayCommand.{Gateways}
+use Rattle.site_top.specs.MendCommand.{Mends, MustMend}
 use Rattle.site_top.specs.MergeCommand.{Merges}
 use Rattle.site_top.specs.ModulateCommand.{Modulates}
 use Rattle.site_top.specs.Reception.{Receives}
 use Rattle.site_top.specs.SwapCommand.{Swaps}
 use Rattle.site_top.specs.TrialCommand.{Tries}
 use Rattle.site_top.specs.Outcomes.{run_outcome, stop_outcome, gateway_cause, modulate_cause, receive_cause, merge_cause}
-use Rattle.site_top.specs.Outcomes.{swap_cause, show_cause, config_outcome, Miscounts}
+use Rattle.site_top.specs.Outcomes.{mend_cause, swap_cause, show_cause, config_outcome, Miscounts}
 
 -- A file is shown by the text that a definition asks for.
 abbrev pub Shows : (List ℕ → ℕ → Result ℕ (RunStop ShowStop) → List ℕ → List ℕ → Type 0) → State → State → List ℕ → Outcome → Type 0
@@ -69,6 +72,7 @@ Does (Gateway sharing config out ins) old new outcome = Gateways sharing old new
 Does (Modulate config file out) old new outcome = Modulates old new config file out outcome
 Does (Receive sharing config id file out) old new outcome = Receives sharing old new config id file out outcome
 Does (Merge config a b out) old new outcome = Merges old new config a b out outcome
+Does (Mend config out ins) old new outcome = Mends old new config out ins outcome
 Does (Swap config id t2mi file out) old new outcome = Swaps old new config id t2mi file out outcome
 Does (Compare config a b) old new outcome = Compares old new config a b outcome
 Does (Trial seed frames) old new outcome = Tries old new seed frames outcome
@@ -89,6 +93,7 @@ AreShortFor (Modulate config file out) held = length (bytes_of held.files file) 
 AreShortFor (Receive sharing config id file out) held = (length (bytes_of held.files file) < longest_file)
     × AreBytes (bytes_of held.files file)
 AreShortFor (Merge config a b out) held = AreShort held (names_of a b)
+AreShortFor (Mend config out ins) held = AreShort held ins
 AreShortFor (Swap config id t2mi file out) held = AreShort held (names_of t2mi file)
 AreShortFor (Compare config a b) held = AreShort held (names_of a b)
 AreShortFor (Trial seed frames) held = Unit {0}
@@ -117,6 +122,11 @@ ReceiveMustEnd sharing bytes id c outcome = (HasNoPlaceBy sharing c id × (outco
 abbrev pub MergeMustEnd : Held → List (List ℕ) → Config → Outcome → Type 0
 MergeMustEnd held ins c outcome = AreShort held ins
     × ((result : Result Merged MergeStop) × MergeMust c (file_at held ins) result × (outcome ≡ run_outcome merge_cause result))
+
+-- How `mend` must end over a plan: as the run does over inputs that are not too long.
+abbrev pub MendMustEnd : Held → List (List ℕ) → Config → Outcome → Type 0
+MendMustEnd held ins c outcome = AreShort held ins
+    × ((result : Result Mended MendStop) × MustMend c (length ins) (file_at held ins) result × (outcome ≡ run_outcome mend_cause result))
 
 -- How `swap` must end over a plan: with the identifier if no PLP has it, else as the run does over two inputs that are not too long.
 abbrev pub SwapMustEnd : Held → List (List ℕ) → ℕ → Config → Outcome → Type 0
@@ -154,6 +164,7 @@ MustEnd (Modulate config file out) held outcome =
 MustEnd (Receive sharing config id file out) held outcome =
     OverPlan (bytes_of held.files config) (ReceiveMustEnd sharing (bytes_of held.files file) id) outcome
 MustEnd (Merge config a b out) held outcome = OverPlan (bytes_of held.files config) (MergeMustEnd held (names_of a b)) outcome
+MustEnd (Mend config out ins) held outcome = OverPlan (bytes_of held.files config) (MendMustEnd held ins) outcome
 MustEnd (Swap config id t2mi file out) held outcome =
     OverPlan (bytes_of held.files config) (SwapMustEnd held (names_of t2mi file) id) outcome
 MustEnd (Compare config a b) held outcome = OverPlan (bytes_of held.files config) (CompareMustEnd held (names_of a b)) outcome

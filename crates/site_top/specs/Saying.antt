@@ -1,7 +1,7 @@
 -- How a text is said that is all that a command says.
 use Rattle.std.specs.Prelude.{List, ℕ}
 use Rattle.ports.specs.Desk.{State, SameCounts, Keeps, Says}
-use Rattle.desk_io.specs.Faults.{WritesFail}
+use Rattle.file_run.specs.Faults.{WritesFail}
 use Rattle.site_top.specs.declared.outcome.Outcome.{Outcome}
 use Rattle.site_top.specs.declared.outcome.Outcome.TheVariants.{Done, WriteFault}
 

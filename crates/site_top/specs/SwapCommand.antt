@@ -11,14 +11,14 @@ use Rattle.t2mi_stream.specs.Received.{Fate}
 use Rattle.open_group.specs.Written.{content_view}
 use Rattle.gateway_core.specs.Packets.{packets_of}
 use Rattle.modulator.specs.StandsFor.{records_due}
-use Rattle.formed_frames.specs.Remade.{remade_packets, AreSpaced}
-use Rattle.damage_laws.specs.Streams.{Honest}
-use Rattle.frame_laws.specs.SentFrames.{run_length, run_stream, stream_bytes}
-use Rattle.merge_laws.specs.Merged.{must_come}
-use Rattle.swap_laws.specs.Region.{with_input, region_frames, region_of_run}
+use Rattle.stream_laws.specs.Remade.{remade_packets, AreSpaced}
+use Rattle.stream_laws.specs.Streams.{Honest}
+use Rattle.stream_laws.specs.SentFrames.{run_length, run_stream, stream_bytes}
+use Rattle.network_laws.specs.Merged.{must_come}
+use Rattle.network_laws.specs.Region.{with_input, region_frames, region_of_run}
 use Rattle.file_run.specs.Work.{Ends as RunEnds, Into}
 use Rattle.file_run.specs.declared.stop.RunStop.{RunStop}
-use Rattle.two_feeds.specs.Fed.{names_of}
+use Rattle.feed_merge.specs.Fed.{names_of}
 use Rattle.swap_run.specs.SwapRun.{swap_work}
 use Rattle.swap_run.specs.declared.stop.Ran.{Ran}
 use Rattle.swap_run.specs.declared.stop.SwapStop.{SwapStop}

@@ -3,7 +3,7 @@ use Rattle.std.specs.Prelude.{◌≡◌, ◌≢◌, ℕ, ◌+◌, ◌≤◌, Lis
 use Rattle.std.specs.FinMap.{get}
 use Rattle.ports.specs.Desk.{State, Held}
 use Rattle.site_top.specs.Commands.{Command, ShowPackets, ShowT2mi, ShowFrames, ShowConfig, Plan, Gateway, Modulate, Receive}
-use Rattle.site_top.specs.Commands.{Merge, Swap, Trial}
+use Rattle.site_top.specs.Commands.{Merge, Mend, Swap, Trial}
 use Rattle.site_top.specs.Commands.{Compare}
 
 -- the file that a command writes, if it writes one
@@ -17,6 +17,7 @@ out_of (Gateway sharing config out ins) = Some out
 out_of (Modulate config file out) = Some out
 out_of (Receive sharing config id file out) = Some out
 out_of (Merge config a b out) = Some out
+out_of (Mend config out ins) = Some out
 out_of (Swap config id t2mi file out) = Some out
 out_of (Compare config a b) = None
 out_of (Trial seed frames) = None
@@ -32,6 +33,7 @@ ins_of (Gateway sharing config out ins) = config ∷ ins
 ins_of (Modulate config file out) = config ∷ file ∷ []
 ins_of (Receive sharing config id file out) = config ∷ file ∷ []
 ins_of (Merge config a b out) = config ∷ a ∷ b ∷ []
+ins_of (Mend config out ins) = config ∷ ins
 ins_of (Swap config id t2mi file out) = config ∷ t2mi ∷ file ∷ []
 ins_of (Compare config a b) = config ∷ a ∷ b ∷ []
 ins_of (Trial seed frames) = []

@@ -9,16 +9,15 @@ use crate::config_commands::outcome_of;
 use crate::outcome::Outcome;
 use crate::receive::back_law;
 use crate::run_end::tell_run;
-use common_laws::common_law;
 use common_plp::own_place_of;
-use config_file::read_plan;
-use frame_laws::type_law;
+use file_run::read_plan;
+use network_laws::{common_law, recover_law, whole_law};
 use plp_config::{Plan, run_length_law};
 use ports::Desk;
 use record_laws::fit_law;
-use recover_laws::{recover_law, whole_law};
 use site_frame::{place_law, reading_law, refusal_law, writing_law};
 use std::alloc::Global;
+use stream_laws::type_law;
 
 // What records of a run's frames give back of a PLP of the plan and of the common one of its group. It does nothing.
 fn joined_law(plan: &Plan)

@@ -4,12 +4,12 @@ ghost use Rattle.site_top.specs.CompareCommand.{DamageIsAlike, Compares};
 use crate::config_commands::outcome_of as refused;
 use crate::outcome::Outcome;
 use crate::run_end::outcome_of;
-use config_file::read_plan;
-use frame_compare::none_differs_law;
-use frame_laws::type_law;
+use compare_run::none_differs_law;
+use file_run::read_plan;
 use plp_config::Plan;
 use ports::Desk;
 use std::alloc::Global;
+use stream_laws::type_law;
 
 // What holds of two streams that are received of one run of the network of the plan. It does nothing.
 fn alike_law(plan: &Plan)

@@ -6,9 +6,8 @@ ghost use Rattle.site_top.specs.Saying.{Tells};
 
 use crate::outcome::Outcome;
 use crate::plan_lines::push_lines;
-use config_file::{ConfigStop, read_config, read_plan};
 use config_text::write;
-use desk_io::Page;
+use file_run::{ConfigStop, Page, read_config, read_plan};
 use ports::Desk;
 use std::alloc::Global;
 

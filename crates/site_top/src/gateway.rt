@@ -8,7 +8,7 @@ use crate::config_commands::outcome_of;
 use crate::outcome::Outcome;
 use crate::run_end::tell_run;
 use common_plp::commons;
-use config_file::read_plan;
+use file_run::read_plan;
 use ports::{Desk, Word};
 use std::alloc::Global;
 

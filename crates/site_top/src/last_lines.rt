@@ -1,14 +1,13 @@
 // The last line of a run that is not done.
 ghost use Rattle.std.specs.Prelude.{◌≡◌, ◌+◌, ◌++◌, ◌≤◌, codes, length};
-ghost use Rattle.desk_io.specs.declared.line.TheConstants.{ROOM};
-ghost use Rattle.config_file.specs.declared.stop.ConfigCause.TheVariants.{Text, Rule};
+ghost use Rattle.file_run.specs.declared.line.TheConstants.{ROOM};
+ghost use Rattle.file_run.specs.declared.config_stop.ConfigCause.TheVariants.{Text, Rule};
 ghost use Rattle.site_top.specs.Outcomes.{last_line as line_of_outcome, place_word, why_number as number_of_why};
 ghost use Rattle.site_top.specs.Outcomes.{record_why_number as number_of_record_why, text_why_number as number_of_text_why};
 
 use crate::outcome::Outcome;
-use config_file::ConfigCause;
 use config_text::TextWhy;
-use desk_io::Line;
+use file_run::{ConfigCause, Line};
 use site_frame::RecordWhy;
 use t2mi_packet::PacketWhy;
 

@@ -2,7 +2,7 @@
 ghost use Rattle.site_top.specs.Laws.{OneEnding, CommandsHaveEnding, Completeness, OnlyOutChanges};
 
 use compare_run::{one_run_law as one_comparison, run_ends_law as comparison_ends};
-use config_file::{config_ends_law, one_config_law};
+use file_run::{config_ends_law, one_config_law};
 use gateway_run::{one_run_law, run_ends_law};
 use merge_run::{one_run_law as one_merging, run_ends_law as merging_ends};
 use modulate_run::{one_run_law as one_modulation, run_ends_law as modulation_ends};

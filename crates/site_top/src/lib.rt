@@ -7,6 +7,7 @@ mod config_commands;
 mod gateway;
 mod last_lines;
 mod laws;
+mod mend;
 mod merge;
 mod modulate;
 mod outcome;
@@ -18,7 +19,7 @@ mod running;
 mod swap;
 mod trial;
 
-pub use config_file::ConfigCause;
+pub use file_run::ConfigCause;
 pub use laws::{commands_have_ending_law, completeness_law, one_ending_law, only_out_changes_law};
 pub use outcome::Outcome;
 pub use ports::Word;

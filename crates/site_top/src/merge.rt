@@ -6,14 +6,13 @@ ghost use Rattle.site_top.specs.MergeCommand.{UnitsAreMerged, Merges};
 use crate::config_commands::outcome_of;
 use crate::outcome::Outcome;
 use crate::run_end::tell_run;
-use config_file::read_plan;
 use feed_merge::picks_law;
-use frame_laws::type_law;
-use merge_laws::merge_law;
+use file_run::read_plan;
+use network_laws::merge_law;
 use plp_config::Plan;
 use ports::Desk;
-use remade_laws::again_law;
 use std::alloc::Global;
+use stream_laws::{again_law, type_law};
 
 // What holds of two streams of the network of the plan, merged. It does nothing.
 fn merged_law(plan: &Plan)

@@ -6,10 +6,10 @@ ghost use Rattle.site_top.specs.ModulateCommand.{Modulates};
 use crate::config_commands::outcome_of;
 use crate::outcome::Outcome;
 use crate::run_end::tell_run;
-use config_file::read_plan;
-use frame_laws::plan_law;
+use file_run::read_plan;
 use ports::Desk;
 use std::alloc::Global;
+use stream_laws::plan_law;
 
 /// Makes the records of the frames of a network, by the named configuration, from its named T2-MI stream, and says the number of
 /// the first frame, how many records there are, and how many of them are muted.

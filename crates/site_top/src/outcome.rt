@@ -2,9 +2,7 @@
 ghost use Rattle.std.specs.Prelude.{◌≡◌};
 ghost use Rattle.site_top.specs.Outcomes.{file_outcome, status_of};
 
-use config_file::ConfigCause;
-use desk_io::LONGEST_FILE;
-use file_run::RunFault;
+use file_run::{ConfigCause, LONGEST_FILE, RunFault};
 use site_frame::RecordWhy;
 use t2mi_packet::PacketWhy;
 
@@ -39,7 +37,7 @@ pub enum Outcome {
         input: u8,
         packet: u64,
     },
-    /// The input was read to its end, and no superframe was found to begin with.
+    /// The input was read to its end, and no superframe was found to begin with; of `mend`, no frame is whole in the inputs together.
     NoSuperframe,
     /// No record begins where this one must, counted from 0, or it is not of the frame that is expected there.
     RecordRefused {

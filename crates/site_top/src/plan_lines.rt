@@ -3,10 +3,10 @@ ghost use Rattle.std.specs.Prelude.{◌≡◌, ◌+◌, ◌++◌, ◌<◌, ◌�
 ghost use Rattle.plp_config.specs.SlotTime.{IsSlotLength};
 ghost use Rattle.site_top.specs.PlanLines.{network_line as line_of_network, slot_part, size_part, count_part};
 ghost use Rattle.site_top.specs.PlanLines.{plp_line as line_of_plp, IsPlanText};
-ghost use Rattle.desk_io.specs.declared.line.TheConstants.{ROOM};
+ghost use Rattle.file_run.specs.declared.line.TheConstants.{ROOM};
 
 use config_text::band_word;
-use desk_io::{Line, Page};
+use file_run::{Line, Page};
 use plp_config::{Config, Plan};
 
 // Digits of a number at most: those of 2^64 - 1.

@@ -8,14 +8,14 @@ ghost use Rattle.site_top.specs.Reception.{Receives};
 use crate::config_commands::outcome_of;
 use crate::outcome::Outcome;
 use crate::run_end::tell_run;
-use config_file::read_plan;
-use frame_laws::type_law;
+use file_run::read_plan;
+use network_laws::{recover_law, whole_law};
 use plp_config::{Plan, run_length_law};
 use ports::Desk;
 use record_laws::fit_law;
-use recover_laws::{recover_law, whole_law};
 use site_frame::{place_law, reading_law, refusal_law, writing_law};
 use std::alloc::Global;
+use stream_laws::type_law;
 
 /// What records of a run's frames give back of a PLP of the plan. It does nothing.
 pub fn back_law(plan: &Plan)

@@ -8,6 +8,7 @@ ghost use Rattle.site_top.specs.Commands.{common_of as common_by, common_receive
 ghost use Rattle.site_top.specs.Commands.{common_counted_of as common_counted_by, counted_of as counted_by};
 ghost use Rattle.site_top.specs.Commands.{receive_of as receive_by, merge_of as merge_by, trial_of as trial_by, meant, IsApart};
 ghost use Rattle.site_top.specs.Commands.{swap_of as swap_by};
+ghost use Rattle.site_top.specs.Commands.{mend_of as mend_by};
 ghost use Rattle.site_top.specs.Commands.{compare_of as compare_by};
 
 use config_text::number_within;
@@ -17,6 +18,9 @@ use ports::Word;
 const FEWEST_TRIED: u64 = 6;
 
 const MOST_TRIED: u64 = 64;
+
+// How many feeds of a stream there are at most.
+const MOST_FEEDS: usize = 8;
 
 /// A command, with the names of its files.
 #[derive(Clone, Copy)]
@@ -82,6 +86,12 @@ pub enum Request<'a> {
         a: &'a str,
         b: &'a str,
         out: &'a str,
+    },
+    /// Makes one T2-MI stream of one or more of a network: its configuration, the stream, and the feeds, of which two may be one file.
+    Mend {
+        config: &'a str,
+        out: &'a str,
+        ins: &'a [Word],
     },
     /// Replaces the packets of the PLP with an identifier: the configuration of the network, its T2-MI stream and the transport stream
     /// of the region, which may be one file, and the stream that is made of them.
@@ -274,6 +284,20 @@ fn merge_of<'a>(config: &'a str, a: &'a str, b: &'a str, out: &'a str) -> Option
     None
 }
 
+// The command `mend CONFIG OUT IN..`, if it has not too many feeds, and the output is none of the files that are read.
+fn mend_of<'a>(config: &'a str, out: &'a str, ins: &'a [Word]) -> Option<Request<'a>>
+    ensures named { option_map meant result ≡ mend_by config.now out.now ins.now }
+    ensures apart { IfSome result IsApart }
+{
+    if ins.is_empty() || ins.len() > MOST_FEEDS || out.is_empty() {
+        return None;
+    }
+    if config.is_empty() || config == out || !are_inputs(out, ins) {
+        return None;
+    }
+    Some(Request::Mend { config, out, ins })
+}
+
 // The command `swap CONFIG PLP T2MI IN OUT`, if the output is none of the files that are read.
 fn swap_of<'a>(
     swap: &str,
@@ -428,6 +452,9 @@ pub fn request_of<'a>(words: &'a [Word]) -> Option<Request<'a>>
         }
         [gateway, config, out, ins @ ..] if gateway.as_str() == "gateway" => {
             gateway_of(config.as_str(), out.as_str(), ins)
+        }
+        [mend, config, out, ins @ ..] if mend.as_str() == "mend" => {
+            mend_of(config.as_str(), out.as_str(), ins)
         }
         [common, what, config, words @ ..] if common.as_str() == "common" => {
             common_of(what.as_str(), config.as_str(), words)

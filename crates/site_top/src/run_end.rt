@@ -6,9 +6,9 @@ ghost use Rattle.site_top.specs.Saying.{Tells};
 use crate::config_commands::tell;
 use crate::outcome::{Outcome, file_outcome};
 use compare_run::CompareStop;
-use desk_io::Line;
-use file_run::RunStop;
+use file_run::{Line, RunStop};
 use gateway_run::GatewayStop;
+use mend_run::MendStop;
 use merge_run::MergeStop;
 use modulate_run::ModulateStop;
 use plp_config::MOST_FRAMES;
@@ -76,6 +76,18 @@ impl Cause for MergeStop {
         match self {
             MergeStop::NoSuperframe => Outcome::NoSuperframe,
             MergeStop::TooManyFrames => Outcome::TooLong { count: MOST_FRAMES },
+        }
+    }
+}
+
+impl Cause for MendStop {
+    ghost use Rattle.site_top.specs.Outcomes.{mend_cause};
+
+    ghost outcome = { mend_cause };
+
+    fn outcome(self) -> Outcome {
+        match self {
+            MendStop::NoFrame => Outcome::NoSuperframe,
         }
     }
 }
@@ -208,6 +220,22 @@ impl Ran for merge_run::Ran {
         line.push_field(b"merged frames=", self.frames);
         line.push_field(b" a=", self.a);
         line.push_field(b" b=", self.b);
+        line.push_field(b" units=", self.units);
+        line.push(b"\n");
+        line
+    }
+}
+
+impl Ran for mend_run::Ran {
+    ghost use Rattle.site_top.specs.MendCommand.{mend_line};
+
+    ghost line = { mend_line };
+
+    fn line(self) -> Line {
+        let mut line = Line::new();
+        line.push_field(b"mended frames=", self.frames);
+        line.push_field(b" woven=", self.woven);
+        line.push_field(b" missing=", self.missing);
         line.push_field(b" units=", self.units);
         line.push(b"\n");
         line

@@ -12,6 +12,7 @@ use crate::config_commands::{plan, show_config};
 use crate::gateway::{common_gateway, gateway};
 use crate::last_lines::last_line;
 use crate::laws::{completeness_law, only_out_changes_law};
+use crate::mend::mend;
 use crate::merge::merge;
 use crate::modulate::modulate;
 use crate::outcome::Outcome;
@@ -57,6 +58,7 @@ fn command<D: Desk>(alloc: Global, words: &[Word], desk: &mut D) -> Outcome
             },
         ) => common_receive(alloc, config, plp_id, input, out, desk),
         Some(Request::Merge { config, a, b, out }) => merge(alloc, config, a, b, out, desk),
+        Some(Request::Mend { config, out, ins }) => mend(alloc, config, out, ins, desk),
         Some(
             Request::Swap {
                 config,

@@ -6,12 +6,12 @@ ghost use Rattle.site_top.specs.SwapCommand.{UnitsAreSwapped, Swaps};
 use crate::config_commands::outcome_of;
 use crate::outcome::Outcome;
 use crate::run_end::tell_run;
-use config_file::read_plan;
-use frame_laws::type_law;
+use file_run::read_plan;
+use network_laws::{back_law, region_law, whole_region_law};
 use plp_config::Plan;
 use ports::Desk;
 use std::alloc::Global;
-use swap_laws::{back_law, region_law, whole_law};
+use stream_laws::type_law;
 
 // What holds of a stream of the network of the plan, with a PLP replaced. It does nothing.
 fn swapped_law(plan: &Plan)
@@ -21,7 +21,7 @@ fn swapped_law(plan: &Plan)
     type_law(plan);
     region_law();
     back_law();
-    whole_law();
+    whole_region_law();
 }
 
 /// Sends a T2-MI stream of the network of the named configuration again, with the packets of the PLP with an identifier replaced by

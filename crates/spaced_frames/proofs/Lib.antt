@@ -1,2 +1,3 @@
 pub mod SendLemmas
 pub mod NearLemmas
+pub mod BoundLemmas

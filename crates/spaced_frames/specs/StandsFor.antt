@@ -1,5 +1,5 @@
 -- What a sender stands for.
-use Rattle.std.specs.Prelude.{◌≡◌, ◌≢◌, ℕ, ◌+◌, ◌*◌, ◌/◌, ◌%◌, ◌≤◌, Bool, true, false, List, [], ◌++◌, length, Some, None}
+use Rattle.std.specs.Prelude.{◌≡◌, ◌≢◌, ℕ, ◌+◌, ◌*◌, ◌/◌, ◌%◌, ◌^◌, ◌≤◌, Bool, true, false, List, [], ◌++◌, length, Some, None}
 use Rattle.plp_config.specs.declared.config.Config.{Config}
 use Rattle.ts_packet.specs.TsFile.{joined}
 use Rattle.t2mi_packet.specs.declared.packet.Body.{Body}
@@ -10,10 +10,10 @@ use Rattle.frame_writer.specs.FirstPacket.{from_step}
 use Rattle.frame_writer.specs.Flowing.{Flows, gives_unit, bytes_bound, packet_bound}
 use Rattle.frame_writer.specs.FramePackets.{l1_body, packets_from}
 use Rattle.frame_writer.specs.declared.flow.Flow.{Flow}
-use Rattle.pool_frame.specs.Bodies.{pool_bodies}
-use Rattle.pool_frame.specs.Left.{blocks_left}
-use Rattle.pool_frame.specs.declared.frame.PoolFrame.{PoolFrame}
-use Rattle.pool_frame.specs.declared.frame.PoolPlace.{PoolPlace}
+use Rattle.frame_writer.specs.Bodies.{pool_bodies}
+use Rattle.frame_writer.specs.Left.{blocks_left}
+use Rattle.frame_writer.specs.declared.frame.PoolFrame.{PoolFrame}
+use Rattle.frame_writer.specs.declared.frame.PoolPlace.{PoolPlace}
 use Rattle.spaced_frames.specs.Spaced.{SentFrame, spacer_left, spacers_behind, spacers_between, spaced, last_behind}
 use Rattle.spaced_frames.specs.declared.sender.Sender.{Sender}
 use Rattle.spaced_frames.specs.declared.stage.Stage.{Stage}
@@ -130,3 +130,7 @@ stages_in c at.Sends s = 1
 -- no fewer than the times that units can be asked for before the next frame
 abbrev pub left_of : Config → Sender → Content → ℕ
 left_of c s x = bytes_bound s.flow.outlet (left_in c s.stage s x) + packet_bound * length (later_in c s.stage s x) + stages_in c s.stage s
+
+-- more than a frame that was begun can have left, and what is left behind the end
+abbrev pub most_left : ℕ
+most_left = 2 ^ 64

@@ -1,6 +1,7 @@
 //! Frames sent again as one T2-MI stream, so that who counts them never loses count.
 #![tactic(auto)]
 
+mod few;
 mod laws;
 mod sender;
 mod spacer;

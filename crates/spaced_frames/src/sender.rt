@@ -1,15 +1,15 @@
 // Frames in, units out.
 ghost use Rattle.std.specs.Prelude.{◌≡◌, ◌<◌, ◌≤◌, ◌/◌, ◌^◌, ℕ, Some, true, length};
 ghost use Rattle.plp_config.specs.declared.moment.TheConstants.{MOST_FRAMES};
-ghost use Rattle.pool_frame.specs.Left.{IsOver};
+ghost use Rattle.frame_writer.specs.Left.{IsOver};
 ghost use Rattle.spaced_frames.specs.Spaced.{first_frame};
 ghost use Rattle.spaced_frames.specs.declared.stage.Stage.TheVariants as at;
 
+use crate::few::few_blocks;
 use crate::spacer::{FARTHEST, Spacer};
 use crate::stage::Stage;
-use frame_writer::Flow;
+use frame_writer::{Flow, PoolFrame, PoolPlace, PoolWalk, WalkedPlace};
 use plp_config::Plan;
-use pool_frame::{PoolFrame, PoolPlace, PoolWalk, WalkedPlace};
 use t2mi_stream::complete_law;
 use ts_packet::SIZE;
 
@@ -66,17 +66,17 @@ fn superframe_of(plan: &Plan, number: u64) -> u64
 }
 
 impl<'p> Sender<'p> {
-    ghost use Rattle.std.specs.Prelude.{◌≡◌, ◌≢◌, ◌<◌, ◌≤◌, ◌+◌, ◌*◌, ◌/◌, ◌^◌, ◌++◌, ◌∷◌, ℕ, List, [], true, false, length, take, None};
+    ghost use Rattle.std.specs.Prelude.{◌≡◌, ◌≢◌, ◌<◌, ◌≤◌, ◌+◌, ◌*◌, ◌/◌, ◌%◌, ◌^◌, ◌++◌, ◌∷◌, ℕ, List, [], true, false, length, take, None};
     ghost use Rattle.plp_config.specs.declared.config.Config.{Config};
     ghost use Rattle.ts_packet.specs.declared.sizes.TheConstants.{SIZE};
     ghost use Rattle.ts_packet.specs.TsFile.{joined};
     ghost use Rattle.t2mi_stream.specs.Pipe.{pipe};
     ghost use Rattle.frame_writer.specs.FramePackets.{packets_from};
-    ghost use Rattle.pool_frame.specs.Left.{CanBeSent};
+    ghost use Rattle.frame_writer.specs.Left.{CanBeSent};
     ghost use Rattle.frame_writer.specs.Carried.{of_frame};
     ghost use Rattle.spaced_frames.specs.Spaced.{SentFrame, spaced, spacer, spacers_behind, spacers_between};
     ghost use Rattle.spaced_frames.specs.StandsFor.{SenderStandsFor, Content, content_of, bodies_as, is_idle, has_unit, has_finished};
-    ghost use Rattle.spaced_frames.specs.StandsFor.{Begun, GoesOn, sent_as, config_of, Caught, IsAll, left_in, left_of, rest_of};
+    ghost use Rattle.spaced_frames.specs.StandsFor.{Begun, GoesOn, sent_as, config_of, Caught, IsAll, left_in, left_of, rest_of, most_left};
     ghost use Rattle.frame_writer.specs.Flowing.{bytes_bound, at_hand, packet_bound};
     ghost use Rattle.spaced_frames.specs.declared.stage.Stage.TheVariants as at;
 
@@ -185,10 +185,12 @@ impl<'p> Sender<'p> {
             → SenderStandsFor (config_of self.old) self.old x frames gave
             → SenderStandsFor (config_of self.old) self.new (content_of frame.now)
             (frames ++ sent_as (config_of self.old) number (content_of frame.now) ∷ []) gave }
+        ensures left { left_of (config_of self.old) self.new (content_of frame.now) < most_left }
         ensures busy { is_idle self.new → ⊥ }
         ensures config { config_of self.new ≡ config_of self.old }
         ensures finished { has_finished self.new ≡ false }
     {
+        few_blocks(self.plan, frame);
         match self.last {
             Some(last) => self.go_on(superframe_of(self.plan, last), number, frame),
             None => self.begin_frame(number, frame),
@@ -206,6 +208,7 @@ impl<'p> Sender<'p> {
         ensures less { left_of (config_of self.old) self.new (content_of frame.now)
             < left_of (config_of self.old) self.old (content_of frame.now) }
         ensures count { result ≤ length out.old }
+        ensures whole { result % SIZE ≡ 0 }
         ensures size { length out.new ≡ length out.old }
         ensures busy { self.new.stage ≢ at.Idle }
         ensures config { config_of self.new ≡ config_of self.old }
@@ -232,6 +235,7 @@ impl<'p> Sender<'p> {
         ensures less { left_of (config_of self.old) self.new (content_of frame.now)
             < left_of (config_of self.old) self.old (content_of frame.now) }
         ensures count { result.0 ≤ length out.old }
+        ensures whole { result.0 % SIZE ≡ 0 }
         ensures size { length out.new ≡ length out.old }
         ensures idle { result.1 ≡ false → is_idle self.new }
         ensures busy { result.1 ≡ true → self.new.stage ≢ at.Idle }
@@ -267,6 +271,7 @@ impl<'p> Sender<'p> {
         ensures less { left_of (config_of self.old) self.new (content_of frame.now)
             < left_of (config_of self.old) self.old (content_of frame.now) }
         ensures count { result.0 ≤ length out.old }
+        ensures whole { result.0 % SIZE ≡ 0 }
         ensures size { length out.new ≡ length out.old }
         ensures idle { result.1 ≡ false → is_idle self.new }
         ensures busy { result.1 ≡ true → self.new.stage ≢ at.Idle }
@@ -289,7 +294,7 @@ impl<'p> Sender<'p> {
         ensures idle { is_idle self.new }
         ensures config { config_of self.new ≡ config_of self.old }
         ensures finished { has_finished self.new ≡ true }
-        ensures left { rest_of self.new ≡ rest_of self.old }
+        ensures left { rest_of self.new < most_left }
     {
         self.flow.finish();
     }

@@ -22,9 +22,9 @@ use Rattle.site_frame.specs.declared.reading.RecordView.{RecordView}
 use Rattle.site_frame.specs.declared.reading.RecordView.TheVariants.{Frame, Muted}
 use Rattle.frame_writer.specs.Flowing.{packet_bound, at_hand}
 use Rattle.frame_writer.specs.FramePackets.{with_stamp}
-use Rattle.formed_frames.specs.Formed.{IsFormed}
-use Rattle.formed_frames.specs.Remade.{record_bodies, view_bodies, signal_of}
-use Rattle.frame_laws.proofs.BlockLemmas.{count_at}
+use Rattle.stream_laws.specs.Formed.{IsFormed}
+use Rattle.stream_laws.specs.Remade.{record_bodies, view_bodies, signal_of}
+use Rattle.stream_laws.proofs.BlockLemmas.{count_at}
 use Rattle.feed_merge.proofs.BoundLemmas.{few_bodies, bodies_count, stamp_count}
 use Rattle.region_swap.specs.StandsFor.{has_unit, bytes_left}
 use Rattle.region_swap.specs.Swapped.{swapped_view, swapped_counts, post_with_counts, replaced, blocks_among, input_blocks, is_among}

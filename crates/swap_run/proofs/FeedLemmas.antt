@@ -5,11 +5,11 @@ use Rattle.plp_config.specs.declared.config.Config.{Config}
 use Rattle.frame_groups.specs.Modulated.{FrameRecord}
 use Rattle.file_run.specs.Events.{Event, Fed, Ended, fed, has_ended}
 use Rattle.file_run.specs.Laws.{EventsTell}
-use Rattle.held_feed.specs.StandsFor.{FrameFeedStandsFor, waiting_of}
-use Rattle.held_feed.specs.StandsFor as feed
-use Rattle.held_feed.specs.declared.feed.FrameFeed.{FrameFeed}
-use Rattle.two_feeds.specs.Fed.{IsFedWith}
-use Rattle.two_feeds.proofs.StepLemmas.{IsIdle}
+use Rattle.feed_merge.specs.FeedStandsFor.{FrameFeedStandsFor, waiting_of}
+use Rattle.feed_merge.specs.FeedStandsFor as feed
+use Rattle.feed_merge.specs.declared.feed.FrameFeed.{FrameFeed}
+use Rattle.feed_merge.specs.Fed.{IsFedWith}
+use Rattle.feed_merge.proofs.StepLemmas.{IsIdle}
 
 module _ (tell : EventsTell) (c : Config) (f g : FrameFeed) (events : List Event) (piece : List ℕ) (given : List FrameRecord)
     (idle : IsIdle (waiting_of f) (feed.has_ended f)) (config : feed.config_of g ≡ feed.config_of f)

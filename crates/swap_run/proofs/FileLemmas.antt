@@ -21,24 +21,24 @@ use Rattle.modulator.specs.StandsFor.{records_due, records_of}
 use Rattle.t2mi_stream.specs.Complete.{complete_units}
 use Rattle.t2mi_stream.specs.CompleteLaws.{CompleteLaw}
 use Rattle.t2mi_stream.specs.Pipe.{pipe, units_in}
-use Rattle.formed_frames.specs.Remade.{NumberedView, remade_packets}
+use Rattle.stream_laws.specs.Remade.{NumberedView, remade_packets}
 use Rattle.feed_merge.specs.Picks.{above_all}
-use Rattle.held_feed.specs.StandsFor.{IsFirst, waiting_of}
-use Rattle.held_feed.specs.StandsFor as feed
+use Rattle.feed_merge.specs.FeedStandsFor.{IsFirst, waiting_of}
+use Rattle.feed_merge.specs.FeedStandsFor as feed
 use Rattle.file_run.specs.Events.{Event, fed, has_ended, gave}
 use Rattle.file_run.specs.FileRun.{AreFed, IsFed, read_ahead}
 use Rattle.file_run.specs.declared.machine.Step.TheVariants.{Give, End}
 use Rattle.gateway_core.specs.InputSoFar.{Continues}
 use Rattle.gateway_run.proofs.FileLemmas.{NextIsBad}
-use Rattle.two_feeds.specs.Fed.{AreEarly}
-use Rattle.two_feeds.specs.Fed.{IsFedWith, NoneComes}
-use Rattle.two_feeds.specs.Reading.{is_idle}
-use Rattle.two_feeds.proofs.FeedLemmas.{IsDue, due_of, due_given, waits_above}
-use Rattle.two_feeds.proofs.NumberLemmas.{below_of, above_append, below_append}
+use Rattle.feed_merge.specs.Fed.{AreEarly}
+use Rattle.feed_merge.specs.Fed.{IsFedWith, NoneComes}
+use Rattle.feed_merge.specs.Reading.{is_idle}
+use Rattle.feed_merge.proofs.BothFeedLemmas.{IsDue, due_of, due_given, waits_above}
+use Rattle.feed_merge.proofs.NumberLemmas.{below_of, above_append, below_append}
 use Rattle.feed_merge.proofs.FrontLemmas.{given_front}
-use Rattle.two_feeds.proofs.SplitLemmas as split
-use Rattle.two_feeds.specs.Both.{OfFeed}
-use Rattle.two_feeds.proofs.HeldLemmas.{all_of}
+use Rattle.feed_merge.proofs.SplitLemmas as split
+use Rattle.feed_merge.specs.Both.{OfFeed}
+use Rattle.feed_merge.proofs.HeldLemmas.{all_of}
 use Rattle.t2mi_stream.proofs.CompleteLemmas.{shorter_front}
 use Rattle.region_swap.specs.StandsFor.{Status, status_of, wants_of}
 use Rattle.region_swap.specs.Swapped.{frames_in, swapped}

@@ -18,7 +18,7 @@ use Rattle.frame_groups.specs.Groups.{Group, groups}
 use Rattle.frame_groups.specs.Modulated.{Content, FrameRecord, past_after}
 use Rattle.frame_groups.specs.Modulated.Content.{Whole, Muted}
 use Rattle.frame_groups.specs.declared.waiting.Waiting.{Waiting}
-use Rattle.frame_tests.specs.Tests.{rules}
+use Rattle.frame_groups.specs.Tests.{rules}
 use Rattle.t2mi_stream.specs.Units.{accepted_of}
 use Rattle.modulator.specs.Laws.{DueFollow, DuePass, IsRight}
 use Rattle.modulator.specs.Modulating.{packets_of}
@@ -27,24 +27,24 @@ use Rattle.site_frame.specs.declared.reading.RecordView.{RecordView}
 use Rattle.open_group.specs.Shown.{Shows, AreBlocks}
 use Rattle.open_group.specs.Written.{content_view, packets_view}
 use Rattle.t2mi_stream.specs.Pipe.{pipe}
-use Rattle.pool_frame.specs.Signalling.{pre_part, conf_part}
-use Rattle.pool_frame.specs.declared.frame.PoolFrame.{PoolFrame}
-use Rattle.formed_frames.specs.Formed.{IsFormed}
-use Rattle.formed_frames.specs.Laws.{FramesAreFormed, IsFormedRecord}
-use Rattle.formed_frames.specs.Remade.{NumberedView, remade_packets, view_bodies}
+use Rattle.frame_writer.specs.Signalling.{pre_part, conf_part}
+use Rattle.frame_writer.specs.declared.frame.PoolFrame.{PoolFrame}
+use Rattle.stream_laws.specs.Formed.{IsFormed}
+use Rattle.stream_laws.specs.FormedLaws.{FramesAreFormed, IsFormedRecord}
+use Rattle.stream_laws.specs.Remade.{NumberedView, remade_packets, view_bodies}
 use Rattle.frame_writer.specs.Flowing.{packet_bound}
 use Rattle.file_run.specs.Events.{Event, fed, has_ended, gave}
-use Rattle.held_feed.specs.Frames.{IsFrameOf, dynamic_of, lists_of}
-use Rattle.held_feed.specs.StandsFor.{IsFirst, Skipped, FrameFeedStandsFor, waiting_of}
-use Rattle.held_feed.specs.StandsFor as feed
-use Rattle.held_feed.specs.declared.feed.FrameFeed.{FrameFeed}
+use Rattle.feed_merge.specs.Frames.{IsFrameOf, dynamic_of, lists_of}
+use Rattle.feed_merge.specs.FeedStandsFor.{IsFirst, Skipped, FrameFeedStandsFor, waiting_of}
+use Rattle.feed_merge.specs.FeedStandsFor as feed
+use Rattle.feed_merge.specs.declared.feed.FrameFeed.{FrameFeed}
 use Rattle.feed_merge.specs.Picks.{above_all}
 use Rattle.gateway_core.specs.InputSoFar.{Told, in_next, Continues}
-use Rattle.two_feeds.specs.Both.{OfFeed}
-use Rattle.two_feeds.proofs.HeldLemmas.{left_of as feed_left}
-use Rattle.two_feeds.specs.Fed.{IsFedWith}
-use Rattle.two_feeds.proofs.FeedLemmas.{IsDue, due_of, waits_above, one_of}
-use Rattle.two_feeds.proofs.NumberLemmas.{above_append}
+use Rattle.feed_merge.specs.Both.{OfFeed}
+use Rattle.feed_merge.proofs.HeldLemmas.{left_of as feed_left}
+use Rattle.feed_merge.specs.Fed.{IsFedWith}
+use Rattle.feed_merge.proofs.BothFeedLemmas.{IsDue, due_of, waits_above, one_of}
+use Rattle.feed_merge.proofs.NumberLemmas.{above_append}
 use Rattle.record_laws.specs.Laws.{ToldCountsFit}
 use Rattle.region_swap.specs.Held.{IsHeld, HasRecord}
 use Rattle.region_swap.specs.Left.{left_by, own_list}

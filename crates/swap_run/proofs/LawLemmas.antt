@@ -12,8 +12,8 @@ use Rattle.frame_groups.specs.Modulated.{FrameRecord}
 use Rattle.modulator.specs.StandsFor.{records_of}
 use Rattle.feed_merge.specs.Laws.{AllBelow}
 use Rattle.feed_merge.specs.Picks.{above_all}
-use Rattle.two_feeds.specs.Fed.{AreEarly}
-use Rattle.two_feeds.proofs.NumberLemmas.{above_append, below_append}
+use Rattle.feed_merge.specs.Fed.{AreEarly}
+use Rattle.feed_merge.proofs.NumberLemmas.{above_append, below_append}
 use Rattle.swap_run.specs.Laws.{MustRun, OneRun, RunEnds}
 use Rattle.swap_run.specs.SwapRun.{WantBad, SwapsAll, HasNone, MeetsBad, HasLate, slots_of, units_of, complete_of, counted}
 use Rattle.swap_run.specs.declared.stop.Ran.{Ran}
@@ -21,7 +21,7 @@ use Rattle.swap_run.specs.declared.stop.SwapStop.{SwapStop}
 use Rattle.swap_run.specs.declared.stop.SwapStop.TheVariants.{NoSuperframe, InputRefused, TooManyFrames}
 use Rattle.swap_run.proofs.GoLemmas.{slots_rise}
 use Rattle.swap_run.proofs.WantLemmas.{none_over}
-use Rattle.two_feeds.proofs.EarlyLemmas.{some_is}
+use Rattle.feed_merge.proofs.EarlyLemmas.{some_is}
 
 -- ---- records that are early, and one that is late
 

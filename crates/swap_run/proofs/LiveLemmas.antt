@@ -4,9 +4,9 @@ use Rattle.plp_config.specs.declared.config.Config.{Config}
 use Rattle.frame_groups.specs.Laws.{IsPrefix}
 use Rattle.frame_groups.specs.Modulated.{FrameRecord}
 use Rattle.modulator.specs.StandsFor.{records_due}
-use Rattle.held_feed.specs.declared.feed.FrameFeed.{FrameFeed}
+use Rattle.feed_merge.specs.declared.feed.FrameFeed.{FrameFeed}
 use Rattle.gateway_core.specs.InputSoFar.{Told, Continues}
-use Rattle.two_feeds.specs.Fed.{IsFedWith}
+use Rattle.feed_merge.specs.Fed.{IsFedWith}
 use Rattle.region_swap.specs.declared.swapper.Swapper.{Swapper}
 use Rattle.swap_run.specs.Shown.{HasCaughtUp, IsLive}
 use Rattle.region_swap.specs.Swapped.{frames_in}

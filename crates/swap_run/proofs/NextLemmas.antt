@@ -13,14 +13,14 @@ use Rattle.frame_groups.specs.declared.cause.MuteCause.{MuteCause}
 use Rattle.frame_groups.specs.declared.waiting.Waiting.{Waiting}
 use Rattle.file_run.specs.Events.{Event, Fed, Ended, Gave, gave}
 use Rattle.file_run.specs.Laws.{EventsTell}
-use Rattle.held_feed.specs.StandsFor.{fed_of, is_whole}
-use Rattle.held_feed.specs.StandsFor as feed
-use Rattle.two_feeds.proofs.CameLemmas.{test_of, most_of, less_of, number_of, nothing_of}
+use Rattle.feed_merge.specs.FeedStandsFor.{fed_of, is_whole}
+use Rattle.feed_merge.specs.FeedStandsFor as feed
+use Rattle.feed_merge.proofs.BothCameLemmas.{test_of, most_of, less_of, number_of, nothing_of}
 use Rattle.terms.proofs.CaseLemmas.{bool_cases}
 use Rattle.terms.proofs.OptionLemmas.{some_injective, none_some}
-use Rattle.two_feeds.specs.Reading.{is_idle}
-use Rattle.pool_frame.specs.Left.{CanBeSent}
-use Rattle.pool_frame.specs.declared.frame.PoolFrame.{PoolFrame}
+use Rattle.feed_merge.specs.Reading.{is_idle}
+use Rattle.frame_writer.specs.Left.{CanBeSent}
+use Rattle.frame_writer.specs.declared.frame.PoolFrame.{PoolFrame}
 use Rattle.region_swap.specs.Swapped.{frames_in}
 use Rattle.region_swap.specs.StandsFor.{GivesUnits, Status, status_of, frame_of, has_unit, is_fed}
 use Rattle.region_swap.specs.declared.swapper.Swapper.{Swapper}

@@ -15,7 +15,7 @@ use Rattle.t2mi_stream.specs.Complete.{complete_units}
 use Rattle.t2mi_stream.specs.CompleteLaws.{CompleteLaw}
 use Rattle.t2mi_stream.specs.Pipe.{pipe}
 use Rattle.t2mi_stream.proofs.CompleteLemmas.{complete_law}
-use Rattle.formed_frames.specs.Remade.{NumberedView, remade_packets}
+use Rattle.stream_laws.specs.Remade.{NumberedView, remade_packets}
 use Rattle.gateway_core.specs.InputSoFar.{Told, Continues}
 use Rattle.feed_merge.proofs.FrontLemmas.{packets_more, more_within}
 use Rattle.region_swap.specs.StandsFor.{SwapperStandsFor, status_of, has_unit}

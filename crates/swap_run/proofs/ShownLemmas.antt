@@ -11,15 +11,15 @@ use Rattle.ts_packet.specs.TsFile.{begins_with_packet}
 use Rattle.ts_packet.specs.declared.sizes.TheConstants.{SIZE, SYNC}
 use Rattle.t2mi_packet.specs.declared.packet.Body.{Body}
 use Rattle.frame_groups.specs.Modulated.{FrameRecord}
-use Rattle.formed_frames.specs.Remade.{NumberedView}
+use Rattle.stream_laws.specs.Remade.{NumberedView}
 use Rattle.file_run.specs.Events.{Event, fed, has_ended, gave}
 use Rattle.file_run.specs.Steps.{HasCome}
-use Rattle.held_feed.specs.StandsFor as feed
-use Rattle.held_feed.specs.declared.feed.FrameFeed.{FrameFeed}
+use Rattle.feed_merge.specs.FeedStandsFor as feed
+use Rattle.feed_merge.specs.declared.feed.FrameFeed.{FrameFeed}
 use Rattle.gateway_core.specs.InputSoFar.{Told, with_packet, at_end, Continues}
-use Rattle.two_feeds.specs.Fed.{IsFedWith}
-use Rattle.two_feeds.specs.Both.{OfFeed}
-use Rattle.two_feeds.proofs.HeldLemmas.{network_of, end_of, count_of}
+use Rattle.feed_merge.specs.Fed.{IsFedWith}
+use Rattle.feed_merge.specs.Both.{OfFeed}
+use Rattle.feed_merge.proofs.HeldLemmas.{network_of, end_of, count_of}
 use Rattle.region_swap.specs.StandsFor.{SwapperStandsFor, Status, status_of, wants_of, wants_by, has_unit}
 use Rattle.region_swap.specs.Swapped.{frames_in}
 use Rattle.region_swap.specs.declared.swapper.Swapper.{Swapper}

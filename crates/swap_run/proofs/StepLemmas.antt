@@ -6,9 +6,9 @@ use Rattle.ts_packet.specs.declared.sizes.TheConstants.{SIZE}
 use Rattle.file_run.specs.Steps.{Needs, Suffices, FallsShort}
 use Rattle.file_run.specs.declared.machine.Step.{Step}
 use Rattle.file_run.specs.declared.machine.Step.TheVariants.{Read, Give, End}
-use Rattle.held_feed.specs.StandsFor.{waiting_of, has_ended}
-use Rattle.two_feeds.specs.Reading.{is_idle}
-use Rattle.two_feeds.proofs.StepLemmas.{idle_is}
+use Rattle.feed_merge.specs.FeedStandsFor.{waiting_of, has_ended}
+use Rattle.feed_merge.specs.Reading.{is_idle}
+use Rattle.feed_merge.proofs.StepLemmas.{idle_is}
 use Rattle.region_swap.specs.StandsFor.{wants_of}
 use Rattle.swap_run.specs.Steps.{record_step, packet_step, drain_step, step_in, step_of, most_packets}
 use Rattle.file_run.specs.FileRun.{read_ahead}

@@ -9,18 +9,18 @@ use Rattle.plp_config.specs.declared.config.Config.{Config}
 use Rattle.ts_packet.specs.TsFile.{joined}
 use Rattle.ts_packet.specs.declared.sizes.TheConstants.{SIZE}
 use Rattle.t2mi_stream.specs.Complete.{complete_units, complete_in}
-use Rattle.formed_frames.specs.Remade.{remade_packets}
-use Rattle.desk_io.specs.Reading.{longest_file}
+use Rattle.stream_laws.specs.Remade.{remade_packets}
+use Rattle.file_run.specs.Reading.{longest_file}
 use Rattle.file_run.specs.Events.{Event, fed}
 use Rattle.file_run.specs.Steps.{IsWanted, Suffices}
 use Rattle.file_run.specs.declared.machine.Step.TheVariants.{Read, Give}
-use Rattle.held_feed.specs.StandsFor.{waiting_of, fed_of}
-use Rattle.held_feed.specs.StandsFor as feed
+use Rattle.feed_merge.specs.FeedStandsFor.{waiting_of, fed_of}
+use Rattle.feed_merge.specs.FeedStandsFor as feed
 use Rattle.feed_merge.specs.Picks.{above_all}
 use Rattle.gateway_core.specs.InputSoFar.{Told}
 use Rattle.gateway_run.proofs.FileLemmas.{joined_length}
-use Rattle.two_feeds.specs.Reading.{is_idle}
-use Rattle.two_feeds.proofs.StepLemmas.{idle_is}
+use Rattle.feed_merge.specs.Reading.{is_idle}
+use Rattle.feed_merge.proofs.StepLemmas.{idle_is}
 use Rattle.region_swap.specs.StandsFor.{wants_of}
 use Rattle.region_swap.specs.Swapped.{swapped}
 use Rattle.swap_run.specs.Shown as shown

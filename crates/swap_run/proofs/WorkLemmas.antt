@@ -6,12 +6,12 @@ use Rattle.plp_config.specs.Laws.{CountRises, SlotLength, NoneAtZero}
 use Rattle.plp_config.specs.SlotTime.{num, den, slots_by}
 use Rattle.plp_config.specs.declared.config.Config.{Config}
 use Rattle.ts_packet.specs.declared.sizes.TheConstants.{SIZE}
-use Rattle.desk_io.specs.Reading.{longest_file}
+use Rattle.file_run.specs.Reading.{longest_file}
 use Rattle.modulator.specs.Laws.{DueFront, DueFollow}
 use Rattle.t2mi_stream.specs.CompleteLaws.{CompleteLaw}
 use Rattle.frame_groups.specs.Modulated.{FrameRecord}
-use Rattle.held_feed.specs.StandsFor.{waiting_of}
-use Rattle.held_feed.specs.StandsFor as feed
+use Rattle.feed_merge.specs.FeedStandsFor.{waiting_of}
+use Rattle.feed_merge.specs.FeedStandsFor as feed
 use Rattle.file_run.specs.Events.{Event, fed, has_ended, gave}
 use Rattle.file_run.specs.FileRun.{AreFed, read_ahead}
 use Rattle.file_run.specs.Steps.{Needs, FallsShort}
@@ -21,8 +21,8 @@ use Rattle.file_run.specs.declared.stop.RunFault.TheVariants.{TooLong, ReadFault
 use Rattle.file_run.specs.declared.stop.RunStop.TheVariants.{Files}
 use Rattle.file_run.proofs.StandsLemmas.{fed_since}
 use Rattle.file_run.proofs.WorkLemmas.{are_whole}
-use Rattle.two_feeds.specs.Reading.{is_idle}
-use Rattle.two_feeds.proofs.FilesLemmas.{two}
+use Rattle.feed_merge.specs.Reading.{is_idle}
+use Rattle.feed_merge.proofs.FilesLemmas.{two}
 use Rattle.region_swap.specs.StandsFor.{status_of, wants_of}
 use Rattle.swap_run.specs.AsMachine.{Becomes, ending_in, ending_of}
 use Rattle.swap_run.specs.Shown.{Shown, IsIn, IsDone}

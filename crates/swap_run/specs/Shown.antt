@@ -14,16 +14,16 @@ use Rattle.t2mi_packet.specs.declared.packet.Body.{Body}
 use Rattle.t2mi_stream.specs.Complete.{complete_units}
 use Rattle.t2mi_stream.specs.Pipe.{pipe}
 use Rattle.modulator.specs.StandsFor.{records_due}
-use Rattle.formed_frames.specs.Remade.{NumberedView, remade_packets}
+use Rattle.stream_laws.specs.Remade.{NumberedView, remade_packets}
 use Rattle.file_run.specs.Events.{Event, fed, has_ended, gave}
-use Rattle.held_feed.specs.Frames.{lists_of}
-use Rattle.held_feed.specs.StandsFor.{waiting_of}
-use Rattle.held_feed.specs.declared.feed.FrameFeed.{FrameFeed}
+use Rattle.feed_merge.specs.Frames.{lists_of}
+use Rattle.feed_merge.specs.FeedStandsFor.{waiting_of}
+use Rattle.feed_merge.specs.declared.feed.FrameFeed.{FrameFeed}
 use Rattle.feed_merge.specs.Picks.{above_all}
 use Rattle.gateway_core.specs.InputSoFar.{Told, Continues}
 use Rattle.gateway_run.specs.Holds.{ArePackets}
-use Rattle.two_feeds.specs.Fed.{NoneComes}
-use Rattle.two_feeds.specs.Both.{OfFeed}
+use Rattle.feed_merge.specs.Fed.{NoneComes}
+use Rattle.feed_merge.specs.Both.{OfFeed}
 use Rattle.region_swap.specs.StandsFor.{SwapperStandsFor, Status, status_of, has_unit, is_fed, left_for, bytes_left}
 use Rattle.region_swap.specs.Swapped.{frames_in, swapped}
 use Rattle.region_swap.specs.declared.swapper.Swapper.{Swapper}

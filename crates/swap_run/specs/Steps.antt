@@ -5,10 +5,10 @@ use Rattle.plp_config.specs.declared.moment.TheConstants.{MOST_FRAMES}
 use Rattle.ts_packet.specs.declared.sizes.TheConstants.{SIZE}
 use Rattle.file_run.specs.declared.machine.Step.{Step}
 use Rattle.file_run.specs.declared.machine.Step.TheVariants.{Read, Give, End}
-use Rattle.held_feed.specs.StandsFor.{waiting_of, has_ended, fed_of}
-use Rattle.held_feed.specs.StandsFor as feed
-use Rattle.held_feed.specs.declared.feed.FrameFeed.{FrameFeed}
-use Rattle.two_feeds.specs.Reading.{is_idle}
+use Rattle.feed_merge.specs.FeedStandsFor.{waiting_of, has_ended, fed_of}
+use Rattle.feed_merge.specs.FeedStandsFor as feed
+use Rattle.feed_merge.specs.declared.feed.FrameFeed.{FrameFeed}
+use Rattle.feed_merge.specs.Reading.{is_idle}
 use Rattle.region_swap.specs.StandsFor.{status_of, wants_of}
 use Rattle.region_swap.specs.declared.swapper.Swapper.{Swapper}
 use Rattle.swap_run.specs.Shown.{more_units, frame_bytes}

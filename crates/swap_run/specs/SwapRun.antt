@@ -12,12 +12,12 @@ use Rattle.t2mi_stream.specs.Pipe.{pipe}
 use Rattle.frame_groups.specs.Laws.{IsPrefix}
 use Rattle.frame_groups.specs.Modulated.{FrameRecord}
 use Rattle.modulator.specs.StandsFor.{records_due, records_of}
-use Rattle.formed_frames.specs.Remade.{remade_packets}
+use Rattle.stream_laws.specs.Remade.{remade_packets}
 use Rattle.feed_merge.specs.Picks.{above_all}
-use Rattle.two_feeds.specs.Fed.{AreEarly}
+use Rattle.feed_merge.specs.Fed.{AreEarly}
 use Rattle.gateway_run.specs.GatewayRun.{ReadsNoBad}
 use Rattle.region_swap.specs.Swapped.{swapped, frames_in}
-use Rattle.desk_io.specs.Reading.{longest_file}
+use Rattle.file_run.specs.Reading.{longest_file}
 use Rattle.file_run.specs.FileRun.{read_ahead}
 use Rattle.file_run.specs.Work.{Work, AreWhole}
 use Rattle.file_run.specs.declared.stop.RunFault.TheVariants.{TooLong, ReadFault, WriteFault}

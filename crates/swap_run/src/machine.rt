@@ -2,8 +2,8 @@
 use crate::phase::Phase;
 use crate::stop::{Ran, SwapStop};
 use bit_slice::OutOfMemory;
+use feed_merge::FrameFeed;
 use file_run::{Ending, Machine, Step, events_law};
-use held_feed::FrameFeed;
 use modulator::due_records_law;
 use plp_config::{Plan, length_law, slot_time_law};
 use region_swap::Swapper;

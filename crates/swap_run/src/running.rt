@@ -1,7 +1,7 @@
 // A run of the swapper of a plan.
 ghost use Rattle.std.specs.Prelude.{◌≢◌, ◌<◌, length};
 ghost use Rattle.file_run.specs.Work.{Ends, Into};
-ghost use Rattle.two_feeds.specs.Fed.{names_of};
+ghost use Rattle.feed_merge.specs.Fed.{names_of};
 ghost use Rattle.swap_run.specs.SwapRun.{swap_work};
 
 use crate::machine::SwapMachine;

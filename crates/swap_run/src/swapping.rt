@@ -7,8 +7,8 @@ ghost use Rattle.frame_groups.specs.declared.waiting.Waiting.{Waiting};
 ghost use Rattle.file_run.specs.Events.{Event, Fed, Ended, Gave};
 ghost use Rattle.file_run.specs.declared.machine.TheConstants.{PIECE};
 ghost use Rattle.file_run.specs.declared.machine.Step.TheVariants.{Give};
-ghost use Rattle.held_feed.specs.StandsFor.{waiting_of, has_ended};
-ghost use Rattle.two_feeds.specs.Reading.{is_idle};
+ghost use Rattle.feed_merge.specs.FeedStandsFor.{waiting_of, has_ended};
+ghost use Rattle.feed_merge.specs.Reading.{is_idle};
 ghost use Rattle.region_swap.specs.StandsFor.{wants_of};
 ghost use Rattle.swap_run.specs.Shown.{Shown, HasShown};
 ghost use Rattle.swap_run.specs.Steps.{record_step, packet_step, drain_step, step_of, reach_of, left_of};
@@ -17,15 +17,15 @@ ghost use Rattle.swap_run.specs.declared.phase.Phase.TheVariants as phase;
 use crate::machine::SwapMachine;
 use crate::phase::Phase;
 use crate::stop::SwapStop;
+use feed_merge::is_idle;
 use file_run::{AHEAD, Step, events_law};
-use formed_frames::formed_law;
 use frame_groups::Waiting;
 use gateway_run::front_packet;
 use modulator::due_records_law;
 use plp_config::{MOST_FRAMES, block_law, length_law, slot_time_law};
 use record_laws::fit_law;
+use stream_laws::formed_law;
 use ts_packet::{SIZE, SYNC};
-use two_feeds::is_idle;
 
 // No more packets than these are to wait.
 const PACKETS: u64 = 1 << 30;

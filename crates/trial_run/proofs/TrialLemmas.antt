@@ -12,7 +12,7 @@ use Rattle.plp_config.specs.Plps.{plp_at}
 use Rattle.plp_config.specs.declared.config.Config.{Config}
 use Rattle.modulate_run.specs.Counted.{counted}
 use Rattle.modulate_run.specs.ModulateRun.{output_of}
-use Rattle.desk_io.specs.declared.line.TheConstants.{ROOM}
+use Rattle.file_run.specs.declared.line.TheConstants.{ROOM}
 use Rattle.trial_run.specs.Losses.{kept_from}
 use Rattle.trial_run.specs.Made.{IsModulated, IsMade, HasLines}
 use Rattle.trial_run.specs.Stages.{AreFiles, IsSent}

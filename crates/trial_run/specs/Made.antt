@@ -3,7 +3,7 @@ use Rattle.std.specs.Prelude.{◌≡◌, ℕ, ◌+◌, ◌*◌, ◌≤◌, ◌++
 use Rattle.std.specs.List.{range_with_len}
 use Rattle.modulator.specs.StandsFor.{records_of}
 use Rattle.plp_config.specs.declared.config.Config.{Config}
-use Rattle.desk_io.specs.declared.line.TheConstants.{ROOM}
+use Rattle.file_run.specs.declared.line.TheConstants.{ROOM}
 use Rattle.modulate_run.specs.Counted.{counted}
 use Rattle.modulate_run.specs.ModulateRun.{output_of}
 use Rattle.trial_run.specs.Stages.{IsSent}

@@ -2,12 +2,12 @@
 ghost use Rattle.std.specs.Prelude.{◌≡◌, ◌+◌, ◌++◌, ◌≤◌, codes, length, IfOk, OnOk};
 ghost use Rattle.trial_run.specs.Trial.{crc_word, stream_line as line_of_stream, records_part, whole_line as line_of_whole};
 ghost use Rattle.trial_run.specs.Trial.{lossy_line as line_of_lossy, plp_line as line_of_plp};
-ghost use Rattle.desk_io.specs.declared.line.TheConstants.{ROOM};
+ghost use Rattle.file_run.specs.declared.line.TheConstants.{ROOM};
 
 use crate::counts::filled_packets;
 use crate::stages::{Modulated, Sent};
 use bit_slice::{BitSlice, OutOfMemory, crc32};
-use desk_io::Line;
+use file_run::Line;
 
 // Digits of a number at most: those of 2^64 - 1.
 const DIGITS: usize = 20;

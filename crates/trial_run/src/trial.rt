@@ -1,7 +1,7 @@
 // A trial of a whole network.
 ghost use Rattle.std.specs.Prelude.{◌≡◌, ◌+◌, ◌*◌, ◌++◌, ◌<◌, ◌≤◌, ℕ, List, [], length, map, IfOk, OnOk};
 ghost use Rattle.std.specs.List.{range_with_len};
-ghost use Rattle.desk_io.specs.declared.line.TheConstants.{ROOM};
+ghost use Rattle.file_run.specs.declared.line.TheConstants.{ROOM};
 ghost use Rattle.plp_config.specs.declared.config.Config.{Config};
 ghost use Rattle.trial_run.specs.Made.{IsMade};
 ghost use Rattle.trial_run.specs.Trial.{IsSameCount, IsNetworkText, IsPlpLine, IsTrialText};
@@ -15,7 +15,7 @@ use crate::losses::kept_units;
 use crate::stages::{Modulated, Sent, modulate, receive, send};
 use crate::stop::TrialStop;
 use bit_slice::OutOfMemory;
-use desk_io::{Line, Page};
+use file_run::{Line, Page};
 use plp_config::Plan;
 use std::alloc::Global;
 

@@ -43,11 +43,13 @@ def in_runs(numbers):
 
 
 class Units:
-    """The units of a T2-MI stream, by their first four bytes, and those that are passed over, by their places."""
+    """The units of a T2-MI stream, by their first four bytes, and those that are passed over, by their places; of a feed
+    those that are idle apart."""
 
-    def __init__(self, name, data, pid):
+    def __init__(self, name, data, pid, is_feed=False):
         self.name, self.pid, self.count, self.rest = name, pid, len(data) // ts.UNIT, len(data) % ts.UNIT
         self.no_sync, self.other, self.unread, self.jumps, self.slip = [], [], [], [], None
+        self.idle = []
         due = None
         for place in range(0, self.count * ts.UNIT, ts.UNIT):
             sync, second, third, fourth = data[place : place + 4]
@@ -58,7 +60,8 @@ class Units:
             elif pid is not None and second % 32 * 256 + third != pid:
                 self.other.append(place)
             elif pid is not None and (second >> 7 or fourth >> 6 or not fourth & 0x10):
-                self.unread.append(place)
+                is_idle = is_feed and not second >> 7 and fourth >> 4 == 2
+                (self.idle if is_idle else self.unread).append(place)
             elif pid is not None:
                 if due not in (None, fourth % 16):
                     self.jumps.append(place)
@@ -73,7 +76,11 @@ class Units:
                 return
 
     def is_clean(self):
-        return not (self.rest or self.no_sync or self.unread or self.jumps)
+        return not (self.rest or self.no_sync or self.unread or self.idle or self.jumps)
+
+    def has_none(self):
+        """Whether no unit on the PID can carry T2-MI."""
+        return len(self.unread) + len(self.idle) >= self.on_pid()
 
     def whole(self):
         if self.pid is not None and self.is_clean():
@@ -91,7 +98,7 @@ class Units:
             return "CONFIG is not read twice, so it is not known which units are on its PID; `show t2mi` tells which PIDs come"
         if self.on_pid() == 0:
             return "none of its units is on the PID of CONFIG; `show t2mi` tells which PIDs come"
-        if len(self.unread) == self.on_pid():
+        if len(self.unread) + len(self.idle) == self.on_pid():
             return "all units on the PID are marked as wrong or scrambled, or have no payload"
         return "units come on the PID: their L1 or timestamps are not those of CONFIG, or no first frame of a superframe came whole"
 
@@ -103,7 +110,7 @@ class Units:
             line += f"; the last one is cut off behind {self.rest} bytes"
         tallies = [("not beginning with 0x47", self.no_sync), ("of other PIDs", self.other)]
         tallies.append(("marked as wrong or scrambled, or empty", self.unread))
-        tallies.append(("jumps of the continuity counter", self.jumps))
+        tallies += [("idle", self.idle), ("jumps of the continuity counter", self.jumps)]
         for what, places in tallies:
             if places:
                 line += f"; {what}: {len(places)}, first at byte {places[0]}"
@@ -215,10 +222,19 @@ def of_two(plan, desk, one, other, is_merged):
         yield f"{one}: {NONE_CAME}{pair[0].why_none()}"
     if some[1]:
         return
-    if is_merged and len(pair[1].unread) < pair[1].on_pid():
+    if is_merged and not pair[1].has_none():
         yield f"{other}: {NONE_CAME}each that it has is in {one} too, or it has none"
     else:
         yield f"{other}: {NONE_CAME}{pair[1].why_none()}"
+
+
+def of_mend(plan, desk, names):
+    feeds = [Units(name, desk.files[name], plan.config.pid, is_feed=True) for name in names]
+    for units in feeds:
+        yield from units.damage()
+    for units in feeds:
+        if units.has_none():
+            yield f"{units.name}: {NONE_CAME}{units.why_none()}"
 
 
 def of_swap(plan, desk, plp_id, t2mi, name):
@@ -232,9 +248,9 @@ def of_swap(plan, desk, plp_id, t2mi, name):
         yield f"{name}: its packets end before frame {frame} of CONFIG; null packets stand for it from there on, if OUT goes on so far"
 
 
-def of_no_superframe(plan, desk, names):
+def of_no_superframe(plan, desk, names, are_feeds):
     """Why no superframe was found."""
-    every = [Units(name, desk.files[name], plan.config.pid) for name in names]
+    every = [Units(name, desk.files[name], plan.config.pid, are_feeds) for name in names]
     for units in every:
         yield f"{units.name}: {units.why_none()}"
     for units in every:
@@ -257,6 +273,8 @@ def told(words, desk, outcome):
             does, arguments, streams = of_two, [one, other, True], [one, other]
         case ["compare", config, one, other]:
             does, arguments, streams = of_two, [one, other, False], [one, other]
+        case ["mend", config, _, *names]:
+            does, arguments, streams = of_mend, [names], names
         case ["swap", config, plp, t2mi, name, _]:
             does, arguments, streams = of_swap, [int(plp), t2mi, name], [t2mi]
         case _:
@@ -264,7 +282,7 @@ def told(words, desk, outcome):
     if outcome == "Done" or outcome.startswith("Differs"):
         yield from does(Plan(read(desk.files[config])), desk, *arguments)
     elif outcome == "NoSuperframe":
-        yield from of_no_superframe(Plan(read(desk.files[config])), desk, streams)
+        yield from of_no_superframe(Plan(read(desk.files[config])), desk, streams, does is of_mend)
 
 
 def shown(text):

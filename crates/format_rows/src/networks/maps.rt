@@ -11,9 +11,9 @@ ghost use Rattle.scheduler.specs.Laws.{CountsFit};
 use crate::words::{Words, number_8, number_16, number_32};
 use byteorder::{BigEndian, ByteOrder};
 use cell_map::{Cell, Cells, address, at, check};
-use cell_words::fill_words;
 use plp_config::Plan;
 use scheduler::{Shape, shape};
+use site_frame::fill_words;
 use std::alloc::{AllocError, Global};
 
 // How many words are taken at once.

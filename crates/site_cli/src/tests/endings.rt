@@ -71,7 +71,7 @@ struct Ending {
 }
 
 #[rattlefmt::skip]
-static ENDINGS: [Ending; 39] = [
+static ENDINGS: [Ending; 42] = [
     Ending { words: &["--version"], takes: true, status: 0 },
     Ending { words: &["show", "frames", "--help"], takes: true, status: 0 },
     Ending { words: &["gateway", "cli.txt", "cli.out", "cli.ts"], takes: true, status: 0 },
@@ -83,12 +83,15 @@ static ENDINGS: [Ending; 39] = [
     Ending { words: &["gateway", "cli.txt", "cli.ts", "cli.ts"], takes: true, status: 2 },
     Ending { words: &["gateway", "cli.txt", "cli.out", "cli.ts", "cli.ts"], takes: true, status: 2 },
     Ending { words: &["merge", "cli.txt", "cli.ts", "cli.none", "cli.ts"], takes: true, status: 2 },
+    Ending { words: &["mend", "cli.txt", "cli.none"], takes: true, status: 2 },
+    Ending { words: &["mend", "cli.txt", "cli.none", "cli.ts", "cli.none"], takes: true, status: 2 },
     Ending { words: &["swap", "cli.txt", "0", "cli.ts", "cli.none", "cli.none"], takes: true, status: 2 },
     Ending { words: &["plan", "cli.zeros"], takes: true, status: 3 },
     Ending { words: &["plan", "cli.full"], takes: true, status: 4 },
     Ending { words: &["gateway", "cli.txt", "cli.out", "cli.zeros"], takes: true, status: 5 },
     Ending { words: &["modulate", "cli.txt", "cli.ts", "cli.out"], takes: true, status: 6 },
     Ending { words: &["merge", "cli.txt", "cli.ts", "cli.none", "cli.out"], takes: true, status: 6 },
+    Ending { words: &["mend", "cli.txt", "cli.out", "cli.ts", "cli.none"], takes: true, status: 6 },
     Ending { words: &["swap", "cli.txt", "0", "cli.none", "cli.zeros", "cli.out"], takes: true, status: 6 },
     Ending { words: &["compare", "cli.txt", "cli.ts", "cli.none"], takes: true, status: 6 },
     Ending { words: &["receive", "cli.txt", "0", "cli.ts", "cli.out"], takes: true, status: 7 },
@@ -139,7 +142,7 @@ struct Told {
 }
 
 #[rattlefmt::skip]
-static TOLD: [Told; 40] = [
+static TOLD: [Told; 43] = [
     Told { words: &["plan", "c"], outcome: Outcome::Done, begins: "" },
     Told { words: &[], outcome: Outcome::Usage, begins: "these words are no command\nusage:\n  site_cli gateway CONFIG OUT IN..\n" },
     Told { words: &["plan"], outcome: Outcome::Usage, begins: "these are too few words\nusage:\n  site_cli plan CONFIG\n" },
@@ -155,6 +158,7 @@ static TOLD: [Told; 40] = [
     Told { words: &["receive", "c", "-1", "i", "o"], outcome: Outcome::Usage, begins: "PLP must be a decimal number from 0 to 255, " },
     Told { words: &["common", "receive", "c", "1", "i", "i"], outcome: Outcome::Usage, begins: "OUT must be neither CONFIG nor IN\n" },
     Told { words: &["swap", "c", "255", "t", "i", "t"], outcome: Outcome::Usage, begins: "OUT must be neither CONFIG nor T2MI nor IN\n" },
+    Told { words: &["mend", "c", "o"], outcome: Outcome::Usage, begins: "there must be one to eight INs, and OUT must be neither CONFIG nor an IN\n" },
     Told { words: &["trial", "1", "5"], outcome: Outcome::Usage, begins: "SEED must be a decimal number below 2^64 " },
     Told { words: &["recieve", "c"], outcome: Outcome::Usage,
         begins: "these words are no command\nusage:\n  site_cli receive CONFIG PLP IN OUT\n" },
@@ -194,6 +198,9 @@ static TOLD: [Told; 40] = [
         begins: "i: frame 2147483648 of CONFIG " },
     Told { words: &["merge", "c", "a", "b", "o"], outcome: Outcome::TooLong { count: 1 << 31 },
         begins: "A or B: frame 2147483648 of CONFIG " },
+    Told { words: &["mend", "c", "o", "i"], outcome: Outcome::TooLong { count: 1 << 40 },
+        begins: "an IN: it gave 1099511627776 bytes, " },
+    Told { words: &["mend", "c", "o", "i"], outcome: Outcome::NoSuperframe, begins: "no frame is whole in all INs together; " },
     Told { words: &["swap", "c", "0", "t", "i", "o"], outcome: Outcome::TooLong { count: 1 << 31 },
         begins: "t: frame 2147483648 of CONFIG " },
     Told { words: &["plan", "c"], outcome: Outcome::OutOfMemory, begins: "out of memory; " },

@@ -41,7 +41,7 @@ struct Heard {
 
 // The stream of no packet, and of one, has four frames, each with room for four blocks. A frame wants 14 packets.
 #[rattlefmt::skip]
-static HEARD: [Heard; 12] = [
+static HEARD: [Heard; 14] = [
     Heard { words: &["gateway", "two.txt", "two.out", "two.none"],
         told: "two.none: it has no packet; null packets stand for it\nPLP 0: blocks sent: 0, of 16 that 4 frames have room for\n" },
     Heard { words: &["gateway", "two.txt", "two.out", "two.null"],
@@ -57,6 +57,8 @@ static HEARD: [Heard; 12] = [
     Heard { words: &["merge", "two.txt", "two.ts", "two.ts", "two.out"],
         told: "two.ts: no frame came from it: each that it has is in two.ts too, or it has none\n" },
     Heard { words: &["merge", "two.txt", "two.ts", "two.none", "two.out"], told: "two.none: no frame came from it: it has no unit of 188 bytes\n" },
+    Heard { words: &["mend", "two.txt", "two.out", "two.ts"], told: "" },
+    Heard { words: &["mend", "two.txt", "two.out", "two.none", "two.ts"], told: "two.none: no frame came from it: it has no unit of 188 bytes\n" },
     Heard { words: &["modulate", "two.txt", "two.out", "two.records"], told: "" },
     Heard { words: &["receive", "two.txt", "0", "two.records", "two.out"], told: "" },
 ];

@@ -1,5 +1,5 @@
 use Rattle.std.proofs.Common.{rules, ap, length, ◌∙◌}
-use Rattle.desk_io.specs.Reading.{Reading}
+use Rattle.file_run.specs.Reading.{Reading}
 use Rattle.file_run.proofs.FeedLemmas.{finished, fed_by, ended_by, room_for}
 use Rattle.file_run.proofs.feeding.feed.Goals as goal
 

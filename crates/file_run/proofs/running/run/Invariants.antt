@@ -3,7 +3,7 @@ use Rattle.std.specs.List.{sum_by}
 use Rattle.file_run.specs.Running.{IsRunning, start_of, place_of}
 use Rattle.file_run.specs.Sink.{sink_of}
 use Rattle.file_run.specs.declared.machine.Step.TheVariants.{Give}
-use Rattle.desk_io.specs.Reading.{spare}
+use Rattle.file_run.specs.Reading.{spare}
 use Rattle.file_run.proofs.running.run.Given as goal
 
 abbrev pub invariant-loop-input : goal.invariant-loop-input

@@ -1,6 +1,6 @@
 use Rattle.std.proofs.Common.{ℕ, List}
 use Rattle.ports.specs.Desk.{State, SameCounts}
-use Rattle.desk_io.specs.Reading.{Reading}
+use Rattle.file_run.specs.Reading.{Reading}
 use Rattle.file_run.specs.Steps.{HasCome}
 use Rattle.file_run.specs.TellingOn.{Telling}
 use Rattle.file_run.proofs.telling.gather.Given as goal

@@ -1,6 +1,6 @@
 use Rattle.std.proofs.Common.{◌≢◌, ◌<◌, ℕ, List}
 use Rattle.ports.specs.Desk.{State, SameCounts}
-use Rattle.desk_io.specs.Reading.{given_of, spare, longest_file}
+use Rattle.file_run.specs.Reading.{given_of, spare, longest_file}
 use Rattle.file_run.specs.TellingOn.{Telling}
 use Rattle.file_run.specs.declared.machine.Step.TheVariants.{Give}
 use Rattle.file_run.proofs.telling.tell_on.Given as goal

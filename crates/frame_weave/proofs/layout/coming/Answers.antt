@@ -1,7 +1,7 @@
 use Rattle.std.proofs.Common.{Bool, ap, sym, ◌∙◌}
 use Rattle.std.specs.Prelude.{slice_index, if◌then◌else◌}
 use Rattle.plp_config.specs.InterleavingFrames.{is_first}
-use Rattle.frame_tests.proofs.TallyLemmas.{at_place}
+use Rattle.frame_groups.proofs.TallyLemmas.{at_place}
 use Rattle.frame_weave.proofs.layout.coming.Goals as goal
 
 pub returns-then-is_first : goal.returns-then-is_first

@@ -2,7 +2,7 @@ use Rattle.std.proofs.Common.{◌<◌, ◌++◌, List, length, sym, subst, ◌�
 use Rattle.std.specs.Prelude.{slice_index_or}
 use Rattle.linked_pool.specs.Pool.{State}
 use Rattle.open_group.specs.Shown.{AreBlocks}
-use Rattle.marked_group.specs.Holds.{no_block}
+use Rattle.frame_weave.specs.Holds.{no_block}
 use Rattle.frame_weave.proofs.PlaceLemmas.{placed_step, placed_all}
 use Rattle.frame_weave.specs.Placed.{Placed, one_placed, placed_from}
 use Rattle.frame_weave.specs.Slots.{Fills}

@@ -2,8 +2,8 @@ use Rattle.std.proofs.Common.{◌≡◌, ◌≤◌, ◌++◌, ◌^◌, ℕ, List
 use Rattle.plp_config.specs.declared.config.Config.{Config}
 use Rattle.t2mi_packet.specs.declared.packet.Packet.{Packet}
 use Rattle.open_group.specs.Shown.{AreBlocks}
-use Rattle.marked_group.specs.Holds.{AreMarks}
-use Rattle.marked_group.specs.Marked.{MarkedBlock}
+use Rattle.frame_weave.specs.Holds.{AreMarks}
+use Rattle.frame_weave.specs.Marked.{MarkedBlock}
 use Rattle.frame_weave.specs.Placed.{Placed, placed_from}
 use Rattle.frame_weave.specs.Places.{has_room}
 use Rattle.frame_weave.specs.Slots.{IsLaid, Fills}

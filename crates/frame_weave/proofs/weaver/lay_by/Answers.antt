@@ -3,8 +3,8 @@ use Rattle.std.specs.Option.{unwrap_or}
 use Rattle.std.proofs.lemmas.Bool.{false≢true}
 use Rattle.plp_config.specs.declared.config.Config.{Config}
 use Rattle.scheduler.specs.Shape.{FrameShape, blank}
-use Rattle.frame_tests.specs.Readable.{coming}
-use Rattle.frame_tests.specs.Tests.{first_shape}
+use Rattle.frame_groups.specs.Readable.{coming}
+use Rattle.frame_groups.specs.Tests.{first_shape}
 use Rattle.frame_weave.specs.Slots.{IsLaid}
 use Rattle.frame_weave.proofs.SignalLemmas.{has_shape}
 use Rattle.frame_weave.proofs.weaver.lay_by.Goals as goal

@@ -1,8 +1,8 @@
 use Rattle.std.proofs.Common.{◌≡◌, ◌++◌, Option, true, false, ap, refl, sym, subst, ◌∙◌, length, arith}
 use Rattle.std.specs.Option.{option_map_or}
 use Rattle.plp_config.specs.declared.config.Config.{Config}
-use Rattle.frame_tests.specs.Carried.{L1Parts}
-use Rattle.frame_tests.specs.Tests.{parts_agree}
+use Rattle.frame_groups.specs.Carried.{L1Parts}
+use Rattle.frame_groups.specs.Tests.{parts_agree}
 use Rattle.open_group.specs.Parts.{parts_of}
 use Rattle.frame_weave.specs.Made.{HoldsMade}
 use Rattle.frame_weave.specs.Woven.{l1_bodies}

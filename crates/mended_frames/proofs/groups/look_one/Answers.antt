@@ -1,6 +1,6 @@
 use Rattle.std.proofs.Common.{Some, sym, subst}
-use Rattle.marked_group.specs.Holds.{HoldsMarked}
-use Rattle.marked_group.specs.declared.group.MarkedGroup.{MarkedGroup}
+use Rattle.frame_weave.specs.Holds.{HoldsMarked}
+use Rattle.frame_weave.specs.declared.group.MarkedGroup.{MarkedGroup}
 use Rattle.mended_frames.proofs.groups.look_one.Goals as goal
 
 pub returns-then-is_at-clause-takes : goal.returns-then-is_at-clause-takes

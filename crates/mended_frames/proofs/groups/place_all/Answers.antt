@@ -1,7 +1,7 @@
 use Rattle.std.proofs.Common.{◌∙◌, List, sym, subst}
 use Rattle.terms.proofs.CaseLemmas.{bool_cases}
 use Rattle.frame_groups.specs.Groups.{Group}
-use Rattle.feed_picks.proofs.RowLemmas.{got}
+use Rattle.mended_frames.proofs.RowLemmas.{got}
 use Rattle.feed_events.specs.StandsFor.{head_of}
 use Rattle.frame_weave.specs.Weaves.{Weaves}
 use Rattle.frame_weave.specs.declared.weaver.Weaver.{Weaver}

@@ -2,7 +2,7 @@ use Rattle.std.proofs.Common.{◌∙◌, ◌≡◌, true, false, ap, sym}
 use Rattle.terms.proofs.OptionLemmas.{some_injective}
 use Rattle.open_group.specs.FrameBytes.{is_frame}
 use Rattle.feed_events.specs.StandsFor.{head_of}
-use Rattle.feed_picks.proofs.RowLemmas.{got}
+use Rattle.mended_frames.proofs.RowLemmas.{got}
 use Rattle.mended_frames.specs.StandsFor.{Feed, is_at, pooled_of}
 use Rattle.mended_frames.proofs.ChooseLemmas.{left_more, chosen, none_left, tells_by}
 use Rattle.mended_frames.proofs.groups.whole_feed.Goals as goal

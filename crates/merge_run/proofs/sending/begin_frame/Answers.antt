@@ -4,10 +4,10 @@ use Rattle.t2mi_packet.specs.declared.packet.Body.{Body}
 use Rattle.modulator.specs.StandsFor.{records_due}
 use Rattle.frame_writer.specs.Carried.{of_frame}
 use Rattle.frame_writer.specs.Flowing.{packet_bound}
-use Rattle.formed_frames.specs.Remade.{remade_bodies, view_bodies}
+use Rattle.stream_laws.specs.Remade.{remade_bodies, view_bodies}
 use Rattle.open_group.specs.Shown.{Shows}
-use Rattle.pool_frame.specs.Left.{bodies_of}
-use Rattle.held_feed.specs.Frames.{dynamic_of, lists_of}
+use Rattle.frame_writer.specs.Left.{bodies_of}
+use Rattle.feed_merge.specs.Frames.{dynamic_of, lists_of}
 use Rattle.feed_merge.specs.StandsFor.{MergerStandsFor, config_of, left_in, bytes_left}
 use Rattle.merge_run.specs.Sending.{frame_by, left_for}
 use Rattle.merge_run.proofs.FrameLemmas.{pushed, sent}

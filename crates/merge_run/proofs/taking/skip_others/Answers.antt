@@ -1,7 +1,7 @@
 use Rattle.std.proofs.Common.{Bool, not, sym, subst}
 use Rattle.feed_merge.specs.declared.seen.Feed.TheVariants.{A, B}
-use Rattle.two_feeds.specs.Skips.{CanBeLeft}
-use Rattle.held_feed.specs.StandsFor.{waiting_of}
+use Rattle.feed_merge.specs.Skips.{CanBeLeft}
+use Rattle.feed_merge.specs.FeedStandsFor.{waiting_of}
 use Rattle.merge_run.specs.Taking.{is_from}
 use Rattle.merge_run.proofs.TakeLemmas.{can_less}
 use Rattle.merge_run.proofs.taking.skip_others.Goals as goal

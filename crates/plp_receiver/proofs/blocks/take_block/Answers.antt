@@ -1,8 +1,8 @@
 use Rattle.std.proofs.Common.{Some, None, List, ℕ, take, drop, refl, subst}
 use Rattle.terms.specs.Bits.{bits_of}
-use Rattle.packet_slots.specs.TakenBlocks.{block_of}
+use Rattle.plp_receiver.specs.TakenBlocks.{block_of}
 use Rattle.plp_receiver.specs.Taken.{IsTaken}
-use Rattle.packet_slots.specs.Strings.{Block}
+use Rattle.plp_receiver.specs.Strings.{Block}
 use Rattle.plp_receiver.proofs.TakeLemmas.{stood, told_some, told_none}
 use Rattle.plp_receiver.proofs.blocks.take_block.Goals as goal
 

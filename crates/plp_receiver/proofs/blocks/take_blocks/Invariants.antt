@@ -1,5 +1,5 @@
 use Rattle.std.proofs.Common.{◌≡◌, ◌*◌, length, drop}
-use Rattle.packet_slots.specs.StandsFor.{slots_status}
+use Rattle.plp_receiver.specs.SlotsStandFor.{slots_status}
 use Rattle.plp_receiver.proofs.TakeLemmas.{Took}
 use Rattle.plp_receiver.proofs.blocks.take_blocks.Given as goal
 

@@ -1,6 +1,6 @@
 use Rattle.std.proofs.Common.{◌≡◌, ◌≤◌, ◌*◌, take}
 use Rattle.std.specs.Prelude.{sum}
-use Rattle.frame_tests.specs.Readable.{coming}
+use Rattle.frame_groups.specs.Readable.{coming}
 use Rattle.plp_receiver.proofs.parts.first_place.Given as goal
 
 abbrev pub invariant-loop-before : goal.invariant-loop-before

@@ -2,7 +2,7 @@ use Rattle.std.proofs.Common.{◌≡◌, ◌∙◌, ◌<◌, ℕ, List, take, dr
 use Rattle.std.specs.Prelude.{slice_index, sum}
 use Rattle.site_frame.specs.Record.{Block}
 use Rattle.plp_config.specs.Capacity.{block_bytes}
-use Rattle.frame_tests.specs.Readable.{coming}
+use Rattle.frame_groups.specs.Readable.{coming}
 use Rattle.plp_receiver.specs.Parts.{part_with}
 use Rattle.plp_receiver.specs.Taking.{HaveLength}
 use Rattle.plp_receiver.proofs.SizeLemmas.{have_length, begun_is}

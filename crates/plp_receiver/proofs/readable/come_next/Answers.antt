@@ -2,7 +2,7 @@ use Rattle.std.proofs.Common.{◌∙◌, ◌++◌, ◌-◌, List, replicate, ap,
 use Rattle.std.specs.Cmp.Lexicographic.{pointwise}
 use Rattle.site_frame.specs.Record.{Block}
 use Rattle.site_frame.specs.Reading.{block_of}
-use Rattle.frame_tests.specs.Readable.{has_size}
+use Rattle.frame_groups.specs.Readable.{has_size}
 use Rattle.plp_receiver.specs.Sizes.{size_of}
 use Rattle.plp_receiver.proofs.SizeLemmas.{came, came_other}
 use Rattle.plp_receiver.proofs.readable.come_next.Goals as goal

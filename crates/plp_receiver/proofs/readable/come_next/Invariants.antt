@@ -1,6 +1,6 @@
 use Rattle.std.proofs.Common.{◌≡◌, ◌-◌, ◌++◌, List, replicate}
 use Rattle.std.specs.Cmp.Lexicographic.{pointwise}
-use Rattle.frame_tests.specs.Readable.{BlockSize, has_size}
+use Rattle.frame_groups.specs.Readable.{BlockSize, has_size}
 use Rattle.plp_receiver.specs.Sizes.{size_of}
 use Rattle.plp_receiver.proofs.readable.come_next.Given as goal
 

@@ -1,6 +1,6 @@
 use Rattle.std.proofs.Common.{◌∙◌, ◌&&◌, ◌-◌, ◌+◌, Bool, length, ap, sym, arith}
 use Rattle.std.specs.Cmp.Lexicographic.{pointwise}
-use Rattle.frame_tests.specs.Readable.{has_size, coming}
+use Rattle.frame_groups.specs.Readable.{has_size, coming}
 use Rattle.plp_receiver.specs.Sizes.{sizes_from}
 use Rattle.plp_receiver.proofs.SizeLemmas.{comes}
 use Rattle.plp_receiver.proofs.readable.has_blocks.Goals as goal

@@ -1,6 +1,6 @@
 use Rattle.std.proofs.Common.{◌≡◌, ◌-◌, length}
 use Rattle.std.specs.Cmp.Lexicographic.{pointwise}
-use Rattle.frame_tests.specs.Readable.{has_size, block_sizes, coming}
+use Rattle.frame_groups.specs.Readable.{has_size, block_sizes, coming}
 use Rattle.plp_receiver.specs.Sizes.{sizes_from}
 use Rattle.plp_receiver.proofs.readable.has_blocks.Given as goal
 

@@ -1,8 +1,8 @@
 use Rattle.std.proofs.Common.{◌∙◌, true, ap, sym}
-use Rattle.frame_tests.specs.Tests.{read_whole, pre_agrees}
+use Rattle.frame_groups.specs.Tests.{read_whole, pre_agrees}
 use Rattle.l1_signal.specs.L1Pre.{pre_reading}
 use Rattle.plp_config.specs.declared.config.Config.{Config}
-use Rattle.frame_tests.specs.Readable.{shape_agrees}
+use Rattle.frame_groups.specs.Readable.{shape_agrees}
 use Rattle.plp_receiver.proofs.ReadableLemmas.{told_readable}
 use Rattle.plp_receiver.proofs.readable.is_readable.Goals as goal
 

@@ -2,7 +2,7 @@ use Rattle.std.proofs.Common.{◌≡◌, ℕ, ◌/◌, ◌<◌, List, length, ta
 use Rattle.std.proofs.lemmas.Bool.{both_ways}
 use Rattle.terms.specs.Bits.{bits_of}
 use Rattle.bb_frame.specs.BasebandFrame.{Spells}
-use Rattle.packet_slots.specs.TakenBlocks.{IsPlace}
+use Rattle.plp_receiver.specs.TakenBlocks.{IsPlace}
 use Rattle.plp_receiver.specs.Taken.{IsOfStream, IsTaken}
 use Rattle.plp_receiver.proofs.TakingLemmas as T
 use Rattle.plp_receiver.proofs.taking.taken_block.Goals as goal

@@ -5,7 +5,7 @@ use Rattle.scheduler.specs.Shape.{FrameShape}
 use Rattle.l1_signal.specs.L1Dynamic.{dyn_read}
 use Rattle.l1_signal.specs.L1Of.{told_shape}
 use Rattle.l1_signal.specs.declared.dynamic.L1Dyn.{L1Dyn}
-use Rattle.frame_tests.specs.Tests.{read_whole}
+use Rattle.frame_groups.specs.Tests.{read_whole}
 use Rattle.region_swap.specs.Telling.{told_by}
 use Rattle.region_swap.proofs.TellLemmas.{reads}
 use Rattle.region_swap.proofs.dynamic.read_counts.Goals as goal

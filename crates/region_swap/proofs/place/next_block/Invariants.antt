@@ -1,6 +1,6 @@
 use Rattle.std.proofs.Common.{◌≡◌, ℕ}
 use Rattle.plp_config.specs.declared.config.Config.{Config}
-use Rattle.pool_frame.specs.Left.{blocks_left}
+use Rattle.frame_writer.specs.Left.{blocks_left}
 use Rattle.region_swap.specs.Left.{lists_in}
 use Rattle.region_swap.proofs.place.next_block.Given as goal
 

@@ -1,7 +1,7 @@
 use Rattle.std.proofs.Common.{inl, inr, length, refl, ap, arith}
 use Rattle.plp_config.specs.Rules.{PlpCount}
 use Rattle.plp_config.specs.declared.config.Config.{Config}
-use Rattle.config_file.specs.declared.stop.ConfigStop.TheVariants as stop
+use Rattle.file_run.specs.declared.config_stop.ConfigStop.TheVariants as stop
 use Rattle.site_top.proofs.config_commands.show_config.Goals as goal
 
 pub write-requires : goal.write-requires

@@ -1,6 +1,6 @@
 use Rattle.std.proofs.Common.{inr}
 use Rattle.file_run.specs.Work.{Ends as RunEnds, Into}
-use Rattle.two_feeds.specs.Fed.{names_of}
+use Rattle.feed_merge.specs.Fed.{names_of}
 use Rattle.merge_run.specs.MergeRun.{merge_work}
 use Rattle.site_top.specs.MergeCommand.{Ends, StopsSo, merge_line}
 use Rattle.site_top.specs.Outcomes.{merge_cause}

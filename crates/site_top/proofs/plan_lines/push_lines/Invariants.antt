@@ -1,5 +1,5 @@
 use Rattle.std.proofs.Common.{◌+◌, ◌*◌, ◌≤◌, length}
-use Rattle.desk_io.specs.declared.line.TheConstants.{ROOM}
+use Rattle.file_run.specs.declared.line.TheConstants.{ROOM}
 use Rattle.site_top.specs.PlanLines.{PlanLines}
 use Rattle.site_top.proofs.plan_lines.push_lines.Given as goal
 

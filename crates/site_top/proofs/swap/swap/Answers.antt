@@ -1,6 +1,6 @@
 use Rattle.std.proofs.Common.{inr}
 use Rattle.file_run.specs.Work.{Ends as RunEnds, Into}
-use Rattle.two_feeds.specs.Fed.{names_of}
+use Rattle.feed_merge.specs.Fed.{names_of}
 use Rattle.swap_run.specs.SwapRun.{swap_work}
 use Rattle.site_top.specs.Outcomes.{swap_cause}
 use Rattle.site_top.specs.SwapCommand.{Ends, StopsSo, swap_line}

@@ -2,7 +2,7 @@ use Rattle.std.proofs.Common.{ℕ, subst}
 use Rattle.plp_config.specs.declared.config.Config.{Config}
 use Rattle.file_run.specs.Work.{Ends, Into}
 use Rattle.file_run.proofs.WorkLemmas.{ends_so}
-use Rattle.two_feeds.specs.Fed.{names_of}
+use Rattle.feed_merge.specs.Fed.{names_of}
 use Rattle.swap_run.specs.SwapRun.{swap_work}
 use Rattle.swap_run.proofs.WorkLemmas.{Laws, swap_does, plp_of}
 use Rattle.swap_run.proofs.running.run.Goals as goal

@@ -2,9 +2,9 @@ use Rattle.std.proofs.Common.{◌≡◌, length, Option, refl, ap, sym, subst, �
 use Rattle.plp_config.specs.declared.config.Config.{Config}
 use Rattle.frame_groups.specs.declared.waiting.Waiting.{Waiting}
 use Rattle.feed_merge.specs.Picking.{is_at}
-use Rattle.two_feeds.specs.Seen.{seen_of}
-use Rattle.two_feeds.proofs.CameLemmas.{less_of, most_of, number_of}
-use Rattle.frame_compare.specs.StandsFor.{plps_in}
+use Rattle.feed_merge.specs.Seen.{seen_of}
+use Rattle.feed_merge.proofs.BothCameLemmas.{less_of, most_of, number_of}
+use Rattle.compare_run.specs.TallyStandsFor.{plps_in}
 use Rattle.compare_run.specs.Shown.{HasShown}
 use Rattle.compare_run.specs.declared.machine.CompareMachine.{CompareMachine}
 use Rattle.compare_run.proofs.BeginLemmas.{shown_compared, left_compared, few_said, next_least, Notes_at, Answers_at}

@@ -1,5 +1,5 @@
 use Rattle.std.proofs.Common.{sym, ◌∙◌}
-use Rattle.two_feeds.proofs.StepLemmas.{goes_on}
+use Rattle.feed_merge.proofs.StepLemmas.{goes_on}
 use Rattle.compare_run.proofs.StepLemmas.{gives}
 use Rattle.compare_run.proofs.machine.CompareMachine.go_on.Goals as goal
 

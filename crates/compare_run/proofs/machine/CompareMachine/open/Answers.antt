@@ -1,8 +1,8 @@
 use Rattle.std.proofs.Common.{[], ◌∙◌, refl, ap, sym, subst, arith, length}
-use Rattle.frame_compare.specs.StandsFor.{TallyStandsFor}
-use Rattle.frame_compare.proofs.GrowLemmas.{answers_nothing}
-use Rattle.frame_compare.proofs.LineLemmas.{nothing_known}
-use Rattle.frame_compare.specs.Lines.{known_text}
+use Rattle.compare_run.specs.TallyStandsFor.{TallyStandsFor}
+use Rattle.compare_run.proofs.GrowLemmas.{answers_nothing}
+use Rattle.compare_run.proofs.LineLemmas.{nothing_known}
+use Rattle.compare_run.specs.Lines.{known_text}
 use Rattle.compare_run.proofs.machine.CompareMachine.open.Goals as goal
 
 pub returns-clause-becomes : goal.returns-clause-becomes

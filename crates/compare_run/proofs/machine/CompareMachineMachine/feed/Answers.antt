@@ -1,6 +1,6 @@
 use Rattle.std.proofs.Common.{false, length}
 use Rattle.file_run.specs.Steps.{Suffices}
-use Rattle.two_feeds.proofs.WantLemmas.{room_of}
+use Rattle.feed_merge.proofs.WantLemmas.{room_of}
 use Rattle.compare_run.proofs.ShownLemmas.{shown_read}
 use Rattle.compare_run.proofs.StepLemmas.{asked}
 use Rattle.compare_run.proofs.machine.CompareMachineMachine.feed.Goals as goal

@@ -1,6 +1,6 @@
 use Rattle.std.proofs.Common.{false, sym, subst}
 use Rattle.file_run.specs.Steps.{IsWanted}
-use Rattle.two_feeds.proofs.WantLemmas.{wanted_by}
+use Rattle.feed_merge.proofs.WantLemmas.{wanted_by}
 use Rattle.compare_run.specs.Steps.{reach_of}
 use Rattle.compare_run.proofs.machine.CompareMachineMachine.step.Goals as goal
 

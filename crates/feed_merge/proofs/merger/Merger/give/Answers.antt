@@ -1,6 +1,6 @@
 use Rattle.std.proofs.Common.{◌+◌, ◌∙◌, ℕ, length, refl, sym, subst}
 use Rattle.frame_writer.specs.Flowing.{Flows}
-use Rattle.pool_frame.specs.Left.{left_of}
+use Rattle.frame_writer.specs.Left.{left_of}
 use Rattle.feed_merge.specs.StandsFor.{MergerStandsFor}
 use Rattle.feed_merge.proofs.merger.Merger.give.Goals as goal
 

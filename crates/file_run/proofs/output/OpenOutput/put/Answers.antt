@@ -1,5 +1,5 @@
 use Rattle.std.proofs.lemmas.Result.{on_ok_weaker}
-use Rattle.desk_io.proofs.SayLemmas.{says_page}
+use Rattle.file_run.proofs.SayLemmas.{says_page}
 use Rattle.file_run.proofs.output.OpenOutput.put.Goals as goal
 
 pub returns-in-Standard-clause-ok : goal.returns-in-Standard-clause-ok

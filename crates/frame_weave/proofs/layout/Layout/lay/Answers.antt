@@ -1,7 +1,7 @@
 use Rattle.std.proofs.Common.{◌≤◌, ◌+◌, ap, ◌∙◌, arith, length}
 use Rattle.std.proofs.lemmas.List.{length-set}
 use Rattle.plp_config.specs.declared.config.Config.{Config}
-use Rattle.frame_tests.specs.Readable.{coming}
+use Rattle.frame_groups.specs.Readable.{coming}
 use Rattle.frame_weave.proofs.SumLemmas.{start_more}
 use Rattle.frame_weave.proofs.LayoutLemmas.{starts_more, need_more, need_small}
 use Rattle.frame_weave.proofs.layout.Layout.lay.Goals as goal

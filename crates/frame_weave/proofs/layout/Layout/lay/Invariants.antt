@@ -1,7 +1,7 @@
 use Rattle.std.proofs.Common.{◌≡◌, ◌≤◌, ◌*◌, ◌+◌, ℕ, length, sum_by}
 use Rattle.std.specs.Prelude.{slice_index}
 use Rattle.std.specs.List.{range_with_len}
-use Rattle.frame_tests.specs.Readable.{coming}
+use Rattle.frame_groups.specs.Readable.{coming}
 use Rattle.frame_weave.specs.Places.{start_of, plp_need}
 use Rattle.frame_weave.proofs.layout.Layout.lay.Given as goal
 

@@ -7,8 +7,8 @@ use Rattle.open_group.specs.Holds.{Holds}
 use Rattle.open_group.specs.Shown.{AreBlocks}
 use Rattle.open_group.specs.Signals.{fits_pool}
 use Rattle.open_group.specs.declared.group.PooledGroup.{PooledGroup}
-use Rattle.marked_group.specs.Holds.{AreMarks}
-use Rattle.marked_group.specs.Marked.{marked_blocks}
+use Rattle.frame_weave.specs.Holds.{AreMarks}
+use Rattle.frame_weave.specs.Marked.{marked_blocks}
 use Rattle.frame_weave.specs.Placed.{placed_from}
 use Rattle.frame_weave.specs.Slots.{HoldsPlaced, Fills}
 use Rattle.frame_weave.specs.Weaves.{state_of}

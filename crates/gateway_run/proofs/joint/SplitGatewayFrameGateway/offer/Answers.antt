@@ -2,7 +2,7 @@ use Rattle.std.proofs.Common.{◌+◌, ℕ, ap, subst, ◌∙◌, ◌++◌, ◌�
 use Rattle.plp_config.specs.declared.config.Config.{Config}
 use Rattle.common_plp.specs.Inputs.{commons}
 use Rattle.gateway_core.specs.Events.{Offered}
-use Rattle.split_gateway.specs.StandsFor.{SplitGatewayStandsFor}
+use Rattle.gateway_core.specs.SplitStandsFor.{SplitGatewayStandsFor}
 use Rattle.gateway_run.proofs.joint.SplitGatewayFrameGateway.offer.Goals as goal
 
 pub returns-clause-stands : goal.returns-clause-stands

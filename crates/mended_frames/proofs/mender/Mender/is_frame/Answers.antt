@@ -2,7 +2,7 @@ use Rattle.std.proofs.Common.{◌∙◌, Option, Some, [], ap, sym, subst}
 use Rattle.std.specs.Prelude.{is_some}
 use Rattle.plp_config.specs.declared.config.Config.{Config}
 use Rattle.frame_groups.specs.declared.cause.MuteCause.{MuteCause}
-use Rattle.frame_tests.specs.Tests.{group_fault}
+use Rattle.frame_groups.specs.Tests.{group_fault}
 use Rattle.open_group.specs.Holds.{Holds}
 use Rattle.open_group.specs.HoldsPast.{HoldsPast}
 use Rattle.open_group.specs.declared.group.PooledGroup.{PooledGroup}

@@ -5,7 +5,7 @@ use Rattle.plp_config.specs.declared.config.Config.{Config}
 use Rattle.frame_weave.specs.declared.weaver.Weaver.{Weaver}
 use Rattle.open_group.specs.FrameBytes.{is_frame}
 use Rattle.open_group.specs.Holds.{Holds}
-use Rattle.feed_picks.proofs.RowLemmas.{got}
+use Rattle.mended_frames.proofs.RowLemmas.{got}
 use Rattle.mended_frames.specs.Mended.{made_of, woven_of}
 use Rattle.mended_frames.specs.StandsFor.{Feed, pooled_of, picked_as}
 use Rattle.mended_frames.proofs.MakeLemmas.{made_own, made_woven, with_some}

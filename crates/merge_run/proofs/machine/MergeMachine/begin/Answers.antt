@@ -1,12 +1,12 @@
 use Rattle.std.proofs.Common.{◌≡◌, true, refl, ap, sym, subst, ◌∙◌, arith}
 use Rattle.std.proofs.Math.Logic.{∥∥₁_map}
-use Rattle.held_feed.specs.StandsFor.{waiting_of, is_whole}
-use Rattle.held_feed.specs.StandsFor as feed
-use Rattle.held_feed.specs.declared.feed.FrameFeed.{FrameFeed}
+use Rattle.feed_merge.specs.FeedStandsFor.{waiting_of, is_whole}
+use Rattle.feed_merge.specs.FeedStandsFor as feed
+use Rattle.feed_merge.specs.declared.feed.FrameFeed.{FrameFeed}
 use Rattle.merge_run.specs.Sending.{Begins}
 use Rattle.merge_run.specs.Shown.{HasShown}
 use Rattle.merge_run.proofs.BeginLemmas.{fewer_left, passed, begun, begun_left, left_passed, reading_of, waits_now, network_in}
-use Rattle.two_feeds.proofs.CameLemmas.{test_of, less_of, number_of}
+use Rattle.feed_merge.proofs.BothCameLemmas.{test_of, less_of, number_of}
 use Rattle.merge_run.proofs.PickLemmas.{picked_at}
 use Rattle.merge_run.proofs.TakeLemmas.{none_picked_is}
 use Rattle.merge_run.proofs.machine.MergeMachine.begin.Goals as goal

@@ -1,8 +1,8 @@
 use Rattle.std.proofs.Common.{◌+◌, arith}
-use Rattle.held_feed.specs.StandsFor as feed
+use Rattle.feed_merge.specs.FeedStandsFor as feed
 use Rattle.merge_run.specs.Shown.{HasShown, feed_of}
 use Rattle.merge_run.proofs.BeginLemmas.{shown_finished, left_finished, idle_left, reading_of}
-use Rattle.two_feeds.proofs.CameLemmas.{test_of, less_of}
+use Rattle.feed_merge.proofs.BothCameLemmas.{test_of, less_of}
 use Rattle.merge_run.proofs.machine.MergeMachine.finish.Goals as goal
 
 pub returns-clause-shown : goal.returns-clause-shown

@@ -4,7 +4,7 @@ use Rattle.ts_packet.specs.declared.sizes.TheConstants.{SIZE}
 use Rattle.file_run.specs.Events.{Gave}
 use Rattle.merge_run.specs.Shown.{Shown, HasShown}
 use Rattle.merge_run.specs.declared.stop.Ran.{Ran}
-use Rattle.two_feeds.proofs.CameLemmas.{less_of, test_of}
+use Rattle.feed_merge.proofs.BothCameLemmas.{less_of, test_of}
 use Rattle.merge_run.proofs.GiveLemmas.{resting, few_units, shown_rest, left_rest, shown_done, left_done}
 use Rattle.merge_run.proofs.machine.MergeMachine.give_rest.Goals as goal
 

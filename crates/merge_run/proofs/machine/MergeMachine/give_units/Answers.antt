@@ -1,16 +1,16 @@
 use Rattle.std.proofs.Common.{◌≡◌, ℕ, ◌+◌, [], ◌∷◌, ◌++◌, true, take, ap, sym, subst, ◌∙◌, arith}
 use Rattle.std.proofs.Math.Logic.{∥∥₁_map}
 use Rattle.file_run.specs.Events.{Gave}
-use Rattle.held_feed.specs.Frames.{IsFrameOf}
-use Rattle.held_feed.specs.StandsFor.{waiting_of, is_whole}
-use Rattle.held_feed.specs.StandsFor as feed
-use Rattle.held_feed.specs.declared.feed.FrameFeed.{FrameFeed}
+use Rattle.feed_merge.specs.Frames.{IsFrameOf}
+use Rattle.feed_merge.specs.FeedStandsFor.{waiting_of, is_whole}
+use Rattle.feed_merge.specs.FeedStandsFor as feed
+use Rattle.feed_merge.specs.declared.feed.FrameFeed.{FrameFeed}
 use Rattle.merge_run.specs.Shown.{Shown, HasShown}
 use Rattle.merge_run.specs.Taking.{is_same, feed_in}
 use Rattle.merge_run.specs.declared.phase.Phase.TheVariants.{Reads}
 use Rattle.merge_run.specs.declared.stop.Ran.{Ran}
 use Rattle.feed_merge.specs.declared.seen.Feed.TheVariants.{A, B}
-use Rattle.two_feeds.proofs.CameLemmas.{test_of, less_of}
+use Rattle.feed_merge.proofs.BothCameLemmas.{test_of, less_of}
 use Rattle.merge_run.proofs.GiveLemmas.{giving, same_network, left_behind, whole_first, whole_second, early_first, early_second}
 use Rattle.merge_run.proofs.GiveLemmas.{few_more, shown_units, left_full, shown_behind, counted_units}
 use Rattle.merge_run.proofs.TakeLemmas.{can_whole}

@@ -1,7 +1,7 @@
 use Rattle.std.proofs.Common.{length}
 use Rattle.file_run.specs.Steps.{Suffices}
 use Rattle.feed_merge.specs.declared.seen.Feed.TheVariants.{A, B}
-use Rattle.two_feeds.proofs.WantLemmas.{room_of}
+use Rattle.feed_merge.proofs.WantLemmas.{room_of}
 use Rattle.merge_run.specs.Shown.{is_held}
 use Rattle.merge_run.proofs.ShownLemmas.{shown_read, reading}
 use Rattle.merge_run.proofs.StepLemmas.{asked}

@@ -1,6 +1,6 @@
 use Rattle.std.proofs.Common.{sym, subst}
 use Rattle.file_run.specs.Steps.{IsWanted}
-use Rattle.two_feeds.proofs.WantLemmas.{wanted_by}
+use Rattle.feed_merge.proofs.WantLemmas.{wanted_by}
 use Rattle.feed_merge.specs.declared.seen.Feed.TheVariants.{A, B}
 use Rattle.merge_run.specs.Shown.{is_held}
 use Rattle.merge_run.specs.Steps.{reach_of}

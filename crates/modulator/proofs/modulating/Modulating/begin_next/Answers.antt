@@ -2,7 +2,7 @@ use Rattle.std.proofs.Common.{◌≡◌, ◌∙◌, None, ap, sym, subst}
 use Rattle.terms.proofs.OptionLemmas.{some_injective}
 use Rattle.frame_groups.specs.Records.{record_of}
 use Rattle.frame_groups.specs.declared.waiting.Waiting.{Waiting}
-use Rattle.frame_tests.specs.Tests.{group_fault}
+use Rattle.frame_groups.specs.Tests.{group_fault}
 use Rattle.open_group.specs.FrameBytes.{Status}
 use Rattle.open_group.specs.Written.{spelled}
 use Rattle.modulator.specs.Modulating.{course_of}

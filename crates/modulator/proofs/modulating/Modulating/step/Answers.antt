@@ -2,7 +2,7 @@ use Rattle.std.proofs.Common.{true, false, ap, refl, subst, ◌≡◌, arith}
 use Rattle.t2mi_packet.specs.declared.packet.Packet.{Packet}
 use Rattle.frame_groups.specs.Groups.{is_counted}
 use Rattle.frame_groups.specs.Modulated.{Rules}
-use Rattle.frame_tests.specs.Tests.{rules}
+use Rattle.frame_groups.specs.Tests.{rules}
 use Rattle.modulator.specs.Modulating.{packet_of, near_number}
 use Rattle.modulator.proofs.StandsLemmas.{WorksOff, stepped, held}
 use Rattle.modulator.proofs.LeftLemmas.{ahead_by_step, ahead_by_group}

@@ -1,6 +1,6 @@
 use Rattle.std.proofs.Common.{ap}
-use Rattle.frame_tests.specs.Carried.{body_block}
-use Rattle.frame_tests.specs.Tests.{body_known}
+use Rattle.frame_groups.specs.Carried.{body_block}
+use Rattle.frame_groups.specs.Tests.{body_known}
 use Rattle.open_group.proofs.BlockLemmas.{others_counted, others_listed}
 use Rattle.open_group.proofs.blocks.HeldBlocks.add.Goals as goal
 

@@ -7,14 +7,14 @@ use Rattle.plp_config.specs.Places.{places}
 use Rattle.plp_config.specs.declared.config.Config.{Config}
 use Rattle.plp_config.specs.declared.moment.Moment.{Moment}
 use Rattle.record_laws.specs.Laws.{rest_size}
-use Rattle.frame_tests.specs.Tally.{tally}
-use Rattle.frame_tests.specs.Tests.{has_map}
-use Rattle.record_writer.specs.Front.{front_bytes}
-use Rattle.record_writer.specs.Laws.{post_size}
-use Rattle.record_writer.specs.RecordBytes.{own_count}
-use Rattle.record_writer.specs.Steps.{step_bytes}
-use Rattle.record_writer.specs.Writes.{bytes_left, most_record}
-use Rattle.record_writer.specs.declared.step.Step.TheVariants.{Blocks}
+use Rattle.frame_groups.specs.Tally.{tally}
+use Rattle.frame_groups.specs.Tests.{has_map}
+use Rattle.open_group.specs.Front.{front_bytes}
+use Rattle.open_group.specs.WriterLaws.{post_size}
+use Rattle.open_group.specs.RecordBytes.{own_count}
+use Rattle.open_group.specs.Steps.{step_bytes}
+use Rattle.open_group.specs.Writes.{bytes_left, most_record}
+use Rattle.open_group.specs.declared.step.Step.TheVariants.{Blocks}
 use Rattle.open_group.specs.HoldsL1.{shape_told}
 use Rattle.open_group.specs.Parts.{parts_of}
 use Rattle.open_group.proofs.GivenLemmas.{given_frame}

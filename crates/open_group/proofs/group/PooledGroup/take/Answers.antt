@@ -1,6 +1,6 @@
 use Rattle.std.proofs.Common.{◌≡◌, ◌∙◌, [], Bool, true, length, refl, ap, subst, inl, inr, ⊎_elim, arith}
 use Rattle.std.proofs.lemmas.Bool.{true_from_ne_false}
-use Rattle.record_writer.specs.Writes.{is_done}
+use Rattle.open_group.specs.Writes.{is_done}
 use Rattle.open_group.specs.Giving.{CanGive}
 use Rattle.open_group.specs.FrameBytes.{bytes_left}
 use Rattle.open_group.proofs.GiveLemmas.{holds_still}

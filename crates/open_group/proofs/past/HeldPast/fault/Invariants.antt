@@ -1,7 +1,7 @@
 use Rattle.std.proofs.Common.{◌≡◌, ◌+◌, ◌*◌, ◌/◌, ◌<◌, ℕ, List, None}
 use Rattle.frame_groups.specs.Modulated.{Numbered}
 use Rattle.frame_groups.specs.Sequenced.{IsAbove}
-use Rattle.frame_tests.specs.Tests.{begun_test}
+use Rattle.frame_groups.specs.Tests.{begun_test}
 use Rattle.open_group.specs.HoldsPast.{HoldsPast}
 use Rattle.open_group.proofs.past.HeldPast.fault.Given as goal
 

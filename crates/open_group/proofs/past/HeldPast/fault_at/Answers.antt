@@ -1,8 +1,8 @@
 use Rattle.std.proofs.Common.{◌≡◌, ℕ, ◌+◌, ◌*◌, ◌/◌, ◌<◌, ◌^◌, true, false, Some, ap, sym, subst, ◌∙◌, arith}
 use Rattle.plp_config.specs.declared.config.Config.{Config}
 use Rattle.frame_groups.specs.declared.cause.MuteCause.TheVariants.{PoolFull}
-use Rattle.frame_tests.specs.Begun.{is_begin}
-use Rattle.frame_tests.specs.Tests.{pool_chunks}
+use Rattle.frame_groups.specs.Begun.{is_begin}
+use Rattle.frame_groups.specs.Tests.{pool_chunks}
 use Rattle.open_group.proofs.PastLemmas.{needed_at, not_begun, has_room_there, lacks_room_there}
 use Rattle.open_group.proofs.past.HeldPast.fault_at.Goals as goal
 

@@ -1,7 +1,7 @@
 use Rattle.std.proofs.Common.{◌≡◌, ◌<◌, ℕ, length, true, ap, sym, subst, ◌∙◌, ⊎_elim, arith}
 use Rattle.std.specs.Prelude.{slice_index}
 use Rattle.std.proofs.lemmas.Bool.{cases_eq}
-use Rattle.frame_tests.specs.Tests.{has_count}
+use Rattle.frame_groups.specs.Tests.{has_count}
 use Rattle.open_group.proofs.CountLemmas.{all_places, not_all_places}
 use Rattle.open_group.proofs.past.HeldPast.has_counts.Goals as goal
 

@@ -2,8 +2,8 @@ use Rattle.std.proofs.Common.{◌≡◌, ◌<◌, ℕ, List, true}
 use Rattle.std.specs.Prelude.{slice_index}
 use Rattle.frame_groups.specs.Modulated.{Numbered}
 use Rattle.frame_groups.specs.Sequenced.{IsAbove}
-use Rattle.frame_tests.specs.Tally.{Tally}
-use Rattle.frame_tests.specs.Tests.{has_count}
+use Rattle.frame_groups.specs.Tally.{Tally}
+use Rattle.frame_groups.specs.Tests.{has_count}
 use Rattle.open_group.specs.HoldsBlocks.{HoldsCounts}
 use Rattle.open_group.specs.HoldsPast.{HoldsPast}
 use Rattle.open_group.proofs.past.HeldPast.has_counts.Given as goal

@@ -1,5 +1,5 @@
 use Rattle.std.proofs.Common.{length}
-use Rattle.packet_slots.specs.Epochs.{readback}
+use Rattle.plp_receiver.specs.SlotEpochs.{readback}
 use Rattle.plp_receiver.specs.Epochs.{slot_rule}
 use Rattle.plp_receiver.specs.StandsFor.{ReceiverStandsFor, IsFresh}
 use Rattle.plp_receiver.proofs.StandsLemmas.{due_is, given_back}

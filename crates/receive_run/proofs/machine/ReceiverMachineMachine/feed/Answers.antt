@@ -1,8 +1,8 @@
 use Rattle.std.proofs.Common.{◌≡◌, ◌∙◌, refl, sym, arith, take}
 use Rattle.std.proofs.lemmas.Bool.{true≢false}
-use Rattle.record_feed.specs.StandsFor.{coming_of, left_of}
-use Rattle.record_feed.specs.declared.coming.Coming.TheVariants.{Whole}
-use Rattle.joined_receiver.specs.StandsFor.{due_of}
+use Rattle.site_frame.specs.FeedStandsFor.{coming_of, left_of}
+use Rattle.site_frame.specs.declared.coming.Coming.TheVariants.{Whole}
+use Rattle.plp_receiver.specs.JointStandsFor.{due_of}
 use Rattle.receive_run.proofs.FedLemmas.{fed_some, fed_whole}
 use Rattle.receive_run.proofs.StepLemmas.{known_of}
 use Rattle.receive_run.proofs.WantedLemmas.{enough, fits, is_ready, near_left, all_left}

@@ -1,8 +1,8 @@
 use Rattle.std.proofs.Common.{refl, arith}
 use Rattle.std.proofs.lemmas.List.{take_at}
 use Rattle.ts_packet.specs.declared.sizes.TheConstants.{SIZE}
-use Rattle.joined_receiver.specs.StandsFor.{network_of, plp_of, joins_of, due_of}
-use Rattle.record_feed.specs.StandsFor.{came_of, left_of, lacks_of}
+use Rattle.plp_receiver.specs.JointStandsFor.{network_of, plp_of, joins_of, due_of}
+use Rattle.site_frame.specs.FeedStandsFor.{came_of, left_of, lacks_of}
 use Rattle.receive_run.proofs.FewLemmas.{few_joined}
 use Rattle.receive_run.proofs.StepLemmas.{known_plan, known_inside}
 use Rattle.receive_run.proofs.GivenLemmas.{gave_event}

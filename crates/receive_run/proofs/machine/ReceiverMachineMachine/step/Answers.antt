@@ -1,6 +1,6 @@
 use Rattle.std.proofs.Common.{◌≡◌, ◌<◌, rules, arith}
 use Rattle.receive_run.proofs.WantedLemmas.{can_be_read}
-use Rattle.joined_receiver.specs.StandsFor.{due_of}
+use Rattle.plp_receiver.specs.JointStandsFor.{due_of}
 use Rattle.receive_run.proofs.machine.ReceiverMachineMachine.step.Goals as goal
 
 pub returns-clause-wanted : goal.returns-clause-wanted

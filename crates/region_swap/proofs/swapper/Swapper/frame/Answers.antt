@@ -5,7 +5,7 @@ use Rattle.std.specs.Prelude.{slice_set}
 use mathlib.Core.Bool.{Bool-set}
 use Rattle.plp_config.specs.declared.config.Config.{Config}
 use Rattle.frame_writer.specs.Flowing.{bytes_bound, packet_bound}
-use Rattle.formed_frames.specs.Remade.{NumberedView, view_bodies}
+use Rattle.stream_laws.specs.Remade.{NumberedView, view_bodies}
 use Rattle.region_swap.specs.Held.{IsHeld, HasRecord}
 use Rattle.region_swap.specs.Left.{left_by, own_list}
 use Rattle.region_swap.specs.StandsFor.{SwapperStandsFor}

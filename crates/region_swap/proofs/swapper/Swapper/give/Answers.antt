@@ -6,7 +6,7 @@ use Rattle.t2mi_stream.specs.Complete.{complete_units}
 use Rattle.t2mi_stream.specs.Pipe.{pipe}
 use Rattle.frame_groups.specs.Laws.{IsPrefix}
 use Rattle.frame_writer.specs.Flowing.{Flows}
-use Rattle.formed_frames.specs.Remade.{remade_bodies, remade_packets}
+use Rattle.stream_laws.specs.Remade.{remade_bodies, remade_packets}
 use Rattle.region_swap.specs.Left.{left_by, own_list}
 use Rattle.region_swap.specs.StandsFor.{SwapperStandsFor, left_in}
 use Rattle.region_swap.specs.Swapped.{swapped}

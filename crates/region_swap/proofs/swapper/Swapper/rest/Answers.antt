@@ -2,7 +2,7 @@ use Rattle.std.proofs.Common.{◌≡◌, ◌∙◌, [], List, ℕ, Some, length,
 use Rattle.std.specs.Prelude.{slice_get}
 use Rattle.plp_config.specs.declared.config.Config.{Config}
 use Rattle.t2mi_stream.specs.Pipe.{pipe}
-use Rattle.formed_frames.specs.Remade.{remade_bodies, remade_packets}
+use Rattle.stream_laws.specs.Remade.{remade_bodies, remade_packets}
 use Rattle.region_swap.specs.Left.{number_of}
 use Rattle.region_swap.specs.StandsFor.{SwapperStandsFor}
 use Rattle.region_swap.specs.Swapped.{swapped}

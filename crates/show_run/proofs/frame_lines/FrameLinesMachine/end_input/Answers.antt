@@ -1,7 +1,7 @@
 use Rattle.std.proofs.Common.{◌≡◌, rules, refl, ap, ◌∙◌}
 use Rattle.show_run.specs.SaidLines.{records_line}
-use Rattle.record_feed.specs.StandsFor.{coming_of}
-use Rattle.record_feed.specs.declared.coming.Coming.TheVariants.{Finished}
+use Rattle.site_frame.specs.FeedStandsFor.{coming_of}
+use Rattle.site_frame.specs.declared.coming.Coming.TheVariants.{Finished}
 use Rattle.show_run.proofs.FrameLinesLemmas.{ended}
 use Rattle.show_run.proofs.frame_lines.FrameLinesMachine.end_input.Goals as goal
 

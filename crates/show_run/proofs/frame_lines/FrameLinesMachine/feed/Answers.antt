@@ -1,6 +1,6 @@
 use Rattle.std.proofs.Common.{◌≡◌, rules, refl, take}
-use Rattle.record_feed.specs.StandsFor.{coming_of}
-use Rattle.record_feed.specs.declared.coming.Coming.TheVariants.{Whole}
+use Rattle.site_frame.specs.FeedStandsFor.{coming_of}
+use Rattle.site_frame.specs.declared.coming.Coming.TheVariants.{Whole}
 use Rattle.show_run.proofs.FrameLinesLemmas.{fed_some, fed_whole}
 use Rattle.show_run.proofs.frame_lines.FrameLinesMachine.feed.Goals as goal
 

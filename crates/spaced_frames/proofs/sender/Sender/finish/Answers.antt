@@ -1,4 +1,6 @@
-use Rattle.std.proofs.Common.{[], refl}
+use Rattle.std.proofs.Common.{[], refl, arith}
+use Rattle.std.proofs.lemmas.List.{length-drop}
+use Rattle.terms.specs.Bits.{bytes_of}
 use Rattle.spaced_frames.proofs.SendLemmas.{finished_stands}
 use Rattle.spaced_frames.proofs.sender.Sender.finish.Goals as goal
 
@@ -9,4 +11,9 @@ returns-clause-stands c = λ x frames gave h.
     c.requires.«open» c.finish.ensures.finished c.finish.ensures.flows h
 
 pub returns-clause-left : goal.returns-clause-left
-returns-clause-left c = c.finish.ensures.same []
+returns-clause-left c =
+    let same = c.finish.ensures.same [] in
+    let outlet = c.args.self.now.flow.outlet in
+    let waits = outlet.few in
+    let room = outlet.room in
+    omega (arith, same, waits, room, length-drop outlet.at (bytes_of outlet.packet))

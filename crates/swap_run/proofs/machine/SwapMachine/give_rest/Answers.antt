@@ -2,7 +2,7 @@ use Rattle.std.proofs.Common.{ℕ, ◌+◌, List, [], ◌∷◌, ◌++◌, ap, s
 use Rattle.std.proofs.lemmas.List.{take_all}
 use Rattle.ts_packet.specs.declared.sizes.TheConstants.{SIZE}
 use Rattle.file_run.specs.Events.{Gave, gave}
-use Rattle.two_feeds.proofs.CameLemmas.{less_of}
+use Rattle.feed_merge.proofs.BothCameLemmas.{less_of}
 use Rattle.region_swap.specs.StandsFor.{Status}
 use Rattle.swap_run.specs.Shown.{Shown, HasShown}
 use Rattle.swap_run.specs.Steps.{wanted_in}

@@ -1,6 +1,6 @@
 use Rattle.std.proofs.Common.{ℕ, ◌+◌, [], ◌∷◌, ◌++◌, take, refl, ap, sym, subst, ◌∙◌, arith}
 use Rattle.file_run.specs.Events.{Gave, fed, has_ended}
-use Rattle.two_feeds.proofs.CameLemmas.{less_of}
+use Rattle.feed_merge.proofs.BothCameLemmas.{less_of}
 use Rattle.region_swap.specs.StandsFor.{Status}
 use Rattle.swap_run.specs.Shown.{Shown, HasShown}
 use Rattle.swap_run.specs.declared.phase.Phase.TheVariants as phase

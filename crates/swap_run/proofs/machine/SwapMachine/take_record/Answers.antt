@@ -2,7 +2,7 @@ use Rattle.std.proofs.Common.{◌+◌, true, refl, ap, sym, subst, ◌∙◌, ar
 use Rattle.std.specs.Prelude.{IsSome}
 use Rattle.std.proofs.Math.Logic.{∥∥₁_map}
 use Rattle.file_run.specs.Events.{fed, has_ended}
-use Rattle.two_feeds.proofs.CameLemmas.{most_of}
+use Rattle.feed_merge.proofs.BothCameLemmas.{most_of}
 use Rattle.region_swap.specs.StandsFor.{Status}
 use Rattle.swap_run.specs.Shown.{HasShown, more_units, frame_bytes}
 use Rattle.swap_run.specs.declared.phase.Phase.TheVariants as phase

@@ -1,3 +1,0 @@
-pub mod WordLemmas
-mod LineLemmas
-mod AgainLemmas

@@ -1,3 +1,0 @@
-pub mod Words
--- inner: no public clause cites these
-pub mod Lines

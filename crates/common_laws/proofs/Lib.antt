@@ -1,2 +1,0 @@
-pub mod PacketLemmas
-pub mod BackLemmas

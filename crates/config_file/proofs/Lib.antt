@@ -1,3 +1,0 @@
-pub mod LawLemmas
-pub mod ReadingLemmas
-pub mod EndLemmas

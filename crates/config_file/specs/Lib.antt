@@ -1,4 +1,0 @@
-pub mod ConfigFile
-pub mod Laws
--- inner: no public clause cites these
-pub mod TextReading

@@ -1,8 +1,0 @@
-use Rattle.desk_io.proofs.WriteLemmas.{appends_none, appends_then}
-use Rattle.desk_io.proofs.laws.appends_law.Goals as goal
-
-pub returns-clause-none : goal.returns-clause-none
-returns-clause-none c = appends_none
-
-pub returns-clause-then : goal.returns-clause-then
-returns-clause-then c = appends_then

@@ -1,3 +1,0 @@
-pub mod PickLemmas
-pub mod RowLemmas
-pub mod HeadLemmas

@@ -1,4 +1,0 @@
-pub mod Formed
-pub mod Remade
-pub mod Carrying
-pub mod Laws

@@ -1,5 +1,0 @@
-use Rattle.frame_compare.proofs.BlockLemmas.{bits_told}
-use Rattle.frame_compare.proofs.comparing.same.Goals as goal
-
-pub returns : goal.returns
-returns c = bits_told c.same_bits.result c.args.a.now c.args.b.now c.same_bits.ensures

@@ -1,5 +1,0 @@
-pub mod Comparing
-pub mod Runs
-pub mod Lines
-pub mod StandsFor
-pub mod Laws

@@ -1,5 +1,0 @@
-use Rattle.frame_tests.proofs.AloneLemmas.{tests_alone}
-use Rattle.frame_tests.proofs.laws.alone_law.Goals as goal
-
-pub returns : goal.returns
-returns c = tests_alone c.interleaving_law.ensures.alone

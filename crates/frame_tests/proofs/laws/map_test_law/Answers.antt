@@ -1,5 +1,0 @@
-use Rattle.frame_tests.proofs.MapLemmas.{map_is}
-use Rattle.frame_tests.proofs.laws.map_test_law.Goals as goal
-
-pub returns : goal.returns
-returns c = map_is c.map_law.ensures.parts

@@ -1,5 +1,0 @@
-use Rattle.frame_tests.proofs.TallyLemmas.{tests_tallied, tally_grows}
-use Rattle.frame_tests.proofs.laws.tally_law.Goals as goal
-
-pub returns : goal.returns
-returns c = record { tests = tests_tallied; grows = tally_grows }

@@ -1,0 +1,15 @@
+use Rattle.std.proofs.Common.{◌≡◌, true, subst}
+use Rattle.std.specs.Prelude.{◌↔◌}
+use Rattle.plp_config.specs.declared.config.Config.{Config}
+use Rattle.gateway_core.specs.Continuing.{IsLast}
+use Rattle.gateway_core.specs.SplitStandsFor.{SplitGatewayStandsFor}
+use Rattle.gateway_core.proofs.EndLemmas.{last_is}
+use Rattle.gateway_core.proofs.split_gateway.SplitGateway.last.Goals as goal
+
+pub returns : goal.returns
+unfolding SplitGatewayStandsFor
+returns c = λ d events s.
+    let m = c.args.self.now in
+    subst (λ (e : Config). (c.last.result ≡ true) ↔ IsLast e events) s.0
+    (last_is c.not_yet_last_law.ensures m.plan.now m.gateway m.held.items events c.last.result c.rules_law.ensures.plan m.plps s.1
+    c.requires c.last.ensures)

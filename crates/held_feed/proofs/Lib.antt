@@ -1,3 +1,0 @@
-pub mod FeedLemmas
-pub mod GroupsLemmas
-pub mod CameLemmas

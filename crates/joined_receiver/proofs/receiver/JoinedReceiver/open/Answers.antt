@@ -1,5 +1,0 @@
-use Rattle.joined_receiver.proofs.StepLemmas.{joins_inside}
-use Rattle.joined_receiver.proofs.receiver.JoinedReceiver.open.Goals as goal
-
-pub open_common-requires : goal.open_common-requires
-open_common-requires c = joins_inside c.groups_law.ensures.told c.args.plan.now c.args.plp c.args.joins c.requires.may

@@ -1,0 +1,163 @@
+-- One feed: what it shows, and how it can go on.
+use Rattle.std.proofs.Common.{◌≡◌, ℕ, ◌≤◌, Bool, true, false, List, [], ◌∷◌, ◌++◌, length, drop}
+use Rattle.std.proofs.Common.{Option, Some, refl, ap, sym, subst, ◌∙◌, arith, append-nil, append_assoc, length-append}
+use Rattle.std.proofs.Math.Seq.{drop-append_seam}
+use Rattle.terms.proofs.OptionLemmas.{some_injective}
+use Rattle.plp_config.specs.declared.config.Config.{Config}
+use Rattle.t2mi_stream.specs.Events.{UnpiperEvent, fed}
+use Rattle.t2mi_stream.specs.UnpiperStandsFor.{UnpiperStandsFor, fed_len}
+use Rattle.t2mi_stream.specs.declared.unpiper.Unpiper.{Unpiper}
+use Rattle.frame_groups.specs.Groups.{Group}
+use Rattle.frame_groups.specs.Modulated.{Rules}
+use Rattle.frame_groups.specs.Tests.{rules}
+use Rattle.feed_events.specs.Arrivals.{Arrival}
+use Rattle.feed_events.specs.FeedEvents.{FeedEvent, feed_events}
+use Rattle.feed_events.specs.FeedEvents.FeedEvent.{Has}
+use Rattle.feed_events.specs.StandsFor.{EventFeedStandsFor, CanBecome, IsNext, arrivals_behind, has_ended, head_of, fed_of}
+use Rattle.feed_events.specs.declared.course.Head.{Head}
+use Rattle.feed_events.specs.declared.course.Head.TheVariants as head
+use Rattle.mended_frames.specs.Heads.{Begins}
+use Rattle.mended_frames.specs.Picks.{Coming}
+use Rattle.frame_weave.specs.contracts.group.MarkedGroupOpenGroup.TheImpl as marked
+use Rattle.mended_frames.specs.StandsFor.{Feed}
+use Rattle.mend_run.specs.Row.{Goes, Shows, FeedHas}
+
+-- ---- how many bytes were fed
+
+taken_is : (u : Unpiper) (pid : ℕ) (events : List UnpiperEvent) → UnpiperStandsFor u pid events → fed_len u ≡ length (fed events)
+unfolding UnpiperStandsFor
+taken_is u pid events s = s.1.taken
+
+pub fed_most : (f : Feed) (bytes : List ℕ) (gone : List FeedEvent) → EventFeedStandsFor marked.ghosts f bytes gone
+    → fed_of f ≤ length bytes
+fed_most f bytes gone h =
+    let e = taken_is f.unpiper _ h.events h.stands in
+    omega (arith, e, length-append (fed h.events) h.tail, ap length h.bytes_are)
+
+pub fed_all : (f : Feed) (bytes : List ℕ) (gone : List FeedEvent) → EventFeedStandsFor marked.ghosts f bytes gone
+    → has_ended f ≡ false → fed_of f ≡ length bytes
+fed_all f bytes gone h going =
+    let e = taken_is f.unpiper _ h.events h.stands in
+    let none = ap length (h.no_tail going) in
+    omega (arith, e, none, length-append (fed h.events) h.tail, ap length h.bytes_are)
+
+-- ---- what it can become
+
+-- It can go on so, behind some bytes.
+pub record CanGo (over : Bool) (pid : ℕ) (bytes : List ℕ) (ended : Bool) (all : List ℕ) : Type 0 where
+  pub later : List Arrival
+  pub can : CanBecome over pid bytes ended all later
+
+pub fed_back : (pid : ℕ) (bytes piece : List ℕ) (ended : Bool) (all : List ℕ) (later : List Arrival)
+    → CanBecome false pid (bytes ++ piece) ended all later → CanGo false pid bytes ended all
+fed_back pid bytes piece ended all later can = record {
+  later = arrivals_behind pid bytes (piece ++ can.0);
+  can = (piece ++ can.0, can.1 ∙ append_assoc bytes piece can.0, refl);
+}
+
+pub ended_back : (pid : ℕ) (bytes tail : List ℕ) (ended : Bool) (all : List ℕ) (later : List Arrival)
+    → CanBecome true pid (bytes ++ tail) ended all later → CanGo false pid bytes ended all
+ended_back pid bytes tail ended all later can = record {
+  later = arrivals_behind pid bytes tail;
+  can = (tail, can.1, refl);
+}
+
+-- so how it can go on now it could before
+pub goes_fed : (c : Config) (f g : Feed) (bytes piece new : List ℕ) (gone : List FeedEvent) → new ≡ bytes ++ piece
+    → has_ended f ≡ false → has_ended g ≡ has_ended f → (x y : Coming) → Goes c g new gone x y → Goes c f bytes gone x y
+goes_fed c f g bytes piece new gone is going same x y go =
+    let w = fed_back c.pid bytes piece x.over go.all go.later
+    (subst (λ (b : Bool). CanBecome b c.pid (bytes ++ piece) x.over go.all go.later) (same ∙ going)
+    (subst (λ (l : List ℕ). CanBecome (has_ended g) c.pid l x.over go.all go.later) is go.can)) in
+    record {
+      all = go.all;
+      later = w.later;
+      can = subst (λ (b : Bool). CanBecome b c.pid bytes x.over go.all w.later) (sym going) w.can;
+      is = go.is;
+      parts = go.parts;
+      over = go.over;
+    }
+
+pub goes_ended : (c : Config) (f g : Feed) (bytes tail new : List ℕ) (gone : List FeedEvent) → new ≡ bytes ++ tail
+    → has_ended f ≡ false → has_ended g ≡ true → (x y : Coming) → Goes c g new gone x y → Goes c f bytes gone x y
+goes_ended c f g bytes tail new gone is going over x y go =
+    let w = ended_back c.pid bytes tail x.over go.all go.later
+    (subst (λ (b : Bool). CanBecome b c.pid (bytes ++ tail) x.over go.all go.later) over
+    (subst (λ (l : List ℕ). CanBecome (has_ended g) c.pid l x.over go.all go.later) is go.can)) in
+    record {
+      all = go.all;
+      later = w.later;
+      can = subst (λ (b : Bool). CanBecome b c.pid bytes x.over go.all w.later) (sym going) w.can;
+      is = go.is;
+      parts = go.parts;
+      over = go.over;
+    }
+
+-- what it stands for, by its rules and its end
+pub has_now : (c : Config) (f g : Feed) (bytes new : List ℕ) (ended now : Bool) (gone : List FeedEvent)
+    → FeedHas c f bytes ended gone → marked.ghosts.rules g.frames.group ≡ marked.ghosts.rules f.frames.group
+    → (EventFeedStandsFor marked.ghosts f bytes gone → EventFeedStandsFor marked.ghosts g new gone) → has_ended g ≡ now → Shows g
+    → FeedHas c g new now gone
+has_now c f g bytes new ended now gone h rules stands end shows = record {
+  network = ap (λ (r : Rules). r.network) rules ∙ h.network;
+  stands = stands h.stands;
+  end = end;
+  shows = shows;
+}
+
+-- it has some way to go on
+pub some_way : (over : Bool) (pid : ℕ) (bytes : List ℕ) → CanGo over pid bytes over bytes
+some_way false pid bytes = record { later = arrivals_behind pid bytes []; can = ([], sym (append-nil bytes), refl) }
+some_way true pid bytes = record { later = []; can = (refl, refl, refl) }
+
+-- ---- what is next
+
+pub behind_front : (xs ys zs : List FeedEvent) → xs ++ ys ≡ xs ++ zs → ys ≡ zs
+behind_front xs ys zs e = sym (drop-append_seam xs ys) ∙ ap (drop (length xs)) e ∙ drop-append_seam xs zs
+
+begins_by : (h : Head) (g : Option Group) (ended : Bool) (gone all : List FeedEvent) (y : Coming) → IsNext h g ended gone all
+    → all ≡ gone ++ y.events → y.over ≡ ended → Begins h y
+begins_by head.Unknown g ended gone all y next parts over = tt
+begins_by (head.Frame n) g ended gone all y next parts over = (next.0, next.2.0, behind_front gone y.events _ (sym parts ∙ next.2.1))
+begins_by head.Silent g ended gone all y next parts over = (next.0, behind_front gone y.events _ (sym parts ∙ next.1))
+begins_by head.Over g ended gone all y next parts over = (
+  behind_front gone y.events [] (sym parts ∙ next.1 ∙ sym (append-nil gone)),
+  over ∙ next.0,
+)
+
+next_as : (c : Config) (f : Feed) (bytes : List ℕ) (ended : Bool) (gone : List FeedEvent) (h : FeedHas c f bytes ended gone)
+    (over : Bool) (all : List ℕ) (later : List Arrival) → CanBecome (has_ended f) c.pid bytes over all later
+    → IsNext (head_of f) h.stands.group over gone (feed_events (rules c) over all)
+next_as c f bytes ended gone h over all later can =
+    subst (λ (k : Config). IsNext (head_of f) h.stands.group over gone (feed_events (rules k) over all)) h.network
+    (h.shows.next bytes gone h.stands over all later
+    (subst (λ (k : Config). CanBecome (has_ended f) k.pid bytes over all later) (sym h.network) can))
+
+pub begins : (c : Config) (f : Feed) (bytes : List ℕ) (ended : Bool) (gone : List FeedEvent) (x y : Coming)
+    → FeedHas c f bytes ended gone → Goes c f bytes gone x y → Begins (head_of f) y
+begins c f bytes ended gone x y h g =
+    begins_by (head_of f) h.stands.group x.over gone (feed_events (rules c) x.over g.all) y
+    (next_as c f bytes ended gone h x.over g.all g.later g.can) (sym g.is ∙ g.parts) g.over
+
+-- packets of a frame that are next are those of a group
+pub shown_group : (c : Config) (f : Feed) (bytes : List ℕ) (ended : Bool) (gone : List FeedEvent) (h : FeedHas c f bytes ended gone)
+    (n : ℕ) → head_of f ≡ head.Frame n → (x : Group) × (h.stands.group ≡ Some x)
+shown_group c f bytes ended gone h n e =
+    let over = has_ended f in
+    let way = some_way over c.pid bytes in
+    let next = subst (λ (d : Head). IsNext d h.stands.group over gone (feed_events (rules c) over bytes)) e
+    (next_as c f bytes ended gone h over bytes way.later way.can) in
+    (next.0, next.1)
+
+-- and they are so however it goes on
+pub same_group : (c : Config) (f : Feed) (bytes : List ℕ) (ended : Bool) (gone : List FeedEvent) (h : FeedHas c f bytes ended gone)
+    (x y : Coming) → Goes c f bytes gone x y → (n : ℕ) (g : Group) → head_of f ≡ head.Frame n → h.stands.group ≡ Some g
+    → (more : List FeedEvent) × (y.events ≡ Has (record { number = n; group = g }) ∷ more)
+same_group c f bytes ended gone h x y go n g e is =
+    let next = subst (λ (d : Head). IsNext d h.stands.group x.over gone (feed_events (rules c) x.over go.all)) e
+    (next_as c f bytes ended gone h x.over go.all go.later go.can) in
+    let same : next.0 ≡ g = some_injective next.0 g (sym next.1 ∙ is) in (
+      next.2.0,
+      behind_front gone y.events _ (sym (sym go.is ∙ go.parts) ∙ next.2.1)
+          ∙ ap (λ (z : Group). Has (record { number = n; group = z }) ∷ next.2.0) same,
+    )

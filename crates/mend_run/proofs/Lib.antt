@@ -1,0 +1,9 @@
+pub mod FeedLemmas
+pub mod RowLemmas
+pub mod PassLemmas
+pub mod StepLemmas
+pub mod TallyLemmas
+pub mod ShownLemmas
+pub mod UnitLemmas
+pub mod WantLemmas
+pub mod WorkLemmas

@@ -1,0 +1,67 @@
+-- What a run does that makes one stream of several files.
+use Rattle.std.specs.Prelude.{◌≡◌, ◌≢◌, ℕ, ◌+◌, ◌<◌, ◌≤◌, Bool, true, false, List, [], ◌++◌, length, slice_index, Ok, Err}
+use Rattle.plp_config.specs.declared.config.Config.{Config}
+use Rattle.ts_packet.specs.TsFile.{joined}
+use Rattle.ts_packet.specs.declared.sizes.TheConstants.{SIZE}
+use Rattle.t2mi_stream.specs.Complete.{complete_units}
+use Rattle.frame_groups.specs.Laws.{IsPrefix}
+use Rattle.mended_frames.specs.Feeds.{made_of_all, made_of_known, units_of}
+use Rattle.mended_frames.specs.Mended.{packets_of}
+use Rattle.file_run.specs.Reading.{longest_file}
+use Rattle.file_run.specs.FileRun.{read_ahead}
+use Rattle.file_run.specs.Work.{Work, AreWhole}
+use Rattle.file_run.specs.declared.stop.RunFault.TheVariants.{TooLong, ReadFault, WriteFault}
+use Rattle.file_run.specs.declared.stop.RunStop.TheVariants.{Refused, Files, OutOfMemory}
+use Rattle.mend_run.specs.Counted.{counted}
+use Rattle.mend_run.specs.declared.stop.MendStop.{MendStop}
+use Rattle.mend_run.specs.declared.stop.MendStop.TheVariants.{NoFrame}
+use Rattle.mend_run.specs.declared.stop.Ran.{Ran}
+
+-- A frame is made of the files, the output is all units, and these are the numbers.
+pub record MendsAll (c : Config) (k : ℕ) (files : ℕ → List ℕ) (ran : Ran) (bytes : List ℕ) : Type 0 where
+  pub some : made_of_all c k files ≢ []
+  pub output : bytes ≡ joined (units_of c k files)
+  pub ran_is : ran ≡ counted (made_of_all c k files) (length (units_of c k files))
+
+-- No frame is, and the output is empty.
+pub record HasNone (c : Config) (k : ℕ) (files : ℕ → List ℕ) (bytes : List ℕ) : Type 0 where
+  pub none : made_of_all c k files ≡ []
+  pub empty : bytes ≡ []
+
+-- So many bytes of each file were taken, no fewer than were read but for what is read ahead; a file that ended was taken whole.
+pub record AreTaken (k : ℕ) (files : ℕ → List ℕ) (places : List ℕ) (taken : ℕ → ℕ) (ended : ℕ → Bool) : Type 0 where
+  pub within : (input : ℕ) → input < k → taken input ≤ slice_index places input
+  pub ahead : (input : ℕ) → input < k → slice_index places input ≤ taken input + read_ahead
+  pub whole : (input : ℕ) → input < k → ended input ≡ true → taken input ≡ length (files input)
+
+-- The output is the complete units of the frames that are made of what is known by the bytes that were taken.
+pub record HasWritten (c : Config) (k : ℕ) (files : ℕ → List ℕ) (places bytes : List ℕ) : Type 0 where
+  pub taken : ℕ → ℕ
+  pub ended : ℕ → Bool
+  pub are_taken : AreTaken k files places taken ended
+  pub is : bytes ≡ joined (complete_units c.pid (packets_of c (made_of_known c k files taken ended)))
+
+-- An input cannot be read on: of what was read of it all whole units were taken.
+pub record HasRead (c : Config) (k input : ℕ) (files : ℕ → List ℕ) (places bytes : List ℕ) : Type 0 where
+  pub written : HasWritten c k files places bytes
+  pub going : written.ended input ≡ false
+  pub near : slice_index places input < written.taken input + SIZE
+
+-- All but one unit of a file that is too long were taken, at least: no step wants more than one.
+pub record HasNearly (c : Config) (k input : ℕ) (files : ℕ → List ℕ) (places bytes : List ℕ) : Type 0 where
+  pub written : HasWritten c k files places bytes
+  pub near : longest_file ≤ written.taken input + SIZE
+
+-- These bytes are the first of all units, but not all.
+pub record HasSome (c : Config) (k : ℕ) (files : ℕ → List ℕ) (bytes : List ℕ) : Type 0 where
+  pub more : List ℕ
+  pub some : more ≢ []
+  pub begins : IsPrefix (bytes ++ more) (joined (units_of c k files))
+
+abbrev pub mend_work : Config → ℕ → Work Ran MendStop
+mend_work c k files (Ok ran) places bytes = AreWhole files places × MendsAll c k files ran bytes
+mend_work c k files (Err (Refused NoFrame)) places bytes = AreWhole files places × HasNone c k files bytes
+mend_work c k files (Err (Files (TooLong input))) places bytes = HasNearly c k input files places bytes
+mend_work c k files (Err (Files (ReadFault input))) places bytes = HasRead c k input files places bytes
+mend_work c k files (Err (Files WriteFault)) places bytes = HasSome c k files bytes
+mend_work c k files (Err OutOfMemory) places bytes = ⊥

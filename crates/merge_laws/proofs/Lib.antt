@@ -1,3 +1,0 @@
-mod FeedLemmas
-mod JoinLemmas
-pub mod MergeLemmas

@@ -1,0 +1,147 @@
+-- Feeds that have nothing but packets of one run.
+use Rattle.std.specs.Prelude.{◌≡◌, ◌≢◌, ℕ, ◌+◌, ◌<◌, ◌≤◌, ◌==◌, Bool, true, false, List, [], ◌∷◌, map, length, None}
+use Rattle.std.specs.List.{filter, items_where_true, range_with_len, zip, AllByRecursion}
+use Rattle.plp_config.specs.Capacity.{IsPlan}
+use Rattle.plp_config.specs.declared.config.Config.{Config}
+use Rattle.plp_config.specs.declared.moment.TheConstants.{MOST_FRAMES}
+use Rattle.ts_packet.specs.TsFile.{joined}
+use Rattle.t2mi_stream.specs.Pipe.{pipe}
+use Rattle.t2mi_packet.specs.declared.packet.Packet.{Packet}
+use Rattle.frame_groups.specs.Numbers.{frame_key}
+use Rattle.frame_groups.specs.Tests.{rules}
+use Rattle.mode_adapt.specs.Blocks.{own_blocks, told_counts}
+use Rattle.record_laws.specs.Frames.{frame_of}
+use Rattle.open_group.specs.Written.{packets_view}
+use Rattle.gateway_core.specs.Packets.{frame_bodies, packets_of as run_packets_of}
+use Rattle.stream_laws.specs.SentPackets.{Sent, packets_of as sent_packets, frame_packets, AreNear}
+use Rattle.stream_laws.specs.SentFrames.{sent_frames, run_length}
+use Rattle.stream_laws.specs.Types.{TypesFit}
+use Rattle.feed_events.specs.Arrivals.{arrivals}
+use Rattle.feed_events.specs.FeedEvents.{FeedEvent, between_idle, feed_events}
+use Rattle.feed_events.specs.FeedEvents.FeedEvent.{Has, Silent}
+use Rattle.mended_frames.specs.Picks.{Coming}
+use Rattle.spaced_frames.specs.Spaced.{SentFrame}
+use Rattle.mended_frames.specs.Feeds.{made_of_all}
+use Rattle.mended_frames.specs.Mended.{Made, mended, packets_of, frame_of as made_frame}
+use Rattle.network_laws.specs.MendedRun.{mended_bytes}
+
+-- the packets of frame n of a run
+abbrev pub run_packets : Config → (ℕ → List (List ℕ)) → ℕ → List Packet
+run_packets c inputs n = frame_packets n (sent_frames c inputs (run_length c inputs))
+
+-- Packets are what came of some, in their order.
+pub record CameOf (all came : List Packet) : Type 0 where
+  pub flags : List Bool
+  pub are : came ≡ items_where_true flags all
+
+-- A feed has packets of the run's frame of this number, as they were sent, or is silent.
+abbrev pub IsOfRun : Config → (ℕ → List (List ℕ)) → FeedEvent → Type 0
+IsOfRun c inputs (Has x) = (x.number < run_length c inputs) × CameOf (run_packets c inputs x.number) x.group.packets
+IsOfRun c inputs Silent = Unit {0}
+
+-- So it is of all events of so many feeds, and no others come.
+pub record AreOfRun (c : Config) (inputs : ℕ → List (List ℕ)) (k : ℕ) (feeds : ℕ → Coming) : Type 0 where
+  pub events : (i : ℕ) → i < k → AllByRecursion (IsOfRun c inputs) (feeds i).events
+  pub over : (i : ℕ) → i < k → (feeds i).over ≡ true
+
+-- all packets of the frames of a run, frame by frame
+abbrev pub run_event : Config → (ℕ → List (List ℕ)) → ℕ → FeedEvent
+run_event c inputs n = Has (record
+    { number = n; group = record { key = frame_key c.frames n; packets = run_packets c inputs n } })
+
+abbrev pub run_events : Config → (ℕ → List (List ℕ)) → List FeedEvent
+run_events c inputs = map (run_event c inputs) (range_with_len 0 (run_length c inputs))
+
+-- If feeds have nothing but packets of one run, each in a group of its frame's number, and one of them has all
+-- packets of all frames, then what is sent of the frames that are made is all frames of the run, each as it was sent,
+-- whatever the others lack.
+abbrev pub WholeFeedMade : Type 0
+WholeFeedMade = (c : Config) (inputs : ℕ → List (List ℕ)) (k whole : ℕ) (feeds : ℕ → Coming) → IsPlan c → TypesFit c
+    → AreOfRun c inputs k feeds → whole < k → (feeds whole).events ≡ run_events c inputs
+    → packets_of c (mended c k feeds) ≡ run_packets_of c inputs
+
+-- So it is of streams: if one of them is the whole stream of the run, and the others have nothing but packets of it,
+-- in groups of their frames' numbers, then what is written is that stream, bit for bit, whatever the others lack and
+-- however long they were out.
+abbrev pub WholeStreamMended : Type 0
+WholeStreamMended = (c : Config) (inputs : ℕ → List (List ℕ)) (k whole : ℕ) (streams : ℕ → List ℕ) → IsPlan c
+    → TypesFit c
+    → run_length c inputs ≤ MOST_FRAMES → whole < k → streams whole ≡ joined (pipe c.pid (run_packets_of c inputs))
+    → ((i : ℕ) → i < k → i ≢ whole → AllByRecursion (IsOfRun c inputs) (feed_events (rules c) true (streams i)))
+    → mended_bytes c k streams ≡ joined (pipe c.pid (run_packets_of c inputs))
+
+-- It is told of packets which came: fewer than 256 in a row, and so many before the first, did not come before each
+-- that did.
+abbrev pub FewLack : ℕ → List Bool → Type 0
+FewLack lacking [] = Unit {0}
+FewLack lacking (true ∷ flags) = (lacking < 256) × FewLack 0 flags
+FewLack lacking (false ∷ flags) = FewLack (lacking + 1) flags
+
+-- Packets are what came of some, in their order, so near one another that packet_count, which is told modulo 256,
+-- tells their places.
+pub record CameNear (all came : List Packet) : Type 0 where
+  pub flags : List Bool
+  pub are : came ≡ items_where_true flags all
+  pub few : FewLack 0 flags
+
+-- A feed has such packets of the run's frame of this number, or is silent.
+abbrev pub IsNearOfRun : Config → (ℕ → List (List ℕ)) → FeedEvent → Type 0
+IsNearOfRun c inputs (Has x) = (x.number < run_length c inputs) × CameNear (run_packets c inputs x.number)
+    x.group.packets
+IsNearOfRun c inputs Silent = Unit {0}
+
+-- a frame of the run, by what its packets carry
+abbrev pub run_frame : Config → (ℕ → List (List ℕ)) → ℕ → SentFrame
+run_frame c inputs n = record { number = n; bodies = frame_bodies c n (told_counts c inputs n) (own_blocks c inputs n) }
+
+-- A frame that was made is the run's frame of its number: it is sent as that frame is, and its record is that frame.
+pub record IsRunFrame (c : Config) (inputs : ℕ → List (List ℕ)) (x : Made) : Type 0 where
+  pub inside : x.number < run_length c inputs
+  pub sent : made_frame c x ≡ run_frame c inputs x.number
+  pub recorded : packets_view c x.number x.group.packets ≡ frame_of c inputs x.number
+
+-- If feeds have nothing but such packets of one run, each in a group of its frame's number, then each frame that is
+-- made of them, by one feed or of several together, is the run's frame of that number, however long a feed was out
+-- and however silent it was.
+abbrev pub MadeAreOfRun : Type 0
+MadeAreOfRun = (c : Config) (inputs : ℕ → List (List ℕ)) (k : ℕ) (feeds : ℕ → Coming) → IsPlan c → TypesFit c
+    → ((i : ℕ) → i < k → AllByRecursion (IsNearOfRun c inputs) (feeds i).events)
+    → AllByRecursion (IsRunFrame c inputs) (mended c k feeds)
+
+-- which packets of frame n survive, if it is told which of all do
+abbrev pub frame_survival : ℕ → List Sent → List Bool → List Bool
+frame_survival n sent survival = map (λ p. p.1) (filter (λ p. p.0.frame == n) (zip sent survival))
+
+-- Of the run's packets some survive, in their order and as they were sent. No loss is so long that keys come again:
+-- successive ones are of frames less than 16 superframes apart. And in a frame fewer than 256 packets in a row are
+-- lost before each that survives.
+pub record SurvivesOfRun (c : Config) (inputs : ℕ → List (List ℕ)) (survival : List Bool) : Type 0 where
+  pub told : length survival ≡ length (sent_frames c inputs (run_length c inputs))
+  pub near : AreNear c.frames None (items_where_true survival (sent_frames c inputs (run_length c inputs)))
+  pub few : (n : ℕ) → n < run_length c inputs
+      → FewLack 0 (frame_survival n (sent_frames c inputs (run_length c inputs)) survival)
+
+-- the packets that do
+abbrev pub surviving : Config → (ℕ → List (List ℕ)) → List Bool → List Packet
+surviving c inputs survival = sent_packets (items_where_true survival (sent_frames c inputs (run_length c inputs)))
+
+-- What arrives in a stream between one idle unit and the next is what so survives of the run's packets. None is made
+-- by damage; behind an idle unit they may be of any frames.
+pub record IsDamagedRun (c : Config) (inputs : ℕ → List (List ℕ)) (bytes : List ℕ) : Type 0 where
+  pub survivals : List (List Bool)
+  pub arrive : between_idle (arrivals c.pid bytes) ≡ map (surviving c inputs) survivals
+  pub parts : AllByRecursion (SurvivesOfRun c inputs) survivals
+
+-- If each stream is such a damaged one, each frame that is made is the run's frame of its number.
+abbrev pub DamagedRunsMended : Type 0
+DamagedRunsMended = (c : Config) (inputs : ℕ → List (List ℕ)) (k : ℕ) (streams : ℕ → List ℕ) → IsPlan c → TypesFit c
+    → run_length c inputs ≤ MOST_FRAMES → ((i : ℕ) → i < k → IsDamagedRun c inputs (streams i))
+    → AllByRecursion (IsRunFrame c inputs) (made_of_all c k streams)
+
+-- And if one is the whole stream of the run and each other one is damaged, what is written is that stream.
+abbrev pub WholeAmongDamaged : Type 0
+WholeAmongDamaged = (c : Config) (inputs : ℕ → List (List ℕ)) (k whole : ℕ) (streams : ℕ → List ℕ) → IsPlan c
+    → TypesFit c
+    → run_length c inputs ≤ MOST_FRAMES → whole < k → streams whole ≡ joined (pipe c.pid (run_packets_of c inputs))
+    → ((i : ℕ) → i < k → i ≢ whole → IsDamagedRun c inputs (streams i))
+    → mended_bytes c k streams ≡ joined (pipe c.pid (run_packets_of c inputs))

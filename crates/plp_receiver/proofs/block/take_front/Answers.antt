@@ -1,0 +1,18 @@
+use Rattle.std.proofs.Common.{◌≡◌, ◌∙◌, List, ◌++◌, sym, subst, ap, ℕ, arith, append-nil, refl}
+use Rattle.plp_receiver.specs.Strings.{Item}
+use Rattle.plp_receiver.specs.TakenBlocks.{Both, block_of, front_of}
+use Rattle.plp_receiver.proofs.FieldLemmas.{front_taken}
+use Rattle.plp_receiver.proofs.block.take_front.Goals as goal
+
+pub returns-clause-both : goal.returns-clause-both
+returns-clause-both c = λ r z h.
+    subst (λ (y : List Item). Both r (z ++ y) c.take_piece.new.assembler c.take_piece.new.window)
+    (front_taken r.up_len c.args.epoch (block_of c.args.block.now) c.args.block.now.first c.args.start refl c.requires.start
+    (omega arith))
+    (c.take_piece.ensures.both r z h)
+
+pub returns-then-start-eq0-clause-both : goal.returns-then-start-eq0-clause-both
+returns-then-start-eq0-clause-both c = λ r z h.
+    let e : c.args.start ≡ 0 = omega arith in
+    subst (λ (y : List Item). Both r y c.args.assembler.now c.args.window.now)
+    (sym (ap (λ (n : ℕ). z ++ front_of r.up_len c.args.epoch (block_of c.args.block.now) n) e ∙ append-nil z)) h

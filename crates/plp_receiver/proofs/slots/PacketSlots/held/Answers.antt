@@ -1,0 +1,13 @@
+use Rattle.std.proofs.Common.{◌∙◌}
+use Rattle.plp_receiver.specs.SlotsStandFor.{PacketSlotsStandsFor, IsFresh}
+use Rattle.plp_receiver.proofs.SlotsStandLemmas.{held_is, fresh_held}
+use Rattle.plp_receiver.proofs.slots.PacketSlots.held.Goals as goal
+
+pub returns-clause-answer : goal.returns-clause-answer
+unfolding PacketSlotsStandsFor
+returns-clause-answer c = λ r first count epochs released h. c.held.ensures.value
+    ∙ held_is c.args.self.now.assembler c.args.self.now.window c.args.self.now.frame r first count epochs released h
+
+pub returns-clause-fresh : goal.returns-clause-fresh
+unfolding IsFresh
+returns-clause-fresh c = λ r h. c.held.ensures.value ∙ fresh_held c.args.self.now.assembler c.args.self.now.window r h

@@ -1,2 +1,0 @@
-pub mod FeedLemmas
-mod CountLemmas

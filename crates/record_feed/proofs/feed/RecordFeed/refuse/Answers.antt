@@ -1,8 +1,0 @@
-use Rattle.std.proofs.Common.{refl}
-use Rattle.record_feed.proofs.FeedLemmas.{refused}
-use Rattle.record_feed.proofs.feed.RecordFeed.refuse.Goals as goal
-
-pub returns-clause-stands : goal.returns-clause-stands
-returns-clause-stands c = λ views came ended s.
-    refused c.args.self.now _ views came ended c.args.why c.requires.whole refl refl refl (c.args.self.now.whole c.requires.whole)
-    c.requires.refuses s

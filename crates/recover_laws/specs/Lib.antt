@@ -1,2 +1,0 @@
-pub mod ToldEpochs
-pub mod Laws

@@ -1,0 +1,13 @@
+use Rattle.site_top.proofs.MendLemmas.{are_mended}
+use Rattle.site_top.proofs.mend.mended_law.Goals as goal
+
+pub returns : goal.returns
+returns c =
+    are_mended c.args.plan.now c.rules_law.ensures.plan c.type_law.ensures (record {
+      pass = c.pass_law.ensures;
+      rise = c.rise_law.ensures;
+      near = c.near_law.ensures;
+      comes = c.mend_law.ensures;
+      honest = c.honest_feeds_law.ensures.damaged;
+      whole = c.whole_feed_law.ensures.damaged;
+    })

@@ -1,5 +1,0 @@
-use Rattle.std.proofs.Common.{◌≡◌, None, replicate}
-use Rattle.split_gateway.proofs.gateway.none_held.Given as goal
-
-abbrev pub invariant-loop : goal.invariant-loop
-invariant-loop l = l.held.items ≡ replicate l.counter None

@@ -1,8 +1,0 @@
-use Rattle.split_gateway.specs.Works.{Moves, AreSettled}
-use Rattle.split_gateway.proofs.passing.find_next.Given as goal
-
-abbrev pub invariant-loop-turn : goal.invariant-loop-turn
-invariant-loop-turn l = record {
-  moves : Moves l.plan l.initial.gateway l.gateway l.initial.held l.held;
-  settled : AreSettled l.plan l.gateway l.turn;
-}

@@ -1,6 +1,0 @@
-use Rattle.std.proofs.Common.{◌≡◌, false}
-use Rattle.split_gateway.specs.Slots.{any_held}
-use Rattle.split_gateway.proofs.slots.has_held.Given as goal
-
-abbrev pub invariant-loop-plp : goal.invariant-loop-plp
-invariant-loop-plp l = any_held l.plan l.held l.turn l.plp ≡ false

@@ -1,0 +1,25 @@
+pub mod Formed
+pub mod Remade
+pub mod Carrying
+pub mod FormedLaws
+pub mod SentPackets
+pub mod Survivors
+pub mod Streams
+pub mod DamageLaws
+pub mod GroupNumbers
+pub mod UnitLaws
+pub mod SentFrames
+pub mod Types
+pub mod FrameLaws
+pub mod Coming
+pub mod Again
+-- of the crates below, for those who read this one
+pub use Rattle.frame_groups.specs.Groups
+pub use Rattle.frame_groups.specs.Modulated
+pub use Rattle.frame_groups.specs.Numbers
+pub use Rattle.t2mi_stream.specs.Received
+pub use Rattle.record_laws.specs.Frames
+pub use Rattle.record_laws.specs.Records
+pub use Rattle.frame_writer.specs.FramePackets
+pub use Rattle.gateway_core.specs.Packets
+pub use Rattle.modulator.specs.StandsFor

@@ -1,5 +1,0 @@
-mod ComeLemmas
-mod FrameLemmas
-mod InputLemmas
-mod RunLemmas
-mod WholeLemmas

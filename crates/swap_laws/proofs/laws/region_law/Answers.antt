@@ -1,7 +1,0 @@
-use Rattle.swap_laws.proofs.RunLemmas.{region_is_of_run}
-use Rattle.swap_laws.proofs.laws.region_law.Goals as goal
-
-pub returns : goal.returns
-returns c =
-    region_is_of_run c.replaced_law.ensures c.sent_law.ensures.frames c.stream_law.ensures c.tests_law.ensures c.frame_law.ensures
-    c.honest_law.ensures.length c.honest_law.ensures.records

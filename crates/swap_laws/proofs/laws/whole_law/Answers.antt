@@ -1,7 +1,0 @@
-use Rattle.swap_laws.proofs.WholeLemmas.{whole_is_replaced}
-use Rattle.swap_laws.proofs.laws.whole_law.Goals as goal
-
-pub returns : goal.returns
-returns c =
-    whole_is_replaced c.region_law.ensures c.sent_law.ensures.frames c.undamaged_law.ensures c.run_law.ensures.arrives
-    c.run_law.ensures.records c.again_law.ensures
