@@ -19,6 +19,7 @@ SMALL = os.path.join(TOP, "crates/site_cli/data/small.txt")
 SIZE = 188
 RATE = 2_000_000  # of the PLP of small.txt
 PID = "256"
+IDLE = ("--idle", PID, "--idle-rate", "100")  # more units a second than frames of small.txt, which has 92
 PORT = 48000
 
 
@@ -62,8 +63,8 @@ class Chain:
     def send(self, name, *ports):
         self.start([sys.executable, UDP, "out", "--rtp", "--pace", PID, *(f"127.0.0.1:{port}" for port in ports)], into=self.fifo(name))
 
-    def take(self, name, port):
-        self.start([sys.executable, UDP, "in", str(port), "--timeout", "4"], out=self.fifo(name))
+    def take(self, name, port, *options):
+        self.start([sys.executable, UDP, "in", str(port), "--timeout", "4", *options], out=self.fifo(name))
 
     def end(self):
         for process in self.running:
@@ -91,15 +92,17 @@ def came(name, sent):
     return len(sent) - len(wanted)
 
 
-def lossy(port, to, draw):
-    """A link that loses a datagram in a hundred."""
+def lossy(port, to, draw, gone):
+    """A link that loses a datagram in a hundred, and all of those seconds from the first one on."""
     link = socket.socket(socket.AF_INET, socket.SOCK_DGRAM)
     link.setsockopt(socket.SOL_SOCKET, socket.SO_RCVBUF, 1 << 22)
     link.bind(("127.0.0.1", port))
     link.settimeout(5)
+    begin = None
     try:
         while datagram := link.recv(2048):
-            if draw.random() >= 0.01:
+            begin = begin or time.monotonic()
+            if draw.random() >= 0.01 and not gone[0] <= time.monotonic() - begin < gone[1]:
                 link.sendto(datagram, ("127.0.0.1", to))
     except TimeoutError:
         link.close()
@@ -113,8 +116,8 @@ def run(chain, sent, pauses=()):
     return count
 
 
-def link(port, to, seed):
-    threading.Thread(target=lossy, args=(port, to, random.Random(seed)), daemon=True).start()
+def link(port, to, seed, gone=(0, 0)):
+    threading.Thread(target=lossy, args=(port, to, random.Random(seed), gone), daemon=True).start()
 
 
 def all_well(program, sent, port, pauses=()):
@@ -138,17 +141,27 @@ def one_link(program, sent, port):
     return run(chain, sent)
 
 
-def two_links(program, sent, port):
-    """Two links that each lose their own, and a merger; what is lost on both at once is lost."""
-    chain = Chain(program)
-    for place, name in enumerate("uv"):
-        link(port + 2 * place, port + 2 * place + 1, 2 + place)
-        chain.take(name, port + 2 * place + 1)
-    chain.gateway()
-    chain.send("s", port, port + 2)
+def merged(chain):
     chain.command("merge", chain.config, chain.fifo("u"), chain.fifo("v"), chain.fifo("t"))
-    chain.site("t")
-    return run(chain, sent)
+
+
+def mended(chain):
+    chain.command("mend", chain.config, chain.fifo("t"), chain.fifo("u"), chain.fifo("v"))
+
+
+def two_links(join, *options, gone=(0, 0)):
+    """Two links that each lose their own, and what makes one stream of both; the first of them may be gone for a while."""
+    def play(program, sent, port):
+        chain = Chain(program)
+        for place, name in enumerate("uv"):
+            link(port + 2 * place, port + 2 * place + 1, 2 + place, (0, 0) if place else gone)
+            chain.take(name, port + 2 * place + 1, *options)
+        chain.gateway()
+        chain.send("s", port, port + 2)
+        join(chain)
+        chain.site("t")
+        return run(chain, sent)
+    return play
 
 
 def again(program, sent, port):
@@ -179,7 +192,9 @@ ROWS = [
     ("the feed stands still for 3 s", still(3)),
     ("the feed stands still for 15 s", still(15)),
     ("a link loses 1 % of its datagrams", one_link),
-    ("two such links, merged", two_links),
+    ("two such links, merged", two_links(merged)),
+    ("two such links, mended", two_links(mended, *IDLE)),
+    ("two such links, one of them gone for 3 s, mended", two_links(mended, *IDLE, gone=(3, 6))),
     ("the gateway is started again", again),
     ("the site joins half the time later", late),
 ]

@@ -6,6 +6,7 @@
 """
 import argparse
 import ipaddress
+import math
 import os
 import random
 import select
@@ -24,6 +25,7 @@ JUMP = 1000  # datagrams; behind a greater jump of the number the sender began a
 START = 8  # datagrams that are waited for before the first one is known
 BUFFER = 1 << 22
 SILENCE = 0.1  # seconds; as long as no datagram comes
+IDLE_RATE = 10  # idle units a second in a silence
 LULL = 0.01  # seconds; then what came of a datagram is sent
 LONGEST = 10  # seconds from one timestamp to the next; behind more the clock begins anew
 
@@ -154,10 +156,10 @@ def read_in(places, options):
     bridges = [listen(place) for place in places]
     order = Order(options.window)
     idle = None if options.idle is None else Idle(options.idle)
-    last, silent, datagrams = time.monotonic(), False, 0
+    last, silent, datagrams, pause = time.monotonic(), False, 0, SILENCE
     try:
         while True:
-            ready, _, _ = select.select(bridges, [], [], SILENCE)
+            ready, _, _ = select.select(bridges, [], [], pause)
             now = time.monotonic()
             for bridge in ready:
                 packets = take(bridge.recv(65536), order)
@@ -168,7 +170,7 @@ def read_in(places, options):
             if ready:
                 if silent:
                     tell(f"it goes on, {now - last:.1f} s later")
-                last, silent = now, False
+                last, silent, pause = now, False, SILENCE
                 continue
             write(order.rest())
             if not silent and datagrams and now - last >= 1:
@@ -179,6 +181,7 @@ def read_in(places, options):
                 return
             if idle:
                 write(idle.unit())
+                pause = 1 / options.idle_rate
     finally:
         tell(f"datagrams={datagrams} lost={order.lost} again={order.again}")
 
@@ -311,19 +314,28 @@ def pid(word):
     return number
 
 
+def rate(word):
+    number = float(word)
+    if not 0 < number < math.inf:
+        raise ValueError
+    return number
+
+
 def main():
     words = argparse.ArgumentParser(description=__doc__, formatter_class=argparse.RawDescriptionHelpFormatter)
     ways = words.add_subparsers(dest="way", required=True)
     into = ways.add_parser("in", help="from UDP to standard output")
     into.add_argument("place", nargs="+", help="[ADDRESS:]PORT; of an address of this machine, or of a multicast group")
     into.add_argument("--timeout", type=float, help="seconds of silence after which it ends")
-    into.add_argument("--idle", type=pid, metavar="PID", help="says silence by a unit without payload on the PID, ten times a second")
+    into.add_argument("--idle", type=pid, metavar="PID", help="says silence by units without payload on the PID")
+    into.add_argument("--idle-rate", type=rate, default=IDLE_RATE, metavar="N",
+                      help=f"such units a second ({IDLE_RATE}): no fewer than the stream has frames")
     into.add_argument("--window", type=int, default=64, help="datagrams for which one that lacks is waited for, in RTP (64)")
     out = ways.add_parser("out", help="from standard input to UDP")
     out.add_argument("place", nargs="+", help="HOST:PORT")
     out.add_argument("--rtp", action="store_true", help="in RTP")
     pace = out.add_mutually_exclusive_group()
-    pace.add_argument("--rate", type=float, help="bits a second at which it is sent")
+    pace.add_argument("--rate", type=rate, help="bits a second at which it is sent")
     pace.add_argument("--pace", type=pid, metavar="PID", help="as fast as the T2-MI timestamps on the PID tell, a superframe later")
     out.add_argument("--ttl", type=int, default=1, help="of datagrams to a multicast group (1)")
     options = words.parse_args()
