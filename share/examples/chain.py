@@ -19,7 +19,7 @@ SMALL = os.path.join(TOP, "crates/site_cli/data/small.txt")
 SIZE = 188
 RATE = 2_000_000  # of the PLP of small.txt
 PID = "256"
-IDLE = ("--idle", PID, "--idle-rate", "100")  # more units a second than frames of small.txt, which has 92
+IDLE = ("--idle", PID)
 PORT = 48000
 
 

@@ -25,7 +25,8 @@ JUMP = 1000  # datagrams; behind a greater jump of the number the sender began a
 START = 8  # datagrams that are waited for before the first one is known
 BUFFER = 1 << 22
 SILENCE = 0.1  # seconds; as long as no datagram comes
-IDLE_RATE = 10  # idle units a second in a silence
+IDLE_AFTER = 0.3  # seconds of silence before the first idle unit: one within a frame costs that frame
+IDLE_RATE = 10  # idle units a second in a silence, as long as it is not known how many frames there are
 LULL = 0.01  # seconds; then what came of a datagram is sent
 LONGEST = 10  # seconds from one timestamp to the next; behind more the clock begins anew
 
@@ -116,9 +117,9 @@ class Idle:
             if (packets[at + 1] & 0x1F) << 8 | packets[at + 2] == self.pid:
                 self.counter = packets[at + 3] & 15
 
-    def unit(self):
+    def units(self, count):
         head = bytes([SYNC, self.pid >> 8, self.pid & 255, 0x20 | self.counter, SIZE - 5, 0])
-        return head + b"\xff" * (SIZE - len(head))
+        return (head + b"\xff" * (SIZE - len(head))) * count
 
 
 def listen(place):
@@ -156,7 +157,8 @@ def read_in(places, options):
     bridges = [listen(place) for place in places]
     order = Order(options.window)
     idle = None if options.idle is None else Idle(options.idle)
-    last, silent, datagrams, pause = time.monotonic(), False, 0, SILENCE
+    frame = None if options.idle is None else FrameTime(options.idle)
+    last, silent, datagrams, units, pause = time.monotonic(), False, 0, 0, SILENCE
     try:
         while True:
             ready, _, _ = select.select(bridges, [], [], pause)
@@ -166,11 +168,12 @@ def read_in(places, options):
                 datagrams += 1
                 if idle:
                     idle.see(packets)
+                    frame.see(packets)
                 write(packets)
             if ready:
                 if silent:
                     tell(f"it goes on, {now - last:.1f} s later")
-                last, silent, pause = now, False, SILENCE
+                last, silent, units, pause = now, False, 0, SILENCE
                 continue
             write(order.rest())
             if not silent and datagrams and now - last >= 1:
@@ -179,56 +182,91 @@ def read_in(places, options):
             if options.timeout is not None and now - last >= options.timeout:
                 tell(f"nothing came in {options.timeout:g} s: the end")
                 return
-            if idle:
-                write(idle.unit())
-                pause = 1 / options.idle_rate
+            if idle and now - last >= options.idle_after:
+                # One for each frame that the silence has lasted: mend gives the feed up for one frame by each.
+                seconds = 1 / options.idle_rate if options.idle_rate else frame.seconds or 1 / IDLE_RATE
+                due = int((now - last) / seconds)
+                write(idle.units(due - units))
+                units, pause = due, max(last + (due + 1) * seconds - time.monotonic(), 0)
     finally:
         tell(f"datagrams={datagrams} lost={order.lost} again={order.again}")
 
 
 # ---- out
 
-class Timestamps:
-    """The emission times that a T2-MI stream on a PID tells (ETSI TS 102 773, clauses 5.2.7 and 6.1)."""
+# T2-MI packets by their packet_type (ETSI TS 102 773, clause 5.1)
+L1_CURRENT, TIMESTAMP = 0x10, 0x20
 
-    # bw: the subseconds of a second (clause 5.2.7)
-    SUBSECONDS = {0: 131_000_000, 1: 40_000_000, 2: 48_000_000, 3: 56_000_000, 4: 64_000_000, 5: 80_000_000}
+
+class Packets:
+    """The T2-MI packets of a stream on a PID (ETSI TS 102 773, clauses 5.1 and 6.1)."""
 
     def __init__(self, pid):
-        self.pid, self.bytes, self.synced = pid, b"", False
+        self.pid, self.counter, self.bytes, self.synced, self.losses = pid, None, b"", False, 0
 
     def see(self, unit):
-        """The time in seconds that is told by a packet that ends in this unit, if one is."""
+        """Those that end in this unit. Behind one that lacks, they begin where a pointer_field tells."""
         if (unit[1] & 0x1F) << 8 | unit[2] != self.pid or not unit[3] & 0x10:
-            return None
+            return []
         begin = 4 + (1 + unit[4] if unit[3] & 0x20 else 0)
         if begin >= SIZE:
-            return None
+            return []
+        if self.counter not in (None, unit[3] - 1 & 15):
+            self.bytes, self.synced, self.losses = b"", False, self.losses + 1
+        self.counter = unit[3] & 15
         if not unit[1] & 0x40:
             self.bytes += unit[begin:] if self.synced else b""
         elif self.synced:
             self.bytes += unit[begin + 1:]
-        else:  # the pointer tells where the first packet begins
+        else:
             self.bytes, self.synced = unit[begin + 1 + unit[begin]:], True
-        return self.times()
+        return list(self.whole())
 
-    def times(self):
-        told = None
+    def whole(self):
         while len(self.bytes) >= 6:
             bits = int.from_bytes(self.bytes[4:6], "big")
             end = 6 + (bits + 7) // 8 + 4
             if len(self.bytes) < end:
                 break
-            if self.bytes[0] == 0x20:
-                told = self.time(self.bytes[6:17])
+            yield self.bytes[:end]
             self.bytes = self.bytes[end:]
-        return told
 
-    def time(self, payload):
-        fields = int.from_bytes(payload, "big")  # rfu 4, bw 4, seconds 40, subseconds 27, utco 13
-        seconds, subseconds = fields >> 40 & (1 << 40) - 1, fields >> 13 & (1 << 27) - 1
-        a_second = self.SUBSECONDS.get(payload[0] & 15)
-        return seconds + subseconds / a_second if a_second and 0 < seconds < (1 << 40) - 1 else None
+
+# bw: the subseconds of a second (clause 5.2.7)
+SUBSECONDS = {0: 131_000_000, 1: 40_000_000, 2: 48_000_000, 3: 56_000_000, 4: 64_000_000, 5: 80_000_000}
+
+
+def time_of(packet):
+    """The emission time in seconds that a packet tells, if it is a timestamp (clause 5.2.7)."""
+    if packet[0] != TIMESTAMP:
+        return None
+    fields = int.from_bytes(packet[6:17], "big")  # rfu 4, bw 4, seconds 40, subseconds 27, utco 13
+    seconds, subseconds = fields >> 40 & (1 << 40) - 1, fields >> 13 & (1 << 27) - 1
+    a_second = SUBSECONDS.get(packet[6] & 15)
+    return seconds + subseconds / a_second if a_second and 0 < seconds < (1 << 40) - 1 else None
+
+
+class FrameTime:
+    """How long a frame takes: from one timestamp to the next, by the L1-current packets between them, one a frame."""
+
+    def __init__(self, pid):
+        self.packets, self.last, self.frames, self.losses, self.seconds = Packets(pid), None, 0, 0, None
+
+    def see(self, packets):
+        for at in range(0, len(packets) - SIZE + 1, SIZE):
+            for packet in self.packets.see(packets[at:at + SIZE]):
+                self.note(packet)
+
+    def note(self, packet):
+        if packet[0] == L1_CURRENT:
+            self.frames += 1
+        now = time_of(packet)
+        if now is None:
+            return
+        whole = self.last is not None and self.losses == self.packets.losses
+        if whole and self.frames and 0 < now - self.last <= LONGEST:
+            self.seconds = (now - self.last) / self.frames
+        self.last, self.frames, self.losses = now, 0, self.packets.losses
 
 
 def packets_from(pipe):
@@ -265,9 +303,10 @@ def spread(datagrams, begin, seconds):
 
 def by_timestamps(datagrams, pid):
     """Each datagram with its time: those of a superframe spread over it, one superframe later than they come."""
-    stamps, waiting, last, due, seconds = Timestamps(pid), [], None, time.monotonic(), 0
+    stream, waiting, last, due, seconds = Packets(pid), [], None, time.monotonic(), 0
     for datagram in datagrams:
-        told = [t for t in (stamps.see(datagram[at:at + SIZE]) for at in range(0, len(datagram), SIZE)) if t is not None]
+        units = (datagram[at:at + SIZE] for at in range(0, len(datagram), SIZE))
+        told = [t for unit in units for t in map(time_of, stream.see(unit)) if t is not None]
         if told:
             seconds = told[-1] - last if last is not None else 0
             if not 0 <= seconds <= LONGEST:
@@ -328,8 +367,10 @@ def main():
     into.add_argument("place", nargs="+", help="[ADDRESS:]PORT; of an address of this machine, or of a multicast group")
     into.add_argument("--timeout", type=float, help="seconds of silence after which it ends")
     into.add_argument("--idle", type=pid, metavar="PID", help="says silence by units without payload on the PID")
-    into.add_argument("--idle-rate", type=rate, default=IDLE_RATE, metavar="N",
-                      help=f"such units a second ({IDLE_RATE}): no fewer than the stream has frames")
+    into.add_argument("--idle-after", type=rate, default=IDLE_AFTER, metavar="S",
+                      help=f"seconds of silence before the first of them ({IDLE_AFTER})")
+    into.add_argument("--idle-rate", type=rate, metavar="N",
+                      help=f"such units a second (as many as the stream has frames; {IDLE_RATE} before that is known)")
     into.add_argument("--window", type=int, default=64, help="datagrams for which one that lacks is waited for, in RTP (64)")
     out = ways.add_parser("out", help="from standard input to UDP")
     out.add_argument("place", nargs="+", help="HOST:PORT")

@@ -1,5 +1,6 @@
 -- How many bits there are.
-use Rattle.std.proofs.Common.{◌≡◌, ℕ, suc, ◌+◌, ◌-◌, ◌≤◌, List, Bool, false, [], ◌∷◌, ◌++◌, length, refl, ap, ◌∙◌, arith}
+use Rattle.std.proofs.Common.{◌≡◌, ℕ, suc, ◌+◌, ◌-◌, ◌≤◌, List, Bool, false, [], ◌∷◌, ◌++◌, length, refl, ap, ◌∙◌}
+use Rattle.std.proofs.Common.{arith}
 use Rattle.std.specs.Prelude.{replicate}
 use Rattle.std.proofs.lemmas.List.{length-append, length-replicate}
 use Rattle.bb_frame.specs.BasebandFrame.{header_bits, frame_bits}
@@ -8,7 +9,8 @@ use Rattle.bb_frame.specs.Scrambled.{added}
 use Rattle.bb_frame.specs.declared.header.Header.{Header}
 use Rattle.bb_frame.proofs.FrameLemmas.{length-header}
 
-length-frame : (h : Header) (body : List Bool) (size : ℕ) → 80 + length body ≤ size → length (frame_bits h body size) ≡ size
+length-frame : (h : Header) (body : List Bool) (size : ℕ) → 80 + length body ≤ size
+    → length (frame_bits h body size) ≡ size
 length-frame h body size fits =
     let zeros : List Bool = replicate (size - 80 - length body) false in
     let sum : 80 + length body + (size - 80 - length body) ≡ size = omega arith in

@@ -1,11 +1,13 @@
 -- Where the parts of a frame stand, and how it is put together from them.
-use Rattle.std.proofs.Common.{◌≡◌, ℕ, ◌+◌, ◌/◌, ◌%◌, ◌^◌, ◌<◌, ◌≤◌, Bool, List, [], ◌++◌, length, take, drop, refl, ap, sym, ◌∙◌}
+use Rattle.std.proofs.Common.{◌≡◌, ℕ, ◌+◌, ◌/◌, ◌%◌, ◌^◌, ◌<◌, ◌≤◌, Bool, List, [], ◌++◌, length, take, drop, refl, ap}
+use Rattle.std.proofs.Common.{sym, ◌∙◌}
 use Rattle.std.proofs.Common.{arith, append_assoc, length-append}
 use Rattle.std.specs.Prelude.{bit_xor}
 use Rattle.std.proofs.lemmas.List.{take_at, take-append-drop}
 use Rattle.std.proofs.lemmas.Nat.{xor_lt}
 use Rattle.terms.specs.Bits.{field, number_of, part, number_at}
-use Rattle.terms.proofs.BitLemmas.{length-field, length-part, field-number_at, field-high, number_of-field-mod, number_at-lt}
+use Rattle.terms.proofs.BitLemmas.{length-field, length-part, field-number_at, field-high, number_of-field-mod}
+use Rattle.terms.proofs.BitLemmas.{number_at-lt}
 use Rattle.terms.proofs.PartLemmas.{part-add, part-middle, number-middle}
 use Rattle.bit_slice.specs.Crc.{crc8_of}
 use Rattle.bb_frame.specs.declared.header.Header.{Header}
@@ -46,7 +48,8 @@ fields_read h tail fit =
     let seven : length (a ++ b ++ c ++ d ++ e) ≡ 56 = simp (length-append, length-field) refl in
     let high : h.issy / 2 ^ 8 < 2 ^ 16 = let small = fit.issy in omega arith in (
       ap (λ (bits : List Bool). number_at bits 0 8) at_a ∙ number-middle [] _ 0 8 h.matype1 refl fit.matype1,
-      ap (λ (bits : List Bool). number_at bits 8 8) at_b ∙ number-middle a _ 8 8 h.matype2 (length-field 8 h.matype1) fit.matype2,
+      ap (λ (bits : List Bool). number_at bits 8 8) at_b ∙ number-middle a _ 8 8 h.matype2 (length-field 8 h.matype1)
+          fit.matype2,
       ap (λ (bits : List Bool). number_at bits 16 16) at_c ∙ number-middle (a ++ b) _ 16 16 (h.issy / 2 ^ 8) two high,
       ap (λ (bits : List Bool). number_at bits 32 16) at_d ∙ number-middle (a ++ b ++ c) _ 32 16 h.dfl four fit.dfl,
       ap (λ (bits : List Bool). number_at bits 48 8) at_e
@@ -77,7 +80,8 @@ placed bounded h body bits s =
     let small : crc < 2 ^ 8 = xor_lt 8 (crc8_of (fields_bits h)) mode (bounded (fields_bits h)) one in
     let told : told_crc bits ≡ crc = ap (λ (xs : List Bool). number_at xs 72 8) (whole ∙ ends)
     ∙ number-middle (fields_bits h) (body ++ s.padding) 72 8 crc (length-fields h) small in
-    let front : part bits 0 72 ≡ fields_bits h = ap (take 72) whole ∙ take_at (fields_bits h) tail 72 (length-fields h) in
+    let front : part bits 0 72 ≡ fields_bits h = ap (take 72) whole ∙ take_at (fields_bits h) tail 72
+    (length-fields h) in
     let dfl : number_at bits 32 16 ≡ h.dfl = ap (λ (xs : List Bool). number_at xs 32 16) whole ∙ read.3 in
     let syncd : number_at bits 56 16 ≡ h.syncd = ap (λ (xs : List Bool). number_at xs 56 16) whole ∙ read.5 in
     let upper : number_at bits 16 16 ≡ h.issy / 2 ^ 8 = ap (λ (xs : List Bool). number_at xs 16 16) whole ∙ read.2 in
@@ -95,7 +99,8 @@ placed bounded h body bits s =
         dfl = sym dfl;
         syncd = sym syncd;
       };
-      taken = sym (ap (λ (xs : List Bool). part xs 80 h.dfl) behind ∙ part-middle (header_bits h) body s.padding 80 h.dfl
+      taken = sym (ap (λ (xs : List Bool). part xs 80 h.dfl) behind ∙ part-middle (header_bits h) body
+          s.padding 80 h.dfl
           (length-header h) (sym d.len));
     }
 
@@ -109,7 +114,8 @@ restored : (xs : List Bool) (at width n : ℕ) → n ≡ number_at xs at width �
     → part xs at width ≡ field width n
 restored xs at width n e h = sym (field-number_at xs at width h) ∙ ap (field width) (sym e)
 
-fields_parts : (xs : List Bool) → part xs 0 72 ≡ part xs 0 8 ++ part xs 8 8 ++ part xs 16 16 ++ part xs 32 16 ++ part xs 48 8
+fields_parts : (xs : List Bool) → part xs 0 72 ≡ part xs 0 8 ++ part xs 8 8 ++ part xs 16 16 ++ part xs 32 16
+    ++ part xs 48 8
     ++ part xs 56 16
 fields_parts xs =
     part-add xs 0 56 16
@@ -143,12 +149,14 @@ fields_are bits h long r =
     let b = restored bits 8 8 h.matype2 r.matype2 (omega arith) in
     let c = restored bits 16 16 (h.issy / 2 ^ 8) upper_is (omega arith) in
     let d = restored bits 32 16 h.dfl r.dfl (omega arith) in
-    let e : part bits 48 8 ≡ field 8 h.issy = restored bits 48 8 (number_at bits 48 8) refl (omega arith) ∙ sym lower_is in
+    let e : part bits 48 8 ≡ field 8 h.issy = restored bits 48 8 (number_at bits 48 8) refl (omega arith)
+    ∙ sym lower_is in
     let f = restored bits 56 16 h.syncd r.syncd (omega arith) in
     fields_parts bits ∙ rw (a, b, c, d, e, f) refl
 
 -- What was read off is spelled by the bits.
-pub spelled : (bits : List Bool) (h : Header) (body : List Bool) → 80 ≤ length bits → IsRead bits h body → Spells h body bits
+pub spelled : (bits : List Bool) (h : Header) (body : List Bool) → 80 ≤ length bits → IsRead bits h body
+    → Spells h body bits
 spelled bits h body long r =
     let fields = fields_are bits h long r.fields in
     let crc : part bits 72 8 ≡ field 8 (bit_xor (crc8_of (fields_bits h)) mode) =

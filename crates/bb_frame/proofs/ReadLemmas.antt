@@ -9,7 +9,8 @@ use Rattle.bb_frame.specs.declared.header.Header.{Header}
 use Rattle.bb_frame.specs.declared.reading.BbView.{BbView}
 use Rattle.bb_frame.specs.declared.fault.BbFault.{BbFault}
 use Rattle.bb_frame.specs.declared.fault.BbFault.TheVariants.{Crc, Mode, Length, Sync}
-use Rattle.bb_frame.specs.BasebandFrame.{mode, Spells, told_crc, counted_crc, told_dfl, told_syncd, IsPlace, IsNormalMode, HasCrc}
+use Rattle.bb_frame.specs.BasebandFrame.{mode, Spells, told_crc, counted_crc, told_dfl, told_syncd, IsPlace}
+use Rattle.bb_frame.specs.BasebandFrame.{IsNormalMode, HasCrc}
 use Rattle.bb_frame.specs.BasebandFrame.{HasLength, HasSync, Refuses}
 use Rattle.bb_frame.specs.Reading.{HasFields, IsRead}
 use Rattle.bb_frame.specs.Laws.{WrittenIsSpelled, NoRefusal, SpelledOrRefused, OneRefusal}
@@ -27,7 +28,8 @@ not_normal : (bits : List Bool) → HasCrc bits → ¬ (IsNormalMode bits)
 not_normal bits crc normal = modes_differ (counted_crc bits) (sym crc ∙ normal)
 
 -- What is read is not refused.
-not_refused : (bits : List Bool) (h : Header) (body : List Bool) (fault : BbFault) → IsRead bits h body → ¬ (Refuses bits fault)
+not_refused : (bits : List Bool) (h : Header) (body : List Bool) (fault : BbFault) → IsRead bits h body
+    → ¬ (Refuses bits fault)
 not_refused bits h body Mode r refused = not_normal bits r.crc refused
 not_refused bits h body Crc r refused = refused.1 r.crc
 not_refused bits h body Length r refused = refused.1 r.len
@@ -49,7 +51,8 @@ header_same bits h k r s =
     (r.issy ∙ sym s.issy) (r.dfl ∙ sym s.dfl)
     (r.syncd ∙ sym s.syncd)
 
-view_same : (bits : List Bool) (v : BbView) (h : Header) (body : List Bool) → IsRead bits v.header v.field → IsRead bits h body
+view_same : (bits : List Bool) (v : BbView) (h : Header) (body : List Bool) → IsRead bits v.header v.field
+    → IsRead bits h body
     → v ≡ record { header = h; field = body }
 view_same bits v h body r s =
     let header : v.header ≡ h = header_same bits v.header h r.fields s.fields in
@@ -61,7 +64,8 @@ pub every_read : Bounded → (bits : List Bool) (r : Result BbView BbFault) → 
 every_read bounded bits (Ok v) ok err h body s = ap Ok (view_same bits v h body ok (placed bounded h body bits s))
 every_read bounded bits (Err e) ok err h body s = absurd (not_refused bits h body e (placed bounded h body bits s) err)
 
-pub ok_spelled : (bits : List Bool) (r : Result BbView BbFault) → 80 ≤ length bits → IfOk r (λ v. IsRead bits v.header v.field)
+pub ok_spelled : (bits : List Bool) (r : Result BbView BbFault) → 80 ≤ length bits
+    → IfOk r (λ v. IsRead bits v.header v.field)
     → IfOk r (λ v. Spells v.header v.field bits)
 ok_spelled bits (Ok v) long h = spelled bits v.header v.field long h
 ok_spelled bits (Err e) long h = tt
@@ -108,7 +112,8 @@ told_header bits = record {
 len_or : (bits : List Bool) → HasLength bits ⊎ (¬ (HasLength bits))
 len_or bits =
     ⊎_elim (λ (whole : told_dfl bits % 8 ≡ 0).
-    ⊎_elim (λ (far : length bits < 80 + told_dfl bits). inr (λ (h : HasLength bits). let never : ⊥ = omega (arith, h.1, far) in
+    ⊎_elim (λ (far : length bits < 80 + told_dfl bits). inr (λ (h : HasLength bits). let never : ⊥ =
+    omega (arith, h.1, far) in
     never))
     (λ (there : 80 + told_dfl bits ≤ length bits). inl (whole, there)) (cases_lt (length bits) (80 + told_dfl bits)))
     (λ (cut : told_dfl bits % 8 ≡ 0 → ⊥). inr (λ (h : HasLength bits). cut h.0)) (cases_eq (told_dfl bits % 8) 0)
@@ -121,7 +126,8 @@ place_or syncd dfl =
     (λ (far : dfl ≤ syncd).
     inr (⊎_elim some (λ (h : (syncd % 8 ≡ 0) × (syncd < dfl)). let never : ⊥ = omega (arith, h.1, far) in never)))
     (cases_lt syncd dfl))
-    (λ (cut : syncd % 8 ≡ 0 → ⊥). inr (⊎_elim some (λ (h : (syncd % 8 ≡ 0) × (syncd < dfl)). cut h.0))) (cases_eq (syncd % 8) 0))
+    (λ (cut : syncd % 8 ≡ 0 → ⊥). inr (⊎_elim some (λ (h : (syncd % 8 ≡ 0) × (syncd < dfl)). cut h.0)))
+    (cases_eq (syncd % 8) 0))
     (cases_eq syncd 65535)
 
 fields_told : (bits : List Bool) → HasFields bits (told_header bits)

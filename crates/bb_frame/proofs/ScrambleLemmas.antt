@@ -1,5 +1,6 @@
 -- The sequence added a byte at a time.
-use Rattle.std.proofs.Common.{◌≡◌, ℕ, zero, suc, ◌+◌, ◌-◌, ◌*◌, ◌%◌, ◌<◌, ◌≤◌, ◌==◌, Bool, true, false, List, [], ◌∷◌, ◌++◌}
+use Rattle.std.proofs.Common.{◌≡◌, ℕ, zero, suc, ◌+◌, ◌-◌, ◌*◌, ◌%◌, ◌<◌, ◌≤◌, ◌==◌, Bool, true, false, List, [], ◌∷◌}
+use Rattle.std.proofs.Common.{◌++◌}
 use Rattle.std.proofs.Common.{⊎_elim, length, take, drop, map, get_or, refl, ap, sym, ◌∙◌, arith}
 use Rattle.std.specs.Prelude.{bit_xor}
 use Rattle.std.specs.Int.{bit_at}
@@ -65,7 +66,8 @@ length-prbs (suc n) i = ap suc (length-prbs n (i + 1))
 byte_added : (byte k : ℕ) → field 8 (bit_xor byte (prbs_byte k)) ≡ added (8 * k) (field 8 byte)
 byte_added byte k =
     let eight : List Bool = map prbs (range_with_len (8 * k) 8) in
-    let back : field 8 (number_of eight) ≡ eight = ap (λ (n : ℕ). field n (number_of eight)) (sym (length-prbs 8 (8 * k)))
+    let back : field 8 (number_of eight) ≡ eight = ap (λ (n : ℕ). field n (number_of eight))
+    (sym (length-prbs 8 (8 * k)))
     ∙ field-number_of eight in
     field-xor 8 byte (prbs_byte k) ∙ ap (sums (field 8 byte)) back
     ∙ sym (added_sums (field 8 byte) (8 * k) ∙ ap (λ (n : ℕ). sums (field 8 byte) (map prbs (range_with_len (8 * k) n)))
@@ -75,7 +77,8 @@ added-append : (xs ys : List Bool) (i : ℕ) → added i (xs ++ ys) ≡ added i 
 added-append [] ys i = let e : i ≡ i + 0 = omega arith in ap (λ (k : ℕ). added k ys) e
 added-append (x ∷ xs) ys i =
     let e : i + 1 + length xs ≡ i + suc (length xs) = omega arith in
-    ap (λ (zs : List Bool). plus x (prbs i) ∷ zs) (added-append xs ys (i + 1) ∙ ap (λ (k : ℕ). added (i + 1) xs ++ added k ys) e)
+    ap (λ (zs : List Bool). plus x (prbs i) ∷ zs) (added-append xs ys (i + 1)
+    ∙ ap (λ (k : ℕ). added (i + 1) xs ++ added k ys) e)
 
 -- all bytes from one on
 pub bytes_added : (old new : List ℕ) (k : ℕ) → length new ≡ length old
@@ -118,7 +121,8 @@ mid xs at piece = take at xs ++ (piece ++ drop (length piece) (drop at xs))
 before_mid : (xs piece : List ℕ) (at j : ℕ) → at ≤ length xs → j < at → get_or (mid xs at piece) j 0 ≡ get_or xs j 0
 unfolding mid
 before_mid xs piece at j inside h =
-    get_or_append_left (take at xs) (piece ++ drop (length piece) (drop at xs)) 0 j (omega (arith, length-take-le at xs inside))
+    get_or_append_left (take at xs) (piece ++ drop (length piece) (drop at xs)) 0 j
+    (omega (arith, length-take-le at xs inside))
     ∙ get_or-take at xs j 0 h
 
 from_mid : (xs piece : List ℕ) (at j : ℕ) → at ≤ length xs → at ≤ j → get_or (mid xs at piece) j 0
@@ -127,10 +131,12 @@ unfolding mid
 from_mid xs piece at j inside h = get_or-append_right (take at xs) (piece ++ drop (length piece) (drop at xs)) at j 0
     (length-take-le at xs inside) h
 
-within_mid : (xs piece : List ℕ) (at j : ℕ) → at ≤ length xs → at ≤ j → j < at + length piece → get_or (mid xs at piece) j 0
+within_mid : (xs piece : List ℕ) (at j : ℕ) → at ≤ length xs → at ≤ j → j < at + length piece
+    → get_or (mid xs at piece) j 0
     ≡ get_or piece (j - at) 0
 within_mid xs piece at j inside h short =
-    from_mid xs piece at j inside h ∙ get_or_append_left piece (drop (length piece) (drop at xs)) 0 (j - at) (omega arith)
+    from_mid xs piece at j inside h ∙ get_or_append_left piece (drop (length piece) (drop at xs)) 0 (j - at)
+    (omega arith)
 
 behind_mid : (xs piece : List ℕ) (at j : ℕ) → at ≤ length xs → at + length piece ≤ j → get_or (mid xs at piece) j 0
     ≡ get_or xs j 0
@@ -139,7 +145,8 @@ behind_mid xs piece at j inside h =
     let place : at + (n + (j - at - n)) ≡ j = omega arith in
     from_mid xs piece at j inside (omega arith)
     ∙ get_or-append_right piece (drop n (drop at xs)) n (j - at) 0 refl (omega arith)
-    ∙ get_or-drop n (drop at xs) (j - at - n) 0 ∙ get_or-drop at xs (n + (j - at - n)) 0 ∙ ap (λ (i : ℕ). get_or xs i 0) place
+    ∙ get_or-drop n (drop at xs) (j - at - n) 0 ∙ get_or-drop at xs (n + (j - at - n)) 0
+    ∙ ap (λ (i : ℕ). get_or xs i 0) place
 
 length-mid : (xs piece : List ℕ) (at : ℕ) → at + length piece ≤ length xs → length (mid xs at piece) ≡ length xs
 unfolding mid
@@ -178,9 +185,11 @@ part_added old now piece sequence done count n a inside short is size runs each 
     let long : length piece ≡ count = size ∙ part in
     let same : n ≡ length piece = omega arith in
     let sums : (k : ℕ) → k < length piece → get_or piece k 0 ≡ bit_xor (get_or now (done + k) 0) (get_or sequence k 0) =
-    λ k h. each k (omega arith) ∙ ap (λ (x : ℕ). bit_xor x (get_or sequence k 0)) (get_or-part now done n k 0 (omega arith)) in
+    λ k h. each k (omega arith) ∙ ap (λ (x : ℕ). bit_xor x (get_or sequence k 0))
+    (get_or-part now done n k 0 (omega arith)) in
     let all = more_added old now piece sequence done a (omega arith) (omega arith) runs sums in
     rw (same, ← long) all
 
-pub all_added : (old new : List ℕ) (done : ℕ) → AddedTo old new done → done ≡ length old → bits_of new ≡ scrambled (bits_of old)
+pub all_added : (old new : List ℕ) (done : ℕ) → AddedTo old new done → done ≡ length old
+    → bits_of new ≡ scrambled (bits_of old)
 all_added old new done a is = all_scrambled old new a.size (λ j h. a.sums j (omega arith))

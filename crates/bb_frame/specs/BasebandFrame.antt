@@ -1,5 +1,6 @@
 -- Baseband frames in high-efficiency mode (EN 302 755, clause 5.1.7): how a frame is spelled, and why bits are none.
-use Rattle.std.specs.Prelude.{◌≡◌, ◌⊎◌, ℕ, ◌+◌, ◌-◌, ◌/◌, ◌%◌, ◌<◌, ◌≤◌, ◌^◌, List, Bool, false, ◌++◌, length, replicate, bit_xor}
+use Rattle.std.specs.Prelude.{◌≡◌, ◌⊎◌, ℕ, ◌+◌, ◌-◌, ◌/◌, ◌%◌, ◌<◌, ◌≤◌, ◌^◌, List, Bool, false, ◌++◌, length}
+use Rattle.std.specs.Prelude.{replicate, bit_xor}
 use Rattle.terms.specs.Bits.{field, part, number_at}
 use Rattle.bit_slice.specs.Crc.{crc8_of}
 use Rattle.bb_frame.specs.declared.header.Header.{Header}
@@ -7,7 +8,8 @@ use Rattle.bb_frame.specs.declared.header.TheConstants.{HEADER_BITS, NO_START}
 use Rattle.bb_frame.specs.declared.fault.BbFault.{BbFault}
 use Rattle.bb_frame.specs.declared.fault.BbFault.TheVariants.{Crc, Mode, Length, Sync}
 
--- the header but for its last byte: MATYPE-1, MATYPE-2, the two upper bytes of ISSY, DFL, the lowest byte of ISSY, SYNCD
+-- the header but for its last byte: MATYPE-1, MATYPE-2, the two upper bytes of ISSY, DFL, the lowest byte of ISSY,
+-- SYNCD
 abbrev pub fields_bits : Header → List Bool
 fields_bits h = field 8 h.matype1 ++ field 8 h.matype2 ++ field 16 (h.issy / 2 ^ 8) ++ field 16 h.dfl ++ field 8 h.issy
     ++ field 16 h.syncd

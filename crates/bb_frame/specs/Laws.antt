@@ -17,7 +17,8 @@ NoRefusal = (h : Header) (body bits : List Bool) (fault : BbFault) → Spells h 
 
 -- As many bits as a header has, or more, are a frame or have a refusal.
 abbrev pub SpelledOrRefused : Type 0
-SpelledOrRefused = (bits : List Bool) → HEADER_BITS ≤ length bits → ((h : Header) × ((body : List Bool) × Spells h body bits))
+SpelledOrRefused = (bits : List Bool) → HEADER_BITS ≤ length bits
+    → ((h : Header) × ((body : List Bool) × Spells h body bits))
     ⊎ ((fault : BbFault) × Refuses bits fault)
 
 -- Bits have one refusal at most.
@@ -32,6 +33,7 @@ ScramblesBack = (bits : List Bool) → scrambled (scrambled bits) ≡ bits
 -- changes no number.
 pub record BitCounts : Type 0 where
   pub header : (h : Header) → length (header_bits h) ≡ HEADER_BITS
-  pub frame : (h : Header) (body : List Bool) (size : ℕ) → HEADER_BITS + length body ≤ size → length (frame_bits h body size)
+  pub frame : (h : Header) (body : List Bool) (size : ℕ) → HEADER_BITS + length body ≤ size
+      → length (frame_bits h body size)
       ≡ size
   pub scrambled : (bits : List Bool) → length (scrambled bits) ≡ length bits

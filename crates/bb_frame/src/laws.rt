@@ -1,5 +1,6 @@
 // Laws of the definitions. Their functions do nothing.
-ghost use Rattle.bb_frame.specs.Laws.{WrittenIsSpelled, NoRefusal, SpelledOrRefused, OneRefusal, ScramblesBack, BitCounts};
+ghost use Rattle.bb_frame.specs.Laws.{WrittenIsSpelled, NoRefusal, SpelledOrRefused, OneRefusal, ScramblesBack};
+ghost use Rattle.bb_frame.specs.Laws.{BitCounts};
 
 use bit_slice::crc8_law;
 

@@ -78,7 +78,8 @@ pub fn write_frame<S: BitSink>(
     requires inside { HEADER_BITS + length field ≤ kbch }
     requires bytes { kbch % 8 ≡ 0 }
     ensures ok { OnOk result (Puts (S.state sink.old) (S.state sink.new) (frame_bits header.now field.entry kbch)) }
-    ensures fault { IfErr result (Stops (S.state sink.old) (S.state sink.new) (frame_bits header.now field.entry kbch)) }
+    ensures fault { IfErr result (Stops (S.state sink.old) (S.state sink.new)
+        (frame_bits header.now field.entry kbch)) }
 {
     puts_law();
     stops_law();

@@ -1,9 +1,11 @@
 -- What bytes make of the register, by what zero bits make of a byte at its top: the laws that tables rest on.
-use Rattle.std.proofs.Common.{◌≡◌, ℕ, zero, suc, ◌+◌, ◌-◌, ◌*◌, ◌/◌, ◌%◌, ◌^◌, ◌<◌, ◌≤◌, List, [], ◌∷◌, length, get_or, refl, ap}
+use Rattle.std.proofs.Common.{◌≡◌, ℕ, zero, suc, ◌+◌, ◌-◌, ◌*◌, ◌/◌, ◌%◌, ◌^◌, ◌<◌, ◌≤◌, List, [], ◌∷◌, length, get_or}
+use Rattle.std.proofs.Common.{refl, ap}
 use Rattle.std.proofs.Common.{sym, ◌∙◌, arith}
 use Rattle.std.specs.Prelude.{bit_xor}
 use lib.Bits.{xor_assoc, xor_shifted, xor_zero_l, xor_zero_r}
-use Rattle.std.proofs.lemmas.Nat.{xor_block, xor_comm, xor_lt, pow_pos, pow-add, shl_below, shr_below, shr_split, mod_below}
+use Rattle.std.proofs.lemmas.Nat.{xor_block, xor_comm, xor_lt, pow_pos, pow-add, shl_below, shr_below, shr_split}
+use Rattle.std.proofs.lemmas.Nat.{mod_below}
 use Rattle.std.proofs.lemmas.Nat.{mod_low}
 use Rattle.terms.specs.Bits.{field, bits_of, number_of}
 use Rattle.terms.proofs.BitLemmas.{length-field, length-bits_of, bits_of-append, number_of-field, four_bytes}
@@ -14,7 +16,8 @@ use Rattle.bit_slice.proofs.ZerosLemmas.{register_is_zeros}
 
 -- a byte: what it makes with the highest byte of the register is looked up, and the rest moves
 pub register-byte : (d low : ℕ) → low < 2 ^ d → 8 ≤ d → (s b : ℕ) → s < 2 ^ d → b < 2 ^ 8 →
-    register d low s (field 8 b) ≡ bit_xor (s * 2 ^ 8 % 2 ^ d) (zeros d low 8 (bit_xor (s / 2 ^ (d - 8)) b * 2 ^ (d - 8)))
+    register d low s (field 8 b) ≡ bit_xor (s * 2 ^ 8 % 2 ^ d)
+    (zeros d low 8 (bit_xor (s / 2 ^ (d - 8)) b * 2 ^ (d - 8)))
 register-byte d low small wide s b fits fits_b =
     let k : ℕ = d - 8 in
     let high : ℕ = s / 2 ^ k in
@@ -74,16 +77,19 @@ zeros-word low first x small fits =
     let join_cd : bit_xor (c * 2 ^ 8) d ≡ c * 2 ^ 8 + d = xor_shifted c 8 d (omega arith) in
     let join_bcd : bit_xor (b * 2 ^ 16) (c * 2 ^ 8 + d) ≡ b * 2 ^ 16 + (c * 2 ^ 8 + d) =
     xor_shifted b 16 (c * 2 ^ 8 + d) fits_cd in
-    let join : bit_xor (a * 2 ^ 24) (b * 2 ^ 16 + (c * 2 ^ 8 + d)) ≡ x = xor_shifted a 24 (b * 2 ^ 16 + (c * 2 ^ 8 + d)) fits_bcd
+    let join : bit_xor (a * 2 ^ 24) (b * 2 ^ 16 + (c * 2 ^ 8 + d)) ≡ x = xor_shifted a 24 (b * 2 ^ 16 + (c * 2 ^ 8 + d))
+    fits_bcd
     ∙ spelled in
     let size_d : 24 + 8 * (first + 1) ≡ n = omega arith in
     let size_c : 16 + 8 * (first + 1 + 1) ≡ n = omega arith in
     let size_b : 8 + 8 * (first + 2 + 1) ≡ n = omega arith in
     let size_a : 8 * (first + 3 + 1) ≡ n = omega arith in
     let at_d : zeros 32 low n d ≡ zeros 32 low (8 * (first + 1)) (d * 2 ^ 24) =
-    ap (λ (k : ℕ). zeros 32 low k d) (sym size_d) ∙ zeros_moved 32 low 24 (8 * (first + 1)) d (d * 2 ^ 24) refl (omega arith) in
+    ap (λ (k : ℕ). zeros 32 low k d) (sym size_d) ∙ zeros_moved 32 low 24 (8 * (first + 1)) d (d * 2 ^ 24)
+    refl (omega arith) in
     let at_c : zeros 32 low n (c * 2 ^ 8) ≡ zeros 32 low (8 * (first + 1 + 1)) (c * 2 ^ 24) =
-    ap (λ (k : ℕ). zeros 32 low k (c * 2 ^ 8)) (sym size_c) ∙ zeros_moved 32 low 16 (8 * (first + 1 + 1)) (c * 2 ^ 8) (c * 2 ^ 24)
+    ap (λ (k : ℕ). zeros 32 low k (c * 2 ^ 8)) (sym size_c) ∙ zeros_moved 32 low 16 (8 * (first + 1 + 1))
+    (c * 2 ^ 8) (c * 2 ^ 24)
     (omega arith) (omega arith) in
     let at_b : zeros 32 low n (b * 2 ^ 16) ≡ zeros 32 low (8 * (first + 2 + 1)) (b * 2 ^ 24) =
     ap (λ (k : ℕ). zeros 32 low k (b * 2 ^ 16)) (sym size_b) ∙ zeros_moved 32 low 8 (8 * (first + 2 + 1)) (b * 2 ^ 16)
@@ -94,12 +100,14 @@ zeros-word low first x small fits =
     ap (zeros 32 low n) (sym join_cd) ∙ zeros_xor 32 low small n (c * 2 ^ 8) d (omega arith) (omega arith) in
     let sum_bcd : zeros 32 low n (b * 2 ^ 16 + (c * 2 ^ 8 + d)) ≡ bit_xor (zeros 32 low n (b * 2 ^ 16))
     (zeros 32 low n (c * 2 ^ 8 + d)) =
-    ap (zeros 32 low n) (sym join_bcd) ∙ zeros_xor 32 low small n (b * 2 ^ 16) (c * 2 ^ 8 + d) (omega arith) (omega arith) in
+    ap (zeros 32 low n) (sym join_bcd) ∙ zeros_xor 32 low small n (b * 2 ^ 16) (c * 2 ^ 8 + d) (omega arith)
+    (omega arith) in
     let sum : zeros 32 low n x ≡ bit_xor (zeros 32 low n (a * 2 ^ 24)) (zeros 32 low n (b * 2 ^ 16 + (c * 2 ^ 8 + d))) =
     ap (zeros 32 low n) (sym join) ∙ zeros_xor 32 low small n (a * 2 ^ 24) (b * 2 ^ 16 + (c * 2 ^ 8 + d)) (omega arith)
     (omega arith) in
     rw (← at_d, ← at_c, ← at_b, ← at_a)
-    (xor_turn (zeros 32 low n (a * 2 ^ 24)) (zeros 32 low n (b * 2 ^ 16)) (zeros 32 low n (c * 2 ^ 8)) (zeros 32 low n d)
+    (xor_turn (zeros 32 low n (a * 2 ^ 24)) (zeros 32 low n (b * 2 ^ 16)) (zeros 32 low n (c * 2 ^ 8))
+    (zeros 32 low n d)
     ∙ ap (λ (y : ℕ). bit_xor (zeros 32 low n (a * 2 ^ 24)) (bit_xor (zeros 32 low n (b * 2 ^ 16)) y)) (sym sum_cd)
     ∙ ap (bit_xor (zeros 32 low n (a * 2 ^ 24))) (sym sum_bcd) ∙ sym sum)
 
@@ -113,7 +121,8 @@ register-word low s bytes small fits size =
     rw (wide, e) at (register_is_zeros 32 low small (bits_of bytes) s fits few)
 
 -- Four bytes are 32 zero bits of the sum of the register and their word.
-pub register-four : (low s : ℕ) (bytes : List ℕ) → low < 2 ^ 32 → s < 2 ^ 32 → length bytes ≡ 4 → ((i : ℕ) → get_or bytes i 0 < 256)
+pub register-four : (low s : ℕ) (bytes : List ℕ) → low < 2 ^ 32 → s < 2 ^ 32 → length bytes ≡ 4
+    → ((i : ℕ) → get_or bytes i 0 < 256)
     →
     zeros 32 low 32
     (bit_xor s (get_or bytes 0 0 * 2 ^ 24 + get_or bytes 1 0 * 2 ^ 16 + get_or bytes 2 0 * 2 ^ 8 + get_or bytes 3 0))
@@ -124,7 +133,8 @@ register-four low s (a ∷ b ∷ c ∷ d ∷ []) small fits size each =
 register-four low s bytes small fits size each = absurd (omega arith)
 
 -- eight bytes are 32 zero bits of the last four and 64 of the sum of the register and the first four.
-register-eight : (low s : ℕ) (bytes : List ℕ) → low < 2 ^ 32 → s < 2 ^ 32 → length bytes ≡ 8 → ((i : ℕ) → get_or bytes i 0 < 256)
+register-eight : (low s : ℕ) (bytes : List ℕ) → low < 2 ^ 32 → s < 2 ^ 32 → length bytes ≡ 8
+    → ((i : ℕ) → get_or bytes i 0 < 256)
     →
     bit_xor (zeros 32 low 32 (get_or bytes 4 0 * 2 ^ 24 + get_or bytes 5 0 * 2 ^ 16 + get_or bytes 6 0 * 2 ^ 8
     + get_or bytes 7 0))
@@ -156,12 +166,14 @@ register-eight low s bytes small fits size each = absurd (omega arith)
 
 -- four parts, of which the last two are read as one
 joined_turn : (a b c d : ℕ) → bit_xor (bit_xor (bit_xor a b) c) d ≡ bit_xor a (bit_xor (bit_xor c d) b)
-joined_turn a b c d = xor_assoc (bit_xor a b) c d ∙ xor_assoc a b (bit_xor c d) ∙ ap (bit_xor a) (xor_comm b (bit_xor c d))
+joined_turn a b c d = xor_assoc (bit_xor a b) c d ∙ xor_assoc a b (bit_xor c d)
+    ∙ ap (bit_xor a) (xor_comm b (bit_xor c d))
 
 -- eight bytes more behind eight bytes
 eight_more : (low s m x y u v : ℕ) → low < 2 ^ 32 → s < 2 ^ 32 → x < 2 ^ 32 → y < 2 ^ 32 → u < 2 ^ 32 →
     bit_xor (zeros 32 low 32 y) (zeros 32 low 64 (bit_xor s x)) ≡ m →
-    bit_xor (bit_xor (bit_xor (zeros 32 low 32 v) (zeros 32 low 64 u)) (zeros 32 low 96 y)) (zeros 32 low 128 (bit_xor s x))
+    bit_xor (bit_xor (bit_xor (zeros 32 low 32 v) (zeros 32 low 64 u)) (zeros 32 low 96 y))
+    (zeros 32 low 128 (bit_xor s x))
     ≡ bit_xor (zeros 32 low 32 v) (zeros 32 low 64 (bit_xor m u))
 eight_more low s m x y u v small fits fits_x fits_y fits_u is =
     let f : ℕ = bit_xor s x in
@@ -180,7 +192,8 @@ eight_more low s m x y u v small fits fits_x fits_y fits_u is =
     ∙ ap (bit_xor (zeros 32 low 32 v)) (sym (zeros_xor 32 low small 64 (bit_xor back front) u fits_m fits_u))
     ∙ ap (λ (n : ℕ). bit_xor (zeros 32 low 32 v) (zeros 32 low 64 (bit_xor n u))) is
 
-each_front : (a b c d e f g h : ℕ) → a < 256 → b < 256 → c < 256 → d < 256 → e < 256 → f < 256 → g < 256 → h < 256 → (i : ℕ)
+each_front : (a b c d e f g h : ℕ) → a < 256 → b < 256 → c < 256 → d < 256 → e < 256 → f < 256 → g < 256
+    → h < 256 → (i : ℕ)
     → get_or (a ∷ b ∷ c ∷ d ∷ e ∷ f ∷ g ∷ h ∷ []) i 0 < 256
 each_front a b c d e f g h k0 k1 k2 k3 k4 k5 k6 k7 zero = k0
 each_front a b c d e f g h k0 k1 k2 k3 k4 k5 k6 k7 (suc zero) = k1
@@ -192,15 +205,18 @@ each_front a b c d e f g h k0 k1 k2 k3 k4 k5 k6 k7 (suc (suc (suc (suc (suc (suc
 each_front a b c d e f g h k0 k1 k2 k3 k4 k5 k6 k7 (suc (suc (suc (suc (suc (suc (suc zero))))))) = k7
 each_front a b c d e f g h k0 k1 k2 k3 k4 k5 k6 k7 (suc (suc (suc (suc (suc (suc (suc (suc i)))))))) = omega arith
 
--- Sixteen bytes are 32, 64, 96 and 128 zero bits of their words, the last word first, and the first one with the register.
+-- Sixteen bytes are 32, 64, 96 and 128 zero bits of their words, the last word first, and the first one with the
+-- register.
 pub register-sixteen : (low s : ℕ) (bytes : List ℕ) → low < 2 ^ 32 → s < 2 ^ 32 → length bytes ≡ 16
     → ((i : ℕ) → get_or bytes i 0 < 256) →
     bit_xor (bit_xor
     (bit_xor
     (zeros 32 low 32 (get_or bytes 12 0 * 2 ^ 24 + get_or bytes 13 0 * 2 ^ 16 + get_or bytes 14 0 * 2 ^ 8
     + get_or bytes 15 0))
-    (zeros 32 low 64 (get_or bytes 8 0 * 2 ^ 24 + get_or bytes 9 0 * 2 ^ 16 + get_or bytes 10 0 * 2 ^ 8 + get_or bytes 11 0)))
-    (zeros 32 low 96 (get_or bytes 4 0 * 2 ^ 24 + get_or bytes 5 0 * 2 ^ 16 + get_or bytes 6 0 * 2 ^ 8 + get_or bytes 7 0)))
+    (zeros 32 low 64 (get_or bytes 8 0 * 2 ^ 24 + get_or bytes 9 0 * 2 ^ 16 + get_or bytes 10 0 * 2 ^
+    8 + get_or bytes 11 0)))
+    (zeros 32 low 96 (get_or bytes 4 0 * 2 ^ 24 + get_or bytes 5 0 * 2 ^ 16 + get_or bytes 6 0 * 2 ^
+    8 + get_or bytes 7 0)))
     (zeros 32 low 128
     (bit_xor s (get_or bytes 0 0 * 2 ^ 24 + get_or bytes 1 0 * 2 ^ 16 + get_or bytes 2 0 * 2 ^ 8 + get_or bytes 3 0)))
     ≡ register 32 low s (bits_of bytes)
@@ -214,7 +230,8 @@ register-sixteen low s (a ∷ b ∷ c ∷ d ∷ e ∷ f ∷ g ∷ h ∷ i ∷ j 
     let fits_x : x < 2 ^ 32 = let q = each 0 in let r = each 1 in let t = each 2 in let w = each 3 in omega arith in
     let fits_y : y < 2 ^ 32 = let q = each 4 in let r = each 5 in let t = each 6 in let w = each 7 in omega arith in
     let fits_u : u < 2 ^ 32 = let q = each 8 in let r = each 9 in let t = each 10 in let w = each 11 in omega arith in
-    let of_front : (q : ℕ) → get_or front q 0 < 256 = each_front a b c d e f g h (each 0) (each 1) (each 2) (each 3) (each 4)
+    let of_front : (q : ℕ) → get_or front q 0 < 256 = each_front a b c d e f g h (each 0) (each 1) (each 2)
+    (each 3) (each 4)
     (each 5) (each 6) (each 7) in
     let of_back : (q : ℕ) → get_or back q 0 < 256 = λ q. each (suc (suc (suc (suc (suc (suc (suc (suc q)))))))) in
     let first = register-eight low s front small fits refl of_front in

@@ -1,5 +1,6 @@
 -- The register computes the remainder.
-use Rattle.std.proofs.Common.{◌≡◌, ℕ, zero, suc, ◌+◌, ◌*◌, ◌/◌, ◌%◌, ◌^◌, ◌<◌, ◌≤◌, ◌==◌, Bool, true, false, cond, List, [], ◌∷◌}
+use Rattle.std.proofs.Common.{◌≡◌, ℕ, zero, suc, ◌+◌, ◌*◌, ◌/◌, ◌%◌, ◌^◌, ◌<◌, ◌≤◌, ◌==◌, Bool, true, false, cond, List}
+use Rattle.std.proofs.Common.{[], ◌∷◌}
 use Rattle.std.proofs.Common.{length, refl, ap, sym, ◌∙◌, arith, add_comm, add-one}
 use Rattle.std.specs.Prelude.{bit_xor}
 use lib.Bits.{xor_assoc}
@@ -48,12 +49,14 @@ added d n u m low below small_u small =
     let g : (2 ^ d + low) * 2 ^ n ≡ 1 * 2 ^ (n + d) + l = rw k (omega arith) in
     let z : bit_xor (m * 2 ^ d) (bit_xor u low * 2 ^ n) ≡ 0 * 2 ^ (n + d) + bit_xor y l =
     ap (bit_xor (m * 2 ^ d)) (sym (xor_shl u low n)) ∙ sym (xor_assoc (m * 2 ^ d) (u * 2 ^ n) l) ∙ omega arith in
-    sym (rw (g, z) (xor_block (n + d) 1 0 l (bit_xor y l) small_l small_z ∙ ap (λ (x : ℕ). 1 * 2 ^ (n + d) + x) (xor_twice l y)))
+    sym (rw (g, z) (xor_block (n + d) 1 0 l (bit_xor y l) small_l small_z
+    ∙ ap (λ (x : ℕ). 1 * 2 ^ (n + d) + x) (xor_twice l y)))
 
 abbrev Divides : ℕ → ℕ → List Bool → ℕ → List Bool → Type 0
 Divides d low bs s quotient =
     (length quotient ≡ length bs)
-    × (bit_xor (number_of bs * 2 ^ d) (s * 2 ^ length bs) ≡ bit_xor (product quotient (2 ^ d + low)) (register d low s bs))
+    × (bit_xor (number_of bs * 2 ^ d) (s * 2 ^ length bs) ≡ bit_xor (product quotient (2 ^ d + low))
+    (register d low s bs))
 
 pub step_lt : (d low s : ℕ) (b : Bool) → low < 2 ^ d → step d low s b < 2 ^ d
 step_lt d low s b small =
@@ -64,7 +67,8 @@ step_lt d low s b small =
 
 -- the bit that leaves the register
 pub top_lt : (d s : ℕ) → s < 2 ^ d → s * 2 / 2 ^ d < 2
-top_lt d s small = let pos = pow_pos d in let fits : s * 2 < 2 * 2 ^ d = omega arith in div_below (s * 2) (2 ^ d) 2 pos fits
+top_lt d s small = let pos = pow_pos d in let fits : s * 2 < 2 * 2 ^ d = omega arith in div_below (s * 2)
+    (2 ^ d) 2 pos fits
 
 -- the difference of two bits, as a number
 differ_is : (t : ℕ) (b : Bool) → t < 2 → bit_xor (cond b 1 0) t ≡ cond (differ (t == 1) b) 1 0
@@ -80,9 +84,11 @@ number_is false bs = omega arith
 
 finish : (d low n u m : ℕ) (v : Bool) (p r : ℕ) → m < 2 ^ n → u < 2 ^ d → low < 2 ^ d →
     bit_xor (m * 2 ^ d) (cond v (bit_xor u low) u * 2 ^ n) ≡ bit_xor p r →
-    cond v 1 0 * 2 ^ (n + d) + bit_xor (m * 2 ^ d) (u * 2 ^ n) ≡ bit_xor (bit_xor (cond v ((2 ^ d + low) * 2 ^ n) 0) p) r
+    cond v 1 0 * 2 ^ (n + d) + bit_xor (m * 2 ^ d) (u * 2 ^ n) ≡ bit_xor (bit_xor (cond v ((2 ^ d + low) * 2 ^ n) 0) p)
+    r
 finish d low n u m true p r below small_u small e =
-    added d n u m low below small_u small ∙ ap (bit_xor ((2 ^ d + low) * 2 ^ n)) e ∙ sym (xor_assoc ((2 ^ d + low) * 2 ^ n) p r)
+    added d n u m low below small_u small ∙ ap (bit_xor ((2 ^ d + low) * 2 ^ n)) e
+    ∙ sym (xor_assoc ((2 ^ d + low) * 2 ^ n) p r)
 finish d low n u m false p r below small_u small e = omega (arith, e)
 
 begun : (d : ℕ) (b : Bool) (bs : List Bool) (s : ℕ) → s < 2 ^ d →
@@ -96,7 +102,8 @@ begun d b bs s fits =
     rw (heads, parted, bit) refl
 
 -- the bits that come back are the quotient, and what stays in the register is the remainder
-divides : (d low : ℕ) → low < 2 ^ d → (bs : List Bool) (s : ℕ) → s < 2 ^ d → (quotient : List Bool) × Divides d low bs s quotient
+divides : (d low : ℕ) → low < 2 ^ d → (bs : List Bool) (s : ℕ) → s < 2 ^ d → (quotient : List Bool)
+    × Divides d low bs s quotient
 divides d low small [] s fits =
     let e : bit_xor (0 * 2 ^ d) (s * 2 ^ 0) ≡ bit_xor 0 s =
     let l : 0 * 2 ^ d ≡ 0 = omega arith in

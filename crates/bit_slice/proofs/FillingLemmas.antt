@@ -1,5 +1,6 @@
 -- Bits behind other bits in bytes, and zeros behind them.
-use Rattle.std.proofs.Common.{◌≡◌, ℕ, zero, suc, ◌+◌, ◌-◌, ◌*◌, ◌/◌, ◌%◌, ◌^◌, ◌<◌, ◌≤◌, ⊎_elim, Bool, true, false, List, []}
+use Rattle.std.proofs.Common.{◌≡◌, ℕ, zero, suc, ◌+◌, ◌-◌, ◌*◌, ◌/◌, ◌%◌, ◌^◌, ◌<◌, ◌≤◌, ⊎_elim, Bool, true, false}
+use Rattle.std.proofs.Common.{List, []}
 use Rattle.std.proofs.Common.{◌++◌, length, take, drop, map, get_or, refl, ap, sym, ◌∙◌, arith}
 use Rattle.std.specs.Prelude.{replicate, bit_or, if◌then◌else◌}
 use Rattle.std.specs.Int.{bytes_high_first}
@@ -7,8 +8,10 @@ use Rattle.std.specs.List.{range_with_len}
 use Rattle.std.proofs.lemmas.Bool.{cases_lt}
 use Rattle.std.proofs.lemmas.List.FromFn.{fill_by_all}
 use Rattle.std.proofs.Math.Nat.{add-mul, mul_assoc, mod-eq_of_lt, pow-le-pow_right}
-use Rattle.std.proofs.lemmas.List.{append_assoc, append-nil, length-append, length-drop, length-take-le, length-replicate}
-use Rattle.std.proofs.lemmas.List.{take-append-le, drop-append-le, take-append-drop, take_all, take_at, drop_all, drop-drop}
+use Rattle.std.proofs.lemmas.List.{append_assoc, append-nil, length-append, length-drop, length-take-le}
+use Rattle.std.proofs.lemmas.List.{length-replicate}
+use Rattle.std.proofs.lemmas.List.{take-append-le, drop-append-le, take-append-drop, take_all, take_at, drop_all}
+use Rattle.std.proofs.lemmas.List.{drop-drop}
 use Rattle.std.proofs.lemmas.List.{replicate-append-replicate, take-replicate, drop-replicate}
 use Rattle.std.proofs.Math.Seq.{take-append-add, drop-append-add}
 use Rattle.std.proofs.lemmas.Nat.{or_shifted, pow-add, shl_below}
@@ -44,10 +47,12 @@ drop-padded bits k n few =
 cut-padded : (bits : List Bool) (k n : ℕ) → k ≤ length bits → drop k (padded bits n) ≡ padded (drop k bits) (n - k)
 cut-padded bits k n inside =
     let left : n - length bits ≡ n - k - length (drop k bits) = omega (arith, length-drop k bits) in
-    drop-append-le k bits (replicate (n - length bits) false) inside ∙ ap (λ (i : ℕ). drop k bits ++ replicate i false) left
+    drop-append-le k bits (replicate (n - length bits) false) inside ∙ ap (λ (i : ℕ). drop k bits ++ replicate i false)
+    left
 
 -- more zeros
-padded-more : (bits : List Bool) (k n : ℕ) → length bits ≤ k → k ≤ n → padded bits k ++ replicate (n - k) false ≡ padded bits n
+padded-more : (bits : List Bool) (k n : ℕ) → length bits ≤ k → k ≤ n
+    → padded bits k ++ replicate (n - k) false ≡ padded bits n
 padded-more bits k n few less =
     let sum : k - length bits + (n - k) ≡ n - length bits = omega arith in
     append_assoc bits (replicate (k - length bits) false) (replicate (n - k) false)
@@ -58,7 +63,8 @@ padded-more bits k n few less =
 padded-behind : (front bits : List Bool) (n : ℕ) → front ++ padded bits n ≡ padded (front ++ bits) (length front + n)
 padded-behind front bits n =
     let left : n - length bits ≡ length front + n - length (front ++ bits) = omega (arith, length-append front bits) in
-    sym (append_assoc front bits (replicate (n - length bits) false)) ∙ ap (λ (i : ℕ). (front ++ bits) ++ replicate i false) left
+    sym (append_assoc front bits (replicate (n - length bits) false))
+    ∙ ap (λ (i : ℕ). (front ++ bits) ++ replicate i false) left
 
 number_of-padded : (bits : List Bool) (n : ℕ) → number_of (padded bits n) ≡ number_of bits * 2 ^ (n - length bits)
 number_of-padded bits n =
@@ -68,7 +74,8 @@ number_of-padded bits n =
 -- ---- what is put in place of some bytes
 pub placed : (old new piece : List ℕ) (bits more : List Bool) (first count : ℕ) → Holds old bits
     → new ≡ take first old ++ (piece ++ drop count (drop first old)) →
-    length piece ≡ count → 8 * first ≤ length bits → length bits + length more ≤ 8 * (first + count) → first + count ≤ length old
+    length piece ≡ count → 8 * first ≤ length bits → length bits + length more ≤ 8 * (first + count)
+    → first + count ≤ length old
     →
     bits_of piece ≡ padded (drop (8 * first) bits ++ more) (8 * count) → Holds new (bits ++ more)
 placed old new piece bits more first count held put_in size begun fits inside put =
@@ -81,7 +88,8 @@ placed old new piece bits more first count held put_in size begun fits inside pu
     sym (take-bits_of first old within) ∙ ap (take (8 * first)) held
     ∙ take-append-le (8 * first) bits (replicate (all - length bits) false) begun in
     let behind : bits_of (drop (first + count) old) ≡ replicate (all - end) false =
-    sym (drop-bits_of (first + count) old) ∙ ap (drop (8 * (first + count))) held ∙ drop-padded bits (8 * (first + count)) all
+    sym (drop-bits_of (first + count) old) ∙ ap (drop (8 * (first + count))) held
+    ∙ drop-padded bits (8 * (first + count)) all
     (omega arith) in
     let joined : take (8 * first) bits ++ (drop (8 * first) bits ++ more) ≡ bits ++ more =
     sym (append_assoc (take (8 * first) bits) (drop (8 * first) bits) more)
@@ -91,7 +99,8 @@ placed old new piece bits more first count held put_in size begun fits inside pu
     let text : ℕ = length (bits ++ more) in
     let few : text ≤ end = omega (arith, length-append bits more) in
     let less : end ≤ all = omega arith in
-    let whole : length new ≡ length old = ap length is ∙ length-append (take first old) (piece ++ drop (first + count) old)
+    let whole : length new ≡ length old = ap length is ∙ length-append (take first old)
+    (piece ++ drop (first + count) old)
     ∙ ap (λ (k : ℕ). length (take first old) + k) (length-append piece (drop (first + count) old))
     ∙ omega (arith, length-take-le first old within, length-drop (first + count) old) in
     ap bits_of is ∙ bits_of-append (take first old) (piece ++ drop (first + count) old)
@@ -105,7 +114,8 @@ placed old new piece bits more first count held put_in size begun fits inside pu
     ∙ ap (λ (k : ℕ). padded (bits ++ more) (8 * k)) (sym whole)
 
 -- ---- the window
-pub window_is : (front : List Bool) (byte first value width : ℕ) → length front ≡ first → first < 8 → 0 < width → width ≤ 64
+pub window_is : (front : List Bool) (byte first value width : ℕ) → length front ≡ first → first < 8 → 0 < width
+    → width ≤ 64
     → value < 2 ^ width →
     byte ≡ number_of front * 2 ^ (8 - first) →
     bits_of (bytes_high_first 16 (bit_or (byte * 2 ^ 120 % 2 ^ 128) (value * 2 ^ (128 - first - width) % 2 ^ 128)))
@@ -143,15 +153,19 @@ window_is front byte first value width long few some narrow fits is =
     ∙ ap (λ (k : ℕ). field k (number_of whole)) (sym fill) ∙ field-number_of whole
 
 -- a front of the window
-pub window_front : (window : List ℕ) (bits : List Bool) (count : ℕ) → bits_of window ≡ padded bits 128 → length bits ≤ 8 * count
+pub window_front : (window : List ℕ) (bits : List Bool) (count : ℕ) → bits_of window ≡ padded bits 128
+    → length bits ≤ 8 * count
     → count ≤ 16 →
     bits_of (take count window) ≡ padded bits (8 * count)
 window_front window bits count is few short =
-    let size : 8 * length window ≡ 128 = sym (length-bits_of window) ∙ ap length is ∙ length-padded bits 128 (omega arith) in
-    sym (take-bits_of count window (omega arith)) ∙ ap (take (8 * count)) is ∙ take-padded bits (8 * count) 128 few (omega arith)
+    let size : 8 * length window ≡ 128 = sym (length-bits_of window) ∙ ap length is
+    ∙ length-padded bits 128 (omega arith) in
+    sym (take-bits_of count window (omega arith)) ∙ ap (take (8 * count)) is
+    ∙ take-padded bits (8 * count) 128 few (omega arith)
 
 -- ---- the byte that is begun
-pub begun_none : (bits : List Bool) (used : ℕ) → length bits ≡ used → used % 8 ≡ 0 → 0 ≡ number_of (drop (8 * (used / 8)) bits)
+pub begun_none : (bits : List Bool) (used : ℕ) → length bits ≡ used → used % 8 ≡ 0
+    → 0 ≡ number_of (drop (8 * (used / 8)) bits)
     * 2 ^ (8 - used % 8)
 begun_none bits used long none =
     let all : drop (8 * (used / 8)) bits ≡ [] = drop_all (8 * (used / 8)) bits (omega arith) in
@@ -176,11 +190,14 @@ begun_some bytes bits used long held small inside =
     ∙ number_of-padded (drop (8 * k) bits) 8 ∙ ap (λ (n : ℕ). number_of (drop (8 * k) bits) * 2 ^ (8 - n)) left
 
 -- ---- what the bytes hold
-pub seen : (bytes : List ℕ) (bits : List Bool) (used : ℕ) → Holds bytes bits → length bits ≡ used → take used (bits_of bytes)
+pub seen : (bytes : List ℕ) (bits : List Bool) (used : ℕ) → Holds bytes bits → length bits ≡ used
+    → take used (bits_of bytes)
     ≡ bits
-seen bytes bits used held long = ap (take used) held ∙ take_at bits (replicate (8 * length bytes - length bits) false) used long
+seen bytes bits used held long = ap (take used) held ∙ take_at bits (replicate (8 * length bytes - length bits) false)
+    used long
 
-pub seen_more : (bytes : List ℕ) (bits more : List Bool) (used count : ℕ) → Holds bytes (bits ++ more) → length bits ≡ used
+pub seen_more : (bytes : List ℕ) (bits more : List Bool) (used count : ℕ) → Holds bytes (bits ++ more)
+    → length bits ≡ used
     → length more ≡ count →
     take (used + count) (bits_of bytes) ≡ bits ++ more
 seen_more bytes bits more used count held long size =
@@ -232,12 +249,14 @@ each_byte bytes bits k held small inside within =
     ∙ rw none (omega arith))
     (cases_lt (length rest) 8)
 
-pub filled : (bytes : List ℕ) (bits : List Bool) → Holds bytes bits → ((k : ℕ) → k < length bytes → get_or bytes k 0 < 256)
+pub filled : (bytes : List ℕ) (bits : List Bool) → Holds bytes bits → ((k : ℕ) → k < length bytes
+    → get_or bytes k 0 < 256)
     → length bytes ≡ bytes_for (length bits) → bytes ≡ bytes_of bits
 filled bytes bits held small size =
     let each : (k : ℕ) → k < length bytes → get_or bytes k 0 ≡ byte_at bits k =
     λ k inside. each_byte bytes bits k held (small k inside) inside (omega arith) in
-    fill_by_all (byte_at bits) bytes (length bytes) 0 refl each ∙ ap (λ (n : ℕ). map (byte_at bits) (range_with_len 0 n)) size
+    fill_by_all (byte_at bits) bytes (length bytes) 0 refl each
+    ∙ ap (λ (n : ℕ). map (byte_at bits) (range_with_len 0 n)) size
 
 -- a field of no width
 pub none_put : (bytes : List ℕ) (bits : List Bool) (width value : ℕ) → width ≡ 0 → Holds bytes bits
@@ -246,9 +265,11 @@ unfolding field
 none_put bytes bits width value none held = rw (none, append-nil bits) held
 
 -- whole bytes behind whole bytes
-pub bytes_placed : (old piece : List ℕ) (front bits : List Bool) (used at count size : ℕ) → Holds old front → length front ≡ used
+pub bytes_placed : (old piece : List ℕ) (front bits : List Bool) (used at count size : ℕ) → Holds old front
+    → length front ≡ used
     → used % 8 ≡ 0 →
-    at + 8 * count ≤ length bits → used + 8 * count ≤ 8 * length old → size ≡ count → bits_of piece ≡ part bits at (8 * count) →
+    at + 8 * count ≤ length bits → used + 8 * count ≤ 8 * length old → size ≡ count
+    → bits_of piece ≡ part bits at (8 * count) →
     Holds (take (used / 8) old ++ (piece ++ drop size (drop (used / 8) old))) (front ++ part bits at (8 * count))
 bytes_placed old piece front bits used at count size held long aligned inside room same is =
     let text : List Bool = part bits at (8 * count) in
@@ -261,23 +282,28 @@ bytes_placed old piece front bits used at count size held long aligned inside ro
     placed old _ piece front text (used / 8) size held refl (omega arith) (omega arith) (omega arith) (omega arith) put
 
 -- the bits as one part
-pub all_put : (bytes : List ℕ) (front bits : List Bool) (len : ℕ) → len ≡ length bits → Holds bytes (front ++ part bits 0 len)
+pub all_put : (bytes : List ℕ) (front bits : List Bool) (len : ℕ) → len ≡ length bits
+    → Holds bytes (front ++ part bits 0 len)
     → Holds bytes (front ++ bits)
 all_put bytes front bits len e held = rw (take_all len bits (omega arith)) at held
 
 -- the bits in three parts
 pub parts_put : (bytes : List ℕ) (front bits : List Bool) (head middle last rest : ℕ) → last ≡ head + middle
     → rest ≡ length bits - last → last ≤ length bits →
-    Holds bytes (((front ++ part bits 0 head) ++ part bits head middle) ++ part bits last rest) → Holds bytes (front ++ bits)
+    Holds bytes (((front ++ part bits 0 head) ++ part bits head middle) ++ part bits last rest)
+    → Holds bytes (front ++ bits)
 parts_put bytes front bits head middle last rest place left inside held =
     let start : 0 + head ≡ head = omega arith in
     let two : part bits 0 last ≡ part bits 0 head ++ part bits head middle =
-    ap (part bits 0) place ∙ part-add bits 0 head middle ∙ ap (λ (k : ℕ). part bits 0 head ++ part bits k middle) start in
-    let end : part bits last rest ≡ drop last bits = take_all rest (drop last bits) (omega (arith, length-drop last bits)) in
+    ap (part bits 0) place ∙ part-add bits 0 head middle ∙ ap (λ (k : ℕ). part bits 0 head ++ part bits k middle)
+    start in
+    let end : part bits last rest ≡ drop last bits = take_all rest (drop last bits)
+    (omega (arith, length-drop last bits)) in
     let all : ((front ++ part bits 0 head) ++ part bits head middle) ++ part bits last rest ≡ front ++ bits =
     append_assoc (front ++ part bits 0 head) (part bits head middle) (part bits last rest)
     ∙ append_assoc front (part bits 0 head) (part bits head middle ++ part bits last rest)
-    ∙ ap (λ (xs : List Bool). front ++ xs) (sym (append_assoc (part bits 0 head) (part bits head middle) (part bits last rest))
+    ∙ ap (λ (xs : List Bool). front ++ xs) (sym (append_assoc (part bits 0 head) (part bits head middle)
+    (part bits last rest))
     ∙ rw (← two, end) (take-append-drop last bits)) in
     rw all at held
 
@@ -285,14 +311,17 @@ pub resized : (old new : List ℕ) (bits : List Bool) (ok : Bool) (n size : ℕ)
     → new ≡ (if ok then take n old ++ replicate (n - size) 0 else old) →
     length old ≤ n → length bits ≤ 8 * length old → Holds old bits → Holds new bits
 resized old new bits ok n size yes_ok is more few held =
-    let grown : new ≡ old ++ replicate (n - size) 0 = (rw yes_ok at is) ∙ ap (λ (xs : List ℕ). xs ++ replicate (n - size) 0)
+    let grown : new ≡ old ++ replicate (n - size) 0 = (rw yes_ok at is)
+    ∙ ap (λ (xs : List ℕ). xs ++ replicate (n - size) 0)
     (take_all n old more) in
     rw grown (lengthened old bits (n - size) few held)
 
 -- how many bits are seen
-pub seen_long : (bytes : List ℕ) (bits : List Bool) (used : ℕ) → take used (bits_of bytes) ≡ bits → used ≤ 8 * length bytes
+pub seen_long : (bytes : List ℕ) (bits : List Bool) (used : ℕ) → take used (bits_of bytes) ≡ bits
+    → used ≤ 8 * length bytes
     → length bits ≡ used
-seen_long bytes bits used e few = ap length (sym e) ∙ length-take-le used (bits_of bytes) (omega (arith, length-bits_of bytes))
+seen_long bytes bits used e few = ap length (sym e) ∙ length-take-le used (bits_of bytes)
+    (omega (arith, length-bits_of bytes))
 
 -- bytes that are written back whole
 pub written_back : (xs ys : List ℕ) (n : ℕ) → length xs ≡ n → take n (xs ++ drop (length xs) ys) ≡ xs
@@ -306,14 +335,16 @@ field_end width all value narrow =
     let few : length (field width value) ≤ width = omega (arith, length-field width value) in
     ap (λ (k : ℕ). part (field k value) front width) (sym sum)
     ∙ ap (λ (bits : List Bool). part bits front width) (field-add front width value)
-    ∙ ap (take width) (drop-field front (value / 2 ^ width) (field width value)) ∙ take_all width (field width value) few
+    ∙ ap (take width) (drop-field front (value / 2 ^ width) (field width value))
+    ∙ take_all width (field width value) few
 
 -- zeros in place of bytes that have all the bits
 pub cleared : (old new : List ℕ) (bits : List Bool) (end : ℕ) → Holds old bits → new ≡ replicate end 0 ++ drop end old
     → length bits ≤ 8 * end → end ≤ length old → Holds new []
 cleared old new bits end held is few inside =
     let all : ℕ = 8 * length old in
-    let behind : bits_of (drop end old) ≡ replicate (all - 8 * end) false = sym (drop-bits_of end old) ∙ ap (drop (8 * end)) held
+    let behind : bits_of (drop end old) ≡ replicate (all - 8 * end) false = sym (drop-bits_of end old)
+    ∙ ap (drop (8 * end)) held
     ∙ drop-padded bits (8 * end) all few in
     let whole : length new ≡ length old = ap length is ∙ length-append (replicate end 0) (drop end old)
     ∙ omega (arith, length-replicate {A = ℕ} end 0, length-drop end old) in
@@ -323,9 +354,11 @@ cleared old new bits end held is few inside =
     ∙ ap (λ (k : ℕ). replicate k false) sum)
 
 -- the bytes at the front that have all the bits hold them too
-pub holds_front : (bytes : List ℕ) (bits : List Bool) (n : ℕ) → Holds bytes bits → length bits ≤ 8 * n → n ≤ length bytes
+pub holds_front : (bytes : List ℕ) (bits : List Bool) (n : ℕ) → Holds bytes bits → length bits ≤ 8 * n
+    → n ≤ length bytes
     → Holds (take n bytes) bits
 holds_front bytes bits n held few inside =
     let size : length (take n bytes) ≡ n = length-take-le n bytes inside in
-    sym (take-bits_of n bytes inside) ∙ ap (take (8 * n)) held ∙ take-padded bits (8 * n) (8 * length bytes) few (omega arith)
+    sym (take-bits_of n bytes inside) ∙ ap (take (8 * n)) held ∙ take-padded bits (8 * n) (8 * length bytes)
+    few (omega arith)
     ∙ ap (λ (k : ℕ). padded bits (8 * k)) (sym size)

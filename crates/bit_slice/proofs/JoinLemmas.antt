@@ -1,5 +1,6 @@
 -- Parts of two lists, one behind the other.
-use Rattle.std.proofs.Common.{◌≡◌, ℕ, ◌+◌, ◌-◌, ◌*◌, ◌%◌, ◌^◌, ◌<◌, ◌≤◌, ⊎_elim, List, Bool, true, ◌++◌, length, take, drop, refl}
+use Rattle.std.proofs.Common.{◌≡◌, ℕ, ◌+◌, ◌-◌, ◌*◌, ◌%◌, ◌^◌, ◌<◌, ◌≤◌, ⊎_elim, List, Bool, true, ◌++◌, length, take}
+use Rattle.std.proofs.Common.{drop, refl}
 use Rattle.std.proofs.Common.{ap, sym, ◌∙◌, arith, append-nil}
 use Rattle.std.specs.Prelude.{min, bit_or, IsTrue, nat_eq, ◌↔◌}
 use Rattle.std.proofs.lemmas.Bool.{cases_lt}
@@ -30,7 +31,8 @@ across_part xs ys f l before h is less =
     ∙ ap (λ (zs : List _). zs ++ take (l - before) ys) (sym (take_all before (drop f xs) few))
 
 -- how the code finds a part
-pub joined_part : {X : Type 0} (xs ys : List X) (f l from taken : ℕ) → from ≡ min f (length xs) → taken ≡ min l (length xs - from)
+pub joined_part : {X : Type 0} (xs ys : List X) (f l from taken : ℕ) → from ≡ min f (length xs)
+    → taken ≡ min l (length xs - from)
     →
     take taken (drop from xs) ++ take (l - taken) (drop (f - from) ys) ≡ take l (drop f (xs ++ ys))
 joined_part xs ys f l from taken is_from is_taken =
@@ -73,25 +75,30 @@ seam_read xs ys f l before x y h is less narrow inside is_x is_y =
     let spelled : number_at (xs ++ ys) f l ≡ number_at xs f before * 2 ^ length (part ys 0 m) + number_at ys 0 m =
     ap number_of (across_part xs ys f l before h is less) ∙ number_of-append (part xs f before) (part ys 0 m) in
     rw (mod-eq_of_lt below) (or_shifted x m y small_y
-    ∙ sym (spelled ∙ ap (λ (k : ℕ). number_at xs f before * 2 ^ k + number_at ys 0 m) wide_y ∙ rw (← is_x, ← is_y) refl))
+    ∙ sym (spelled ∙ ap (λ (k : ℕ). number_at xs f before * 2 ^ k + number_at ys 0 m) wide_y
+    ∙ rw (← is_x, ← is_y) refl))
 
 -- ---- the same bits, by their numbers
 same_part : (a b : List Bool) (at width : ℕ) → at + width ≤ length a → at + width ≤ length b → number_at a at width
     ≡ number_at b at width → part a at width ≡ part b at width
-same_part a b at width in_a in_b e = sym (field-number_at a at width in_a) ∙ ap (field width) e ∙ field-number_at b at width in_b
+same_part a b at width in_a in_b e = sym (field-number_at a at width in_a) ∙ ap (field width) e
+    ∙ field-number_at b at width in_b
 
 pub word_more : (a b : List Bool) (at width : ℕ) → at + width ≤ length a → at + width ≤ length b → take at a ≡ take at b
     → number_at a at width ≡ number_at b at width →
     take (at + width) a ≡ take (at + width) b
 word_more a b at width in_a in_b front e =
-    take-add at width a ∙ ap (λ (xs : List Bool). xs ++ part a at width) front ∙ ap (λ (xs : List Bool). take at b ++ xs)
+    take-add at width a ∙ ap (λ (xs : List Bool). xs ++ part a at width) front
+    ∙ ap (λ (xs : List Bool). take at b ++ xs)
     (same_part a b at width in_a in_b e) ∙ sym (take-add at width b)
 
-pub word_of : (a b : List Bool) (at width count : ℕ) → at + width ≤ count → take count a ≡ take count b → number_at a at width
+pub word_of : (a b : List Bool) (at width count : ℕ) → at + width ≤ count → take count a ≡ take count b
+    → number_at a at width
     ≡ number_at b at width
 word_of a b at width count inside e =
     let place : 0 + at ≡ at = omega arith in
-    let of : (xs : List Bool) → part (take count xs) at width ≡ part xs at width = λ xs. part-part xs 0 count at width inside
+    let of : (xs : List Bool) → part (take count xs) at width ≡ part xs at width = λ xs. part-part xs
+    0 count at width inside
     ∙ ap (λ (k : ℕ). part xs k width) place in
     ap number_of (sym (of a) ∙ ap (λ (xs : List Bool). part xs at width) e ∙ of b)
 

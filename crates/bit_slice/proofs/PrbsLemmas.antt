@@ -1,5 +1,6 @@
 -- Eight bits of the scrambler's sequence at a time.
-use Rattle.std.proofs.Common.{◌≡◌, ℕ, zero, suc, ◌+◌, ◌-◌, ◌*◌, ◌/◌, ◌%◌, ◌^◌, ◌<◌, ◌≤◌, ⊎_elim, Bool, true, false, cond, List}
+use Rattle.std.proofs.Common.{◌≡◌, ℕ, zero, suc, ◌+◌, ◌-◌, ◌*◌, ◌/◌, ◌%◌, ◌^◌, ◌<◌, ◌≤◌, ⊎_elim, Bool, true, false}
+use Rattle.std.proofs.Common.{cond, List}
 use Rattle.std.proofs.Common.{[], ◌∷◌, ◌++◌, length, drop, map, get_or, set, refl, ap, sym, ◌∙◌, arith}
 use Rattle.std.specs.Prelude.{bit_and, bit_or, bit_xor}
 use Rattle.std.specs.List.{range_with_len}
@@ -32,7 +33,8 @@ length-sums [] ys e = refl
 length-sums (a ∷ xs) [] e = absurd (omega arith)
 length-sums (a ∷ xs) (b ∷ ys) e = ap suc (length-sums xs ys (omega arith))
 
-number_of-sums : (xs ys : List Bool) → length xs ≡ length ys → number_of (sums xs ys) ≡ bit_xor (number_of xs) (number_of ys)
+number_of-sums : (xs ys : List Bool) → length xs ≡ length ys → number_of (sums xs ys) ≡ bit_xor (number_of xs)
+    (number_of ys)
 number_of-sums [] [] e = refl
 number_of-sums [] (b ∷ ys) e = absurd (omega arith)
 number_of-sums (a ∷ xs) [] e = absurd (omega arith)
@@ -41,7 +43,15 @@ number_of-sums (a ∷ xs) (b ∷ ys) e =
     let low : number_of ys < 2 ^ length xs = rw same (number_of-lt ys) in
     let right : number_of (b ∷ ys) ≡ cond b 1 0 * 2 ^ length xs + number_of ys =
     number_is b ys ∙ ap (λ (k : ℕ). cond b 1 0 * 2 ^ k + number_of ys) (sym same) in
-    rw (number_is (plus a b) (sums xs ys), length-sums xs ys same, number_of-sums xs ys same, plus_is a b, number_is a xs, right)
+    rw (
+      number_is (plus a b) (sums xs ys),
+      length-sums xs ys same,
+      number_of-sums xs ys same,
+      plus_is
+          a b,
+      number_is a xs,
+      right,
+    )
     (sym (xor_block (length xs) (cond a 1 0) (cond b 1 0) (number_of xs) (number_of ys) (number_of-lt xs) low))
 
 -- one bit further
@@ -124,7 +134,8 @@ before_is (suc i) =
     ap moved (before_is i)
     ∙ ap (λ (b : Bool). map sequence (range_with_len (i + 1) 14) ++ b ∷ []) (sym (ap next_bit (before_is i))
     ∙ sym (sequence-later i))
-    ∙ sym (map-range_with_len_more sequence (i + 1) 14 (i + 15) place) ∙ ap (λ (k : ℕ). map sequence (range_with_len k 15)) next
+    ∙ sym (map-range_with_len_more sequence (i + 1) 14 (i + 15) place)
+    ∙ ap (λ (k : ℕ). map sequence (range_with_len k 15)) next
 
 pub prbs_recurs : PrbsRecurs
 prbs_recurs i = ap next_bit (before_is i)
@@ -178,7 +189,8 @@ pub record RunsOn (bytes : List ℕ) (from done : ℕ) : Type 0 where
   pub new : (k : ℕ) → k < done → get_or bytes k 0 ≡ prbs_byte (from + 120 + k)
   pub old : (k : ℕ) → done ≤ k → k < 120 → get_or bytes k 0 ≡ prbs_byte (from + k)
 
-pub runs_on : (bytes : List ℕ) (from done next : ℕ) → RunsOn bytes from done → done < 120 → next ≡ prbs_byte (from + done + 8) →
+pub runs_on : (bytes : List ℕ) (from done next : ℕ) → RunsOn bytes from done → done < 120
+    → next ≡ prbs_byte (from + done + 8) →
     RunsOn (set bytes done (bit_xor (get_or bytes done 0) next)) from (done + 1)
 runs_on bytes from done next r inside is =
     let sum : ℕ = bit_xor (get_or bytes done 0) next in
@@ -187,7 +199,8 @@ runs_on bytes from done next r inside is =
     let within : done < length bytes = omega (arith, r.size) in
     let here : sum ≡ prbs_byte (from + 120 + done) =
     ap (λ (n : ℕ). bit_xor n next) (r.old done stays inside) ∙ ap (bit_xor (prbs_byte (from + done))) is
-    ∙ xor_comm (prbs_byte (from + done)) (prbs_byte (from + done + 8)) ∙ sym (byte_apart (from + done)) ∙ ap prbs_byte far in
+    ∙ xor_comm (prbs_byte (from + done)) (prbs_byte (from + done + 8)) ∙ sym (byte_apart (from + done))
+    ∙ ap prbs_byte far in
     record {
       size = length-set bytes done sum ∙ r.size;
       new = λ k h. ⊎_elim (λ less. get_or-set_other bytes done k sum 0 (λ e. omega arith) ∙ r.new k less)
@@ -222,11 +235,13 @@ eight_number w r long is =
     ap number_of (eight_sums w long) ∙ number_of-sums (part w 1 8) (part w 0 8) same
     ∙ rw (one, zero_) (sym (xor_mod (r / 2 ^ 6) (r / 2 ^ 7) 8))
 
-pub byte_is : (given r : ℕ) → r ≡ number_of (fifteen_before (8 * given)) → bit_and (bit_xor (r / 2 ^ 6) (r / 2 ^ 7)) 0xFF
+pub byte_is : (given r : ℕ) → r ≡ number_of (fifteen_before (8 * given))
+    → bit_and (bit_xor (r / 2 ^ 6) (r / 2 ^ 7)) 0xFF
     ≡ prbs_byte given
 byte_is given r is =
     and_mask (bit_xor (r / 2 ^ 6) (r / 2 ^ 7)) 8
-    ∙ sym (ap number_of (nexts_are 8 (8 * given)) ∙ eight_number (fifteen_before (8 * given)) r (length-before (8 * given)) is)
+    ∙ sym (ap number_of (nexts_are 8 (8 * given)) ∙ eight_number (fifteen_before (8 * given)) r
+    (length-before (8 * given)) is)
 
 pub register_is : (given r : ℕ) → r < 2 ^ 16 → r ≡ number_of (fifteen_before (8 * given)) →
     bit_and (bit_or (r * 2 ^ 8 % 2 ^ 16) (bit_and (bit_xor (r / 2 ^ 6) (r / 2 ^ 7)) 0xFF)) 0x7FFF
@@ -240,7 +255,8 @@ register_is given r fits is =
     let shifted : r * 2 ^ 8 % 2 ^ 16 ≡ r % 2 ^ 8 * 2 ^ 8 = omega arith in
     let rest : drop 8 w ≡ part w 8 7 = sym (take_all 7 (drop 8 w) (rw (length-drop 8 w, long) (omega arith))) in
     let low : r / 2 ^ 0 % 2 ^ 7 ≡ r % 2 ^ 7 = omega arith in
-    let kept : number_of (drop 8 w) ≡ r % 2 ^ 7 = ap number_of rest ∙ rw is (rw long at (number_of-part w 8 7 (omega arith)))
+    let kept : number_of (drop 8 w) ≡ r % 2 ^ 7 = ap number_of rest
+    ∙ rw is (rw long at (number_of-part w 8 7 (omega arith)))
     ∙ low in
     let long_next : length (nexts 8 w) ≡ 8 = length-nexts 8 w in
     let place : 8 * (given + 1) ≡ 8 * given + 8 = omega arith in
@@ -248,4 +264,5 @@ register_is given r fits is =
     ap (λ (i : ℕ). number_of (fifteen_before i)) place ∙ ap number_of (before-plus 8 (8 * given) ∙ eight_after w long)
     ∙ number_of-append (drop 8 w) (nexts 8 w)
     ∙ rw (kept, long_next, eight_number w r long is) refl in
-    rw (masked, shifted, or_shifted (r % 2 ^ 8) 8 byte small) (and_mask (r % 2 ^ 8 * 2 ^ 8 + byte) 15 ∙ omega arith ∙ sym next)
+    rw (masked, shifted, or_shifted (r % 2 ^ 8) 8 byte small) (and_mask (r % 2 ^ 8 * 2 ^ 8 + byte) 15
+    ∙ omega arith ∙ sym next)

@@ -1,5 +1,6 @@
 -- A polynomial has one remainder: long division gives it back from each quotient.
-use Rattle.std.proofs.Common.{◌≡◌, ℕ, zero, suc, ◌+◌, ◌*◌, ◌/◌, ◌^◌, ◌<◌, ◌≤◌, ◌==◌, Bool, true, false, cond, List, [], ◌∷◌}
+use Rattle.std.proofs.Common.{◌≡◌, ℕ, zero, suc, ◌+◌, ◌*◌, ◌/◌, ◌^◌, ◌<◌, ◌≤◌, ◌==◌, Bool, true, false, cond, List, []}
+use Rattle.std.proofs.Common.{◌∷◌}
 use Rattle.std.proofs.Common.{length, refl, ap, sym, ◌∙◌, arith, add-one, inl, inr}
 use Rattle.std.specs.Prelude.{bit_xor}
 use Rattle.std.specs.Int.{bit_at}
@@ -28,12 +29,14 @@ product_lt d g small (b ∷ q) =
     ]
 
 -- a product and a remainder have no term from a place on
-sum_lt : (d g n : ℕ) (q : List Bool) (r : ℕ) → g < 2 ^ (d + 1) → r < 2 ^ d → length q ≤ n → bit_xor (product q g) r < 2 ^ (n + d)
+sum_lt : (d g n : ℕ) (q : List Bool) (r : ℕ) → g < 2 ^ (d + 1) → r < 2 ^ d → length q ≤ n
+    → bit_xor (product q g) r < 2 ^ (n + d)
 sum_lt d g n q r small below few =
     let two : 0 < 2 = omega arith in
     let more : length q + d ≤ n + d = omega arith in
     let least : d ≤ n + d = omega arith in
-    let a : product q g < 2 ^ (n + d) = let h = product_lt d g small q in let w = pow-le-pow_right two more in omega arith in
+    let a : product q g < 2 ^ (n + d) = let h = product_lt d g small q in let w = pow-le-pow_right two
+    more in omega arith in
     let b : r < 2 ^ (n + d) = let w = pow-le-pow_right two least in omega arith in
     xor_lt (n + d) (product q g) r a b
 
@@ -43,7 +46,8 @@ goes_on p n d a small = let le : n + d ≤ n + d = omega arith in rw (bit_at_abo
 
 -- if it is there, the generator is taken away
 takes_away : (g n d p : ℕ) → HasDegree g d → p < 2 ^ (n + d) →
-    cond (bit_at (bit_xor (g * 2 ^ n) p) (n + d) == 1) (bit_xor (bit_xor (g * 2 ^ n) p) (g * 2 ^ n)) (bit_xor (g * 2 ^ n) p) ≡ p
+    cond (bit_at (bit_xor (g * 2 ^ n) p) (n + d) == 1) (bit_xor (bit_xor (g * 2 ^ n) p) (g * 2 ^ n))
+    (bit_xor (g * 2 ^ n) p) ≡ p
 takes_away g n d p has small =
     let le : n + d ≤ n + d = omega arith in
     let pos = pow_pos d in
@@ -51,7 +55,8 @@ takes_away g n d p has small =
     let low : 1 ≤ g / 2 ^ d = le-div 1 g (2 ^ d) pos (omega (arith, has.0)) in
     let high : g / 2 ^ d < 2 = div_below g (2 ^ d) 2 pos (omega (arith, has.1, twice)) in
     let one : g / 2 ^ d ≡ 1 = omega arith in
-    let shifted : g * 2 ^ n / 2 ^ (n + d) ≡ 1 = sym (shr-shr (g * 2 ^ n) n d) ∙ ap (λ (x : ℕ). x / 2 ^ d) (shl-shr g n) ∙ one in
+    let shifted : g * 2 ^ n / 2 ^ (n + d) ≡ 1 = sym (shr-shr (g * 2 ^ n) n d) ∙ ap (λ (x : ℕ). x / 2 ^ d) (shl-shr g n)
+    ∙ one in
     let top : bit_at (bit_xor (g * 2 ^ n) p) (n + d) ≡ 1 =
     rw (bit_at_xor (g * 2 ^ n) p (n + d), bit_at_above p (n + d) (n + d) small le, shifted) refl in
     rw top (xor_comm (bit_xor (g * 2 ^ n) p) (g * 2 ^ n) ∙ ap (bit_xor (g * 2 ^ n)) (xor_comm (g * 2 ^ n) p)
@@ -81,7 +86,8 @@ divided d g has zero [] r below few = xor_zero_l r
 divided d g has zero (b ∷ q) r below few = absurd (omega arith)
 divided d g has (suc n) [] r below few =
     let none : 0 ≤ n = omega arith in
-    ap (remainder d g n) (goes_on (bit_xor 0 r) n d (bit_xor (bit_xor 0 r) (g * 2 ^ n)) (sum_lt d g n [] r has.1 below none))
+    ap (remainder d g n) (goes_on (bit_xor 0 r) n d (bit_xor (bit_xor 0 r) (g * 2 ^ n))
+    (sum_lt d g n [] r has.1 below none))
     ∙ divided d g has n [] r below none
 divided d g has (suc n) (b ∷ q) r below few =
     let p : ℕ = bit_xor (product (b ∷ q) g) r in

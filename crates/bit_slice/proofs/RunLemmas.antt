@@ -1,5 +1,6 @@
 -- A loop over bits: the register and the bits that are left give what all bits give.
-use Rattle.std.proofs.Common.{◌≡◌, ℕ, zero, suc, ◌+◌, ◌*◌, ◌<◌, ◌≤◌, Bool, List, ◌++◌, length, take, drop, get_or, refl, ap, sym}
+use Rattle.std.proofs.Common.{◌≡◌, ℕ, zero, suc, ◌+◌, ◌*◌, ◌<◌, ◌≤◌, Bool, List, ◌++◌, length, take, drop, get_or, refl}
+use Rattle.std.proofs.Common.{ap, sym}
 use Rattle.std.proofs.Common.{◌∙◌, arith}
 use Rattle.std.specs.List.{flat_map}
 use Rattle.std.specs.Simd.{first_chunks}
@@ -10,7 +11,8 @@ use Rattle.bit_slice.specs.Register.{register}
 use Rattle.bit_slice.proofs.ZerosLemmas.{register-append}
 
 -- one more piece
-pub piece_more : {X : Type 0} (f : X → List Bool) (degree low s next all : ℕ) (xs : List X) (i : ℕ) (x : X) → i < length xs →
+pub piece_more : {X : Type 0} (f : X → List Bool) (degree low s next all : ℕ) (xs : List X) (i : ℕ) (x : X)
+    → i < length xs →
     register degree low s (flat_map f (drop i xs)) ≡ all → next ≡ register degree low s (f (get_or xs i x)) →
     register degree low next (flat_map f (drop (i + 1) xs)) ≡ all
 piece_more f degree low s next all xs i x inside e step =
@@ -20,10 +22,12 @@ piece_more f degree low s next all xs i x inside e step =
 
 -- one more field of eight bits
 pub field_more : (degree low s next all : ℕ) (bits : List Bool) (k : ℕ) → 8 * k + 8 ≤ length bits →
-    register degree low s (drop (8 * k) bits) ≡ all → next ≡ register degree low s (field 8 (number_at bits (8 * k) 8)) →
+    register degree low s (drop (8 * k) bits) ≡ all → next ≡ register degree low s (field 8 (number_at bits (8 * k) 8))
+    →
     register degree low next (drop (8 * (k + 1)) bits) ≡ all
 field_more degree low s next all bits k inside e step =
-    let here : field 8 (number_at bits (8 * k) 8) ≡ take 8 (drop (8 * k) bits) = field-number_at bits (8 * k) 8 inside in
+    let here : field 8 (number_at bits (8 * k) 8) ≡ take 8 (drop (8 * k) bits) = field-number_at bits
+    (8 * k) 8 inside in
     let place : 8 * (k + 1) ≡ 8 * k + 8 = omega arith in
     let rest : drop (8 * (k + 1)) bits ≡ drop 8 (drop (8 * k) bits) = ap (λ (n : ℕ). drop n bits) place
     ∙ sym (drop-drop 8 (8 * k) bits) in
@@ -39,10 +43,12 @@ bits_of-chunks : (n k : ℕ) (bytes : List ℕ) → flat_map bits_of (first_chun
 bits_of-chunks n zero bytes = let e : 0 * n ≡ 0 = omega arith in rw e refl
 bits_of-chunks n (suc k) bytes =
     let e : suc k * n ≡ n + k * n = omega arith in
-    append_assoc (bits_of (take n bytes)) (flat_map bits_of (first_chunks n k (drop n bytes))) (bits_of (drop (suc k * n) bytes))
+    append_assoc (bits_of (take n bytes)) (flat_map bits_of (first_chunks n k (drop n bytes)))
+    (bits_of (drop (suc k * n) bytes))
     ∙ ap (λ (bits : List Bool). bits_of (take n bytes) ++ bits)
     (ap (λ (m : ℕ). flat_map bits_of (first_chunks n k (drop n bytes)) ++ bits_of (drop m bytes)) e
-    ∙ ap (λ (xs : List ℕ). flat_map bits_of (first_chunks n k (drop n bytes)) ++ bits_of xs) (sym (drop-drop (k * n) n bytes))
+    ∙ ap (λ (xs : List ℕ). flat_map bits_of (first_chunks n k (drop n bytes)) ++ bits_of xs)
+    (sym (drop-drop (k * n) n bytes))
     ∙ bits_of-chunks n k (drop n bytes))
     ∙ sym (bits_of-append (take n bytes) (drop n bytes)) ∙ ap bits_of (take-append-drop n bytes)
 

@@ -1,5 +1,6 @@
 -- What puts do to sinks, and one put after another.
-use Rattle.std.proofs.Common.{◌≡◌, ℕ, ◌+◌, ◌-◌, ◌<◌, ◌≤◌, Bool, true, false, List, [], ◌++◌, length, take, drop, Option, Some}
+use Rattle.std.proofs.Common.{◌≡◌, ℕ, ◌+◌, ◌-◌, ◌<◌, ◌≤◌, Bool, true, false, List, [], ◌++◌, length, take, drop, Option}
+use Rattle.std.proofs.Common.{Some}
 use Rattle.std.proofs.Common.{None, refl, ap, sym, ◌∙◌, arith, append_assoc, length-append}
 use Rattle.std.proofs.lemmas.List.{length-take, take_at, take-append-le, take-append-drop}
 use Rattle.std.specs.Prelude.{IfSome, IsSomeAnd, min, slice_index_or, Result, Ok, Err, IfErr, OnErr}
@@ -63,7 +64,8 @@ counted old more new count need is size all = sym (ap length all ∙ length-appe
 -- what is put through a sink around another stands behind what stood in that one
 pub through : (old new stood put more all : List Bool) → new ≡ old ++ more → old ≡ stood ++ put → all ≡ put ++ more
     → new ≡ stood ++ all
-through old new stood put more all is was joined = is ∙ ap (λ (t : List Bool). t ++ more) was ∙ append_assoc stood put more
+through old new stood put more all is was joined = is ∙ ap (λ (t : List Bool). t ++ more) was
+    ∙ append_assoc stood put more
     ∙ sym (ap (λ (t : List Bool). stood ++ t) joined)
 
 -- ---- writers that stop
@@ -85,11 +87,13 @@ stops_later a b c front more fault puts stops =
     omega (arith, length-append front more) in
     record {
       count = length front + stops.count;
-      front = rw (take-append-add front more stops.count) (puts_on a b c front (take stops.count more) puts stops.front);
+      front = rw (take-append-add front more stops.count) (puts_on a b c front (take stops.count more)
+          puts stops.front);
       cause = rw (← left) stops.cause;
     }
 
-less_room : (a b : Option ℕ) (put room need total : ℕ) → b ≡ option_map (λ r. r - put) a → IfSome a (λ r. put ≤ r) → b ≡ Some room
+less_room : (a b : Option ℕ) (put room need total : ℕ) → b ≡ option_map (λ r. r - put) a → IfSome a (λ r. put ≤ r)
+    → b ≡ Some room
     → room < need → need ≤ total - put →
     IsSomeAnd a (λ r. r < total)
 less_room None b put room need total is fits at less inside = let none : Some room ≡ None = sym at ∙ is in cc
@@ -107,7 +111,8 @@ stops_rightly a b bits (Full need room) s =
     let cause = s.cause in
     let put : ℕ = length (take s.count bits) in
     let left : length bits - s.count ≤ length bits - put = omega (arith, few s.count bits) in
-    less_room a.room b.room put room need (length bits) s.front.room s.front.fits cause.0 cause.1 (omega (arith, left, cause.2))
+    less_room a.room b.room put room need (length bits) s.front.room s.front.fits cause.0 cause.1
+    (omega (arith, left, cause.2))
 stops_rightly a b bits OutOfMemory s =
     (no_end a.room b.room (length (take s.count bits)) s.front.room s.cause.0, sym s.front.grows ∙ s.cause.1)
 

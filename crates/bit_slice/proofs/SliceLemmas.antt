@@ -1,5 +1,6 @@
 -- How bits are read from bytes.
-use Rattle.std.proofs.Common.{◌≡◌, ℕ, ◌+◌, ◌-◌, ◌*◌, ◌/◌, ◌%◌, ◌^◌, ◌<◌, ◌≤◌, ◌==◌, Bool, false, List, [], ◌∷◌, ◌++◌, length}
+use Rattle.std.proofs.Common.{◌≡◌, ℕ, ◌+◌, ◌-◌, ◌*◌, ◌/◌, ◌%◌, ◌^◌, ◌<◌, ◌≤◌, ◌==◌, Bool, false, List, [], ◌∷◌, ◌++◌}
+use Rattle.std.proofs.Common.{length}
 use Rattle.std.proofs.Common.{take, drop, get_or, refl, ap, sym, ◌∙◌, arith}
 use Rattle.std.specs.Prelude.{bit_and, bit_or}
 use Rattle.std.proofs.lemmas.List.{append-nil, take_all, take-take, length-take-le, take_more}
@@ -17,7 +18,8 @@ seen_length bytes first len bits seen within = ap length (sym seen)
     ∙ length-part (bits_of bytes) first len (omega (arith, length-bits_of bytes))
 
 -- the whole bytes at the front of bits that begin at a byte
-pub front_bytes : (bytes : List ℕ) (first len count to : ℕ) (bits : List Bool) → take len (drop first (bits_of bytes)) ≡ bits
+pub front_bytes : (bytes : List ℕ) (first len count to : ℕ) (bits : List Bool)
+    → take len (drop first (bits_of bytes)) ≡ bits
     → first + len ≤ 8 * length bytes →
     first % 8 ≡ 0 → 8 * count ≤ len → to ≡ first / 8 + count → take (8 * count) bits
     ≡ bits_of (take (to - first / 8) (drop (first / 8) bytes))
@@ -30,7 +32,8 @@ front_bytes bytes first len count to bits seen within aligned few e =
     ∙ ap (λ (k : ℕ). bits_of (take k (drop (first / 8) bytes))) size
 
 -- borrowed bytes have the bits, if these begin at a byte and fill them
-pub bits_of_borrowed : (bytes out : List ℕ) (first len : ℕ) (bits : List Bool) → take len (drop first (bits_of bytes)) ≡ bits
+pub bits_of_borrowed : (bytes out : List ℕ) (first len : ℕ) (bits : List Bool)
+    → take len (drop first (bits_of bytes)) ≡ bits
     → first + len ≤ 8 * length bytes →
     first % 8 ≡ 0 → length bits ≡ 8 * length out → (to : ℕ) → to ≡ first / 8 + length out
     → out ≡ take (to - first / 8) (drop (first / 8) bytes) → bits_of out ≡ bits
@@ -47,7 +50,8 @@ bit_read bytes place h =
     let below : place % 8 < 8 = omega arith in
     let inside : place / 8 < length bytes = omega arith in
     ap (λ (n : ℕ). n == 1) (shr_and_one (get_or bytes (place / 8) 0) (7 - place % 8))
-    ∙ sym (ap (λ (k : ℕ). get_or (bits_of bytes) k false) whole ∙ get_or-bits_of bytes (place / 8) (place % 8) below inside)
+    ∙ sym (ap (λ (k : ℕ). get_or (bits_of bytes) k false) whole ∙ get_or-bits_of bytes (place / 8) (place % 8)
+    below inside)
 
 -- one more byte behind a number
 pub number_more : (bytes : List ℕ) (i number : ℕ) → i < length bytes → i < 16 → get_or bytes i 0 < 256
@@ -70,7 +74,8 @@ number_more bytes i number h short small e =
     ∙ sym (number_of-append (bits_of (take i bytes)) (field 8 byte)
     ∙ rw (length-field 8 byte, number_of-field 8 byte small) refl))
 
--- The field in the number of the bytes that it touches: the bits behind it are shifted out, and those before it masked out.
+-- The field in the number of the bytes that it touches: the bits behind it are shifted out, and those before it masked
+-- out.
 pub field_read : (bytes : List ℕ) (start width last : ℕ) → start + width ≤ 8 * length bytes → start + width ≤ 8 * last
     → 8 * last < start + width + 8 → width < 128 →
     bit_and (number_of (bits_of (take (last - start / 8) (drop (start / 8) bytes))) / 2 ^ (8 * last - (start + width)))

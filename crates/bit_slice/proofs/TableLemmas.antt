@@ -1,8 +1,9 @@
 -- The tables have the right entries: the check computes each one, and an induction makes a law of it.
-use Rattle.std.proofs.Common.{◌≡◌, ℕ, zero, suc, ◌+◌, ◌-◌, ◌*◌, ◌^◌, ◌<◌, ◌==◌, Bool, true, ◌&&◌, List, [], ◌∷◌, length, get_or}
+use Rattle.std.proofs.Common.{◌≡◌, ℕ, zero, suc, ◌+◌, ◌-◌, ◌*◌, ◌^◌, ◌<◌, ◌==◌, Bool, true, ◌&&◌, List, [], ◌∷◌, length}
+use Rattle.std.proofs.Common.{get_or}
 use Rattle.std.proofs.Common.{refl, ap, ◌∙◌, arith}
 use Rattle.std.proofs.lemmas.Bool.Decides.{Decides-eqb}
-use Rattle.terms.proofs.CaseLemmas.{both}
+use Rattle.std.proofs.lemmas.Bool.{and_parts}
 use Rattle.bit_slice.specs.declared.tables.TheConstants.{TABLES, BYTE_TABLE}
 use Rattle.bit_slice.specs.Register.{zeros}
 
@@ -29,11 +30,11 @@ right_at : (degree low n : ℕ) (xs : List ℕ) (byte j : ℕ) → right degree 
 unfolding right
 right_at degree low n [] byte j e h = absurd (omega arith)
 right_at degree low n (x ∷ xs) byte zero e h =
-    let here = both (x == entry_of degree low n byte) (right degree low n (byte + 1) xs) e in
+    let here = and_parts (x == entry_of degree low n byte) (right degree low n (byte + 1) xs) e in
     let sum : byte ≡ byte + 0 = omega arith in
     (Decides-eqb x (entry_of degree low n byte)).0 here.0 ∙ ap (entry_of degree low n) sum
 right_at degree low n (x ∷ xs) byte (suc j) e h =
-    let here = both (x == entry_of degree low n byte) (right degree low n (byte + 1) xs) e in
+    let here = and_parts (x == entry_of degree low n byte) (right degree low n (byte + 1) xs) e in
     let sum : byte + 1 + j ≡ byte + suc j = omega arith in
     right_at degree low n xs (byte + 1) j here.1 (omega arith) ∙ ap (entry_of degree low n) sum
 
@@ -43,8 +44,8 @@ all_right_at : (degree low : ℕ) (ts : List (List ℕ)) (n t byte : ℕ) → al
 unfolding all_right
 all_right_at degree low [] n t byte e h small = absurd (omega arith)
 all_right_at degree low (x ∷ ts) n zero byte e h small =
-    let here = both ((length x == 256) && right degree low n 0 x) (all_right degree low (n + 8) ts) e in
-    let table = both (length x == 256) (right degree low n 0 x) here.0 in
+    let here = and_parts ((length x == 256) && right degree low n 0 x) (all_right degree low (n + 8) ts) e in
+    let table = and_parts (length x == 256) (right degree low n 0 x) here.0 in
     let inside : byte < length x = rw ((Decides-eqb (length x) 256).0 table.0) small in
     let count : n ≡ n + 8 * 0 = omega arith in
     let sum : 0 + byte ≡ byte = omega arith in
@@ -53,14 +54,17 @@ all_right_at degree low (x ∷ ts) n zero byte e h small =
 all_right_at degree low (x ∷ ts) n (suc t) byte e h small =
     let count : n + 8 + 8 * t ≡ n + 8 * suc t = omega arith in
     all_right_at degree low ts (n + 8) t byte
-    ((both ((length x == 256) && right degree low n 0 x) (all_right degree low (n + 8) ts) e).1) (omega arith) small
+    ((and_parts ((length x == 256) && right degree low n 0 x) (all_right degree low (n + 8) ts) e).1)
+    (omega arith) small
     ∙ ap (λ (k : ℕ). entry_of degree low k byte) count
 
-pub entry_is : (t byte : ℕ) → t < 16 → byte < 256 → get_or (get_or TABLES t []) byte 0 ≡ zeros 32 0x04C1_1DB7 (8 * (t + 1))
+pub entry_is : (t byte : ℕ) → t < 16 → byte < 256 → get_or (get_or TABLES t []) byte 0 ≡ zeros 32 0x04C1_1DB7
+    (8 * (t + 1))
     (byte * 2 ^ 24)
 entry_is t byte h small =
     let count : 8 + 8 * t ≡ 8 * (t + 1) = omega arith in
-    all_right_at 32 0x04C1_1DB7 TABLES 8 t byte tables_right h small ∙ ap (λ (k : ℕ). entry_of 32 0x04C1_1DB7 k byte) count
+    all_right_at 32 0x04C1_1DB7 TABLES 8 t byte tables_right h small ∙ ap (λ (k : ℕ). entry_of 32 0x04C1_1DB7 k byte)
+    count
 
 byte_table_right : right 8 0xD5 8 0 BYTE_TABLE ≡ true
 unfolding zeros right

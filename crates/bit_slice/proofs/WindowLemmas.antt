@@ -1,16 +1,20 @@
--- Sums stand for the register: a multiple of the generator that has five terms takes each byte to four places behind it.
-use Rattle.std.proofs.Common.{◌≡◌, ℕ, zero, suc, ◌+◌, ◌-◌, ◌*◌, ◌/◌, ◌%◌, ◌^◌, ◌<◌, ◌≤◌, List, [], ◌∷◌, ◌++◌, length, take, drop}
+-- Sums stand for the register: a multiple of the generator that has five terms takes each byte to four places behind
+-- it.
+use Rattle.std.proofs.Common.{◌≡◌, ℕ, zero, suc, ◌+◌, ◌-◌, ◌*◌, ◌/◌, ◌%◌, ◌^◌, ◌<◌, ◌≤◌, List, [], ◌∷◌, ◌++◌, length}
+use Rattle.std.proofs.Common.{take, drop}
 use Rattle.std.proofs.Common.{get_or, set, refl, ap, sym, ◌∙◌, arith, subst, add_comm, add-one, ⊎_elim}
 use Rattle.std.proofs.lemmas.Bool.{cases_lt}
 use Rattle.std.proofs.lemmas.Grind.{get_or-set_at}
 use Rattle.std.specs.Prelude.{bit_xor, replicate}
 use lib.Bits.{xor_assoc, xor_self, xor_shifted, xor_zero_l, xor_zero_r}
 use Rattle.std.proofs.lemmas.Nat.{xor_comm, xor_lt}
-use Rattle.std.proofs.lemmas.List.{append-nil, take_more, take_all, take-append-le, drop-append-le, get_or-drop, get_or_append_left}
+use Rattle.std.proofs.lemmas.List.{append-nil, take_more, take_all, take-append-le, drop-append-le, get_or-drop}
+use Rattle.std.proofs.lemmas.List.{get_or_append_left}
 use Rattle.std.proofs.lemmas.List.{get_or-append_right, length-append, length-drop, length-set, get_or-set_other}
 use Rattle.std.proofs.Math.Nat.{pow-succ'}
 use Rattle.terms.specs.Bits.{field, bits_of, number_of}
-use Rattle.std.proofs.lemmas.List.{append_assoc, take_at, drop-drop, drop-take, length-take-le, get_or-take, get_or_past}
+use Rattle.std.proofs.lemmas.List.{append_assoc, take_at, drop-drop, drop-take, length-take-le, get_or-take}
+use Rattle.std.proofs.lemmas.List.{get_or_past}
 use Rattle.std.proofs.lemmas.List.Edits.{take-paste}
 use Rattle.std.specs.List.{copy_within}
 use lib.Seq.{paste}
@@ -80,7 +84,8 @@ comes_one = refl
 comes_on : (n s : ℕ) → s < 2 ^ 32 → Comes s → Comes (on n s)
 comes_on n s fits h =
     rw (on-on 712 n s, on-on 936 n s, on-on 1240 n s, on-on 2400 n s)
-    (sym (on_sum n (on 712 s) (on 936 s) (on 1240 s) (on 2400 s) (on_lt 712 s fits) (on_lt 936 s fits) (on_lt 1240 s fits)
+    (sym (on_sum n (on 712 s) (on 936 s) (on 1240 s) (on 2400 s) (on_lt 712 s fits) (on_lt 936 s fits)
+    (on_lt 1240 s fits)
     (on_lt 2400 s fits))
     ∙ ap (zeros 32 0x04C1_1DB7 n) h)
 
@@ -105,7 +110,8 @@ comes_below (suc n) s few h fits =
     let small : high < 2 ^ n = omega arith in
     let fits_high : high < 2 ^ 32 = omega arith in
     let moved : on 1 high ≡ high * 2 ^ 1 = zeros_low 32 0x04C1_1DB7 1 high (omega arith) in
-    let comes : Comes (high * 2 ^ 1) = subst Comes moved (comes_on 1 high fits_high (comes_below n high (omega arith) small fits_high)) in
+    let comes : Comes (high * 2 ^ 1) = subst Comes moved (comes_on 1 high fits_high
+    (comes_below n high (omega arith) small fits_high)) in
     let joined : bit_xor (high * 2 ^ 1) bit ≡ s = xor_shifted high 1 bit (omega arith) ∙ whole in
     subst Comes joined (comes_sum (high * 2 ^ 1) bit (omega arith) (omega arith) comes (comes_bit bit (omega arith)))
 
@@ -125,7 +131,8 @@ unfolding front Bytes
 front_lt s f fits small zero = fits
 front_lt s f fits small (suc n) =
     let byte = small n in
-    on_lt 8 (bit_xor (front s f n) (f n * 2 ^ 24)) (xor_lt 32 (front s f n) (f n * 2 ^ 24) (front_lt s f fits small n) (omega arith))
+    on_lt 8 (bit_xor (front s f n) (f n * 2 ^ 24)) (xor_lt 32 (front s f n) (f n * 2 ^ 24) (front_lt s f fits small n)
+    (omega arith))
 
 front_same : (s : ℕ) (f g : ℕ → ℕ) (n : ℕ) → ((k : ℕ) → k < n → f k ≡ g k) → front s f n ≡ front s g n
 unfolding front
@@ -155,15 +162,18 @@ front_behind f small p (suc n) =
     ∙ sym (xor_assoc a c b) in
     rw e
     (ap (λ (x : ℕ). on 8 (bit_xor x c)) (front_behind f small p n) ∙ ap (zeros 32 0x04C1_1DB7 8) turned
-    ∙ on_xor 8 (bit_xor a c) b (xor_lt 32 a c fits_a fits_c) fits_b ∙ ap (bit_xor (on 8 (bit_xor a c))) (on_more n (front 0 f p)))
+    ∙ on_xor 8 (bit_xor a c) b (xor_lt 32 a c fits_a fits_c) fits_b ∙ ap (bit_xor (on 8 (bit_xor a c)))
+    (on_more n (front 0 f p)))
 
 -- ---- the register for which the sums from a place on stand
 stood : (ℕ → ℕ) → ℕ → ℕ
 stood f p =
-    bit_xor (front 0 f p) (sum_of (front 0 f (p + 89)) (front 0 f (p + 117)) (front 0 f (p + 155)) (front 0 f (p + 300)))
+    bit_xor (front 0 f p) (sum_of (front 0 f (p + 89)) (front 0 f (p + 117)) (front 0 f (p + 155))
+    (front 0 f (p + 300)))
 
 stood_is : (f : ℕ → ℕ) → Bytes f → (p : ℕ) →
-    sum_of (front 0 (λ k. f (p + k)) 89) (front 0 (λ k. f (p + k)) 117) (front 0 (λ k. f (p + k)) 155) (front 0 (λ k. f (p + k)) 300)
+    sum_of (front 0 (λ k. f (p + k)) 89) (front 0 (λ k. f (p + k)) 117) (front 0 (λ k. f (p + k)) 155)
+    (front 0 (λ k. f (p + k)) 300)
     ≡ stood f p
 unfolding stood
 stood_is f small p =
@@ -180,8 +190,10 @@ stood_lt : (f : ℕ → ℕ) → Bytes f → (p : ℕ) → stood f p < 2 ^ 32
 unfolding stood
 stood_lt f small p =
     let lt : (n : ℕ) → front 0 f n < 2 ^ 32 = front_lt 0 f (omega arith) small in
-    xor_lt 32 (front 0 f p) (sum_of (front 0 f (p + 89)) (front 0 f (p + 117)) (front 0 f (p + 155)) (front 0 f (p + 300))) (lt p)
-    (sum_lt (front 0 f (p + 89)) (front 0 f (p + 117)) (front 0 f (p + 155)) (front 0 f (p + 300)) (lt (p + 89)) (lt (p + 117))
+    xor_lt 32 (front 0 f p) (sum_of (front 0 f (p + 89)) (front 0 f (p + 117)) (front 0 f (p + 155))
+    (front 0 f (p + 300))) (lt p)
+    (sum_lt (front 0 f (p + 89)) (front 0 f (p + 117)) (front 0 f (p + 155)) (front 0 f (p + 300)) (lt (p + 89))
+    (lt (p + 117))
     (lt (p + 155)) (lt (p + 300)))
 
 -- what stands at a place with what comes to it
@@ -195,7 +207,13 @@ front_more f p a = let e : suc p + a ≡ suc (p + a) = omega arith in rw e refl
 raised : (a b c d e : ℕ) → bit_xor (a * 2 ^ 24) (sum_of (b * 2 ^ 24) (c * 2 ^ 24) (d * 2 ^ 24) (e * 2 ^ 24))
     ≡ bit_xor a (sum_of b c d e) * 2 ^ 24
 raised a b c d e =
-    rw (xor_shl b c 24, xor_shl (bit_xor b c) d 24, xor_shl (bit_xor (bit_xor b c) d) e 24, xor_shl a (sum_of b c d e) 24) refl
+    rw (
+      xor_shl b c 24,
+      xor_shl (bit_xor b c) d 24,
+      xor_shl (bit_xor (bit_xor b c) d) e 24,
+      xor_shl a
+          (sum_of b c d e) 24,
+    ) refl
 
 stood_more : (f : ℕ → ℕ) → Bytes f → (p : ℕ) → stood f (suc p) ≡ on 8 (bit_xor (stood f p) (met f p * 2 ^ 24))
 unfolding stood front Bytes
@@ -221,12 +239,14 @@ stood_more f small p =
     let fits_c : bit_xor c x < 2 ^ 32 = xor_lt 32 c x (front_lt 0 f (omega arith) small (p + 155)) fits_x in
     let fits_d : bit_xor d y < 2 ^ 32 = xor_lt 32 d y (front_lt 0 f (omega arith) small (p + 300)) fits_y in
     rw (front_more f p 89, front_more f p 117, front_more f p 155, front_more f p 300)
-    (ap (bit_xor (on 8 (bit_xor s u))) (sym (on_sum 8 (bit_xor a v) (bit_xor b w) (bit_xor c x) (bit_xor d y) fits_a fits_b fits_c fits_d))
+    (ap (bit_xor (on 8 (bit_xor s u))) (sym (on_sum 8 (bit_xor a v) (bit_xor b w) (bit_xor c x) (bit_xor d y)
+    fits_a fits_b fits_c fits_d))
     ∙ sym (on_xor 8 (bit_xor s u) (sum_of (bit_xor a v) (bit_xor b w) (bit_xor c x) (bit_xor d y)) fits_s
     (sum_lt (bit_xor a v) (bit_xor b w) (bit_xor c x) (bit_xor d y) fits_a fits_b fits_c fits_d))
     ∙ ap (λ (z : ℕ). on 8 (bit_xor (bit_xor s u) z)) (sums_swap a b c d v w x y)
     ∙ ap (zeros 32 0x04C1_1DB7 8) (xor_swap s u (sum_of a b c d) (sum_of v w x y))
-    ∙ ap (λ (z : ℕ). on 8 (bit_xor (bit_xor s (sum_of a b c d)) z)) (raised (f p) (f (p + 89)) (f (p + 117)) (f (p + 155)) (f (p + 300))))
+    ∙ ap (λ (z : ℕ). on 8 (bit_xor (bit_xor s (sum_of a b c d)) z)) (raised (f p) (f (p + 89)) (f (p + 117))
+    (f (p + 155)) (f (p + 300))))
 
 -- as a register goes on with bytes, so do the sums
 stood_on : (f g : ℕ → ℕ) → Bytes f → (n : ℕ) → ((k : ℕ) → k < n → g k ≡ met f k) → stood f n ≡ front (stood f 0) g n
@@ -238,11 +258,13 @@ stood_on f g small (suc n) each =
     ∙ ap (λ (x : ℕ). on 8 (bit_xor (front (stood f 0) g n) (x * 2 ^ 24))) (sym (each n (omega arith)))
 
 -- ---- lists
-register_one : (s b : ℕ) → s < 2 ^ 32 → b < 256 → register 32 0x04C1_1DB7 s (bits_of (b ∷ [])) ≡ on 8 (bit_xor s (b * 2 ^ 24))
+register_one : (s b : ℕ) → s < 2 ^ 32 → b < 256 → register 32 0x04C1_1DB7 s (bits_of (b ∷ [])) ≡ on 8
+    (bit_xor s (b * 2 ^ 24))
 register_one s b fits byte =
     let few : length (field 8 b) ≤ 32 = rw (length-field 8 b) (omega arith) in
     ap (register 32 0x04C1_1DB7 s) (append-nil (field 8 b))
-    ∙ rw (length-field 8 b, number_of-field 8 b byte) at (register_is_zeros 32 0x04C1_1DB7 (omega arith) (field 8 b) s fits few)
+    ∙ rw (length-field 8 b, number_of-field 8 b byte) at (register_is_zeros 32 0x04C1_1DB7 (omega arith)
+    (field 8 b) s fits few)
 
 front_is : (s : ℕ) (xs : List ℕ) → s < 2 ^ 32 → Bytes (λ k. get_or xs k 0) → (n : ℕ) → n ≤ length xs →
     front s (λ k. get_or xs k 0) n ≡ register 32 0x04C1_1DB7 s (bits_of (take n xs))
@@ -289,7 +311,8 @@ sums_more sums bytes more done so inside =
       old = λ k h. get_or-set_other more done k sum 0 (λ e. omega arith) ∙ so.old k (omega arith);
     }
 
-pub sums_all : (sums bytes more : List ℕ) (done : ℕ) → SumsSo sums bytes more done → length bytes ≤ done → AreSums sums bytes more
+pub sums_all : (sums bytes more : List ℕ) (done : ℕ) → SumsSo sums bytes more done → length bytes ≤ done
+    → AreSums sums bytes more
 sums_all sums bytes more done so whole = record { len = so.len; each = λ k h. so.new k (omega arith) }
 
 -- ---- the register for which sums stand, and a block more
@@ -305,13 +328,15 @@ front_of xs small a few = sym (front_is 0 xs (omega arith) (bytes_lt xs small) a
 dropped_lt : (xs : List ℕ) (n : ℕ) → ((k : ℕ) → get_or xs k 0 < 256) → (k : ℕ) → get_or (drop n xs) k 0 < 256
 dropped_lt xs n small k = rw (get_or-drop n xs k 0) (small (n + k))
 
-front_dropped : (xs : List ℕ) → ((k : ℕ) → get_or xs k 0 < 256) → (n a : ℕ) → n + a ≤ length xs → front_register a (drop n xs)
+front_dropped : (xs : List ℕ) → ((k : ℕ) → get_or xs k 0 < 256) → (n a : ℕ) → n + a ≤ length xs
+    → front_register a (drop n xs)
     ≡ front 0 (λ k. get_or xs (n + k) 0) a
 front_dropped xs small n a few =
     front_of (drop n xs) (dropped_lt xs n small) a (omega (arith, length-drop n xs))
     ∙ front_same 0 (λ k. get_or (drop n xs) k 0) (λ k. get_or xs (n + k) 0) a (λ k h. get_or-drop n xs k 0)
 
-window_dropped : (xs : List ℕ) → ((k : ℕ) → get_or xs k 0 < 256) → (n : ℕ) → n + 300 ≤ length xs → window_register (drop n xs)
+window_dropped : (xs : List ℕ) → ((k : ℕ) → get_or xs k 0 < 256) → (n : ℕ) → n + 300 ≤ length xs
+    → window_register (drop n xs)
     ≡ stood (λ k. get_or xs k 0) n
 unfolding window_register
 window_dropped xs small n few =
@@ -325,13 +350,15 @@ window_dropped xs small n few =
 
 pub passed : (sums bytes more : List ℕ) → length sums ≡ 300 → length bytes ≤ 145 → AreSums sums bytes more
     → ((k : ℕ) → get_or (sums ++ more) k 0 < 256) → ((k : ℕ) → get_or bytes k 0 < 256) →
-    window_register (drop (length bytes) (sums ++ more)) ≡ register 32 0x04C1_1DB7 (window_register (sums ++ more)) (bits_of bytes)
+    window_register (drop (length bytes) (sums ++ more)) ≡ register 32 0x04C1_1DB7 (window_register (sums ++ more))
+    (bits_of bytes)
 passed sums bytes more long few are small small_bytes =
     let all : List ℕ = sums ++ more in
     let f : ℕ → ℕ = λ k. get_or all k 0 in
     let n : ℕ = length bytes in
     let size : length all ≡ 300 + n = length-append sums more ∙ omega (arith, long, are.len) in
-    let near : (k : ℕ) → k < 300 → f k ≡ get_or sums k 0 = λ k h. get_or_append_left sums more 0 k (omega (arith, long, h)) in
+    let near : (k : ℕ) → k < 300 → f k ≡ get_or sums k 0 = λ k h. get_or_append_left sums more 0 k
+    (omega (arith, long, h)) in
     let meets : (k : ℕ) → k < n → get_or bytes k 0 ≡ met f k = λ k h.
     let a : ℕ = get_or sums k 0 in
     let b : ℕ = get_or sums (k + 89) 0 in
@@ -340,19 +367,29 @@ passed sums bytes more long few are small small_bytes =
     let x : ℕ = get_or bytes k 0 in
     let e : k + 300 - 300 ≡ k = omega arith in
     let far : f (k + 300) ≡ bit_xor x (sum_of a b c d) =
-    get_or-append_right sums more 300 (k + 300) 0 long (omega arith) ∙ ap (λ (i : ℕ). get_or more i 0) e ∙ are.each k h in
+    get_or-append_right sums more 300 (k + 300) 0 long (omega arith) ∙ ap (λ (i : ℕ). get_or more i 0) e
+    ∙ are.each k h in
     let turned : bit_xor a (sum_of b c d (bit_xor x (sum_of a b c d))) ≡ x =
     sym (xor_assoc a (bit_xor (bit_xor b c) d) (bit_xor x (sum_of a b c d)))
-    ∙ ap (λ (y : ℕ). bit_xor y (bit_xor x (sum_of a b c d))) (sym (xor_assoc a (bit_xor b c) d) ∙ ap (λ (y : ℕ). bit_xor y d) (sym (xor_assoc a b c)))
+    ∙ ap (λ (y : ℕ). bit_xor y (bit_xor x (sum_of a b c d))) (sym (xor_assoc a (bit_xor b c) d)
+    ∙ ap (λ (y : ℕ). bit_xor y d) (sym (xor_assoc a b c)))
     ∙ xor_twice (sum_of a b c d) x in
-    sym (rw (near k (omega arith), near (k + 89) (omega arith), near (k + 117) (omega arith), near (k + 155) (omega arith), far) turned) in
+    sym (rw (
+      near k (omega arith),
+      near (k + 89) (omega arith),
+      near (k + 117) (omega arith),
+      near (k + 155)
+          (omega arith),
+      far,
+    ) turned) in
     let none : drop 0 all ≡ all = refl in
     let begun : window_register all ≡ stood f 0 = window_dropped all small 0 (omega arith) in
     let fits : stood f 0 < 2 ^ 32 = stood_lt f (bytes_lt all small) 0 in
     window_dropped all small n (omega arith)
     ∙ stood_on f (λ k. get_or bytes k 0) (bytes_lt all small) n meets
     ∙ front_is (stood f 0) bytes fits (bytes_lt bytes small_bytes) n (omega arith)
-    ∙ ap (λ (xs : List ℕ). register 32 0x04C1_1DB7 (stood f 0) (bits_of xs)) (take_all (length bytes) bytes (omega arith))
+    ∙ ap (λ (xs : List ℕ). register 32 0x04C1_1DB7 (stood f 0) (bits_of xs))
+    (take_all (length bytes) bytes (omega arith))
     ∙ ap (λ (s : ℕ). register 32 0x04C1_1DB7 s (bits_of bytes)) (sym begun)
 
 -- the sums with a block more stand for the register that has gone on
@@ -361,11 +398,18 @@ pub passed_on : (sums bytes more : List ℕ) → length sums ≡ 300 → length 
     window_register (drop (length bytes) sums ++ more) ≡ register 32 0x04C1_1DB7 (window_register sums) (bits_of bytes)
 unfolding window_register front_register
 passed_on sums bytes more long few are small small_bytes =
-    let front_same : (a : ℕ) → a ≤ 300 → take a (sums ++ more) ≡ take a sums = λ a h. take-append-le a sums more (omega (arith, long, h)) in
+    let front_same : (a : ℕ) → a ≤ 300 → take a (sums ++ more) ≡ take a sums = λ a h. take-append-le
+    a sums more (omega (arith, long, h)) in
     let split : drop (length bytes) (sums ++ more) ≡ drop (length bytes) sums ++ more =
     drop-append-le (length bytes) sums more (omega (arith, long)) in
     let same : window_register (sums ++ more) ≡ window_register sums =
-    rw (front_same 89 (omega arith), front_same 117 (omega arith), front_same 155 (omega arith), front_same 300 (omega arith)) refl in
+    rw (
+      front_same 89 (omega arith),
+      front_same 117 (omega arith),
+      front_same 155 (omega arith),
+      front_same
+          300 (omega arith),
+    ) refl in
     ap window_register (sym split) ∙ passed sums bytes more long few are small small_bytes
     ∙ ap (λ (s : ℕ). register 32 0x04C1_1DB7 s (bits_of bytes)) same
 
@@ -412,7 +456,8 @@ begun s (a ∷ b ∷ c ∷ d ∷ []) fits four is =
 begun s word fits four is = absurd (omega arith)
 
 -- the same in room for more
-pub begun_in : (s : ℕ) (word piece old : List ℕ) → s < 2 ^ 32 → length word ≡ 4 → bits_of word ≡ field 32 s → piece ≡ word
+pub begun_in : (s : ℕ) (word piece old : List ℕ) → s < 2 ^ 32 → length word ≡ 4 → bits_of word ≡ field 32 s
+    → piece ≡ word
     → old ≡ replicate 1324 0 → window_register (take 300 (piece ++ drop 4 old)) ≡ s
 begun_in s word piece old fits four bits is zeros =
     let spelled : number_of (bits_of word) ≡ s = ap number_of bits ∙ number_of-field 32 s fits in
@@ -423,12 +468,14 @@ begun_in s word piece old fits four bits is zeros =
     ap (λ (xs : List ℕ). window_register (take 300 xs)) put ∙ ap window_register left ∙ begun s word fits four spelled
 
 -- ---- the register of sums, by a walk over them
-pub front_on : (sums : List ℕ) (a b last : ℕ) → last ≡ register 32 0x04C1_1DB7 (front_register a sums) (bits_of (take b (drop a sums)))
+pub front_on : (sums : List ℕ) (a b last : ℕ) → last ≡ register 32 0x04C1_1DB7 (front_register a sums)
+    (bits_of (take b (drop a sums)))
     → last ≡ front_register (a + b) sums
 unfolding front_register
 front_on sums a b last is =
     is ∙ sym (register-append 32 0x04C1_1DB7 0 (bits_of (take a sums)) (bits_of (take b (drop a sums))))
-    ∙ ap (register 32 0x04C1_1DB7 0) (sym (bits_of-append (take a sums) (take b (drop a sums))) ∙ ap bits_of (sym (take-add a b sums)))
+    ∙ ap (register 32 0x04C1_1DB7 0) (sym (bits_of-append (take a sums) (take b (drop a sums)))
+    ∙ ap bits_of (sym (take-add a b sums)))
 
 -- ---- a block's sums behind others, in room for more
 sum_byte : (sums bytes : List ℕ) → ((k : ℕ) → get_or sums k 0 < 256) → ((k : ℕ) → get_or bytes k 0 < 256) → (k : ℕ)
@@ -439,14 +486,16 @@ sum_byte sums bytes small small_bytes k =
     let c : ℕ = get_or sums (k + 117) 0 in
     let d : ℕ = get_or sums (k + 155) 0 in
     xor_lt 8 (get_or bytes k 0) (sum_of a b c d) (small_bytes k)
-    (xor_lt 8 (bit_xor (bit_xor a b) c) d (xor_lt 8 (bit_xor a b) c (xor_lt 8 a b (small k) (small (k + 89))) (small (k + 117)))
+    (xor_lt 8 (bit_xor (bit_xor a b) c) d (xor_lt 8 (bit_xor a b) c (xor_lt 8 a b (small k) (small (k + 89)))
+    (small (k + 117)))
     (small (k + 155)))
 
 more_byte : (sums bytes more : List ℕ) → AreSums sums bytes more → ((k : ℕ) → get_or sums k 0 < 256)
     → ((k : ℕ) → get_or bytes k 0 < 256) → (k : ℕ) → get_or more k 0 < 256
 more_byte sums bytes more are small small_bytes k = ⊎_elim
     (λ less. subst (λ (x : ℕ). x < 256) (sym (are.each k less)) (sum_byte sums bytes small small_bytes k))
-    (λ beyond. let e = get_or_past more k 0 (omega (arith, are.len, beyond)) in omega (arith, e)) (cases_lt k (length bytes))
+    (λ beyond. let e = get_or_past more k 0 (omega (arith, are.len, beyond)) in omega (arith, e))
+    (cases_lt k (length bytes))
 
 joined_byte : (sums more : List ℕ) → ((k : ℕ) → get_or sums k 0 < 256) → ((k : ℕ) → get_or more k 0 < 256) → (k : ℕ)
     → get_or (sums ++ more) k 0 < 256
@@ -458,7 +507,8 @@ joined_byte sums more small small_more k = ⊎_elim
 part_byte : (old : List ℕ) (at : ℕ) → at + 300 ≤ length old → ((k : ℕ) → get_or old k 0 < 256) → (k : ℕ)
     → get_or (take 300 (drop at old)) k 0 < 256
 part_byte old at room small k = ⊎_elim
-    (λ less. subst (λ (x : ℕ). x < 256) (sym (get_or-take 300 (drop at old) k 0 less ∙ get_or-drop at old k 0)) (small (at + k)))
+    (λ less. subst (λ (x : ℕ). x < 256) (sym (get_or-take 300 (drop at old) k 0 less ∙ get_or-drop at old k 0))
+    (small (at + k)))
     (λ beyond. let long = length-take-le 300 (drop at old) (omega (arith, length-drop at old)) in
     let e = get_or_past (take 300 (drop at old)) k 0 (omega (arith, long, beyond)) in omega (arith, e)) (cases_lt k 300)
 
@@ -471,7 +521,8 @@ settled old new at room is =
     ∙ take-paste old 0 (drop at old) 300 (omega arith) (omega (arith, length-drop at old))
 
 pub put : (old bytes more : List ℕ) (at : ℕ) → at + 428 ≤ length old → length bytes ≡ 128
-    → AreSums (take 300 (drop at old)) bytes more → ((k : ℕ) → get_or old k 0 < 256) → ((k : ℕ) → get_or bytes k 0 < 256) →
+    → AreSums (take 300 (drop at old)) bytes more → ((k : ℕ) → get_or old k 0 < 256)
+    → ((k : ℕ) → get_or bytes k 0 < 256) →
     window_register (take 300 (drop (at + 128) (take (at + 300) old ++ (more ++ drop 128 (drop (at + 300) old)))))
     ≡ register 32 0x04C1_1DB7 (window_register (take 300 (drop at old))) (bits_of bytes)
 put old bytes more at room size are small small_bytes =
@@ -489,9 +540,11 @@ put old bytes more at room size are small small_bytes =
     let long_left : length left ≡ 300 =
     length-append (drop 128 sums) more ∙ omega (arith, length-drop 128 sums, long, are.len, size) in
     let split : drop (at + 128) (head ++ (more ++ rest)) ≡ left ++ rest =
-    drop-append-le (at + 128) head (more ++ rest) (omega (arith, long_head)) ∙ ap (λ (xs : List ℕ). xs ++ (more ++ rest)) kept
+    drop-append-le (at + 128) head (more ++ rest) (omega (arith, long_head))
+    ∙ ap (λ (xs : List ℕ). xs ++ (more ++ rest)) kept
     ∙ sym (append_assoc (drop 128 sums) more rest) in
-    let is : take 300 (drop (at + 128) (head ++ (more ++ rest))) ≡ left = ap (take 300) split ∙ take_at left rest 300 long_left in
+    let is : take 300 (drop (at + 128) (head ++ (more ++ rest))) ≡ left = ap (take 300) split
+    ∙ take_at left rest 300 long_left in
     let n : drop (length bytes) sums ≡ drop 128 sums = ap (λ (k : ℕ). drop k sums) size in
     ap window_register is ∙ ap (λ (xs : List ℕ). window_register (xs ++ more)) (sym n)
     ∙ passed_on sums bytes more long (omega (arith, size)) are (joined_byte sums more small_sums small_more) small_bytes
@@ -500,7 +553,8 @@ put old bytes more at room size are small small_bytes =
 pub put_again : (old bytes more piece : List ℕ) (at : ℕ) → at + 428 ≤ length old → length bytes ≡ 128
     → AreSums (take (at + 300 - at) (drop at old)) bytes more → piece ≡ more
     → ((k : ℕ) → get_or old k 0 < 256) → ((k : ℕ) → get_or bytes k 0 < 256) →
-    window_register (take 300 (drop (at + 128) (take (at + 300) old ++ (piece ++ drop (at + 300 + 128 - (at + 300)) (drop (at + 300) old)))))
+    window_register (take 300
+    (drop (at + 128) (take (at + 300) old ++ (piece ++ drop (at + 300 + 128 - (at + 300)) (drop (at + 300) old)))))
     ≡ register 32 0x04C1_1DB7 (window_register (take 300 (drop at old))) (bits_of bytes)
 put_again old bytes more piece at room size are is small small_bytes =
     let e : at + 300 - at ≡ 300 = omega arith in

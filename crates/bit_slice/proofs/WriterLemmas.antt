@@ -25,7 +25,8 @@ pub rest_faults : {T : Type 0} → StopsLater → (a b c : State) (front more bi
 rest_faults later a b c front more bits (Ok x) puts stops is = tt
 rest_faults later a b c front more bits (Err e) puts stops is = rw is (later a b c front more e puts stops)
 
-pub rest_puts : {T : Type 0} → PutsJoin → (a b c : State) (front more bits : List Bool) (r : Result T SinkFault) → Puts a b front
+pub rest_puts : {T : Type 0} → PutsJoin → (a b c : State) (front more bits : List Bool) (r : Result T SinkFault)
+    → Puts a b front
     → OnOk r (Puts b c more) → bits ≡ front ++ more →
     OnOk r (Puts a c bits)
 rest_puts join a b c front more bits (Ok x) puts rest is = rw is (join a b c front more puts rest)

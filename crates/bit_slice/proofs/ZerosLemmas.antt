@@ -1,6 +1,7 @@
 -- What zero bits make of the register: a sum goes through them, and what stands low only moves. So a run of bits makes
 -- of the register what as many zero bits make of a sum.
-use Rattle.std.proofs.Common.{◌≡◌, ℕ, zero, suc, ◌+◌, ◌-◌, ◌*◌, ◌/◌, ◌%◌, ◌^◌, ◌<◌, ◌≤◌, ◌==◌, Bool, true, false, cond, List, []}
+use Rattle.std.proofs.Common.{◌≡◌, ℕ, zero, suc, ◌+◌, ◌-◌, ◌*◌, ◌/◌, ◌%◌, ◌^◌, ◌<◌, ◌≤◌, ◌==◌, Bool, true, false, cond}
+use Rattle.std.proofs.Common.{List, []}
 use Rattle.std.proofs.Common.{◌∷◌, ◌++◌, length, refl, ap, sym, ◌∙◌, arith}
 use Rattle.std.specs.Prelude.{bit_xor}
 use lib.Bits.{xor_assoc, xor_self, xor_shifted, xor_zero_l, xor_zero_r}
@@ -31,7 +32,8 @@ xor_times (suc zero) (suc zero) low h k = let e : 0 * low ≡ 0 = omega arith in
 xor_times (suc zero) (suc (suc t)) low h k = absurd (omega arith)
 xor_times (suc (suc s)) t low h k = absurd (omega arith)
 
-step_xor : (d low a b : ℕ) → low < 2 ^ d → a < 2 ^ d → b < 2 ^ d → step d low (bit_xor a b) false ≡ bit_xor (step d low a false)
+step_xor : (d low a b : ℕ) → low < 2 ^ d → a < 2 ^ d → b < 2 ^ d → step d low (bit_xor a b) false ≡ bit_xor
+    (step d low a false)
     (step d low b false)
 step_xor d low a b small fits_a fits_b =
     let twice : bit_xor a b * 2 ≡ bit_xor (a * 2) (b * 2) = sym (xor_shl a b 1) in
@@ -54,7 +56,8 @@ turned (suc zero) h = refl
 turned (suc (suc t)) h = absurd (omega arith)
 
 -- a bit is a zero bit and a sum at the top
-step_bit : (d low s : ℕ) (b : Bool) → 0 < d → s < 2 ^ d → step d low s b ≡ step d low (bit_xor s (cond b 1 0 * 2 ^ (d - 1))) false
+step_bit : (d low s : ℕ) (b : Bool) → 0 < d → s < 2 ^ d
+    → step d low s b ≡ step d low (bit_xor s (cond b 1 0 * 2 ^ (d - 1))) false
 step_bit d low s false some fits = let e : 0 * 2 ^ (d - 1) ≡ 0 = omega arith in rw (e, xor_zero_r s) refl
 step_bit d low s true some fits =
     let x : ℕ = 1 * 2 ^ (d - 1) in
@@ -98,10 +101,12 @@ pub zeros-add : (d low m n s : ℕ) → zeros d low (m + n) s ≡ zeros d low n 
 unfolding zeros
 zeros-add d low zero n s = let e : 0 + n ≡ n = omega arith in ap (λ (k : ℕ). zeros d low k s) e
 zeros-add d low (suc m) n s =
-    let e : suc m + n ≡ suc (m + n) = omega arith in ap (λ (k : ℕ). zeros d low k s) e ∙ zeros-add d low m n (step d low s false)
+    let e : suc m + n ≡ suc (m + n) = omega arith in ap (λ (k : ℕ). zeros d low k s) e
+    ∙ zeros-add d low m n (step d low s false)
 
 -- ---- any bits
-pub register-append : (d low s : ℕ) (xs ys : List Bool) → register d low s (xs ++ ys) ≡ register d low (register d low s xs) ys
+pub register-append : (d low s : ℕ) (xs ys : List Bool) → register d low s (xs ++ ys) ≡ register d low
+    (register d low s xs) ys
 register-append d low s [] ys = refl
 register-append d low s (b ∷ xs) ys = register-append d low (step d low s b) xs ys
 
@@ -138,7 +143,8 @@ register_is_zeros d low small (b ∷ bs) s fits few =
     [ true ↦ omega (arith, size) | false ↦ omega arith ] in
     let joined : bit_xor bit y ≡ bit + y = xor_shifted (cond b 1 0) (d - 1) y low_y in
     rw (step_bit d low s b some fits)
-    (register_is_zeros d low small bs (step d low (bit_xor s bit) false) (step_lt d low (bit_xor s bit) false small) (omega arith)
+    (register_is_zeros d low small bs (step d low (bit_xor s bit) false) (step_lt d low (bit_xor s bit) false small)
+    (omega arith)
     ∙ ap (zeros d low n) (ap (bit_xor (step d low (bit_xor s bit) false)) moved
     ∙ sym (step_xor d low (bit_xor s bit) y small (xor_lt d s bit fits fits_bit) fits_y)
     ∙ ap (λ (x : ℕ). step d low x false) (xor_assoc s bit y ∙ ap (bit_xor s) (joined ∙ sym spelled))))

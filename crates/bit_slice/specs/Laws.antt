@@ -1,6 +1,7 @@
 -- What holds of the definitions. The functions without a body ensure it.
 use Rattle.std.specs.Prelude.{◌≡◌, ◌+◌, ◌<◌, ◌≤◌, ℕ, List, Bool, ◌++◌, length, true, None, IfSome, IsSomeAnd}
-use Rattle.bit_slice.specs.Crc.{HasDegree, IsRemainder, dividend, ones, crc32_generator, crc32_of, crc8_generator, crc8_of}
+use Rattle.bit_slice.specs.Crc.{HasDegree, IsRemainder, dividend, ones, crc32_generator, crc32_of, crc8_generator}
+use Rattle.bit_slice.specs.Crc.{crc8_of}
 use Rattle.bit_slice.specs.declared.sink.SinkFault.{SinkFault}
 use Rattle.bit_slice.specs.declared.sink.SinkFault.TheVariants.{Full, OutOfMemory}
 use Rattle.bit_slice.specs.Sink.{State, Puts, Refuses, Stops, wrapped, unwrapped}
@@ -16,7 +17,8 @@ Crc8IsRemainder = (w : List Bool) → IsRemainder 8 (dividend 8 0 w) crc8_genera
 
 -- There is one remainder.
 abbrev pub RemainderIsUnique : Type 0
-RemainderIsUnique = (degree p g r s : ℕ) → HasDegree g degree → IsRemainder degree p g r → IsRemainder degree p g s → r ≡ s
+RemainderIsUnique = (degree p g r s : ℕ) → HasDegree g degree → IsRemainder degree p g r → IsRemainder degree p g s
+    → r ≡ s
 
 -- x(i) = x(i - 14) + x(i - 15) for each i from 0 on, with the loading sequence as x(-15) to x(-1)
 abbrev pub PrbsRecurs : Type 0
@@ -37,21 +39,23 @@ StopsHere = (a : State) (bits : List Bool) (count : ℕ) (fault : SinkFault) →
 
 -- A writer that stopped within its first part stopped within the whole.
 abbrev pub StopsEarly : Type 0
-StopsEarly = (a b : State) (front more : List Bool) (fault : SinkFault) → Stops a b front fault → Stops a b (front ++ more) fault
+StopsEarly = (a b : State) (front more : List Bool) (fault : SinkFault) → Stops a b front fault
+    → Stops a b (front ++ more) fault
 
 -- A writer that stopped stopped also if it had put bits before.
 abbrev pub StopsLater : Type 0
 StopsLater = (a b c : State) (front more : List Bool) (fault : SinkFault) → Puts a b front → Stops b c more fault
     → Stops a c (front ++ more) fault
 
--- A writer that finds the sink full had less room than bits, and one that finds no memory writes to a sink that has no end and
--- grows.
+-- A writer that finds the sink full had less room than bits, and one that finds no memory writes to a sink that has no
+-- end and grows.
 abbrev pub IsCause : State → ℕ → SinkFault → Type 0
 IsCause a count (Full need room) = IsSomeAnd a.room (λ r. r < count)
 IsCause a count OutOfMemory = (a.room ≡ None) × (a.grows ≡ true)
 
 abbrev pub StopsRightly : Type 0
-StopsRightly = (a b : State) (bits : List Bool) (fault : SinkFault) → Stops a b bits fault → IsCause a (length bits) fault
+StopsRightly = (a b : State) (bits : List Bool) (fault : SinkFault) → Stops a b bits fault
+    → IsCause a (length bits) fault
 
 -- What is put through a sink around another one is put to that one.
 abbrev pub PutsThrough : Type 0

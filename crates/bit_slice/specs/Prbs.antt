@@ -1,5 +1,6 @@
 -- The sequence of the scrambler (EN 302 755, clause 5.2.4): x(i) = x(i - 14) + x(i - 15), modulo 2.
-use Rattle.std.specs.Prelude.{◌≡◌, ℕ, zero, suc, ◌-◌, ◌*◌, Bool, true, false, not, List, [], ◌∷◌, ◌++◌, drop, map, nat_lt}
+use Rattle.std.specs.Prelude.{◌≡◌, ℕ, zero, suc, ◌-◌, ◌*◌, Bool, true, false, not, List, [], ◌∷◌, ◌++◌, drop, map}
+use Rattle.std.specs.Prelude.{nat_lt}
 use Rattle.std.specs.Prelude.{slice_index_or, if◌then◌else◌}
 use Rattle.std.specs.List.{range_with_len}
 use Rattle.terms.specs.Bits.{number_of}
@@ -12,7 +13,8 @@ plus false b = b
 
 -- x(-15) to x(-1), the loading sequence from its end on
 abbrev pub loaded : List Bool
-loaded = false ∷ false ∷ false ∷ false ∷ false ∷ false ∷ false ∷ true ∷ false ∷ true ∷ false ∷ true ∷ false ∷ false ∷ true ∷ []
+loaded = false ∷ false ∷ false ∷ false ∷ false ∷ false ∷ false ∷ true ∷ false ∷ true ∷ false ∷ true ∷ false
+    ∷ false ∷ true ∷ []
 
 -- the bit behind fifteen bits: the sum of the fourteenth and the fifteenth before it
 abbrev pub next_bit : List Bool → Bool

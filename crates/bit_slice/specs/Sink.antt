@@ -1,13 +1,14 @@
 -- Sinks of bits: what they hold, what a put does to it, and why it does not.
-use Rattle.std.specs.Prelude.{◌≡◌, ◌<◌, ◌≤◌, ℕ, ◌-◌, Bool, true, List, [], ◌∷◌, ◌++◌, length, take, drop, slice_index_or, Some}
+use Rattle.std.specs.Prelude.{◌≡◌, ◌<◌, ◌≤◌, ℕ, ◌-◌, Bool, true, List, [], ◌∷◌, ◌++◌, length, take, drop}
+use Rattle.std.specs.Prelude.{slice_index_or, Some}
 use Rattle.std.specs.Prelude.{None, IfSome}
 use Rattle.std.specs.declared.option.Option.{Option}
 use Rattle.std.specs.Option.{option_map}
 use Rattle.bit_slice.specs.declared.sink.SinkFault.{SinkFault}
 use Rattle.bit_slice.specs.declared.sink.SinkFault.TheVariants.{Full, OutOfMemory}
 
--- the bits written, the room left if the sink has an end, and whether it takes memory as it grows; and for a sink around
--- others what stood in each when it was put around them, the outermost first
+-- the bits written, the room left if the sink has an end, and whether it takes memory as it grows; and for a sink
+-- around others what stood in each when it was put around them, the outermost first
 pub record State : Type 0 where
   pub written : List Bool
   pub room : Option ℕ

@@ -17,7 +17,8 @@ window_register sums =
 abbrev pub sum_at : List ℕ → List ℕ → ℕ → ℕ
 sum_at sums bytes k =
     bit_xor (get_or bytes k 0)
-    (bit_xor (bit_xor (bit_xor (get_or sums k 0) (get_or sums (k + 89) 0)) (get_or sums (k + 117) 0)) (get_or sums (k + 155) 0))
+    (bit_xor (bit_xor (bit_xor (get_or sums k 0) (get_or sums (k + 89) 0)) (get_or sums (k + 117) 0))
+    (get_or sums (k + 155) 0))
 
 -- more is the sums of bytes behind these sums
 pub record AreSums (sums bytes more : List ℕ) : Type 0 where

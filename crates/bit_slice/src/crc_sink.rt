@@ -9,8 +9,8 @@ use crate::written::{Written, and_field, and_slice, none, written_to};
 use crate::{BitSink, BitSlice, SinkFault};
 use std::marker::Model;
 
-/// A sink around another one, to which it puts all that it is given. It is seen as the bits put through it, with room and
-/// growth of the inner sink.
+/// A sink around another one, to which it puts all that it is given. It is seen as the bits put through it, with room
+/// and growth of the inner sink.
 #[derive(Drop)]
 pub struct CrcSink<S: BitSink> {
     inner: S,
@@ -58,7 +58,8 @@ impl<S: BitSink> CrcSink<S> {
         self.register
     }
 
-    /// Puts the CRC-32 of all that was put through, its 32 bits, and gives the inner sink back: unchanged after a fault.
+    /// Puts the CRC-32 of all that was put through, its 32 bits, and gives the inner sink back: unchanged after a
+    /// fault.
     pub fn finish(self) -> Result<S, (S, SinkFault)>
         ensures ok { IfOk result (λ inner. Puts (unwrapped self) (S.state inner) (field 32 (crc32_of self.written))) }
         ensures err { IfErr result (λ e. S.state e.0 ≡ unwrapped self) }

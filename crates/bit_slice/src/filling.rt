@@ -1,5 +1,6 @@
 //! Bits behind other bits in bytes. Behind the bits that are used there are zeros.
-ghost use Rattle.std.specs.Prelude.{◌≡◌, ◌+◌, ◌-◌, ◌*◌, ◌/◌, ◌%◌, ◌^◌, ◌<◌, ◌≤◌, ◌++◌, ℕ, List, Bool, length, take, drop};
+ghost use Rattle.std.specs.Prelude.{◌≡◌, ◌+◌, ◌-◌, ◌*◌, ◌/◌, ◌%◌, ◌^◌, ◌<◌, ◌≤◌, ◌++◌, ℕ, List, Bool, length, take};
+ghost use Rattle.std.specs.Prelude.{drop};
 ghost use Rattle.terms.specs.Bits.{field, bits_of, bytes_of, number_of, part};
 ghost use Rattle.bit_slice.specs.Filling.{padded, Holds};
 
@@ -36,7 +37,8 @@ pub fn put_field(bytes: &mut [u8], used: usize, value: u64, width: u32)
     requires fits { value < 2 ^ width }
     requires inside { used + width ≤ 8 * length bytes.old }
     ensures len { length bytes.new ≡ length bytes.old }
-    ensures holds { (bits : List Bool) → length bits ≡ used → Holds bytes.old bits → Holds bytes.new (bits ++ field width value) }
+    ensures holds { (bits : List Bool) → length bits ≡ used → Holds bytes.old bits
+        → Holds bytes.new (bits ++ field width value) }
 {
     if width == 0 {
         return;
@@ -82,7 +84,8 @@ pub fn put_bits(bytes: &mut [u8], used: usize, bits: &BitSlice<'_>)
     requires short { length bytes.old < 2 ^ 60 }
     requires inside { used + length bits.now ≤ 8 * length bytes.old }
     ensures len { length bytes.new ≡ length bytes.old }
-    ensures holds { (front : List Bool) → length front ≡ used → Holds bytes.old front → Holds bytes.new (front ++ bits.now) }
+    ensures holds { (front : List Bool) → length front ≡ used → Holds bytes.old front
+        → Holds bytes.new (front ++ bits.now) }
 {
     let len = bits.len();
     let head = (8 - used % 8) % 8;

@@ -1,5 +1,6 @@
 //! Laws of the definitions: functions with nothing to do, whose contracts say what holds.
-ghost use Rattle.bit_slice.specs.Laws.{CrcIsRemainder, Crc8IsRemainder, RemainderIsUnique, PrbsRecurs, PutsFit, PutsJoin};
+ghost use Rattle.bit_slice.specs.Laws.{CrcIsRemainder, Crc8IsRemainder, RemainderIsUnique, PrbsRecurs, PutsFit};
+ghost use Rattle.bit_slice.specs.Laws.{PutsJoin};
 ghost use Rattle.bit_slice.specs.Laws.{StopsHere, StopsEarly, StopsLater, StopsRightly, PutsThrough, StopsThrough};
 
 /// CRC-32 is the remainder of a polynomial.

@@ -19,8 +19,8 @@ pub enum SinkFault {
 
 /// What bits are appended to. After a fault it is as it was.
 pub trait BitSink {
-    /// The bits written, the room left if there is an end, whether the sink grows, and what stood in the sinks that it is
-    /// around.
+    /// The bits written, the room left if there is an end, whether the sink grows, and what stood in the sinks that it
+    /// is around.
     ghost state: { Self → State };
 
     /// Appends a field of `width` bits that holds the value.

@@ -1,6 +1,6 @@
-//! CRC-32 of many bytes. X^2400 + X^1240 + X^936 + X^712 + 1 is a multiple of the generator, so the register stays the same if a
-//! byte is taken from its place and added at four places behind it: 145, 183, 211 and 300 bytes on. What stands at a place when
-//! its turn comes is a sum; the last 300 sums stand for the register.
+//! CRC-32 of many bytes. X^2400 + X^1240 + X^936 + X^712 + 1 is a multiple of the generator, so the register stays the
+//! same if a byte is taken from its place and added at four places behind it: 145, 183, 211 and 300 bytes on. What
+//! stands at a place when its turn comes is a sum; the last 300 sums stand for the register.
 ghost use Rattle.std.specs.Prelude.{◌≡◌, ◌+◌, ◌≤◌, length, take, drop, replicate};
 ghost use Rattle.bit_slice.specs.declared.window.TheConstants.{ROOM};
 ghost use Rattle.terms.specs.Bits.{bits_of};

@@ -1,5 +1,6 @@
 -- The cells of interleaving frames that are carried by one frame each.
-use Rattle.std.proofs.Common.{◌≡◌, ℕ, zero, suc, ◌+◌, ◌-◌, ◌*◌, ◌/◌, ◌%◌, ◌==◌, ◌<◌, Bool, true, ◌∷◌, List, refl, ap, sym, ◌∙◌, arith}
+use Rattle.std.proofs.Common.{◌≡◌, ℕ, zero, suc, ◌+◌, ◌-◌, ◌*◌, ◌/◌, ◌%◌, ◌<◌, Bool, true, ◌∷◌, List, refl, ap, ◌∙◌}
+use Rattle.std.proofs.Common.{arith}
 use Rattle.std.specs.Prelude.{slice_index, filter}
 use Rattle.std.specs.List.{range_with_len}
 use Rattle.std.proofs.Math.Nat.{mod-one}
@@ -7,7 +8,7 @@ use Rattle.std.proofs.lemmas.Bool.{eq-eqb}
 use Rattle.std.proofs.lemmas.Nat.{div_below}
 use Rattle.plp_config.specs.Capacity.{block_cells}
 use Rattle.plp_config.specs.Laws.{CellsByFive}
-use Rattle.plp_config.specs.Plps.{plp_at, spread, StandsAlone}
+use Rattle.plp_config.specs.Plps.{plp_at, StandsAlone}
 use Rattle.plp_config.specs.declared.config.Config.{Config}
 use Rattle.scheduler.specs.Shape.{FrameShape, cells_of}
 use Rattle.cell_map.specs.Address.{IsCell, position_of, part_of, first_position, address_at}
@@ -51,7 +52,8 @@ map_alone five c shape frame_idx plp block cell alone there = record {
   address =
       let none : first_position c shape frame_idx plp ≡ 0 =
       ap (λ (n : ℕ). n * cells_of c shape.counts plp) (part_none c frame_idx plp alone) ∙ omega arith in
-      let place : position_of c shape plp block cell - first_position c shape frame_idx plp ≡ position_of c shape plp block cell =
+      let place : position_of c shape plp block cell - first_position c shape frame_idx plp ≡ position_of
+      c shape plp block cell =
       omega (arith, none) in
       ap (λ (n : ℕ). address_at c shape plp n) place;
 }

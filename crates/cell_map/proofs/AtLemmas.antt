@@ -1,5 +1,6 @@
 -- Cells by slice and place in the slice.
-use Rattle.std.proofs.Common.{◌≡◌, ℕ, zero, suc, ◌+◌, ◌-◌, ◌*◌, ◌/◌, ◌%◌, ◌<◌, ◌≤◌, Bool, true, false, cond, length, refl, ap}
+use Rattle.std.proofs.Common.{◌≡◌, ℕ, zero, suc, ◌+◌, ◌-◌, ◌*◌, ◌/◌, ◌%◌, ◌<◌, ◌≤◌, Bool, true, false, cond, length}
+use Rattle.std.proofs.Common.{refl, ap}
 use Rattle.std.proofs.Common.{sym, ◌∙◌}
 use Rattle.std.proofs.Common.{arith}
 use Rattle.std.specs.Prelude.{slice_index}
@@ -35,7 +36,8 @@ address_by_kind second w slices start interval p = cond second (start + p / (w /
 -- the address of the t-th place of the k-th slice
 pub address_law : (second : Bool) (w slices start interval k t : ℕ) → k < count_by_kind second slices
     → t < w / count_by_kind second slices →
-    address_by_kind second w slices start interval (k * (w / count_by_kind second slices) + t) ≡ start + k * interval + t
+    address_by_kind second w slices start interval (k * (w / count_by_kind second slices) + t) ≡ start + k
+    * interval + t
 address_law true w slices start interval k t hk ht =
     rw (div-mul-add k (w / slices) t ht, mod-mul-add k (w / slices) t ht) refl
 address_law false w slices start interval zero t hk ht = omega arith
@@ -70,7 +72,8 @@ part_inside c shape frame j is h =
     let part : ℕ = part_of c frame j in
     let few : part < spread c.plps j = mod_below frame (spread c.plps j) (plan_row c j is h).wide in
     let most : (part + 1) * cells_of c shape.counts j ≤ spread c.plps j * cells_of c shape.counts j =
-    mul-le (part + 1) (cells_of c shape.counts j) (spread c.plps j) (cells_of c shape.counts j) (omega arith) (omega arith) in
+    mul-le (part + 1) (cells_of c shape.counts j) (spread c.plps j) (cells_of c shape.counts j) (omega arith)
+    (omega arith) in
     omega (arith, most, frames_of c shape j is h)
 
 pub at_place : (c : Config) (shape : FrameShape) (frame j b q k t : ℕ) → k < (slices_of c shape j).count
@@ -85,7 +88,8 @@ at_place c shape frame j b q k t hk ht e =
       slice = hk;
       inner = ht;
       place = e;
-      address = ap (λ (p : ℕ). address_by_kind (in_type2 c j) w c.sub_slices (slice_index shape.starts j) shape.interval p) place
+      address = ap (λ (p : ℕ). address_by_kind (in_type2 c j) w c.sub_slices (slice_index shape.starts j)
+          shape.interval p) place
           ∙ address_law (in_type2 c j) w c.sub_slices (slice_index shape.starts j) shape.interval k t hk ht;
     }
 
@@ -102,15 +106,18 @@ carried_place c shape frame j b q is it =
     let p : ℕ = position_of c shape j b q in
     let row = plan_row c j is it.there.configured in
     let below : p < slice_index shape.counts j * block_cells c j =
-    position_below (block_cells c j) (plp_at c.plps j).interleave (slice_index shape.counts j) b q row.fifth it.there.sent
+    position_below (block_cells c j) (plp_at c.plps j).interleave (slice_index shape.counts j) b q row.fifth
+    it.there.sent
     it.there.within in
-    let some : 0 < w = some_factor p (spread c.plps j) w (omega (arith, below, frames_of c shape j is it.there.configured)) in
+    let some : 0 < w = some_factor p (spread c.plps j) w
+    (omega (arith, below, frames_of c shape j is it.there.configured)) in
     let all : p / w * w + p % w ≡ p = div-add-mod' p w in
     let first : p / w * w ≡ first_position c shape frame j = ap (λ (k : ℕ). k * w) it.carried in
     (p % w, mod_below p w some, omega (arith, all, first))
 
 -- and the other way
-pub is_carried_at : (c : Config) (shape : FrameShape) (frame j b q z : ℕ) → IsCell c shape j b q → z < cells_of c shape.counts j
+pub is_carried_at : (c : Config) (shape : FrameShape) (frame j b q z : ℕ) → IsCell c shape j b q
+    → z < cells_of c shape.counts j
     → position_of c shape j b q ≡ first_position c shape frame j + z → IsCarried c shape frame j b q
 is_carried_at c shape frame j b q z there inside e = record {
   there = there;
@@ -166,7 +173,8 @@ carried_once c shape plp b q is there =
     let p : ℕ = position_of c shape plp b q in
     let row = plan_row c plp is there.configured in
     let below : p < slice_index shape.counts plp * block_cells c plp =
-    position_below (block_cells c plp) (plp_at c.plps plp).interleave (slice_index shape.counts plp) b q row.fifth there.sent
+    position_below (block_cells c plp) (plp_at c.plps plp).interleave (slice_index shape.counts plp)
+    b q row.fifth there.sent
     there.within in
     let inside : p < spread c.plps plp * w = omega (arith, below, frames_of c shape plp is there.configured) in
     let some : 0 < w = some_factor p (spread c.plps plp) w inside in (
@@ -188,7 +196,8 @@ repeats n frames parts some whole =
     let both : (n / frames * (frames / parts) + r / parts) * parts
     ≡ n / frames * (frames / parts) * parts + r / parts * parts =
     add-mul (n / frames * (frames / parts)) (r / parts) parts in
-    let sum : n ≡ (n / frames * (frames / parts) + r / parts) * parts + r % parts = omega (arith, all, rest, product, both) in
+    let sum : n ≡ (n / frames * (frames / parts) + r / parts) * parts + r % parts = omega
+    (arith, all, rest, product, both) in
     sym (ap (λ (k : ℕ). k % parts) sum
     ∙ mod-mul-add (n / frames * (frames / parts) + r / parts) parts (r % parts) (mod_below r parts some))
 

@@ -1,18 +1,18 @@
 -- The facts of `ShareLemmas`, of what the code computed.
-use Rattle.std.proofs.Common.{◌≡◌, ℕ, ◌+◌, ◌-◌, ◌*◌, ◌/◌, ◌%◌, ◌<◌, ◌≤◌, ◌⊎◌, ⊎_elim, List, length, take, sum, ap, sym, ◌∙◌}
+use Rattle.std.proofs.Common.{◌≡◌, ℕ, ◌+◌, ◌-◌, ◌*◌, ◌/◌, ◌%◌, ◌<◌, ◌≤◌, List, length, take, sum, ap, sym, ◌∙◌}
 use Rattle.std.proofs.Common.{arith}
 use Rattle.std.specs.Prelude.{slice_index}
 use Rattle.std.proofs.lemmas.List.Sums.{sum_by_more}
 use Rattle.plp_config.specs.Capacity.{IsPlan, block_cells}
 use Rattle.plp_config.specs.Plps.{plp_at, spread}
 use Rattle.plp_config.specs.declared.config.Config.{Config}
-use Rattle.scheduler.specs.Shape.{FrameShape, cells_of}
+use Rattle.scheduler.specs.Shape.{FrameShape}
 use Rattle.cell_map.specs.Slices.{IsRow, slice_count, slices_of}
 use Rattle.cell_map.specs.declared.rows.PlpInFrame.{PlpInFrame}
 use Rattle.cell_map.specs.Address.{IsCarried, position_of, first_position, address_of}
-use Rattle.cell_map.specs.CellMap.{IsBeyond, Shares, Passes}
+use Rattle.cell_map.specs.CellMap.{Shares, Passes}
 use Rattle.cell_map.proofs.PlanLemmas.{plan_row}
-use Rattle.cell_map.proofs.AtLemmas.{at_of_cell, carried_place}
+use Rattle.cell_map.proofs.AtLemmas.{at_of_cell}
 use Rattle.cell_map.proofs.MeetingLemmas.{parts_of}
 
 -- a row from its four numbers
@@ -84,7 +84,8 @@ pub record IsInFrame (c : Config) (shape : FrameShape) (plp : ℕ) (it : PlpInFr
 
 pub computes : (c : Config) (shape : FrameShape) (frame plp block cell : ℕ) (it : PlpInFrame) (start place interval : ℕ)
     → IsPlan c → Passes c shape → IsCarried c shape frame plp block cell → IsInFrame c shape plp it
-    → start ≡ slice_index shape.starts plp → place ≡ position_of c shape plp block cell - first_position c shape frame plp
+    → start ≡ slice_index shape.starts plp → place ≡ position_of c shape plp block cell - first_position
+    c shape frame plp
     → interval ≡ shape.interval
     → Computes c shape frame plp block cell start place interval it.slices.len
 computes c shape frame plp block cell it start place interval is passes there in_frame e f g =
@@ -94,7 +95,8 @@ computes c shape frame plp block cell it start place interval is passes there in
 
 pub computes_single : (c : Config) (shape : FrameShape) (frame plp block cell : ℕ) (it : PlpInFrame) (start place : ℕ)
     → IsPlan c → Passes c shape → IsCarried c shape frame plp block cell → IsInFrame c shape plp it
-    → start ≡ slice_index shape.starts plp → place ≡ position_of c shape plp block cell - first_position c shape frame plp
+    → start ≡ slice_index shape.starts plp → place ≡ position_of c shape plp block cell - first_position
+    c shape frame plp
     → it.row.slices ≡ 1
     → (start + place ≡ address_of c shape frame plp block cell) × (start + place < c.cells)
 computes_single c shape frame plp block cell it start place is passes there in_frame e f one =

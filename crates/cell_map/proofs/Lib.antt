@@ -11,6 +11,5 @@ pub mod PassLemmas
 pub mod RunLemmas
 pub mod ReadingLemmas
 pub mod StripLemmas
-pub mod PlainLemmas
 pub mod NumberLemmas
 pub mod AloneLemmas

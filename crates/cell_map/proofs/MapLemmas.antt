@@ -1,6 +1,8 @@
 -- What the finite map of the pairs has at an address.
-use Rattle.std.proofs.Common.{◌≡◌, ℕ, zero, suc, ◌+◌, ◌<◌, ◌≤◌, ◌⊎◌, ⊎_elim, inl, inr, Bool, true, false, cond, List, [], ◌∷◌}
-use Rattle.std.proofs.Common.{◌++◌, ◌/◌, Option, Some, None, length, map, filter, eq-eqb, refl, ap, sym, ◌∙◌, subst, arith}
+use Rattle.std.proofs.Common.{◌≡◌, ℕ, zero, suc, ◌+◌, ◌<◌, ◌≤◌, ◌⊎◌, ⊎_elim, inl, inr, Bool, true, false, cond, List}
+use Rattle.std.proofs.Common.{[], ◌∷◌}
+use Rattle.std.proofs.Common.{◌++◌, ◌/◌, Option, Some, None, length, map, filter, eq-eqb, refl, ap, sym, ◌∙◌, subst}
+use Rattle.std.proofs.Common.{arith}
 use Rattle.std.specs.Prelude.{slice_index, IfNone, IfSome}
 use Rattle.std.specs.Cmp.{nat_cmp_total, nat_cmp_is}
 use Rattle.std.specs.FinMap.{find, get, get-from_entries}
@@ -53,11 +55,13 @@ each-flat P f s (suc n) h =
     each-append P (f s) (flat_map f (range_with_len (s + 1) n)) (h s (omega arith) (omega arith))
     (each-flat P f (s + 1) n (λ i a b. h i (omega arith) (omega arith)))
 
-has-flat : (key : ℕ) (f : ℕ → Entries) (s n i : ℕ) → s ≤ i → i < s + n → Has key (f i) → Has key (flat_map f (range_with_len s n))
+has-flat : (key : ℕ) (f : ℕ → Entries) (s n i : ℕ) → s ≤ i → i < s + n → Has key (f i)
+    → Has key (flat_map f (range_with_len s n))
 has-flat key f s zero i a b h = absurd (omega arith)
 has-flat key f s (suc n) i a b h =
     elim (cases_eq s i) [
-      | inl same ↦ has-left key (f s) (flat_map f (range_with_len (s + 1) n)) (subst (λ (k : ℕ). Has key (f k)) (sym same) h)
+      | inl same ↦ has-left key (f s) (flat_map f (range_with_len (s + 1) n))
+          (subst (λ (k : ℕ). Has key (f k)) (sym same) h)
       | inr differ ↦ has-right key (f s) (flat_map f (range_with_len (s + 1) n))
           (has-flat key f (s + 1) n i (omega arith) (omega arith) h)
     ]
@@ -103,12 +107,19 @@ each-pair : (c : Config) (shape : FrameShape) (frame : ℕ) (P : ℕ × Cell →
 each-pair c shape frame P h =
     each-flat P (plp_pairs c shape frame) 0 (length c.plps)
     (λ plp _ configured. each-flat P (block_pairs c shape frame plp) 0 (slice_index shape.counts plp)
-    (λ block _ sent. each-map P (pair_of c shape frame plp block) (is_carried c shape frame plp block) 0 (block_cells c plp)
+    (λ block _ sent. each-map P (pair_of c shape frame plp block) (is_carried c shape frame plp block)
+    0 (block_cells c plp)
     (λ cell _ within carried.
     h plp block cell
     (record {
-      there = record { configured = omega (arith, configured); sent = omega (arith, sent); within = omega (arith, within) };
-      carried = eqb-true (position_of c shape plp block cell / cells_of c shape.counts plp) (part_of c frame plp) carried;
+      there = record {
+        configured = omega (arith, configured);
+        sent = omega (arith, sent);
+        within = omega
+            (arith, within);
+      };
+      carried = eqb-true (position_of c shape plp block cell / cells_of c shape.counts plp) (part_of c frame plp)
+          carried;
     }))))
 
 -- each cell that it carries is in a pair
@@ -117,9 +128,11 @@ has-pair : (c : Config) (shape : FrameShape) (frame plp block cell : ℕ) → Is
 has-pair c shape frame plp block cell it =
     has-flat (address_of c shape frame plp block cell) (plp_pairs c shape frame) 0 (length c.plps) plp (omega arith)
     (omega (arith, it.there.configured))
-    (has-flat (address_of c shape frame plp block cell) (block_pairs c shape frame plp) 0 (slice_index shape.counts plp) block
+    (has-flat (address_of c shape frame plp block cell) (block_pairs c shape frame plp) 0 (slice_index shape.counts plp)
+    block
     (omega arith) (omega (arith, it.there.sent))
-    (has-map (address_of c shape frame plp block cell) (pair_of c shape frame plp block) (is_carried c shape frame plp block) 0
+    (has-map (address_of c shape frame plp block cell) (pair_of c shape frame plp block)
+    (is_carried c shape frame plp block) 0
     (block_cells c plp) cell (omega arith) (omega (arith, it.there.within))
     (eq-eqb (position_of c shape plp block cell / cells_of c shape.counts plp) (part_of c frame plp) it.carried) refl))
 
@@ -129,14 +142,16 @@ keys_equal a b h =
     elim (cases_eq a b) [
       | inl same ↦ same
       | inr differ ↦ elim (cases_lt a b) [
-        | inl less ↦ (let e : is_eq Less ≡ true = ap is_eq (nat_cmp_is a b Less less) ∙ h in let never : false ≡ true = e in cc)
+        | inl less ↦ (let e : is_eq Less ≡ true = ap is_eq (nat_cmp_is a b Less less)
+            ∙ h in let never : false ≡ true = e in cc)
         | inr more ↦ (let e : is_eq Greater ≡ true = ap is_eq (nat_cmp_is a b Greater (omega arith)) ∙ h in
             let never : false ≡ true = e in cc)
       ]
     ]
 
 keys_differ : (a b : ℕ) → is_eq (nat_cmp a b) ≡ false → ¬ (b ≡ a)
-keys_differ a b h e = let same : is_eq Equal ≡ false = ap is_eq (nat_cmp_is a b Equal (sym e)) ∙ h in let never : true ≡ false =
+keys_differ a b h e = let same : is_eq Equal ≡ false = ap is_eq (nat_cmp_is a b Equal (sym e))
+    ∙ h in let never : true ≡ false =
     same in cc
 
 find-none : (key : ℕ) (es : Entries) → Each (λ e. ¬ (e.0 ≡ key)) es → find nat_cmp key es ≡ None
@@ -147,7 +162,8 @@ find-none key (e ∷ es) h =
     (λ t. absurd (h.0 (sym (keys_equal key e.0 t))))
     (λ t. ap (λ (b : Bool). cond b (Some e.1) (find nat_cmp key es)) t ∙ find-none key es h.1)
 
-find-some : (key : ℕ) (v : Cell) (es : Entries) → Each (λ e. e.0 ≡ key → e.1 ≡ v) es → Has key es → find nat_cmp key es ≡ Some v
+find-some : (key : ℕ) (v : Cell) (es : Entries) → Each (λ e. e.0 ≡ key → e.1 ≡ v) es → Has key es
+    → find nat_cmp key es ≡ Some v
 unfolding Each Has
 find-some key v [] h has = absurd has
 find-some key v (e ∷ es) h has =
@@ -163,10 +179,12 @@ pub get-found : (c : Config) (shape : FrameShape) (frame address : ℕ) (v : Cel
     → get (cell_map c shape frame) address ≡ Some v
 unfolding cell_map
 get-found c shape frame address v passes found =
-    let only : (plp block cell : ℕ) → IsCarried c shape frame plp block cell → address_of c shape frame plp block cell ≡ address
+    let only : (plp block cell : ℕ) → IsCarried c shape frame plp block cell
+    → address_of c shape frame plp block cell ≡ address
     → record { ordinal = ordinal_of shape plp block; cell = cell } ≡ v =
     λ plp block cell there here.
-    let same = passes.apart frame plp block cell found.plp found.block v.cell there found.there (here ∙ sym found.value) in
+    let same = passes.apart frame plp block cell found.plp found.block v.cell there found.there (here
+    ∙ sym found.value) in
     ap (λ (j : ℕ). record { ordinal = ordinal_of shape j block; cell = cell }) same.0
     ∙ ap (λ (b : ℕ). record { ordinal = ordinal_of shape found.plp b; cell = cell }) same.1
     ∙ ap (λ (q : ℕ). record { ordinal = ordinal_of shape found.plp found.block; cell = q }) same.2
@@ -174,11 +192,13 @@ get-found c shape frame address v passes found =
     get-from_entries nat_cmp_total (pairs c shape frame) address
     ∙ find-some address v (pairs c shape frame)
     (each-pair c shape frame (λ e. e.0 ≡ address → e.1 ≡ v) only)
-    (subst (λ (a : ℕ). Has a (pairs c shape frame)) found.value (has-pair c shape frame found.plp found.block v.cell found.there))
+    (subst (λ (a : ℕ). Has a (pairs c shape frame)) found.value (has-pair c shape frame found.plp found.block
+    v.cell found.there))
 
 -- if no cell has the address the map has none
 pub get-none : (c : Config) (shape : FrameShape) (frame address : ℕ)
-    → ((plp block cell : ℕ) → IsCarried c shape frame plp block cell → ¬ (address_of c shape frame plp block cell ≡ address))
+    → ((plp block cell : ℕ) → IsCarried c shape frame plp block cell
+    → ¬ (address_of c shape frame plp block cell ≡ address))
     → get (cell_map c shape frame) address ≡ None
 unfolding cell_map
 get-none c shape frame address none =
@@ -187,14 +207,16 @@ get-none c shape frame address none =
 
 -- what was found, or not, is what the map has
 pub get-is : (c : Config) (shape : FrameShape) (frame address : ℕ) (answer : Option Cell) → Passes c shape
-    → IfNone answer ((plp block cell : ℕ) → IsCarried c shape frame plp block cell → ¬ (address_of c shape frame plp block cell
+    → IfNone answer ((plp block cell : ℕ) → IsCarried c shape frame plp block cell
+    → ¬ (address_of c shape frame plp block cell
     ≡ address))
     → IfSome answer (StandsAt c shape frame address) → answer ≡ get (cell_map c shape frame) address
 get-is c shape frame address None passes none some = sym (get-none c shape frame address none)
 get-is c shape frame address (Some v) passes none some = sym (get-found c shape frame address v passes some)
 
 -- what is found is one of the pairs
-find-each : (P : ℕ × Cell → Type 0) (key : ℕ) (v : Cell) (es : Entries) → Each P es → find nat_cmp key es ≡ Some v → P (key, v)
+find-each : (P : ℕ × Cell → Type 0) (key : ℕ) (v : Cell) (es : Entries) → Each P es → find nat_cmp key es ≡ Some v
+    → P (key, v)
 unfolding Each
 find-each P key v [] h is = absurd (let never : None ≡ Some v = is in cc)
 find-each P key v (e ∷ es) h is =
@@ -222,7 +244,8 @@ pub dummy_has_none : DummyHasNoCell
 dummy_has_none c shape frame address passes = (
   λ is plp block cell there here.
       let found =
-      subst (λ (a : ℕ). get (cell_map c shape frame) a ≡ Some (record { ordinal = ordinal_of shape plp block; cell = cell })) here
+      subst (λ (a : ℕ). get (cell_map c shape frame) a ≡ Some
+      (record { ordinal = ordinal_of shape plp block; cell = cell })) here
       (map_has_each c shape frame plp block cell passes there) in
       let never : None ≡ Some (record { ordinal = ordinal_of shape plp block; cell = cell }) = sym is ∙ found in cc,
   λ none. get-none c shape frame address none,

@@ -1,5 +1,6 @@
 -- Where slices meet.
-use Rattle.std.proofs.Common.{◌≡◌, ℕ, ◌+◌, ◌-◌, ◌*◌, ◌/◌, ◌%◌, ◌<◌, ◌≤◌, ◌↔◌, ◌≢◌, ◌⊎◌, ⊎_elim, inl, inr, min, Bool, true, false}
+use Rattle.std.proofs.Common.{◌≡◌, ℕ, ◌+◌, ◌-◌, ◌*◌, ◌/◌, ◌%◌, ◌<◌, ◌≤◌, ◌↔◌, ◌≢◌, ◌⊎◌, ⊎_elim, inl, inr, min, Bool}
+use Rattle.std.proofs.Common.{true, false}
 use Rattle.std.proofs.Common.{ltb, IsTrue, ap, sym, ◌∙◌, subst, arith}
 use Rattle.std.proofs.lemmas.Bool.{lt-ltb, ltb-true, ltb-false}
 use Rattle.std.proofs.lemmas.Nat.{div-add-mod', mod_below, mul-le, le-div, div-mul-add, mod-mul-add}
@@ -44,18 +45,23 @@ meet_shifted a b interval (j, (k, hj, hk, meets)) =
     let product : k * interval + (j - k) * interval ≡ j * interval = omega (arith, ap (λ (n : ℕ). n * interval) d) in
     inr (j - k, omega arith, (omega (arith, meets.1, product), omega (arith, meets.0, product))))
 
-pub meet_second : (a b : Slices) (interval : ℕ) → 0 < b.count → SliceMeets b.start b.len a interval → SlicesMeet a b interval
-meet_second a b interval some (k, below, meets) = (k, (0, below, some, (omega (arith, meets.1), omega (arith, meets.0))))
+pub meet_second : (a b : Slices) (interval : ℕ) → 0 < b.count → SliceMeets b.start b.len a interval
+    → SlicesMeet a b interval
+meet_second a b interval some (k, below, meets) =
+    (k, (0, below, some, (omega (arith, meets.1), omega (arith, meets.0))))
 
 pub meet_law : (a b : Slices) (interval : ℕ) (first second : Bool) → 0 < a.count → 0 < b.count →
-    IsTrue first ↔ SliceMeets a.start a.len b interval → first ≡ false → IsTrue second ↔ SliceMeets b.start b.len a interval →
+    IsTrue first ↔ SliceMeets a.start a.len b interval → first ≡ false → IsTrue second
+    ↔ SliceMeets b.start b.len a interval →
     IsTrue second ↔ SlicesMeet a b interval
 meet_law a b interval first second ha hb f none g = (
   λ e. meet_second a b interval hb (g.0 e),
-  λ w. ⊎_elim (λ x. absurd (let never : true ≡ false = sym (f.1 x) ∙ none in cc)) (λ y. g.1 y) (meet_shifted a b interval w),
+  λ w. ⊎_elim (λ x. absurd (let never : true ≡ false = sym (f.1 x) ∙ none in cc)) (λ y. g.1 y)
+      (meet_shifted a b interval w),
 )
 
-pub parts_of : (interval k t rest : ℕ) → t < interval → k * interval + t ≡ rest → (rest / interval ≡ k) × (rest % interval ≡ t)
+pub parts_of : (interval k t rest : ℕ) → t < interval → k * interval + t ≡ rest → (rest / interval ≡ k)
+    × (rest % interval ≡ t)
 parts_of interval k t rest h e = (
   ap (λ (n : ℕ). n / interval) (sym e) ∙ div-mul-add k interval t h,
   ap (λ (n : ℕ). n % interval) (sym e)
@@ -90,27 +96,32 @@ later len count interval rest k t long out hk ht far =
     let product : k * interval ≡ s * interval = ap (λ (n : ℕ). n * interval) same in
     let never : ⊥ = ⊎_elim
     (λ (x : count ≤ rest / interval). (let none : ⊥ = omega (arith, x, same, hk) in none))
-    (λ (x : len ≤ rest % interval). (let none : ⊥ = omega (arith, all, x, product, far, ht) in none)) out in absurd never))
+    (λ (x : len ≤ rest % interval). (let none : ⊥ = omega (arith, all, x, product, far, ht) in none))
+    out in absurd never))
 
 -- and that is not before the next slice
-pub next_slice : (start len count interval address k t : ℕ) → (count ≡ 1) ⊎ (len ≤ interval) → count ≢ 1 → start ≤ address
+pub next_slice : (start len count interval address k t : ℕ) → (count ≡ 1) ⊎ (len ≤ interval) → count ≢ 1
+    → start ≤ address
     → (count ≤ (address - start) / interval) ⊎ (len ≤ (address - start) % interval)
     → k < count → t < len → address ≤ start + k * interval + t
-    → ((address - start) / interval < k) × (address + (interval - (address - start) % interval) ≤ start + k * interval + t)
+    → ((address - start) / interval < k) × (address + (interval - (address - start) % interval) ≤ start + k
+    * interval + t)
 next_slice start len count interval address k t apart many low out hk ht far =
     let rest : ℕ = address - start in
     let long : len ≤ interval = ⊎_elim (λ (x : count ≡ 1). absurd (many x)) (λ (x : len ≤ interval). x) apart in
     let lt : rest / interval < k = later len count interval rest k t long out hk ht (omega (arith, far, low)) in
     let all : rest / interval * interval + rest % interval ≡ rest = div-add-mod' rest interval in
     let inner : rest % interval < interval = mod_below rest interval (omega (arith, ht, long)) in
-    let m : (rest / interval + 1) * interval ≤ k * interval = mul-le (rest / interval + 1) interval k interval (omega (arith, lt))
+    let m : (rest / interval + 1) * interval ≤ k * interval = mul-le (rest / interval + 1) interval k
+    interval (omega (arith, lt))
     (omega arith) in
     (lt, omega (arith, all, inner, m, low))
 
 pub never_law : {P : Type 0} → ¬ P → IsTrue false ↔ P
 never_law n = (λ e. absurd (let never : false ≡ true = e in cc), λ p. absurd (n p))
 
-pub more_below : (P : ℕ → Type 0) (first k : ℕ) → ((j : ℕ) → first ≤ j → j < k → P j) → P k → (j : ℕ) → first ≤ j → j < k + 1
+pub more_below : (P : ℕ → Type 0) (first k : ℕ) → ((j : ℕ) → first ≤ j → j < k → P j) → P k → (j : ℕ)
+    → first ≤ j → j < k + 1
     → P j
 more_below P first k below here j a b =
     bool_cases (ltb j k) (λ e. below j a (ltb-true j k e))

@@ -1,5 +1,6 @@
 -- The numbers of cells are small: a record holds the blocks of all PLPs, each of 879 bytes at least.
-use Rattle.std.proofs.Common.{◌≡◌, ℕ, zero, suc, ◌+◌, ◌*◌, ◌/◌, ◌<◌, ◌≤◌, List, [], ◌∷◌, length, take, sum, sum_by, arith}
+use Rattle.std.proofs.Common.{◌≡◌, ℕ, zero, suc, ◌+◌, ◌*◌, ◌/◌, ◌<◌, ◌≤◌, List, [], ◌∷◌, length, take, sum, sum_by}
+use Rattle.std.proofs.Common.{arith}
 use Rattle.std.specs.Int.{div_ceil}
 use Rattle.std.specs.Prelude.{slice_index}
 use Rattle.std.proofs.Math.Nat.{mul-le-mul}
@@ -33,8 +34,10 @@ room_for_all (count ∷ counts) (p ∷ plps) zero within inside =
     omega (arith, here, sum_by-cons block_room p plps)
 room_for_all (count ∷ counts) (p ∷ plps) (suc plp) within inside =
     let here : 883 * count ≤ block_room p = room_for count p (within 0 (omega arith)) in
-    let others = room_for_all counts plps plp (λ i less. within (suc i) (omega (arith, less))) (omega (arith, inside)) in
-    let first : sum (count ∷ take plp counts) ≡ count + sum (take plp counts) = sum_by-cons (λ n. n) count (take plp counts) in
+    let others = room_for_all counts plps plp (λ i less. within (suc i) (omega (arith, less)))
+    (omega (arith, inside)) in
+    let first : sum (count ∷ take plp counts) ≡ count + sum (take plp counts) = sum_by-cons (λ n. n)
+    count (take plp counts) in
     omega (arith, here, others, first, sum_by-cons block_room p plps)
 
 pub cells_fit : CellsFit

@@ -1,5 +1,6 @@
 -- A shape whose PLPs stand in order has a cell map.
-use Rattle.std.proofs.Common.{◌≡◌, ℕ, zero, suc, ◌+◌, ◌-◌, ◌*◌, ◌/◌, ◌<◌, ◌≤◌, inl, inr, true, false, length, refl, ap, sym}
+use Rattle.std.proofs.Common.{◌≡◌, ℕ, zero, suc, ◌+◌, ◌-◌, ◌*◌, ◌/◌, ◌<◌, ◌≤◌, inl, inr, true, false, length, refl, ap}
+use Rattle.std.proofs.Common.{sym}
 use Rattle.std.proofs.Common.{subst, arith}
 use Rattle.std.specs.Prelude.{slice_index}
 use Rattle.std.proofs.lemmas.Bool.{cases_lt, cases_eq}
@@ -28,7 +29,8 @@ pub record Kind (c : Config) (shape : FrameShape) (plp len count : ℕ) : Type 0
   pub len_is : (slices_of c shape plp).len ≡ len
   pub count_is : (slices_of c shape plp).count ≡ count
 
-kind1 : (c : Config) (shape : FrameShape) (plp : ℕ) → in_type2 c plp ≡ false → Kind c shape plp (cells_of c shape.counts plp) 1
+kind1 : (c : Config) (shape : FrameShape) (plp : ℕ) → in_type2 c plp ≡ false
+    → Kind c shape plp (cells_of c shape.counts plp) 1
 kind1 c shape plp e = record { len_is = rw e (omega arith); count_is = rw e refl }
 
 kind2 : (c : Config) (shape : FrameShape) (plp : ℕ) → in_type2 c plp ≡ true
@@ -36,8 +38,10 @@ kind2 : (c : Config) (shape : FrameShape) (plp : ℕ) → in_type2 c plp ≡ tru
 kind2 c shape plp e = record { len_is = rw e refl; count_is = rw e refl }
 
 -- what ends within the frame is not beyond it
-ends : (c : Config) (shape : FrameShape) (plp : ℕ) → StandsInOrder c shape → plp < length c.plps → 0 < (slices_of c shape plp).len
-    → (slices_of c shape plp).start + ((slices_of c shape plp).count - 1) * shape.interval + (slices_of c shape plp).len ≤ c.cells
+ends : (c : Config) (shape : FrameShape) (plp : ℕ) → StandsInOrder c shape → plp < length c.plps
+    → 0 < (slices_of c shape plp).len
+    → (slices_of c shape plp).start + ((slices_of c shape plp).count - 1) * shape.interval + (slices_of c shape plp).len
+    ≤ c.cells
 ends c shape plp stands inside some =
     let blocks : 0 < slice_index shape.counts plp = count_some (slice_index shape.counts plp) (block_cells c plp)
     (spread c.plps plp) (slices_of c shape plp).count some in
@@ -51,7 +55,8 @@ in_order : (a la b lb interval j k : ℕ) → a + la ≤ b → b + lb ≤ a + in
 in_order a la b lb interval j k before within meets =
     elim (cases_lt k j) [
       | inl less ↦
-          (let product : (k + 1) * interval ≤ j * interval = mul-le (k + 1) interval j interval (omega arith) (omega arith) in
+          (let product : (k + 1) * interval ≤ j * interval = mul-le (k + 1) interval j interval (omega arith)
+          (omega arith) in
           let never : ⊥ = omega (arith, product, meets.0, within) in never)
       | inr upto ↦ (let product : j * interval ≤ k * interval = mul-le j interval k interval upto (omega arith) in
           let never : ⊥ = omega (arith, product, meets.1, before) in never)
@@ -90,14 +95,16 @@ apart c shape i j is stands less hi hj s =
     let never : ⊥ = omega (arith, before, meets.1, a.len_is, product) in never))
 
 -- a PLP alone shares none
-alone : (c : Config) (shape : FrameShape) (j : ℕ) → IsPlan c → StandsInOrder c shape → j < length c.plps → ¬ (Shares c shape j j)
+alone : (c : Config) (shape : FrameShape) (j : ℕ) → IsPlan c → StandsInOrder c shape → j < length c.plps
+    → ¬ (Shares c shape j j)
 alone c shape j is stands inside s =
     let some = some_of_shares c shape j j is s in
     let blocks : 0 < slice_index shape.counts j =
     count_some (slice_index shape.counts j) (block_cells c j) (spread c.plps j) (slices_of c shape j).count some.0 in
     bool_cases (in_type2 c j)
     (λ e. let k = kind2 c shape j e in
-    self_apart c shape j is (inr (omega (arith, k.len_is, stands.interval j j (inside, blocks, e) (inside, blocks, e)))) s)
+    self_apart c shape j is (inr (omega (arith, k.len_is, stands.interval j j (inside, blocks, e) (inside, blocks, e))))
+    s)
     (λ e. let k = kind1 c shape j e in self_apart c shape j is (inl (omega (arith, k.count_is))) s)
 
 pub shape_passes : (c : Config) (shape : FrameShape) → IsPlan c

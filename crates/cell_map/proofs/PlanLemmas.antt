@@ -31,10 +31,12 @@ pub block_cells-five : (c : Config) (plp : ℕ) → Five (block_cells c plp)
 unfolding block_cells
 block_cells-five c plp = five (plp_at c.plps plp).fec (plp_at c.plps plp).modulation
 
-sub_slices-by : (c : Config) → IsPlan c → (has : Bool) → has_type2 c.plps ≡ has → (1 ≤ c.sub_slices) × (c.sub_slices ≤ 6480)
+sub_slices-by : (c : Config) → IsPlan c → (has : Bool) → has_type2 c.plps ≡ has → (1 ≤ c.sub_slices)
+    × (c.sub_slices ≤ 6480)
 sub_slices-by c is true h = let range : (2 ≤ c.sub_slices) × (c.sub_slices ≤ 6480) = rw h at (is.rules SubSlices) in
     (omega (arith, range), range.1)
-sub_slices-by c is false h = let one : c.sub_slices ≡ 1 = rw h at (is.rules SubSlices) in (omega (arith, one), omega (arith, one))
+sub_slices-by c is false h = let one : c.sub_slices ≡ 1 = rw h at (is.rules SubSlices) in
+    (omega (arith, one), omega (arith, one))
 
 pub sub_slices-range : (c : Config) → IsPlan c → (1 ≤ c.sub_slices) × (c.sub_slices ≤ 6480)
 sub_slices-range c is = sub_slices-by c is (has_type2 c.plps) refl

@@ -1,6 +1,7 @@
 -- Positions are the numbers below blocks times cells, each once.
 use Rattle.std.proofs.Common.{◌≡◌, ℕ, zero, suc, ◌+◌, ◌-◌, ◌*◌, ◌/◌, ◌%◌, ◌<◌, ◌≤◌, refl, ap, sym, ◌∙◌, arith}
-use Rattle.std.proofs.lemmas.Nat.{div-add-mod', mod_below, div-mul-add, mod-mul-add, div_below, mul-add-lt, mul-le, le-div}
+use Rattle.std.proofs.lemmas.Nat.{div-add-mod', mod_below, div-mul-add, mod-mul-add, div_below, mul-add-lt, mul-le}
+use Rattle.std.proofs.lemmas.Nat.{le-div}
 use Rattle.std.proofs.lemmas.Nat.{same_from_place}
 use Rattle.cell_map.specs.declared.interleaving.TiBlock.{TiBlock}
 use Rattle.cell_map.specs.Laws.{InterleaverFillsOnce}
@@ -54,7 +55,8 @@ fifth_of cells h = omega arith
 -- a position lies below the number of all cells
 pub position_below : (cells parts n block cell : ℕ) → cells % 5 ≡ 0 → block < n → cell < cells
     → position cells parts n block cell < n * cells
-position_below cells zero n block cell f b c = let m : block * cells + cell < cells * n = mul-add-lt block cells cell n b c in
+position_below cells zero n block cell f b c = let m : block * cells + cell < cells * n = mul-add-lt
+    block cells cell n b c in
     omega (arith, m)
 position_below cells (suc parts) n block cell f b c =
     let g = ti_block_of n (suc parts) block in
@@ -62,7 +64,8 @@ position_below cells (suc parts) n block cell f b c =
     let fifth = fifth_of cells f in
     let s = stands cells (cells / 5) g block cell fifth law.before law.behind c in
     let size : 5 * (cells / 5) * g.size ≡ cells * g.size = ap (λ (k : ℕ). k * g.size) (sym fifth) in
-    let most : (g.first + g.size) * cells ≤ n * cells = mul-le (g.first + g.size) cells n cells law.whole (omega arith) in
+    let most : (g.first + g.size) * cells ≤ n * cells = mul-le (g.first + g.size) cells n cells law.whole
+    (omega arith) in
     omega (arith, s.within, size, most)
 
 -- the place at a position
@@ -81,7 +84,8 @@ pub record In (cells : ℕ) (g : TiBlock) (at : ℕ) : Type 0 where
   pub from : g.first * cells ≤ at
   pub to : at - g.first * cells < g.size * cells
 
-pub lies_in : (cells at : ℕ) (g : TiBlock) → 0 < cells → g.first ≤ at / cells → at / cells < g.first + g.size → In cells g at
+pub lies_in : (cells at : ℕ) (g : TiBlock) → 0 < cells → g.first ≤ at / cells → at / cells < g.first + g.size
+    → In cells g at
 lies_in cells at g some before behind =
     let all = div-add-mod' at cells in
     let m : at % cells < cells = mod_below at cells some in
@@ -118,7 +122,8 @@ holds cells parts n at f h =
     let low : g.first ≤ block = omega arith in
     let high : block < g.first + g.size = omega (arith, w.block) in
     let one : ti_block_of n (suc parts) block ≡ g = law.same block low high in
-    let column : cell / r ≡ rest % (5 * g.size) % 5 = div-mul-add (rest % (5 * g.size) % 5) r (rest / (5 * g.size)) w.row in
+    let column : cell / r ≡ rest % (5 * g.size) % 5 = div-mul-add (rest % (5 * g.size) % 5) r (rest / (5 * g.size))
+    w.row in
     let row : cell % r ≡ rest / (5 * g.size) = mod-mul-add (rest % (5 * g.size) % 5) r (rest / (5 * g.size)) w.row in
     let inner : block - g.first ≡ rest % (5 * g.size) / 5 = omega arith in
     let small : cell < r * 5 = mul-add-lt (rest % (5 * g.size) % 5) r (rest / (5 * g.size)) 5 w.column w.row in
@@ -144,7 +149,8 @@ only cells parts n at b q f hb hq e =
     let size : 5 * r * g.size ≡ cells * g.size = ap (λ (k : ℕ). k * g.size) (sym fifth) in
     let sum : at ≡ g.first * cells + z = omega (arith, e) in
     let least : g.first ≤ at / cells = le-div g.first at cells some (omega (arith, sum)) in
-    let most : at / cells < g.first + g.size = div_below at cells (g.first + g.size) some (omega (arith, sum, s.within, size)) in
+    let most : at / cells < g.first + g.size = div_below at cells (g.first + g.size) some
+    (omega (arith, sum, s.within, size)) in
     let one : ti_block_of n (suc parts) (at / cells) ≡ g = law.same (at / cells) least most in
     let rest : at - g.first * cells ≡ z = omega (arith, sum) in
     let p = radix_parts r g.size (q % r) (b - g.first) (q / r) s.row s.inner s.column in
@@ -165,7 +171,8 @@ pub holds_at : (cells parts n at : ℕ) (g : TiBlock) → 0 < parts → g ≡ ti
 holds_at cells zero n at g some e f h = absurd (omega arith)
 holds_at cells (suc parts) n at g some e f h = rw e (holds cells parts n at f h)
 
-pub only_at : (cells parts n at : ℕ) (g : TiBlock) → 0 < parts → g ≡ ti_block_of n parts (at / cells) → cells % 5 ≡ 0 → (b q : ℕ)
+pub only_at : (cells parts n at : ℕ) (g : TiBlock) → 0 < parts → g ≡ ti_block_of n parts (at / cells)
+    → cells % 5 ≡ 0 → (b q : ℕ)
     → b < n → q < cells → position cells parts n b q ≡ at →
     (b ≡ block_at (at - g.first * cells) g) × (q ≡ cell_at (cells / 5) (at - g.first * cells) g)
 only_at cells zero n at g some e f b q hb hq h = absurd (omega arith)
@@ -181,7 +188,8 @@ position_one cells (suc parts) n b q d r f hb hq hd hr e =
     (x.0 ∙ sym y.0, x.1 ∙ sym y.1)
 
 -- each position has a cell
-pub placed : (cells parts n p : ℕ) → 0 < cells → cells % 5 ≡ 0 → p < n * cells → (b : ℕ) × ((q : ℕ) × Holds cells parts n p b q)
+pub placed : (cells parts n p : ℕ) → 0 < cells → cells % 5 ≡ 0 → p < n * cells → (b : ℕ)
+    × ((q : ℕ) × Holds cells parts n p b q)
 placed cells zero n p some f h =
     let all = div-add-mod' p cells in
     (p / cells, (p % cells, record { block = div_below p cells n some h; cell = mod_below p cells some; value = all }))

@@ -1,5 +1,6 @@
 -- From address to address along a run.
-use Rattle.std.proofs.Common.{◌≡◌, ℕ, ◌+◌, ◌-◌, ◌*◌, ◌<◌, ◌≤◌, ◌^◌, inl, inr, Some, None, ap, sym, ◌∙◌, arith, length, sum, take}
+use Rattle.std.proofs.Common.{◌≡◌, ℕ, ◌+◌, ◌-◌, ◌*◌, ◌<◌, ◌≤◌, ◌^◌, inl, inr, Some, None, ap, sym, ◌∙◌, arith, length}
+use Rattle.std.proofs.Common.{sum, take}
 use Rattle.std.specs.Prelude.{slice_index}
 use Rattle.std.specs.FinMap.{get}
 use Rattle.std.proofs.lemmas.Bool.{cases_lt}
@@ -12,7 +13,7 @@ use Rattle.cell_map.specs.Address.{IsCell, address_at, position_of, first_positi
 use Rattle.cell_map.specs.CellMap.{Passes, cell_map}
 use Rattle.cell_map.specs.Laws.{StandsAt}
 use Rattle.cell_map.specs.Slices.{slices_of}
-use Rattle.cell_map.specs.Runs.{RunsFrom, RunsAt, Steps, IsMark, AreDummy, IsReading, place_in}
+use Rattle.cell_map.specs.Runs.{RunsFrom, RunsAt, Steps, IsMark, IsReading, place_in}
 use Rattle.cell_map.specs.declared.places.Cell.{Cell}
 use Rattle.cell_map.specs.declared.runs.Run.{Run}
 use Rattle.cell_map.specs.declared.search.Mark.{Mark}
@@ -35,7 +36,8 @@ pub record Ready (run : Run) : Type 0 where
   pub column : run.column < run.columns
   pub left : 0 < run.left
 
-pub ready : (c : Config) (shape : FrameShape) (frame address : ℕ) (run : Run) → RunsAt c shape frame address run → Ready run
+pub ready : (c : Config) (shape : FrameShape) (frame address : ℕ) (run : Run) → RunsAt c shape frame address run
+    → Ready run
 ready c shape frame address run a =
     let r = a.runs in
     let row = row_below run.row run.rows (run.columns * run.size) (run.columns * run.block + run.column)
@@ -44,7 +46,11 @@ ready c shape frame address run a =
 
 -- its next cell stands at the address
 found_run : (c : Config) (shape : FrameShape) (frame address : ℕ) (run : Run) → RunsAt c shape frame address run
-    → StandsAt c shape frame address (record { ordinal = run.first + run.block; cell = run.column * run.rows + run.row })
+    → StandsAt c shape frame address (record {
+      ordinal = run.first + run.block;
+      cell = run.column *
+          run.rows + run.row;
+    })
 found_run c shape frame address run a =
     let r = a.runs in
     let is = ready c shape frame address run a in
@@ -113,7 +119,8 @@ advance c shape frame address run next a s some =
           ap (λ (p : ℕ). address_at c shape a.plp p) e ∙ there;
     }
 
-pub reading_on : (c : Config) (shape : FrameShape) (frame address : ℕ) (before run next : Run) (old mark : Mark) (dummy : ℕ)
+pub reading_on : (c : Config) (shape : FrameShape) (frame address : ℕ) (before run next : Run) (old mark : Mark)
+    (dummy : ℕ)
     → IsReading c shape frame address before old dummy → address < c.cells → dummy ≡ 0
     → RunsAt c shape frame address run → IsMark c shape mark → Steps run next → IsReading c shape frame
     (address + 1) next mark dummy
@@ -152,9 +159,11 @@ pub begins : (c : Config) (shape : FrameShape) (frame plp : ℕ) (a : Slices)
     → IsPlan c → plp < length c.plps → a ≡ slices_of c shape plp → interval ≡ shape.interval → wide ≡ address
     → cells ≡ block_cells c plp → interleave ≡ (plp_at c.plps plp).interleave → count ≡ slice_index shape.counts plp
     → before ≡ sum (take plp shape.counts)
-    → k < a.count → t < a.len → a.start + k * interval + t ≡ wide → at ≡ first_position c shape frame plp + (k * a.len + t)
+    → k < a.count → t < a.len → a.start + k * interval + t ≡ wide → at ≡ first_position c shape frame
+    plp + (k * a.len + t)
     → limit ≡ a.len - t → RunsFrom cells interleave count before at limit run → RunsAt c shape frame address run
-begins c shape frame plp a interval address wide k t cells interleave count before at limit run is inside e f g h l m o hk ht here
+begins c shape frame plp a interval address wide k t cells interleave count before at limit run is inside
+    e f g h l m o hk ht here
     place
     rest runs =
     let s = slices_of c shape plp in
@@ -166,7 +175,8 @@ begins c shape frame plp a interval address wide k t cells interleave count befo
     let rest' : limit ≡ s.len - t = rw e at rest in
     let runs' : RunsFrom (block_cells c plp) (plp_at c.plps plp).interleave (slice_index shape.counts plp)
     (sum (take plp shape.counts)) (first_position c shape frame plp + z) limit run = rw (h, l, m, o, place') at runs in
-    let product : (k + 1) * s.len ≤ s.count * s.len = mul-le (k + 1) s.len s.count s.len (omega (arith, hk')) (omega arith) in
+    let product : (k + 1) * s.len ≤ s.count * s.len = mul-le (k + 1) s.len s.count s.len (omega (arith, hk'))
+    (omega arith) in
     record {
       plp = plp;
       at = z;

@@ -1,5 +1,6 @@
 -- Runs of cells whose places follow from one another.
-use Rattle.std.proofs.Common.{◌≡◌, ℕ, zero, suc, ◌+◌, ◌-◌, ◌*◌, ◌/◌, ◌%◌, ◌<◌, ◌≤◌, min, ◌^◌, refl, ap, sym, ◌∙◌, arith, length}
+use Rattle.std.proofs.Common.{◌≡◌, ℕ, zero, suc, ◌+◌, ◌-◌, ◌*◌, ◌/◌, ◌%◌, ◌<◌, ◌≤◌, min, ◌^◌, refl, ap, sym, ◌∙◌, arith}
+use Rattle.std.proofs.Common.{length}
 use Rattle.std.proofs.lemmas.Nat.{div-mul-add, mod-mul-add, div_below, mul-add-lt}
 use Rattle.cell_map.specs.declared.interleaving.TiBlock.{TiBlock}
 use Rattle.cell_map.specs.Interleaver.{ti_block_of, in_ti_block}
@@ -23,7 +24,8 @@ in_rows cells length n g f whole same row block column hr hb hc =
     let m : cell % r ≡ row = mod-mul-add column r row hr in
     let inner : g.first + block - g.first ≡ block = omega arith in
     let small : cell < r * 5 = mul-add-lt column r row 5 hc hr in
-    let again : in_ti_block cells g (g.first + block) cell ≡ g.first * cells + (row * (5 * g.size) + (5 * block + column)) =
+    let again : in_ti_block cells g (g.first + block) cell ≡ g.first *
+    cells + (row * (5 * g.size) + (5 * block + column)) =
     rw (q, m, inner) (omega arith) in
     record {
       sent = omega (arith, whole);
@@ -54,7 +56,8 @@ interleaved cells length n before at limit left g f h few short small some e m =
           (λ (x : at < n * suc k). omega arith)
     ] h in
     let inside : at / cells < n = div_below at cells n positive h in
-    let law : Law n (suc length) (at / cells) g = rw e (ti_block_law n (suc length) (at / cells) (omega arith) inside) in
+    let law : Law n (suc length) (at / cells) g = rw e (ti_block_law n (suc length) (at / cells) (omega arith)
+    inside) in
     let l = lies_in cells at g positive law.before law.behind in
     let r : ℕ = cells / 5 in
     let rest : ℕ = at - g.first * cells in
@@ -73,10 +76,17 @@ interleaved cells length n before at limit left g f h few short small some e m =
       some = omega (arith, m, l.to, some);
       most = omega (arith, m);
       within = omega (arith, w.again, m, size, l.to);
-      few = (omega (arith, short, fifth), omega (arith, few, law.whole), omega arith, omega (arith, small, few, law.whole, has));
+      few = (
+        omega (arith, short, fifth),
+        omega (arith, few, law.whole),
+        omega arith,
+        omega
+            (arith, small, few, law.whole, has),
+      );
     }
 
-pub interleaved_is : (cells length n before at limit left : ℕ) (g : TiBlock) → 0 < length → cells % 5 ≡ 0 → at < n * cells
+pub interleaved_is : (cells length n before at limit left : ℕ) (g : TiBlock) → 0 < length → cells % 5 ≡ 0
+    → at < n * cells
     → n < 2 ^ 10
     → cells < 2 ^ 15 → before < 2 ^ 20 → 0 < limit
     → g ≡ ti_block_of n length (at / cells) → left ≡ min limit (g.size * cells - (at - g.first * cells))

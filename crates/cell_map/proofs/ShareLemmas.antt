@@ -1,5 +1,6 @@
 -- What it means for slices that cells share an address, or stand beyond the end.
-use Rattle.std.proofs.Common.{◌≡◌, ℕ, ◌+◌, ◌-◌, ◌*◌, ◌<◌, ◌≤◌, ◌↔◌, ◌≢◌, ◌⊎◌, ⊎_elim, inl, inr, Bool, true, false, cond, ltb, eqb}
+use Rattle.std.proofs.Common.{◌≡◌, ℕ, ◌+◌, ◌-◌, ◌*◌, ◌<◌, ◌≤◌, ◌↔◌, ◌≢◌, ◌⊎◌, ⊎_elim, inl, inr, Bool, true, false, cond}
+use Rattle.std.proofs.Common.{ltb, eqb}
 use Rattle.std.proofs.Common.{◌&&◌, rules, IsTrue, length, refl, ap, sym, ◌∙◌, subst, arith}
 use Rattle.std.specs.Prelude.{slice_index}
 use Rattle.std.proofs.lemmas.Bool.{ltb-true, ltb-false}
@@ -16,7 +17,7 @@ use Rattle.cell_map.specs.Slices.{SlicesMeet, slices_of, PlaceOf, IsIn}
 use Rattle.cell_map.specs.Runs.{LeavesFree, HasCell}
 use Rattle.cell_map.specs.declared.interleaving.Place.{Place}
 use Rattle.cell_map.proofs.PlanLemmas.{sub_slices-some}
-use Rattle.cell_map.proofs.AtLemmas.{At, at_of_cell, cell_of_at, one_cell, at_place, cut_of, is_carried_at, part_inside}
+use Rattle.cell_map.proofs.AtLemmas.{At, at_of_cell, cell_of_at, one_cell, at_place, cut_of, is_carried_at}
 use Rattle.cell_map.proofs.MeetingLemmas.{more_below}
 use Rattle.terms.proofs.CaseLemmas.{bool_cases}
 
@@ -32,11 +33,22 @@ meet_of_shares c shape i j is s =
         m,
         x.slice,
         y.slice,
-        (omega (arith, e, x.address, y.address, x.inner, y.inner), omega (arith, e, x.address, y.address, x.inner, y.inner)),
+        (
+          omega (arith, e, x.address, y.address, x.inner, y.inner),
+          omega (
+            arith,
+            e,
+            x.address,
+            y.address,
+            x.inner,
+            y.inner,
+          ),
+        ),
       ),
     )
 
-pub shares_at : (c : Config) (shape : FrameShape) (i j k t m u : ℕ) → IsPlan c → i < length c.plps → j < length c.plps → i ≢ j →
+pub shares_at : (c : Config) (shape : FrameShape) (i j k t m u : ℕ) → IsPlan c → i < length c.plps → j < length c.plps
+    → i ≢ j →
     k < (slices_of c shape i).count → t < (slices_of c shape i).len → m < (slices_of c shape j).count
     → u < (slices_of c shape j).len →
     (slices_of c shape i).start + k * shape.interval + t ≡ (slices_of c shape j).start + m * shape.interval + u
@@ -56,7 +68,8 @@ shares_at c shape i j k t m u is hi hj ne hk ht hm hu e =
       apart = λ z. ne z.0;
     }
 
-pub shares_of_meet : (c : Config) (shape : FrameShape) (i j : ℕ) → IsPlan c → i < length c.plps → j < length c.plps → i ≢ j →
+pub shares_of_meet : (c : Config) (shape : FrameShape) (i j : ℕ) → IsPlan c → i < length c.plps → j < length c.plps
+    → i ≢ j →
     0 < (slices_of c shape i).len → 0 < (slices_of c shape j).len →
     SlicesMeet (slices_of c shape i) (slices_of c shape j) shape.interval → Shares c shape i j
 shares_of_meet c shape i j is hi hj ne a b (k, (m, hk, hm, meets)) =
@@ -70,7 +83,8 @@ shares_of_meet c shape i j is hi hj ne a b (k, (m, hk, hm, meets)) =
     (λ e. let le : y ≤ x = ltb-false x y e in
     shares_at c shape i j k 0 m (x - y) is hi hj ne hk a hm (omega (arith, le, one)) (omega (arith, le)))
 
-pub some_of_shares : (c : Config) (shape : FrameShape) (i j : ℕ) → IsPlan c → Shares c shape i j → (0 < (slices_of c shape i).len)
+pub some_of_shares : (c : Config) (shape : FrameShape) (i j : ℕ) → IsPlan c → Shares c shape i j
+    → (0 < (slices_of c shape i).len)
     × (0 < (slices_of c shape j).len)
 some_of_shares c shape i j is s =
     let (k, (t, x)) = at_of_cell c shape s.frame_idx i s.block s.cell is s.one in
@@ -78,7 +92,8 @@ some_of_shares c shape i j is s =
     (omega (arith, x.inner), omega (arith, y.inner))
 
 -- one PLP with itself
-pub self_shares : (c : Config) (shape : FrameShape) (j : ℕ) → IsPlan c → j < length c.plps → 1 < (slices_of c shape j).count
+pub self_shares : (c : Config) (shape : FrameShape) (j : ℕ) → IsPlan c → j < length c.plps
+    → 1 < (slices_of c shape j).count
     → shape.interval < (slices_of c shape j).len → Shares c shape j j
 self_shares c shape j is h two long =
     let len : ℕ = (slices_of c shape j).len in
@@ -108,7 +123,8 @@ pub self_apart : (c : Config) (shape : FrameShape) (j : ℕ) → IsPlan c → ((
 self_apart c shape j is few s =
     let (k, (t, x)) = at_of_cell c shape s.frame_idx j s.block s.cell is s.one in
     let (m, (u, y)) = at_of_cell c shape s.frame_idx j s.other_block s.other_cell is s.other in
-    let same : k * shape.interval + t ≡ m * shape.interval + u = (let e = s.same in omega (arith, e, x.address, y.address)) in
+    let same : k * shape.interval + t ≡ m * shape.interval + u =
+    (let e = s.same in omega (arith, e, x.address, y.address)) in
     let equal : (k ≡ m) × (t ≡ u) = ⊎_elim
     (λ one. let a : k ≡ 0 = omega (arith, x.slice) in
     let b : m ≡ 0 = omega (arith, y.slice) in
@@ -120,13 +136,16 @@ self_apart c shape j is few s =
     same_from_place k t m u shape.interval a b same)
     few in
     let z : At c shape s.frame_idx j s.other_block s.other_cell k t = rw (equal.0, equal.1) y in
-    let one = one_cell c shape s.frame_idx j s.block s.cell s.other_block s.other_cell k t is s.one.there s.other.there x z in
+    let one = one_cell c shape s.frame_idx j s.block s.cell s.other_block s.other_cell k t is s.one.there
+    s.other.there x z in
     s.apart (refl, one.0, one.1)
 
 -- beyond the end
-pub beyond_last : (c : Config) (shape : FrameShape) (j : ℕ) → IsPlan c → j < length c.plps → 0 < (slices_of c shape j).len
+pub beyond_last : (c : Config) (shape : FrameShape) (j : ℕ) → IsPlan c → j < length c.plps
+    → 0 < (slices_of c shape j).len
     → 0 < (slices_of c shape j).count →
-    c.cells < (slices_of c shape j).start + ((slices_of c shape j).count - 1) * shape.interval + (slices_of c shape j).len
+    c.cells < (slices_of c shape j).start + ((slices_of c shape j).count - 1) * shape.interval
+    + (slices_of c shape j).len
     → IsBeyond c shape j
 beyond_last c shape j is h some any far =
     let k : ℕ = (slices_of c shape j).count - 1 in
@@ -136,7 +155,8 @@ beyond_last c shape j is h some any far =
     let (b, (q, cell, x)) = cell_of_at c shape 0 j k t is h hk ht in
     inr (0, b, q, cell, omega (arith, x.address, far, some))
 
-pub not_beyond : (c : Config) (shape : FrameShape) (j : ℕ) → IsPlan c → slice_index shape.counts j ≤ (plp_at c.plps j).blocks →
+pub not_beyond : (c : Config) (shape : FrameShape) (j : ℕ) → IsPlan c
+    → slice_index shape.counts j ≤ (plp_at c.plps j).blocks →
     (0 < (slices_of c shape j).len → (slices_of c shape j).start + ((slices_of c shape j).count - 1) * shape.interval
     + (slices_of c shape j).len ≤ c.cells) → ¬ (IsBeyond c shape j)
 not_beyond c shape j is few last w =
@@ -155,7 +175,8 @@ not_beyond c shape j is few last w =
 -- the same, for what the code computed
 pub shares_law : (c : Config) (shape : FrameShape) (i j : ℕ) (a b : Slices) (test : Bool) → IsPlan c → i < length c.plps
     → j < length c.plps → i ≢ j →
-    a ≡ slices_of c shape i → b ≡ slices_of c shape j → 0 < a.len → 0 < b.len → IsTrue test ↔ SlicesMeet a b shape.interval
+    a ≡ slices_of c shape i → b ≡ slices_of c shape j → 0 < a.len → 0 < b.len → IsTrue test
+    ↔ SlicesMeet a b shape.interval
     → IsTrue test ↔ Shares c shape i j
 shares_law c shape i j a b test is hi hj ne ea eb sa sb f =
     let ta : 0 < (slices_of c shape i).len = rw ea at sa in
@@ -163,17 +184,20 @@ shares_law c shape i j a b test is hi hj ne ea eb sa sb f =
     let g : IsTrue test ↔ SlicesMeet (slices_of c shape i) (slices_of c shape j) shape.interval = rw (ea, eb) at f in
     (λ t. shares_of_meet c shape i j is hi hj ne ta tb (g.0 t), λ s. g.1 (meet_of_shares c shape i j is s))
 
-pub empty_first : (c : Config) (shape : FrameShape) (i j : ℕ) (a : Slices) → IsPlan c → a ≡ slices_of c shape i → a.len ≡ 0
+pub empty_first : (c : Config) (shape : FrameShape) (i j : ℕ) (a : Slices) → IsPlan c → a ≡ slices_of c shape i
+    → a.len ≡ 0
     → ¬ (Shares c shape i j)
 empty_first c shape i j a is e none s = let z : (slices_of c shape i).len ≡ 0 = rw e at none in let x =
     some_of_shares c shape i j is s in let never : ⊥ = omega (arith, x.0, z) in never
 
-pub empty_second : (c : Config) (shape : FrameShape) (i j : ℕ) (a : Slices) → IsPlan c → a ≡ slices_of c shape j → a.len ≡ 0
+pub empty_second : (c : Config) (shape : FrameShape) (i j : ℕ) (a : Slices) → IsPlan c → a ≡ slices_of c shape j
+    → a.len ≡ 0
     → ¬ (Shares c shape i j)
 empty_second c shape i j a is e none s = let z : (slices_of c shape j).len ≡ 0 = rw e at none in let x =
     some_of_shares c shape i j is s in let never : ⊥ = omega (arith, x.1, z) in never
 
-pub self_law : (c : Config) (shape : FrameShape) (j : ℕ) (a : Slices) → IsPlan c → j < length c.plps → a ≡ slices_of c shape j
+pub self_law : (c : Config) (shape : FrameShape) (j : ℕ) (a : Slices) → IsPlan c → j < length c.plps
+    → a ≡ slices_of c shape j
     → 0 < a.count → a.count ≢ 1 →
     IsTrue (ltb shape.interval a.len) ↔ Shares c shape j j
 self_law c shape j a is h e some many =
@@ -192,16 +216,19 @@ self_one c shape j a is e one = let few : (slices_of c shape j).count ≡ 1 = rw
 
 pub beyond_law : (c : Config) (shape : FrameShape) (j : ℕ) (a : Slices) → IsPlan c → j < length c.plps
     → slice_index shape.counts j ≤ (plp_at c.plps j).blocks →
-    a ≡ slices_of c shape j → 0 < a.count → a.len ≢ 0 → IsTrue (ltb c.cells (a.start + (a.count - 1) * shape.interval + a.len))
+    a ≡ slices_of c shape j → 0 < a.count → a.len ≢ 0
+    → IsTrue (ltb c.cells (a.start + (a.count - 1) * shape.interval + a.len))
     ↔ IsBeyond c shape j
 beyond_law c shape j a is h few e any some =
     let ta : (slices_of c shape j).len ≢ 0 = rw e at some in
     let tb : 0 < (slices_of c shape j).count = rw e at any in
     let s = slices_of c shape j in
     rw e (
-      λ t. beyond_last c shape j is h (omega arith) tb (ltb-true c.cells (s.start + (s.count - 1) * shape.interval + s.len) t),
+      λ t. beyond_last c shape j is h (omega arith) tb
+          (ltb-true c.cells (s.start + (s.count - 1) * shape.interval + s.len) t),
       λ w. bool_cases (ltb c.cells (s.start + (s.count - 1) * shape.interval + s.len)) (λ t. t)
-          (λ f. absurd (not_beyond c shape j is few (λ x. ltb-false c.cells (s.start + (s.count - 1) * shape.interval + s.len) f)
+          (λ f. absurd (not_beyond c shape j is few
+          (λ x. ltb-false c.cells (s.start + (s.count - 1) * shape.interval + s.len) f)
           w)),
     )
 
@@ -259,7 +286,14 @@ passes_from c shape near single =
       below = λ frame j b q cell. bool_cases (ltb (address_of c shape frame j b q) c.cells)
           (λ e. ltb-true (address_of c shape frame j b q) c.cells e)
           (λ e.
-          absurd (near j cell.there.configured (inr (frame, b, q, cell, ltb-false (address_of c shape frame j b q) c.cells e))));
+          absurd (near j cell.there.configured (inr (
+            frame,
+            b,
+            q,
+            cell,
+            ltb-false (address_of c shape frame j b q)
+                c.cells e,
+          ))));
       apart = λ frame i b q j d r one other same.
           bool_cases (ltb j i)
           (λ e. let x = ordered frame j d r i b q (let lt = ltb-true j i e in omega (arith, lt)) other one (sym same) in
@@ -325,9 +359,11 @@ has_cell c shape frame j a interval address wide n is h e f g x =
     let same : (slices_of c shape j).start + x.slice * shape.interval + x.inner ≡ wide + n = rw (e, f) at x.here in
     record { block = b; cell = q; there = cell; here = at.address ∙ same ∙ ap (λ (k : ℕ). k + n) g }
 
-pub place_law : (c : Config) (shape : FrameShape) (frame j : ℕ) (a : Slices) (interval address wide k t : ℕ) (place : Place)
+pub place_law : (c : Config) (shape : FrameShape) (frame j : ℕ) (a : Slices) (interval address wide k t : ℕ)
+    (place : Place)
     (n : ℕ)
-    → n ≡ slice_index shape.counts j → IsPlan c → j < length c.plps → a ≡ slices_of c shape j → interval ≡ shape.interval
+    → n ≡ slice_index shape.counts j → IsPlan c → j < length c.plps → a ≡ slices_of c shape j
+    → interval ≡ shape.interval
     → wide ≡ address →
     k < a.count → t < a.len → a.start + k * interval + t ≡ wide →
     place.block < n → place.cell < (block_cells c j) →
@@ -343,7 +379,8 @@ place_law c shape frame j a interval address wide k t place n same is h e f g hk
     let cell : IsCell c shape j place.block place.cell = record { configured = h; sent = rw same at hb; within = hq } in
     let product : k * (slices_of c shape j).len + t < (slices_of c shape j).len * (slices_of c shape j).count =
     mul-add-lt k (slices_of c shape j).len t (slices_of c shape j).count hk' ht' in
-    let inside : k * (slices_of c shape j).len + t < cells_of c shape.counts j = omega (arith, product, cut_of c shape j is h) in
+    let inside : k * (slices_of c shape j).len + t < cells_of c shape.counts j = omega
+    (arith, product, cut_of c shape j is h) in
     record {
       there = is_carried_at c shape frame j place.block place.cell (k * (slices_of c shape j).len + t) cell inside p';
       value = (at_place c shape frame j place.block place.cell k t hk' ht' p').address ∙ here';

@@ -91,7 +91,8 @@ block_cells_next run columns first is most o q b z hb hz =
       cell-is = omega (arith, q);
     }
 
-pub part_cut : (run : Run) (limit columns : ℕ) (first : Cell) → IsInside run → 0 < limit → limit ≤ run.left → columns ≤ limit
+pub part_cut : (run : Run) (limit columns : ℕ) (first : Cell) → IsInside run → 0 < limit → limit ≤ run.left
+    → columns ≤ limit
     → columns ≤ run.columns - run.column → 0 < columns
     → run.column + columns < run.columns
     → first.ordinal ≡ run.first + run.block → first.cell ≡ run.column * run.rows + run.row
@@ -115,11 +116,15 @@ part_cut run limit columns first is some most few fits any more o q = record {
   };
 }
 
-pub end_cut : (run rest : Run) (limit columns : ℕ) (first : Cell) → IsInside run → 0 < limit → limit ≤ run.left → columns ≤ limit
+pub end_cut : (run rest : Run) (limit columns : ℕ) (first : Cell) → IsInside run → 0 < limit → limit ≤ run.left
+    → columns ≤ limit
     → columns ≤ run.columns - run.column → 0 < columns
     → run.column + columns ≡ run.columns → IsAtBlock run (run.block + 1) (run.left - columns) rest
     → first.ordinal ≡ run.first + run.block → first.cell ≡ run.column * run.rows + run.row
-    → IsCut run limit (record { strip = record { first = first; stride = run.rows; columns = columns; blocks = 1 }; rest = rest })
+    → IsCut run limit (record {
+      strip = record { first = first; stride = run.rows; columns = columns; blocks = 1 };
+      rest = rest;
+    })
 end_cut run rest limit columns first is some most few fits any end at o q =
     let next : run.columns * (run.block + 1) ≡ run.columns * run.block + run.columns = omega arith in
     record {
@@ -144,9 +149,13 @@ pub blocks_cut : (run rest : Run) (whole blocks : ℕ) (first : Cell) → IsInsi
     → IsAtBlock run (run.block + blocks) (run.left - blocks * run.columns) rest
     → first.ordinal ≡ run.first + run.block → first.cell ≡ run.column * run.rows + run.row
     → IsCut run (whole * run.columns)
-    (record { strip = record { first = first; stride = run.rows; columns = run.columns; blocks = blocks }; rest = rest })
+    (record {
+      strip = record { first = first; stride = run.rows; columns = run.columns; blocks = blocks };
+      rest = rest;
+    })
 blocks_cut run rest whole blocks first is zero_column some most few fits any at o q =
-    let fewer : blocks * run.columns ≤ whole * run.columns = mul-le blocks run.columns whole run.columns few (omega arith) in
+    let fewer : blocks * run.columns ≤ whole * run.columns = mul-le blocks run.columns whole run.columns
+    few (omega arith) in
     let turned : run.columns * blocks ≡ blocks * run.columns = omega arith in
     let joined : run.columns * (run.block + blocks) ≡ run.columns * run.block + run.columns * blocks = omega arith in
     let nothing : run.column * run.rows ≡ 0 = ap (λ (n : ℕ). n * run.rows) zero_column ∙ omega arith in
@@ -185,7 +194,11 @@ blocks_cut run rest whole blocks first is zero_column some most few fits any at 
 found_next : (c : Config) (shape : FrameShape) (frame address : ℕ) (run : Run) (i ordinal cell : ℕ)
     → RunsAt c shape frame address run
     → i < run.left → (next : IsNext run i ordinal cell)
-    → StandsAt c shape frame (address + i) (record { ordinal = run.first + next.block; cell = next.column * run.rows + next.row })
+    → StandsAt c shape frame (address + i) (record {
+      ordinal = run.first + next.block;
+      cell = next.column
+          * run.rows + next.row;
+    })
 found_next c shape frame address run i ordinal cell a less next =
     let r = a.runs in
     let h = r.holds next.row next.block next.column next.in-rows next.in-ti-block next.in-block in
@@ -199,7 +212,8 @@ found_next c shape frame address run i ordinal cell a less next =
     record {
       plp = a.plp;
       block = r.first + next.block;
-      there = is_carried_at c shape frame a.plp (r.first + next.block) (next.column * run.rows + next.row) (a.at + i) cell
+      there = is_carried_at c shape frame a.plp (r.first + next.block) (next.column * run.rows + next.row)
+          (a.at + i) cell
           (omega (arith, a.carried, less, r.most)) here;
       value = ap (λ (p : ℕ). address_at c shape a.plp p) place ∙ there;
       ordinal = omega (arith, r.ordinal);
@@ -260,7 +274,8 @@ skipped c shape frame address n run next a s some =
           ap (λ (p : ℕ). address_at c shape a.plp p) e ∙ there;
     }
 
-pub reading_found : (c : Config) (shape : FrameShape) (frame address n : ℕ) (before run next : Run) (old mark : Mark) (dummy : ℕ)
+pub reading_found : (c : Config) (shape : FrameShape) (frame address n : ℕ) (before run next : Run) (old mark : Mark)
+    (dummy : ℕ)
     → IsReading c shape frame address before old dummy → address + n ≤ c.cells → dummy ≡ 0
     → RunsAt c shape frame address run → IsMark c shape mark → Skips run next n → IsReading c shape frame
     (address + n) next mark dummy

@@ -1,5 +1,6 @@
 -- The TI-block of a block.
-use Rattle.std.proofs.Common.{◌≡◌, ℕ, zero, suc, ◌+◌, ◌-◌, ◌*◌, ◌/◌, ◌%◌, ◌<◌, ◌≤◌, ltb, List, [], ◌∷◌, ◌++◌, replicate, refl, ap}
+use Rattle.std.proofs.Common.{◌≡◌, ℕ, zero, suc, ◌+◌, ◌-◌, ◌*◌, ◌/◌, ◌%◌, ◌<◌, ◌≤◌, ltb, List, [], ◌∷◌, ◌++◌, replicate}
+use Rattle.std.proofs.Common.{refl, ap}
 use Rattle.std.proofs.Common.{sym, ◌∙◌, arith}
 use Rattle.std.proofs.lemmas.Bool.{lt-ltb, le-ltb, ltb-true, ltb-false}
 use Rattle.std.proofs.lemmas.Nat.{div-add-mod', mod_below, div_below, mul-le}
@@ -66,7 +67,8 @@ around (s ∷ ss) start block h k =
     }))
 
 -- a block in the d-th of TI-blocks of one size
-pub group_at : (k size start block d : ℕ) (rest : List ℕ) → d < k → start + d * size ≤ block → block < start + (d + 1) * size →
+pub group_at : (k size start block d : ℕ) (rest : List ℕ) → d < k → start + d * size ≤ block
+    → block < start + (d + 1) * size →
     ti_block_in (replicate k size ++ rest) start block ≡ record { first = start + d * size; size = size }
 group_at zero size start block d rest h a b = absurd (omega arith)
 group_at (suc k) size start block zero rest h a b =
@@ -76,7 +78,8 @@ group_at (suc k) size start block zero rest h a b =
 group_at (suc k) size start block (suc d) rest h a b =
     let far : start + size ≤ block = omega arith in
     let e : start + size + d * size ≡ start + suc d * size = omega arith in
-    rw (le-ltb block (start + size) far) (group_at k size (start + size) block d rest (omega arith) (omega arith) (omega arith)
+    rw (le-ltb block (start + size) far) (group_at k size (start + size) block d rest (omega arith) (omega arith)
+    (omega arith)
     ∙ ap (λ (f : ℕ). record { first = f; size = size }) e)
 
 pub group_skip : (k size start block : ℕ) (rest : List ℕ) → start + k * size ≤ block →

@@ -30,8 +30,8 @@ pub record IsCarried (c : Config) (shape : FrameShape) (frame_idx plp block cell
   pub there : IsCell c shape plp block cell
   pub carried : position_of c shape plp block cell / cells_of c shape.counts plp ≡ part_of c frame_idx plp
 
--- the address of a place among the cells of a PLP in the frame: in one slice from PLP_START on; of type 2 in sub-slices, each
--- SUB_SLICE_INTERVAL after the one before
+-- the address of a place among the cells of a PLP in the frame: in one slice from PLP_START on; of type 2 in
+-- sub-slices, each SUB_SLICE_INTERVAL after the one before
 abbrev pub address_at : Config → FrameShape → ℕ → ℕ → ℕ
 address_at c shape plp place =
     if in_type2 c plp

@@ -1,6 +1,7 @@
--- The map of the cells of a frame (EN 302 755, clauses 6.5 and 8): which cell stands at an address. An address without a cell is
--- dummy.
-use Rattle.std.specs.Prelude.{◌≡◌, ℕ, ◌+◌, ◌/◌, ◌<◌, ◌≤◌, ◌⊎◌, ◌==◌, Bool, List, length, take, map, filter, sum, slice_index}
+-- The map of the cells of a frame (EN 302 755, clauses 6.5 and 8): which cell stands at an address. An address without
+-- a cell is dummy.
+use Rattle.std.specs.Prelude.{◌≡◌, ℕ, ◌+◌, ◌/◌, ◌<◌, ◌≤◌, ◌⊎◌, ◌==◌, Bool, List, length, take, map, filter, sum}
+use Rattle.std.specs.Prelude.{slice_index}
 use Rattle.std.specs.FinMap.{FinMap, from_entries}
 use Rattle.std.specs.List.{flat_map, range_with_len}
 use Rattle.std.specs.Ordering.{nat_cmp}
@@ -13,8 +14,8 @@ use Rattle.cell_map.specs.declared.faults.MapFault.{MapFault}
 use Rattle.cell_map.specs.declared.faults.MapFault.TheVariants.{Beyond, Overlap}
 use Rattle.cell_map.specs.declared.places.Cell.{Cell}
 
--- a shape passes if no PLP has more blocks than it may and in each frame each address is below the number of cells, and no two
--- cells share one
+-- a shape passes if no PLP has more blocks than it may and in each frame each address is below the number of cells, and
+-- no two cells share one
 pub record Passes (c : Config) (shape : FrameShape) : Type 0 where
   pub counts : (plp : ℕ) → plp < length c.plps → slice_index shape.counts plp ≤ (plp_at c.plps plp).blocks
   pub below : (frame_idx plp block cell : ℕ) → IsCarried c shape frame_idx plp block cell
@@ -44,7 +45,8 @@ carried_cells c shape frame_idx plp block =
 
 -- those of a block, of a PLP and of all, with their addresses
 abbrev pub block_pairs : Config → FrameShape → ℕ → ℕ → ℕ → List (ℕ × Cell)
-block_pairs c shape frame_idx plp block = map (pair_of c shape frame_idx plp block) (carried_cells c shape frame_idx plp block)
+block_pairs c shape frame_idx plp block = map (pair_of c shape frame_idx plp block)
+    (carried_cells c shape frame_idx plp block)
 
 abbrev pub plp_pairs : Config → FrameShape → ℕ → ℕ → List (ℕ × Cell)
 plp_pairs c shape frame_idx plp =
@@ -76,9 +78,11 @@ pub record Shares (c : Config) (shape : FrameShape) (first second : ℕ) : Type 
   pub same : address_of c shape frame_idx first block cell ≡ address_of c shape frame_idx second other_block other_cell
   pub apart : ¬ ((first ≡ second) × (block ≡ other_block) × (cell ≡ other_cell))
 
--- the fault of a shape: the first PLP that is beyond; else the least pair that shares, by its first PLP and then by its second
+-- the fault of a shape: the first PLP that is beyond; else the least pair that shares, by its first PLP and then by its
+-- second
 abbrev pub Faults : Config → FrameShape → MapFault → Type 0
-Faults c shape (Beyond plp) = (plp < length c.plps) × IsBeyond c shape plp × ((k : ℕ) → k < plp → ¬ (IsBeyond c shape k))
+Faults c shape (Beyond plp) = (plp < length c.plps) × IsBeyond c shape plp
+    × ((k : ℕ) → k < plp → ¬ (IsBeyond c shape k))
 Faults c shape (Overlap first second) =
     ((k : ℕ) → k < length c.plps → ¬ (IsBeyond c shape k))
     × (first ≤ second) × Shares c shape first second

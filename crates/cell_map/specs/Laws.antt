@@ -64,19 +64,20 @@ abbrev pub PartsRepeat : Type 0
 PartsRepeat = (c : Config) (frame plp : ℕ) → IsPlan c → plp < length c.plps
     → part_of c (frame % c.frames) plp ≡ part_of c frame plp
 
--- the numbers of each cell are small, so that a word of 32 bits holds both: a record holds the bytes of 38,000 blocks at most, of
--- 32,400 cells at most
+-- the numbers of each cell are small, so that a word of 32 bits holds both: a record holds the bytes of 38,000 blocks
+-- at most, of 32,400 cells at most
 abbrev pub CellsFit : Type 0
 CellsFit = (c : Config) (shape : FrameShape) (frame_idx address : ℕ) (found : Cell) → IsPlan c → Passes c shape
     → get (cell_map c shape frame_idx) address ≡ Some found
     → (found.ordinal < 2 ^ 16) × (found.cell < 2 ^ 15)
 
--- If the interleaving frames of a PLP are carried by one frame each, this frame carries each cell of their blocks, at the address
--- of its position.
+-- If the interleaving frames of a PLP are carried by one frame each, this frame carries each cell of their blocks, at
+-- the address of its position.
 pub record MapsByFrames (c : Config) (shape : FrameShape) (frame_idx plp block cell : ℕ) : Type 0 where
   pub carried : IsCarried c shape frame_idx plp block cell
   pub cells : carried_cells c shape frame_idx plp block ≡ range_with_len 0 (block_cells c plp)
-  pub address : address_of c shape frame_idx plp block cell ≡ address_at c shape plp (position_of c shape plp block cell)
+  pub address : address_of c shape frame_idx plp block cell ≡ address_at c shape plp
+      (position_of c shape plp block cell)
 
 abbrev pub MapAlone : Type 0
 MapAlone = (c : Config) (shape : FrameShape) (frame_idx plp block cell : ℕ) → StandsAlone c.plps plp

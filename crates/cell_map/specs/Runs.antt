@@ -24,7 +24,8 @@ pub record Holds (cells length n at block cell : ℕ) : Type 0 where
 -- the places of a TI-block, each of whose blocks is written column by column and which is read row by row
 abbrev pub HoldsAll : ℕ → ℕ → ℕ → ℕ → Run → Type 0
 HoldsAll cells length n first run = (row block column : ℕ) → row < run.rows → block < run.size → column < run.columns
-    → Holds cells length n (first * cells + (row * (run.columns * run.size) + (run.columns * block + column))) (first + block)
+    → Holds cells length n (first * cells + (row * (run.columns * run.size) + (run.columns * block + column)))
+    (first + block)
     (column * run.rows + row)
 
 -- a run at a position, of no more than so many cells
@@ -108,7 +109,8 @@ pub record IsNext (run : Run) (steps ordinal cell : ℕ) : Type 0 where
 -- the next cells of a run, so many at most, and the run behind them
 pub record IsCut (run : Run) (limit : ℕ) (cut : Cut) : Type 0 where
   pub cells : (b z : ℕ) → b < cut.strip.blocks → z < cut.strip.columns
-      → IsNext run (cut.strip.columns * b + z) (cut.strip.first.ordinal + b) (cut.strip.first.cell + z * cut.strip.stride)
+      → IsNext run (cut.strip.columns * b + z) (cut.strip.first.ordinal + b)
+      (cut.strip.first.cell + z * cut.strip.stride)
   pub some : 0 < cut.strip.columns * cut.strip.blocks
   pub most : cut.strip.columns * cut.strip.blocks ≤ limit
   pub skips : Skips run cut.rest (cut.strip.columns * cut.strip.blocks)

@@ -42,11 +42,13 @@ abbrev pub Meets : ℕ → ℕ → ℕ → ℕ → Type 0
 Meets a la b lb = (a < b + lb) × (b < a + la)
 
 abbrev pub SliceMeets : ℕ → ℕ → Slices → ℕ → Type 0
-SliceMeets start len slices interval = (k : ℕ) × (k < slices.count) × Meets start len (slices.start + k * interval) slices.len
+SliceMeets start len slices interval = (k : ℕ) × (k < slices.count) × Meets start len (slices.start + k * interval)
+    slices.len
 
 abbrev pub SlicesMeet : Slices → Slices → ℕ → Type 0
 SlicesMeet a b interval =
-    (j : ℕ) × ((k : ℕ) × (j < a.count) × (k < b.count) × Meets (a.start + j * interval) a.len (b.start + k * interval) b.len)
+    (j : ℕ) × ((k : ℕ) × (j < a.count) × (k < b.count) × Meets (a.start + j * interval) a.len (b.start + k * interval)
+    b.len)
 
 -- an address is in one of the slices
 pub record IsIn (slices : Slices) (interval address : ℕ) : Type 0 where

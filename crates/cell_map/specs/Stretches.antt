@@ -21,5 +21,6 @@ HasStrip c shape frame_idx address strip = (b z : ℕ) → b < strip.blocks → 
 
 -- The same of what stands there.
 abbrev pub HasStretch : Config → FrameShape → ℕ → ℕ → Stretch → Type 0
-HasStretch c shape frame_idx address (Dummy count) = (i : ℕ) → i < count → get (cell_map c shape frame_idx) (address + i) ≡ None
+HasStretch c shape frame_idx address (Dummy count) = (i : ℕ) → i < count
+    → get (cell_map c shape frame_idx) (address + i) ≡ None
 HasStretch c shape frame_idx address (Blocks strip) = HasStrip c shape frame_idx address strip

@@ -1,5 +1,6 @@
 // Which shapes have a cell map.
-ghost use Rattle.std.specs.Prelude.{ℕ, ◌≡◌, ◌<◌, ◌≤◌, ◌^◌, ◌↔◌, IsTrue, IsOk, IfSome, IfNone, IfErr, length, slice_index};
+ghost use Rattle.std.specs.Prelude.{ℕ, ◌≡◌, ◌<◌, ◌≤◌, ◌^◌, ◌↔◌, IsTrue, IsOk, IfSome, IfNone, IfErr, length};
+ghost use Rattle.std.specs.Prelude.{slice_index};
 ghost use Rattle.plp_config.specs.Plps.{plp_at};
 ghost use Rattle.cell_map.specs.CellMap.{IsBeyond, Shares, Passes, Faults};
 
@@ -66,7 +67,8 @@ fn shares(plan: &Plan, shape: &Shape, first: usize, second: usize) -> bool
 fn partner(plan: &Plan, shape: &Shape, first: u8) -> Option<u8>
     requires plps { length shape.now.counts ≡ length plan.now.plps }
     requires first { first < length plan.now.plps }
-    ensures none { IfNone result ((k : ℕ) → first ≤ k → k < length plan.now.plps → ¬ (Shares plan.now shape.now first k)) }
+    ensures none { IfNone result ((k : ℕ) → first ≤ k → k < length plan.now.plps
+        → ¬ (Shares plan.now shape.now first k)) }
     ensures some { IfSome result (λ k. (first ≤ k) × (k < length plan.now.plps) × Shares plan.now shape.now first k
         × ((j : ℕ) → first ≤ j → j < k → ¬ (Shares plan.now shape.now first j))) }
 {

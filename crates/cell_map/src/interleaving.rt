@@ -45,8 +45,8 @@ pub fn ti_block_of(blocks: u32, length: u32, block: u32) -> TiBlock
     }
 }
 
-/// The position of a cell of a block among the cells of its PLP in its interleaving frame. `length` is the number of TI-blocks,
-/// the configured interleaver length; 0 leaves the order.
+/// The position of a cell of a block among the cells of its PLP in its interleaving frame. `length` is the number of
+/// TI-blocks, the configured interleaver length; 0 leaves the order.
 pub fn position(cells: u32, length: u32, blocks: u32, block: u32, cell: u32) -> u32
     requires fifth { cells % 5 ≡ 0 }
     requires few { length < 2 ^ 16 }

@@ -1,5 +1,6 @@
 // Laws of the cell map. Their functions do nothing.
-ghost use Rattle.cell_map.specs.Laws.{InterleaverFillsOnce, ShapePasses, MapHasEachCell, MapHasOnlyCells, DummyHasNoCell};
+ghost use Rattle.cell_map.specs.Laws.{InterleaverFillsOnce, ShapePasses, MapHasEachCell, MapHasOnlyCells};
+ghost use Rattle.cell_map.specs.Laws.{DummyHasNoCell};
 ghost use Rattle.cell_map.specs.Laws.{CarriedOnce, PartsRepeat, CellsFit, MapAlone};
 
 use plp_config::block_law;
@@ -17,7 +18,8 @@ pub fn shape_law()
     order_law();
 }
 
-/// The map of a frame has each cell that it carries at its address, and nothing else, and the numbers of its cells are small.
+/// The map of a frame has each cell that it carries at its address, and nothing else, and the numbers of its cells are
+/// small.
 /// Each cell is carried in one frame of its interleaving frame.
 pub fn map_law()
     ensures each { MapHasEachCell }
@@ -28,7 +30,8 @@ pub fn map_law()
     ensures small { CellsFit }
 {}
 
-/// Where each interleaving frame is carried by one frame, this frame carries each of its cells, at the address of its position.
+/// Where each interleaving frame is carried by one frame, this frame carries each of its cells, at the address of its
+/// position.
 pub fn alone_law()
     ensures { MapAlone }
 {

@@ -66,7 +66,8 @@ fn address_at(
     requires plps { length shape.now.counts ≡ length plan.now.plps }
     requires passes { Passes plan.now shape.now }
     requires there { IsCarried plan.now shape.now frame_idx plp block cell }
-    requires place { place ≡ position_of plan.now shape.now plp block cell - first_position plan.now shape.now frame_idx plp }
+    requires place { place ≡ position_of plan.now shape.now plp block cell - first_position plan.now
+        shape.now frame_idx plp }
     ensures value { result ≡ address_of plan.now shape.now frame_idx plp block cell }
     ensures below { result < plan.now.cells }
 {
@@ -78,7 +79,8 @@ fn address_at(
     in_slices(start, place, shape.interval(), it.slices.len as u32)
 }
 
-/// The address of a cell in a frame, `None` if the frame does not carry it. The frame is told by its number in the superframe.
+/// The address of a cell in a frame, `None` if the frame does not carry it. The frame is told by its number in the
+/// superframe.
 pub fn address(
     plan: &Plan,
     shape: &Shape,

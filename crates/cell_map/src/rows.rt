@@ -51,7 +51,8 @@ pub fn row_of(plan: &Plan, plp: usize) -> Row
     }
 }
 
-/// A PLP in a frame: how many blocks its interleaving frame has, how many of their cells the frame carries, and its slices.
+/// A PLP in a frame: how many blocks its interleaving frame has, how many of their cells the frame carries, and its
+/// slices.
 #[derive(Clone, Copy)]
 pub struct PlpInFrame {
     pub row: Row,

@@ -42,7 +42,8 @@ pub fn slices_meet(a: Slices, b: Slices, interval: u64) -> bool
 pub fn locate(slices: Slices, interval: u64, address: u64) -> Option<(u64, u64)>
     requires apart { (slices.count ≡ 1) ⊎ (slices.len ≤ interval) }
     requires some { 0 < slices.count }
-    ensures none { IfNone result ((k t : ℕ) → k < slices.count → t < slices.len → ¬ (slices.start + k * interval + t ≡ address)) }
+    ensures none { IfNone result ((k t : ℕ) → k < slices.count → t < slices.len
+        → ¬ (slices.start + k * interval + t ≡ address)) }
     ensures some { IfSome result (λ x. (x.0 < slices.count) × (x.1 < slices.len)
         × (slices.start + x.0 * interval + x.1 ≡ address)) }
 {

@@ -5,8 +5,8 @@ ghost use Rattle.cell_map.specs.Runs.{IsInside, IsCut, IsAtBlock};
 use crate::places::Cell;
 use crate::runs::{Run, cell_of};
 
-/// Cells at successive addresses: of successive blocks, of each block as many, and from each cell of a block to the next the same
-/// distance.
+/// Cells at successive addresses: of successive blocks, of each block as many, and from each cell of a block to the
+/// next the same distance.
 #[derive(Clone, Copy, Debug, PartialEq, Eq)]
 pub struct Strip {
     /// The first cell.

@@ -22,7 +22,8 @@ grouping_told c =
       commons = λ plp inside. get_or-map-range_with_len (common_of c) 0 n plp plp None inside (omega arith);
       inside = λ plp common is. (has_common c plp common is).inside;
       place = λ input inside. All-filter test (λ (p : ℕ). p < n) (range_with_len 0 n)
-          (λ k d lt. let len = length-range_with_len 0 n in let at = get_or-range_with_len 0 n k d (omega (arith, lt, len)) in
+          (λ k d lt. let len = length-range_with_len 0 n in let at = get_or-range_with_len 0 n k d
+          (omega (arith, lt, len)) in
           omega (arith, lt, len, at)) input 0 inside;
       own = λ input inside. not_true _ (filter_passes test (range_with_len 0 n) input 0 inside);
     }
@@ -41,7 +42,8 @@ inputs_told : (c : Config) (g : Grouping) → g ≡ grouping_of c → g.inputs �
 unfolding grouping_of
 inputs_told c g is = ap (λ (h : Grouping). h.inputs) is
 
-pub count_told : (c : Config) (g : Grouping) (count : ℕ) → count ≡ length g.inputs → g ≡ grouping_of c → count ≡ length (input_places c)
+pub count_told : (c : Config) (g : Grouping) (count : ℕ) → count ≡ length g.inputs → g ≡ grouping_of c
+    → count ≡ length (input_places c)
 count_told c g count here is = here ∙ ap (λ (l : List ℕ). length l) (inputs_told c g is)
 
 pub place_told : (c : Config) (g : Grouping) (input place : ℕ) → place ≡ slice_index g.inputs input → g ≡ grouping_of c

@@ -1,9 +1,10 @@
 -- The PLPs of inputs.
-use Rattle.std.proofs.Common.{◌≡◌, ℕ, zero, suc, ◌+◌, ◌-◌, ◌<◌, ◌≤◌, Bool, true, false, List, [], ◌∷◌, length, inl, inr, ap, sym, subst, ◌∙◌, arith}
-use Rattle.std.specs.Prelude.{if◌then◌else◌, slice_index_or}
+use Rattle.std.proofs.Common.{◌≡◌, ℕ, zero, suc, ◌+◌, ◌<◌, ◌≤◌, Bool, true, false, List, [], ◌∷◌, length, inl, inr, sym}
+use Rattle.std.proofs.Common.{subst, ◌∙◌, arith}
+use Rattle.std.specs.Prelude.{if◌then◌else◌}
 use Rattle.std.proofs.lemmas.Bool.{cases_lt, true≢false}
 use Rattle.terms.proofs.CaseLemmas.{bool_cases}
-use Rattle.plp_config.specs.Plps.{plp_at, type_number, no_plp}
+use Rattle.plp_config.specs.Plps.{plp_at, type_number}
 use Rattle.plp_config.specs.Rules.{AllRules}
 use Rattle.plp_config.specs.Rules.Rule.{TypeOrder}
 use Rattle.plp_config.specs.declared.config.Config.{Config}
@@ -17,11 +18,13 @@ use Rattle.common_plp.specs.Sharing.{Sharing, Apart, Joint}
 pub commons_few : (plps : List Plp) → commons plps ≤ length plps
 commons_few [] = omega arith
 commons_few (p ∷ plps) =
-    bool_cases (is_common_type p.plp_type) (λ on. rw on (let few = commons_few plps in omega (arith, few))) (λ off. rw off (omega arith))
+    bool_cases (is_common_type p.plp_type) (λ on. rw on (let few = commons_few plps in omega (arith, few)))
+    (λ off. rw off (omega arith))
 
 -- those before are common
 common_more : (p : Plp) (plps : List Plp) (at : ℕ) → is_common_type p.plp_type ≡ true
-    → ((place : ℕ) → place < commons plps → is_common_type (plp_at plps place).plp_type ≡ true) → at < commons (p ∷ plps)
+    → ((place : ℕ) → place < commons plps → is_common_type (plp_at plps place).plp_type ≡ true)
+    → at < commons (p ∷ plps)
     → is_common_type (plp_at (p ∷ plps) at).plp_type ≡ true
 common_more p plps zero on rest less = on
 common_more p plps (suc at) on rest less =
@@ -30,7 +33,8 @@ common_more p plps (suc at) on rest less =
 
 never_common : (p : Plp) (plps : List Plp) (at : ℕ) → is_common_type p.plp_type ≡ false → at < commons (p ∷ plps) → ⊥
 never_common p plps at off less =
-    let z : at < 0 = subst (λ (b : Bool). at < (if b then commons plps + 1 else 0)) off less in absurd (omega (arith, z))
+    let z : at < 0 = subst (λ (b : Bool). at < (if b then commons plps + 1 else 0)) off less in absurd
+    (omega (arith, z))
 
 commons_are : (plps : List Plp) (place : ℕ) → place < commons plps → is_common_type (plp_at plps place).plp_type ≡ true
 commons_are [] place lt = absurd (omega (arith, lt))
@@ -46,15 +50,18 @@ own_more p plps on rest lt =
     let less : commons plps + 1 < suc (length plps) =
     subst (λ (b : Bool). (if b then commons plps + 1 else 0) < suc (length plps)) on lt in
     let at : suc (commons plps) ≡ commons plps + 1 = omega arith in
-    subst (λ (b : Bool). is_common_type (plp_at (p ∷ plps) (if b then commons plps + 1 else 0)).plp_type ≡ false) (sym on)
+    subst (λ (b : Bool). is_common_type (plp_at (p ∷ plps) (if b then commons plps + 1 else 0)).plp_type ≡ false)
+    (sym on)
     (subst (λ (n : ℕ). is_common_type (plp_at (p ∷ plps) n).plp_type ≡ false) at (rest (omega (arith, less))))
 
 own_here : (p : Plp) (plps : List Plp) → is_common_type p.plp_type ≡ false
     → is_common_type (plp_at (p ∷ plps) (commons (p ∷ plps))).plp_type ≡ false
 own_here p plps off =
-    subst (λ (b : Bool). is_common_type (plp_at (p ∷ plps) (if b then commons plps + 1 else 0)).plp_type ≡ false) (sym off) off
+    subst (λ (b : Bool). is_common_type (plp_at (p ∷ plps) (if b then commons plps + 1 else 0)).plp_type ≡ false)
+    (sym off) off
 
-first_own : (plps : List Plp) → commons plps < length plps → is_common_type (plp_at plps (commons plps)).plp_type ≡ false
+first_own : (plps : List Plp) → commons plps < length plps
+    → is_common_type (plp_at plps (commons plps)).plp_type ≡ false
 first_own [] lt = absurd (omega (arith, lt))
 first_own (p ∷ plps) lt =
     bool_cases (is_common_type p.plp_type) (λ on. own_more p plps on (first_own plps) lt) (λ off. own_here p plps off)
@@ -71,11 +78,13 @@ some_number Type1 off = omega arith
 some_number Type2 off = omega arith
 
 -- the PLPs behind the common ones are none
-pub own_behind : (c : Config) (plp : ℕ) → AllRules c → plp < length c.plps → commons c.plps ≤ plp → is_common c plp ≡ false
+pub own_behind : (c : Config) (plp : ℕ) → AllRules c → plp < length c.plps → commons c.plps ≤ plp
+    → is_common c plp ≡ false
 own_behind c plp rules inside behind =
     elim (cases_lt (commons c.plps) plp) [
       | inl later ↦
-          let least = some_number (plp_at c.plps (commons c.plps)).plp_type (first_own c.plps (omega (arith, inside, behind))) in
+          let least = some_number (plp_at c.plps (commons c.plps)).plp_type
+          (first_own c.plps (omega (arith, inside, behind))) in
           let order = rules TypeOrder plp inside (commons c.plps) later in
           not_common (plp_at c.plps plp).plp_type (omega (arith, least, order))
       | inr le ↦
@@ -104,10 +113,12 @@ commons_on c place inside le common =
           absurd (true≢false (sym common ∙ own))
     ]
 
-pub commons_here : (c : Config) (place : ℕ) → place ≤ commons c.plps → is_common c place ≡ false → place ≡ commons c.plps
+pub commons_here : (c : Config) (place : ℕ) → place ≤ commons c.plps → is_common c place ≡ false
+    → place ≡ commons c.plps
 commons_here c place le own = let ge = behind_own c place own in omega (arith, le, ge)
 
-pub commons_all : (c : Config) (place : ℕ) → place ≤ commons c.plps → length c.plps ≤ place → length c.plps ≡ commons c.plps
+pub commons_all : (c : Config) (place : ℕ) → place ≤ commons c.plps → length c.plps ≤ place
+    → length c.plps ≡ commons c.plps
 commons_all c place le end = let few = commons_few c.plps in omega (arith, few, le, end)
 
 -- ---- inputs and their PLPs
@@ -122,6 +133,7 @@ pub place_apart : (w : Sharing) (c : Config) (input other : ℕ) → place_of w 
 place_apart Apart c input other e = e
 place_apart Joint c input other e = omega (arith, e)
 
-pub place_own : (c : Config) (input : ℕ) → AllRules c → input < input_count Joint c → is_common c (place_of Joint c input) ≡ false
+pub place_own : (c : Config) (input : ℕ) → AllRules c → input < input_count Joint c
+    → is_common c (place_of Joint c input) ≡ false
 place_own c input rules lt =
     let inside = place_inside Joint c input lt in own_behind c (place_of Joint c input) rules inside (omega arith)

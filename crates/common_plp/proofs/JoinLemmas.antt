@@ -1,5 +1,6 @@
 -- Streams together again, slot by slot.
-use Rattle.std.proofs.Common.{◌≡◌, ℕ, zero, suc, ◌+◌, ◌<◌, List, [], ◌∷◌, ◌++◌, length, map, Some, refl, ap, ap₂, sym, ◌∙◌, arith}
+use Rattle.std.proofs.Common.{◌≡◌, ℕ, zero, suc, ◌+◌, ◌<◌, List, [], ◌∷◌, ◌++◌, length, map, Some, refl, ap, ap₂, sym}
+use Rattle.std.proofs.Common.{◌∙◌, arith}
 use Rattle.std.proofs.Common.{length-append}
 use Rattle.std.specs.Prelude.{slice_get}
 use Rattle.std.specs.List.{range_with_len}
@@ -21,7 +22,8 @@ joined_length : (common own : List (List ℕ)) → length (joined common own) �
 unfolding joined
 joined_length common own = length-map-range_with_len (at_slot common own) 0 (length own)
 
-joined_slot : (common own : List (List ℕ)) (k : ℕ) → k < length own → slice_get (joined common own) k ≡ Some (at_slot common own k)
+joined_slot : (common own : List (List ℕ)) (k : ℕ) → k < length own
+    → slice_get (joined common own) k ≡ Some (at_slot common own k)
 unfolding joined
 joined_slot common own k inside =
     slice_get-get_or (joined common own) k null_packet (omega (arith, inside, joined_length common own))
@@ -33,7 +35,8 @@ pub map_lag : (f g : ℕ → List ℕ) (a b n : ℕ) → ((k : ℕ) → k < n �
     → map f (range_with_len a n) ≡ map g (range_with_len b n)
 map_lag f g a b zero same = refl
 map_lag f g a b (suc n) same =
-    let here : f a ≡ g b = let s = same 0 (omega arith) in let e : a + 0 ≡ a = omega arith in let h : b + 0 ≡ b = omega arith in
+    let here : f a ≡ g b = let s = same 0 (omega arith) in let e : a + 0 ≡ a = omega arith in let h :
+    b + 0 ≡ b = omega arith in
     rw (e, h) at s in
     let later : (k : ℕ) → k < n → f (a + 1 + k) ≡ g (b + 1 + k) = λ k lt. let s = same (k + 1) (omega (arith, lt)) in
     let e : a + (k + 1) ≡ a + 1 + k = omega arith in let h : b + (k + 1) ≡ b + 1 + k = omega arith in rw (e, h) at s in

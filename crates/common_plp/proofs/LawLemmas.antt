@@ -7,7 +7,7 @@ use Rattle.std.proofs.lemmas.Bool.Decides.{Decides-eqb}
 use Rattle.std.proofs.lemmas.List.FromFn.{length-map-range_with_len}
 use Rattle.std.proofs.lemmas.Option.{get_or_from_slice_get}
 use Rattle.std.proofs.lemmas.Simd.{map-map}
-use Rattle.terms.proofs.CaseLemmas.{both}
+use Rattle.std.proofs.lemmas.Bool.{and_parts}
 use Rattle.terms.proofs.OptionLemmas.{none_some}
 use Rattle.plp_config.specs.declared.config.Config.{Config}
 use Rattle.ts_packet.specs.Null.{null_packet}
@@ -35,7 +35,8 @@ pub split_front : SplitFront
 unfolding split
 split_front c inputs plp n =
     front_by (is_common c plp) (is_some (common_of c plp)) (group_streams c inputs (group_of c plp)) (inputs plp) n
-    ∙ ap (λ (streams : List (List (List ℕ))). stream_by (is_common c plp) (is_some (common_of c plp)) streams (take n (inputs plp)))
+    ∙ ap (λ (streams : List (List (List ℕ))). stream_by (is_common c plp) (is_some (common_of c plp))
+    streams (take n (inputs plp)))
     (map-map (take n) inputs (own_places c (group_of c plp)))
 
 slot_by : (common some : Bool) (streams : List (List (List ℕ))) (input : List (List ℕ)) (k : ℕ)
@@ -53,7 +54,8 @@ split_slot c inputs plp k =
 
 length_by : (common some : Bool) (streams : List (List (List ℕ))) (input : List (List ℕ))
     → length (stream_by common some streams input) ≡ (if common then longest streams else length input)
-length_by true some streams input = length-map-range_with_len (λ k. common_packet (slot_of streams k)) 0 (longest streams)
+length_by true some streams input = length-map-range_with_len (λ k. common_packet (slot_of streams k))
+    0 (longest streams)
 length_by false true streams input =
     length-map-range_with_len (λ k. own_packet (slot_of streams k) (packet_at input k)) 0 (length input)
 length_by false false streams input = refl
@@ -73,11 +75,12 @@ pub record HasCommon (c : Config) (plp common : ℕ) : Type 0 where
   pub same : group_of c common ≡ group_of c plp
 
 common_by : (c : Config) (plp common : ℕ) (b : Bool) → is_common c plp ≡ b
-    → cond b None (find (is_common_in c (group_of c plp)) (range_with_len 0 (length c.plps))) ≡ Some common → HasCommon c plp common
+    → cond b None (find (is_common_in c (group_of c plp)) (range_with_len 0 (length c.plps))) ≡ Some common
+    → HasCommon c plp common
 common_by c plp common true e is = none_some common is
 common_by c plp common false e is =
     let f = found_passes (is_common_in c (group_of c plp)) 0 (length c.plps) common is in
-    let b = both (is_common c common) (group_of c common == group_of c plp) f.0 in
+    let b = and_parts (is_common c common) (group_of c common == group_of c plp) f.0 in
     record {
       own = e;
       inside = omega (arith, f.1);
@@ -89,7 +92,8 @@ pub has_common : (c : Config) (plp common : ℕ) → common_of c plp ≡ Some co
 has_common c plp common is = common_by c plp common (is_common c plp) refl is
 
 -- it is one of the streams of its group
-pub own_member : (c : Config) (plp : ℕ) → plp < length c.plps → is_common c plp ≡ false → IsIn plp (own_places c (group_of c plp))
+pub own_member : (c : Config) (plp : ℕ) → plp < length c.plps → is_common c plp ≡ false
+    → IsIn plp (own_places c (group_of c plp))
 own_member c plp inside own =
     in_kept (is_own_in c (group_of c plp)) plp (range_with_len 0 (length c.plps))
     (rw (own, (Decides-eqb (group_of c plp) (group_of c plp)).1 refl) refl)

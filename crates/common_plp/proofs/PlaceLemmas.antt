@@ -1,5 +1,6 @@
 -- Places that are found, or kept, by a test.
-use Rattle.std.proofs.Common.{◌≡◌, ℕ, zero, suc, ◌+◌, ◌-◌, ◌<◌, ◌≤◌, ◌⊎◌, inl, inr, Bool, true, false, cond, List, [], ◌∷◌, ◌++◌, map}
+use Rattle.std.proofs.Common.{◌≡◌, ℕ, zero, suc, ◌+◌, ◌-◌, ◌<◌, ◌≤◌, ◌⊎◌, inl, inr, Bool, true, false, cond, List, []}
+use Rattle.std.proofs.Common.{◌∷◌, ◌++◌, map}
 use Rattle.std.proofs.Common.{Some, None, refl, ap, sym, ◌∙◌, ⊎_elim, arith}
 use Rattle.std.specs.Prelude.{filter}
 use Rattle.std.specs.List.{find, range_with_len}
@@ -7,7 +8,8 @@ use Rattle.std.proofs.lemmas.Bool.{cases_lt}
 use Rattle.std.proofs.lemmas.List.Folds.{find-append}
 use Rattle.std.proofs.lemmas.List.Elements.{filter-append}
 use Rattle.std.proofs.lemmas.List.FromFn.{map-range_with_len_more}
-use Rattle.terms.proofs.OptionLemmas.{some_injective, none_some}
+use Rattle.std.proofs.lemmas.Option.{same_Some}
+use Rattle.terms.proofs.OptionLemmas.{none_some}
 use Rattle.terms.proofs.RangeLemmas.{places_more, range_append}
 
 -- ---- the first place that passes
@@ -32,7 +34,7 @@ one_found : (test : ℕ → Bool) (a n place : ℕ) (b : Bool) → test a ≡ b
     → (find test (range_with_len (a + 1) n) ≡ Some place → (test place ≡ true) × (place < a + 1 + n))
     → (test place ≡ true) × (place < a + suc n)
 one_found test a n place true e is later =
-    let same = some_injective a place is in (ap test (sym same) ∙ e, omega (arith, same))
+    let same = same_Some a place is in (ap test (sym same) ∙ e, omega (arith, same))
 one_found test a n place false e is later = let l = later is in (l.0, omega (arith, l.1))
 
 -- what is found passes, and is one of the places
@@ -44,7 +46,8 @@ found_passes test a (suc n) place is =
 
 -- ---- what is made of places, and places that are kept
 
-pub made_more : {X : Type 0} (f : ℕ → X) (n : ℕ) → map f (range_with_len 0 (n + 1)) ≡ map f (range_with_len 0 n) ++ f n ∷ []
+pub made_more : {X : Type 0} (f : ℕ → X) (n : ℕ) → map f (range_with_len 0 (n + 1)) ≡ map f (range_with_len 0 n)
+    ++ f n ∷ []
 made_more f n = map-range_with_len_more f 0 n n (omega arith)
 
 pub kept_more : (test : ℕ → Bool) (n : ℕ)
@@ -59,10 +62,12 @@ IsIn place (other ∷ places) = (other ≡ place) ⊎ IsIn place places
 one_kept : (test : ℕ → Bool) (place other : ℕ) (kept : List ℕ) (b : Bool) → test other ≡ b → test place ≡ true
     → (other ≡ place) ⊎ IsIn place kept → IsIn place (cond b (other ∷ kept) kept)
 one_kept test place other kept true e passes is = is
-one_kept test place other kept false e passes (inl same) = absurd (let f : true ≡ false = sym passes ∙ ap test (sym same) ∙ e in cc)
+one_kept test place other kept false e passes (inl same) = absurd (let f : true ≡ false = sym passes
+    ∙ ap test (sym same) ∙ e in cc)
 one_kept test place other kept false e passes (inr later) = later
 
-later_kept : (place other : ℕ) (places kept : List ℕ) → (IsIn place places → IsIn place kept) → (other ≡ place) ⊎ IsIn place places
+later_kept : (place other : ℕ) (places kept : List ℕ) → (IsIn place places → IsIn place kept) → (other ≡ place)
+    ⊎ IsIn place places
     → (other ≡ place) ⊎ IsIn place kept
 later_kept place other places kept f (inl same) = inl same
 later_kept place other places kept f (inr later) = inr (f later)
@@ -75,7 +80,8 @@ in_kept test place (other ∷ places) passes is =
     (later_kept place other places (filter test places) (in_kept test place places passes) is)
 
 same_or_later : (a place : ℕ) → a ≤ place → (a ≡ place) ⊎ (a + 1 ≤ place)
-same_or_later a place from = ⊎_elim (λ (lt : a < place). inr (omega (arith, lt))) (λ (le : place ≤ a). inl (omega (arith, from, le)))
+same_or_later a place from = ⊎_elim (λ (lt : a < place). inr (omega (arith, lt)))
+    (λ (le : place ≤ a). inl (omega (arith, from, le)))
     (cases_lt a place)
 
 pub in_range : (a n place : ℕ) → a ≤ place → place < a + n → IsIn place (range_with_len a n)

@@ -1,5 +1,6 @@
 -- What is seen of a slot with one stream more, and what it tells.
-use Rattle.std.proofs.Common.{◌≡◌, ℕ, ◌&&◌, not, Bool, true, false, cond, List, [], ◌∷◌, ◌++◌, Option, Some, None, refl, sym, ◌∙◌, ap}
+use Rattle.std.proofs.Common.{◌≡◌, ℕ, ◌&&◌, not, Bool, true, false, cond, List, [], ◌∷◌, ◌++◌, Option, Some, None, refl}
+use Rattle.std.proofs.Common.{sym, ◌∙◌, ap}
 use Rattle.std.specs.List.{list_all}
 use Rattle.std.proofs.lemmas.List.Folds.{list_all-append}
 use Rattle.ts_packet.specs.Null.{is_null}
@@ -21,7 +22,8 @@ equal_more first other true true e = ap (λ (b : Bool). cond b (Equal first) Apa
 equal_more first other true false e = ap (λ (b : Bool). cond b (Equal first) Apart) (sym e)
 equal_more first other false one e = refl
 
-pub seen_more : (slot : List (Option (List ℕ))) (other : Option (List ℕ)) → seen_of (slot ++ other ∷ []) ≡ seen_next (seen_of slot) other
+pub seen_more : (slot : List (Option (List ℕ))) (other : Option (List ℕ))
+    → seen_of (slot ++ other ∷ []) ≡ seen_next (seen_of slot) other
 seen_more [] None = refl
 seen_more [] (Some packet) = refl
 seen_more (None ∷ others) other = refl

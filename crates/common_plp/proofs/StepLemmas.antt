@@ -22,7 +22,8 @@ type_is Type2 e = absurd (let f : false ≡ true = e in cc)
 times_with : Config → ℕ → ℕ → SlotTimes
 times_with c bits spread = record { num = num c; den = bits * subseconds_per_tick c.band; epoch = spread * c.ticks }
 
-times_are : (c : Config) (plp : ℕ) → slot_times c plp ≡ times_with c (plp_at c.plps plp).bits_per_second (spread c.plps plp)
+times_are : (c : Config) (plp : ℕ) → slot_times c plp ≡ times_with c (plp_at c.plps plp).bits_per_second
+    (spread c.plps plp)
 unfolding den times_with
 times_are c plp = refl
 

@@ -37,13 +37,15 @@ made_cut f n m =
     ∙ ap (λ (k : ℕ). take (min n k) (map f (range_with_len 0 m))) (length-map-range_with_len f 0 m)
     ∙ take-map-range_with_len f 0 m (min n m) (omega arith)
 
-pub common_front : (streams : List (List (List ℕ))) (n : ℕ) → take n (common_stream streams) ≡ common_stream (map (take n) streams)
+pub common_front : (streams : List (List (List ℕ))) (n : ℕ) → take n (common_stream streams) ≡ common_stream
+    (map (take n) streams)
 common_front streams n =
     let was : ℕ → List ℕ = λ k. common_packet (slot_of streams k) in
     let is : ℕ → List ℕ = λ k. common_packet (slot_of (map (take n) streams) k) in
     let count : ℕ = min n (longest streams) in
     made_cut was n (longest streams)
-    ∙ map_same was is 0 count (λ k from to. let below : k < n = omega (arith, to) in ap common_packet (sym (slots_cut streams n k below)))
+    ∙ map_same was is 0 count (λ k from to. let below : k < n = omega (arith, to) in ap common_packet
+    (sym (slots_cut streams n k below)))
     ∙ ap (λ (m : ℕ). map is (range_with_len 0 m)) (sym (longest_cut streams n))
 
 pub own_front : (streams : List (List (List ℕ))) (input : List (List ℕ)) (n : ℕ)
@@ -67,10 +69,12 @@ none_shared (stream ∷ streams) k past = rw (slice_get_past stream k (omega (ar
 -- what is made of each slot has null packets behind its end, if what is made there is one
 made_at : (f : ℕ → List ℕ) (m k : ℕ) → (m ≤ k → f k ≡ null_packet) → packet_at (map f (range_with_len 0 m)) k ≡ f k
 made_at f m k past = ⊎_elim (λ (lt : k < m). get_or-map-range_with_len f 0 m k k null_packet lt (omega arith))
-    (λ (le : m ≤ k). get_or-eq_default (map f (range_with_len 0 m)) null_packet (omega (arith, le, length-map-range_with_len f 0 m))
+    (λ (le : m ≤ k). get_or-eq_default (map f (range_with_len 0 m)) null_packet
+    (omega (arith, le, length-map-range_with_len f 0 m))
     ∙ sym (past le)) (cases_lt k m)
 
-pub common_at : (streams : List (List (List ℕ))) (k : ℕ) → packet_at (common_stream streams) k ≡ common_packet (slot_of streams k)
+pub common_at : (streams : List (List (List ℕ))) (k : ℕ) → packet_at (common_stream streams) k ≡ common_packet
+    (slot_of streams k)
 common_at streams k =
     made_at (λ k. common_packet (slot_of streams k)) (longest streams) k (λ past. rw (none_shared streams k past) refl)
 

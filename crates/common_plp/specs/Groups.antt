@@ -1,4 +1,5 @@
--- The groups of a network (EN 302 755, clauses 4.2 and 7.2.3.1): what the PLPs of one group have in common goes in its common PLP.
+-- The groups of a network (EN 302 755, clauses 4.2 and 7.2.3.1): what the PLPs of one group have in common goes in its
+-- common PLP.
 use Rattle.std.specs.Prelude.{ℕ, ◌==◌, ◌&&◌, not, Bool, true, false, List, map, filter, None, if◌then◌else◌}
 use Rattle.std.specs.List.{find}
 use Rattle.std.specs.declared.option.Option.{Option}

@@ -11,7 +11,8 @@ abbrev pub commons : List Plp → ℕ
 commons [] = 0
 commons (p ∷ plps) = if is_common_type p.plp_type then commons plps + 1 else 0
 
--- the PLP of an input: the inputs belong to the PLPs in their order; to those that are not common, if these carry what is shared
+-- the PLP of an input: the inputs belong to the PLPs in their order; to those that are not common, if these carry what
+-- is shared
 abbrev pub place_of : Sharing → Config → ℕ → ℕ
 place_of Apart c input = input
 place_of Joint c input = input + commons c.plps

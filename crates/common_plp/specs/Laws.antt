@@ -1,5 +1,6 @@
 -- Laws of streams with common packets.
-use Rattle.std.specs.Prelude.{◌≡◌, ◌<◌, ℕ, false, List, ◌++◌, length, take, slice_get, slice_index, slice_index_or, is_some, Some, None, if◌then◌else◌}
+use Rattle.std.specs.Prelude.{◌≡◌, ◌<◌, ℕ, false, List, ◌++◌, length, take, slice_get, slice_index, slice_index_or}
+use Rattle.std.specs.Prelude.{is_some, Some, None, if◌then◌else◌}
 use Rattle.plp_config.specs.Plps.{spread}
 use Rattle.plp_config.specs.Rules.{AllRules}
 use Rattle.plp_config.specs.SlotTimes.{slot_times}
@@ -24,22 +25,27 @@ split_packet c inputs plp k =
     else packet_at (inputs plp) k
 
 abbrev pub SplitSlot : Type 0
-SplitSlot = (c : Config) (inputs : ℕ → List (List ℕ)) (plp k : ℕ) → packet_at (split c inputs plp) k ≡ split_packet c inputs plp k
+SplitSlot = (c : Config) (inputs : ℕ → List (List ℕ)) (plp k : ℕ) → packet_at (split c inputs plp) k ≡ split_packet
+    c inputs plp k
 
 -- The stream of a common PLP is as long as the longest one of its group, and any other as its input.
 abbrev pub split_length : Config → (ℕ → List (List ℕ)) → ℕ → ℕ
-split_length c inputs plp = if is_common c plp then longest (group_streams c inputs (group_of c plp)) else length (inputs plp)
+split_length c inputs plp = if is_common c plp then longest (group_streams c inputs (group_of c plp))
+    else length (inputs plp)
 
 abbrev pub SplitLength : Type 0
-SplitLength = (c : Config) (inputs : ℕ → List (List ℕ)) (plp : ℕ) → length (split c inputs plp) ≡ split_length c inputs plp
+SplitLength = (c : Config) (inputs : ℕ → List (List ℕ)) (plp : ℕ) → length (split c inputs plp) ≡ split_length
+    c inputs plp
 
 -- What goes in a PLP and in the common one of its group gives its packets again, and null packets as the canonical one.
 abbrev pub JoinedAgain : Type 0
-JoinedAgain = (c : Config) (inputs : ℕ → List (List ℕ)) (plp common k : ℕ) → plp < length c.plps → common_of c plp ≡ Some common
+JoinedAgain = (c : Config) (inputs : ℕ → List (List ℕ)) (plp common k : ℕ) → plp < length c.plps
+    → common_of c plp ≡ Some common
     → joined_packet (packet_at (split c inputs common) k) (packet_at (split c inputs plp) k)
     ≡ (if is_null (packet_at (inputs plp) k) then null_packet else packet_at (inputs plp) k)
 
--- What is told of the groups of a network: of each PLP, and of the places of inputs, which are those of PLPs that are not common.
+-- What is told of the groups of a network: of each PLP, and of the places of inputs, which are those of PLPs that are
+-- not common.
 pub record IsGrouping (c : Config) (g : Grouping) : Type 0 where
   pub plps : length g.commons ≡ length c.plps
   pub commons : (plp : ℕ) → plp < length c.plps → slice_index_or g.commons plp None ≡ common_of c plp

@@ -1,5 +1,7 @@
--- Packets that all streams of a group share in a slot, and what comes of a slot's packets (EN 302 755, clause 5.2 and annex D).
-use Rattle.std.specs.Prelude.{ℕ, ◌&&◌, not, Bool, false, List, [], ◌∷◌, bytes_eq, is_some, unwrap_or, Some, None, if◌then◌else◌}
+-- Packets that all streams of a group share in a slot, and what comes of a slot's packets (EN 302 755, clause 5.2 and
+-- annex D).
+use Rattle.std.specs.Prelude.{ℕ, ◌&&◌, not, Bool, false, List, [], ◌∷◌, bytes_eq, is_some, unwrap_or, Some, None}
+use Rattle.std.specs.Prelude.{if◌then◌else◌}
 use Rattle.std.specs.List.{list_all}
 use Rattle.std.specs.declared.option.Option.{Option}
 use Rattle.ts_packet.specs.Null.{is_null, null_packet}

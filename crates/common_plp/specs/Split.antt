@@ -1,4 +1,5 @@
--- Streams of packets, of which those that all streams of a group share go once, in its common PLP; and each stream again.
+-- Streams of packets, of which those that all streams of a group share go once, in its common PLP; and each stream
+-- again.
 use Rattle.std.specs.Prelude.{ℕ, max, List, [], ◌∷◌, length, map, slice_get, is_some, if◌then◌else◌}
 use Rattle.std.specs.List.{range_with_len}
 use Rattle.std.specs.declared.option.Option.{Option}
@@ -22,7 +23,8 @@ common_stream streams = map (λ k. common_packet (slot_of streams k)) (range_wit
 
 -- what stays of one of them: null packets where they share one
 abbrev pub own_stream : List (List (List ℕ)) → List (List ℕ) → List (List ℕ)
-own_stream streams input = map (λ k. own_packet (slot_of streams k) (packet_at input k)) (range_with_len 0 (length input))
+own_stream streams input = map (λ k. own_packet (slot_of streams k) (packet_at input k))
+    (range_with_len 0 (length input))
 
 -- the streams of a group, by the inputs of the PLPs that are not common, each at the place of its PLP
 abbrev pub group_streams : Config → (ℕ → List (List ℕ)) → ℕ → List (List (List ℕ))

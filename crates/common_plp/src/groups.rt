@@ -71,7 +71,8 @@ fn commons_of(alloc: Global, config: &Config) -> Result<Vec<Option<usize>>, OutO
 // One PLP more, if it is not common.
 fn add_input(config: &Config, plp: usize, inputs: &mut Vec<usize>) -> Result<(), OutOfMemory>
     requires { plp < length config.now.plps }
-    ensures { OnOk result (inputs.new.items ≡ inputs.old.items ++ (if not (is_common config.now plp) then plp ∷ [] else [])) }
+    ensures { OnOk result (inputs.new.items ≡ inputs.old.items ++ (if not (is_common config.now plp)
+        then plp ∷ [] else [])) }
 {
     if !is_common(config, plp) {
         inputs.push(plp)?;
@@ -144,7 +145,8 @@ impl Groups {
         self.inputs.len()
     }
 
-    /// The PLP of an input, both counted from 0: the inputs belong to the PLPs that are not common, in configuration order.
+    /// The PLP of an input, both counted from 0: the inputs belong to the PLPs that are not common, in configuration
+    /// order.
     #[tactic(auto, using(crate::proofs::GroupLemmas::place_told))]
     pub fn place(&self, input: usize) -> usize
         requires { input < length self.now.inputs }

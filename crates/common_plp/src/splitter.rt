@@ -31,7 +31,8 @@ fn is_equal(packet: &TsPacket, other: Option<&TsPacket>) -> bool
 // What was seen of a slot with one stream more.
 #[tactic(auto, using(crate::proofs::SeenLemmas::seen_more))]
 fn seen_with(seen: &Seen, packet: Option<&TsPacket>) -> Seen
-    ensures { (slot : List (Option (List ℕ))) → seen.now ≡ seen_of slot → result ≡ seen_of (slot ++ option_copied packet.entry ∷ []) }
+    ensures { (slot : List (Option (List ℕ))) → seen.now ≡ seen_of slot
+        → result ≡ seen_of (slot ++ option_copied packet.entry ∷ []) }
 {
     match (seen, packet) {
         (Seen::Nothing, Some(first)) => Seen::Equal(*first),
@@ -50,8 +51,8 @@ fn shared_by(seen: &Seen) -> Option<TsPacket>
     }
 }
 
-/// Tells which packets the streams of a group share, slot by slot: [`see`](Self::see) what each stream has in the slot, then ask
-/// for the [`verdict`](Self::verdict).
+/// Tells which packets the streams of a group share, slot by slot: [`see`](Self::see) what each stream has in the slot,
+/// then ask for the [`verdict`](Self::verdict).
 #[derive(Clone, Copy, Debug)]
 pub struct Splitter {
     seen: Seen,
@@ -80,20 +81,23 @@ impl Splitter {
     /// Sees what one stream has in the slot: a packet, or none behind its end.
     #[tactic(auto, unfolding(crate::specs::StandsFor::SplitterStandsFor))]
     pub fn see(&mut self, packet: Option<&TsPacket>)
-        ensures stands { (slot : List (Option (List ℕ))) (shared : Option (List ℕ)) → SplitterStandsFor self.old slot shared
+        ensures stands { (slot : List (Option (List ℕ))) (shared : Option (List ℕ))
+            → SplitterStandsFor self.old slot shared
             → SplitterStandsFor self.new (slot ++ option_copied packet.entry ∷ []) shared }
         ensures shared { shared_of self.new ≡ shared_of self.old }
     {
         self.seen = seen_with(&self.seen, packet);
     }
 
-    /// Ends the slot: whether the streams that were seen share a packet in it. There is one at least, all have a packet, all these
-    /// are equal, and they are not null.
+    /// Ends the slot: whether the streams that were seen share a packet in it. There is one at least, all have a
+    /// packet, all these are equal, and they are not null.
     #[tactic(auto, unfolding(crate::specs::StandsFor::SplitterStandsFor), using(crate::proofs::SeenLemmas::shared_seen))]
     pub fn verdict(&mut self) -> bool
-        ensures answer { (slot : List (Option (List ℕ))) (shared : Option (List ℕ)) → SplitterStandsFor self.old slot shared
+        ensures answer { (slot : List (Option (List ℕ))) (shared : Option (List ℕ))
+            → SplitterStandsFor self.old slot shared
             → result ≡ is_shared slot }
-        ensures stands { (slot : List (Option (List ℕ))) (shared : Option (List ℕ)) → SplitterStandsFor self.old slot shared
+        ensures stands { (slot : List (Option (List ℕ))) (shared : Option (List ℕ))
+            → SplitterStandsFor self.old slot shared
             → SplitterStandsFor self.new [] (shared_packet slot) }
         ensures shared { result ≡ is_some (shared_of self.new) }
     {
@@ -107,7 +111,8 @@ impl Splitter {
     pub fn shared(&self) -> &TsPacket
         requires { is_some (shared_of self.now) ≡ true }
         ensures packet { shared_of self.now ≡ Some result.now }
-        ensures answer { (slot : List (Option (List ℕ))) (shared : Option (List ℕ)) → SplitterStandsFor self.now slot shared
+        ensures answer { (slot : List (Option (List ℕ))) (shared : Option (List ℕ))
+            → SplitterStandsFor self.now slot shared
             → shared ≡ Some result.now }
     {
         self.shared.as_ref().unwrap()

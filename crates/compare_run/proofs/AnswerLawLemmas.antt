@@ -1,6 +1,7 @@
 -- No frame differs of two streams that are honest damage of one run.
 use Rattle.std.proofs.Common.{◌≡◌, ℕ, zero, suc, ◌+◌, ◌-◌, ◌%◌, ◌<◌, ◌≤◌, ◌==◌, ◌&&◌, max, Bool, true, false}
-use Rattle.std.proofs.Common.{List, [], ◌∷◌, map, length, find, Option, Some, None, refl, ap, ap₂, sym, ◌∙◌, ⊎_elim, arith}
+use Rattle.std.proofs.Common.{List, [], ◌∷◌, map, length, find, Option, Some, None, refl, ap, ap₂, sym, ◌∙◌, ⊎_elim}
+use Rattle.std.proofs.Common.{arith}
 use Rattle.std.specs.Prelude.{option_map, option_to_list, if◌then◌else◌}
 use Rattle.std.specs.List.{filter, flat_map, items_where_true, range_with_len}
 use Rattle.std.specs.Option.{option_or}
@@ -65,7 +66,8 @@ module _ (c : Config) (sent : List Sent) (survival : List Bool) (m : ℕ) where
   whole_content false n g e =
       absurd (let z : Muted (loss_of (frame_packets n (items_where_true survival sent))) ≡ Whole g = e in cc)
 
-  in_range : (len a : ℕ) (x : FrameRecord) (g : Group) → record_at m (map one (range_with_len a len)) ≡ Some x → x.content ≡ Whole g
+  in_range : (len a : ℕ) (x : FrameRecord) (g : Group) → record_at m (map one (range_with_len a len)) ≡ Some x
+      → x.content ≡ Whole g
       → (a ≤ m) × (m < a + len) × (whole m ≡ true)
   in_range zero a x g e is = absurd (let z : ◌≡◌ {A = Option FrameRecord} None (Some x) = e in cc)
   in_range (suc len) a x g e is = ⊎_elim
@@ -73,7 +75,8 @@ module _ (c : Config) (sent : List Sent) (survival : List Bool) (m : ℕ) where
       let own : a ≡ m = eqb-true a m t in
       let same : one a ≡ x =
       same_Some (one a) x
-      (sym (cond-true {A = Option FrameRecord} (a == m) (Some (one a)) (record_at m (map one (range_with_len (a + 1) len))) t) ∙ e) in (
+      (sym (cond-true {A = Option FrameRecord} (a == m) (Some (one a))
+      (record_at m (map one (range_with_len (a + 1) len))) t) ∙ e) in (
         omega (arith, own),
         omega (arith, own),
         sym (ap whole own) ∙ whole_content (whole a) a g (ap (λ (y : FrameRecord). y.content) same ∙ is),
@@ -81,7 +84,8 @@ module _ (c : Config) (sent : List Sent) (survival : List Bool) (m : ℕ) where
       (λ (t : (a == m) ≡ false).
       let later =
       in_range len (a + 1) x g
-      (sym (cond-false {A = Option FrameRecord} (a == m) (Some (one a)) (record_at m (map one (range_with_len (a + 1) len))) t) ∙ e) is in
+      (sym (cond-false {A = Option FrameRecord} (a == m) (Some (one a))
+      (record_at m (map one (range_with_len (a + 1) len))) t) ∙ e) is in
       let low = later.0 in
       let high = later.1 in
       (omega (arith, low), omega (arith, high), later.2))
@@ -105,12 +109,19 @@ module _ (c : Config) (sent : List Sent) (survival : List Bool) (m : ℕ) where
       let there = in_range (end - first) first x g e is in
       let low = there.0 in
       let high = there.1 in
-      record { first = first; found = is_found joins 0 end first found; low = low; high = omega (arith, low, high); whole-is = there.2 }
+      record {
+        first = first;
+        found = is_found joins 0 end first found;
+        low = low;
+        high = omega (arith, low, high);
+        whole-is = there.2;
+      }
 
   abbrev last : ℕ
   last = end_of (items_where_true survival sent)
 
-  is_behind : (x : FrameRecord) (g : Group) → record_at m (survivor_records c sent survival) ≡ Some x → x.content ≡ Whole g
+  is_behind : (x : FrameRecord) (g : Group) → record_at m (survivor_records c sent survival) ≡ Some x
+      → x.content ≡ Whole g
       → IsBehind last
   is_behind x g e is = behind last x g (find joins (range_with_len 0 last)) refl e is
 
@@ -120,12 +131,15 @@ module _ (c : Config) (sent : List Sent) (survival : List Bool) (m : ℕ) where
 record AreThere (c : Config) (sent : List Sent) (m : ℕ) (gs : List Numbered) : Type 0 where
   pub own : packets_at gs m ≡ frame_packets m sent
   pub blocks : (plp : ℕ) → plp < length c.plps
-      → right_blocks c plp (packets_at gs (begin_of c plp m)) ≡ right_blocks c plp (frame_packets (begin_of c plp m) sent)
+      → right_blocks c plp (packets_at gs (begin_of c plp m)) ≡ right_blocks c plp
+      (frame_packets (begin_of c plp m) sent)
 
-are_there : WholeIsAll → SuperframeBegins → BeginIsLast → (c : Config) (sent : List Sent) (survival : List Bool) (count first m : ℕ)
+are_there : WholeIsAll → SuperframeBegins → BeginIsLast → (c : Config) (sent : List Sent) (survival : List Bool)
+    (count first m : ℕ)
     (gs : List Numbered) → AllRules c → length survival ≡ length sent → first % c.frames ≡ 0 → first ≤ m → m < count
     → is_whole c sent survival m ≡ true
-    → ((b : ℕ) → first ≤ b → b < count → packets_at gs b ≡ frame_packets b (items_where_true survival sent)) → AreThere c sent m gs
+    → ((b : ℕ) → first ≤ b → b < count → packets_at gs b ≡ frame_packets b (items_where_true survival sent))
+    → AreThere c sent m gs
 are_there all superframe latest c sent survival count first m gs holds len begins low high w there = record {
   own = there m low high ∙ own_survive all c sent survival m len w;
   blocks = λ plp inside.
@@ -148,7 +162,8 @@ pub record Known : Type 0 where
   pub records : HonestRecords
 
 -- so it is in an honest stream
-stream_there : Known → (c : Config) (inputs : ℕ → List (List ℕ)) (n from : ℕ) (fates : List Fate) → IsPlan c → TypesFit c
+stream_there : Known → (c : Config) (inputs : ℕ → List (List ℕ)) (n from : ℕ) (fates : List Fate) → IsPlan c
+    → TypesFit c
     → n ≤ MOST_FRAMES → Honest (frames_stream c inputs n) from fates → (m : ℕ) (x : FrameRecord) (g : Group)
     → record_at m (records_of c (stream_bytes (frames_stream c inputs n) from fates)) ≡ Some x → x.content ≡ Whole g
     → AreThere c (sent_frames c inputs n) m (groups_of c (stream_bytes (frames_stream c inputs n) from fates))
@@ -172,7 +187,8 @@ stream_there known c inputs n from fates plan types few honest m x g e is =
     past_numbered (rules c) [] came in
     let begins = eqb-true (first % c.frames) 0
     (and_parts (is_whole c s.sent survival first) (first % c.frames == 0) behind.found.passes).1 in
-    are_there known.all known.superframe known.latest c s.sent survival n first m (groups_of c (stream_bytes s from fates)) plan.rules len
+    are_there known.all known.superframe known.latest c s.sent survival n first m
+    (groups_of c (stream_bytes s from fates)) plan.rules len
     begins behind.low (omega (arith, high, most)) behind.whole-is
     (λ b low below.
     ap (λ (gs : List Numbered). packets_at gs b)
@@ -199,12 +215,14 @@ module _ (c : Config) (sent : List Sent) (m : ℕ) (ga gb : List Numbered) where
   none_at None None a b = refl
   none_at (Some x) None a b = one x.content
     where
-      one : (s : Content) → find differs (option_to_list (answered_by c m ga gb (Some (record { number = m; content = s })) None)) ≡ None
+      one : (s : Content) → find differs
+          (option_to_list (answered_by c m ga gb (Some (record { number = m; content = s })) None)) ≡ None
       one (Whole g) = refl
       one (Muted cause) = refl
   none_at None (Some y) a b = one y.content
     where
-      one : (s : Content) → find differs (option_to_list (answered_by c m ga gb None (Some (record { number = m; content = s })))) ≡ None
+      one : (s : Content) → find differs
+          (option_to_list (answered_by c m ga gb None (Some (record { number = m; content = s })))) ≡ None
       one (Whole g) = refl
       one (Muted cause) = refl
   none_at (Some x) (Some y) a b = both x.content y.content refl refl
@@ -235,7 +253,8 @@ none_differs known c inputs n from later fates others plan types few honest also
     let b : List ℕ = stream_bytes s later others in
     ap (option_map (λ (x : Answered). x.frame))
     (none_in (listed c (groups_of c a) (groups_of c b) (records_of c a) (records_of c b))
-    (λ k. none_at c s.sent k (groups_of c a) (groups_of c b) (record_at k (records_of c a)) (record_at k (records_of c b))
+    (λ k. none_at c s.sent k (groups_of c a) (groups_of c b) (record_at k (records_of c a))
+    (record_at k (records_of c b))
     (λ x g e is. stream_there known c inputs n from fates plan types few honest k x g e is)
     (λ x g e is. stream_there known c inputs n later others plan types few also k x g e is))
     0 (max (above_all (records_of c a)) (above_all (records_of c b))))

@@ -1,14 +1,19 @@
 -- Runs of frames, one frame more.
-use Rattle.std.proofs.Common.{◌≡◌, ℕ, ◌+◌, ◌==◌, ◌&&◌, Bool, true, false, cond, List, [], ◌∷◌, ◌++◌, length, filter, find}
+use Rattle.std.proofs.Common.{◌≡◌, ℕ, ◌+◌, ◌==◌, ◌&&◌, Bool, true, false, cond, List, [], ◌∷◌, ◌++◌, length, filter}
+use Rattle.std.proofs.Common.{find}
 use Rattle.std.proofs.Common.{Option, Some, None, refl, ap, sym, ◌∙◌, arith, length-append, eqb-true}
 use Rattle.std.specs.Prelude.{nat_lt, option_map, option_to_list}
 use Rattle.std.specs.Option.{option_or}
 use Rattle.std.proofs.lemmas.Bool.{true≢false, and_parts, ltb-true, ne_eqb}
 use Rattle.std.proofs.lemmas.List.Elements.{filter-append}
 use Rattle.std.proofs.lemmas.List.Folds.{find-append}
+use Rattle.std.proofs.lemmas.Option.{same_Some}
+use Rattle.terms.proofs.OptionLemmas.{none_some}
 use Rattle.compare_run.specs.Comparing.{Answered}
-use Rattle.compare_run.specs.Runs.{kind, is_differing, is_same, is_one, single, in_front, runs_of, known, open_run, goes_on, longer_by}
-use Rattle.compare_run.specs.Runs.{single_open, next_open, single_known, told_by, first_differing, counts_of, counted, one_if}
+use Rattle.compare_run.specs.Runs.{kind, is_differing, is_same, is_one, single, in_front, runs_of, known, open_run}
+use Rattle.compare_run.specs.Runs.{goes_on, longer_by}
+use Rattle.compare_run.specs.Runs.{single_open, next_open, single_known, told_by, first_differing, counts_of, counted}
+use Rattle.compare_run.specs.Runs.{one_if}
 use Rattle.compare_run.specs.declared.answer.Answer.{Answer}
 use Rattle.compare_run.specs.declared.counts.Counts.{Counts}
 use Rattle.compare_run.specs.declared.answer_run.Run.{Run}
@@ -27,6 +32,10 @@ one_alike : (a b : Answer) → is_one a b ≡ true → is_differing a ≡ false
 one_alike a b e =
     let low = ltb-true (kind a) 6 (and_parts (kind a == kind b) (nat_lt (kind a) 6) e).1 in
     ne_eqb (kind a) 6 (λ is. absurd (omega (arith, is, low)))
+
+-- nor does the other
+pub other_alike : (a b : Answer) → is_one a b ≡ true → is_differing b ≡ false
+other_alike a b e = ap (λ (k : ℕ). k == 6) (sym (one_kind a b e)) ∙ one_alike a b e
 
 -- ---- a frame behind runs
 
@@ -92,7 +101,8 @@ known_by d r = cond d (r ∷ []) []
 abbrev open_by : Bool → Run → Option Run
 open_by d r = cond d None (Some r)
 
-known_more : (r s : Run) (runs : List Run) (x : Answered) → known (r ∷ push (s ∷ runs) x) ≡ r ∷ known (push (s ∷ runs) x)
+known_more : (r s : Run) (runs : List Run) (x : Answered) → known (r ∷ push (s ∷ runs) x) ≡ r ∷ known
+    (push (s ∷ runs) x)
 unfolding push
 known_more r s [] x = go (goes_on s x)
   where
@@ -101,7 +111,8 @@ known_more r s [] x = go (goes_on s x)
     go false = refl
 known_more r s (t ∷ runs) x = refl
 
-open_more : (r s : Run) (runs : List Run) (x : Answered) → open_run (r ∷ push (s ∷ runs) x) ≡ open_run (push (s ∷ runs) x)
+open_more : (r s : Run) (runs : List Run) (x : Answered) → open_run (r ∷ push (s ∷ runs) x) ≡ open_run
+    (push (s ∷ runs) x)
 unfolding push
 open_more r s [] x = go (goes_on s x)
   where
@@ -129,7 +140,8 @@ unfolding push
 open_push [] x = refl
 open_push (r ∷ []) x = go (goes_on r x) (is_differing r.answer) refl refl
   where
-    go : (g d : Bool) → goes_on r x ≡ g → is_differing r.answer ≡ d → open_run (push_by g r x) ≡ next_open (open_by d r) x
+    go : (g d : Bool) → goes_on r x ≡ g → is_differing r.answer ≡ d
+        → open_run (push_by g r x) ≡ next_open (open_by d r) x
     go true true a b = absurd (true≢false (sym b ∙ goes_alike r x a))
     go true false a b =
         ap (λ (t : Bool). open_by t (longer_by r x)) b
@@ -138,10 +150,22 @@ open_push (r ∷ []) x = go (goes_on r x) (is_differing r.answer) refl refl
     go false false a b = sym (ap (λ (t : Bool). cond t (Some (longer_by r x)) (single_open x)) a)
 open_push (r ∷ s ∷ runs) x = open_more r s runs x ∙ open_push (s ∷ runs) x
 
-pub known_behind : (xs : List Answered) (x : Answered) → known (runs_of (xs ++ x ∷ [])) ≡ known (runs_of xs) ++ told_by (open_run (runs_of xs)) x
+-- one that may go on does not differ
+pub open_alike : (runs : List Run) (r : Run) → open_run runs ≡ Some r → is_differing r.answer ≡ false
+open_alike [] r e = none_some r e
+open_alike (s ∷ []) r e = go (is_differing s.answer) refl e
+  where
+    go : (d : Bool) → is_differing s.answer ≡ d → open_by d s ≡ Some r → is_differing r.answer ≡ false
+    go true off e = none_some r e
+    go false off e = ap (λ (t : Run). is_differing t.answer) (sym (same_Some s r e)) ∙ off
+open_alike (s ∷ t ∷ runs) r e = open_alike (t ∷ runs) r e
+
+pub known_behind : (xs : List Answered) (x : Answered) → known (runs_of (xs ++ x ∷ [])) ≡ known (runs_of xs)
+    ++ told_by (open_run (runs_of xs)) x
 known_behind xs x = ap known (runs_push xs x) ∙ known_push (runs_of xs) x
 
-pub open_behind : (xs : List Answered) (x : Answered) → open_run (runs_of (xs ++ x ∷ [])) ≡ next_open (open_run (runs_of xs)) x
+pub open_behind : (xs : List Answered) (x : Answered) → open_run (runs_of (xs ++ x ∷ [])) ≡ next_open
+    (open_run (runs_of xs)) x
 open_behind xs x = ap open_run (runs_push xs x) ∙ open_push (runs_of xs) x
 
 -- so all are told at the end
@@ -156,7 +180,8 @@ all_told (r ∷ s ∷ runs) = ap (λ (l : List Run). r ∷ l) (all_told (s ∷ r
 
 -- ---- numbers
 
-one_more : {X : Type 0} (p : X → Bool) (xs : List X) (x : X) → length (filter p (xs ++ x ∷ [])) ≡ length (filter p xs) + one_if (p x)
+one_more : {X : Type 0} (p : X → Bool) (xs : List X) (x : X) → length (filter p (xs ++ x ∷ [])) ≡ length
+    (filter p xs) + one_if (p x)
 one_more p xs x =
     ap length (filter-append p xs (x ∷ [])) ∙ length-append (filter p xs) (filter p (x ∷ []))
     ∙ ap (λ (n : ℕ). length (filter p xs) + n) (go (p x))

@@ -5,8 +5,10 @@ use Rattle.std.specs.Prelude.{◌↔◌, IsTrue, bytes_eq, if◌then◌else◌}
 use Rattle.std.proofs.lemmas.Bool.{true≢false, false_from_ne_true}
 use Rattle.std.proofs.lemmas.List.{length-append}
 use Rattle.std.proofs.lemmas.Slice.Eq.{slice_eq-Decides, bytes_eq-Decides}
+use Rattle.terms.proofs.OptionLemmas.{none_some}
 use Rattle.linked_pool.specs.Pool.{chunk_len}
-use Rattle.compare_run.specs.Comparing.{same_bit, same_bits, first_other}
+use Rattle.compare_run.specs.Comparing.{same_bit, same_bits, first_other, other_by, one_later}
+use Rattle.compare_run.specs.declared.answer.Other.{Other}
 
 bit_true : (a b : Bool) → same_bit a b ≡ true → a ≡ b
 bit_true true b e = sym e
@@ -25,7 +27,8 @@ bits_told r a b h = go (same_bits a b) refl
     go : (s : Bool) → same_bits a b ≡ s → r ≡ s
     go true e = h.1 ((slice_eq-Decides (λ x y. (bit_true x y, bit_same x y)) a b (same_bits a b) refl).0 e)
     go false e = false_from_ne_true r
-        (λ t. true≢false (sym ((slice_eq-Decides (λ x y. (bit_true x y, bit_same x y)) a b (same_bits a b) refl).1 (h.0 t)) ∙ e))
+        (λ t. true≢false (sym ((slice_eq-Decides (λ x y. (bit_true x y, bit_same x y)) a b (same_bits a b) refl).1
+        (h.0 t)) ∙ e))
 
 pub bits_equal : (a b : List Bool) → same_bits a b ≡ true → a ≡ b
 bits_equal a b e = (slice_eq-Decides (λ x y. (bit_true x y, bit_same x y)) a b (same_bits a b) refl).0 e
@@ -35,7 +38,8 @@ bits_same a b e = (slice_eq-Decides (λ x y. (bit_true x y, bit_same x y)) a b (
 
 -- ---- piece by piece
 
-fronts_same : (p q xs ys : List ℕ) → length p ≡ length q → bytes_eq (p ++ xs) (q ++ ys) ≡ (bytes_eq p q && bytes_eq xs ys)
+fronts_same : (p q xs ys : List ℕ) → length p ≡ length q
+    → bytes_eq (p ++ xs) (q ++ ys) ≡ (bytes_eq p q && bytes_eq xs ys)
 fronts_same [] [] xs ys l = refl
 fronts_same [] (y ∷ q) xs ys l = absurd (omega (arith, l))
 fronts_same (x ∷ p) [] xs ys l = absurd (omega (arith, l))
@@ -48,7 +52,8 @@ fronts_same (x ∷ p) (y ∷ q) xs ys l =
     go false = refl
 
 -- two strings of one length are the same if their first pieces are, and what is left
-pub pieces_same : (a b left right p q xs ys : List ℕ) → length left ≡ length right → bytes_eq a b ≡ bytes_eq left right → left ≡ p ++ xs
+pub pieces_same : (a b left right p q xs ys : List ℕ) → length left ≡ length right → bytes_eq a b ≡ bytes_eq left right
+    → left ≡ p ++ xs
     → right ≡ q ++ ys → length p ≡ min (length left) chunk_len → length q ≡ min (length right) chunk_len
     → (length xs ≡ length ys) × (bytes_eq a b ≡ (bytes_eq p q && bytes_eq xs ys))
 pieces_same a b left right p q xs ys size same e f m n =
@@ -69,17 +74,17 @@ not_true false e = e
 
 -- ---- one block more that is the same
 
-abbrev pub shifted : ℕ → Option ℕ → Option ℕ
+abbrev pub shifted : ℕ → Option Other → Option Other
 shifted k None = None
-shifted k (Some j) = Some (k + j)
+shifted k (Some o) = Some (other_by (k + o.number) o.is_end)
 
 -- The first k are the same, and these are left.
 abbrev pub AreSame : List (List ℕ) → List (List ℕ) → ℕ → List (List ℕ) → List (List ℕ) → Type 0
 AreSame a b k xs ys = first_other a b ≡ shifted k (first_other xs ys)
 
 -- what two blocks and what follows them make of the first that differs
-abbrev by_front : Bool → Option ℕ → Option ℕ
-by_front same rest = if same then option_map (λ j. j + 1) rest else Some 0
+abbrev pub by_front : Bool → Option Other → Option Other
+by_front same rest = if same then option_map one_later rest else Some (other_by 0 false)
 
 pub none_left : {X : Type 0} (xs : List X) → length xs ≡ 0 → xs ≡ []
 none_left [] e = refl
@@ -97,12 +102,12 @@ other_none (x ∷ a) = ap₂ by_front ((bytes_eq-Decides x x).1 refl) (other_non
 
 pub none_other : (a b : List (List ℕ)) → first_other a b ≡ None → a ≡ b
 none_other [] [] e = refl
-none_other [] (y ∷ b) e = absurd (let z : ◌≡◌ {A = Option ℕ} (Some 0) None = e in cc)
-none_other (x ∷ a) [] e = absurd (let z : ◌≡◌ {A = Option ℕ} (Some 0) None = e in cc)
+none_other [] (y ∷ b) e = none_some (other_by 0 true) (sym e)
+none_other (x ∷ a) [] e = none_some (other_by 0 true) (sym e)
 none_other (x ∷ a) (y ∷ b) e = go (bytes_eq x y) (first_other a b) refl refl e (none_other a b)
   where
-    go : (t : Bool) (o : Option ℕ) → bytes_eq x y ≡ t → first_other a b ≡ o → by_front t o ≡ None
+    go : (t : Bool) (o : Option Other) → bytes_eq x y ≡ t → first_other a b ≡ o → by_front t o ≡ None
         → (first_other a b ≡ None → a ≡ b) → x ∷ a ≡ y ∷ b
     go true None t o e rest = ap₂ (λ (z : List ℕ) (l : List (List ℕ)). z ∷ l) ((bytes_eq-Decides x y).0 t) (rest o)
-    go true (Some k) t o e rest = absurd (let z : ◌≡◌ {A = Option ℕ} (Some (k + 1)) None = e in cc)
-    go false s t o e rest = absurd (let z : ◌≡◌ {A = Option ℕ} (Some 0) None = e in cc)
+    go true (Some k) t o e rest = none_some (one_later k) (sym e)
+    go false s t o e rest = none_some (other_by 0 false) (sym e)

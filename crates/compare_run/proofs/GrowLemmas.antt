@@ -27,13 +27,14 @@ none_found n m (x ∷ records) h l =
     rw (ne_eqb x.number m (λ e. absurd (omega (arith, e, below, l)))) (none_found n m records h.1 l)
 
 -- nor have those of one number another
-none_of : (n m : ℕ) (xs : List FrameRecord) → AreOf n xs → m < n → record_at m xs ≡ None
+pub none_of : (n m : ℕ) (xs : List FrameRecord) → AreOf n xs → m < n → record_at m xs ≡ None
 none_of n m [] h l = refl
 none_of n m (x ∷ []) h l = rw (ne_eqb x.number m (λ e. absurd (omega (arith, e, h, l)))) refl
 none_of n m (x ∷ y ∷ xs) h l = absurd h
 
 -- behind others
-pub at_front : (m : ℕ) (records more : List FrameRecord) → record_at m more ≡ None → record_at m (records ++ more) ≡ record_at m records
+pub at_front : (m : ℕ) (records more : List FrameRecord) → record_at m more ≡ None
+    → record_at m (records ++ more) ≡ record_at m records
 at_front m records more none =
     find-append (has_number m) records more ∙ ap (option_or (record_at m records)) none ∙ or_none (record_at m records)
 
@@ -54,20 +55,31 @@ module _ (c : Config) (ga gb : List Numbered) where
   abbrev pub listed : List FrameRecord → List FrameRecord → ℕ → List Answered
   listed ra rb n = option_to_list (answered_at c (frames_by ra ga) (frames_by rb gb) n)
 
-  abbrev below : List FrameRecord → List FrameRecord → ℕ → List Answered
+  abbrev pub below : List FrameRecord → List FrameRecord → ℕ → List Answered
   below ra rb end = answers_below c (frames_by ra ga) (frames_by rb gb) end
 
   -- what is said of a number depends on its records
-  pub listed_same : (n : ℕ) (ra rb sa sb : List FrameRecord) → record_at n ra ≡ record_at n sa → record_at n rb ≡ record_at n sb
+  pub listed_same : (n : ℕ) (ra rb sa sb : List FrameRecord) → record_at n ra ≡ record_at n sa
+      → record_at n rb ≡ record_at n sb
       → listed ra rb n ≡ listed sa sb n
   listed_same n ra rb sa sb a b = ap₂ (λ (o p : Option FrameRecord). option_to_list (answered_by c n ga gb o p)) a b
 
   listed_none : (ra rb : List FrameRecord) (n m : ℕ) → AllBelow n ra → AllBelow n rb → n ≤ m → listed ra rb m ≡ []
   listed_none ra rb n m a b l =
-      ap₂ (λ (o p : Option FrameRecord). option_to_list (answered_by c m ga gb o p)) (none_found n m ra a l) (none_found n m rb b l)
+      ap₂ (λ (o p : Option FrameRecord). option_to_list (answered_by c m ga gb o p)) (none_found n m ra a l)
+      (none_found n m rb b l)
+
+  -- the frames below a number, with records behind those that have none of them
+  pub before_more : (ra rb xs ys : List FrameRecord) (n : ℕ) → ((m : ℕ) → m < n → record_at m xs ≡ None)
+      → ((m : ℕ) → m < n → record_at m ys ≡ None) → below (ra ++ xs) (rb ++ ys) n ≡ below ra rb n
+  before_more ra rb xs ys n a b =
+      flat_same (listed (ra ++ xs) (rb ++ ys)) (listed ra rb) 0 n
+      (λ k le lt. listed_same k (ra ++ xs) (rb ++ ys) ra rb (at_front k ra xs (a k (omega (arith, lt))))
+      (at_front k rb ys (b k (omega (arith, lt)))))
 
   -- the frames below a number that is above all, or below another such
-  longer : (ra rb : List FrameRecord) (n more : ℕ) → AllBelow n ra → AllBelow n rb → below ra rb (n + more) ≡ below ra rb n
+  longer : (ra rb : List FrameRecord) (n more : ℕ) → AllBelow n ra → AllBelow n rb
+      → below ra rb (n + more) ≡ below ra rb n
   longer ra rb n more a b =
       ap (flat_map (listed ra rb)) (range_append 0 n more)
       ∙ flat_map-append (listed ra rb) (range_with_len 0 n) (range_with_len (0 + n) more)
@@ -95,9 +107,7 @@ answers_grow c ga gb ra rb xs ys n a b x y =
     ∙ ap (flat_map (listed c ga gb (ra ++ xs) (rb ++ ys))) (places_more n)
     ∙ flat_map-append (listed c ga gb (ra ++ xs) (rb ++ ys)) (range_with_len 0 n) (n ∷ [])
     ∙ ap₂ (λ (p q : List Answered). p ++ q)
-    (flat_same (listed c ga gb (ra ++ xs) (rb ++ ys)) (listed c ga gb ra rb) 0 n
-    (λ k le lt. listed_same c ga gb k (ra ++ xs) (rb ++ ys) ra rb (at_front k ra xs (none_of n k xs x (omega (arith, lt))))
-    (at_front k rb ys (none_of n k ys y (omega (arith, lt)))))
+    (before_more c ga gb ra rb xs ys n (λ k lt. none_of n k xs x lt) (λ k lt. none_of n k ys y lt)
     ∙ sym (all_below c ga gb ra rb n a b))
     (append-nil (listed c ga gb (ra ++ xs) (rb ++ ys) n)
     ∙ listed_same c ga gb n (ra ++ xs) (rb ++ ys) xs ys (at_back n ra xs a) (at_back n rb ys b))

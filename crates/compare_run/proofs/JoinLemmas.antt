@@ -1,8 +1,10 @@
--- The first whole frame that begins a superframe is the join, and the groups from there on have the numbers of their frames.
+-- The first whole frame that begins a superframe is the join, and the groups from there on have the numbers of their
+-- frames.
 use Rattle.std.proofs.Common.{◌≡◌, ◌≢◌, ℕ, zero, suc, ◌+◌, ◌%◌, ◌<◌, ◌≤◌, ◌==◌, ◌&&◌, Bool, true, false, List, []}
 use Rattle.std.proofs.Common.{find, length, Option, Some, None, refl, ap, sym, ◌∙◌, ⊎_elim, arith}
 use Rattle.std.specs.List.{items_where_true, range_with_len}
-use Rattle.std.proofs.lemmas.Bool.{cases_eq, cases_Bool, cond_both, cond-true, cond-false, and_parts, and_cases, eqb-true}
+use Rattle.std.proofs.lemmas.Bool.{cases_eq, cases_Bool, cond_both, cond-true, cond-false, and_parts, and_cases}
+use Rattle.std.proofs.lemmas.Bool.{eqb-true}
 use Rattle.std.proofs.lemmas.Option.{same_Some}
 use Rattle.plp_config.specs.declared.config.Config.{Config}
 use Rattle.t2mi_packet.specs.declared.packet.Packet.{Packet}
@@ -28,7 +30,8 @@ pub is_found : (test : ℕ → Bool) (a len k : ℕ) → find test (range_with_l
 is_found test a zero k e = absurd (let z : ◌≡◌ {A = Option ℕ} None (Some k) = e in cc)
 is_found test a (suc len) k e = ⊎_elim
     (λ (t : test a ≡ true).
-    let same : a ≡ k = same_Some a k (sym (cond-true (test a) (Some a) (find test (range_with_len (a + 1) len)) t) ∙ e) in
+    let same : a ≡ k = same_Some a k (sym (cond-true (test a) (Some a) (find test (range_with_len (a + 1) len)) t)
+    ∙ e) in
     record {
       passes = sym (ap test same) ∙ t;
       low = omega (arith, same);
@@ -36,7 +39,8 @@ is_found test a (suc len) k e = ⊎_elim
       before = λ j low high. absurd (omega (arith, low, high, same));
     })
     (λ (t : test a ≡ false).
-    let later = is_found test (a + 1) len k (sym (cond-false (test a) (Some a) (find test (range_with_len (a + 1) len)) t) ∙ e) in
+    let later = is_found test (a + 1) len k (sym (cond-false (test a) (Some a) (find test (range_with_len (a + 1) len))
+    t) ∙ e) in
     let low = later.low in
     let high = later.high in
     record {
@@ -51,12 +55,14 @@ is_found test a (suc len) k e = ⊎_elim
 -- ---- the join
 
 -- all of it survives, if the frame is whole
-pub own_survive : WholeIsAll → (c : Config) (sent : List Sent) (survival : List Bool) (n : ℕ) → length survival ≡ length sent
+pub own_survive : WholeIsAll → (c : Config) (sent : List Sent) (survival : List Bool) (n : ℕ)
+    → length survival ≡ length sent
     → is_whole c sent survival n ≡ true → frame_packets n (items_where_true survival sent) ≡ frame_packets n sent
 own_survive all c sent survival n len w =
     ap packets_of (all c sent survival n (λ s. s.frame == n) len w (own_carried c n))
 
-module _ (all : WholeIsAll) (c : Config) (count : ℕ) (sent : List Sent) (survival : List Bool) (len : length survival ≡ length sent)
+module _ (all : WholeIsAll) (c : Config) (count : ℕ) (sent : List Sent) (survival : List Bool)
+    (len : length survival ≡ length sent)
     (some : (n : ℕ) → n < count → frame_packets n sent ≢ []) (meet : RulesMeet (rules c) count sent survival) where
   abbrev left : List Sent
   left = items_where_true survival sent
@@ -78,13 +84,15 @@ module _ (all : WholeIsAll) (c : Config) (count : ℕ) (sent : List Sent) (survi
       let parts = and_parts (whole n) (n % c.frames == 0) t in
       let begins : n % c.frames ≡ 0 = eqb-true (n % c.frames) 0 parts.1 in
       let g : Group = frame_group c.frames sent n in
-      let same : left_group n ≡ g = ap (λ (ps : List Packet). group_of n ps) (own_survive all c sent survival n len parts.0) in
+      let same : left_group n ≡ g = ap (λ (ps : List Packet). group_of n ps)
+      (own_survive all c sent survival n len parts.0) in
       cond-true (n % c.frames == 0) (passing (rules c) (left_group n) ((rules c).named (left_group n))) None parts.1
       ∙ ap (λ (h : Group). passing (rules c) h ((rules c).named h)) same
       ∙ ap (passing (rules c) g) (meet.names n l begins parts.0)
       ∙ ap (unless_fault n)
       (meet.passes n n [] l
-      (record { before = omega arith; begins = begins; groups = met_first n left; some = some_left n l parts.0 }) parts.0)
+      (record { before = omega arith; begins = begins; groups = met_first n left; some = some_left n l parts.0 })
+      parts.0)
     where
       group_of : ℕ → List Packet → Group
       group_of n ps = record { key = (left_group n).key; packets = ps }
@@ -96,7 +104,8 @@ module _ (all : WholeIsAll) (c : Config) (count : ℕ) (sent : List Sent) (survi
   fails n l begins there w (Some m) e =
       none_with m ((rules c).fault [] (left_group n) m) (meet.fails n m l begins (meet.key (left_group n) m e) w there)
 
-  not_joined : (n : ℕ) → n < count → frame_packets n left ≢ [] → joins n ≡ false → join_number (rules c) (left_group n) ≡ None
+  not_joined : (n : ℕ) → n < count → frame_packets n left ≢ [] → joins n ≡ false
+      → join_number (rules c) (left_group n) ≡ None
   not_joined n l there t = ⊎_elim
       (λ (w : whole n ≡ false).
       cond_both (n % c.frames == 0) _ _ (λ o. o ≡ None)

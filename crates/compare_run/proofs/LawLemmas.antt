@@ -1,7 +1,9 @@
 -- Two files decide how a run over them ends.
-use Rattle.std.proofs.Common.{◌≡◌, ◌≢◌, ◌⊎◌, ℕ, ◌<◌, List, [], ◌∷◌, Option, Some, None, refl, ap, sym, ◌∙◌, inl, inr, arith}
+use Rattle.std.proofs.Common.{◌≡◌, ◌≢◌, ◌⊎◌, ℕ, ◌<◌, List, [], ◌∷◌, Option, Some, None, refl, ap, sym, ◌∙◌, inl, inr}
+use Rattle.std.proofs.Common.{arith}
 use Rattle.std.specs.Prelude.{Result, Ok, Err}
-use Rattle.terms.proofs.OptionLemmas.{some_injective, none_some}
+use Rattle.std.proofs.lemmas.Option.{same_Some}
+use Rattle.terms.proofs.OptionLemmas.{none_some}
 use Rattle.plp_config.specs.declared.config.Config.{Config}
 use Rattle.frame_groups.specs.Modulated.{FrameRecord}
 use Rattle.modulator.specs.StandsFor.{records_of}
@@ -15,7 +17,8 @@ use Rattle.compare_run.specs.declared.stop.CompareStop.{CompareStop}
 use Rattle.compare_run.specs.declared.stop.CompareStop.TheVariants.{NoSuperframe, TooManyFrames, Differs}
 use Rattle.feed_merge.proofs.EarlyLemmas.{not_late, early_none, early_or_late, some_is}
 
-none_have : (c : Config) (files : ℕ → List ℕ) → ((input : ℕ) → input < 2 → records_of c (files input) ≡ []) → HaveRecords c files → ⊥
+none_have : (c : Config) (files : ℕ → List ℕ) → ((input : ℕ) → input < 2 → records_of c (files input) ≡ [])
+    → HaveRecords c files → ⊥
 none_have c files none have = by have.some
   where
     by : (records_of c (files 0) ≢ []) ⊎ (records_of c (files 1) ≢ []) → ⊥
@@ -29,7 +32,7 @@ one_run c files (Ok counts) (Err NoSuperframe) a b = absurd (none_have c files b
 one_run c files (Ok counts) (Err TooManyFrames) a b = absurd (not_late c files a.0.early b)
 one_run c files (Err (Differs frame)) (Ok other) a b = none_some frame (sym b.1 ∙ a.1)
 one_run c files (Err (Differs frame)) (Err (Differs another)) a b =
-    ap (λ (n : ℕ). Err (Differs n)) (some_injective frame another (sym a.1 ∙ b.1))
+    ap (λ (n : ℕ). Err (Differs n)) (same_Some frame another (sym a.1 ∙ b.1))
 one_run c files (Err (Differs frame)) (Err NoSuperframe) a b = absurd (none_have c files b a.0)
 one_run c files (Err (Differs frame)) (Err TooManyFrames) a b = absurd (not_late c files a.0.early b)
 one_run c files (Err NoSuperframe) (Ok other) a b = absurd (none_have c files a b.0)
@@ -49,14 +52,19 @@ run_ends c files = go (records_of c (files 0)) (records_of c (files 1)) refl ref
     by_first have None e = (Ok (counts_of (compared_of c files)), (have, e, refl))
     by_first have (Some frame) e = (Err (Differs frame), (have, e))
 
-    done : (records_of c (files 0) ≢ []) ⊎ (records_of c (files 1) ≢ []) → (result : Result Counts CompareStop) × MustRun c files result
+    done : (records_of c (files 0) ≢ []) ⊎ (records_of c (files 1) ≢ []) → (result : Result Counts CompareStop)
+        × MustRun c files result
     done some =
         elim (early_or_late (records_of c (files 0))) [
           | inr late ↦ (Err TooManyFrames, inl late)
           | inl first ↦ elim (early_or_late (records_of c (files 1))) [
             | inr late ↦ (Err TooManyFrames, inr late)
             | inl second ↦ by_first
-                (record { some = some; early = two (λ (input : ℕ). AreEarly (records_of c (files input))) first second })
+                (record {
+                  some = some;
+                  early = two (λ (input : ℕ). AreEarly (records_of c (files input)))
+                      first second;
+                })
                 (first_differing (compared_of c files)) refl
           ]
         ]

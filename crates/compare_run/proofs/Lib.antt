@@ -7,6 +7,8 @@ pub mod StepLemmas
 pub mod TakeLemmas
 pub mod NoteLemmas
 pub mod BlockLemmas
+pub mod PlpLemmas
+pub mod DifferenceLemmas
 pub mod CarriedLemmas
 pub mod GrowLemmas
 pub mod JoinLemmas

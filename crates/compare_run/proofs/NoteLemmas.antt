@@ -21,7 +21,8 @@ use Rattle.compare_run.proofs.TakeLemmas.{WaitsWhole}
 
 -- What is so of a feed whose record waits, by the groups that it may have.
 abbrev pub ByGroups : FrameFeed → (List Numbered → ℕ → Type 0) → Type 0
-ByGroups f Is = (bytes : List ℕ) (ended : Bool) (given : List FrameRecord) → FrameFeedStandsFor f bytes ended given → (w : Waiting)
+ByGroups f Is = (bytes : List ℕ) (ended : Bool) (given : List FrameRecord) → FrameFeedStandsFor f bytes ended given
+    → (w : Waiting)
     → waiting_of f ≡ Some w → (gs : List Numbered) → AreGroups (config_of f) bytes ended gs → Is gs w.frame
 
 by_groups : (f : FrameFeed) (Is : List Numbered → ℕ → Type 0) (w : Waiting) (n : ℕ) (gs : List Numbered) → ByGroups f Is
@@ -39,7 +40,8 @@ brings_of f (Some pool) w n gs some none is number g =
     by_groups f (λ gs k. AreBlocks (config_of f) (packets_at gs k) pool.now.lists) w n gs some is number g
 
 -- also if no record of that number waits: then no packet of it came
-pub brings_or : (c : Config) (f : FrameFeed) (r : Option (Bor State)) (n : ℕ) (gs : List Numbered) → config_of f ≡ c → IsOfFeed f gs
+pub brings_or : (c : Config) (f : FrameFeed) (r : Option (Bor State)) (n : ℕ) (gs : List Numbered) → config_of f ≡ c
+    → IsOfFeed f gs
     → (is_at n (seen_of (waiting_of f)) ≡ true → (gs : List Numbered) → IsOfFeed f gs
     → Brings (config_of f) gs n (lists_in (option_copied r)))
     → (is_at n (seen_of (waiting_of f)) ≡ false → lists_in (option_copied r) ≡ None)
@@ -55,9 +57,11 @@ pub dynamic_by : (f : FrameFeed) (n : ℕ) (gs : List Numbered) → WaitsWhole n
     → ByGroups f (λ gs k. Shows (config_of f) (packets_at gs k) (dynamic_of f) (lists_of f)) → IsOfFeed f gs
     → dynamic_of f ≡ dynamic_at gs n
 dynamic_by f n gs w says g =
-    (by_groups f (λ gs k. Shows (config_of f) (packets_at gs k) (dynamic_of f) (lists_of f)) w.one n gs says w.is w.number g).dynamic_is
+    (by_groups f (λ gs k. Shows (config_of f) (packets_at gs k) (dynamic_of f) (lists_of f)) w.one n
+    gs says w.is w.number g).dynamic_is
 
 pub room_by : (c : Config) (f : FrameFeed) (n : ℕ) (gs : List Numbered) → config_of f ≡ c → WaitsWhole n (waiting_of f)
     → ByGroups f (λ gs k. CarriesRoom (config_of f) gs k) → IsOfFeed f gs → CarriesRoom c gs n
 room_by c f n gs config w says g =
-    subst (λ (k : Config). CarriesRoom k gs n) config (by_groups f (λ gs k. CarriesRoom (config_of f) gs k) w.one n gs says w.is w.number g)
+    subst (λ (k : Config). CarriesRoom k gs n) config (by_groups f (λ gs k. CarriesRoom (config_of f) gs k)
+    w.one n gs says w.is w.number g)

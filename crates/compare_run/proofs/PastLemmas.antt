@@ -1,5 +1,6 @@
 -- The groups that have numbers, of what survives: from the join on, what survives of each frame.
-use Rattle.std.proofs.Common.{◌≡◌, ◌≢◌, ℕ, zero, suc, ◌+◌, ◌<◌, ◌≤◌, ◌==◌, Bool, true, false, List, [], ◌∷◌, map, length}
+use Rattle.std.proofs.Common.{◌≡◌, ◌≢◌, ℕ, zero, suc, ◌+◌, ◌<◌, ◌≤◌, ◌==◌, Bool, true, false, List, [], ◌∷◌, map}
+use Rattle.std.proofs.Common.{length}
 use Rattle.std.proofs.Common.{Option, Some, None, refl, ap, ap₂, sym, subst, ◌∙◌, ⊎_elim, arith}
 use Rattle.std.specs.Prelude.{nat_le, nat_lt, if◌then◌else◌}
 use Rattle.std.specs.List.{filter, range_with_len}
@@ -57,12 +58,15 @@ module _ (frames first : ℕ) (ss : List Sent) where
   step past a len has met =
       with_numbers past (if has then frame_group frames ss a ∷ groups_from (a + 1) len else groups_from (a + 1) len)
       (map (number_from first)
-      (if met then a ∷ filter (is_met ss) (range_with_len (a + 1) len) else filter (is_met ss) (range_with_len (a + 1) len)))
+      (if met then a ∷ filter (is_met ss) (range_with_len (a + 1) len) else filter (is_met ss)
+      (range_with_len (a + 1) len)))
 
   -- a frame of which nothing survives, and one of which something does
-  passed : (past : List Numbered) (a len : ℕ) → frame_packets a ss ≡ [] → after past a (suc len) ≡ after past (a + 1) len
+  passed : (past : List Numbered) (a len : ℕ) → frame_packets a ss ≡ []
+      → after past a (suc len) ≡ after past (a + 1) len
   passed past a len is =
-      ap₂ (step past a len) (ap (λ (ps : List Packet). has_packets (record { key = frame_key frames a; packets = ps })) is)
+      ap₂ (step past a len) (ap (λ (ps : List Packet). has_packets (record { key = frame_key frames a; packets = ps }))
+      is)
       (ap (λ (ps : List Packet). nat_lt 0 (length ps)) is)
 
   put : (past : List Numbered) (a len : ℕ) (p : Packet) (ps : List Packet) → frame_packets a ss ≡ p ∷ ps
@@ -81,7 +85,8 @@ module _ (frames first : ℕ) (ss : List Sent) where
       go : (ps : List Packet) → frame_packets a ss ≡ ps
           → ((gs : List Numbered) → b < a + 1 → packets_at (after gs (a + 1) len) b ≡ packets_at gs b)
           → packets_at (after past a (suc len)) b ≡ packets_at past b
-      go [] is later = ap (λ (gs : List Numbered). packets_at gs b) (passed past a len is) ∙ later past (omega (arith, l))
+      go [] is later = ap (λ (gs : List Numbered). packets_at gs b) (passed past a len is)
+          ∙ later past (omega (arith, l))
       go (p ∷ ps) is later =
           ap (λ (gs : List Numbered). packets_at gs b) (put past a len p ps is)
           ∙ later (one_more past a) (omega (arith, l))
@@ -95,7 +100,8 @@ module _ (frames first : ℕ) (ss : List Sent) where
       go (frame_packets a ss) refl (λ gs from there. comes b late len (a + 1) gs from (omega (arith, high)) there)
     where
       go : (ps : List Packet) → frame_packets a ss ≡ ps
-          → ((gs : List Numbered) → a + 1 ≤ b → packets_at gs b ≡ [] → packets_at (after gs (a + 1) len) b ≡ frame_packets b ss)
+          → ((gs : List Numbered) → a + 1 ≤ b → packets_at gs b ≡ []
+          → packets_at (after gs (a + 1) len) b ≡ frame_packets b ss)
           → packets_at (after past a (suc len)) b ≡ frame_packets b ss
       go [] is later =
           ap (λ (gs : List Numbered). packets_at gs b) (passed past a len is)

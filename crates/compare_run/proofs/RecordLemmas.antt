@@ -1,18 +1,22 @@
 -- The record of a frame that is whole: its group is the one of its number, and passes the tests.
-use Rattle.std.proofs.Common.{◌≡◌, ℕ, ◌+◌, ◌-◌, ◌==◌, Bool, true, false, List, [], ◌∷◌, Option, Some, None, refl, ap, ap₂, sym, subst}
+use Rattle.std.proofs.Common.{◌≡◌, ℕ, ◌+◌, ◌-◌, ◌==◌, Bool, true, false, List, [], ◌∷◌, Option, Some, None, refl, ap}
+use Rattle.std.proofs.Common.{ap₂, sym, subst}
 use Rattle.std.proofs.Common.{◌∙◌, ⊎_elim}
 use Rattle.std.specs.List.{AllByRecursion, position_or_len, range_with_len}
 use Rattle.std.proofs.lemmas.Bool.{cases_Bool, cond-true, cond-false, eqb-true, false≢true}
 use Rattle.std.proofs.lemmas.List.Folds.{find_at}
+use Rattle.std.proofs.lemmas.Option.{same_Some}
 use Rattle.terms.proofs.AllLemmas.{all_append, all_map}
 use Rattle.terms.proofs.ListLemmas.{all_get}
-use Rattle.terms.proofs.OptionLemmas.{none_some, some_injective}
+use Rattle.terms.proofs.OptionLemmas.{none_some}
 use Rattle.plp_config.specs.declared.config.Config.{Config}
 use Rattle.t2mi_packet.specs.declared.packet.Packet.{Packet}
 use Rattle.t2mi_stream.specs.Units.{accepted_of}
 use Rattle.frame_groups.specs.Groups.{Group, groups}
-use Rattle.frame_groups.specs.Modulated.{Content, FrameRecord, Numbered, content_of, gap_record, number_behind, past_with}
-use Rattle.frame_groups.specs.Modulated.{past_behind, past_after, gaps_behind, own_record, records_with, records_from, modulated}
+use Rattle.frame_groups.specs.Modulated.{Content, FrameRecord, Numbered, content_of, gap_record, number_behind}
+use Rattle.frame_groups.specs.Modulated.{past_with}
+use Rattle.frame_groups.specs.Modulated.{past_behind, past_after, gaps_behind, own_record, records_with, records_from}
+use Rattle.frame_groups.specs.Modulated.{modulated}
 use Rattle.frame_groups.specs.Modulated.Content.{Whole, Muted}
 use Rattle.frame_groups.specs.declared.cause.MuteCause.{MuteCause}
 use Rattle.frame_groups.specs.Begun.{packets_at}
@@ -40,7 +44,8 @@ abbrev IsCome : Config → List Numbered → FrameRecord → Type 0
 IsCome c gs x = (g : Group) → x.content ≡ Whole g → Came c gs x.number g
 
 module _ (c : Config) where
-  muted_comes : (gs : List Numbered) (n : ℕ) (cause : MuteCause) → IsCome c gs (record { number = n; content = Muted cause })
+  muted_comes : (gs : List Numbered) (n : ℕ) (cause : MuteCause)
+      → IsCome c gs (record { number = n; content = Muted cause })
   muted_comes gs n cause g e = absurd (let z : Muted cause ≡ Whole g = e in cc)
 
   gaps_come : (gs past : List Numbered) (o : Option ℕ) → AllByRecursion (IsCome c gs) (gaps_behind past o)
@@ -61,11 +66,13 @@ module _ (c : Config) where
       group_of (Whole g) = g
       group_of (Muted cause) = h
 
-      go : (o : Option MuteCause) → (rules c).fault past h n ≡ o → (g : Group) → content_of h o ≡ Whole g → Came c gs n g
+      go : (o : Option MuteCause) → (rules c).fault past h n ≡ o → (g : Group) → content_of h o ≡ Whole g
+          → Came c gs n g
       go None none g e =
           subst (Came c gs n) (ap group_of e)
           (record {
-            own = own_at (rules c) past h n true gs (record { group = h; rest = hs; are = refl; same = λ _. refl }) refl;
+            own = own_at (rules c) past h n true gs (record { group = h; rest = hs; are = refl; same = λ _. refl })
+                refl;
             passes = record { past = past; pass = none };
           })
       go (Some cause) none g e = muted_comes gs n cause g e
@@ -76,8 +83,10 @@ module _ (c : Config) where
   all_come past (h ∷ hs) =
       let o : Option ℕ = number_behind (rules c) past h in
       let gs : List Numbered = past_after (rules c) past (h ∷ hs) in
-      all_append (IsCome c gs) (records_with (rules c) past h) (records_from (rules c) (past_behind (rules c) past h) hs)
-      (all_append (IsCome c gs) (gaps_behind past o) (own_record (rules c) past h o) (gaps_come gs past o) (own_comes past h hs o))
+      all_append (IsCome c gs) (records_with (rules c) past h) (records_from (rules c) (past_behind (rules c) past h)
+      hs)
+      (all_append (IsCome c gs) (gaps_behind past o) (own_record (rules c) past h o) (gaps_come gs past o)
+      (own_comes past h hs o))
       (all_come (past_behind (rules c) past h) hs)
 
   records_come : (bytes : List ℕ) → AllByRecursion (IsCome c (groups_of c bytes)) (records_of c bytes)
@@ -92,7 +101,7 @@ number_found n [] x e = none_some x e
 number_found n (y ∷ xs) x e = ⊎_elim
     (λ (t : (y.number == n) ≡ true).
     ap (λ (z : FrameRecord). z.number)
-    (some_injective x y (sym e ∙ cond-true {A = Option FrameRecord} (y.number == n) (Some y) (record_at n xs) t))
+    (same_Some x y (sym e ∙ cond-true {A = Option FrameRecord} (y.number == n) (Some y) (record_at n xs) t))
     ∙ eqb-true y.number n t)
     (λ (f : (y.number == n) ≡ false).
     number_found n xs x (sym (cond-false {A = Option FrameRecord} (y.number == n) (Some y) (record_at n xs) f) ∙ e))

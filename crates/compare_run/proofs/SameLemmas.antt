@@ -1,12 +1,13 @@
 -- Whole frames make the same record exactly if their L1 and the blocks that begin there are the same.
-use Rattle.std.proofs.Common.{◌≡◌, ℕ, ◌%◌, ◌<◌, ◌^◌, Bool, true, false, List, [], ◌∷◌, ◌++◌, length, map, Option, Some, None}
+use Rattle.std.proofs.Common.{◌≡◌, ℕ, ◌%◌, ◌<◌, ◌^◌, Bool, true, false, List, [], ◌∷◌, ◌++◌, length, map, Option, Some}
+use Rattle.std.proofs.Common.{None}
 use Rattle.std.proofs.Common.{refl, ap, ap₂, sym, ◌∙◌, ⊎_elim, arith}
 use Rattle.std.specs.Prelude.{option_map, slice_get, slice_index}
 use Rattle.std.specs.List.{filter_map}
 use Rattle.std.specs.Option.{option_map_or}
 use Rattle.std.proofs.lemmas.Bool.{cases_Bool, cond-false}
+use Rattle.std.proofs.lemmas.Option.{same_Some}
 use Rattle.terms.proofs.BitLemmas.{bits_of-bytes_of}
-use Rattle.terms.proofs.OptionLemmas.{some_injective}
 use Rattle.terms.proofs.RangeLemmas.{flat_same}
 use Rattle.terms.specs.Bits.{bits_of}
 use Rattle.bb_frame.specs.Laws.{BitCounts, ScramblesBack}
@@ -78,7 +79,8 @@ module _ (known : Known) (c : Config) (n : ℕ) (plan : IsPlan c) (packets : Lis
   bodies : view_bodies c n (packets_view c n packets) ≡ made_bodies c n dynamic right
   bodies = view_carries known.numbers known.back known.pre_bits known.signal c n plan packets told
 
-module _ (known : Known) (c : Config) (n : ℕ) (plan : IsPlan c) (pa pb : List Packet) (a : Passing c n pa) (b : Passing c n pb) where
+module _ (known : Known) (c : Config) (n : ℕ) (plan : IsPlan c) (pa pb : List Packet) (a : Passing c n pa)
+    (b : Passing c n pb) where
   abbrev of_a : Passed c n pa
   of_a = passed c a.past n pa a.pass
 
@@ -96,7 +98,7 @@ module _ (known : Known) (c : Config) (n : ℕ) (plan : IsPlan c) (pa pb : List 
   same_shape : dynamic_in pa ≡ dynamic_in pb → shape_in c pa ≡ shape_in c pb
   same_shape e =
       view_shape known.signal c n pa of_a
-      ∙ some_injective of_a.l1.shape of_b.l1.shape
+      ∙ same_Some of_a.l1.shape of_b.l1.shape
       (sym of_a.l1.told
       ∙ ap (λ (bits : List Bool). option_map told_shape (read_whole (dyn_read (length c.plps) bits)))
       (sym dynamic_a ∙ e ∙ dynamic_b)
@@ -113,10 +115,12 @@ module _ (known : Known) (c : Config) (n : ℕ) (plan : IsPlan c) (pa pb : List 
   same_view s =
       let view = frame_view c (emission c n) (n % c.frames) in
       let blocks : sent_blocks c (λ plp. right_blocks c plp pa) ≡ sent_blocks c (λ plp. right_blocks c plp pb) =
-      flat_same (λ plp. map (sent_block c plp) (right_blocks c plp pa)) (λ plp. map (sent_block c plp) (right_blocks c plp pb))
+      flat_same (λ plp. map (sent_block c plp) (right_blocks c plp pa)) (λ plp. map (sent_block c plp)
+      (right_blocks c plp pb))
       0 (length c.plps)
       (λ plp low high. ap (map (sent_block c plp)) (same_blocks s plp (omega (arith, high)))) in
-      ap (λ (bits : List Bool). view (post_with c bits) (sent_blocks c (λ plp. right_blocks c plp pa)) (shape_in c pa)) s.dynamic
+      ap (λ (bits : List Bool). view (post_with c bits) (sent_blocks c (λ plp. right_blocks c plp pa)) (shape_in c pa))
+      s.dynamic
       ∙ ap₂ (view (post_with c (dynamic_in pb))) blocks (same_shape s.dynamic)
 
   -- and what packets of the record carry tells them
@@ -146,10 +150,11 @@ held_back c plp xs ys a b e = sym (go xs a) ∙ ap (map bits_of) e ∙ go ys b
   where
     go : (zs : List (List Bool)) → AreLong c plp zs → map bits_of (map held_bytes zs) ≡ zs
     go [] h = refl
-    go (z ∷ zs) h = ap₂ (λ (x : List Bool) (l : List (List Bool)). x ∷ l) (bits_of-bytes_of z (block_bytes c plp) h.0) (go zs h.1)
+    go (z ∷ zs) h = ap₂ (λ (x : List Bool) (l : List (List Bool)). x ∷ l) (bits_of-bytes_of z (block_bytes c plp) h.0)
+        (go zs h.1)
 
 -- what frames that are called the same have
-none_placed : (o : Option Place) → place_answer o ≡ Same → o ≡ None
+pub none_placed : (o : Option Place) → place_answer o ≡ Same → o ≡ None
 none_placed None e = refl
 none_placed (Some at) e = absurd (let z : Differs at ≡ Same = e in cc)
 
@@ -169,7 +174,8 @@ called_same c n ga gb e =
 
 -- ---- the records
 
-module _ (known : Known) (c : Config) (a b : List ℕ) (n : ℕ) (x y : FrameRecord) (plan : IsPlan c) (w : BothWhole c a b n x y) where
+module _ (known : Known) (c : Config) (a b : List ℕ) (n : ℕ) (x y : FrameRecord) (plan : IsPlan c)
+    (w : BothWhole c a b n x y) where
   abbrev ga : List Numbered
   ga = groups_of c a
 
@@ -184,19 +190,22 @@ module _ (known : Known) (c : Config) (a b : List ℕ) (n : ℕ) (x y : FrameRec
 
   written : BeginSame c n (packets_at ga n) (packets_at gb n) → spelled c x ≡ spelled c y
   written s =
-      ap record_bytes (is_a.view ∙ same_view known c n plan (packets_at ga n) (packets_at gb n) is_a.passes is_b.passes s
+      ap record_bytes (is_a.view ∙ same_view known c n plan (packets_at ga n) (packets_at gb n) is_a.passes
+      is_b.passes s
       ∙ sym is_b.view)
 
   module _ (spell : DueSpelled) (one : OneRecord) (ids : HasByteIds c) (few : n < 2 ^ 32) where
     spells_of : (bytes : List ℕ) (z : FrameRecord) → record_at n (records_of c bytes) ≡ Some z → z.number ≡ n
         → Spells (content_view c z.number z.content) (spelled c z)
     spells_of bytes z e number =
-        found (λ z. z.number < 2 ^ 32 → Spells (content_view c z.number z.content) (spelled c z)) n (records_of c bytes) z
+        found (λ z. z.number < 2 ^ 32 → Spells (content_view c z.number z.content) (spelled c z)) n (records_of c bytes)
+        z
         (spell c true bytes plan ids) e (omega (arith, number, few))
 
     read_back : spelled c x ≡ spelled c y → BeginSame c n (packets_at ga n) (packets_at gb n)
     read_back e =
-        let same = one (content_view c x.number x.content) (content_view c y.number y.content) (spelled c x) (spelled c y) [] []
+        let same = one (content_view c x.number x.content) (content_view c y.number y.content) (spelled c x)
+        (spelled c y) [] []
         (spells_of a x w.first is_a.number) (spells_of b y w.second is_b.number) (ap (λ (l : List ℕ). l ++ []) e) in
         same_back known c n plan (packets_at ga n) (packets_at gb n) is_a.passes is_b.passes
         (sym is_a.view ∙ same.0 ∙ is_b.view)
@@ -222,5 +231,6 @@ same_is_exact known spell one alone c a b n x y plan ids few stand w = (
       ap place_answer
       (nothing_differs c n (groups_of c a) (groups_of c b) s.dynamic
       (λ plp inside. own (groups_of c a) plp inside
-      ∙ ap (map held_bytes) (s.blocks plp inside (alone c plp n (stand plp inside)).0) ∙ sym (own (groups_of c b) plp inside))),
+      ∙ ap (map held_bytes) (s.blocks plp inside (alone c plp n (stand plp inside)).0)
+      ∙ sym (own (groups_of c b) plp inside))),
 )

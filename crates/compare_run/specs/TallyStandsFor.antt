@@ -10,6 +10,7 @@ use Rattle.open_group.specs.Shown.{AreBlocks}
 use Rattle.feed_merge.specs.Groups.{HasRoom}
 use Rattle.compare_run.specs.Comparing.{Answered, carried, first_other}
 use Rattle.compare_run.specs.Runs.{runs_of, open_run, counts_of}
+use Rattle.compare_run.specs.declared.answer.Other.{Other}
 use Rattle.compare_run.specs.declared.answering.Carried.{Carried}
 use Rattle.compare_run.specs.declared.counts.Counts.{Counts}
 use Rattle.compare_run.specs.declared.tally.Tally.{Tally}
@@ -38,7 +39,8 @@ abbrev pub blocks_in : Option (List (List (List ℕ))) → ℕ → List (List �
 blocks_in None plp = []
 blocks_in (Some lists) plp = slice_index_or lists plp []
 
--- What is shown of frame n: its blocks that have the length of their PLP; or nothing, if no packet of it came or they have no room.
+-- What is shown of frame n: its blocks that have the length of their PLP; or nothing, if no packet of it came or they
+-- have no room.
 abbrev pub Brings : Config → List Numbered → ℕ → Option (List (List (List ℕ))) → Type 0
 Brings c gs n (Some lists) = AreBlocks c (packets_at gs n) lists
 Brings c gs n None = HasRoom c gs n → packets_at gs n ≡ []
@@ -47,17 +49,25 @@ Brings c gs n None = HasRoom c gs n → packets_at gs n ≡ []
 abbrev pub NothingBetween : List Numbered → ℕ → ℕ → Type 0
 NothingBetween gs from n = (m : ℕ) → from ≤ m → m < n → packets_at gs m ≡ []
 
--- This is the first block of a PLP that two streams do not have the same, of the interleaving frame that the last frame below a
--- number carries, if there is one, and if what they have of it has room.
-abbrev pub IsOther : Config → ℕ → ℕ → List Numbered → List Numbered → Option ℕ → Type 0
+-- This is the first block of a PLP that two streams do not have the same, of the interleaving frame that the last frame
+-- below a number carries, if there is one, and if what they have of it has room.
+abbrev pub IsOther : Config → ℕ → ℕ → List Numbered → List Numbered → Option Other → Type 0
 IsOther c plp next ga gb other =
     0 < next → HasRoom c ga (begin_of c plp (next - 1)) → HasRoom c gb (begin_of c plp (next - 1))
     → other ≡ first_other (carried c ga plp (next - 1)) (carried c gb plp (next - 1))
 
+-- what is noted of a PLP
+abbrev pub other_in : Carried → ℕ → Option Other
+other_in x plp = slice_index_or x.others.items plp None
+
 -- The frames below a number were noted.
 abbrev pub CarriedStandsFor : Carried → Config → ℕ → List Numbered → List Numbered → Type 0
-CarriedStandsFor x c next ga gb =
-    (plp : ℕ) → plp < length c.plps → IsOther c plp next ga gb (slice_index_or x.others.items plp None)
+CarriedStandsFor x c next ga gb = (plp : ℕ) → plp < length c.plps → IsOther c plp next ga gb (other_in x plp)
+
+-- What is noted of each PLP is of frame n.
+abbrev pub AreOthers : Carried → Config → ℕ → List Numbered → List Numbered → Type 0
+AreOthers x c n ga gb =
+    (plp : ℕ) → plp < length c.plps → other_in x plp ≡ first_other (carried c ga plp n) (carried c gb plp n)
 
 -- how many PLPs it has
 abbrev pub plps_in : Carried → ℕ

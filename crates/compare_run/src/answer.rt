@@ -1,6 +1,7 @@
 // What two streams have of a frame.
 ghost use Rattle.std.specs.Prelude.{◌≡◌};
-ghost use Rattle.compare_run.specs.Runs.{kind as kind_of, is_one as is_one_by, is_same as is_same_by, is_differing as differs_by};
+ghost use Rattle.compare_run.specs.Runs.{kind as kind_of, is_one as is_one_by, is_same as is_same_by};
+ghost use Rattle.compare_run.specs.Runs.{is_differing as differs_by};
 
 /// The first part in which two frames that both send differ.
 #[derive(Clone, Copy, Debug, PartialEq, Eq)]
@@ -9,6 +10,15 @@ pub enum Place {
     L1,
     /// A block, by its number, from 0, in the interleaving frame of its PLP that the frame carries.
     Block { plp_id: u8, number: u32 },
+}
+
+/// The first block of a PLP that two frames do not have the same.
+#[derive(Clone, Copy, Debug, PartialEq, Eq)]
+pub struct Other {
+    /// Its number, from 0, in the interleaving frame of the PLP that the frames carry.
+    pub number: u32,
+    /// One of them has no such block: they differ in how many they have, and those that both have are the same.
+    pub is_end: bool,
 }
 
 /// What two streams, A and B, have of a frame.

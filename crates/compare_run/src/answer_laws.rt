@@ -1,5 +1,6 @@
 // Laws of the definitions. Their functions do nothing.
 ghost use Rattle.compare_run.specs.AnswerLaws.{AnswersGrow, KnownBegins, NoneDiffers, CarriesOwn};
+ghost use Rattle.compare_run.specs.AnswerLaws.{OthersAreFirst, SameHasNone, BlockIsFirst};
 ghost use Rattle.compare_run.specs.AnswerLaws.{SameIsWritten, WrittenIsBegun, SameIsExact};
 
 use bb_frame::{bit_counts_law, scramble_twice_law};
@@ -39,8 +40,17 @@ pub fn own_law()
     interleaving_law();
 }
 
-/// A frame that is whole in both streams: its records are the same if it is called the same; and exactly if L1 and the blocks that
-/// begin there are the same. If every interleaving frame is carried by one frame, `same` says no less and no more.
+/// Where two lists of blocks differ first; that two whole frames are the same if L1 is and no PLP differs; and that the
+/// block that is told of a frame is that of its first PLP that differs.
+pub fn plps_law()
+    ensures others { OthersAreFirst }
+    ensures same { SameHasNone }
+    ensures first { BlockIsFirst }
+{}
+
+/// A frame that is whole in both streams: its records are the same if it is called the same; and exactly if L1 and the
+/// blocks that begin there are the same. If every interleaving frame is carried by one frame, `same` says no less and
+/// no more.
 pub fn same_law()
     ensures written { SameIsWritten }
     ensures begun { WrittenIsBegun }

@@ -15,8 +15,8 @@ mod stop;
 mod taking;
 mod tally;
 
-pub use answer::{Answer, Place, Side};
-pub use answer_laws::{answers_law, known_law, none_differs_law, own_law, same_law};
+pub use answer::{Answer, Other, Place, Side};
+pub use answer_laws::{answers_law, known_law, none_differs_law, own_law, plps_law, same_law};
 pub use answering::{Carried, answer_by};
 pub use counts::Counts;
 pub use laws::{one_run_law, run_ends_law};

@@ -1,23 +1,28 @@
 // The lines of runs.
 ghost use Rattle.std.specs.Prelude.{◌≡◌, ◌≤◌, ◌<◌, ◌*◌, ◌^◌, length, Some};
 ghost use Rattle.compare_run.specs.declared.answer_run.Run.{Run};
-ghost use Rattle.compare_run.specs.Comparing.{answered};
-ghost use Rattle.compare_run.specs.Lines.{place_text as text_of_place, span_line as line_of_span, differs_line as line_of_differing};
-ghost use Rattle.compare_run.specs.Lines.{run_line as line_of_run, compared_line as line_of_counts, lines_of, rest_text};
+ghost use Rattle.compare_run.specs.Comparing.{answered, difference};
+ghost use Rattle.compare_run.specs.Lines.{place_text as text_of_place, span_line as line_of_span};
+ghost use Rattle.compare_run.specs.Lines.{differs_line as line_of_differing};
+ghost use Rattle.compare_run.specs.Lines.{other_text as text_of_other, plp_line as line_of_plp};
+ghost use Rattle.compare_run.specs.Lines.{run_line as line_of_run, compared_line as line_of_counts, lines_of};
+ghost use Rattle.compare_run.specs.Lines.{rest_text};
 ghost use Rattle.compare_run.specs.Runs.{single_known, told_by};
 
-use crate::answer::{Answer, Place};
+use crate::answer::{Answer, Other, Place};
 use crate::answer_run::{Run, single};
 use crate::counts::Counts;
 use file_run::Line;
 
-// Bytes of a word and of a place at most, and of the line of a run and of one of numbers: those of their keys, and 20 for each
+// Bytes of a word, of a place and of what is said of a PLP at most, and of a line: those of their keys, and 20 for each
 // number.
 const WORD: usize = 10;
 
 const PLACE: usize = 57;
 
-/// The line of a run, or of numbers, has no more bytes.
+const OTHER: usize = 32;
+
+/// The line of a run, of a PLP, or of numbers, has no more bytes.
 pub const LONGEST_LINE: usize = 100;
 
 // The words of a place.
@@ -60,6 +65,35 @@ fn differs_line(frame: u64, at: Place) -> Line
     line.push_field(b"frame=", frame);
     line.push(b" is=differs at=");
     line.push(place_line(at).as_bytes());
+    line.push(b"\n");
+    line
+}
+
+// What is said of a PLP that differs.
+fn other_line(other: Other) -> Line
+    ensures text { result ≡ text_of_other other }
+    ensures len { length result ≤ OTHER }
+{
+    let mut line = Line::new();
+    if other.is_end {
+        line.push(b"count");
+    } else {
+        line.push_field(b"block block=", u64::from(other.number));
+    }
+    line
+}
+
+/// The line of a PLP in which a frame differs.
+#[tactic(auto, unfolding(crate::specs::Lines::plp_line))]
+pub fn plp_line(frame: u64, plp_id: u8, other: Other) -> Line
+    ensures text { result ≡ line_of_plp frame (difference plp_id other) }
+    ensures len { length result ≤ LONGEST_LINE }
+{
+    let mut line = Line::new();
+    line.push_field(b"frame=", frame);
+    line.push_field(b" plp=", u64::from(plp_id));
+    line.push(b" at=");
+    line.push(other_line(other).as_bytes());
     line.push(b"\n");
     line
 }

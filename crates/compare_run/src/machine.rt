@@ -21,6 +21,10 @@ pub struct CompareMachine<'p> {
     pub tally: Tally,
     // The number behind those of all records that were taken.
     pub next: u64,
+    // The frame that was compared last, and the place of its PLP that is told next. Behind the last PLP none is left to
+    // tell.
+    pub last: u64,
+    pub plp: usize,
     // Both have ended, and all is said.
     pub done: bool,
 }
@@ -40,6 +44,9 @@ impl<'p> Machine for CompareMachine<'p> {
     ghost reach = { reach_of };
 
     fn step(&self) -> Step {
+        if self.plp < self.carried.plps() {
+            return Step::Give;
+        }
         if self.done {
             return Step::End;
         }
@@ -96,6 +103,7 @@ impl<'p> CompareMachine<'p> {
         let a = FrameFeed::open(alloc, plan)?;
         let b = FrameFeed::open(alloc, plan)?;
         let carried = Carried::open(alloc, plan)?;
+        let plps = carried.plps();
         Ok(CompareMachine {
             plan,
             a,
@@ -103,6 +111,8 @@ impl<'p> CompareMachine<'p> {
             carried,
             tally: Tally::new(),
             next: 0,
+            last: 0,
+            plp: plps,
             done: false,
         })
     }

@@ -8,7 +8,9 @@ ghost use Rattle.feed_merge.specs.Picking.{is_at as is_at_by};
 ghost use Rattle.feed_merge.specs.Reading.{least_of};
 ghost use Rattle.feed_merge.specs.Seen.{seen_of};
 ghost use Rattle.compare_run.specs.Comparing.{place_of, sides_answer, whole_answer};
-ghost use Rattle.compare_run.specs.TallyStandsFor.{lists_in, Brings, NothingBetween, CarriedStandsFor, plps_in};
+ghost use Rattle.compare_run.specs.Runs.{is_differing};
+ghost use Rattle.compare_run.specs.TallyStandsFor.{lists_in, Brings, NothingBetween, CarriedStandsFor, AreOthers};
+ghost use Rattle.compare_run.specs.TallyStandsFor.{plps_in};
 ghost use Rattle.compare_run.specs.declared.answer.Side.TheVariants.{Whole};
 ghost use Rattle.compare_run.specs.Taking.{side_at as side_at_by, IsOfFeed};
 
@@ -54,7 +56,8 @@ fn is_sent(side: Side) -> bool
 
 // The blocks that came of a frame, if its record waits.
 fn shown_at<'f>(feed: &'f FrameFeed<'_>, number: u64) -> Option<&'f Pool>
-    ensures brings { is_at_by number (seen_of (waiting_of feed.now)) ≡ true → (gs : List Numbered) → IsOfFeed feed.now gs
+    ensures brings { is_at_by number (seen_of (waiting_of feed.now)) ≡ true → (gs : List Numbered)
+        → IsOfFeed feed.now gs
         → Brings (config_of feed.now) gs number (lists_in (option_copied result)) }
     ensures none { is_at_by number (seen_of (waiting_of feed.now)) ≡ false → lists_in (option_copied result) ≡ None }
     ensures lists { IfSome result (λ pool. length pool.now.lists ≡ length (config_of feed.now).plps) }
@@ -79,7 +82,8 @@ pub fn note(
     requires plps_b { length (config_of b.now).plps ≡ length plan.now.plps }
     requires forward { next ≤ number }
     ensures stands { config_of a.now ≡ plan.now → config_of b.now ≡ plan.now
-        → (ga gb : List Numbered) → CarriedStandsFor carried.old plan.now next ga gb → IsOfFeed a.now ga → IsOfFeed b.now gb
+        → (ga gb : List Numbered) → CarriedStandsFor carried.old plan.now next ga gb → IsOfFeed a.now ga
+        → IsOfFeed b.now gb
         → (is_at_by number (seen_of (waiting_of a.now)) ≡ false → packets_at ga number ≡ [])
         → (is_at_by number (seen_of (waiting_of b.now)) ≡ false → packets_at gb number ≡ [])
         → NothingBetween ga next number → NothingBetween gb next number
@@ -91,7 +95,7 @@ pub fn note(
     carried.note(plan, next, number, first, second);
 }
 
-// Where a frame that was noted differs first, if both send it.
+// Where a frame that was noted differs first, if both send it; and then what is noted of each PLP is of this frame.
 fn place_at(
     carried: &Carried,
     plan: &Plan,
@@ -101,9 +105,10 @@ fn place_at(
 ) -> Option<Place>
     requires plps { plps_in carried.now ≡ length plan.now.plps }
     ensures { config_of a.now ≡ plan.now → config_of b.now ≡ plan.now
-        → (ga gb : List Numbered) → CarriedStandsFor carried.now plan.now (number + 1) ga gb → IsOfFeed a.now ga → IsOfFeed b.now gb
+        → (ga gb : List Numbered) → CarriedStandsFor carried.now plan.now (number + 1) ga gb → IsOfFeed a.now ga
+        → IsOfFeed b.now gb
         → side_at_by number (waiting_of a.now) ≡ Whole → side_at_by number (waiting_of b.now) ≡ Whole
-        → result ≡ place_of plan.now number ga gb }
+        → (result ≡ place_of plan.now number ga gb) × AreOthers carried.now plan.now number ga gb }
 {
     if !is_sent(side_at(number, a.waiting())) || !is_sent(side_at(number, b.waiting())) {
         return None;
@@ -113,7 +118,8 @@ fn place_at(
     carried.place(plan, &first.dynamic, &second.dynamic)
 }
 
-/// What both feeds have of a frame that was noted, of the least number that waits.
+/// What both feeds have of a frame that was noted, of the least number that waits. If it differs, what is noted of each
+/// PLP is of this frame.
 pub fn answer_at(
     carried: &Carried,
     plan: &Plan,
@@ -123,10 +129,15 @@ pub fn answer_at(
 ) -> Answer
     requires plps { plps_in carried.now ≡ length plan.now.plps }
     requires least { least_of (waiting_of a.now) (waiting_of b.now) ≡ Some number }
-    ensures { config_of a.now ≡ plan.now → config_of b.now ≡ plan.now
-        → (ga gb : List Numbered) → CarriedStandsFor carried.now plan.now (number + 1) ga gb → IsOfFeed a.now ga → IsOfFeed b.now gb
+    ensures answer { config_of a.now ≡ plan.now → config_of b.now ≡ plan.now
+        → (ga gb : List Numbered) → CarriedStandsFor carried.now plan.now (number + 1) ga gb → IsOfFeed a.now ga
+        → IsOfFeed b.now gb
         → Some result ≡ sides_answer (side_at_by number (waiting_of a.now)) (side_at_by number (waiting_of b.now))
         (whole_answer plan.now number ga gb) }
+    ensures others { config_of a.now ≡ plan.now → config_of b.now ≡ plan.now
+        → (ga gb : List Numbered) → CarriedStandsFor carried.now plan.now (number + 1) ga gb
+        → IsOfFeed a.now ga → IsOfFeed b.now gb → is_differing result ≡ true
+        → AreOthers carried.now plan.now number ga gb }
 {
     let place = place_at(carried, plan, number, a, b);
     let first = side_at(number, a.waiting());

@@ -22,9 +22,9 @@ pub struct Tally {
 }
 
 impl Tally {
-    ghost use Rattle.std.specs.Prelude.{◌≡◌, ◌≤◌, ◌<◌, ◌^◌, ◌++◌, ◌∷◌, List, [], length};
-    ghost use Rattle.compare_run.specs.Comparing.{Answered, answered};
-    ghost use Rattle.compare_run.specs.Lines.{known_text, text_of};
+    ghost use Rattle.std.specs.Prelude.{◌≡◌, ◌≤◌, ◌<◌, ◌^◌, ◌++◌, ◌∷◌, ℕ, List, [], length};
+    ghost use Rattle.compare_run.specs.Comparing.{Answered, answered, PlpDifference};
+    ghost use Rattle.compare_run.specs.Lines.{known_text, plp_lines, text_of};
     ghost use Rattle.compare_run.specs.TallyStandsFor.{TallyStandsFor, counts_in, frames_in};
     ghost use Rattle.compare_run.specs.declared.tally.TheConstants.{LONGEST_TEXT};
 
@@ -50,13 +50,15 @@ impl Tally {
         self.counts
     }
 
-    /// Adds the next frame: the lines that are known by it.
+    /// Adds the next frame: the lines that are known by it, but for those of its PLPs, which follow if it differs.
     pub fn add(&mut self, frame: u64, answer: Answer) -> Line
         requires few { frames_in self.old < 2 ^ 62 }
         requires low { frame < 2 ^ 63 }
-        ensures stands { (xs : List Answered) → TallyStandsFor self.old xs → TallyStandsFor self.new (xs ++ answered frame answer ∷ []) }
-        ensures told { (xs : List Answered) → TallyStandsFor self.old xs
-            → known_text (xs ++ answered frame answer ∷ []) ≡ known_text xs ++ result }
+        ensures stands { (xs : List Answered) → TallyStandsFor self.old xs
+            → TallyStandsFor self.new (xs ++ answered frame answer ∷ []) }
+        ensures told { (of : ℕ → List PlpDifference) (xs : List Answered) → TallyStandsFor self.old xs
+            → known_text of (xs ++ answered frame answer ∷ [])
+            ≡ known_text of xs ++ result ++ plp_lines of answer frame }
         ensures len { length result ≤ LONGEST_TEXT }
     {
         let line = told_lines(self.run, frame, answer);
@@ -67,7 +69,8 @@ impl Tally {
 
     /// The lines that are left behind the last frame: of no frame there are none.
     pub fn finish(&self) -> Line
-        ensures text { (xs : List Answered) → TallyStandsFor self.now xs → text_of xs ≡ known_text xs ++ result }
+        ensures text { (of : ℕ → List PlpDifference) (xs : List Answered) → TallyStandsFor self.now xs
+            → text_of of xs ≡ known_text of xs ++ result }
         ensures len { length result ≤ LONGEST_TEXT }
     {
         rest_line(self.run, self.counts)

@@ -1,6 +1,8 @@
 -- The text that is written spells its configuration.
-use Rattle.std.proofs.Common.{drop, ℕ, zero, suc, ◌≡◌, ◌<◌, ◌≤◌, ◌+◌, ◌-◌, ◌*◌, ◌^◌, ◌%◌, ◌==◌, ◌∷◌, ◌++◌, ◌∙◌, List, [], Bool, true}
-use Rattle.std.proofs.Common.{false, length, take, get_or, ap, sym, subst, arith, refl, lit≤, All, Some, None, map, eq-eqb}
+use Rattle.std.proofs.Common.{drop, ℕ, zero, suc, ◌≡◌, ◌<◌, ◌≤◌, ◌+◌, ◌-◌, ◌*◌, ◌^◌, ◌%◌, ◌==◌, ◌∷◌, ◌++◌, ◌∙◌, List}
+use Rattle.std.proofs.Common.{[], Bool, true}
+use Rattle.std.proofs.Common.{false, length, take, get_or, ap, sym, subst, arith, refl, lit≤, All, Some, None, map}
+use Rattle.std.proofs.Common.{eq-eqb}
 use Rattle.std.proofs.Common.{ne_eqb, append_assoc, append-nil, length-append}
 use Rattle.std.specs.Prelude.{slice_index_or}
 use Rattle.std.specs.Fmt.{decimal}
@@ -15,16 +17,19 @@ use Rattle.std.proofs.lemmas.List.FromFn.{get_or-map-range_with_len}
 use Rattle.std.proofs.lemmas.List.Splits.{slice_split_none, slice_split_at}
 use Rattle.std.proofs.lemmas.List.Sums.{AllPass-from_list_all}
 use Rattle.plp_config.specs.declared.config.Config.{Config}
-use Rattle.config_text.specs.ConfigText.{is_skipped, kept, words_of, version_of, version_in, IsPrintable, canonical_line, canonical_lines, canonical_text}
+use Rattle.config_text.specs.ConfigText.{is_skipped, kept, words_of, version_of, version_in, IsPrintable}
+use Rattle.config_text.specs.ConfigText.{canonical_line, canonical_lines, canonical_text}
 use Rattle.config_text.specs.ConfigText.{ReadsLine, ReadsLines, Spells}
-use Rattle.config_text.specs.Fields.{bands, plp_types, rates, modulations, sizes, bits, deletions, Spelling, spelling_of}
+use Rattle.config_text.specs.Fields.{bands, plp_types, rates, modulations, sizes, bits, deletions, Spelling}
+use Rattle.config_text.specs.Fields.{spelling_of}
 use Rattle.config_text.specs.Fields.{place_from}
 use Rattle.config_text.specs.Fields.{SpellsValue, SpellsFields, key_at, fields_at, word_of, words_after}
 use Rattle.config_text.specs.Rows.{rows_of}
 use Rattle.config_text.specs.Fields.Spelling.{Number, Word}
 use Rattle.config_text.specs.Words.{Fits, FitFields, FitLines}
 use Rattle.config_text.specs.declared.field.Field.{Field}
-use Rattle.config_text.specs.declared.field.Field.TheVariants.{Version, Number8, Number16, Number32, Number64, Bandwidth, PlpType}
+use Rattle.config_text.specs.declared.field.Field.TheVariants.{Version, Number8, Number16, Number32, Number64}
+use Rattle.config_text.specs.declared.field.Field.TheVariants.{Bandwidth, PlpType}
 use Rattle.config_text.specs.declared.field.Field.TheVariants.{CodeRate, Constellation, BlockSize, Bit, Deletion}
 use Rattle.config_text.proofs.DraftLemmas.{length-rows_of}
 use Rattle.config_text.proofs.LineLemmas.{version_read}
@@ -104,7 +109,8 @@ abbrev most_len : Field → ℕ
 most_len Number64 = 20
 most_len f = 10
 
-word_good : (f : Field) (n : ℕ) → Fits (spelling_of f) n → GoodWord (spelling_of f) (most_len f) n (word_of (spelling_of f) n)
+word_good : (f : Field) (n : ℕ) → Fits (spelling_of f) n → GoodWord (spelling_of f) (most_len f) n
+    (word_of (spelling_of f) n)
 word_good Version n fits = number_good 1 2 n (lit≤ tt) fits
 word_good Number8 n fits = number_good 0 (2 ^ 8 - 1) n (lit≤ tt) fits
 word_good Number16 n fits = number_good 0 (2 ^ 16 - 1) n (lit≤ tt) fits
@@ -126,7 +132,8 @@ words_list (f ∷ fs) [] = []
 words_list (f ∷ fs) (n ∷ ns) = word_of (spelling_of f) n ∷ words_list fs ns
 
 no_space : (w : List ℕ) → All IsGraphic w → All (λ b. (b == 32) ≡ false) w
-no_space w all = λ k d inside. ne_eqb (slice_index_or w k d) 32 (λ e. let low : 33 ≤ slice_index_or w k d = (all k d inside).0 in
+no_space w all = λ k d inside. ne_eqb (slice_index_or w k d) 32 (λ e. let low : 33 ≤ slice_index_or w
+    k d = (all k d inside).0 in
     absurd (omega arith))
 
 split_words : (w : List ℕ) (fs : List Field) (ns : List ℕ) → All IsGraphic w → FitFields fs ns
@@ -136,8 +143,10 @@ split_words w [] [] all fits = ap (λ (l : List ℕ). slice_split (λ b. b == 32
 split_words w [] (n ∷ ns) all fits = absurd fits
 split_words w (f ∷ fs) [] all fits = absurd fits
 split_words w (f ∷ fs) (n ∷ ns) all fits =
-    slice_split_at (λ b. b == 32) w 32 (word_of (spelling_of f) n ++ words_after fs ns) (no_space w all) (eq-eqb 32 32 refl)
-    ∙ ap (λ (l : List (List ℕ)). w ∷ l) (split_words (word_of (spelling_of f) n) fs ns (word_good f n fits.0).graphic fits.1)
+    slice_split_at (λ b. b == 32) w 32 (word_of (spelling_of f) n ++ words_after fs ns) (no_space w all)
+    (eq-eqb 32 32 refl)
+    ∙ ap (λ (l : List (List ℕ)). w ∷ l) (split_words (word_of (spelling_of f) n) fs ns (word_good f n fits.0).graphic
+    fits.1)
 
 spells_words : (fs : List Field) (ns : List ℕ) → FitFields fs ns → SpellsFields fs ns (words_list fs ns)
 spells_words [] [] fits = tt
@@ -198,7 +207,8 @@ line_good (suc (suc (suc (suc (suc (suc zero)))))) = line_from _ refl (lit≤ tt
 line_good (suc (suc (suc (suc (suc (suc (suc zero))))))) = line_from _ refl (lit≤ tt) (λ rest. refl) (lit≤ tt)
 line_good (suc (suc (suc (suc (suc (suc (suc (suc due)))))))) = line_from _ refl (lit≤ tt) (λ rest. refl) (lit≤ tt)
 
-reads_line : (due : ℕ) (row : List ℕ) → FitFields (fields_at due) row → due < 263 → ReadsLine 2 due (canonical_line due row) row
+reads_line : (due : ℕ) (row : List ℕ) → FitFields (fields_at due) row → due < 263
+    → ReadsLine 2 due (canonical_line due row) row
 reads_line due row fits room = record {
   printable = All-append IsPrintable (key_at due) (words_after (fields_at due) row)
       (graphic_prints (key_at due) (line_good due).graphic) (prints_words (fields_at due) row fits);
@@ -229,17 +239,23 @@ with_end line = line ++ 10 ∷ []
 reads_all : (due : ℕ) (rows : List (List ℕ)) → FitLines due rows → due + length rows ≤ 263
     → ReadsLines 2 due (canonical_lines due rows) rows
 reads_all due [] fits room = tt
-reads_all due (row ∷ rows) fits room = (reads_line due row fits.0 (omega arith), reads_all (suc due) rows fits.1 (omega arith))
+reads_all due (row ∷ rows) fits room = (
+  reads_line due row fits.0 (omega arith),
+  reads_all (suc due)
+      rows fits.1 (omega arith),
+)
 
 kept_all : (due : ℕ) (rows : List (List ℕ)) → kept (canonical_lines due rows) ≡ canonical_lines due rows
 kept_all due [] = refl
 kept_all due (row ∷ rows) =
-    kept-cons (canonical_line due row) (canonical_lines (suc due) rows) ((line_good due).stays (words_after (fields_at due) row))
+    kept-cons (canonical_line due row) (canonical_lines (suc due) rows)
+    ((line_good due).stays (words_after (fields_at due) row))
     ∙ ap (λ (l : List (List ℕ)). canonical_line due row ∷ l) (kept_all (suc due) rows)
 
 no_end : (line : List ℕ) → All IsPrintable line → All (λ b. (b == 10) ≡ false) line
 no_end line all =
-    λ k d inside. ne_eqb (slice_index_or line k d) 10 (λ e. let low : 32 ≤ slice_index_or line k d = (all k d inside).0 in
+    λ k d inside. ne_eqb (slice_index_or line k d) 10 (λ e. let low : 32 ≤ slice_index_or line k d =
+    (all k d inside).0 in
     absurd (omega arith))
 
 strip_plain : (line : List ℕ) → All IsPrintable line → strip_carriage_return line ≡ line
@@ -264,7 +280,8 @@ lines_all due (row ∷ rows) fits room =
     (reads_line due row fits.0 (omega arith)).printable
     ∙ ap (λ (l : List (List ℕ)). canonical_line due row ∷ l) (lines_all (suc due) rows fits.1 (omega arith))
 
-length-all : (due : ℕ) (rows : List (List ℕ)) → FitLines due rows → length (flat_map with_end (canonical_lines due rows))
+length-all : (due : ℕ) (rows : List (List ℕ)) → FitLines due rows
+    → length (flat_map with_end (canonical_lines due rows))
     ≤ 143 * length rows
 length-all due [] fits = omega arith
 length-all due (row ∷ rows) fits =
@@ -275,14 +292,16 @@ length-all due (row ∷ rows) fits =
       length-all (suc due) rows fits.1,
     )
 
-pub canonical_spells : (c : Config) (text : List ℕ) → FitLines 0 (rows_of 2 c) → length c.plps ≤ 255 → text ≡ canonical_text c
+pub canonical_spells : (c : Config) (text : List ℕ) → FitLines 0 (rows_of 2 c) → length c.plps ≤ 255
+    → text ≡ canonical_text c
     → Spells text c
 unfolding canonical_text
 canonical_spells c text fits few is =
     let rows : List (List ℕ) = rows_of 2 c in
     let room : 0 + length (rows_of 2 c) ≤ 263 = omega (arith, length-rows_of 2 c) in
     let all : lines (canonical_text c) ≡ canonical_lines 0 (rows_of 2 c) = lines_all 0 (rows_of 2 c) fits room in
-    let stay : kept (lines (canonical_text c)) ≡ canonical_lines 0 (rows_of 2 c) = ap kept all ∙ kept_all 0 (rows_of 2 c) in
+    let stay : kept (lines (canonical_text c)) ≡ canonical_lines 0 (rows_of 2 c) = ap kept all
+    ∙ kept_all 0 (rows_of 2 c) in
     let reads : ReadsLines 2 0 (kept (lines (canonical_text c))) (rows_of 2 c) =
     subst (λ (l : List (List ℕ)). ReadsLines 2 0 l (rows_of 2 c)) (sym stay) (reads_all 0 (rows_of 2 c) fits room) in
     let first : 2 ∷ [] ≡ version_of (canonical_lines 0 (rows_of 2 c)) ∷ [] =
@@ -290,7 +309,8 @@ canonical_spells c text fits few is =
     ((reads_all 0 (rows_of 2 c) fits room).0) in
     let told : version_of (canonical_lines 0 (rows_of 2 c)) ≡ 2 =
     sym (ap (λ (l : List ℕ). get_or l 0 0) first) in
-    let version : version_in text ≡ 2 = ap (λ (t : List ℕ). version_of (kept (lines t))) is ∙ ap version_of stay ∙ told in
+    let version : version_in text ≡ 2 = ap (λ (t : List ℕ). version_of (kept (lines t))) is ∙ ap version_of stay
+    ∙ told in
     record {
       fits = omega (arith, ap length is, length-all 0 (rows_of 2 c) fits, length-rows_of 2 c);
       reads = subst (λ (v : ℕ). ReadsLines v 0 (kept (lines text)) (rows_of v c)) (sym version)
@@ -307,6 +327,7 @@ fit_more due (row ∷ rows) (suc i) fits inside more =
     let next : suc (i + 1) ≡ suc i + 1 = omega arith in
     let e : due + suc i ≡ suc due + i = omega arith in
     let later : FitLines (suc due) (take (i + 1) rows) =
-    fit_more (suc due) rows i fits.1 (omega arith) (subst (λ (d : ℕ). FitFields (fields_at d) (get_or rows i [])) e more) in
+    fit_more (suc due) rows i fits.1 (omega arith) (subst (λ (d : ℕ). FitFields (fields_at d) (get_or rows i []))
+    e more) in
     let both : FitLines due (take (suc (i + 1)) (row ∷ rows)) = (fits.0, later) in
     subst (λ (n : ℕ). FitLines due (take n (row ∷ rows))) next both

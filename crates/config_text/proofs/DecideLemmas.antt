@@ -1,5 +1,6 @@
 -- Each text spells a configuration or is refused.
-use Rattle.std.proofs.Common.{ℕ, zero, suc, ◌≡◌, ◌<◌, ◌≤◌, ◌+◌, ◌∷◌, ◌++◌, ◌∙◌, ◌⊎◌, List, [], Bool, true, false, length, drop}
+use Rattle.std.proofs.Common.{ℕ, zero, suc, ◌≡◌, ◌<◌, ◌≤◌, ◌+◌, ◌∷◌, ◌++◌, ◌∙◌, ◌⊎◌, List, [], Bool, true, false}
+use Rattle.std.proofs.Common.{length, drop}
 use Rattle.std.proofs.Common.{ap, sym, subst, arith, refl, inl, inr, All, Option, Some, None, append_assoc, append-nil}
 use Rattle.std.specs.Prelude.{slice_index_or}
 use Rattle.std.specs.Fmt.{decimal}
@@ -7,9 +8,11 @@ use Rattle.std.specs.Str.Lines.{lines}
 use Rattle.std.proofs.lemmas.Bool.{cases_eq, cases_lt}
 use Rattle.std.proofs.lemmas.List.Elements.{All-nil, All-cons, All-head, All-tail}
 use Rattle.plp_config.specs.declared.config.Config.{Config}
-use Rattle.config_text.specs.ConfigText.{is_skipped, kept, full_words, version_in, IsPrintable, ReadsLine, ReadsLines, HasKey, HasCount}
+use Rattle.config_text.specs.ConfigText.{is_skipped, kept, full_words, version_in, IsPrintable, ReadsLine, ReadsLines}
+use Rattle.config_text.specs.ConfigText.{HasKey, HasCount}
 use Rattle.config_text.specs.ConfigText.{RefusesLine, RefusesAt, Refuses, Spells}
-use Rattle.config_text.specs.Fields.{Spelling, spelling_of, key_at, fields_at, place_from, SpellsValue, SpellsFields, FailsFirst}
+use Rattle.config_text.specs.Fields.{Spelling, spelling_of, key_at, fields_at, place_from, SpellsValue, SpellsFields}
+use Rattle.config_text.specs.Fields.{FailsFirst}
 use Rattle.config_text.specs.Fields.{why_of}
 use Rattle.config_text.specs.Fields.Spelling.{Number, Word}
 use Rattle.config_text.specs.Words.{FitLines}
@@ -39,7 +42,8 @@ decide_printable : (line : List ℕ) → All IsPrintable line ⊎ (All IsPrintab
 decide_printable [] = inl (All-nil IsPrintable)
 decide_printable (x ∷ xs) =
     elim (cases_lt x 32) [
-      | inl low ↦ inr (λ all. let first : IsPrintable x = All-head IsPrintable x xs all in absurd (omega (arith, first.0, low)))
+      | inl low ↦ inr (λ all. let first : IsPrintable x = All-head IsPrintable x xs all in absurd
+          (omega (arith, first.0, low)))
       | inr least ↦
           elim (cases_lt 126 x) [
             | inl high ↦ inr (λ all. let first : IsPrintable x = All-head IsPrintable x xs all in
@@ -59,11 +63,16 @@ Decimal least greatest word = (n : ℕ) × SpellsValue (Number least greatest) n
 abbrev NoDecimal : ℕ → ℕ → List ℕ → Type 0
 NoDecimal least greatest word = (n : ℕ) → SpellsValue (Number least greatest) n word → ⊥
 
-decide_here : (least n : ℕ) (word : List ℕ) → ((word ≡ decimal n) × (least ≤ n)) ⊎ ((word ≡ decimal n) × (least ≤ n) → ⊥)
+decide_here : (least n : ℕ) (word : List ℕ) → ((word ≡ decimal n) × (least ≤ n))
+    ⊎ ((word ≡ decimal n) × (least ≤ n) → ⊥)
 decide_here least n word =
     elim (cases_lt n least) [
       | inl low ↦ inr (λ h. absurd (omega (arith, h.1, low)))
-      | inr enough ↦ elim (decide_bytes word (decimal n)) [ inl same ↦ inl (same, enough) | inr differ ↦ inr (λ h. differ h.0) ]
+      | inr enough ↦ elim (decide_bytes word (decimal n)) [
+        | inl same ↦ inl (same, enough)
+        | inr differ
+            ↦ inr (λ h. differ h.0)
+      ]
     ]
 
 decide_decimal : (least greatest : ℕ) (word : List ℕ) → Decimal least greatest word ⊎ NoDecimal least greatest word
@@ -125,7 +134,11 @@ decide_count : (v due : ℕ) (line : List ℕ) → HasCount v due line ⊎ (HasC
 decide_count v due line =
     elim (cases_eq (length (full_words v due line)) (length (fields_at due) + 1)) [
       | inl same ↦
-          elim (cases_lt due 263) [ inl room ↦ inl (same, room) | inr full ↦ inr (λ h. absurd (omega (arith, h.1, full))) ]
+          elim (cases_lt due 263) [
+            | inl room ↦ inl (same, room)
+            | inr full ↦ inr
+                (λ h. absurd (omega (arith, h.1, full)))
+          ]
       | inr differ ↦ inr (λ h. differ h.0)
     ]
 
@@ -148,7 +161,8 @@ decide_words v due line printable key count =
       | inr fails ↦ inr (fails.0, inr (inr (inr (printable, key, count, fails.1))))
     ]
 
-decide_line : (v due : ℕ) (line : List ℕ) → ((row : List ℕ) × ReadsLine v due line row) ⊎ ((why : TextWhy) × RefusesLine v due line why)
+decide_line : (v due : ℕ) (line : List ℕ) → ((row : List ℕ) × ReadsLine v due line row)
+    ⊎ ((why : TextWhy) × RefusesLine v due line why)
 decide_line v due line =
     elim (decide_printable line) [
       | inl printable ↦
@@ -176,12 +190,14 @@ decide_lines text before [] rows fits are reads =
     inl (rows, subst (λ (l : List (List ℕ)). ReadsLines (version_in text) 0 (kept l) rows) (sym all) reads)
 decide_lines text before (line ∷ left) rows fits are reads =
     decide_next text before left rows line fits are reads (is_skipped line) refl
-    (λ rows more. decide_lines text (before ++ line ∷ []) left rows fits (are ∙ sym (append_assoc before (line ∷ []) left))
+    (λ rows more. decide_lines text (before ++ line ∷ []) left rows fits (are
+    ∙ sym (append_assoc before (line ∷ []) left))
     more)
   where
     decide_next : (text : List ℕ) (before left rows : List (List ℕ)) (line : List ℕ) → length text ≤ 65536
         → lines text ≡ before ++ line ∷ left → ReadsLines (version_in text) 0 (kept before) rows
-        → (skipped : Bool) → is_skipped line ≡ skipped → ((more : List (List ℕ)) → ReadsLines (version_in text) 0 (kept (before ++ line ∷ [])) more
+        → (skipped : Bool) → is_skipped line ≡ skipped
+        → ((more : List (List ℕ)) → ReadsLines (version_in text) 0 (kept (before ++ line ∷ [])) more
         → Decided text) → Decided text
     decide_next text before left rows line fits are reads true skips go =
         let same : kept (before ++ line ∷ []) ≡ kept before =
@@ -197,7 +213,8 @@ decide_lines text before (line ∷ left) rows fits are reads =
               let more : ReadsLines (version_in text) 0 (kept before ++ line ∷ []) (rows ++ row.0 ∷ []) =
               lines_more (version_in text) 0 (kept before) rows line row.0 reads here in
               go (rows ++ row.0 ∷ [])
-              (subst (λ (l : List (List ℕ)). ReadsLines (version_in text) 0 l (rows ++ row.0 ∷ [])) (sym (kept-parted before [] line stays))
+              (subst (λ (l : List (List ℕ)). ReadsLines (version_in text) 0 l (rows ++ row.0 ∷ []))
+              (sym (kept-parted before [] line stays))
               more)
           | inr refuses ↦
               inr (
@@ -225,7 +242,8 @@ lines_fit v due [] (r ∷ rs) reads = absurd reads
 lines_fit v due (l ∷ ls) [] reads = absurd reads
 lines_fit v due (l ∷ ls) (r ∷ rs) reads = (line_fits v due l r reads.0, lines_fit v (suc due) ls rs reads.1)
 
-pub text_decided : (text : List ℕ) → ((c : Config) × Spells text c) ⊎ ((number : ℕ) × (why : TextWhy) × Refuses text number why)
+pub text_decided : (text : List ℕ) → ((c : Config) × Spells text c) ⊎ ((number : ℕ) × (why : TextWhy)
+    × Refuses text number why)
 text_decided text =
     elim (cases_lt 65536 (length text)) [
       | inl long ↦ inr (0, TooLong, inl record { long = long; at = refl; reason = refl })
@@ -251,8 +269,10 @@ text_decided text =
                         config_from reads.0,
                         record {
                           fits = fits;
-                          reads = subst (λ (rows : List (List ℕ)). ReadsLines (version_in text) 0 (kept (lines text)) rows)
-                              (sym (config_rows (version_in text) reads.0 (lines_fit (version_in text) 0 (kept (lines text)) reads.0 reads.1) enough
+                          reads = subst (λ (rows : List (List ℕ)). ReadsLines (version_in text) 0 (kept (lines text))
+                              rows)
+                              (sym (config_rows (version_in text) reads.0 (lines_fit (version_in text)
+                              0 (kept (lines text)) reads.0 reads.1) enough
                               (first_row (kept (lines text)) reads.0 reads.1 (omega (arith, enough))))) reads.1;
                         },
                       )

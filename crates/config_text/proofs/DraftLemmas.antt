@@ -17,7 +17,8 @@ pub row_later : (due : ℕ) (values : List ℕ) → 8 ≤ due → row_of due val
 row_later due values later = ap (λ fs. first_values (length fs) values) (fields_later due later)
 
 pub length-rows_of : (v : ℕ) (c : Config) → length (rows_of v c) ≡ 8 + length c.plps
-length-rows_of v c = length-append (first_rows v c) (map plp_row c.plps) ∙ ap (λ (n : ℕ). 8 + n) (length-map c.plps plp_row)
+length-rows_of v c = length-append (first_rows v c) (map plp_row c.plps)
+    ∙ ap (λ (n : ℕ). 8 + n) (length-map c.plps plp_row)
 
 -- the rows of a configuration with one PLP more
 more_rows : (front : List (List ℕ)) (plps : List Plp) (p : Plp) → front ++ map plp_row (plps ++ p ∷ [])
@@ -25,14 +26,17 @@ more_rows : (front : List (List ℕ)) (plps : List Plp) (p : Plp) → front ++ m
 more_rows front plps p = ap (λ (l : List (List ℕ)). front ++ l) (map-append plp_row plps (p ∷ []))
     ∙ sym (append_assoc front (map plp_row plps) (plp_row p ∷ []))
 
-pub puts_plp : (v due : ℕ) (old : Config) (p : Plp) (more : List Plp) (row : List ℕ) → 8 ≤ due → length old.plps ≡ due - 8
+pub puts_plp : (v due : ℕ) (old : Config) (p : Plp) (more : List Plp) (row : List ℕ) → 8 ≤ due
+    → length old.plps ≡ due - 8
     → more ≡ old.plps ++ p ∷ [] → plp_row p ≡ row
     → Puts v due row old (record old { plps = more })
 puts_plp v due old p more row later count are is =
     let size : length more ≡ length old.plps + 1 = ap length are ∙ length-append old.plps (p ∷ []) in
     let whole : take (suc due) (rows_of v (record old { plps = more })) ≡ rows_of v (record old { plps = more }) =
-    take_all (suc due) (rows_of v (record old { plps = more })) (omega (arith, length-rows_of v (record old { plps = more }))) in
-    let before : take due (rows_of v old) ≡ rows_of v old = take_all due (rows_of v old) (omega (arith, length-rows_of v old)) in
+    take_all (suc due) (rows_of v (record old { plps = more }))
+    (omega (arith, length-rows_of v (record old { plps = more }))) in
+    let before : take due (rows_of v old) ≡ rows_of v old = take_all due (rows_of v old)
+    (omega (arith, length-rows_of v old)) in
     let joined : rows_of v (record old { plps = more }) ≡ rows_of v old ++ row ∷ [] =
     ap (λ (l : List Plp). first_rows v old ++ map plp_row l) are ∙ more_rows (first_rows v old) old.plps p
     ∙ ap (λ (r : List ℕ). rows_of v old ++ r ∷ []) is in

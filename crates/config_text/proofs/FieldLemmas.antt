@@ -1,11 +1,11 @@
 -- The fields of a line, one after another.
-use Rattle.std.proofs.Common.{ℕ, zero, suc, ◌≡◌, ◌<◌, ◌≤◌, ◌+◌, ◌∷◌, ◌++◌, ◌∙◌, List, [], length, take, drop, get_or, set, ap}
-use Rattle.std.proofs.Common.{sym, subst, arith, refl, inl, inr, cond, Some, None, bytes_eq, Bool, true, false, append-nil}
-use Rattle.std.proofs.Common.{append_assoc, length-drop, map, Bor}
-use Rattle.std.proofs.lemmas.List.{at_drop_more, drop_more, length-set}
-use Rattle.std.proofs.lemmas.Grind.{take-set_at}
+use Rattle.std.proofs.Common.{ℕ, zero, suc, ◌≡◌, ◌<◌, ◌≤◌, ◌+◌, ◌∷◌, ◌++◌, ◌∙◌, List, [], length, take, drop, get_or}
+use Rattle.std.proofs.Common.{ap}
+use Rattle.std.proofs.Common.{sym, subst, arith, refl, cond, Some, None, bytes_eq, Bool, true, false, append-nil}
+use Rattle.std.proofs.Common.{length-drop, map, Bor}
+use Rattle.std.proofs.lemmas.List.{at_drop_more}
 use Rattle.config_text.specs.ConfigText.{ReadsLine}
-use Rattle.config_text.specs.Fields.{SpellsField, SpellsFields, SpellsValue, FailsFirst, why_of, Spelling, spelling_of}
+use Rattle.config_text.specs.Fields.{SpellsFields, SpellsValue, FailsFirst, Spelling, spelling_of}
 use Rattle.config_text.specs.Fields.{place_from, fields_at}
 use Rattle.config_text.specs.Fields.Spelling.{Number, Word}
 use Rattle.config_text.specs.Words.{values_from, first_values, Fits, FitFields}
@@ -13,15 +13,18 @@ use Rattle.config_text.specs.declared.field.Field.{Field}
 use Rattle.config_text.specs.declared.fault.TextWhy.{TextWhy}
 
 -- Fields up to i have their values, and the words that are left are for the others.
-pub record Goes (fields : List Field) (words : List (List ℕ)) (i : ℕ) (left : List (List ℕ)) (values : List ℕ) : Type 0 where
+pub record Goes (fields : List Field) (words : List (List ℕ)) (i : ℕ) (left : List (List ℕ)) (values : List ℕ) :
+    Type 0 where
   pub size : length values ≡ 12
   pub count : length left + i ≡ length fields
   pub ok : (vs : List ℕ) → SpellsFields (drop i fields) vs left → SpellsFields fields (take i values ++ vs) words
   pub err : (why : TextWhy) → FailsFirst (drop i fields) left why → FailsFirst fields words why
 
-values_from-cons : (x : ℕ) (n place : ℕ) (values : List ℕ) → values_from (suc place) n (x ∷ values) ≡ values_from place n values
+values_from-cons : (x : ℕ) (n place : ℕ) (values : List ℕ) → values_from (suc place) n (x ∷ values) ≡ values_from
+    place n values
 values_from-cons x zero place values = refl
-values_from-cons x (suc n) place values = ap (λ (l : List ℕ). get_or values place 0 ∷ l) (values_from-cons x n (suc place) values)
+values_from-cons x (suc n) place values = ap (λ (l : List ℕ). get_or values place 0 ∷ l)
+    (values_from-cons x n (suc place) values)
 
 pub first_values-take : (n : ℕ) (values : List ℕ) → n ≤ length values → first_values n values ≡ take n values
 first_values-take zero values within = refl
@@ -30,7 +33,8 @@ first_values-take (suc n) (x ∷ values) within =
     ap (λ (l : List ℕ). x ∷ l) (values_from-cons x n 0 values ∙ first_values-take n values (omega arith))
 
 -- nothing is left
-spelled_none : (fields : List Field) (left : List (List ℕ)) → length fields ≡ 0 → length left ≡ 0 → SpellsFields fields [] left
+spelled_none : (fields : List Field) (left : List (List ℕ)) → length fields ≡ 0 → length left ≡ 0
+    → SpellsFields fields [] left
 spelled_none [] [] a b = tt
 spelled_none [] (w ∷ ws) a b = absurd (omega arith)
 spelled_none (f ∷ fs) left a b = absurd (omega arith)
@@ -39,7 +43,8 @@ pub goes_ends : (fields : List Field) (words : List (List ℕ)) (i : ℕ) (left 
     → Goes fields words i left values → i ≡ length fields → length fields ≤ 12
     → SpellsFields fields (first_values (length fields) values) words
 goes_ends fields words i left values goes end few =
-    let none : SpellsFields (drop i fields) [] left = spelled_none (drop i fields) left (omega (arith, length-drop i fields))
+    let none : SpellsFields (drop i fields) [] left = spelled_none (drop i fields) left
+    (omega (arith, length-drop i fields))
     (omega (arith, goes.count)) in
     let all : SpellsFields fields (take i values) words = rw append-nil at (goes.ok [] none) in
     let same : first_values (length fields) values ≡ take i values =
@@ -57,7 +62,8 @@ pub place_next : (word : List ℕ) (words : List (Bor (List ℕ))) (at : ℕ) (o
     ≡ cond (bytes_eq word other.now) (Some at) (place_from (at + 1) word (words_now (drop (at + 1) words)))
 place_next word words at other inside is =
     at_drop_more (λ (l : List (Bor (List ℕ))). place_from at word (words_now l)) words at other inside
-    ∙ ap (λ (x : Bor (List ℕ)). cond (bytes_eq word x.now) (Some at) (place_from (at + 1) word (words_now (drop (at + 1) words))))
+    ∙ ap (λ (x : Bor (List ℕ)). cond (bytes_eq word x.now) (Some at)
+    (place_from (at + 1) word (words_now (drop (at + 1) words))))
     (sym is)
 
 -- a place is one of the list

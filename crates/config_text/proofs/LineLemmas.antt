@@ -1,17 +1,22 @@
 -- Lines that are read, and lines that are refused.
-use Rattle.std.proofs.Common.{ℕ, suc, ◌≡◌, ◌⊎◌, All, ◌<◌, ◌+◌, ◌^◌, ◌∷◌, ◌++◌, ◌∙◌, List, [], length, drop, ap, sym, subst, arith, refl}
+use Rattle.std.proofs.Common.{ℕ, suc, ◌≡◌, ◌⊎◌, All, ◌<◌, ◌+◌, ◌^◌, ◌∷◌, ◌++◌, ◌∙◌, List, [], length, drop, ap, sym}
+use Rattle.std.proofs.Common.{subst, arith, refl}
 use Rattle.std.proofs.Common.{inl, inr, lit≤, Some, ◌≤◌, ◌&&◌, ◌==◌, Bool, true, false, cond, append-nil}
 use Rattle.std.specs.Prelude.{slice_index_or, bytes_eq, codes, if◌then◌else◌}
 use Rattle.std.specs.Fmt.{decimal}
 use Rattle.std.proofs.lemmas.Bool.{cases_eq}
-use Rattle.std.proofs.lemmas.Fmt.{decimal_injective, decimal_by_steps}
-use Rattle.config_text.specs.ConfigText.{words_of, left_out, full_words, version_of, ReadsLine, ReadsLines, RefusesLine, HasKey, HasCount}
+use Rattle.std.proofs.lemmas.Fmt.{decimal_injective}
+use Rattle.std.proofs.lemmas.Fmt.{decimal_digit}
+use Rattle.config_text.specs.ConfigText.{words_of, left_out, full_words, version_of, ReadsLine, ReadsLines, RefusesLine}
+use Rattle.config_text.specs.ConfigText.{HasKey, HasCount}
 use Rattle.config_text.specs.ConfigText.{IsPrintable, most_lines}
 use Rattle.config_text.specs.declared.fault.TextWhy.TheVariants.{NotAscii, WrongKey, WrongCount}
-use Rattle.config_text.specs.Fields.{SpellsField, SpellsFields, SpellsValue, FailsFirst, Spelling, spelling_of, fields_at, key_at}
+use Rattle.config_text.specs.Fields.{SpellsField, SpellsFields, SpellsValue, FailsFirst, Spelling, spelling_of}
+use Rattle.config_text.specs.Fields.{fields_at, key_at}
 use Rattle.config_text.specs.Fields.Spelling.{Number, Word}
 use Rattle.config_text.specs.declared.field.Field.{Field}
-use Rattle.config_text.specs.declared.field.Field.TheVariants.{Version, Number8, Number16, Number32, Number64, Bandwidth, PlpType}
+use Rattle.config_text.specs.declared.field.Field.TheVariants.{Version, Number8, Number16, Number32, Number64}
+use Rattle.config_text.specs.declared.field.Field.TheVariants.{Bandwidth, PlpType}
 use Rattle.config_text.specs.declared.field.Field.TheVariants.{CodeRate, Constellation, BlockSize, Bit, Deletion}
 use Rattle.config_text.specs.declared.fault.TextWhy.{TextWhy}
 
@@ -43,7 +48,8 @@ value_once (Word words) m n word small a b = let same : Some m ≡ Some n = sym 
 field_once : (f : Field) (m n : ℕ) (word : List ℕ) → SpellsField f m word → SpellsField f n word → m ≡ n
 field_once f m n word a b = value_once (spelling_of f) m n word (narrow f) a b
 
-fields_once : (fs : List Field) (ms ns : List ℕ) (ws : List (List ℕ)) → SpellsFields fs ms ws → SpellsFields fs ns ws → ms ≡ ns
+fields_once : (fs : List Field) (ms ns : List ℕ) (ws : List (List ℕ)) → SpellsFields fs ms ws → SpellsFields fs ns ws
+    → ms ≡ ns
 fields_once [] [] [] [] a b = refl
 fields_once [] [] (n ∷ ns) [] a b = absurd b
 fields_once [] (m ∷ ms) ns [] a b = absurd a
@@ -66,7 +72,8 @@ fields_count (f ∷ fs) (n ∷ ns) [] a = absurd a
 fields_count (f ∷ fs) (n ∷ ns) (w ∷ ws) a = ap (λ (k : ℕ). suc k) (fields_count fs ns ws a.1)
 
 -- words that spell values do not fail
-fields_not : (fs : List Field) (ns : List ℕ) (ws : List (List ℕ)) (why : TextWhy) → SpellsFields fs ns ws → FailsFirst fs ws why
+fields_not : (fs : List Field) (ns : List ℕ) (ws : List (List ℕ)) (why : TextWhy) → SpellsFields fs ns ws
+    → FailsFirst fs ws why
     → ⊥
 fields_not [] ns ws why a b = absurd b
 fields_not (f ∷ fs) ns [] why a b = absurd b
@@ -74,7 +81,8 @@ fields_not (f ∷ fs) [] (w ∷ ws) why a b = absurd a
 fields_not (f ∷ fs) (n ∷ ns) (w ∷ ws) why a (inl fails) = fails.0 n a.0
 fields_not (f ∷ fs) (n ∷ ns) (w ∷ ws) why a (inr later) = fields_not fs ns ws why a.1 later.2
 
-fails_once : (fs : List Field) (ws : List (List ℕ)) (why other : TextWhy) → FailsFirst fs ws why → FailsFirst fs ws other
+fails_once : (fs : List Field) (ws : List (List ℕ)) (why other : TextWhy) → FailsFirst fs ws why
+    → FailsFirst fs ws other
     → why ≡ other
 fails_once [] ws why other a b = absurd a
 fails_once (f ∷ fs) [] why other a b = absurd a
@@ -101,7 +109,8 @@ has_count v due line row reads = (
 )
 
 -- and is not refused
-pub line_not : (v due : ℕ) (line row : List ℕ) (why : TextWhy) → ReadsLine v due line row → RefusesLine v due line why → ⊥
+pub line_not : (v due : ℕ) (line row : List ℕ) (why : TextWhy) → ReadsLine v due line row → RefusesLine v due line why
+    → ⊥
 line_not v due line row why reads (inl a) = a.0 reads.printable
 line_not v due line row why reads (inr (inl a)) = a.1 (has_key v due line row reads)
 line_not v due line row why reads (inr (inr (inl a))) = a.2 (has_count v due line row reads)
@@ -111,7 +120,8 @@ line_not v due line row why reads (inr (inr (inr a))) =
     (subst (λ (l : List (List ℕ)). FailsFirst (fields_at due) l why) words a.3)
 
 -- a line has one refusal
-pub line_refused_once : (v due : ℕ) (line : List ℕ) (why other : TextWhy) → RefusesLine v due line why → RefusesLine v due line other
+pub line_refused_once : (v due : ℕ) (line : List ℕ) (why other : TextWhy) → RefusesLine v due line why
+    → RefusesLine v due line other
     → why ≡ other
 line_refused_once v due line why other (inl a) (inl b) = a.1 ∙ sym b.1
 line_refused_once v due line why other (inl a) (inr (inl b)) = absurd (a.0 b.0)
@@ -163,14 +173,16 @@ lines_more v due (l ∷ ls) (r ∷ rs) line row reads last =
     (reads.0, lines_more v (suc due) ls rs line row reads.1 (subst (λ (d : ℕ). ReadsLine v d line row) e last))
 
 -- a line among lines that are read is read
-pub lines_at : (v due : ℕ) (before after rows : List (List ℕ)) (line : List ℕ) → ReadsLines v due (before ++ line ∷ after) rows
+pub lines_at : (v due : ℕ) (before after rows : List (List ℕ)) (line : List ℕ)
+    → ReadsLines v due (before ++ line ∷ after) rows
     → (row : List ℕ) × ReadsLine v (due + length before) line row
 lines_at v due [] after [] line reads = absurd reads
 lines_at v due [] after (r ∷ rs) line reads =
     (r, let e : due ≡ due + 0 = omega arith in subst (λ (d : ℕ). ReadsLine v d line r) e reads.0)
 lines_at v due (l ∷ ls) after [] line reads = absurd reads
 lines_at v due (l ∷ ls) after (r ∷ rs) line reads =
-    let later : (row : List ℕ) × ReadsLine v (suc due + length ls) line row = lines_at v (suc due) ls after rs line reads.1 in
+    let later : (row : List ℕ) × ReadsLine v (suc due + length ls) line row = lines_at v (suc due) ls
+    after rs line reads.1 in
     let e : suc due + length ls ≡ due + suc (length ls) = omega arith in
     (later.0, subst (λ (d : ℕ). ReadsLine v d line later.0) e later.1)
 
@@ -185,7 +197,8 @@ left_out-first version = none (version == 1)
     none false = refl
 
 first_words : (version : ℕ) (line : List ℕ) → full_words version 0 line ≡ words_of line
-first_words version line = ap (λ (l : List (List ℕ)). words_of line ++ l) (left_out-first version) ∙ append-nil (words_of line)
+first_words version line = ap (λ (l : List (List ℕ)). words_of line ++ l) (left_out-first version)
+    ∙ append-nil (words_of line)
 
 -- so it is read alike in every version
 pub reads_first : (version other : ℕ) (line row : List ℕ) → ReadsLine version 0 line row → ReadsLine other 0 line row
@@ -200,28 +213,25 @@ reads_first version other line row reads = record {
 pub refuses_first : (version other : ℕ) (line : List ℕ) (why : TextWhy) → RefusesLine version 0 line why
     → RefusesLine other 0 line why
 refuses_first version other line why refuses =
-    let same : full_words version 0 line ≡ full_words other 0 line = first_words version line ∙ sym (first_words other line) in
+    let same : full_words version 0 line ≡ full_words other 0 line = first_words version line
+    ∙ sym (first_words other line) in
     subst (λ (l : List (List ℕ)). ((All IsPrintable line → ⊥) × (why ≡ NotAscii))
     ⊎ ((All IsPrintable line × (slice_index_or l 0 [] ≡ key_at 0 → ⊥) × (why ≡ WrongKey))
     ⊎ ((All IsPrintable line × (slice_index_or l 0 [] ≡ key_at 0)
     × (((length l ≡ length (fields_at 0) + 1) × (0 < most_lines)) → ⊥) × (why ≡ WrongCount))
-    ⊎ (All IsPrintable line × (slice_index_or l 0 [] ≡ key_at 0) × ((length l ≡ length (fields_at 0) + 1) × (0 < most_lines))
+    ⊎ (All IsPrintable line × (slice_index_or l 0 [] ≡ key_at 0) × ((length l ≡ length (fields_at 0) + 1)
+    × (0 < most_lines))
     × FailsFirst (fields_at 0) (drop 1 l) why)))) same refuses
-
--- a number of one digit
-one_digit : (n : ℕ) → n < 10 → decimal n ≡ (48 + n) ∷ []
-one_digit n small =
-    decimal_by_steps (λ m ds. m < 10 → ds ≡ (48 + m) ∷ []) (λ m lt few. refl) (λ m ds large rest few. absurd (omega arith)) n
-    (omega arith) small
 
 -- a number of the version, and the version that its word tells
 told : (n : ℕ) (word : List ℕ) → word ≡ decimal n → 1 ≤ n → n ≤ 2 → (if bytes_eq word (codes "1") then 1 else 2) ≡ n
 told n word is least most = elim (cases_eq n 1) [
-  | inl one ↦ ap (λ (w : List ℕ). if bytes_eq w (codes "1") then 1 else 2) (is ∙ ap decimal one ∙ one_digit 1 (omega arith))
+  | inl one ↦ ap (λ (w : List ℕ). if bytes_eq w (codes "1") then 1 else 2) (is ∙ ap decimal one
+      ∙ decimal_digit 1 (omega arith))
       ∙ sym one
   | inr more ↦
       let two : n ≡ 2 = omega (arith, more, least, most) in
-      ap (λ (w : List ℕ). if bytes_eq w (codes "1") then 1 else 2) (is ∙ ap decimal two ∙ one_digit 2 (omega arith))
+      ap (λ (w : List ℕ). if bytes_eq w (codes "1") then 1 else 2) (is ∙ ap decimal two ∙ decimal_digit 2 (omega arith))
       ∙ sym two
 ]
 

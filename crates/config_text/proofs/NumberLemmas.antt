@@ -7,7 +7,8 @@ use Rattle.std.specs.Str.Parse.{ParsesUnsigned}
 use Rattle.std.proofs.lemmas.Fmt.{parse-decimal, decimal_injective, IsAscii-decimal}
 use Rattle.std.proofs.lemmas.Str.{IsUtf8-from_ascii}
 
-pub parsed_is : {E : Type 0} (n number : ℕ) (word text : List ℕ) (r : Result ℕ E) → n < 2 ^ 64 → text ≡ word → word ≡ decimal n
+pub parsed_is : {E : Type 0} (n number : ℕ) (word text : List ℕ) (r : Result ℕ E) → n < 2 ^ 64 → text ≡ word
+    → word ≡ decimal n
     → ParsesUnsigned 64 10 text r → r ≡ Ok number
     → number ≡ n
 parsed_is n number word text r fits same spelled parses is =

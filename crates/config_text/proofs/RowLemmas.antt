@@ -4,7 +4,7 @@ use Rattle.std.proofs.Common.{ap, sym, refl, map, drop, get_or}
 use Rattle.config_text.specs.Fields.{frame_fields, start_fields, network_fields, l1_fields, plp_fields}
 use Rattle.config_text.specs.Words.{first_values, FitFields, FitLines}
 use Rattle.config_text.specs.declared.field.Field.{Field}
-use Rattle.config_text.specs.declared.field.Field.TheVariants.{Version, Bandwidth, Number16}
+use Rattle.config_text.specs.declared.field.Field.TheVariants.{Bandwidth, Number16}
 use Rattle.config_text.proofs.DraftLemmas.{fields_later}
 use Rattle.config_text.proofs.FieldLemmas.{first_values-take}
 use Rattle.std.proofs.lemmas.List.{get_or-map, take_all}
@@ -156,7 +156,8 @@ plp_put row fits =
     let size_is = put plp_fec_type all_sizes Short refl (get_or row 5 0) at.1.1.1.1.1.0 in
     let bit_is = put bit_place all_bits false refl (get_or row 6 0) at.1.1.1.1.1.1.0 in
     let deletion_is = put deletion_place all_deletions true refl (get_or row 9 0) at.1.1.1.1.1.1.1.1.1.0 in
-    (λ i. get_or row 0 0 ∷ type_is i ∷ get_or row 2 0 ∷ rate_is i ∷ modulation_is i ∷ size_is i ∷ bit_is i ∷ get_or row 7 0
+    (λ i. get_or row 0 0 ∷ type_is i ∷ get_or row 2 0 ∷ rate_is i ∷ modulation_is i ∷ size_is i ∷ bit_is
+    i ∷ get_or row 7 0
     ∷ get_or row 8 0 ∷ deletion_is i ∷ get_or row 10 0 ∷ get_or row 11 0 ∷ [])
     ∙ row_values plp_fields row fits
 
@@ -236,4 +237,5 @@ config_rows v (r0 ∷ r1 ∷ r2 ∷ r3 ∷ r4 ∷ r5 ∷ r6 ∷ r7 ∷ rest) fit
     let l1_is : first_values 12 r6 ≡ r6 = row_values l1_fields r6 fits.1.1.1.1.1.1.0 in
     let sub_slices_is : first_values 1 r7 ≡ r7 = row_values (Number16 ∷ []) r7 fits.1.1.1.1.1.1.1.0 in
     let plps_is : map plp_row (map plp_from rest) ≡ rest = plps_put 8 rest (omega arith) fits.1.1.1.1.1.1.1.1 in
-    λ i. version_is i ∷ bands_are i ∷ frame_is i ∷ start_is i ∷ pid_is i ∷ network_is i ∷ l1_is i ∷ sub_slices_is i ∷ plps_is i
+    λ i. version_is i ∷ bands_are i ∷ frame_is i ∷ start_is i ∷ pid_is i ∷ network_is i ∷ l1_is i ∷ sub_slices_is
+    i ∷ plps_is i

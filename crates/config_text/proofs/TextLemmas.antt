@@ -1,5 +1,6 @@
 -- Texts that are read, and texts that are refused.
-use Rattle.std.proofs.Common.{ℕ, suc, ◌≡◌, ◌≢◌, ◌<◌, ◌≤◌, ◌+◌, ◌∷◌, ◌++◌, ◌∙◌, ◌⊎◌, List, [], Bool, true, false, length, take, ap, sym}
+use Rattle.std.proofs.Common.{ℕ, suc, ◌≡◌, ◌≢◌, ◌≤◌, ◌+◌, ◌∷◌, ◌++◌, ◌∙◌, ◌⊎◌, List, [], Bool, true, false, length}
+use Rattle.std.proofs.Common.{take, ap, sym}
 use Rattle.std.proofs.Common.{subst, arith, refl, inl, inr, append_assoc, append-nil, length-append, cond, not, ◌==◌}
 use Rattle.std.specs.Prelude.{Result, Ok, Err, IfOk, IfErr}
 use Rattle.std.specs.List.{slice_split}
@@ -10,16 +11,17 @@ use Rattle.std.proofs.lemmas.List.Elements.{filter-append}
 use Rattle.std.proofs.lemmas.List.Splits.{length-slice_split}
 use Rattle.std.proofs.lemmas.List.Sums.{count_by-le-length}
 use Rattle.plp_config.specs.declared.config.Config.{Config}
-use Rattle.config_text.specs.ConfigText.{is_skipped, kept, ReadsLine, ReadsLines, RefusesLine, RefusesAt, Refuses, CausesFault}
+use Rattle.config_text.specs.ConfigText.{is_skipped, kept, ReadsLine, ReadsLines, RefusesLine, RefusesAt, Refuses}
+use Rattle.config_text.specs.ConfigText.{CausesFault}
 use Rattle.config_text.specs.ConfigText.{version_of, version_in, Spells}
 use Rattle.config_text.specs.Rows.{rows_of}
 use Rattle.config_text.specs.Drafts.{Takes, Stands, RefusesDue}
 use Rattle.config_text.specs.declared.fault.TextWhy.{TextWhy}
-use Rattle.config_text.specs.declared.fault.TextWhy.TheVariants.{EndsEarly}
 use Rattle.config_text.specs.declared.fault.TextFault.{TextFault}
 use Rattle.config_text.specs.declared.fault.TextFault.TheVariants.{Refused, OutOfMemory}
 use Rattle.config_text.proofs.DraftLemmas.{length-rows_of}
-use Rattle.config_text.proofs.LineLemmas.{version_read, reads_first, refuses_first, line_not, line_refused_once, lines_once, lines_count, lines_more, lines_at}
+use Rattle.config_text.proofs.LineLemmas.{version_read, reads_first, refuses_first, line_not, line_refused_once}
+use Rattle.config_text.proofs.LineLemmas.{lines_once, lines_count, lines_more, lines_at}
 use Rattle.config_text.proofs.RowLemmas.{config_once}
 
 -- a list that is parted at two of its elements
@@ -51,7 +53,8 @@ parted (x ∷ a) (y ∷ b) c d l k e =
     ]
 
 -- a line that is kept or skipped
-pub kept-cons : (line : List ℕ) (after : List (List ℕ)) → is_skipped line ≡ false → kept (line ∷ after) ≡ line ∷ kept after
+pub kept-cons : (line : List ℕ) (after : List (List ℕ)) → is_skipped line ≡ false
+    → kept (line ∷ after) ≡ line ∷ kept after
 kept-cons line after stays = cond-true (not (is_skipped line)) (line ∷ kept after) (kept after) (ap not stays)
 
 pub kept-skip : (line : List ℕ) (after : List (List ℕ)) → is_skipped line ≡ true → kept (line ∷ after) ≡ kept after
@@ -60,24 +63,28 @@ kept-skip line after skips = cond-false (not (is_skipped line)) (line ∷ kept a
 pub kept-append : (before after : List (List ℕ)) → kept (before ++ after) ≡ kept before ++ kept after
 kept-append before after = filter-append (λ line. not (is_skipped line)) before after
 
-pub kept-parted : (before after : List (List ℕ)) (line : List ℕ) → is_skipped line ≡ false → kept (before ++ line ∷ after)
+pub kept-parted : (before after : List (List ℕ)) (line : List ℕ) → is_skipped line ≡ false
+    → kept (before ++ line ∷ after)
     ≡ kept before ++ line ∷ kept after
 kept-parted before after line stays = kept-append before (line ∷ after) ∙ ap (λ (l : List (List ℕ)). kept before ++ l)
     (kept-cons line after stays)
 
 -- a line that is kept among lines that are read is read if it is due
-reads_at : (v : ℕ) (all before after rows : List (List ℕ)) (line : List ℕ) → all ≡ before ++ line ∷ after → is_skipped line ≡ false
+reads_at : (v : ℕ) (all before after rows : List (List ℕ)) (line : List ℕ) → all ≡ before ++ line ∷ after
+    → is_skipped line ≡ false
     → ReadsLines v 0 (kept all) rows
     → (row : List ℕ) × ReadsLine v (length (kept before)) line row
 reads_at v all before after rows line are stays reads =
     let parts : kept all ≡ kept before ++ line ∷ kept after = ap kept are ∙ kept-parted before after line stays in
     let found : (row : List ℕ) × ReadsLine v (0 + length (kept before)) line row =
-    lines_at v 0 (kept before) (kept after) rows line (subst (λ (l : List (List ℕ)). ReadsLines v 0 l rows) parts reads) in
+    lines_at v 0 (kept before) (kept after) rows line (subst (λ (l : List (List ℕ)). ReadsLines v 0 l rows)
+    parts reads) in
     let e : 0 + length (kept before) ≡ length (kept before) = omega arith in
     (found.0, subst (λ (d : ℕ). ReadsLine v d line found.0) e found.1)
 
 -- lines that are all read have none that is refused
-reads_not : (text : List ℕ) (rows : List (List ℕ)) (number : ℕ) (why : TextWhy) → ReadsLines (version_in text) 0 (kept (lines text)) rows
+reads_not : (text : List ℕ) (rows : List (List ℕ)) (number : ℕ) (why : TextWhy)
+    → ReadsLines (version_in text) 0 (kept (lines text)) rows
     → RefusesAt text number why → ⊥
 reads_not text rows number why reads at =
     let found : (row : List ℕ) × ReadsLine (version_in text) (length (kept at.before)) at.line row =
@@ -89,7 +96,8 @@ not_before : (v : ℕ) (before other m : List (List ℕ)) (line rest : List ℕ)
     → other ≡ before ++ line ∷ m → is_skipped line ≡ false
     → ReadsLines v 0 (kept other) rows → RefusesLine v (length (kept before)) line why → ⊥
 not_before v before other m line rest rows why are stays reads refuses =
-    let found : (row : List ℕ) × ReadsLine v (length (kept before)) line row = reads_at v other before m rows line are stays reads in
+    let found : (row : List ℕ) × ReadsLine v (length (kept before)) line row = reads_at v other before
+    m rows line are stays reads in
     line_not v (length (kept before)) line found.0 why found.1 refuses
 
 at_once : (text : List ℕ) (m n : ℕ) (why other : TextWhy) → RefusesAt text m why → RefusesAt text n other
@@ -100,10 +108,16 @@ at_once text m n why other a b =
           let front : a.before ≡ b.before = same.0 in
           let here : RefusesLine (version_in text) (length (kept b.before)) b.line why =
           subst (λ (l : List ℕ). RefusesLine (version_in text) (length (kept b.before)) l why) same.1
-          (subst (λ (l : List (List ℕ)). RefusesLine (version_in text) (length (kept l)) a.line why) front a.refuses) in
-          (omega (arith, a.at, b.at, ap length front), line_refused_once (version_in text) (length (kept b.before)) b.line why other here b.refuses)
-      | inr (inl more) ↦ absurd (not_before (version_in text) a.before b.before more.0 a.line [] b.rows why more.1 a.stays b.reads a.refuses)
-      | inr (inr more) ↦ absurd (not_before (version_in text) b.before a.before more.0 b.line [] a.rows other more.1 b.stays a.reads b.refuses)
+          (subst (λ (l : List (List ℕ)). RefusesLine (version_in text) (length (kept l)) a.line why)
+          front a.refuses) in (
+            omega (arith, a.at, b.at, ap length front),
+            line_refused_once (version_in text) (length (kept b.before))
+                b.line why other here b.refuses,
+          )
+      | inr (inl more) ↦ absurd (not_before (version_in text) a.before b.before more.0 a.line [] b.rows
+          why more.1 a.stays b.reads a.refuses)
+      | inr (inr more) ↦ absurd (not_before (version_in text) b.before a.before more.0 b.line [] a.rows
+          other more.1 b.stays a.reads b.refuses)
     ]
 
 -- a text has one refusal
@@ -120,16 +134,25 @@ text_refused_once text m n why other (inr (inr a)) (inr (inl b)) = absurd (reads
 text_refused_once text m n why other (inr (inr a)) (inr (inr b)) = at_once text m n why other a b
 
 -- a text that spells a configuration is not refused
-pub text_not_refused : (text : List ℕ) (c : Config) (number : ℕ) (why : TextWhy) → Spells text c → Refuses text number why → ⊥
+pub text_not_refused : (text : List ℕ) (c : Config) (number : ℕ) (why : TextWhy) → Spells text c
+    → Refuses text number why → ⊥
 text_not_refused text c number why spells (inl a) = omega (arith, spells.fits, a.long)
 text_not_refused text c number why spells (inr (inl a)) =
-    omega (arith, a.few, lines_count (version_in text) 0 (kept (lines text)) (rows_of (version_in text) c) spells.reads, length-rows_of (version_in text) c)
-text_not_refused text c number why spells (inr (inr a)) = reads_not text (rows_of (version_in text) c) number why spells.reads a
+    omega (
+      arith,
+      a.few,
+      lines_count (version_in text) 0 (kept (lines text)) (rows_of (version_in text) c)
+          spells.reads,
+      length-rows_of (version_in text) c,
+    )
+text_not_refused text c number why spells (inr (inr a)) = reads_not text (rows_of (version_in text) c)
+    number why spells.reads a
 
 -- a text spells one configuration
 pub text_spelled_once : (text : List ℕ) (c d : Config) → Spells text c → Spells text d → c ≡ d
 text_spelled_once text c d one two =
-    config_once (version_in text) c d (lines_once (version_in text) 0 (kept (lines text)) (rows_of (version_in text) c) (rows_of (version_in text) d) one.reads two.reads)
+    config_once (version_in text) c d (lines_once (version_in text) 0 (kept (lines text)) (rows_of (version_in text) c)
+    (rows_of (version_in text) d) one.reads two.reads)
 
 -- what a reader answers that is right each time it answers
 pub read_every : (text : List ℕ) (c : Config) (result : Result Config TextFault) → IfOk result (Spells text)
@@ -141,7 +164,8 @@ read_every text c (Ok d) ok err spells =
 read_every text c (Err (Refused line why)) ok err spells = absurd (text_not_refused text c line why spells err)
 read_every text c (Err OutOfMemory) ok err spells = inr refl
 
-pub read_refused : (text : List ℕ) (line : ℕ) (why : TextWhy) (result : Result Config TextFault) → IfOk result (Spells text)
+pub read_refused : (text : List ℕ) (line : ℕ) (why : TextWhy) (result : Result Config TextFault)
+    → IfOk result (Spells text)
     → IfErr result (CausesFault text) → Refuses text line why
     → (result ≡ Err (Refused line why)) ⊎ (result ≡ Err OutOfMemory)
 read_refused text line why (Ok d) ok err refuses = absurd (text_not_refused text d line why ok refuses)
@@ -172,7 +196,8 @@ length-lines text =
       count_by-le-length (λ b. b == 10) text,
     )
 
-pub stands_first : (text : List ℕ) (left : List (List ℕ)) (version : ℕ) (config : Config) → length text ≤ 65536 → left ≡ lines text
+pub stands_first : (text : List ℕ) (left : List (List ℕ)) (version : ℕ) (config : Config) → length text ≤ 65536
+    → left ≡ lines text
     → length config.plps ≡ 0 → Stands text left 0 0 version config
 stands_first text left version config fits are plps = record {
   before = [];
@@ -186,18 +211,23 @@ stands_first text left version config fits are plps = record {
   order = omega arith;
 }
 
-pub stands_skipped : (text : List ℕ) (old left : List (List ℕ)) (line : List ℕ) (number due version : ℕ) (config : Config)
-    → Stands text old number due version config → old ≡ line ∷ left → is_skipped line ≡ true → Stands text left (number + 1) due version config
+pub stands_skipped : (text : List ℕ) (old left : List (List ℕ)) (line : List ℕ) (number due version : ℕ)
+    (config : Config)
+    → Stands text old number due version config → old ≡ line ∷ left → is_skipped line ≡ true
+    → Stands text left (number + 1) due version config
 stands_skipped text old left line number due version config stands split skips =
     let same : kept (stands.before ++ line ∷ []) ≡ kept stands.before =
-    kept-append stands.before (line ∷ []) ∙ ap (λ (l : List (List ℕ)). kept stands.before ++ l) (kept-skip line [] skips)
+    kept-append stands.before (line ∷ []) ∙ ap (λ (l : List (List ℕ)). kept stands.before ++ l)
+    (kept-skip line [] skips)
     ∙ append-nil (kept stands.before) in
     record {
       before = stands.before ++ line ∷ [];
-      are = stands.are ∙ ap (λ (l : List (List ℕ)). stands.before ++ l) split ∙ sym (append_assoc stands.before (line ∷ []) left);
+      are = stands.are ∙ ap (λ (l : List (List ℕ)). stands.before ++ l) split
+          ∙ sym (append_assoc stands.before (line ∷ []) left);
       counted = omega (arith, stands.counted, length-append stands.before (line ∷ []));
       kept_count = stands.kept_count ∙ ap length (sym same);
-      reads = subst (λ (l : List (List ℕ)). ReadsLines (version_in text) 0 l (take due (rows_of (version_in text) config))) (sym same) stands.reads;
+      reads = subst (λ (l : List (List ℕ)). ReadsLines (version_in text) 0 l
+          (take due (rows_of (version_in text) config))) (sym same) stands.reads;
       told = stands.told;
       plps = stands.plps;
       small = omega (arith, stands.small, ap length split);
@@ -228,7 +258,8 @@ read_here text before left line row due version are stays count told reads = eli
     no_lines [] e = refl
     no_lines (l ∷ ls) e = absurd (omega arith)
 
-pub stands_taken : (text : List ℕ) (before left : List (List ℕ)) (line : List ℕ) (number due version told : ℕ) (old new : Config)
+pub stands_taken : (text : List ℕ) (before left : List (List ℕ)) (line : List ℕ) (number due version told : ℕ)
+    (old new : Config)
     → Stands text before number due version old → before ≡ line ∷ left → is_skipped line ≡ false
     → Takes version due line old new told
     → Stands text left (number + 1) (due + 1) told new
@@ -236,27 +267,33 @@ stands_taken text before left line number due version told old new stands split 
     let v : ℕ = version_in text in
     let are : lines text ≡ stands.before ++ line ∷ left =
     stands.are ∙ ap (λ (l : List (List ℕ)). stands.before ++ l) split in
-    let read = read_here text stands.before left line takes.row due version are stays stands.kept_count stands.told takes.reads in
+    let read = read_here text stands.before left line takes.row due version are stays stands.kept_count
+    stands.told takes.reads in
     let puts = takes.puts (version_in text) read.1 in
-    let more : kept (stands.before ++ line ∷ []) ≡ kept stands.before ++ line ∷ [] = kept-parted stands.before [] line stays in
+    let more : kept (stands.before ++ line ∷ []) ≡ kept stands.before ++ line ∷ [] = kept-parted stands.before
+    [] line stays in
     let here : ReadsLine (version_in text) (0 + length (kept stands.before)) line takes.row =
     (let e : due ≡ 0 + length (kept stands.before) = omega (arith, stands.kept_count) in
     subst (λ (d : ℕ). ReadsLine (version_in text) d line takes.row) e read.0) in
     let reads : ReadsLines (version_in text) 0 (kept stands.before ++ line ∷ [])
     (take due (rows_of (version_in text) old) ++ takes.row ∷ []) =
-    lines_more (version_in text) 0 (kept stands.before) (take due (rows_of (version_in text) old)) line takes.row stands.reads
+    lines_more (version_in text) 0 (kept stands.before) (take due (rows_of (version_in text) old)) line
+    takes.row stands.reads
     here in
     let next : suc due ≡ due + 1 = omega arith in
-    let rows : take due (rows_of (version_in text) old) ++ takes.row ∷ [] ≡ take (due + 1) (rows_of (version_in text) new) =
+    let rows : take due (rows_of (version_in text) old) ++ takes.row ∷ [] ≡ take (due + 1)
+    (rows_of (version_in text) new) =
     sym puts.rows ∙ ap (λ (n : ℕ). take n (rows_of (version_in text) new)) next in
     record {
       before = stands.before ++ line ∷ [];
       are = are ∙ sym (append_assoc stands.before (line ∷ []) left);
       counted = omega (arith, stands.counted, length-append stands.before (line ∷ []));
       kept_count = omega (arith, stands.kept_count, ap length more, length-append (kept stands.before) (line ∷ []));
-      reads = subst (λ (l : List (List ℕ)). ReadsLines (version_in text) 0 l (take (due + 1) (rows_of (version_in text) new)))
+      reads = subst (λ (l : List (List ℕ)). ReadsLines (version_in text) 0 l
+          (take (due + 1) (rows_of (version_in text) new)))
           (sym more)
-          (subst (λ (r : List (List ℕ)). ReadsLines (version_in text) 0 (kept stands.before ++ line ∷ []) r) rows reads);
+          (subst (λ (r : List (List ℕ)). ReadsLines (version_in text) 0 (kept stands.before ++ line ∷ []) r)
+          rows reads);
       told = λ some. elim (cases_eq due 0) [
         | inl first ↦
             let both : told ∷ [] ≡ version_in text ∷ [] = sym (takes.first first) ∙ read.1 first in cc
@@ -267,13 +304,15 @@ stands_taken text before left line number due version told old new stands split 
       order = omega (arith, stands.order);
     }
 
-pub stands_refused : (text : List ℕ) (old left : List (List ℕ)) (line : List ℕ) (number due version : ℕ) (config : Config) (why : TextWhy)
+pub stands_refused : (text : List ℕ) (old left : List (List ℕ)) (line : List ℕ) (number due version : ℕ)
+    (config : Config) (why : TextWhy)
     → length text ≤ 65536 → Stands text old number due version config → old ≡ line ∷ left → is_skipped line ≡ false
     → RefusesLine version due line why → Refuses text (number + 1) why
 stands_refused text old left line number due version config why fits stands split stays refuses =
     let here : RefusesLine (version_in text) due line why = elim (cases_eq due 0) [
       | inl first ↦ subst (λ (d : ℕ). RefusesLine (version_in text) d line why) (sym first)
-          (refuses_first version (version_in text) line why (subst (λ (d : ℕ). RefusesLine version d line why) first refuses))
+          (refuses_first version (version_in text) line why (subst (λ (d : ℕ). RefusesLine version d line why)
+          first refuses))
       | inr later ↦ subst (λ (v : ℕ). RefusesLine v due line why) (stands.told later) refuses
     ] in
     inr (inr record {
@@ -289,19 +328,23 @@ stands_refused text old left line number due version config why fits stands spli
       at = ap (λ (n : ℕ). n + 1) stands.counted;
     })
 
-all_before : (text : List ℕ) (number due version : ℕ) (config : Config) (stands : Stands text [] number due version config)
+all_before : (text : List ℕ) (number due version : ℕ) (config : Config) (stands : Stands text [] number
+    due version config)
     → lines text ≡ stands.before
 all_before text number due version config stands = stands.are ∙ append-nil stands.before
 
-pub stands_whole : (text : List ℕ) (number due version : ℕ) (config : Config) → length text ≤ 65536 → Stands text [] number due version config
+pub stands_whole : (text : List ℕ) (number due version : ℕ) (config : Config) → length text ≤ 65536
+    → Stands text [] number due version config
     → 8 ≤ due → Spells text config
 stands_whole text number due version config fits stands enough =
     let all : lines text ≡ stands.before = all_before text number due version config stands in
     let rows : take due (rows_of (version_in text) config) ≡ rows_of (version_in text) config =
-    take_all due (rows_of (version_in text) config) (omega (arith, length-rows_of (version_in text) config, stands.plps)) in
+    take_all due (rows_of (version_in text) config)
+    (omega (arith, length-rows_of (version_in text) config, stands.plps)) in
     record {
       fits = fits;
-      reads = subst (λ (l : List (List ℕ)). ReadsLines (version_in text) 0 (kept l) (rows_of (version_in text) config)) (sym all)
+      reads = subst (λ (l : List (List ℕ)). ReadsLines (version_in text) 0 (kept l) (rows_of (version_in text) config))
+          (sym all)
           (subst (λ (r : List (List ℕ)). ReadsLines (version_in text) 0 (kept stands.before) r) rows stands.reads);
     }
 

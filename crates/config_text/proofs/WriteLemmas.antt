@@ -1,6 +1,7 @@
 -- Words are written one after another.
-use Rattle.std.proofs.Common.{ℕ, zero, suc, ◌≡◌, ◌<◌, ◌≤◌, ◌+◌, ◌-◌, ◌∷◌, ◌++◌, ◌∙◌, List, [], length, drop, get_or, ap, sym}
-use Rattle.std.proofs.Common.{subst, arith, refl, append_assoc, append-nil, length-drop, take, map}
+use Rattle.std.proofs.Common.{ℕ, zero, suc, ◌≡◌, ◌<◌, ◌≤◌, ◌+◌, ◌-◌, ◌∷◌, ◌++◌, ◌∙◌, List, [], length, drop, get_or, ap}
+use Rattle.std.proofs.Common.{sym}
+use Rattle.std.proofs.Common.{subst, arith, refl, append_assoc, append-nil, take, map}
 use Rattle.std.specs.List.{flat_map}
 use Rattle.std.proofs.lemmas.Grind.{flat_map-append}
 use Rattle.std.proofs.lemmas.List.{drop_more, take_all, get_or-map, get_or-append_right}
@@ -24,12 +25,14 @@ pub record Writes (fields : List Field) (values : List ℕ) (i : ℕ) (old text 
   pub all : text ++ words_after (drop i fields) (values_left fields i values)
       ≡ old ++ words_after fields (first_values (length fields) values)
 
-left-cons : (fields : List Field) (i : ℕ) (values : List ℕ) → i < length fields → values_left fields i values ≡ get_or values i 0
+left-cons : (fields : List Field) (i : ℕ) (values : List ℕ) → i < length fields
+    → values_left fields i values ≡ get_or values i 0
     ∷ values_left fields (i + 1) values
 left-cons fields i values inside =
     let e : length fields - i ≡ suc (length fields - (i + 1)) = omega arith in
     let next : suc i ≡ i + 1 = omega arith in
-    ap (λ (n : ℕ). values_from i n values) e ∙ ap (λ (k : ℕ). get_or values i 0 ∷ values_from k (length fields - (i + 1)) values)
+    ap (λ (n : ℕ). values_from i n values) e
+    ∙ ap (λ (k : ℕ). get_or values i 0 ∷ values_from k (length fields - (i + 1)) values)
     next
 
 -- the next field fits its value, and so do those behind it
@@ -39,7 +42,8 @@ fits_here : (fields : List Field) (values old text : List ℕ) (i : ℕ) (d : Fi
 fits_here fields values old text i d writes inside =
     let front : FitFields (get_or fields i d ∷ drop (i + 1) fields) (values_left fields i values) =
     subst (λ (fs : List Field). FitFields fs (values_left fields i values)) (drop_more fields i d inside) writes.fits in
-    subst (λ (ns : List ℕ). FitFields (get_or fields i d ∷ drop (i + 1) fields) ns) (left-cons fields i values inside) front
+    subst (λ (ns : List ℕ). FitFields (get_or fields i d ∷ drop (i + 1) fields) ns) (left-cons fields i values inside)
+    front
 
 pub writes_fits : (fields : List Field) (values old text : List ℕ) (i : ℕ) (d : Field) → Writes fields values i old text
     → i < length fields → Fits (spelling_of (get_or fields i d)) (get_or values i 0)
@@ -47,16 +51,19 @@ writes_fits fields values old text i d writes inside = (fits_here fields values 
 
 pub writes_on : (fields : List Field) (values old text : List ℕ) (i : ℕ) (d : Field) → Writes fields values i old text
     → i < length fields
-    → Writes fields values (i + 1) old ((text ++ 32 ∷ []) ++ word_of (spelling_of (get_or fields i d)) (get_or values i 0))
+    → Writes fields values (i + 1) old ((text ++ 32 ∷ []) ++ word_of (spelling_of (get_or fields i d))
+    (get_or values i 0))
 writes_on fields values old text i d writes inside =
     let word : List ℕ = word_of (spelling_of (get_or fields i d)) (get_or values i 0) in
     let later : List ℕ = words_after (drop (i + 1) fields) (values_left fields (i + 1) values) in
     let parts : text ++ words_after (drop i fields) (values_left fields i values) ≡ text ++ 32 ∷ (word ++ later) =
     ap (λ (fs : List Field). text ++ words_after fs (values_left fields i values)) (drop_more fields i d inside)
-    ∙ ap (λ (ns : List ℕ). text ++ words_after (get_or fields i d ∷ drop (i + 1) fields) ns) (left-cons fields i values inside) in
+    ∙ ap (λ (ns : List ℕ). text ++ words_after (get_or fields i d ∷ drop (i + 1) fields) ns)
+    (left-cons fields i values inside) in
     record {
       fits = (fits_here fields values old text i d writes inside).1;
-      all = append_assoc (text ++ 32 ∷ []) word later ∙ append_assoc text (32 ∷ []) (word ++ later) ∙ sym parts ∙ writes.all;
+      all = append_assoc (text ++ 32 ∷ []) word later ∙ append_assoc text (32 ∷ []) (word ++ later) ∙ sym parts
+          ∙ writes.all;
     }
 
 -- ---- the rows of a configuration
@@ -77,13 +84,15 @@ plp_row_at c due plp values later inside is row =
 lines_take : (due : ℕ) (rows : List (List ℕ)) (i : ℕ) → i < length rows → canonical_lines due (take (i + 1) rows)
     ≡ canonical_lines due (take i rows) ++ canonical_line (due + i) (get_or rows i []) ∷ []
 lines_take due [] i inside = absurd (omega arith)
-lines_take due (r ∷ rows) zero inside = (let e : due ≡ due + 0 = omega arith in ap (λ (d : ℕ). canonical_line d r ∷ []) e)
+lines_take due (r ∷ rows) zero inside = (let e : due ≡ due + 0 = omega arith in ap (λ (d : ℕ). canonical_line d r ∷ [])
+    e)
 lines_take due (r ∷ rows) (suc i) inside =
     let next : suc i + 1 ≡ suc (i + 1) = omega arith in
     let e : suc due + i ≡ due + suc i = omega arith in
     ap (λ (k : ℕ). canonical_lines due (take k (r ∷ rows))) next
     ∙ ap (λ (l : List (List ℕ)). canonical_line due r ∷ l) (lines_take (suc due) rows i (omega arith))
-    ∙ ap (λ (d : ℕ). canonical_line due r ∷ (canonical_lines (suc due) (take i rows) ++ canonical_line d (get_or rows i []) ∷ []))
+    ∙ ap (λ (d : ℕ). canonical_line due r ∷ (canonical_lines (suc due) (take i rows) ++ canonical_line
+    d (get_or rows i []) ∷ []))
     e
 
 -- a text of the lines so far, and one line more
@@ -99,7 +108,8 @@ text_more rows i old new row inside so_far is more =
     more
     ∙ ap (λ (t : List ℕ). t ++ (canonical_line i row ++ 10 ∷ [])) so_far
     ∙ ap (λ (t : List ℕ). text_of (take i rows) ++ t) (sym (append-nil (canonical_line i row ++ 10 ∷ [])))
-    ∙ sym (flat_map-append (λ (line : List ℕ). line ++ 10 ∷ []) (canonical_lines 0 (take i rows)) (canonical_line i row ∷ []))
+    ∙ sym (flat_map-append (λ (line : List ℕ). line ++ 10 ∷ []) (canonical_lines 0 (take i rows))
+    (canonical_line i row ∷ []))
     ∙ ap (λ (l : List (List ℕ)). flat_map (λ (line : List ℕ). line ++ 10 ∷ []) l) (sym lines)
 
 pub text_whole : (rows : List (List ℕ)) (i : ℕ) (text : List ℕ) → length rows ≤ i → text ≡ text_of (take i rows)

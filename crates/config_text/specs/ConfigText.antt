@@ -1,5 +1,6 @@
 -- The configuration text: which texts spell a configuration, which are refused, and which is written.
-use Rattle.std.specs.Prelude.{◌≡◌, ◌⊎◌, ℕ, suc, ◌+◌, ◌<◌, ◌≤◌, ◌==◌, ◌&&◌, Bool, true, false, not, List, [], ◌∷◌, ◌++◌, length}
+use Rattle.std.specs.Prelude.{◌≡◌, ◌⊎◌, ℕ, suc, ◌+◌, ◌<◌, ◌≤◌, ◌==◌, ◌&&◌, Bool, true, false, not, List, [], ◌∷◌, ◌++◌}
+use Rattle.std.specs.Prelude.{length}
 use Rattle.std.specs.Prelude.{drop, codes, bytes_eq, nat_le, if◌then◌else◌}
 use Rattle.std.specs.Prelude.{filter, slice_index_or, All}
 use Rattle.std.specs.List.{slice_split, flat_map}
@@ -60,7 +61,8 @@ pub record ReadsLine (version due : ℕ) (line values : List ℕ) : Type 0 where
 -- The lines are those that are due behind so many, with these values.
 abbrev pub ReadsLines : ℕ → ℕ → List (List ℕ) → List (List ℕ) → Type 0
 ReadsLines version due [] [] = Unit {0}
-ReadsLines version due (line ∷ rest) (row ∷ rows) = ReadsLine version due line row × ReadsLines version (suc due) rest rows
+ReadsLines version due (line ∷ rest) (row ∷ rows) = ReadsLine version due line row
+    × ReadsLines version (suc due) rest rows
 ReadsLines version due ls rows = ⊥
 
 -- The line has the key that is due.

@@ -12,7 +12,8 @@ pub record Puts (version due : ℕ) (row : List ℕ) (old new : Config) : Type 0
   pub rows : take (suc due) (rows_of version new) ≡ take due (rows_of version old) ++ row ∷ []
   pub plps : length new.plps ≡ suc due - first_lines
 
--- The line was due in a version of the text, and has been put into its place; and the version is told, by the first line or before.
+-- The line was due in a version of the text, and has been put into its place; and the version is told, by the first
+-- line or before.
 pub record Takes (version due : ℕ) (line : List ℕ) (old new : Config) (told : ℕ) : Type 0 where
   pub row : List ℕ
   pub reads : ReadsLine version due line row

@@ -1,11 +1,13 @@
 -- The lines of a configuration text: their keys and fields, and how words spell values.
-use Rattle.std.specs.Prelude.{◌≡◌, ◌⊎◌, ℕ, ◌+◌, ◌-◌, ◌≤◌, ◌^◌, List, [], ◌∷◌, ◌++◌, codes, slice_index_or, Option, Some, None}
+use Rattle.std.specs.Prelude.{◌≡◌, ◌⊎◌, ℕ, ◌+◌, ◌-◌, ◌≤◌, ◌^◌, List, [], ◌∷◌, ◌++◌, codes, slice_index_or, Option, Some}
+use Rattle.std.specs.Prelude.{None}
 use Rattle.std.specs.Prelude.{if◌then◌else◌, bytes_eq}
 use Rattle.std.specs.Fmt.{decimal}
 use Rattle.config_text.specs.declared.fault.TextWhy.{TextWhy}
 use Rattle.config_text.specs.declared.fault.TextWhy.TheVariants.{BadWord, BadNumber}
 use Rattle.config_text.specs.declared.field.Field.{Field}
-use Rattle.config_text.specs.declared.field.Field.TheVariants.{Version, Number8, Number16, Number32, Number64, Bandwidth, PlpType}
+use Rattle.config_text.specs.declared.field.Field.TheVariants.{Version, Number8, Number16, Number32, Number64}
+use Rattle.config_text.specs.declared.field.Field.TheVariants.{Bandwidth, PlpType}
 use Rattle.config_text.specs.declared.field.Field.TheVariants.{CodeRate, Constellation, BlockSize, Bit, Deletion}
 
 abbrev pub bands : List (List ℕ)
@@ -52,7 +54,8 @@ spelling_of Deletion = Word deletions
 -- the key of the line that is due behind so many; behind the first eight a PLP is
 abbrev pub key_at : ℕ → List ℕ
 key_at due =
-    slice_index_or (codes "t2-gateway" ∷ codes "bandwidth" ∷ codes "frame" ∷ codes "start" ∷ codes "pid" ∷ codes "network"
+    slice_index_or (codes "t2-gateway" ∷ codes "bandwidth" ∷ codes "frame" ∷ codes "start" ∷ codes "pid"
+    ∷ codes "network"
     ∷ codes "l1" ∷ codes "subslices" ∷ []) due (codes "plp")
 
 -- ticks of a frame, frames of a superframe, cells of a frame
@@ -70,15 +73,19 @@ network_fields = Number16 ∷ Number16 ∷ Number16 ∷ Number32 ∷ []
 -- BWT_EXT, S2, GUARD_INTERVAL, PAPR, L1_MOD, L1_COD, L1_FEC_TYPE, L1_POST_SIZE, PILOT_PATTERN, TX_ID_AVAILABILITY,
 -- NUM_DATA_SYMBOLS, REGEN_FLAG
 abbrev pub l1_fields : List Field
-l1_fields = Number8 ∷ Number8 ∷ Number8 ∷ Number8 ∷ Number8 ∷ Number8 ∷ Number8 ∷ Number32 ∷ Number8 ∷ Number8 ∷ Number16
+l1_fields = Number8 ∷ Number8 ∷ Number8 ∷ Number8 ∷ Number8 ∷ Number8 ∷ Number8 ∷ Number32 ∷ Number8
+    ∷ Number8 ∷ Number16
     ∷ Number8 ∷ []
 
--- identifier, type, group, rate, modulation, block size, rotation, blocks, interleaver length, null packets, bit/s, spread
+-- identifier, type, group, rate, modulation, block size, rotation, blocks, interleaver length, null packets, bit/s,
+-- spread
 abbrev pub plp_fields : List Field
-plp_fields = Number8 ∷ PlpType ∷ Number8 ∷ CodeRate ∷ Constellation ∷ BlockSize ∷ Bit ∷ Number16 ∷ Number16 ∷ Deletion ∷ Number32
+plp_fields = Number8 ∷ PlpType ∷ Number8 ∷ CodeRate ∷ Constellation ∷ BlockSize ∷ Bit ∷ Number16 ∷ Number16
+    ∷ Deletion ∷ Number32
     ∷ Number8 ∷ []
 
--- the fields of the line that is due behind so many: version, bandwidth, frame, start, PID, network, L1, sub-slices, and PLPs
+-- the fields of the line that is due behind so many: version, bandwidth, frame, start, PID, network, L1, sub-slices,
+-- and PLPs
 abbrev pub fields_at : ℕ → List Field
 fields_at due =
     slice_index_or
@@ -115,7 +122,8 @@ why_of (Word words) = BadWord
 -- The first of the words that spells no value of its field is refused for this reason.
 abbrev pub FailsFirst : List Field → List (List ℕ) → TextWhy → Type 0
 FailsFirst (f ∷ fs) (w ∷ ws) why =
-    (((n : ℕ) → SpellsField f n w → ⊥) × (why ≡ why_of (spelling_of f))) ⊎ ((n : ℕ) × SpellsField f n w × FailsFirst fs ws why)
+    (((n : ℕ) → SpellsField f n w → ⊥) × (why ≡ why_of (spelling_of f))) ⊎ ((n : ℕ) × SpellsField f n w
+    × FailsFirst fs ws why)
 FailsFirst fs ws why = ⊥
 
 -- the word that spells a value

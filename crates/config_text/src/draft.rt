@@ -2,7 +2,8 @@
 ghost use Rattle.std.specs.Prelude.{◌≡◌, ℕ, ◌<◌, ◌-◌, ◌∷◌, [], length, OnOk};
 ghost use Rattle.plp_config.specs.Plps.{type_number};
 ghost use Rattle.config_text.specs.ConfigText.{first_lines};
-ghost use Rattle.config_text.specs.Fields.{fields_at, frame_fields, start_fields, network_fields, l1_fields, plp_fields};
+ghost use Rattle.config_text.specs.Fields.{fields_at, frame_fields, start_fields, network_fields, l1_fields};
+ghost use Rattle.config_text.specs.Fields.{plp_fields};
 ghost use Rattle.config_text.specs.Rows.{plp_row};
 ghost use Rattle.plp_config.specs.Tables.{bw, plp_cod, plp_mod, plp_fec_type};
 ghost use Rattle.config_text.specs.Drafts.{Puts};

@@ -16,11 +16,13 @@ pub fn not_refused_law()
 
 /// A text has one refusal.
 pub fn refused_once_law()
-    ensures { (text : List ℕ) (line other : ℕ) (why reason : TextWhy) → Refuses text line why → Refuses text other reason
+    ensures { (text : List ℕ) (line other : ℕ) (why reason : TextWhy) → Refuses text line why
+        → Refuses text other reason
         → (line ≡ other) × (why ≡ reason) }
 {}
 
 /// Each text spells a configuration or is refused.
 pub fn decided_law()
-    ensures { (text : List ℕ) → ((c : Config) × Spells text c) ⊎ ((line : ℕ) × (why : TextWhy) × Refuses text line why) }
+    ensures { (text : List ℕ) → ((c : Config) × Spells text c) ⊎ ((line : ℕ) × (why : TextWhy)
+        × Refuses text line why) }
 {}

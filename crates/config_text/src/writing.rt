@@ -86,7 +86,8 @@ fn push_words(text: &mut Vec<u8>, fields: &[Field], values: &Values) -> Result<(
 
 fn push_line(text: &mut Vec<u8>, due: usize, values: &Values) -> Result<(), OutOfMemory>
     requires { FitFields (fields_at due) (row_of due values.now) }
-    ensures ok { OnOk result (text.new.items ≡ text.old.items ++ (canonical_line due (row_of due values.now) ++ 10 ∷ [])) }
+    ensures ok { OnOk result (text.new.items ≡ text.old.items ++ (canonical_line due (row_of due values.now)
+        ++ 10 ∷ [])) }
 {
     text.extend_from_slice(key_at(due))?;
     push_words(text, fields_at(due), values)?;

@@ -1,5 +1,5 @@
-//! Works the outside of commands: calls over real files, and over files that move one byte a call; a file that is read ahead; and
-//! runs of a machine that copies. It writes what came of each.
+//! Works the outside of commands: calls over real files, and over files that move one byte a call; a file that is read
+//! ahead; and runs of a machine that copies. It writes what came of each.
 #![tactic(auto)]
 
 mod ahead;

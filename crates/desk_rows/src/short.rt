@@ -6,7 +6,8 @@ use std::fmt::Display;
 use std::fs::{File, Files, Metadata, OpenFile, OpenOptions};
 use std::io::{self, ErrorKind, Print, Read, Seek, SeekFrom, Write};
 
-/// A file of which each call moves one byte at most, and is interrupted so often before. Behind its end it cannot be read again.
+/// A file of which each call moves one byte at most, and is interrupted so often before. Behind its end it cannot be
+/// read again.
 #[derive(Drop)]
 pub struct ShortFile<F: Drop> {
     file: F,
@@ -84,7 +85,8 @@ impl<F: OpenFile + Drop> OpenFile for ShortFile<F> {
     }
 }
 
-/// A runtime with such files. Each write to its standard output stands in brackets, and it takes no text that begins with "lost".
+/// A runtime with such files. Each write to its standard output stands in brackets, and it takes no text that begins
+/// with "lost".
 #[derive(Drop)]
 pub struct ShortFiles<R: Files + Print + Drop> {
     pub rt: R,

@@ -1,7 +1,7 @@
 // Calls of a desk over real files, and what comes of each.
 //
-// A script has a call a line: `open NAME`, `read HANDLE`, `create NAME`, `write OUT TEXT`, `say TEXT`; `first` asks for the first
-// fault. Any other line tells nothing.
+// A script has a call a line: `open NAME`, `read HANDLE`, `create NAME`, `write OUT TEXT`, `say TEXT`; `first` asks for
+// the first fault. Any other line tells nothing.
 ghost use Rattle.std.specs.Prelude.{◌≡◌, ◌<◌, length, vec_len};
 
 use crate::short::ShortFiles;

@@ -18,8 +18,9 @@ pub struct Alarm {
     pub is_muted: bool,
     /// How many units were lost or passed over, as far as they tell it.
     pub damaged: u64,
-    /// Which feeds are silent, and which gave much and nothing that fits CONFIG.
+    /// Which feeds are silent.
     pub silent: Feeds,
+    /// Which feeds gave much, and nothing that fits CONFIG.
     pub foreign: Feeds,
 }
 

@@ -1,6 +1,7 @@
 // What is counted of a run, from the bytes that it reads, writes and says.
 ghost use Rattle.std.specs.Prelude.{◌<◌, length};
 
+use crate::differing::Differing;
 use crate::input::Input;
 use crate::l1_test::L1Test;
 use crate::notes::Notes;
@@ -24,9 +25,11 @@ pub enum Kind {
     Modulate,
     /// Records that were not taken, by a receiver of the PLP at a place.
     Receive { plp: Option<usize> },
-    /// Units that were passed over in two streams, and from which of them no frame came.
-    Two,
-    /// Units that were passed over in each feed, and which of them gave none.
+    /// Units that were passed over in two streams, and of which of them no frame came.
+    Compare,
+    /// Units that were passed over in two streams, and how many frames either had whole.
+    Merge,
+    /// Units that were passed over in each feed, which of them gave none, and how many frames each had whole.
     Mend,
     /// Units that were passed over, and where the packets for the PLP at a place end.
     Swap { plp: Option<usize> },
@@ -50,6 +53,7 @@ pub struct RunCounts<'a> {
     pub(crate) inputs: Vec<Input<'a>>,
     pub(crate) out: OutCounts<'a>,
     pub(crate) said: Said,
+    pub(crate) differing: Differing,
     pub(crate) notes: Notes<'a>,
 }
 
@@ -122,6 +126,7 @@ impl<'a> RunCounts<'a> {
             inputs: Vec::new(alloc),
             out: OutCounts::Nothing,
             said: Said::new(),
+            differing: Differing::new(),
             notes: Notes::new(),
         }
     }
@@ -181,6 +186,20 @@ impl<'a> RunCounts<'a> {
         Ok(counts)
     }
 
+    // Of two streams.
+    fn of_two(
+        alloc: Global,
+        kind: Kind,
+        plan: Option<&'a Plan>,
+        a: &'a str,
+        b: &'a str,
+    ) -> Result<RunCounts<'a>, OutOfMemory> {
+        let mut counts = RunCounts::new(alloc, kind, plan);
+        counts.inputs.push(Input::of_units(a, pid_of(plan)))?;
+        counts.inputs.push(Input::of_units(b, pid_of(plan)))?;
+        Ok(counts)
+    }
+
     /// Of `compare`.
     pub fn of_compare(
         alloc: Global,
@@ -188,10 +207,7 @@ impl<'a> RunCounts<'a> {
         a: &'a str,
         b: &'a str,
     ) -> Result<RunCounts<'a>, OutOfMemory> {
-        let mut counts = RunCounts::new(alloc, Kind::Two, plan);
-        counts.inputs.push(Input::of_units(a, pid_of(plan)))?;
-        counts.inputs.push(Input::of_units(b, pid_of(plan)))?;
-        Ok(counts)
+        RunCounts::of_two(alloc, Kind::Compare, plan, a, b)
     }
 
     /// Of `merge`.
@@ -201,7 +217,7 @@ impl<'a> RunCounts<'a> {
         a: &'a str,
         b: &'a str,
     ) -> Result<RunCounts<'a>, OutOfMemory> {
-        let mut counts = RunCounts::of_compare(alloc, plan, a, b)?;
+        let mut counts = RunCounts::of_two(alloc, Kind::Merge, plan, a, b)?;
         counts.out = OutCounts::T2mi(T2miCounts::new());
         Ok(counts)
     }
@@ -260,8 +276,9 @@ impl<'a> RunCounts<'a> {
 
     /// A text was said.
     pub fn said(&mut self, text: &[u8]) {
-        if matches!(self.kind, Kind::Two | Kind::Swap { .. }) {
+        if matches!(self.kind, Kind::Compare | Kind::Swap { .. }) {
             self.said.take(text);
+            self.differing.take(text);
         }
     }
 

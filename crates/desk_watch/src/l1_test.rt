@@ -27,8 +27,8 @@ impl<'p> L1Test<'p> {
         is_pre(self.network.plan(), &BitSlice::whole(bytes), true)
     }
 
-    /// Whether the first bits are an L1-post of the network, of any of its frames: it has its length, its CRC_32, the configurable part
-    /// of the network, and a dynamic part.
+    /// Whether the first bits are an L1-post of the network, of any of its frames: it has its length, its CRC_32, the
+    /// configurable part of the network, and a dynamic part.
     pub fn is_post(&mut self, bytes: &[u8; MOST_POST_BYTES], bits: usize) -> bool {
         let plps = self.network.plan().config().plps.len();
         let all = BitSlice::whole(bytes);

@@ -1,9 +1,10 @@
-//! A run as people follow it: a desk that is watched, how far the run is, and what of it was sent, passed over or damaged, counted from
-//! the bytes that pass. Words for people, on standard error: no clause tells them.
+//! A run as people follow it: a desk that is watched, how far the run is, and what of it was sent, passed over or
+//! damaged, counted from the bytes that pass. Words for people, on standard error: no clause tells them.
 #![tactic(auto)]
 
 mod alarm;
 mod counts;
+mod differing;
 mod input;
 mod l1_test;
 mod notes;

@@ -5,8 +5,8 @@ use std::fmt::{self, Display, Formatter, Write};
 use std::io::Eprint;
 use std::time::{Clock, Duration, Instant};
 
-// How long a run goes on before it is told of, how long a line stands, and how long it is from one word of what is wrong to the next, in
-// milliseconds.
+// How long a run goes on before it is told of, how long a line stands, and how long it is from one word of what is
+// wrong to the next, in milliseconds.
 const FIRST_AFTER: u64 = 1000;
 
 const NEXT_AFTER: u64 = 500;

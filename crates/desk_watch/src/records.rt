@@ -1,4 +1,5 @@
-// The records of a file, counted as its bytes come: those of muted frames and of other networks, and blocks that are damaged.
+// The records of a file, counted as its bytes come: those of muted frames and of other networks, and blocks that are
+// damaged.
 use crate::l1_test::L1Test;
 use crate::runs::Runs;
 use bb_frame::{BbFault, HEADER_BYTES, read_frame, scramble};
@@ -7,14 +8,16 @@ use l1_signal::{MOST_POST_BYTES, PRE_BYTES};
 use site_frame::{HEAD, front_head, rest_len};
 use std::fmt::{self, Display, Formatter, Write};
 
-// The parts of the rest of a record, in bytes: L1-pre and the number of bits of L1-post, the number of blocks, and the head of a block.
+// The parts of the rest of a record, in bytes: L1-pre and the number of bits of L1-post, the number of blocks, and the
+// head of a block.
 const FRONT: usize = PRE_BYTES + 4;
 
 const BLOCK_COUNT: usize = 2;
 
 const BLOCK_HEAD: usize = 4;
 
-/// What of records is looked into: L1 signalling by a network, and the headers of the blocks of a PLP and of the common one of its group.
+/// What of records is looked into: L1 signalling by a network, and the headers of the blocks of a PLP and of the common
+/// one of its group.
 #[derive(Drop)]
 pub struct Inside<'p> {
     pub l1: L1Test<'p>,
@@ -46,8 +49,8 @@ enum Part {
     Header { len: usize, left: u16 },
 }
 
-/// The records of a file, counted, and by their numbers those that are muted, those whose L1 is not that of the network, and those of
-/// which blocks have damaged headers.
+/// The records of a file, counted, and by their numbers those that are muted, those whose L1 is not that of the
+/// network, and those of which blocks have damaged headers.
 #[derive(Drop)]
 pub struct RecordCounts<'p> {
     inside: Option<Inside<'p>>,

@@ -1,12 +1,5 @@
 // What the lines of a run tell of its inputs.
 
-// How the line of `merge` begins, and how it tells that no frame came from A, and from B.
-const MERGED: &[u8] = b"merged ";
-
-const NONE_FROM_A: &[u8] = b" a=0 ";
-
-const NONE_FROM_B: &[u8] = b" b=0 ";
-
 // How the line of `swap` tells that no packet of IN was left at the end.
 const NONE_LEFT: &[u8] = b" unsent=0 ";
 
@@ -24,7 +17,7 @@ const MUTED_B: &[u8] = b" is=muted-b";
 
 const MUTED_BOTH: &[u8] = b" is=muted-both";
 
-/// What the lines of `merge`, `swap` and `compare` tell of their inputs.
+/// What the lines of `swap` and `compare` tell of their inputs.
 #[derive(Clone, Copy)]
 pub struct Said {
     /// Frames came from the first of two streams.
@@ -35,8 +28,6 @@ pub struct Said {
     pub muted_of_first: bool,
     /// Some of those are.
     pub muted_of_second: bool,
-    /// Those of the first were taken before those of the second.
-    pub first_is_taken: bool,
     /// No packet of IN was left at the end.
     pub none_left: bool,
 }
@@ -54,18 +45,13 @@ impl Said {
             some_of_second: false,
             muted_of_first: false,
             muted_of_second: false,
-            first_is_taken: false,
             none_left: false,
         }
     }
 
-    fn take_merged(&mut self, text: &[u8]) {
-        self.first_is_taken = true;
-        self.some_of_first = !has(text, NONE_FROM_A);
-        self.some_of_second = !has(text, NONE_FROM_B);
-    }
-
-    fn take_compared(&mut self, text: &[u8]) {
+    /// A text was said.
+    pub fn take(&mut self, text: &[u8]) {
+        self.none_left = self.none_left || has(text, NONE_LEFT);
         let in_both = IN_BOTH.iter().any(|part| has(text, part));
         self.some_of_first = self.some_of_first || in_both || has(text, ONLY_A);
         self.some_of_second = self.some_of_second || in_both || has(text, ONLY_B);
@@ -73,15 +59,5 @@ impl Said {
         let muted_both = has(text, MUTED_BOTH);
         self.muted_of_first = self.muted_of_first || muted_both || has(text, MUTED_A);
         self.muted_of_second = self.muted_of_second || has(text, MUTED_B);
-    }
-
-    /// A text was said.
-    pub fn take(&mut self, text: &[u8]) {
-        self.none_left = self.none_left || has(text, NONE_LEFT);
-        if text.starts_with(MERGED) {
-            self.take_merged(text);
-        } else {
-            self.take_compared(text);
-        }
     }
 }

@@ -37,8 +37,8 @@ fn by_plp(config: &Config, plp: Option<usize>, bytes: u64) -> Option<u64> {
 }
 
 impl RunCounts<'_> {
-    /// The stream time after so many bytes read and written, if it is known: of a gateway that of all that was read, of a receiver that of
-    /// what was written, else that of the frames of OUT.
+    /// The stream time after so many bytes read and written, if it is known: of a gateway that of all that was read, of
+    /// a receiver that of what was written, else that of the frames of OUT.
     pub fn stream_time(&self, read: u64, written: u64) -> Option<Seconds> {
         let config = self.plan?.config();
         let seconds = match (self.kind, &self.out) {

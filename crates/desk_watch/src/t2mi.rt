@@ -1,8 +1,8 @@
 // The T2 frames and baseband frames of a T2-MI stream that lacks nothing, counted as its units come.
 use ts_packet::{PAYLOAD, SIZE, read};
 
-// The bytes of a T2-MI packet that are looked at, and where those behind its header stand that a baseband frame has: FRAME_IDX and
-// PLP_ID (ETSI TS 102 773, clauses 5.1 and 5.2.1).
+// The bytes of a T2-MI packet that are looked at, and where those behind its header stand that a baseband frame has:
+// FRAME_IDX and PLP_ID (ETSI TS 102 773, clauses 5.1 and 5.2.1).
 const FRONT: usize = 8;
 
 const HEADER: usize = 6;
@@ -17,8 +17,8 @@ const L1_CURRENT: u8 = 0x10;
 // How many PLP_IDs there are.
 const PLP_IDS: usize = 256;
 
-/// Counts the frames of a T2-MI stream, and the baseband frames of each PLP, by the fronts of its packets. None may be lacking: it is
-/// for a stream that this program wrote.
+/// Counts the frames of a T2-MI stream, and the baseband frames of each PLP, by the fronts of its packets. None may be
+/// lacking: it is for a stream that this program wrote.
 #[derive(Drop)]
 pub struct T2miCounts {
     // The unit under way, and how much of it came.

@@ -12,6 +12,11 @@ use std::io::{self, Eprint};
 // How it is told that no frame came from a file.
 const NONE_CAME: &str = "no frame came from it: ";
 
+// How it is told of frames that one feed had whole that no other one had, of more than two and of two.
+const NO_OTHER_HAS: &str = "no other IN had whole";
+
+const OTHER_LACKS: &str = "the other had not whole";
+
 // The PLP of an input of a gateway: of the PLPs that have one, the one at this place.
 fn plp_of(plan: &Plan, place: usize, common: bool) -> Option<&Plp> {
     let plps = &plan.config().plps;
@@ -66,8 +71,8 @@ fn say_blocks(rt: &impl Eprint, plan: &Plan, sent: &T2miCounts) -> io::Result<()
     Ok(())
 }
 
-// The frame with which the first interleaving frame of a PLP begins that wants more than so many packets: by its begin more slots are
-// over.
+// The frame with which the first interleaving frame of a PLP begins that wants more than so many packets: by its begin
+// more slots are over.
 fn first_that_lacks(plan: &Plan, plp: usize, packets: u64) -> Option<u64>
     requires { plp < length plan.now.plps }
 {
@@ -135,9 +140,37 @@ impl RunCounts<'_> {
         eprintln!(rt; "{records}, counted from 0 as `show frames` does")?;
         self.notes.say(rt)?;
         if let Some(input) = self.input(0) {
-            input.say_whole(rt)?;
+            self.say_damage_unseen(rt, records, input)?;
         }
         self.say_way_out(rt, records)
+    }
+
+    // Says what units do not tell: that IN ends inside a frame, or that bytes in units were damaged.
+    fn say_damage_unseen(
+        &self,
+        rt: &impl Eprint,
+        records: &RecordCounts<'_>,
+        input: &Input<'_>,
+    ) -> io::Result<()> {
+        if let Some(frame) = self.last_that_lacks(records) {
+            eprintln!(rt;
+                "{}: it ends inside frame {frame} of CONFIG, or a packet of that frame was lost",
+                Shown(input.name)
+            )?;
+            if records.muted().count() == 1 {
+                return Ok(());
+            }
+        }
+        input.say_whole(rt)
+    }
+
+    // The last frame, if it is muted for a packet that is missing, and the one before it is not muted.
+    fn last_that_lacks(&self, records: &RecordCounts<'_>) -> Option<u64> {
+        if records.ends_muted(1) && !records.ends_muted(2) {
+            self.notes.last_that_lacks()
+        } else {
+            None
+        }
     }
 
     // The frames of as many superframes as a modulator tells apart.
@@ -171,26 +204,15 @@ impl RunCounts<'_> {
         }
     }
 
-    // Says from which of two files no frame came, and why.
+    // Says of which of two files no frame is told, and why.
     fn say_unused(&self, rt: &impl Eprint) -> io::Result<()> {
-        let (Some(first), Some(second)) = (self.input(0), self.input(1)) else {
-            return Ok(());
-        };
-        if !self.said.some_of_first {
-            first.say_none(rt, NONE_CAME)?;
+        let some = [self.said.some_of_first, self.said.some_of_second];
+        for (input, has_some) in self.inputs.as_slice().iter().zip(some) {
+            if !has_some {
+                input.say_none(rt, NONE_CAME)?;
+            }
         }
-        if self.said.some_of_second {
-            return Ok(());
-        }
-        if self.said.first_is_taken && !second.has_no_units() {
-            eprintln!(rt;
-                "{}: {NONE_CAME}each that it has is in {} too, or it has none",
-                Shown(second.name),
-                Shown(first.name)
-            )
-        } else {
-            second.say_none(rt, NONE_CAME)
-        }
+        Ok(())
     }
 
     // Says of the files of which frames are muted, by the lines, what was damaged in none of their units.
@@ -204,18 +226,97 @@ impl RunCounts<'_> {
         Ok(())
     }
 
-    fn say_two(&self, rt: &impl Eprint) -> io::Result<()> {
+    fn say_compare(&self, rt: &impl Eprint) -> io::Result<()> {
         self.say_inputs(rt)?;
         self.say_muted_of_two(rt)?;
-        self.say_unused(rt)
+        self.say_unused(rt)?;
+        match self.plan {
+            Some(plan) => self.differing.say(rt, plan),
+            None => Ok(()),
+        }
     }
 
-    // Says which feeds gave nothing, and why.
+    // Says of a feed how many of the frames that were sent it had whole, and of these, with these words, which no other
+    // feed had whole.
+    fn say_whole_frames(
+        &self,
+        rt: &impl Eprint,
+        place: usize,
+        input: &Input<'_>,
+        what: &str,
+    ) -> io::Result<()> {
+        let (OutCounts::T2mi(sent), Some((whole, alone))) = (&self.out, self.notes.of_feed(place))
+        else {
+            return Ok(());
+        };
+        let file = Shown(input.name);
+        let count = whole.count;
+        let sent = sent.frames();
+        if count == 0 {
+            return eprintln!(rt; "{file}: frames that it had whole: 0, of {sent} that were sent");
+        }
+        eprintln!(rt;
+            "{file}: frames that it had whole: {count}, of {sent} that were sent; the last is frame {} of CONFIG",
+            whole.last
+        )?;
+        if alone.count > 0 && self.inputs.len() > 1 {
+            alone.say_as(rt, what)?;
+        }
+        Ok(())
+    }
+
+    // Says of one of two feeds what it had whole, or why it had nothing.
+    fn say_merged(&self, rt: &impl Eprint, place: usize, input: &Input<'_>) -> io::Result<()> {
+        let Some((whole, _)) = self.notes.of_feed(place) else {
+            return Ok(());
+        };
+        if whole.count == 0 {
+            return input.say_none(rt, NONE_CAME);
+        }
+        self.say_whole_frames(rt, place, input, OTHER_LACKS)
+    }
+
+    // Says that no frame was taken from the second of two feeds, if it is so though it had some whole.
+    fn say_not_taken(&self, rt: &impl Eprint) -> io::Result<()> {
+        let (Some(first), Some(second), Some((whole, alone))) = (
+            self.input(0),
+            self.input(1),
+            self.notes.of_feed(1),
+        ) else {
+            return Ok(());
+        };
+        if whole.count == 0 || alone.count > 0 {
+            return Ok(());
+        }
+        eprintln!(rt;
+            "{}: no frame was taken from it: {} had each of the {} that it had whole",
+            Shown(second.name),
+            Shown(first.name),
+            whole.count
+        )
+    }
+
+    // Says what either of two feeds had whole, and which frames neither had.
+    fn say_merge(&self, rt: &impl Eprint) -> io::Result<()> {
+        self.say_inputs(rt)?;
+        for (place, input) in self.inputs.as_slice().iter().enumerate() {
+            self.say_merged(rt, place, input)?;
+        }
+        self.say_not_taken(rt)?;
+        match self.notes.of_none(2) {
+            Some(lacked) if lacked.count > 0 => lacked.say_lacked(rt),
+            _ => Ok(()),
+        }
+    }
+
+    // Says which feeds gave nothing, and why, and what the others gave.
     fn say_mend(&self, rt: &impl Eprint) -> io::Result<()> {
         self.say_inputs(rt)?;
-        for input in self.inputs.as_slice() {
+        for (place, input) in self.inputs.as_slice().iter().enumerate() {
             if input.has_no_units() {
                 input.say_none(rt, NONE_CAME)?;
+            } else {
+                self.say_whole_frames(rt, place, input, NO_OTHER_HAS)?;
             }
         }
         Ok(())
@@ -257,7 +358,8 @@ impl RunCounts<'_> {
             Kind::Gateway { common } => self.say_gateway(rt, common),
             Kind::Modulate => self.say_modulate(rt),
             Kind::Receive { .. } => self.say_inputs(rt),
-            Kind::Two => self.say_two(rt),
+            Kind::Compare => self.say_compare(rt),
+            Kind::Merge => self.say_merge(rt),
             Kind::Mend => self.say_mend(rt),
             Kind::Swap { plp } => self.say_swap(rt, plp),
         }

@@ -5,8 +5,8 @@ use ts_packet::{SIZE, SYNC};
 // The bytes of a unit that are looked at: those of a transport packet's header.
 const HEADER: usize = 4;
 
-// What of a header tells that a unit carries T2-MI: sync byte, error indicator, PID, scrambling, and whether there is a payload; and how it
-// reads, the PID aside.
+// What of a header tells that a unit carries T2-MI: sync byte, error indicator, PID, scrambling, and whether there is a
+// payload; and how it reads, the PID aside.
 const MASK: u32 = 0xFF9F_FFD0;
 
 const PLAIN: u32 = 0x4700_0010;
@@ -244,7 +244,8 @@ impl UnitCounts {
         self.idle.count
     }
 
-    /// Whether all came whole, on the PID none was passed over, and no counter jumps. A stream may have other PIDs besides.
+    /// Whether all came whole, on the PID none was passed over, and no counter jumps. A stream may have other PIDs
+    /// besides.
     pub fn is_clean(&self) -> bool {
         self.came == 0
             && self.no_sync.count == 0

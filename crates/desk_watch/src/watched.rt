@@ -14,8 +14,8 @@ fn lines_in(text: &[u8]) -> u64 {
     text.iter().filter(|byte| **byte == b'\n').count() as u64
 }
 
-/// A desk whose moves are counted and told on standard error: how far they are in one line that is renewed twice a second at most,
-/// and what is wrong at once, in one line a second at most.
+/// A desk whose moves are counted and told on standard error: how far they are in one line that is renewed twice a
+/// second at most, and what is wrong at once, in one line a second at most.
 #[derive(Drop)]
 pub struct Watched<'a, D, R> {
     pub desk: D,

@@ -1,9 +1,11 @@
 -- Where the groups of a feed are, by what arrives.
-use Rattle.std.proofs.Common.{◌≡◌, ℕ, Bool, true, false, List, [], ◌∷◌, ◌++◌, ◌||◌, Option, Some, None, refl, ap, ap₂, sym, ◌∙◌}
+use Rattle.std.proofs.Common.{◌≡◌, Bool, true, false, List, [], ◌∷◌, ◌++◌, ◌||◌, Option, Some, None, refl, ap, ap₂, sym}
+use Rattle.std.proofs.Common.{◌∙◌}
 use Rattle.std.specs.Prelude.{is_some}
 use Rattle.std.proofs.lemmas.Bool.{true≢false}
 use Rattle.std.proofs.Math.Bool.{or_assoc}
-use Rattle.terms.proofs.OptionLemmas.{some_injective, none_some}
+use Rattle.std.proofs.lemmas.Option.{same_Some}
+use Rattle.terms.proofs.OptionLemmas.{none_some}
 use Rattle.t2mi_packet.specs.declared.packet.Packet.{Packet}
 use Rattle.frame_groups.specs.Groups.{Group, is_counted, is_same, key_behind}
 use Rattle.frame_groups.specs.Grouping.{one_packet, one_more, key_of}
@@ -11,16 +13,19 @@ use Rattle.frame_groups.specs.Modulated.{Numbered, Rules}
 use Rattle.frame_groups.specs.declared.key.Key.{Key}
 use Rattle.feed_events.specs.Arrivals.{Arrival}
 use Rattle.feed_events.specs.Arrivals.Arrival.{Came, Idle}
-use Rattle.feed_events.specs.FeedEvents.{FeedEvent, is_stamp, has_stamp, number_of, event_of}
+use Rattle.feed_events.specs.FeedEvents.{FeedEvent, is_stamp, has_stamp}
 use Rattle.feed_events.specs.FeedEvents.FeedEvent.{Silent}
-use Rattle.feed_events.specs.Under.{IsHeld, IsClosed, SameIfClosed, Went, Ended, events_behind, head_of, head_events, under_of, course_events}
+use Rattle.feed_events.specs.Under.{IsHeld, IsClosed, SameIfClosed, Went, Ended, events_behind, head_events, under_of}
+use Rattle.feed_events.specs.Under.{course_events}
 use Rattle.feed_events.specs.declared.course.Course.{Course}
 use Rattle.feed_events.specs.declared.course.Head.{Head}
 use Rattle.feed_events.specs.declared.course.Head.TheVariants as head
-use Rattle.feed_events.proofs.UnderLemmas.{skip_event, begin_event, add_event, close_event, idle_event, silent_event, end_event}
+use Rattle.feed_events.proofs.UnderLemmas.{skip_event, begin_event, add_event, close_event, idle_event, silent_event}
+use Rattle.feed_events.proofs.UnderLemmas.{end_event}
 
 -- all events behind what is next
-course_at : (r : Rules) (c : Course) (g : Option Group) (u : Bool) (ended : Bool) (xs : List Arrival) → c.head ≡ head.Unknown
+course_at : (r : Rules) (c : Course) (g : Option Group) (u : Bool) (ended : Bool) (xs : List Arrival)
+    → c.head ≡ head.Unknown
     → c.under_way ≡ u → course_events r c g ended xs ≡ events_behind r ended (under_of u g) c.last xs
 course_at r c g u ended xs h e =
     ap₂ (λ (k : Head) (t : Bool). head_events k g ++ events_behind r ended (under_of t g) c.last xs) h e
@@ -40,7 +45,8 @@ or_false false = refl
 
 stamp_more : (ps : List Packet) (p : Packet) → has_stamp (ps ++ p ∷ []) ≡ (has_stamp ps || is_stamp p)
 stamp_more [] p = sym (or_false (is_stamp p))
-stamp_more (q ∷ ps) p = ap (λ (t : Bool). is_stamp q || t) (stamp_more ps p) ∙ sym (or_assoc (is_stamp q) (has_stamp ps) (is_stamp p))
+stamp_more (q ∷ ps) p = ap (λ (t : Bool). is_stamp q || t) (stamp_more ps p)
+    ∙ sym (or_assoc (is_stamp q) (has_stamp ps) (is_stamp p))
 
 -- a packet that belongs to no frame
 pub skipped : (Holds : List Numbered → Option Group → Type 0) (r : Rules) (c : Course) (p : Packet) (g : Option Group)
@@ -53,10 +59,12 @@ skipped Holds r c p g e h = record {
 }
 
 -- a packet that begins a group
-pub begun : (Holds : List Numbered → Option Group → Type 0) (r : Rules) (c : Course) (own : List Numbered) (p : Packet) (k : Key)
+pub begun : (Holds : List Numbered → Option Group → Type 0) (r : Rules) (c : Course) (own : List Numbered)
+    (p : Packet) (k : Key)
     (stamped : Bool) (g : Option Group) → c.under_way ≡ false → c.head ≡ head.Unknown → is_counted r.frames p ≡ true
     → k ≡ key_behind None p → stamped ≡ is_stamp p → Holds own (Some (one_packet k p))
-    → Went Holds r (record { head = head.Unknown; under_way = true; stamped = stamped; last = c.last }) (course_events r c g)
+    → Went Holds r (record { head = head.Unknown; under_way = true; stamped = stamped; last = c.last })
+    (course_events r c g)
     (Came p ∷ []) []
 begun Holds r c own p k stamped g none unknown counted key stamp holds = record {
   group = Some (one_packet k p);
@@ -64,7 +72,7 @@ begun Holds r c own p k stamped g none unknown counted key stamp holds = record 
     own = own;
     holds = holds;
     stamped = λ _ h e. stamp ∙ or_false (is_stamp p) ∙ ap (λ (x : Group). has_stamp x.packets)
-        (some_injective (one_packet k p) h e);
+        (same_Some (one_packet k p) h e);
   };
   same = λ ended xs.
       ap (λ (x : Key). events_behind r ended (Some (one_packet x p)) c.last xs) key
@@ -72,8 +80,10 @@ begun Holds r c own p k stamped g none unknown counted key stamp holds = record 
 }
 
 -- a packet of the group under way
-pub added : (Holds HoldsNew : List Numbered → Option Group → Type 0) (r : Rules) (c : Course) (p : Packet) (stamped : Bool)
-    (g : Option Group) (h : Group) → g ≡ Some h → c.under_way ≡ true → c.head ≡ head.Unknown → is_counted r.frames p ≡ true
+pub added : (Holds HoldsNew : List Numbered → Option Group → Type 0) (r : Rules) (c : Course) (p : Packet)
+    (stamped : Bool)
+    (g : Option Group) (h : Group) → g ≡ Some h → c.under_way ≡ true → c.head ≡ head.Unknown
+    → is_counted r.frames p ≡ true
     → is_same h.key (key_behind (Some h.key) p) ≡ true → stamped ≡ (c.stamped || is_stamp p)
     → (held : IsHeld Holds c g) → HoldsNew held.own (Some (one_more h p))
     → Went HoldsNew r (record c { stamped = stamped }) (course_events r c g) (Came p ∷ []) []
@@ -86,7 +96,7 @@ added Holds HoldsNew r c p stamped g h is under unknown counted same stamp held 
         stamp
         ∙ ap (λ (t : Bool). t || is_stamp p) (held.stamped under h is)
         ∙ sym (stamp_more h.packets p)
-        ∙ ap (λ (y : Group). has_stamp y.packets) (some_injective (one_more h p) x e);
+        ∙ ap (λ (y : Group). has_stamp y.packets) (same_Some (one_more h p) x e);
   };
   same = λ ended xs.
       course_at r (record c { stamped = stamped }) (Some (one_more h p)) true ended xs unknown under
@@ -95,34 +105,13 @@ added Holds HoldsNew r c p stamped g h is under unknown counted same stamp held 
       ∙ sym (course_at r c g true ended (Came p ∷ xs) unknown under);
 }
 
--- the group under way is closed
-shown_event : (n : Option ℕ) (h : Group) → head_events (head_of n) (Some h) ≡ event_of n h
-shown_event None h = refl
-shown_event (Some n) h = refl
-
-abbrev pub closed_with : Course → Option ℕ → Course
-closed_with c n = record { head = head_of n; under_way = false; stamped = c.stamped; last = n }
-
-pub closed_same : (r : Rules) (c : Course) (n : Option ℕ) (g : Option Group) (h : Group) → g ≡ Some h → c.under_way ≡ true
-    → c.head ≡ head.Unknown → n ≡ number_of r c.last h → SameIfClosed r c (closed_with c n) g
-closed_same r c n g h is under unknown number = λ ended xs closed.
-    let w : under_of c.under_way g ≡ Some h = ap₂ under_of under is in
-    ap (λ (o : Option Group). head_events (head_of n) o ++ events_behind r ended None n xs) is
-    ∙ ap (λ (l : List FeedEvent). l ++ events_behind r ended None n xs) (shown_event n h)
-    ∙ ap (λ (k : Option ℕ). event_of k h ++ events_behind r ended None k xs) number
-    ∙ sym (closed h w)
-    ∙ ap (λ (o : Option Group). events_behind r ended o c.last xs) (sym is)
-    ∙ sym (course_at r c g true ended xs unknown under)
-
-pub open_same : (r : Rules) (c : Course) (g : Option Group) → SameIfClosed r c c g
-open_same r c g = λ ended xs closed. refl
-
 -- what arrives closes it
 pub packet_closes : (r : Rules) (c : Course) (g : Option Group) (p : Packet) (ended : Bool) (xs : List Arrival)
     → is_counted r.frames p ≡ true
     → ((h : Group) → g ≡ Some h → c.under_way ≡ true → is_same h.key (key_behind (Some h.key) p) ≡ false)
     → IsClosed r c g ended (Came p ∷ xs)
-packet_closes r c g p ended xs counted other = λ h e. close_event r ended h c.last p xs counted (under c.under_way refl h e)
+packet_closes r c g p ended xs counted other = λ h e. close_event r ended h c.last p xs counted
+    (under c.under_way refl h e)
   where
     under : (t : Bool) → c.under_way ≡ t → (h : Group) → under_of t g ≡ Some h
         → is_same h.key (key_behind (Some h.key) p) ≡ false
@@ -130,7 +119,8 @@ packet_closes r c g p ended xs counted other = λ h e. close_event r ended h c.l
     under false e h is = none_some h is
 
 -- a packet closes it, and comes again
-pub waits : (Holds HoldsNew : List Numbered → Option Group → Type 0) (r : Rules) (c d : Course) (p : Packet) (g : Option Group)
+pub waits : (Holds HoldsNew : List Numbered → Option Group → Type 0) (r : Rules) (c d : Course) (p : Packet)
+    (g : Option Group)
     → SameIfClosed r c d g → is_counted r.frames p ≡ true
     → ((h : Group) → g ≡ Some h → c.under_way ≡ true → is_same h.key (key_behind (Some h.key) p) ≡ false)
     → IsHeld HoldsNew d g → Went HoldsNew r d (course_events r c g) (Came p ∷ []) (Came p ∷ [])
@@ -141,10 +131,12 @@ waits Holds HoldsNew r c d p g same counted other held = record {
 }
 
 -- or begins the next at once
-pub then_begun : (HoldsNew : List Numbered → Option Group → Type 0) (r : Rules) (c d e : Course) (p : Packet) (g : Option Group)
+pub then_begun : (HoldsNew : List Numbered → Option Group → Type 0) (r : Rules) (c d e : Course) (p : Packet)
+    (g : Option Group)
     → SameIfClosed r c d g → is_counted r.frames p ≡ true
     → ((h : Group) → g ≡ Some h → c.under_way ≡ true → is_same h.key (key_behind (Some h.key) p) ≡ false)
-    → Went HoldsNew r e (course_events r d g) (Came p ∷ []) [] → Went HoldsNew r e (course_events r c g) (Came p ∷ []) []
+    → Went HoldsNew r e (course_events r d g) (Came p ∷ []) [] → Went HoldsNew r e (course_events r c g)
+    (Came p ∷ []) []
 then_begun HoldsNew r c d e p g same counted other w = record {
   group = w.group;
   held = w.held;
@@ -152,7 +144,8 @@ then_begun HoldsNew r c d e p g same counted other w = record {
 }
 
 -- an idle unit
-pub idle_closes : (r : Rules) (c : Course) (g : Option Group) (ended : Bool) (xs : List Arrival) → IsClosed r c g ended (Idle ∷ xs)
+pub idle_closes : (r : Rules) (c : Course) (g : Option Group) (ended : Bool) (xs : List Arrival)
+    → IsClosed r c g ended (Idle ∷ xs)
 idle_closes r c g ended xs = λ h e. idle_event r ended h c.last xs
 
 pub waits_idle : (HoldsNew : List Numbered → Option Group → Type 0) (r : Rules) (c d : Course) (g : Option Group)

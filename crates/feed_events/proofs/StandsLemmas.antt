@@ -1,10 +1,14 @@
 -- Bytes in, events out.
-use Rattle.std.proofs.Common.{◌≡◌, ℕ, zero, suc, ◌-◌, ◌/◌, ◌%◌, ◌≤◌, ◌<◌, Bool, true, false, List, [], ◌∷◌, ◌++◌, length, take}
-use Rattle.std.proofs.Common.{drop, Option, Some, None, refl, ap, ap₂, sym, subst, ◌∙◌, arith, append_assoc, append-nil, length-append, ◌⊎◌, inl, inr}
-use Rattle.std.specs.Prelude.{map, not, option_map, slice_get, is_some, IfSome}
+use Rattle.std.proofs.Common.{◌≡◌, ℕ, zero, suc, ◌-◌, ◌/◌, ◌%◌, ◌≤◌, ◌<◌, Bool, true, false, List, [], ◌∷◌, ◌++◌}
+use Rattle.std.proofs.Common.{length, take}
+use Rattle.std.proofs.Common.{drop, Option, Some, None, refl, ap, ap₂, sym, subst, ◌∙◌, arith, append_assoc, append-nil}
+use Rattle.std.proofs.Common.{length-append, ◌⊎◌, inl, inr}
+use Rattle.std.specs.Prelude.{map, not, option_map, is_some, IfSome}
 use Rattle.std.proofs.lemmas.Bool.{true≢false, cases_lt}
 use Rattle.std.proofs.lemmas.List.{drop_all, take_all}
-use Rattle.terms.proofs.OptionLemmas.{some_injective, none_some}
+use Rattle.std.proofs.lemmas.Option.{slice_get_past, slice_get_within}
+use Rattle.terms.proofs.OptionLemmas.{none_some}
+use Rattle.terms.proofs.ListLemmas.{drop_some}
 use Rattle.t2mi_packet.specs.Reading.{packet_at}
 use Rattle.t2mi_packet.specs.T2miPacket.{view_of, Spells}
 use Rattle.t2mi_packet.specs.declared.packet.Packet.{Packet}
@@ -17,6 +21,7 @@ use Rattle.t2mi_stream.specs.Laws.{EventsPush, AcceptedFront}
 use Rattle.t2mi_stream.specs.Units.{accepted_of, accepted_in}
 use Rattle.t2mi_stream.specs.UnpiperStandsFor.{UnpiperStandsFor, is_ready, next_packet, AllReleased}
 use Rattle.t2mi_stream.specs.declared.unpiper.Unpiper.{Unpiper}
+use Rattle.t2mi_stream.proofs.NextLemmas.{has_bytes, IsIdle}
 use Rattle.t2mi_stream.proofs.UnitLemmas.{runs_same}
 use Rattle.feed_events.specs.Arrivals.{Arrival, came_of, is_idle, idle_if, arrivals_with, arrivals_from, arrivals}
 use Rattle.feed_events.specs.Arrivals.Arrival.{Came, Idle}
@@ -30,26 +35,6 @@ use Rattle.t2mi_stream.specs.Skipping.{FewPackets}
 use Rattle.feed_events.proofs.UnderLemmas.{first_events, no_event}
 use Rattle.feed_events.proofs.ArrivalLemmas.{with_unit, behind_unit, behind_none}
 
--- the packet that bytes are
-abbrev pub seen_as : List ℕ → Packet
-seen_as bytes = packet_at (view_of bytes)
-
--- the packet that waits, and those behind it
-drop_next : {X : Type 0} (xs : List X) (i : ℕ) (a : X) → slice_get xs i ≡ Some a → (drop i xs ≡ a ∷ drop (suc i) xs)
-    × (suc i ≤ length xs)
-drop_next [] i a e = none_some a e
-drop_next (x ∷ xs) zero a e = (ap (λ y. y ∷ xs) (some_injective x a e), omega arith)
-drop_next (x ∷ xs) (suc i) a e = let r = drop_next xs i a e in (r.0, omega (arith, r.1))
-
-pub record HasBytes (o : Option AcceptedPacket) (seen : List ℕ) : Type 0 where
-  pub packet : AcceptedPacket
-  pub is : o ≡ Some packet
-  pub bytes : packet.bytes ≡ seen
-
-has_bytes : (o : Option AcceptedPacket) (seen : List ℕ) → option_map (λ a. a.bytes) o ≡ Some seen → HasBytes o seen
-has_bytes None seen e = none_some seen e
-has_bytes (Some a) seen e = record { packet = a; is = refl; bytes = some_injective a.bytes seen e }
-
 -- what an unpiper shows of the packet that waits
 abbrev pub Sees : Unpiper → List ℕ → Type 0
 Sees u seen = (pid : ℕ) (events : List UnpiperEvent) → UnpiperStandsFor u pid events
@@ -61,7 +46,8 @@ Releases old new = (pid : ℕ) (events : List UnpiperEvent) → UnpiperStandsFor
 
 -- the packet that waits is the first that is left
 pub record LeftFirst (pid : ℕ) (events : List UnpiperEvent) (idle : Bool) (seen : List ℕ) : Type 0 where
-  pub left : arrivals_left pid events idle ≡ Came (seen_as seen) ∷ arrivals_left pid (events ++ Released ∷ []) idle
+  pub left : arrivals_left pid events idle ≡ Came (packet_at (view_of seen)) ∷ arrivals_left pid
+      (events ++ Released ∷ []) idle
   pub few : released (events ++ Released ∷ []) ≤ length (accepted_of pid (fed (events ++ Released ∷ [])))
 
 left_first : (push : EventsPush) (pid : ℕ) (events : List UnpiperEvent) (idle : Bool) (seen : List ℕ)
@@ -70,20 +56,24 @@ left_first push pid events idle seen told =
     let b = has_bytes (next_packet pid events) seen told in
     let p = push events in
     let n : released (events ++ Released ∷ []) ≡ suc (released events) = p.released_more ∙ omega arith in
-    let d = drop_next (accepted_of pid (fed events)) (released events) b.packet b.is in
+    let d = drop_some (accepted_of pid (fed events)) (released events) b.packet b.is in
+    let within = slice_get_within (accepted_of pid (fed events)) (released events) b.packet b.is in
     record {
       left =
-          ap (λ (l : List AcceptedPacket). map came_of l ++ idle_if idle) d.0
-          ∙ ap₂ (λ (x : List ℕ) (l : List AcceptedPacket). Came (seen_as x) ∷ (map came_of l ++ idle_if idle)) b.bytes
-          (ap₂ (λ (k : ℕ) (l : List ℕ). drop k (accepted_of pid l)) (sym n) (sym p.fed_same));
+          ap (λ (l : List AcceptedPacket). map came_of l ++ idle_if idle) d
+          ∙ ap₂ (λ (x : List ℕ) (l : List AcceptedPacket). Came (packet_at (view_of x))
+          ∷ (map came_of l ++ idle_if idle)) b.bytes
+          (ap₂ (λ (k : ℕ) (l : List ℕ). drop k (accepted_of pid l)) (sym p.released_more) (sym p.fed_same));
       few = subst (λ (l : List ℕ). released (events ++ Released ∷ []) ≤ length (accepted_of pid l)) (sym p.fed_same)
-          (omega (arith, n, d.1));
+          (omega (arith, n, within));
     }
 
 -- the packet that waits was worked off
-pub worked_off : (push : EventsPush) (Old New : List Numbered → Option Group → Type 0) (r : Rules) (u v : Unpiper) (c d : Course)
+pub worked_off : (push : EventsPush) (Old New : List Numbered → Option Group → Type 0) (r : Rules) (u v : Unpiper)
+    (c d : Course)
     (idle finished : Bool) (bytes : List ℕ) (gone : List FeedEvent) (seen : List ℕ) → Sees u seen → Releases u v
-    → ((g : Option Group) → IsHeld Old c g → Went New r d (course_events r c g) (Came (seen_as seen) ∷ []) [])
+    → ((g : Option Group) → IsHeld Old c g → Went New r d (course_events r c g) (Came (packet_at (view_of seen)) ∷ [])
+    [])
     → EventsStandFor Old r u c idle finished bytes gone → EventsStandFor New r v d idle finished bytes gone
 worked_off push Old New r u v c d idle finished bytes gone seen sees releases went h =
     let pid = r.network.pid in
@@ -109,10 +99,11 @@ worked_off push Old New r u v c d idle finished bytes gone seen sees releases we
     }
 
 -- it closed a group, and waits on
-pub held_back : (push : EventsPush) (Old New : List Numbered → Option Group → Type 0) (r : Rules) (u : Unpiper) (c d : Course)
+pub held_back : (push : EventsPush) (Old New : List Numbered → Option Group → Type 0) (r : Rules) (u : Unpiper)
+    (c d : Course)
     (idle finished : Bool) (bytes : List ℕ) (gone : List FeedEvent) (seen : List ℕ) → Sees u seen
     → ((g : Option Group) → IsHeld Old c g
-    → Went New r d (course_events r c g) (Came (seen_as seen) ∷ []) (Came (seen_as seen) ∷ []))
+    → Went New r d (course_events r c g) (Came (packet_at (view_of seen)) ∷ []) (Came (packet_at (view_of seen)) ∷ []))
     → EventsStandFor Old r u c idle finished bytes gone → EventsStandFor New r u d idle finished bytes gone
 held_back push Old New r u c d idle finished bytes gone seen sees went h =
     let pid = r.network.pid in
@@ -138,20 +129,18 @@ held_back push Old New r u c d idle finished bytes gone seen sees went h =
     }
 
 -- no packet is left
-none_left : (pid : ℕ) (events : List UnpiperEvent) (idle : Bool) → AllReleased pid events → arrivals_left pid events idle ≡ idle_if idle
+none_left : (pid : ℕ) (events : List UnpiperEvent) (idle : Bool) → AllReleased pid events
+    → arrivals_left pid events idle ≡ idle_if idle
 none_left pid events idle all =
     ap (λ (l : List AcceptedPacket). map came_of l ++ idle_if idle)
     (drop_all (released events) (accepted_of pid (fed events)) (omega (arith, all)))
-
--- all that an unpiper accepted was given up
-abbrev pub IsIdle : Unpiper → Type 0
-IsIdle u = (pid : ℕ) (events : List UnpiperEvent) → UnpiperStandsFor u pid events → AllReleased pid events
 
 -- an idle unit was worked off, or closed a group
 pub fell_silent : (Old New : List Numbered → Option Group → Type 0) (r : Rules) (u : Unpiper) (c d : Course)
     (idle worked finished : Bool) (bytes : List ℕ) (gone : List FeedEvent) → IsIdle u → idle ≡ true
     → (worked ≡ true → (g : Option Group) → IsHeld Old c g → Went New r d (course_events r c g) (Idle ∷ []) [])
-    → (worked ≡ false → (g : Option Group) → IsHeld Old c g → Went New r d (course_events r c g) (Idle ∷ []) (Idle ∷ []))
+    → (worked ≡ false → (g : Option Group) → IsHeld Old c g → Went New r d (course_events r c g) (Idle ∷ [])
+    (Idle ∷ []))
     → EventsStandFor Old r u c idle finished bytes gone → EventsStandFor New r u d (not worked) finished bytes gone
 fell_silent Old New r u c d idle worked finished bytes gone none is all held stands =
     let h = subst (λ (i : Bool). EventsStandFor Old r u c i finished bytes gone) is stands in
@@ -174,9 +163,11 @@ fell_silent Old New r u c d idle worked finished bytes gone none is all held sta
       held = w.held;
       all = λ ended all later can.
           h.all ended all later can
-          ∙ ap (λ (l : List Arrival). gone ++ course_events r c h.group ended (l ++ later)) (none_left pid h.events true n)
+          ∙ ap (λ (l : List Arrival). gone ++ course_events r c h.group ended (l ++ later))
+          (none_left pid h.events true n)
           ∙ ap (λ (l : List FeedEvent). gone ++ l) (sym (w.same ended later))
-          ∙ ap (λ (l : List Arrival). gone ++ course_events r d w.group ended (l ++ later)) (sym (none_left pid h.events left n));
+          ∙ ap (λ (l : List Arrival). gone ++ course_events r d w.group ended (l ++ later))
+          (sym (none_left pid h.events left n));
     }
   where
     went_as : (t : Bool)
@@ -215,7 +206,8 @@ at_the_end Old New r u c d bytes gone none ends h =
           (at c h.group ended later can.0 can.2 ∙ sym w.same ∙ sym (at d w.group ended later can.0 can.2));
     }
 
-pub came_end : (Old New : List Numbered → Option Group → Type 0) (r : Rules) (u : Unpiper) (c d : Course) (idle finished : Bool)
+pub came_end : (Old New : List Numbered → Option Group → Type 0) (r : Rules) (u : Unpiper) (c d : Course)
+    (idle finished : Bool)
     (bytes : List ℕ) (gone : List FeedEvent) → IsIdle u → idle ≡ false → finished ≡ true
     → ((g : Option Group) → IsHeld Old c g → Ended New r d (course_events r c g))
     → EventsStandFor Old r u c idle finished bytes gone → EventsStandFor New r u d false finished bytes gone
@@ -226,7 +218,8 @@ came_end Old New r u c d idle finished bytes gone none not_idle at_end ends stan
     (subst (λ (i : Bool). EventsStandFor Old r u c i finished bytes gone) not_idle stands)))
 
 -- a unit that does not end gives nothing: so an unpiper to which a unit is fed takes all of it
-pub takes_all : (front : AcceptedFront) (push : EventsPush) (pid : ℕ) (events : List UnpiperEvent) (unit : List ℕ) (count : ℕ)
+pub takes_all : (front : AcceptedFront) (push : EventsPush) (pid : ℕ) (events : List UnpiperEvent) (unit : List ℕ)
+    (count : ℕ)
     → length (fed events) % 188 ≡ 0 → length unit ≡ 188 → count < 188 → AllReleased pid events
     → AllReleased pid (events ++ Fed (take count unit) ∷ [])
 takes_all front push pid events unit count whole size few all =
@@ -246,7 +239,8 @@ takes_all front push pid events unit count whole size few all =
 -- a unit came
 pub came_unit : (front : AcceptedFront) (push : EventsPush) (Holds : List Numbered → Option Group → Type 0) (r : Rules)
     (u v : Unpiper) (c : Course) (bytes unit : List ℕ) (gone : List FeedEvent) → IsIdle u → length unit ≡ 188
-    → (h : EventsStandFor Holds r u c false false bytes gone) → UnpiperStandsFor v r.network.pid (h.events ++ Fed unit ∷ [])
+    → (h : EventsStandFor Holds r u c false false bytes gone) → UnpiperStandsFor v r.network.pid
+    (h.events ++ Fed unit ∷ [])
     → EventsStandFor Holds r v c (is_idle r.network.pid unit) false (bytes ++ unit) gone
 came_unit front push Holds r u v c bytes unit gone none size h feeds =
     let pid = r.network.pid in
@@ -254,12 +248,16 @@ came_unit front push Holds r u v c bytes unit gone none size h feeds =
     let n = none pid h.events h.stands in
     let f = front pid (fed h.events) unit in
     let idle = is_idle pid unit in
-    let old : bytes ≡ fed h.events = h.bytes_are ∙ ap (λ (l : List ℕ). fed h.events ++ l) (h.no_tail refl) ∙ append-nil (fed h.events) in
-    let new : fed (h.events ++ Fed unit ∷ []) ≡ bytes ++ unit = p.fed_more unit ∙ ap (λ (l : List ℕ). l ++ unit) (sym old) in
+    let old : bytes ≡ fed h.events = h.bytes_are ∙ ap (λ (l : List ℕ). fed h.events ++ l) (h.no_tail refl)
+    ∙ append-nil (fed h.events) in
+    let new : fed (h.events ++ Fed unit ∷ []) ≡ bytes ++ unit = p.fed_more unit
+    ∙ ap (λ (l : List ℕ). l ++ unit) (sym old) in
     let whole : length bytes % 188 ≡ 0 = ap (λ (l : List ℕ). length l % 188) old ∙ h.whole in
-    let all_of : length (accepted_of pid bytes) ≡ released h.events = ap (λ (l : List ℕ). length (accepted_of pid l)) old ∙ n in
+    let all_of : length (accepted_of pid bytes) ≡ released h.events = ap (λ (l : List ℕ). length (accepted_of pid l))
+    old ∙ n in
     let k : released (h.events ++ Fed unit ∷ []) ≡ length (accepted_of pid bytes) = p.released_same unit ∙ sym all_of in
-    let left : arrivals_left pid (h.events ++ Fed unit ∷ []) idle ≡ arrivals_with pid (bytes ++ unit) (length bytes / 188) =
+    let left : arrivals_left pid (h.events ++ Fed unit ∷ []) idle ≡ arrivals_with pid (bytes ++ unit)
+    (length bytes / 188) =
     ap₂ (λ (i : ℕ) (l : List ℕ). map came_of (drop i (accepted_of pid l)) ++ idle_if idle) k new
     ∙ sym (with_unit pid bytes unit (length bytes / 188) (omega (arith, whole)) size) in
     let l = length-append bytes unit in
@@ -288,9 +286,11 @@ came_unit front push Holds r u v c bytes unit gone none size h feeds =
     }
 
 -- what is next was passed
-pub passed : (Holds : List Numbered → Option Group → Type 0) (r : Rules) (u : Unpiper) (c : Course) (idle finished : Bool)
+pub passed : (Holds : List Numbered → Option Group → Type 0) (r : Rules) (u : Unpiper) (c : Course)
+    (idle finished : Bool)
     (bytes : List ℕ) (gone : List FeedEvent) (h : EventsStandFor Holds r u c idle finished bytes gone)
-    → EventsStandFor Holds r u (record c { head = head.Unknown }) idle finished bytes (gone ++ head_events c.head h.group)
+    → EventsStandFor Holds r u (record c { head = head.Unknown }) idle finished bytes
+    (gone ++ head_events c.head h.group)
 passed Holds r u c idle finished bytes gone h = record {
   events = h.events;
   stands = h.stands;
@@ -305,16 +305,19 @@ passed Holds r u c idle finished bytes gone h = record {
   all = λ ended all later can.
       h.all ended all later can
       ∙ sym (append_assoc gone (head_events c.head h.group)
-      (events_behind r ended (under_of c.under_way h.group) c.last (arrivals_left r.network.pid h.events idle ++ later)));
+      (events_behind r ended (under_of c.under_way h.group) c.last (arrivals_left r.network.pid h.events idle
+      ++ later)));
 }
 
 -- no more bytes come
-pub finished_by : (Holds : List Numbered → Option Group → Type 0) (r : Rules) (u : Unpiper) (c : Course) (bytes tail : List ℕ)
+pub finished_by : (Holds : List Numbered → Option Group → Type 0) (r : Rules) (u : Unpiper) (c : Course)
+    (bytes tail : List ℕ)
     (gone : List FeedEvent) → length tail < 188 → EventsStandFor Holds r u c false false bytes gone
     → EventsStandFor Holds r u c false true (bytes ++ tail) gone
 finished_by Holds r u c bytes tail gone short h =
     let pid = r.network.pid in
-    let old : bytes ≡ fed h.events = h.bytes_are ∙ ap (λ (l : List ℕ). fed h.events ++ l) (h.no_tail refl) ∙ append-nil (fed h.events) in
+    let old : bytes ≡ fed h.events = h.bytes_are ∙ ap (λ (l : List ℕ). fed h.events ++ l) (h.no_tail refl)
+    ∙ append-nil (fed h.events) in
     record {
       events = h.events;
       stands = h.stands;
@@ -379,27 +382,24 @@ begun_with few Holds r u stands held =
     }
 
 -- by other names of the same
-pub by_flags : (Holds : List Numbered → Option Group → Type 0) (r : Rules) (u : Unpiper) (c : Course) (idle other finished over : Bool)
+pub by_flags : (Holds : List Numbered → Option Group → Type 0) (r : Rules) (u : Unpiper) (c : Course)
+    (idle other finished over : Bool)
     (bytes : List ℕ) (gone : List FeedEvent) → idle ≡ other → finished ≡ over
     → EventsStandFor Holds r u c idle finished bytes gone → EventsStandFor Holds r u c other over bytes gone
 by_flags Holds r u c idle other finished over bytes gone i f h =
     subst (λ (t : Bool). EventsStandFor Holds r u c other t bytes gone) f
     (subst (λ (t : Bool). EventsStandFor Holds r u c t finished bytes gone) i h)
 
-pub by_rules : (Holds : List Numbered → Option Group → Type 0) (r s : Rules) (u : Unpiper) (c : Course) (idle finished : Bool)
+pub by_rules : (Holds : List Numbered → Option Group → Type 0) (r s : Rules) (u : Unpiper) (c : Course)
+    (idle finished : Bool)
     (bytes : List ℕ) (gone : List FeedEvent) → s ≡ r → EventsStandFor Holds r u c idle finished bytes gone
     → EventsStandFor Holds s u c idle finished bytes gone
-by_rules Holds r s u c idle finished bytes gone same = subst (λ (x : Rules). EventsStandFor Holds x u c idle finished bytes gone) (sym same)
-
--- what is behind the last packet
-get_past : {X : Type 0} (xs : List X) (n : ℕ) → length xs ≡ n → slice_get xs n ≡ None
-get_past [] zero e = refl
-get_past [] (suc n) e = refl
-get_past (x ∷ xs) zero e = absurd (omega (arith, e))
-get_past (x ∷ xs) (suc n) e = get_past xs n (omega (arith, e))
+by_rules Holds r s u c idle finished bytes gone same = subst (λ (x : Rules). EventsStandFor Holds x u
+    c idle finished bytes gone) (sym same)
 
 -- a unit that is fed is fed whole: it gives no packet before its last byte
-pub feeds_all : (front : AcceptedFront) (push : EventsPush) (pid : ℕ) (events : List UnpiperEvent) (unit : List ℕ) (count : ℕ) (v : Unpiper)
+pub feeds_all : (front : AcceptedFront) (push : EventsPush) (pid : ℕ) (events : List UnpiperEvent) (unit : List ℕ)
+    (count : ℕ) (v : Unpiper)
     → length (fed events) % 188 ≡ 0 → length unit ≡ 188 → AllReleased pid events
     → UnpiperStandsFor v pid (events ++ Fed (take count unit) ∷ [])
     → (count < length unit → is_ready v ≡ true)
@@ -411,9 +411,10 @@ feeds_all front push pid events unit count v whole size all stands stops ready =
     go (inl less) =
         let r = ready (stops (omega (arith, less, size))) in
         let gone = takes_all front push pid events unit count whole size less all in
-        absurd (none_some r.0 (sym (get_past (accepted_of pid (fed (events ++ Fed (take count unit) ∷ [])))
-        (released (events ++ Fed (take count unit) ∷ [])) gone) ∙ r.1))
-    go (inr more) = subst (λ (l : List ℕ). UnpiperStandsFor v pid (events ++ Fed l ∷ [])) (take_all count unit (omega (arith, more, size)))
+        absurd (none_some r.0 (sym (slice_get_past (accepted_of pid (fed (events ++ Fed (take count unit) ∷ [])))
+        (released (events ++ Fed (take count unit) ∷ [])) (omega (arith, gone))) ∙ r.1))
+    go (inr more) = subst (λ (l : List ℕ). UnpiperStandsFor v pid (events ++ Fed l ∷ []))
+        (take_all count unit (omega (arith, more, size)))
         stands
 
 -- the packet that waits, if one does
@@ -428,10 +429,14 @@ has_next (Some p) ready v e is r pid events stands = let a = is pid events stand
 -- ---- what is next
 
 -- behind the last bytes of a feed nothing is left
-over_events : (Holds : List Numbered → Option Group → Type 0) (r : Rules) (u : Unpiper) (c : Course) (idle finished : Bool) (bytes : List ℕ)
-    (gone : List FeedEvent) (h : EventsStandFor Holds r u c idle finished bytes gone) → IsIdle u → idle ≡ false → finished ≡ true
-    → c.under_way ≡ false → (ended : Bool) (all : List ℕ) (later : List Arrival) → CanBecome finished r.network.pid bytes ended all later
-    → (ended ≡ true) × (events_behind r ended (under_of c.under_way h.group) c.last (arrivals_left r.network.pid h.events idle ++ later) ≡ [])
+over_events : (Holds : List Numbered → Option Group → Type 0) (r : Rules) (u : Unpiper) (c : Course)
+    (idle finished : Bool) (bytes : List ℕ)
+    (gone : List FeedEvent) (h : EventsStandFor Holds r u c idle finished bytes gone) → IsIdle u → idle ≡ false
+    → finished ≡ true
+    → c.under_way ≡ false → (ended : Bool) (all : List ℕ) (later : List Arrival)
+    → CanBecome finished r.network.pid bytes ended all later
+    → (ended ≡ true) × (events_behind r ended (under_of c.under_way h.group) c.last
+    (arrivals_left r.network.pid h.events idle ++ later) ≡ [])
 over_events Holds r u c idle finished bytes gone h none not_idle at_end under ended all later can =
     let pid = r.network.pid in
     let z = subst (λ (f : Bool). CanBecome f pid bytes ended all later) at_end can in
@@ -443,7 +448,8 @@ over_events Holds r u c idle finished bytes gone h none not_idle at_end under en
           ∙ ap (λ (t : Bool). events_behind r true (under_of t h.group) c.last []) under,
     )
 
-pub is_next : (Holds : List Numbered → Option Group → Type 0) (r : Rules) (u : Unpiper) (c : Course) (idle finished : Bool)
+pub is_next : (Holds : List Numbered → Option Group → Type 0) (r : Rules) (u : Unpiper) (c : Course)
+    (idle finished : Bool)
     (bytes : List ℕ) (gone : List FeedEvent) (h : EventsStandFor Holds r u c idle finished bytes gone)
     → ((n : ℕ) → c.head ≡ head.Frame n → (x : Group) × (h.group ≡ Some x))
     → (c.head ≡ head.Over → IsIdle u × (idle ≡ false) × (finished ≡ true) × (c.under_way ≡ false))
@@ -452,7 +458,8 @@ pub is_next : (Holds : List Numbered → Option Group → Type 0) (r : Rules) (u
 is_next Holds r u c idle finished bytes gone h frame over ended all later can = go c.head refl
   where
     rest : List FeedEvent
-    rest = events_behind r ended (under_of c.under_way h.group) c.last (arrivals_left r.network.pid h.events idle ++ later)
+    rest = events_behind r ended (under_of c.under_way h.group) c.last (arrivals_left r.network.pid h.events idle
+        ++ later)
 
     is : feed_events r ended all ≡ gone ++ (head_events c.head h.group ++ rest)
     is = h.all ended all later can
@@ -476,8 +483,10 @@ is_next Holds r u c idle finished bytes gone h frame over ended all later can = 
               ∙ append-nil gone,
         )
 
-pub unknown_next : (Holds : List Numbered → Option Group → Type 0) (r : Rules) (u : Unpiper) (c : Course) (idle finished : Bool)
-    (bytes : List ℕ) (gone : List FeedEvent) (h : EventsStandFor Holds r u c idle finished bytes gone) → IsIdle u → idle ≡ false
+pub unknown_next : (Holds : List Numbered → Option Group → Type 0) (r : Rules) (u : Unpiper) (c : Course)
+    (idle finished : Bool)
+    (bytes : List ℕ) (gone : List FeedEvent) (h : EventsStandFor Holds r u c idle finished bytes gone)
+    → IsIdle u → idle ≡ false
     → finished ≡ false → c.head ≡ head.Unknown → feed_events r false bytes ≡ gone
 unknown_next Holds r u c idle finished bytes gone h none not_idle going e =
     let pid = r.network.pid in
@@ -492,7 +501,8 @@ unknown_next Holds r u c idle finished bytes gone h none not_idle going e =
     ap₂ (λ (xs ys : List Arrival). xs ++ ys)
     (ap (arrivals_left pid h.events) not_idle ∙ none_left pid h.events false (none pid h.events h.stands)) later in
     h.all false bytes (arrivals_behind pid bytes []) can
-    ∙ ap₂ (λ (k : Head) (xs : List Arrival). gone ++ (head_events k h.group ++ events_behind r false (under_of c.under_way h.group) c.last xs))
+    ∙ ap₂ (λ (k : Head) (xs : List Arrival). gone ++ (head_events k h.group ++ events_behind r false
+    (under_of c.under_way h.group) c.last xs))
     e left
     ∙ ap (λ (l : List FeedEvent). gone ++ l) (no_event r (under_of c.under_way h.group) c.last)
     ∙ append-nil gone

@@ -34,10 +34,12 @@ has_stamp packets = list_any is_stamp packets
 -- the number behind another, if it is that of a frame with a key
 abbrev pub number_after : ℕ → Option ℕ → Key → Option ℕ
 number_after frames None key = None
-number_after frames (Some n) key = if nat_lt (n + 1) MOST_FRAMES && is_same (frame_key frames (n + 1)) key then Some (n + 1) else None
+number_after frames (Some n) key = if nat_lt (n + 1) MOST_FRAMES && is_same (frame_key frames (n + 1))
+    key then Some (n + 1) else None
 
--- The number of a group behind another: that of the frame which its first timestamp names; without a timestamp the next one, if it has
--- the key of that frame. So frames that lack are not counted over, but for those of a multiple of 16 superframes, to the frame.
+-- The number of a group behind another: that of the frame which its first timestamp names; without a timestamp the next
+-- one, if it has the key of that frame. So frames that lack are not counted over, but for those of a multiple of 16
+-- superframes, to the frame.
 abbrev pub number_of : Rules → Option ℕ → Group → Option ℕ
 number_of r last g = if has_stamp g.packets then r.named g else number_after r.frames last g.key
 

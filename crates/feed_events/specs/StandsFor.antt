@@ -1,5 +1,6 @@
 -- What a feed of events stands for.
-use Rattle.std.specs.Prelude.{◌≡◌, ℕ, ◌+◌, ◌-◌, ◌*◌, ◌/◌, ◌%◌, ◌<◌, ◌≤◌, Bool, true, false, List, [], ◌∷◌, ◌++◌, map, length, drop, Option, Some}
+use Rattle.std.specs.Prelude.{◌≡◌, ℕ, ◌+◌, ◌-◌, ◌*◌, ◌/◌, ◌%◌, ◌<◌, ◌≤◌, Bool, true, false, List, [], ◌∷◌, ◌++◌, map}
+use Rattle.std.specs.Prelude.{length, drop, Option, Some}
 use Rattle.std.specs.Prelude.{if◌then◌else◌}
 use Rattle.ts_packet.specs.declared.sizes.TheConstants.{SIZE}
 use Rattle.t2mi_stream.specs.Events.{UnpiperEvent, fed, released}
@@ -29,11 +30,12 @@ arrivals_left pid events idle = map came_of (drop (released events) (accepted_of
 
 -- How a feed can go on behind some bytes: with more bytes, to an end or not; and not at all, once it is at its end.
 abbrev pub CanBecome : Bool → ℕ → List ℕ → Bool → List ℕ → List Arrival → Type 0
-CanBecome false pid bytes ended all later = (more : List ℕ) × (all ≡ bytes ++ more) × (later ≡ arrivals_behind pid bytes more)
+CanBecome false pid bytes ended all later = (more : List ℕ) × (all ≡ bytes ++ more)
+    × (later ≡ arrivals_behind pid bytes more)
 CanBecome true pid bytes ended all later = (ended ≡ true) × (all ≡ bytes) × (later ≡ [])
 
--- These bytes were fed, and these events were passed. They are the first of all events, however the feed goes on; what follows them is
--- told by the event that is shown, the group under way, and what arrives.
+-- These bytes were fed, and these events were passed. They are the first of all events, however the feed goes on; what
+-- follows them is told by the event that is shown, the group under way, and what arrives.
 pub record EventsStandFor (Holds : List Numbered → Option Group → Type 0) (r : Rules) (u : Unpiper) (course : Course)
     (idle finished : Bool) (bytes : List ℕ) (gone : List FeedEvent) : Type 0 where
   pub events : List UnpiperEvent
@@ -46,7 +48,8 @@ pub record EventsStandFor (Holds : List Numbered → Option Group → Type 0) (r
   pub no_tail : finished ≡ false → tail ≡ []
   pub group : Option Group
   pub held : IsHeld Holds course group
-  pub all : (ended : Bool) (all : List ℕ) (later : List Arrival) → CanBecome finished r.network.pid bytes ended all later
+  pub all : (ended : Bool) (all : List ℕ) (later : List Arrival) → CanBecome finished r.network.pid bytes
+      ended all later
       → feed_events r ended all
       ≡ gone ++ course_events r course group ended (arrivals_left r.network.pid events idle ++ later)
 
@@ -82,8 +85,8 @@ events_left u course idle = 2 * steps_left u + events_of course + (if idle then 
 
 -- ---- of a feed over a group
 
--- what is next, the group that is held, how many bytes were fed, and no fewer than the events that can be passed before bytes are
--- wanted
+-- what is next, the group that is held, how many bytes were fed, and no fewer than the events that can be passed before
+-- bytes are wanted
 abbrev pub head_of : {G : Type 0} {o : OpenGroup.Ghosts G} → EventFeed G o → Head
 head_of f = f.frames.course.head
 
@@ -105,5 +108,6 @@ abbrev pub shown : {G : Type 0} {o : OpenGroup.Ghosts G} → EventFeed G o → O
 shown f g = head_events (head_of f) g
 
 abbrev pub EventFeedStandsFor : {G : Type 0} (o : OpenGroup.Ghosts G) → EventFeed G o → List ℕ → List FeedEvent → Type 0
-EventFeedStandsFor o f bytes gone = EventsStandFor (o.holds f.frames.group) (o.rules f.frames.group) f.unpiper f.frames.course
+EventFeedStandsFor o f bytes gone = EventsStandFor (o.holds f.frames.group) (o.rules f.frames.group)
+    f.unpiper f.frames.course
     f.idle f.finished bytes gone

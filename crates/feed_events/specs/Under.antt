@@ -6,7 +6,8 @@ use Rattle.frame_groups.specs.Grouping.{grouped_from, all_groups}
 use Rattle.frame_groups.specs.Groups.{Group, is_counted}
 use Rattle.frame_groups.specs.Modulated.{Numbered, Rules}
 use Rattle.feed_events.specs.Arrivals.{Arrival}
-use Rattle.feed_events.specs.FeedEvents.{FeedEvent, has_stamp, number_of, event_of, numbered_from, closed_of, between_idle, events_between}
+use Rattle.feed_events.specs.FeedEvents.{FeedEvent, has_stamp, number_of, event_of, numbered_from, closed_of}
+use Rattle.feed_events.specs.FeedEvents.{between_idle, events_between}
 use Rattle.feed_events.specs.FeedEvents.FeedEvent.{Has, Silent}
 use Rattle.feed_events.specs.declared.course.Course.{Course}
 use Rattle.feed_events.specs.declared.course.Head.{Head}
@@ -14,7 +15,8 @@ use Rattle.feed_events.specs.declared.course.Head.TheVariants as head
 
 -- the groups of packets behind a group under way
 abbrev pub groups_behind : ℕ → Option Group → List Packet → List Group
-groups_behind frames under ps = all_groups (grouped_from (record { closed = []; under_way = under }) (filter (is_counted frames) ps))
+groups_behind frames under ps = all_groups (grouped_from (record { closed = []; under_way = under })
+    (filter (is_counted frames) ps))
 
 -- what comes behind a group under way, or behind none, and behind a number
 abbrev pub events_under : Rules → Bool → Option Group → Option ℕ → List (List Packet) → List FeedEvent
@@ -48,7 +50,8 @@ start = record { head = head.Unknown; under_way = false; stamped = false; last =
 
 -- all events from a course on, by what arrives
 abbrev pub course_events : Rules → Course → Option Group → Bool → List Arrival → List FeedEvent
-course_events r course g ended xs = head_events course.head g ++ events_behind r ended (under_of course.under_way g) course.last xs
+course_events r course g ended xs = head_events course.head g ++ events_behind r ended (under_of course.under_way g)
+    course.last xs
 
 -- The group that is held is the one of a course.
 pub record IsHeld (Holds : List Numbered → Option Group → Type 0) (course : Course) (g : Option Group) : Type 0 where
@@ -72,7 +75,8 @@ pub record Went (Holds : List Numbered → Option Group → Type 0) (r : Rules) 
     (before : Bool → List Arrival → List FeedEvent) (arrived left : List Arrival) : Type 0 where
   pub group : Option Group
   pub held : IsHeld Holds course group
-  pub same : (ended : Bool) (xs : List Arrival) → course_events r course group ended (left ++ xs) ≡ before ended (arrived ++ xs)
+  pub same : (ended : Bool) (xs : List Arrival) → course_events r course group ended (left ++ xs) ≡ before
+      ended (arrived ++ xs)
 
 -- Nothing more arrives.
 pub record Ended (Holds : List Numbered → Option Group → Type 0) (r : Rules) (course : Course)

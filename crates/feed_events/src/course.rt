@@ -20,8 +20,8 @@ pub enum Head {
     Over,
 }
 
-// Where the groups are: what is next, whether a group is under way and has a timestamp, and the number of the group before it, if
-// that has one and the feed did not fall silent behind it.
+// Where the groups are: what is next, whether a group is under way and has a timestamp, and the number of the group
+// before it, if that has one and the feed did not fall silent behind it.
 #[derive(Clone, Copy, Debug, PartialEq, Eq)]
 pub(crate) struct Course {
     pub head: Head,

@@ -1,6 +1,5 @@
 // A T2-MI stream in, events out.
-ghost use Rattle.std.specs.Prelude.{◌≡◌, ◌≤◌, true, false, length, take};
-ghost use Rattle.ts_packet.specs.declared.sizes.TheConstants.{SIZE};
+ghost use Rattle.std.specs.Prelude.{◌≡◌, true, false};
 ghost use Rattle.t2mi_stream.specs.UnpiperStandsFor.{is_ready};
 ghost use Rattle.feed_events.specs.declared.course.Head.TheVariants as head;
 
@@ -11,18 +10,11 @@ use crate::settling::{go_on, rest};
 use bit_slice::OutOfMemory;
 use frame_groups::OpenGroup;
 use std::alloc::Global;
-use t2mi_stream::{Unpiper, accepted_front_law, events_push_law, few_packets_law};
+use t2mi_stream::{Unpiper, accepted_front_law, events_push_law, few_packets_law, first_unit};
 use ts_packet::SIZE;
 
-// The first unit of some bytes.
-fn first_unit(bytes: &[u8]) -> &[u8; SIZE]
-    requires { SIZE ≤ length bytes.now }
-    ensures { result.now ≡ take SIZE bytes.now }
-{
-    bytes.first_chunk().unwrap()
-}
-
-/// The events of a feed of a T2-MI stream, however it is damaged: feed it until it is known what is next, and pass that.
+/// The events of a feed of a T2-MI stream, however it is damaged: feed it until it is known what is next, and pass
+/// that.
 #[derive(Drop)]
 pub struct EventFeed<G: OpenGroup + Drop> {
     pid: u16,
@@ -33,17 +25,20 @@ pub struct EventFeed<G: OpenGroup + Drop> {
     // No more bytes come.
     finished: bool,
     ghost network: { (G.rules frames.group).network.pid ≡ pid },
-    ghost settled: { frames.course.head ≡ head.Unknown → (is_ready unpiper ≡ false) × (idle ≡ false) × (finished ≡ false) },
+    ghost settled: { frames.course.head ≡ head.Unknown → (is_ready unpiper ≡ false) × (idle ≡ false)
+        × (finished ≡ false) },
     ghost over: { frames.course.head ≡ head.Over → (is_ready unpiper ≡ false) × (idle ≡ false) × (finished ≡ true) },
 }
 
 impl<G: OpenGroup + Drop> EventFeed<G> {
-    ghost use Rattle.std.specs.Prelude.{◌≡◌, ◌≢◌, ◌<◌, ◌≤◌, ◌+◌, ◌*◌, ◌^◌, ◌++◌, ℕ, Bool, List, [], None, IfOk, length, take, true, false};
+    ghost use Rattle.std.specs.Prelude.{◌≡◌, ◌≢◌, ◌<◌, ◌≤◌, ◌+◌, ◌*◌, ◌^◌, ◌++◌, ℕ, Bool, List, [], None, IfOk, length};
+    ghost use Rattle.std.specs.Prelude.{take, true, false};
     ghost use Rattle.ts_packet.specs.declared.sizes.TheConstants.{SIZE};
     ghost use Rattle.feed_events.specs.Arrivals.{Arrival};
     ghost use Rattle.feed_events.specs.FeedEvents.{FeedEvent, feed_events};
     ghost use Rattle.feed_events.specs.StandsFor.{CanBecome, IsNext};
-    ghost use Rattle.feed_events.specs.StandsFor.{EventFeedStandsFor, head_of, fed_of, left_of, group_of, has_ended, is_event, shown};
+    ghost use Rattle.feed_events.specs.StandsFor.{EventFeedStandsFor, head_of, fed_of, left_of, group_of, has_ended};
+    ghost use Rattle.feed_events.specs.StandsFor.{is_event, shown};
     ghost use Rattle.feed_events.specs.declared.course.Head.TheVariants as head;
 
     /// A feed, on the PID of its network, with a group to which nothing was added. No byte was fed.
@@ -70,12 +65,14 @@ impl<G: OpenGroup + Drop> EventFeed<G> {
     pub fn head(&self) -> Head
         ensures head { result ≡ head_of self.now }
         // It is next, however the feed goes on; if it is not known, nothing is known but the events that were passed.
-        ensures next { (bytes : List ℕ) (gone : List FeedEvent) → (h : EventFeedStandsFor G.OpenGroup self.now bytes gone)
+        ensures next { (bytes : List ℕ) (gone : List FeedEvent)
+            → (h : EventFeedStandsFor G.OpenGroup self.now bytes gone)
             → (ended : Bool) (all : List ℕ) (later : List Arrival)
             → CanBecome (has_ended self.now) (G.rules (group_of self.now)).network.pid bytes ended all later
             → IsNext result h.group ended gone (feed_events (G.rules (group_of self.now)) ended all) }
         ensures unknown { result ≡ head.Unknown → (bytes : List ℕ) (gone : List FeedEvent)
-            → EventFeedStandsFor G.OpenGroup self.now bytes gone → feed_events (G.rules (group_of self.now)) false bytes ≡ gone }
+            → EventFeedStandsFor G.OpenGroup self.now bytes gone → feed_events (G.rules (group_of self.now))
+            false bytes ≡ gone }
     {
         let _key = self.frames.group.key();
         let _ready = self.unpiper.is_ready();
@@ -113,8 +110,8 @@ impl<G: OpenGroup + Drop> EventFeed<G> {
         );
     }
 
-    /// Takes whole units of the stream until it is known what is next or fewer than 188 bytes are left, and answers how many bytes
-    /// they are. With the piece, fewer than 2^60 bytes were fed in all.
+    /// Takes whole units of the stream until it is known what is next or fewer than 188 bytes are left, and answers how
+    /// many bytes they are. With the piece, fewer than 2^60 bytes were fed in all.
     pub fn feed(&mut self, piece: &[u8]) -> usize
         requires room { fed_of self.old + length piece.now < 2 ^ 60 }
         ensures stands { (bytes : List ℕ) (gone : List FeedEvent) → EventFeedStandsFor G.OpenGroup self.old bytes gone

@@ -22,7 +22,8 @@ fn stamped_with(stamped: bool, packet: &Packet<'_>) -> bool
     stamped || is_stamp(packet)
 }
 
-// The group under way, or the last one, and where the groups are. One without a timestamp has the number behind that of the one before.
+// The group under way, or the last one, and where the groups are. One without a timestamp has the number behind that of
+// the one before.
 #[derive(Drop)]
 pub(crate) struct Frames<G: OpenGroup + Drop> {
     pub group: G,
@@ -67,7 +68,8 @@ impl<G: OpenGroup + Drop> Frames<G> {
         }
     }
 
-    // The number of the group under way: that of the frame which its first timestamp names; without a timestamp the next one.
+    // The number of the group under way: that of the frame which its first timestamp names; without a timestamp the
+    // next one.
     fn number(&self) -> Option<u64>
         requires some { self.now.course.under_way ≡ true }
         ensures value { (h : Group) → IsHeld (G.holds self.now.group) self.now.course (Some h)
@@ -168,7 +170,8 @@ impl<G: OpenGroup + Drop> Frames<G> {
         self.course.stamped = stamped_with(self.course.stamped, packet);
     }
 
-    /// Works off a packet, unless it closes a group that is next then: then it has to come again, once the group was passed.
+    /// Works off a packet, unless it closes a group that is next then: then it has to come again, once the group was
+    /// passed.
     pub fn work(&mut self, packet: &Packet<'_>) -> bool
         requires unknown { self.old.course.head ≡ head.Unknown }
         requires fits { Fits packet.now }

@@ -16,14 +16,17 @@ fn step<G: OpenGroup + Drop>(unpiper: &mut Unpiper, frames: &mut Frames<G>) -> b
     requires ready { is_ready unpiper.old ≡ true }
     requires unknown { frames.old.course.head ≡ head.Unknown }
     ensures stands { (idle finished : Bool) (bytes : List ℕ) (gone : List FeedEvent)
-        → EventsStandFor (G.holds frames.old.group) (G.rules frames.old.group) unpiper.old frames.old.course idle finished bytes gone
-        → EventsStandFor (G.holds frames.new.group) (G.rules frames.old.group) unpiper.new frames.new.course idle finished bytes
+        → EventsStandFor (G.holds frames.old.group) (G.rules frames.old.group) unpiper.old frames.old.course
+        idle finished bytes gone
+        → EventsStandFor (G.holds frames.new.group) (G.rules frames.old.group) unpiper.new frames.new.course
+        idle finished bytes
         gone }
     ensures rules { G.rules frames.new.group ≡ G.rules frames.old.group }
     ensures known { result ≡ false → is_event frames.new.course.head ≡ true }
     ensures unknown { result ≡ true → frames.new.course.head ≡ head.Unknown }
     ensures less { result ≡ true → steps_left unpiper.new < steps_left unpiper.old }
-    ensures left { (idle : Bool) → events_left unpiper.new frames.new.course idle ≤ events_left unpiper.old frames.old.course idle }
+    ensures left { (idle : Bool) → events_left unpiper.new frames.new.course idle ≤ events_left unpiper.old
+        frames.old.course idle }
     ensures fed { fed_len unpiper.new ≡ fed_len unpiper.old }
 {
     events_push_law();
@@ -46,13 +49,16 @@ fn is_wanted<G: OpenGroup + Drop>(unpiper: &Unpiper, frames: &Frames<G>) -> bool
 // Works off the packets that wait, until it is known what is next or none waits.
 fn settle<G: OpenGroup + Drop>(unpiper: &mut Unpiper, frames: &mut Frames<G>)
     ensures stands { (idle finished : Bool) (bytes : List ℕ) (gone : List FeedEvent)
-        → EventsStandFor (G.holds frames.old.group) (G.rules frames.old.group) unpiper.old frames.old.course idle finished bytes gone
-        → EventsStandFor (G.holds frames.new.group) (G.rules frames.old.group) unpiper.new frames.new.course idle finished bytes
+        → EventsStandFor (G.holds frames.old.group) (G.rules frames.old.group) unpiper.old frames.old.course
+        idle finished bytes gone
+        → EventsStandFor (G.holds frames.new.group) (G.rules frames.old.group) unpiper.new frames.new.course
+        idle finished bytes
         gone }
     ensures rules { G.rules frames.new.group ≡ G.rules frames.old.group }
     ensures done { frames.new.course.head ≡ head.Unknown → is_ready unpiper.new ≡ false }
     ensures over { frames.old.course.head ≢ head.Over → frames.new.course.head ≢ head.Over }
-    ensures left { (idle : Bool) → events_left unpiper.new frames.new.course idle ≤ events_left unpiper.old frames.old.course idle }
+    ensures left { (idle : Bool) → events_left unpiper.new frames.new.course idle ≤ events_left unpiper.old
+        frames.old.course idle }
     ensures fed { fed_len unpiper.new ≡ fed_len unpiper.old }
 {
     while is_wanted(unpiper, frames) {
@@ -70,11 +76,14 @@ pub(crate) fn rest<G: OpenGroup + Drop>(
     finished: bool,
 ) -> bool
     ensures stands { (bytes : List ℕ) (gone : List FeedEvent)
-        → EventsStandFor (G.holds frames.old.group) (G.rules frames.old.group) unpiper.now frames.old.course idle finished bytes gone
-        → EventsStandFor (G.holds frames.new.group) (G.rules frames.old.group) unpiper.now frames.new.course result finished bytes
+        → EventsStandFor (G.holds frames.old.group) (G.rules frames.old.group) unpiper.now frames.old.course
+        idle finished bytes gone
+        → EventsStandFor (G.holds frames.new.group) (G.rules frames.old.group) unpiper.now frames.new.course
+        result finished bytes
         gone }
     ensures rules { G.rules frames.new.group ≡ G.rules frames.old.group }
-    ensures done { (frames.old.course.head ≡ head.Unknown → is_ready unpiper.now ≡ false) → frames.new.course.head ≡ head.Unknown
+    ensures done { (frames.old.course.head ≡ head.Unknown → is_ready unpiper.now ≡ false)
+        → frames.new.course.head ≡ head.Unknown
         → (is_ready unpiper.now ≡ false) × (result ≡ false) × (finished ≡ false) }
     ensures over { frames.old.course.head ≢ head.Over → frames.new.course.head ≡ head.Over
         → (is_ready unpiper.now ≡ false) × (result ≡ false) × (finished ≡ true) }
@@ -100,11 +109,14 @@ pub(crate) fn go_on<G: OpenGroup + Drop>(
     finished: bool,
 ) -> bool
     ensures stands { (bytes : List ℕ) (gone : List FeedEvent)
-        → EventsStandFor (G.holds frames.old.group) (G.rules frames.old.group) unpiper.old frames.old.course idle finished bytes gone
-        → EventsStandFor (G.holds frames.new.group) (G.rules frames.old.group) unpiper.new frames.new.course result finished bytes
+        → EventsStandFor (G.holds frames.old.group) (G.rules frames.old.group) unpiper.old frames.old.course
+        idle finished bytes gone
+        → EventsStandFor (G.holds frames.new.group) (G.rules frames.old.group) unpiper.new frames.new.course
+        result finished bytes
         gone }
     ensures rules { G.rules frames.new.group ≡ G.rules frames.old.group }
-    ensures done { frames.new.course.head ≡ head.Unknown → (is_ready unpiper.new ≡ false) × (result ≡ false) × (finished ≡ false) }
+    ensures done { frames.new.course.head ≡ head.Unknown → (is_ready unpiper.new ≡ false) × (result ≡ false)
+        × (finished ≡ false) }
     ensures over { frames.old.course.head ≢ head.Over → frames.new.course.head ≡ head.Over
         → (is_ready unpiper.new ≡ false) × (result ≡ false) × (finished ≡ true) }
     ensures left { events_left unpiper.new frames.new.course result ≤ events_left unpiper.old frames.old.course idle }

@@ -1,5 +1,6 @@
 -- What one of the feeds stands for, and which number comes next of it.
-use Rattle.std.proofs.Common.{◌≡◌, ℕ, ◌+◌, ◌≤◌, ◌==◌, Bool, true, false, List, [], ◌∷◌, ◌++◌, take, length, Option, Some, None}
+use Rattle.std.proofs.Common.{◌≡◌, ℕ, ◌+◌, ◌≤◌, ◌==◌, Bool, true, false, List, [], ◌∷◌, ◌++◌, take, length, Option}
+use Rattle.std.proofs.Common.{Some, None}
 use Rattle.std.proofs.Common.{refl, ap, sym, subst, ◌∙◌, arith, append-nil}
 use Rattle.std.specs.List.{AllByRecursion}
 use Rattle.std.proofs.lemmas.Bool.{true≢false, eqb-false, eqb-true}
@@ -34,7 +35,8 @@ pub record IsDue (c : Config) (f : FrameFeed) (bytes : List ℕ) (ended : Bool) 
   pub all : records_due c ended bytes ≡ given ++ later
   pub first : IsFirst (waiting_of f) later
 
-pub due_of : (c : Config) (f : FrameFeed) (bytes : List ℕ) (ended : Bool) (given : List FrameRecord) → IsFedWith c f bytes ended given
+pub due_of : (c : Config) (f : FrameFeed) (bytes : List ℕ) (ended : Bool) (given : List FrameRecord)
+    → IsFedWith c f bytes ended given
     → IsDue c f bytes ended given
 due_of c f bytes ended given w = record {
   later = w.stands.later;
@@ -45,12 +47,14 @@ due_of c f bytes ended given w = record {
 -- what waits has a number above those that were given
 pub waits_above : DueFollow → (c : Config) (f : FrameFeed) (bytes : List ℕ) (ended : Bool) (given : List FrameRecord)
     → IsFedWith c f bytes ended given → (w : Waiting) → waiting_of f ≡ Some w → above_all given ≤ w.frame
-waits_above follow c f bytes ended given h w is = go d.later d.all (subst (λ (o : Option Waiting). IsFirst o d.later) is d.first)
+waits_above follow c f bytes ended given h w is = go d.later d.all (subst (λ (o : Option Waiting). IsFirst o d.later)
+    is d.first)
   where
     d : IsDue c f bytes ended given
     d = due_of c f bytes ended given h
 
-    go : (later : List FrameRecord) → records_due c ended bytes ≡ given ++ later → IsFirst (Some w) later → above_all given ≤ w.frame
+    go : (later : List FrameRecord) → records_due c ended bytes ≡ given ++ later → IsFirst (Some w) later
+        → above_all given ≤ w.frame
     go [] all first = absurd first
     go (y ∷ later) all first =
         let from = follow c ended bytes in
@@ -60,8 +64,10 @@ waits_above follow c f bytes ended given h w is = go d.later d.all (subst (λ (o
 
 -- ---- bytes came, or the end
 
-pub behind_more : DueFollow → (c : Config) (next : ℕ) (f g : FrameFeed) (bytes : List ℕ) (ended : Bool) (given : List FrameRecord)
-    → waiting_of f ≡ None → feed.has_ended f ≡ false → IsBehind next f given → IsFedWith c g bytes ended given → IsBehind next g given
+pub behind_more : DueFollow → (c : Config) (next : ℕ) (f g : FrameFeed) (bytes : List ℕ) (ended : Bool)
+    (given : List FrameRecord)
+    → waiting_of f ≡ None → feed.has_ended f ≡ false → IsBehind next f given → IsFedWith c g bytes ended given
+    → IsBehind next g given
 behind_more follow c next f g bytes ended given none going was h = record {
   waits = λ w is.
       let low = was.idle none going in
@@ -85,17 +91,20 @@ pub took_behind : DueFollow → (c : Config) (n : ℕ) (f g : FrameFeed) (bytes 
 took_behind follow c n f g bytes ended given busy least end stays t h =
     go (is_at n (seen_of (waiting_of f))) refl t.are
   where
-    go : (b : Bool) → is_at n (seen_of (waiting_of f)) ≡ b → AreTaken b (waiting_of f) t.records → IsBehind (n + 1) g (given ++ t.records)
+    go : (b : Bool) → is_at n (seen_of (waiting_of f)) ≡ b → AreTaken b (waiting_of f) t.records
+        → IsBehind (n + 1) g (given ++ t.records)
     go true same are =
         let number : are.one.number ≡ n = taken_number (waiting_of f) are.one same are.first in
         let size = ap above_all are.only in
         let high : n + 1 ≤ above_all (given ++ t.records) = omega (arith, above_append given t.records, size, number) in
         record {
-          waits = λ w is. let l = waits_above follow c g bytes ended (given ++ t.records) h w is in omega (arith, l, high);
+          waits = λ w is. let l = waits_above follow c g bytes ended (given ++ t.records) h w is in omega
+              (arith, l, high);
           idle = λ _ _. high;
         }
       where
-        taken_number : (o : Option Waiting) (x : FrameRecord) → is_at n (seen_of o) ≡ true → IsFirst o (x ∷ []) → x.number ≡ n
+        taken_number : (o : Option Waiting) (x : FrameRecord) → is_at n (seen_of o) ≡ true → IsFirst o (x ∷ [])
+            → x.number ≡ n
         taken_number None x e first = absurd (true≢false (sym e))
         taken_number (Some w) x e first = first.0 ∙ eqb-true w.frame n e
     go false differ are = record {
@@ -115,16 +124,19 @@ took_behind follow c n f g bytes ended given busy least end stays t h =
 -- ---- how far its records have come
 
 -- all that is due was given
-pub due_given : (c : Config) (f : FrameFeed) (bytes : List ℕ) (ended : Bool) (given : List FrameRecord) → waiting_of f ≡ None
+pub due_given : (c : Config) (f : FrameFeed) (bytes : List ℕ) (ended : Bool) (given : List FrameRecord)
+    → waiting_of f ≡ None
     → feed.has_ended f ≡ false → IsFedWith c f bytes ended given → records_due c false bytes ≡ given
 due_given c f bytes ended given none going h =
     let d = due_of c f bytes ended given h in
     let later : d.later ≡ [] = subst (λ (o : Option Waiting). IsFirst o d.later) none d.first in
-    ap (λ (e : Bool). records_due c e bytes) (sym going ∙ h.stands.end) ∙ d.all ∙ ap (λ (l : List FrameRecord). given ++ l) later
+    ap (λ (e : Bool). records_due c e bytes) (sym going ∙ h.stands.end) ∙ d.all
+    ∙ ap (λ (l : List FrameRecord). given ++ l) later
     ∙ append-nil given
 
 -- so by what was taken of a file they end with the last number
-pub ends_at : (c : Config) (next : ℕ) (file : List ℕ) (place : ℕ) (f : FrameFeed) (bytes : List ℕ) (ended : Bool) (given : List FrameRecord)
+pub ends_at : (c : Config) (next : ℕ) (file : List ℕ) (place : ℕ) (f : FrameFeed) (bytes : List ℕ) (ended : Bool)
+    (given : List FrameRecord)
     → IsFed file place bytes ended → IsFedWith c f bytes ended given → IsBehind next f given → above_all given ≤ next
     → waiting_of f ≡ None → feed.has_ended f ≡ false → end_by c file (length bytes) ≡ next
 ends_at c next file place f bytes ended given taken h b above none going =

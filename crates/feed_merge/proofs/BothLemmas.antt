@@ -29,7 +29,8 @@ use Rattle.feed_merge.proofs.SplitLemmas.{IsSplit, late_waits}
 use Rattle.feed_merge.proofs.StepLemmas.{Wants, First, Second, IsLate}
 use Rattle.feed_merge.proofs.WantLemmas.{fed_count}
 
-module _ (c : Config) (events : List Event) (held_a held_b : Bool) (next : ℕ) (a b : FrameFeed) (ga gb : List FrameRecord)
+module _ (c : Config) (events : List Event) (held_a held_b : Bool) (next : ℕ) (a b : FrameFeed)
+    (ga gb : List FrameRecord)
     (s : AreFedWith c events held_a held_b next a b ga gb) where
   pub above_a : above_all ga ≤ next
   above_a = let n = s.next_is in omega (arith, n)
@@ -46,8 +47,10 @@ module _ (c : Config) (events : List Event) (held_a held_b : Bool) (next : ℕ) 
 
 -- ---- by the files
 
-module _ (front : DueFront) (follow : DueFollow) (c : Config) (events : List Event) (held_a held_b : Bool) (next : ℕ) (a b : FrameFeed)
-    (ga gb : List FrameRecord) (s : AreFedWith c events held_a held_b next a b ga gb) (files : ℕ → List ℕ) (places : List ℕ)
+module _ (front : DueFront) (follow : DueFollow) (c : Config) (events : List Event) (held_a held_b : Bool)
+    (next : ℕ) (a b : FrameFeed)
+    (ga gb : List FrameRecord) (s : AreFedWith c events held_a held_b next a b ga gb) (files : ℕ
+    → List ℕ) (places : List ℕ)
     (are : AreFed 2 files places events) where
   -- what follows in a file is no lower
   pub split_a : (n : ℕ) → IsPast held_a n a ga → IsSplit c (files 0) ga n
@@ -56,14 +59,18 @@ module _ (front : DueFront) (follow : DueFollow) (c : Config) (events : List Eve
   pub split_b : (n : ℕ) → IsPast held_b n b gb → IsSplit c (files 1) gb n
   split_b n past = split_of front follow c b (files 1) _ _ _ gb (are 1 (omega arith)) held_b n s.of_b past
 
-  -- no input was read further than by what is read ahead, if by fewer bytes than were fed no record is due of a number or a higher one
-  pub ends_before : (low : ℕ) → IsDueBelow c low (fed 0 events) → IsDueBelow c low (fed 1 events) → (input taken : ℕ) → input < 2
+  -- no input was read further than by what is read ahead, if by fewer bytes than were fed no record is due of a number
+  -- or a higher one
+  pub ends_before : (low : ℕ) → IsDueBelow c low (fed 0 events) → IsDueBelow c low (fed 1 events) → (input taken : ℕ)
+      → input < 2
       → taken < length (fed input events) → end_by c (files input) taken ≤ low
   ends_before low x y input taken lt =
       two (λ (input : ℕ). taken < length (fed input events) → end_by c (files input) taken ≤ low)
-      (λ less. by (files 0) _ _ _ (are 0 (omega arith)) x less) (λ less. by (files 1) _ _ _ (are 1 (omega arith)) y less) input lt
+      (λ less. by (files 0) _ _ _ (are 0 (omega arith)) x less) (λ less. by (files 1) _ _ _ (are 1 (omega arith))
+      y less) input lt
     where
-      by : (file : List ℕ) (place : ℕ) (bytes : List ℕ) (ended : Bool) → IsFed file place bytes ended → IsDueBelow c low bytes
+      by : (file : List ℕ) (place : ℕ) (bytes : List ℕ) (ended : Bool) → IsFed file place bytes ended
+          → IsDueBelow c low bytes
           → taken < length bytes → above_all (records_due c false (take taken file)) ≤ low
       by file place bytes ended f due less =
           let same = ap (λ (l : List ℕ). above_all (records_due c false l))
@@ -110,7 +117,8 @@ module _ (front : DueFront) (follow : DueFollow) (c : Config) (events : List Eve
     pub some_all : (next == 0) ≡ false → (records_of c (files 0) ≢ []) ⊎ (records_of c (files 1) ≢ [])
     some_all some = go ga gb refl refl
       where
-        go : (xs ys : List FrameRecord) → ga ≡ xs → gb ≡ ys → (records_of c (files 0) ≢ []) ⊎ (records_of c (files 1) ≢ [])
+        go : (xs ys : List FrameRecord) → ga ≡ xs → gb ≡ ys → (records_of c (files 0) ≢ [])
+            ⊎ (records_of c (files 1) ≢ [])
         go [] [] x y =
             let n = s.next_is in
             let p = ap above_all x in
@@ -122,7 +130,8 @@ module _ (front : DueFront) (follow : DueFollow) (c : Config) (events : List Eve
 -- ---- while records are read
 
 -- By fewer bytes than were fed, no record is due but those that were given.
-pub due_below : (c : Config) (f : FrameFeed) (bytes : List ℕ) (ended : Bool) (given : List FrameRecord) (low : ℕ) → above_all given ≤ low
+pub due_below : (c : Config) (f : FrameFeed) (bytes : List ℕ) (ended : Bool) (given : List FrameRecord) (low : ℕ)
+    → above_all given ≤ low
     → IsFedWith c f bytes ended given → IsDueBelow c low bytes
 due_below c f bytes ended given low above h = λ k lt.
     let p = h.stands.front k lt in
@@ -131,33 +140,40 @@ due_below c f bytes ended given low above h = λ k lt.
     omega (arith, above, size, same, above_append (records_due (feed.config_of f) false (take k bytes)) p.0)
 
 module _ (front : DueFront) (follow : DueFollow) (c : Config) (events : List Event) (next : ℕ) (a b : FrameFeed)
-    (ga gb : List FrameRecord) (s : AreFedWith c events false false next a b ga gb) (files : ℕ → List ℕ) (places : List ℕ)
+    (ga gb : List FrameRecord) (s : AreFedWith c events false false next a b ga gb) (files : ℕ
+    → List ℕ) (places : List ℕ)
     (are : AreFed 2 files places events) where
   -- the records that are due by what was taken of the input that is wanted are those up to the next number
   pub ends_next : (input : ℕ) → Wants (waiting_of a) (feed.has_ended a) (waiting_of b) (feed.has_ended b) input
       → end_by c (files input) (length (fed input events)) ≡ next
   ends_next input (First at idle) = subst (λ (i : ℕ). end_by c (files i) (length (fed i events)) ≡ next) at
-      (ends_at c next (files 0) _ a _ _ ga (are 0 (omega arith)) s.of_a s.behind_a (above_a c events false false next a b ga gb s)
+      (ends_at c next (files 0) _ a _ _ ga (are 0 (omega arith)) s.of_a s.behind_a
+      (above_a c events false false next a b ga gb s)
       idle.none idle.going)
   ends_next input (Second at idle) = subst (λ (i : ℕ). end_by c (files i) (length (fed i events)) ≡ next) at
-      (ends_at c next (files 1) _ b _ _ gb (are 1 (omega arith)) s.of_b s.behind_b (above_b c events false false next a b ga gb s)
+      (ends_at c next (files 1) _ b _ _ gb (are 1 (omega arith)) s.of_b s.behind_b
+      (above_b c events false false next a b ga gb s)
       idle.none idle.going)
 
   -- ---- a late record waits
 
   module _ (l : IsLate (waiting_of a) (feed.has_ended a) (waiting_of b) (feed.has_ended b)) where
     low_a : (w : Waiting) → waiting_of a ≡ Some w → MOST_FRAMES ≤ w.frame
-    low_a w is = let x = least_first (waiting_of a) (waiting_of b) l.least l.is w is in let y = l.late in omega (arith, x, y)
+    low_a w is = let x = least_first (waiting_of a) (waiting_of b) l.least l.is w is in let y = l.late in
+        omega (arith, x, y)
 
     low_b : (w : Waiting) → waiting_of b ≡ Some w → MOST_FRAMES ≤ w.frame
-    low_b w is = let x = least_second (waiting_of a) (waiting_of b) l.least l.is w is in let y = l.late in omega (arith, x, y)
+    low_b w is = let x = least_second (waiting_of a) (waiting_of b) l.least l.is w is in let y = l.late in
+        omega (arith, x, y)
 
-    late_behind : (f : FrameFeed) (given : List FrameRecord) → ((w : Waiting) → waiting_of f ≡ Some w → MOST_FRAMES ≤ w.frame)
+    late_behind : (f : FrameFeed) (given : List FrameRecord) → ((w : Waiting) → waiting_of f ≡ Some w
+        → MOST_FRAMES ≤ w.frame)
         → is_idle (waiting_of f) (feed.has_ended f) ≡ false → IsBehind MOST_FRAMES f given
     late_behind f given low busy = record {
       waits = low;
       idle = λ none going.
-          let i : is_idle (waiting_of f) (feed.has_ended f) ≡ true = ap₂ is_idle none going in absurd (true≢false (sym i ∙ busy));
+          let i : is_idle (waiting_of f) (feed.has_ended f) ≡ true = ap₂ is_idle none going in absurd
+          (true≢false (sym i ∙ busy));
     }
 
     -- so what follows in either file is late
@@ -172,6 +188,8 @@ module _ (front : DueFront) (follow : DueFollow) (c : Config) (events : List Eve
       where
         go : (v w : Option Waiting) → waiting_of a ≡ v → waiting_of b ≡ w
             → (¬ (AreEarly (records_of c (files 0)))) ⊎ (¬ (AreEarly (records_of c (files 1))))
-        go (Some v) w x y = inl (late_waits front follow c a (files 0) _ _ _ ga (are 0 (omega arith)) s.of_a v x (low_a v x))
-        go None (Some w) x y = inr (late_waits front follow c b (files 1) _ _ _ gb (are 1 (omega arith)) s.of_b w y (low_b w y))
+        go (Some v) w x y = inl (late_waits front follow c a (files 0) _ _ _ ga (are 0 (omega arith))
+            s.of_a v x (low_a v x))
+        go None (Some w) x y = inr (late_waits front follow c b (files 1) _ _ _ gb (are 1 (omega arith))
+            s.of_b w y (low_b w y))
         go None None x y = absurd (let z : None ≡ Some l.least = sym (ap₂ least_of x y) ∙ l.is in cc)

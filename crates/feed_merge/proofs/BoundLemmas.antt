@@ -1,5 +1,6 @@
 -- How many packets a formed frame has at most.
-use Rattle.std.proofs.Common.{◌≡◌, ℕ, zero, suc, ◌+◌, ◌*◌, ◌^◌, ◌/◌, ◌%◌, ◌==◌, ◌<◌, ◌≤◌, Bool, cond, List, [], ◌∷◌, length, replicate}
+use Rattle.std.proofs.Common.{◌≡◌, ℕ, zero, suc, ◌+◌, ◌*◌, ◌^◌, ◌/◌, ◌%◌, ◌<◌, ◌≤◌, Bool, cond, List, [], ◌∷◌, length}
+use Rattle.std.proofs.Common.{replicate}
 use Rattle.std.proofs.Common.{refl, ap, subst, ◌∙◌, arith, length-append, Option, Some, None}
 use Rattle.std.specs.Prelude.{sum_by, slice_index}
 use Rattle.std.specs.Int.{div_ceil}
@@ -20,13 +21,12 @@ use Rattle.plp_config.specs.declared.config.TheConstants.{GREATEST_REST}
 use Rattle.plp_config.specs.declared.plp.Plp.{Plp}
 use Rattle.scheduler.specs.Shape.{FrameShape}
 use Rattle.cell_map.specs.CellMap.{Passes}
-use Rattle.t2mi_packet.specs.declared.packet.Body.{Body}
 use Rattle.site_frame.specs.Record.{Block}
 use Rattle.site_frame.specs.declared.reading.RecordView.{RecordView}
 use Rattle.site_frame.specs.declared.reading.RecordView.TheVariants.{Frame, Muted}
 use Rattle.frame_groups.specs.Readable.{BlockSize, block_sizes, coming, has_size}
 use Rattle.frame_writer.specs.Flowing.{packet_bound}
-use Rattle.frame_writer.specs.FramePackets.{with_stamp}
+use Rattle.frame_writer.proofs.CarriedLemmas.{stamp_count}
 use Rattle.stream_laws.specs.Formed.{IsFormed}
 use Rattle.stream_laws.specs.Remade.{record_bodies, view_bodies, signal_of}
 
@@ -46,9 +46,11 @@ unfolding block_bytes
 sizes_within field c counts [] from at each = omega arith
 sizes_within field c counts (p ∷ plps) from at each =
     let same : from ≡ from + 0 = omega arith in
-    let is : p ≡ plp_at c.plps from = at 0 (omega arith) ∙ ap (plp_at c.plps) (let e : from + 0 ≡ from = omega arith in e) in
+    let is : p ≡ plp_at c.plps from = at 0 (omega arith)
+    ∙ ap (plp_at c.plps) (let e : from + 0 ≡ from = omega arith in e) in
     let few : slice_index counts from ≤ p.blocks =
-    subst (λ (k : ℕ). slice_index counts k ≤ p.blocks) (let e : from + 0 ≡ from = omega arith in e) (each 0 (omega arith)) in
+    subst (λ (k : ℕ). slice_index counts k ≤ p.blocks) (let e : from + 0 ≡ from = omega arith in e)
+    (each 0 (omega arith)) in
     let f = field c from in
     let wide : 883 ≤ 4 + block_bytes c from = omega (arith, f) in
     let bytes : 883 ≤ 4 + info_bits p.fec p.rate / 8 = subst (λ (q : Plp). 883 ≤ 4 + info_bits q.fec q.rate / 8)
@@ -70,19 +72,18 @@ sizes_within field c counts (p ∷ plps) from at each =
 coming_few : (c : Config) (n : ℕ) (shape : FrameShape) → Passes c shape → (plp : ℕ) → plp < length c.plps
     → slice_index (coming c n shape) plp ≤ (plp_at c.plps plp).blocks
 coming_few c n shape passes plp inside =
-    let at = get_or-map-range_with_len (λ (k : ℕ). cond {A = ℕ} (is_first c k n) (slice_index shape.counts k) 0) 0 (length c.plps) plp plp 0
+    let at = get_or-map-range_with_len (λ (k : ℕ). cond {A = ℕ} (is_first c k n) (slice_index shape.counts k) 0)
+    0 (length c.plps) plp plp 0
     inside (omega arith) in
     let most = passes.counts plp inside in
     bool_cases (is_first c plp n)
     (λ on. let e = ap (λ (b : Bool). cond {A = ℕ} b (slice_index shape.counts plp) 0) on in omega (arith, at, most, e))
     (λ off. let e = ap (λ (b : Bool). cond {A = ℕ} b (slice_index shape.counts plp) 0) off in omega (arith, at, e))
 
-pub bodies_count : (frame_idx : ℕ) (before : Option ℕ) (blocks : List Block) → length (record_bodies frame_idx before blocks) ≡ length blocks
+pub bodies_count : (frame_idx : ℕ) (before : Option ℕ) (blocks : List Block)
+    → length (record_bodies frame_idx before blocks) ≡ length blocks
 bodies_count frame_idx before [] = refl
 bodies_count frame_idx before (b ∷ blocks) = omega (arith, bodies_count frame_idx (Some b.plp_id) blocks)
-
-pub stamp_count : (c : Config) (n : ℕ) (bodies : List Body) → length (with_stamp c n bodies) ≤ length bodies + 1
-stamp_count c n bodies = bool_cases (n % c.frames == 0) (λ e. rw e (omega arith)) (λ e. rw e (omega arith))
 
 pub few_bodies : FieldRange → (c : Config) (n : ℕ) (view : RecordView) → IsPlan c → IsFormed c n view
     → packet_bound * length (view_bodies c n view) + 1000 ≤ 2 ^ 30
@@ -94,7 +95,8 @@ few_bodies field c n (Frame moment pre post blocks cells) plan formed =
     let few : 883 * length (block_sizes c counts) ≤ sum_by block_room c.plps =
     sizes_within field c counts c.plps 0 (λ i lt. let e : i ≡ 0 + i = omega arith in ap (plp_at c.plps) e)
     (λ i lt. let e : i ≡ 0 + i = omega arith in
-    subst (λ (k : ℕ). slice_index counts k ≤ (plp_at c.plps i).blocks) e (coming_few c n formed.shape formed.map i lt)) in
+    subst (λ (k : ℕ). slice_index counts k ≤ (plp_at c.plps i).blocks) e (coming_few c n formed.shape
+    formed.map i lt)) in
     let rest : 35 + div_ceil (213 + 137 * length c.plps) 8 + 4 * c.cells + sum_by block_room c.plps ≤ GREATEST_REST =
     plan.tests RecordLength in
     let bodies = bodies_count (n % c.frames) None blocks in

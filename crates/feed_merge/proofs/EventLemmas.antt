@@ -19,12 +19,14 @@ use Rattle.feed_merge.proofs.FilesLemmas.{two}
 use Rattle.feed_merge.proofs.StepLemmas.{IsIdle}
 
 -- the same of any bytes and ends that are the same
-same_of : (held : Bool) (c : Config) (f : FrameFeed) (bytes other : List ℕ) (ended over : Bool) (given : List FrameRecord)
+same_of : (held : Bool) (c : Config) (f : FrameFeed) (bytes other : List ℕ) (ended over : Bool)
+    (given : List FrameRecord)
     → bytes ≡ other → ended ≡ over → OfFeed held c f bytes ended given → OfFeed held c f other over given
 same_of held c f bytes other ended over given b e h =
     subst (λ (l : List ℕ). OfFeed held c f l over given) b (subst (λ (k : Bool). OfFeed held c f bytes k given) e h)
 
-pub same_both : (c : Config) (events more : List Event) (held_a held_b : Bool) (next : ℕ) (a b : FrameFeed) (ga gb : List FrameRecord)
+pub same_both : (c : Config) (events more : List Event) (held_a held_b : Bool) (next : ℕ) (a b : FrameFeed)
+    (ga gb : List FrameRecord)
     → ((input : ℕ) → fed input events ≡ fed input more) → ((input : ℕ) → has_ended input events ≡ has_ended input more)
     → AreFedWith c events held_a held_b next a b ga gb → AreFedWith c more held_a held_b next a b ga gb
 same_both c events more held_a held_b next a b ga gb bytes ended s = record {
@@ -37,32 +39,39 @@ same_both c events more held_a held_b next a b ga gb bytes ended s = record {
 }
 
 -- Nothing was fed.
-pub gave_both : EventsTell → (c : Config) (events : List Event) (bytes : List ℕ) (held_a held_b : Bool) (next : ℕ) (a b : FrameFeed)
+pub gave_both : EventsTell → (c : Config) (events : List Event) (bytes : List ℕ) (held_a held_b : Bool)
+    (next : ℕ) (a b : FrameFeed)
     (ga gb : List FrameRecord) → AreFedWith c events held_a held_b next a b ga gb
     → AreFedWith c (events ++ Gave bytes ∷ []) held_a held_b next a b ga gb
 gave_both tell c events bytes held_a held_b next a b ga gb s =
     let t = tell.given bytes events in
-    same_both c events (events ++ Gave bytes ∷ []) held_a held_b next a b ga gb (λ input. sym (t.fed input)) (λ input. sym (t.ended input)) s
+    same_both c events (events ++ Gave bytes ∷ []) held_a held_b next a b ga gb (λ input. sym (t.fed input))
+    (λ input. sym (t.ended input)) s
 
 -- ---- one of them
 
 -- One of two feeds goes on.
-record GoesOn (c : Config) (events more : List Event) (input next : ℕ) (f : FrameFeed) (given : List FrameRecord) : Type 0 where
+record GoesOn (c : Config) (events more : List Event) (input next : ℕ) (f : FrameFeed) (given : List FrameRecord) :
+    Type 0 where
   pub of : IsFedWith c f (fed input more) (has_ended input more) given
   pub behind : IsBehind next f given
   pub groups : (gs : List Numbered) → AreGroups c (fed input more) (has_ended input more) gs
       → AreGroups c (fed input events) (has_ended input events) gs
 
-module _ (follow : DueFollow) (c : Config) (events more : List Event) (input next : ℕ) (f : FrameFeed) (given : List FrameRecord)
+module _ (follow : DueFollow) (c : Config) (events more : List Event) (input next : ℕ) (f : FrameFeed)
+    (given : List FrameRecord)
     (s : IsFedWith c f (fed input events) (has_ended input events) given) (behind : IsBehind next f given) where
   -- it was fed these bytes, and has ended or not
-  grows : (g : FrameFeed) (piece : List ℕ) (over : Bool) → fed input more ≡ fed input events ++ piece → has_ended input more ≡ over
+  grows : (g : FrameFeed) (piece : List ℕ) (over : Bool) → fed input more ≡ fed input events ++ piece
+      → has_ended input more ≡ over
       → IsIdle (waiting_of f) (feed.has_ended f) → feed.config_of g ≡ feed.config_of f
-      → (FrameFeedStandsFor f (fed input events) false given → FrameFeedStandsFor g (fed input events ++ piece) over given)
+      → (FrameFeedStandsFor f (fed input events) false given → FrameFeedStandsFor g (fed input events ++ piece)
+      over given)
       → GoesOn c events more input next g given
   grows g piece over bytes ended idle config stands =
       let off : has_ended input events ≡ false = sym s.stands.end ∙ idle.going in
-      let now : IsFedWith c g (fed input more) (has_ended input more) given = same_of false c g _ _ _ _ given (sym bytes) (sym ended)
+      let now : IsFedWith c g (fed input more) (has_ended input more) given = same_of false c g _ _ _
+      _ given (sym bytes) (sym ended)
       (record {
         network = config ∙ s.network;
         stands = stands (subst (λ (e : Bool). FrameFeedStandsFor f (fed input events) e given) off s.stands);
@@ -79,7 +88,8 @@ module _ (follow : DueFollow) (c : Config) (events more : List Event) (input nex
       }
 
   -- it was not
-  stays : fed input more ≡ fed input events → has_ended input more ≡ has_ended input events → GoesOn c events more input next f given
+  stays : fed input more ≡ fed input events → has_ended input more ≡ has_ended input events
+      → GoesOn c events more input next f given
   stays bytes ended = record {
     of = same_of false c f _ _ _ _ given (sym bytes) (sym ended) s;
     behind = behind;
@@ -125,7 +135,8 @@ module _ (tell : EventsTell) (follow : DueFollow) (c : Config) (events : List Ev
       (both_go c events more next a b g b ga gb s t.gave
       (grows follow c events more 0 next a ga s.of_a s.behind_a g piece false t.here
       (t.ended 0 ∙ sym s.of_a.stands.end ∙ idle.going) idle config (stands _ ga))
-      (stays follow c events more 1 next b gb s.of_b s.behind_b (t.others 1 (λ e. absurd (omega (arith, e)))) (t.ended 1)))
+      (stays follow c events more 1 next b gb s.of_b s.behind_b (t.others 1 (λ e. absurd (omega (arith, e))))
+      (t.ended 1)))
 
   pub second_fed : input ≡ 1 → IsIdle (waiting_of b) (feed.has_ended b) → feed.config_of g ≡ feed.config_of b
       → ((bytes : List ℕ) (given : List FrameRecord) → FrameFeedStandsFor b bytes false given
@@ -136,25 +147,31 @@ module _ (tell : EventsTell) (follow : DueFollow) (c : Config) (events : List Ev
       let more : List Event = events ++ Fed 1 piece ∷ [] in
       subst (λ (k : ℕ). GoOn c events (events ++ Fed k piece ∷ []) next a g ga gb) (sym is)
       (both_go c events more next a b a g ga gb s t.gave
-      (stays follow c events more 0 next a ga s.of_a s.behind_a (t.others 0 (λ e. absurd (omega (arith, e)))) (t.ended 0))
+      (stays follow c events more 0 next a ga s.of_a s.behind_a (t.others 0 (λ e. absurd (omega (arith, e))))
+      (t.ended 0))
       (grows follow c events more 1 next b gb s.of_b s.behind_b g piece false t.here
       (t.ended 1 ∙ sym s.of_b.stands.end ∙ idle.going) idle config (stands _ gb)))
 
   -- nothing of it was left
-  pub first_ended : input ≡ 0 → length piece ≡ 0 → IsIdle (waiting_of a) (feed.has_ended a) → feed.config_of g ≡ feed.config_of a
-      → ((bytes : List ℕ) (given : List FrameRecord) → FrameFeedStandsFor a bytes false given → FrameFeedStandsFor g bytes true given)
+  pub first_ended : input ≡ 0 → length piece ≡ 0 → IsIdle (waiting_of a) (feed.has_ended a)
+      → feed.config_of g ≡ feed.config_of a
+      → ((bytes : List ℕ) (given : List FrameRecord) → FrameFeedStandsFor a bytes false given
+      → FrameFeedStandsFor g bytes true given)
       → GoOn c events (events ++ Ended input piece ∷ []) next g b ga gb
   first_ended is none idle config stands =
       let t = tell.ended 0 piece events in
       let more : List Event = events ++ Ended 0 piece ∷ [] in
       subst (λ (k : ℕ). GoOn c events (events ++ Ended k piece ∷ []) next g b ga gb) (sym is)
       (both_go c events more next a b g b ga gb s t.gave
-      (grows follow c events more 0 next a ga s.of_a s.behind_a g piece true t.here t.ended idle config (λ h. ended_stands g _ piece ga none (stands _ ga h)))
+      (grows follow c events more 0 next a ga s.of_a s.behind_a g piece true t.here t.ended idle config
+      (λ h. ended_stands g _ piece ga none (stands _ ga h)))
       (stays follow c events more 1 next b gb s.of_b s.behind_b (t.others 1 (λ e. absurd (omega (arith, e))))
       (t.others_ended 1 (λ e. absurd (omega (arith, e))))))
 
-  pub second_ended : input ≡ 1 → length piece ≡ 0 → IsIdle (waiting_of b) (feed.has_ended b) → feed.config_of g ≡ feed.config_of b
-      → ((bytes : List ℕ) (given : List FrameRecord) → FrameFeedStandsFor b bytes false given → FrameFeedStandsFor g bytes true given)
+  pub second_ended : input ≡ 1 → length piece ≡ 0 → IsIdle (waiting_of b) (feed.has_ended b)
+      → feed.config_of g ≡ feed.config_of b
+      → ((bytes : List ℕ) (given : List FrameRecord) → FrameFeedStandsFor b bytes false given
+      → FrameFeedStandsFor g bytes true given)
       → GoOn c events (events ++ Ended input piece ∷ []) next a g ga gb
   second_ended is none idle config stands =
       let t = tell.ended 1 piece events in
@@ -163,4 +180,5 @@ module _ (tell : EventsTell) (follow : DueFollow) (c : Config) (events : List Ev
       (both_go c events more next a b a g ga gb s t.gave
       (stays follow c events more 0 next a ga s.of_a s.behind_a (t.others 0 (λ e. absurd (omega (arith, e))))
       (t.others_ended 0 (λ e. absurd (omega (arith, e)))))
-      (grows follow c events more 1 next b gb s.of_b s.behind_b g piece true t.here t.ended idle config (λ h. ended_stands g _ piece gb none (stands _ gb h))))
+      (grows follow c events more 1 next b gb s.of_b s.behind_b g piece true t.here t.ended idle config
+      (λ h. ended_stands g _ piece gb none (stands _ gb h))))

@@ -1,5 +1,6 @@
 -- What each call of a feed makes of what it stood for.
-use Rattle.std.proofs.Common.{◌≡◌, ◌⊎◌, inl, inr, ℕ, ◌+◌, ◌-◌, ◌<◌, ◌≤◌, Bool, true, false, List, [], ◌∷◌, ◌++◌, length, take, Option, Some, None}
+use Rattle.std.proofs.Common.{◌≡◌, ◌⊎◌, inl, inr, ℕ, ◌+◌, ◌-◌, ◌<◌, ◌≤◌, Bool, true, false, List, [], ◌∷◌, ◌++◌, length}
+use Rattle.std.proofs.Common.{take, Option, Some, None}
 use Rattle.std.proofs.Common.{refl, ap, sym, subst, ◌∙◌, arith, length-append, append-nil, append_assoc}
 use Rattle.std.specs.Prelude.{nat_lt, is_some, not, IfSome, IfNone}
 use Rattle.std.proofs.lemmas.Bool.{ltb-true, ltb-false, false≢true, true≢false}
@@ -31,7 +32,8 @@ use Rattle.modulator.specs.declared.modulating.Modulating.{Modulating}
 use Rattle.modulator.proofs.BeginLemmas.{waits_for}
 use Rattle.modulator.proofs.MuteLemmas.{mute_told}
 use Rattle.modulator.proofs.TookLemmas.{IsNow, now_of}
-use Rattle.feed_merge.specs.FeedStandsFor.{FrameFeedStandsFor, Skipped, IsFirst, config_of, waiting_of, fed_of, is_whole}
+use Rattle.feed_merge.specs.FeedStandsFor.{FrameFeedStandsFor, Skipped, IsFirst, config_of, waiting_of, fed_of}
+use Rattle.feed_merge.specs.FeedStandsFor.{is_whole}
 use Rattle.feed_merge.specs.declared.feed.FrameFeed.{FrameFeed}
 
 -- ---- what waits
@@ -48,7 +50,8 @@ Tells m o =
 -- the group of what waits
 pub now : (m : Modulating) (w : Waiting) (bytes : List ℕ) (given : List FrameRecord) (h : StandsAt m bytes given)
     → next_of m.sequence.progress ≡ Some w → IsNow h.keeps.group m.sequence.progress
-now m w bytes given h is = now_of (rules m.sequence.group.network) h.keeps.past h.keeps.group m.sequence.progress _ given
+now m w bytes given h is = now_of (rules m.sequence.group.network) h.keeps.past h.keeps.group m.sequence.progress
+    _ given
     h.keeps.sequenced (ap is_some is)
 
 -- what waits is the first of those that were not left behind
@@ -78,7 +81,8 @@ stands_first m shut stands k = record {
   ahead = λ c. absurd (true≢false (sym c ∙ shut));
 }
 
-pub opened : (f : FrameFeed) → f.inner.finished ≡ false → fed_of f ≡ 0 → StandsAt f.inner [] [] → Tells f.inner f.waiting
+pub opened : (f : FrameFeed) → f.inner.finished ≡ false → fed_of f ≡ 0 → StandsAt f.inner [] []
+    → Tells f.inner f.waiting
     → FrameFeedStandsFor f [] false []
 opened f going count stands tells = record {
   stands = stands;
@@ -103,7 +107,8 @@ all_given f bytes ended given idle s =
 front_fed : (c : Config) (bytes piece : List ℕ) (given : List FrameRecord) (count : ℕ)
     → ((k : ℕ) → k < length bytes → IsPrefix (records_due c false (take k bytes)) given)
     → ((k : ℕ) → k < count → records_due c false (bytes ++ take k piece) ≡ given)
-    → (k : ℕ) → k < length (bytes ++ take count piece) → IsPrefix (records_due c false (take k (bytes ++ take count piece))) given
+    → (k : ℕ) → k < length (bytes ++ take count piece)
+    → IsPrefix (records_due c false (take k (bytes ++ take count piece))) given
 front_fed c bytes piece given count was first k less =
     bool_cases (nat_lt k (length bytes))
     (λ early.
@@ -158,7 +163,8 @@ ended front f g bytes given idle config over len stands tells s =
     let was : records_due (config_of g) false bytes ≡ given =
     ap (λ (c : Config). records_due c false bytes) config ∙ all_given f bytes false given idle s in
     let all : records_due (config_of g) true bytes ≡ given ++ due.0 =
-    ap (records_due (config_of g) true) (sym (append-nil bytes)) ∙ due.1 ∙ ap (λ (l : List FrameRecord). l ++ due.0) was in
+    ap (records_due (config_of g) true) (sym (append-nil bytes)) ∙ due.1
+    ∙ ap (λ (l : List FrameRecord). l ++ due.0) was in
     record {
       stands = stands;
       count = len ∙ s.count;
@@ -176,7 +182,8 @@ ended front f g bytes given idle config over len stands tells s =
 pub skipped : (f g : FrameFeed) (bytes : List ℕ) (ended : Bool) (given : List FrameRecord) (w : Waiting)
     → waiting_of f ≡ Some w → config_of g ≡ config_of f → g.inner.finished ≡ f.inner.finished → fed_of g ≡ fed_of f
     → Tells f.inner f.waiting
-    → ((bytes : List ℕ) (given : List FrameRecord) (w : Waiting) (group : Group) → next_of f.inner.sequence.progress ≡ Some w
+    → ((bytes : List ℕ) (given : List FrameRecord) (w : Waiting) (group : Group)
+    → next_of f.inner.sequence.progress ≡ Some w
     → (h : StandsAt f.inner bytes given) → h.keeps.group ≡ Some group
     → StandsAt g.inner bytes (given ++ record_of group w ∷ []))
     → Tells g.inner g.waiting → FrameFeedStandsFor f bytes ended given → Skipped f g bytes ended given
@@ -189,7 +196,8 @@ skipped f g bytes ended given w is config still len told gave tells s =
     let stands = gave bytes given w n.group waits s.stands n.has in
     let over : g.inner.finished ≡ ended = still ∙ s.end in
     let all : records_due (config_of g) ended bytes ≡ (given ++ x ∷ []) ++ comes.0 =
-    ap (λ (c : Config). records_due c ended bytes) config ∙ ap (λ (e : Bool). records_due (config_of f) e bytes) (sym s.end)
+    ap (λ (c : Config). records_due c ended bytes) config ∙ ap (λ (e : Bool). records_due (config_of f) e bytes)
+    (sym s.end)
     ∙ comes.1 ∙ sym (append_assoc given (x ∷ []) comes.0) in
     record {
       next = x;

@@ -1,5 +1,6 @@
 -- What is sent of the first of some frames.
-use Rattle.std.proofs.Common.{◌≡◌, ◌≢◌, ℕ, ◌+◌, ◌≤◌, List, [], ◌∷◌, ◌++◌, length, ap, sym, ◌∙◌, arith, append_assoc, length-append}
+use Rattle.std.proofs.Common.{◌≡◌, ◌≢◌, ℕ, ◌+◌, ◌≤◌, List, [], ◌∷◌, ◌++◌, length, ap, sym, ◌∙◌, arith, append_assoc}
+use Rattle.std.proofs.Common.{length-append}
 use Rattle.std.proofs.lemmas.Grind.{flat_map-append}
 use Rattle.plp_config.specs.declared.config.Config.{Config}
 use Rattle.frame_groups.specs.Laws.{IsPrefix}
@@ -12,12 +13,14 @@ use Rattle.frame_writer.proofs.CarriedLemmas.{packets_append}
 use Rattle.stream_laws.specs.Remade.{NumberedView, remade_packets, remade_bodies, frame_pairs}
 
 -- Some more are within a bound, if those before are, and if more are they are too.
-pub more_within : {X : Type 0} (count n : ℕ) (xs : List X) → count ≤ n → (xs ≢ [] → count + length xs ≤ n) → count + length xs ≤ n
+pub more_within : {X : Type 0} (count n : ℕ) (xs : List X) → count ≤ n → (xs ≢ [] → count + length xs ≤ n)
+    → count + length xs ≤ n
 more_within count n [] few all = omega (arith, few)
 more_within count n (x ∷ xs) few all = all (λ e. (let z = ap length e in absurd (omega (arith, z))))
 
 -- more frames have more packets behind those of the first
-pub packets_more : (c : Config) (frames more : List NumberedView) → IsPrefix (remade_packets c frames) (remade_packets c (frames ++ more))
+pub packets_more : (c : Config) (frames more : List NumberedView) → IsPrefix (remade_packets c frames)
+    (remade_packets c (frames ++ more))
 unfolding remade_packets
 packets_more c frames more = (
   packets_from c (0 + length (remade_bodies c frames)) (remade_bodies c more),
@@ -25,7 +28,8 @@ packets_more c frames more = (
       ∙ packets_append c 0 (remade_bodies c frames) (remade_bodies c more),
 )
 
--- The complete units of fewer packets are the first that were given, if as many were as more packets have complete ones.
+-- The complete units of fewer packets are the first that were given, if as many were as more packets have complete
+-- ones.
 pub given_front : CompleteLaw → (pid : ℕ) (few more rest units back : List (List ℕ))
     → length (complete_units pid (few ++ more)) ≤ length units → pipe pid ((few ++ more) ++ rest) ≡ units ++ back
     → IsPrefix (complete_units pid few) units

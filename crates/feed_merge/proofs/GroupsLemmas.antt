@@ -2,7 +2,7 @@
 use Rattle.std.proofs.Common.{◌≡◌, ◌≢◌, ℕ, zero, suc, ◌+◌, ◌%◌, ◌<◌, ◌≤◌, ◌==◌, Bool, true, false, List, [], ◌∷◌, ◌++◌}
 use Rattle.std.proofs.Common.{length, take, drop, get_or, Option, Some, None, refl, ap, sym, subst, ◌∙◌, ⊎_elim, arith}
 use Rattle.std.proofs.Common.{append_assoc}
-use Rattle.std.specs.Prelude.{is_some, nat_le, slice_get}
+use Rattle.std.specs.Prelude.{is_some, nat_le}
 use Rattle.std.specs.List.{AllByRecursion, filter, range_with_len}
 use Rattle.std.proofs.Math.Nat.{sub-le}
 use Rattle.std.proofs.lemmas.Bool.{cases_eq, cases_lt, cond-true, cond-false, eq-eqb, true≢false, lt-leb, leb-false}
@@ -10,7 +10,7 @@ use Rattle.std.proofs.lemmas.List.{map-append, take-append-drop}
 use Rattle.std.proofs.lemmas.List.Elements.{filter-append}
 use Rattle.std.proofs.lemmas.List.Folds.{list_any_at}
 use Rattle.std.proofs.lemmas.List.FromFn.{length-range_with_len, get_or-range_with_len}
-use Rattle.terms.proofs.OptionLemmas.{some_injective, none_some}
+use Rattle.terms.proofs.OptionLemmas.{none_some}
 use Rattle.plp_config.specs.InterleavingFrames.{begin_of}
 use Rattle.plp_config.specs.Places.{places}
 use Rattle.plp_config.specs.Plps.{spread}
@@ -33,7 +33,8 @@ use Rattle.frame_groups.proofs.GroupLemmas.{grouped_append}
 use Rattle.frame_groups.proofs.RunLemmas.{grown}
 use Rattle.frame_groups.specs.Begun.{is_begin, packets_at}
 use Rattle.frame_groups.specs.Tally.{tally}
-use Rattle.frame_groups.specs.Tests.{rules, unless, pool_need, pool_chunks, capped, room_test, begun_test, first_failure, pool_test}
+use Rattle.frame_groups.specs.Tests.{rules, unless, pool_need, pool_chunks, capped, room_test, begun_test}
+use Rattle.frame_groups.specs.Tests.{first_failure, pool_test}
 use Rattle.frame_groups.specs.Tests.{packets_fault, group_fault}
 use Rattle.frame_groups.proofs.BegunLemmas.{at_own, at_other}
 use Rattle.frame_groups.proofs.TallyLemmas.{need_is}
@@ -72,12 +73,14 @@ all_parts P (x ∷ xs) ys h = let r = all_parts P xs ys h.1 in ((h.0, r.0), r.1)
 
 -- each group with a number adds its record
 none_with : (r : Rules) (past : List Numbered) (g : Group) (m : ℕ) (o : Option ℕ) → packets_at past m ≡ []
-    → AllByRecursion (λ (x : FrameRecord). x.number ≢ m) (own_record r past g o) → packets_at (past_with past g o) m ≡ []
+    → AllByRecursion (λ (x : FrameRecord). x.number ≢ m) (own_record r past g o)
+    → packets_at (past_with past g o) m ≡ []
 none_with r past g m None before none = before
 none_with r past g m (Some n) before none = at_other (record { number = n; group = g }) past m none.0 ∙ before
 
 none_from : (r : Rules) (gs : List Group) (past : List Numbered) (m : ℕ) → packets_at past m ≡ []
-    → AllByRecursion (λ (x : FrameRecord). x.number ≢ m) (records_from r past gs) → packets_at (past_after r past gs) m ≡ []
+    → AllByRecursion (λ (x : FrameRecord). x.number ≢ m) (records_from r past gs)
+    → packets_at (past_after r past gs) m ≡ []
 none_from r [] past m before none = before
 none_from r (g ∷ gs) past m before none =
     let other : FrameRecord → Type 0 = λ (x : FrameRecord). x.number ≢ m in
@@ -102,7 +105,8 @@ pub record GoesAhead (closed : List Group) (h : Group) (closing : Bool) (all : L
 grown_on : (c : Config) (xs ys : List AcceptedPacket) (closed : List Group) (h : Group)
     → kept_groups (rules c) (packets_of xs) ≡ record { closed = closed; under_way = Some h }
     → groups c.frames (packets_of (xs ++ ys))
-    ≡ all_groups (grouped_from (record { closed = closed; under_way = Some h }) (filter (is_counted c.frames) (packets_of ys)))
+    ≡ all_groups (grouped_from (record { closed = closed; under_way = Some h })
+    (filter (is_counted c.frames) (packets_of ys)))
 unfolding grouped
 grown_on c xs ys closed h e =
     let kept = filter (is_counted c.frames) in
@@ -154,15 +158,11 @@ worked_on front pid n bytes more =
     f.1 ∙ ap (λ (l : List AcceptedPacket). l ++ f.0) (sym (take-append-drop n all))
     ∙ append_assoc (take n all) (drop n all) f.0
 
-pub drop_next : {X : Type 0} (xs : List X) (i : ℕ) (a : X) → slice_get xs i ≡ Some a → drop i xs ≡ a ∷ drop (suc i) xs
-drop_next [] i a e = none_some a e
-drop_next (x ∷ xs) zero a e = ap (λ y. y ∷ xs) (some_injective x a e)
-drop_next (x ∷ xs) (suc i) a e = drop_next xs i a e
-
 -- ---- the group of a number in a longer stream
 
 -- Behind those before comes a group that has the number, which is the one under way if this is closed; and then others.
-pub record Follower (r : Rules) (past : List Numbered) (h : Group) (n : ℕ) (closing : Bool) (gs : List Numbered) : Type 0 where
+pub record Follower (r : Rules) (past : List Numbered) (h : Group) (n : ℕ) (closing : Bool) (gs : List Numbered) :
+    Type 0 where
   pub group : Group
   pub rest : List Group
   pub are : gs ≡ past_after r (record { number = n; group = group } ∷ past) rest
@@ -216,7 +216,8 @@ module _ (r : Rules) (past : List Numbered) (h : Group) (n : ℕ) (closing : Boo
 -- ---- room
 
 -- if no test fails, each passes
-each_passes : (test : ℕ → Option MuteCause) (a len b : ℕ) → first_failure test (range_with_len a len) ≡ None → a ≤ b → b < a + len
+each_passes : (test : ℕ → Option MuteCause) (a len b : ℕ) → first_failure test (range_with_len a len) ≡ None
+    → a ≤ b → b < a + len
     → test b ≡ None
 each_passes test a zero b e low high = absurd (omega (arith, low, high))
 each_passes test a (suc len) b e low high =
@@ -232,7 +233,8 @@ each_passes test a (suc len) b e low high =
 begins_there : (c : Config) (n plp : ℕ) → plp < length c.plps → is_begin c n (begin_of c plp n) ≡ true
 begins_there c n plp inside =
     let size = length-range_with_len 0 (length c.plps) in
-    let at : get_or (places c) plp 0 ≡ plp = let e = get_or-range_with_len 0 (length c.plps) plp 0 inside in omega (arith, e) in
+    let at : get_or (places c) plp 0 ≡ plp = let e = get_or-range_with_len 0 (length c.plps) plp 0 inside in
+    omega (arith, e) in
     list_any_at (λ (k : ℕ). begin_of c k n == begin_of c plp n) (places c) plp 0 (omega (arith, size, inside))
     (eq-eqb (begin_of c (get_or (places c) plp 0) n) (begin_of c plp n) (ap (λ (k : ℕ). begin_of c k n) at))
 
@@ -249,7 +251,8 @@ carries c past gs h n none own below plp inside =
     (λ (l : b < n).
     ap (room_test c) (below b l)
     ∙ sym (cond-true (is_begin c n b) (room_test c (packets_at past b)) None (begins_there c n plp inside))
-    ∙ each_passes (begun_test c past n) 0 n b (none_first before (room_test c h.packets) pool) (omega arith) (omega (arith, l)))
+    ∙ each_passes (begun_test c past n) 0 n b (none_first before (room_test c h.packets) pool) (omega arith)
+    (omega (arith, l)))
     (λ (l : n ≤ b).
     let same : b ≡ n = omega (arith, l, low) in
     ap (λ (k : ℕ). room_test c (packets_at gs k)) same ∙ ap (room_test c) own

@@ -39,19 +39,42 @@ or_none (Some x) = refl
 from_front : (c : Config) (feed : Feed) (n m : ℕ) (records xs : List FrameRecord) → AreOf n xs → m < n
     → frame_from c feed m (records ++ xs) ≡ frame_from c feed m records
 from_front c feed n m records xs h l =
-    ap (option_map (λ (x : FrameRecord). record { feed = feed; frame = record { number = m; view = content_view c m x.content } }))
-    (find-append (test m) records xs ∙ ap (option_or (find (test m) records)) (none_of n m xs h l) ∙ or_none (find (test m) records))
+    ap (option_map (λ (x : FrameRecord). record {
+      feed = feed;
+      frame = record {
+        number = m;
+        view = content_view
+            c m x.content;
+      };
+    }))
+    (find-append (test m) records xs ∙ ap (option_or (find (test m) records)) (none_of n m xs h l)
+    ∙ or_none (find (test m) records))
 
 from_back : (c : Config) (feed : Feed) (n : ℕ) (records xs : List FrameRecord) → AllBelow n records
     → frame_from c feed n (records ++ xs) ≡ frame_from c feed n xs
 from_back c feed n records xs h =
-    ap (option_map (λ (x : FrameRecord). record { feed = feed; frame = record { number = n; view = content_view c n x.content } }))
-    (find-append (test n) records xs ∙ ap (λ (o : Option FrameRecord). option_or o (find (test n) xs)) (none_found n n records h (omega arith)))
+    ap (option_map (λ (x : FrameRecord). record {
+      feed = feed;
+      frame = record {
+        number = n;
+        view = content_view
+            c n x.content;
+      };
+    }))
+    (find-append (test n) records xs ∙ ap (λ (o : Option FrameRecord). option_or o (find (test n) xs))
+    (none_found n n records h (omega arith)))
 
 pub from_none : (c : Config) (feed : Feed) (n m : ℕ) (records : List FrameRecord) → AllBelow n records → n ≤ m
     → frame_from c feed m records ≡ None
 from_none c feed n m records h l =
-    ap (option_map (λ (x : FrameRecord). record { feed = feed; frame = record { number = m; view = content_view c m x.content } }))
+    ap (option_map (λ (x : FrameRecord). record {
+      feed = feed;
+      frame = record {
+        number = m;
+        view = content_view
+            c m x.content;
+      };
+    }))
     (none_found n m records h l)
 
 -- ---- numbers that none has
@@ -64,7 +87,8 @@ nothing f a (suc n) h =
 abbrev pub pick : Config → List FrameRecord → List FrameRecord → ℕ → List Picked
 pick c ra rb n = option_to_list (pick_of c ra rb n)
 
-pick_none : (c : Config) (ra rb : List FrameRecord) (n m : ℕ) → AllBelow n ra → AllBelow n rb → n ≤ m → pick c ra rb m ≡ []
+pick_none : (c : Config) (ra rb : List FrameRecord) (n m : ℕ) → AllBelow n ra → AllBelow n rb → n ≤ m
+    → pick c ra rb m ≡ []
 pick_none c ra rb n m a b l =
     ap₂ (λ (x y : Option Picked). option_to_list (option_or x y)) (from_none c A n m ra a l) (from_none c B n m rb b l)
 
@@ -84,15 +108,19 @@ below_more n m (x ∷ records) l h = let first = h.0 in (omega (arith, first, l)
 
 pub above_is : (records : List FrameRecord) → AllBelow (above_all records) records
 above_is [] = tt
-above_is (x ∷ records) =
-    (omega arith, below_more (above_all records) (max (x.number + 1) (above_all records)) records (omega arith) (above_is records))
+above_is (x ∷ records) = (
+  omega arith,
+  below_more (above_all records) (max (x.number + 1) (above_all records)) records (omega arith)
+      (above_is records),
+)
 
 pub above_least : (n : ℕ) (records : List FrameRecord) → AllBelow n records → above_all records ≤ n
 above_least n [] h = omega arith
 above_least n (x ∷ records) h = let first = h.0 in let rest = above_least n records h.1 in omega (arith, first, rest)
 
 -- all are those below a number that none reaches
-pub all_below : (c : Config) (ra rb : List FrameRecord) (n : ℕ) → AllBelow n ra → AllBelow n rb → picks c ra rb ≡ picks_below c ra rb n
+pub all_below : (c : Config) (ra rb : List FrameRecord) (n : ℕ) → AllBelow n ra → AllBelow n rb
+    → picks c ra rb ≡ picks_below c ra rb n
 unfolding picks
 all_below c ra rb n a b =
     let end : ℕ = max (above_all ra) (above_all rb) in
@@ -104,7 +132,8 @@ all_below c ra rb n a b =
 
 -- ---- one number more
 
-pub all_push : (n : ℕ) (records xs : List FrameRecord) → AllBelow n records → AreOf n xs → AllBelow (n + 1) (records ++ xs)
+pub all_push : (n : ℕ) (records xs : List FrameRecord) → AllBelow n records → AreOf n xs
+    → AllBelow (n + 1) (records ++ xs)
 all_push n [] [] h o = tt
 all_push n [] (x ∷ []) h o = (omega (arith, o), tt)
 all_push n [] (x ∷ y ∷ xs) h o = absurd o
@@ -117,7 +146,8 @@ picks_grow c ra rb xs ys n a b x y =
     ∙ flat_map-append (pick c (ra ++ xs) (rb ++ ys)) (range_with_len 0 n) (n ∷ [])
     ∙ ap₂ (λ (p q : List Picked). p ++ q)
     (flat_same (pick c (ra ++ xs) (rb ++ ys)) (pick c ra rb) 0 n
-    (λ k le lt. ap₂ (λ (p q : Option Picked). option_to_list (option_or p q)) (from_front c A n k ra xs x (omega (arith, lt)))
+    (λ k le lt. ap₂ (λ (p q : Option Picked). option_to_list (option_or p q))
+    (from_front c A n k ra xs x (omega (arith, lt)))
     (from_front c B n k rb ys y (omega (arith, lt))))
     ∙ sym (all_below c ra rb n a b))
     (append-nil (pick c (ra ++ xs) (rb ++ ys) n)

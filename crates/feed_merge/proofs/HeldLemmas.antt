@@ -37,22 +37,26 @@ module _ (c : Config) (f : FrameFeed) (bytes : List ℕ) (ended : Bool) (given :
 
 -- ---- the records of a file
 
-module _ (law : DueFront) (follow : DueFollow) (c : Config) (f : FrameFeed) (file : List ℕ) (place : ℕ) (bytes : List ℕ) (ended : Bool)
+module _ (law : DueFront) (follow : DueFollow) (c : Config) (f : FrameFeed) (file : List ℕ) (place : ℕ)
+    (bytes : List ℕ) (ended : Bool)
     (given : List FrameRecord) (is : IsFed file place bytes ended) where
   -- nothing follows if none comes
   pub all_of : (held : Bool) → OfFeed held c f bytes ended given → NoneComes f → records_of c file ≡ given
-  all_of true h none = absurd (let e : h.one ∷ [] ≡ [] = subst (λ (o : Option Waiting). IsFirst o (h.one ∷ [])) none.none h.first in
+  all_of true h none = absurd (let e : h.one ∷ [] ≡ [] = subst (λ (o : Option Waiting). IsFirst o (h.one ∷ []))
+      none.none h.first in
       let z = ap length e in omega (arith, z))
   all_of false h none = all_given law follow c f file place bytes ended given is h none
 
   -- what follows is no lower
-  pub split_of : (held : Bool) (n : ℕ) → OfFeed held c f bytes ended given → IsPast held n f given → IsSplit c file given n
+  pub split_of : (held : Bool) (n : ℕ) → OfFeed held c f bytes ended given → IsPast held n f given
+      → IsSplit c file given n
   split_of false n h past = split_at law follow c f file place bytes ended given is h n past
   split_of true n h past =
       let front = front_due law c ended file bytes is.more is.parts is.end in
       let all : records_of c file ≡ given ++ (h.later ++ front.0) =
       front.1 ∙ ap (λ (l : List FrameRecord). l ++ front.0) (h.due ∙ sym (append_assoc h.before (h.one ∷ []) h.later))
-      ∙ ap (λ (l : List FrameRecord). (l ++ h.later) ++ front.0) (sym h.given_is) ∙ append_assoc given h.later front.0 in
+      ∙ ap (λ (l : List FrameRecord). (l ++ h.later) ++ front.0) (sym h.given_is)
+      ∙ append_assoc given h.later front.0 in
       record { after = h.later ++ front.0; all = all; from = go (h.later ++ front.0) all }
     where
       go : (after : List FrameRecord) → records_of c file ≡ given ++ after → AllFrom n after

@@ -20,14 +20,17 @@ over_left c p f over = ap (λ (step : FrameStep). from_step c p.number step (l1_
     (blocks_left c (p.number % c.frames) p.plp p.place f.blocks.now.lists)) over
 
 -- a frame is begun
-pub begun : (old new : Outlet) (c : Config) (was n m : ℕ) (bodies left now : List Body) (all : List (ℕ × Body)) (given : ℕ)
+pub begun : (old new : Outlet) (c : Config) (was n m : ℕ) (bodies left now : List Body) (all : List (ℕ × Body))
+    (given : ℕ)
     → Flows old c was [] all given → m ≡ n → left ≡ bodies
     → ((all : List (ℕ × Body)) (given : ℕ) → Flows old c m left all given → Flows new c m now all given)
     → (k : ℕ) → k ≡ m → Flows new c k now (all ++ of_frame n bodies) given
 begun old new c was n m bodies left now all given h number is feeds k told =
     let more : Flows old c n bodies (all ++ of_frame n bodies) given =
-    carries_more (PiperStandsFor old.piper) (is_finished old.piper) (rest_of old) old.packet_count c was n [] bodies all given refl h in
+    carries_more (PiperStandsFor old.piper) (is_finished old.piper) (rest_of old) old.packet_count c
+    was n [] bodies all given refl h in
     let began : Flows old c m left (all ++ of_frame n bodies) given =
     subst (λ (j : ℕ). Flows old c j left (all ++ of_frame n bodies) given) (sym number)
     (subst (λ (l : List Body). Flows old c n l (all ++ of_frame n bodies) given) (sym is) more) in
-    subst (λ (j : ℕ). Flows new c j now (all ++ of_frame n bodies) given) (sym told) (feeds (all ++ of_frame n bodies) given began)
+    subst (λ (j : ℕ). Flows new c j now (all ++ of_frame n bodies) given) (sym told)
+    (feeds (all ++ of_frame n bodies) given began)

@@ -45,4 +45,8 @@ from_rest m (x ∷ given) rest are =
 
 pub from_more : (n m : ℕ) (records : List FrameRecord) → n ≤ m → AreFrom m records → AllFrom n records
 from_more n m [] le are = tt
-from_more n m (x ∷ records) le are = let e = are.0 in (omega (arith, le, e), from_more n (m + 1) records (omega (arith, le)) are.1)
+from_more n m (x ∷ records) le are = let e = are.0 in (
+  omega (arith, le, e),
+  from_more n (m + 1) records
+      (omega (arith, le)) are.1,
+)

@@ -1,6 +1,8 @@
 -- A picked frame of an honest feed is that of the run.
-use Rattle.std.proofs.Common.{◌≡◌, ℕ, zero, suc, ◌+◌, ◌-◌, ◌%◌, ◌<◌, ◌≤◌, ◌==◌, ◌&&◌, Bool, true, false, List, [], ◌∷◌, map}
-use Rattle.std.proofs.Common.{find, Option, Some, None, refl, ap, sym, subst, ◌∙◌, ⊎_elim, arith, true≢false, option_map}
+use Rattle.std.proofs.Common.{◌≡◌, ℕ, zero, suc, ◌+◌, ◌-◌, ◌%◌, ◌<◌, ◌≤◌, ◌==◌, ◌&&◌, Bool, true, false, List, [], ◌∷◌}
+use Rattle.std.proofs.Common.{map}
+use Rattle.std.proofs.Common.{find, Option, Some, None, refl, ap, sym, subst, ◌∙◌, ⊎_elim, arith, true≢false}
+use Rattle.std.proofs.Common.{option_map}
 use Rattle.std.specs.Prelude.{if◌then◌else◌}
 use Rattle.std.specs.List.{range_with_len, items_where_true, AllByRecursion}
 use Rattle.std.specs.Option.{option_or}
@@ -44,7 +46,8 @@ numbers_below n end (Some first) l = ⊎_elim
     subst (λ (k : ℕ). AllByRecursion (λ j. j < n) (range_with_len first k)) (sym none) tt)
     (cases_lt first end)
 
-module _ (written : WrittenIsFrame) (c : Config) (inputs : ℕ → List (List ℕ)) (n : ℕ) (plan : IsPlan c) (types : TypesFit c)
+module _ (written : WrittenIsFrame) (c : Config) (inputs : ℕ → List (List ℕ)) (n : ℕ) (plan : IsPlan c)
+    (types : TypesFit c)
     (survival : List Bool) (m : ℕ) where
   abbrev sent : List Sent
   sent = sent_frames c inputs n
@@ -70,17 +73,20 @@ module _ (written : WrittenIsFrame) (c : Config) (inputs : ℕ → List (List �
       go true same e =
           let inside : m < n = subst (λ (j : ℕ). j < n) same l in (
             inside,
-            ap (λ (j : ℕ). content_view c m (Whole (frame_group c.frames sent j))) same ∙ written c inputs n m plan types inside,
+            ap (λ (j : ℕ). content_view c m (Whole (frame_group c.frames sent j))) same
+                ∙ written c inputs n m plan types inside,
           )
       go false same e = absurd (true≢false (sym e))
 
-  found_own : (numbers : List ℕ) → AllByRecursion (λ k. k < n) numbers → (x : FrameRecord) → find test (map one numbers) ≡ Some x
+  found_own : (numbers : List ℕ) → AllByRecursion (λ k. k < n) numbers → (x : FrameRecord)
+      → find test (map one numbers) ≡ Some x
       → (m < n) × (content_view c m x.content ≡ frame_of c inputs m)
   found_own [] h x e = absurd (let z : ◌≡◌ {A = Option FrameRecord} None (Some x) = e in cc)
   found_own (k ∷ numbers) h x e = ⊎_elim
       (λ (t : test (one k) ≡ true).
       let same : one k ≡ x =
-      same_Some (one k) x (sym (cond-true {A = Option FrameRecord} (test (one k)) (Some (one k)) (find test (map one numbers)) t) ∙ e) in
+      same_Some (one k) x (sym (cond-true {A = Option FrameRecord} (test (one k)) (Some (one k))
+      (find test (map one numbers)) t) ∙ e) in
       subst (λ (y : FrameRecord). (m < n) × (content_view c m y.content ≡ frame_of c inputs m)) same (is_own k h.0 t))
       (λ (t : test (one k) ≡ false).
       found_own numbers h.1 x
@@ -93,7 +99,8 @@ record IsOfRun (c : Config) (inputs : ℕ → List (List ℕ)) (n m : ℕ) (reco
       → (m < n) × (content_view c m x.content ≡ frame_of c inputs m)
 
 of_run : SentAreFrames → FramesAreStream → TestsMeet → WrittenIsFrame → SurvivalLength → HonestRecords
-    → (c : Config) (inputs : ℕ → List (List ℕ)) (n from : ℕ) (fates : List Fate) → IsPlan c → TypesFit c → n ≤ MOST_FRAMES
+    → (c : Config) (inputs : ℕ → List (List ℕ)) (n from : ℕ) (fates : List Fate) → IsPlan c → TypesFit c
+    → n ≤ MOST_FRAMES
     → Honest (frames_stream c inputs n) from fates → (m : ℕ)
     → IsOfRun c inputs n m (records_due c true (stream_bytes (frames_stream c inputs n) from fates))
 of_run are stream meet written len records c inputs n from fates plan types l honest m =
@@ -108,13 +115,21 @@ of_run are stream meet written len records c inputs n from fates plan types l ho
     (sym (records (rules c) s from fates refl is honest (meet c inputs n survival plan types l (len s from fates is))))
     (record { view = found_own written c inputs n plan types survival m (record_numbers c whole end) below })
 
-from_is : (c : Config) (inputs : ℕ → List (List ℕ)) (n : ℕ) (feed : Feed) (m : ℕ) (records : List FrameRecord) → IsOfRun c inputs n m records
+from_is : (c : Config) (inputs : ℕ → List (List ℕ)) (n : ℕ) (feed : Feed) (m : ℕ) (records : List FrameRecord)
+    → IsOfRun c inputs n m records
     → (p : Picked) → frame_from c feed m records ≡ Some p
     → (m < n) × (p.frame.view ≡ frame_of c inputs m)
 from_is c inputs n feed m records of p e = go (find (λ x. (x.number == m) && is_frame x.content) records) refl e
   where
     go : (o : Option FrameRecord) → find (λ x. (x.number == m) && is_frame x.content) records ≡ o
-        → option_map (λ (x : FrameRecord). record { feed = feed; frame = record { number = m; view = content_view c m x.content } }) o
+        → option_map (λ (x : FrameRecord). record {
+          feed = feed;
+          frame = record {
+            number = m;
+            view =
+                content_view c m x.content;
+          };
+        }) o
         ≡ Some p
         → (m < n) × (p.frame.view ≡ frame_of c inputs m)
     go None is e = absurd (let z : ◌≡◌ {A = Option Picked} None (Some p) = e in cc)
@@ -122,7 +137,8 @@ from_is c inputs n feed m records of p e = go (find (λ x. (x.number == m) && is
         let own = of.view x is in (own.0, sym (ap (λ (q : Picked). q.frame.view) (same_Some _ p e)) ∙ own.1)
 
 either_is : (c : Config) (inputs : ℕ → List (List ℕ)) (n m : ℕ) (p : Picked) (a b : Option Picked)
-    → (a ≡ Some p → (m < n) × (p.frame.view ≡ frame_of c inputs m)) → (b ≡ Some p → (m < n) × (p.frame.view ≡ frame_of c inputs m))
+    → (a ≡ Some p → (m < n) × (p.frame.view ≡ frame_of c inputs m))
+    → (b ≡ Some p → (m < n) × (p.frame.view ≡ frame_of c inputs m))
     → option_or a b ≡ Some p → (m < n) × (p.frame.view ≡ frame_of c inputs m)
 either_is c inputs n m p None b f g e = g e
 either_is c inputs n m p (Some q) b f g e = f e

@@ -1,6 +1,7 @@
 -- The records of a file, by a number: those that were given are below it, and the others are not.
 use Rattle.std.proofs.Common.{◌≡◌, ℕ, ◌+◌, ◌<◌, ◌≤◌, Bool, true, false, List, [], ◌∷◌, ◌++◌, length}
-use Rattle.std.proofs.Common.{Option, Some, None, refl, ap, sym, subst, ◌∙◌, arith, append-nil, append_assoc, length-append}
+use Rattle.std.proofs.Common.{Option, Some, None, refl, ap, sym, subst, ◌∙◌, arith, append-nil, append_assoc}
+use Rattle.std.proofs.Common.{length-append}
 use Rattle.modulator.proofs.WaitLemmas.{number_at, front_due}
 use Rattle.plp_config.specs.declared.config.Config.{Config}
 use Rattle.plp_config.specs.declared.moment.TheConstants.{MOST_FRAMES}
@@ -22,7 +23,8 @@ pub record IsSplit (c : Config) (file : List ℕ) (given : List FrameRecord) (n 
   pub all : records_of c file ≡ given ++ after
   pub from : AllFrom n after
 
-module _ (law : DueFront) (follow : DueFollow) (c : Config) (f : FrameFeed) (file : List ℕ) (place : ℕ) (bytes : List ℕ) (ended : Bool)
+module _ (law : DueFront) (follow : DueFollow) (c : Config) (f : FrameFeed) (file : List ℕ) (place : ℕ)
+    (bytes : List ℕ) (ended : Bool)
     (given : List FrameRecord) (fed : IsFed file place bytes ended) (h : IsFedWith c f bytes ended given) where
   abbrev pub due : IsDue c f bytes ended given
   due = due_of c f bytes ended given h
@@ -54,7 +56,8 @@ module _ (law : DueFront) (follow : DueFollow) (c : Config) (f : FrameFeed) (fil
     from = go (due.later ++ front.0) behind;
   }
     where
-      lowest : (y : FrameRecord) (ys : List FrameRecord) → records_of c file ≡ given ++ y ∷ ys → (o : Option Waiting) (e : Bool)
+      lowest : (y : FrameRecord) (ys : List FrameRecord) → records_of c file ≡ given ++ y ∷ ys
+          → (o : Option Waiting) (e : Bool)
           → waiting_of f ≡ o → feed.has_ended f ≡ e → n ≤ y.number
       lowest y ys is None true none over =
           let same = all_given (record { none = none; ended = over }) in
@@ -66,10 +69,12 @@ module _ (law : DueFront) (follow : DueFollow) (c : Config) (f : FrameFeed) (fil
           omega (arith, a, l)
       lowest y ys is (Some w) e waits over =
           let low = b.waits w waits in
-          let number = first_of due.later (subst (λ (o : Option Waiting). IsFirst o due.later) waits due.first) behind in
+          let number = first_of due.later (subst (λ (o : Option Waiting). IsFirst o due.later) waits due.first)
+          behind in
           omega (arith, low, number)
         where
-          first_of : (later : List FrameRecord) → IsFirst (Some w) later → records_of c file ≡ given ++ (later ++ front.0)
+          first_of : (later : List FrameRecord) → IsFirst (Some w) later → records_of c file ≡ given
+              ++ (later ++ front.0)
               → y.number ≡ w.frame
           first_of [] first same = absurd first
           first_of (x ∷ later) first same =
@@ -90,9 +95,11 @@ module _ (law : DueFront) (follow : DueFollow) (c : Config) (f : FrameFeed) (fil
 
   -- a late one waits
   pub late_waits : (w : Waiting) → waiting_of f ≡ Some w → MOST_FRAMES ≤ w.frame → ¬ (AreEarly (records_of c file))
-  late_waits w waits late early = go due.later (subst (λ (o : Option Waiting). IsFirst o due.later) waits due.first) behind
+  late_waits w waits late early = go due.later (subst (λ (o : Option Waiting). IsFirst o due.later) waits due.first)
+      behind
     where
-      early_one : (xs : List FrameRecord) (x : FrameRecord) (ys : List FrameRecord) → AreEarly (xs ++ x ∷ ys) → x.number < MOST_FRAMES
+      early_one : (xs : List FrameRecord) (x : FrameRecord) (ys : List FrameRecord) → AreEarly (xs ++ x ∷ ys)
+          → x.number < MOST_FRAMES
       early_one [] x ys all = all.0
       early_one (y ∷ xs) x ys all = early_one xs x ys all.1
 

@@ -3,7 +3,8 @@ use Rattle.std.proofs.Common.{◌≡◌, ℕ, ◌<◌, ◌≤◌, Bool, true, fa
 use Rattle.std.proofs.Common.{arith}
 use Rattle.std.specs.Prelude.{nat_lt}
 use Rattle.std.proofs.lemmas.Bool.{true≢false, ltb-true, ltb-false}
-use Rattle.terms.proofs.OptionLemmas.{some_injective, none_some}
+use Rattle.std.proofs.lemmas.Option.{same_Some}
+use Rattle.terms.proofs.OptionLemmas.{none_some}
 use Rattle.plp_config.specs.declared.moment.TheConstants.{MOST_FRAMES}
 use Rattle.frame_groups.specs.declared.waiting.Waiting.{Waiting}
 use Rattle.file_run.specs.Steps.{Needs, Suffices, FallsShort}
@@ -31,7 +32,8 @@ idle_of o e i = let p = idle_is o e i in record { none = p.0; going = p.1 }
 
 -- what is asked of a reading step, and of no other
 module _ (Asks : Step → ℕ → ℕ → Type 0) (of : (at input count : ℕ) → Asks (wants_of at) input count → at ≡ input)
-    (not_give : (input count : ℕ) → Asks Give input count → ⊥) (not_end : (input count : ℕ) → Asks End input count → ⊥) where
+    (not_give : (input count : ℕ) → Asks Give input count → ⊥) (not_end : (input count : ℕ) → Asks End input count
+    → ⊥) where
   asks_none : (o : Option ℕ) (input count : ℕ) → Asks (step_at o) input count → ⊥
   asks_none None input count h = not_give input count h
   asks_none (Some n) input count h = go (nat_lt n MOST_FRAMES) h
@@ -40,7 +42,8 @@ module _ (Asks : Step → ℕ → ℕ → Type 0) (of : (at input count : ℕ) �
       go true h = not_give input count h
       go false h = not_end input count h
 
-  pub asks_by : (v : Option Waiting) (e : Bool) (w : Option Waiting) (f : Bool) (input count : ℕ) → Asks (step_by v e w f) input count
+  pub asks_by : (v : Option Waiting) (e : Bool) (w : Option Waiting) (f : Bool) (input count : ℕ)
+      → Asks (step_by v e w f) input count
       → Wants v e w f input
   asks_by v e w f input count h = go (is_idle v e) (is_idle w f) refl refl h
     where
@@ -62,7 +65,8 @@ module _ (Asks : Step → ℕ → ℕ → Type 0) (of : (at input count : ℕ) �
       go false false h = absurd (asks_none (least_of v w) input count h)
 
 -- so many bytes of an input are wanted
-pub needs_by : (v : Option Waiting) (e : Bool) (w : Option Waiting) (f : Bool) (input count : ℕ) → Needs (step_by v e w f) input count
+pub needs_by : (v : Option Waiting) (e : Bool) (w : Option Waiting) (f : Bool) (input count : ℕ)
+    → Needs (step_by v e w f) input count
     → Wants v e w f input × (count ≤ 1)
 needs_by v e w f input count h =
     let s = step_asked Needs (λ at i k n. n.0) (λ i k n. n) (λ i k n. n) v e w f input count h in
@@ -83,12 +87,14 @@ suffices_by v e w f input count h =
     (asks_by Suffices (λ at i k n. n.0) (λ i k n. n) (λ i k n. n) v e w f input count h, omega (arith, l))
 
 -- of input 0, and of another one
-pub first_wanted : {v : Option Waiting} {e : Bool} {w : Option Waiting} {f : Bool} {input : ℕ} → Wants v e w f input → input ≡ 0
+pub first_wanted : {v : Option Waiting} {e : Bool} {w : Option Waiting} {f : Bool} {input : ℕ} → Wants v e w f input
+    → input ≡ 0
     → IsIdle v e
 first_wanted (First at idle) is = idle
 first_wanted (Second at idle) is = absurd (omega (arith, at, is))
 
-pub second_wanted : {v : Option Waiting} {e : Bool} {w : Option Waiting} {f : Bool} {input : ℕ} → Wants v e w f input → (input ≡ 0 → ⊥)
+pub second_wanted : {v : Option Waiting} {e : Bool} {w : Option Waiting} {f : Bool} {input : ℕ} → Wants v e w f input
+    → (input ≡ 0 → ⊥)
     → IsIdle w f × (input ≡ 1)
 second_wanted (First at idle) differ = absurd (differ (sym at))
 second_wanted (Second at idle) differ = (idle, sym at)
@@ -109,10 +115,11 @@ goes_on v e w f h = go (is_idle v e) (is_idle w f) refl refl h
     early (Some k) h n is = less (nat_lt k MOST_FRAMES) refl h
       where
         less : (b : Bool) → nat_lt k MOST_FRAMES ≡ b → cond b Give End ≡ Give → n < MOST_FRAMES
-        less true l h = let a = ltb-true k MOST_FRAMES l in let s = some_injective k n is in omega (arith, a, s)
+        less true l h = let a = ltb-true k MOST_FRAMES l in let s = same_Some k n is in omega (arith, a, s)
         less false l h = absurd (let z : End ≡ Give = h in cc)
 
-    go : (s t : Bool) → is_idle v e ≡ s → is_idle w f ≡ t → cond s (wants_of 0) (cond t (wants_of 1) (step_at (least_of v w))) ≡ Give
+    go : (s t : Bool) → is_idle v e ≡ s → is_idle w f ≡ t
+        → cond s (wants_of 0) (cond t (wants_of 1) (step_at (least_of v w))) ≡ Give
         → GoesOn v e w f
     go true t i j h = absurd (let z : Read 0 1 read_ahead ≡ Give = h in cc)
     go false true i j h = absurd (let z : Read 1 1 read_ahead ≡ Give = h in cc)
@@ -131,7 +138,8 @@ pub record IsLate (v : Option Waiting) (e : Bool) (w : Option Waiting) (f : Bool
 pub is_late : (v : Option Waiting) (e : Bool) (w : Option Waiting) (f : Bool) → step_by v e w f ≡ End → IsLate v e w f
 is_late v e w f h = go (is_idle v e) (is_idle w f) refl refl h
   where
-    go : (s t : Bool) → is_idle v e ≡ s → is_idle w f ≡ t → cond s (wants_of 0) (cond t (wants_of 1) (step_at (least_of v w))) ≡ End
+    go : (s t : Bool) → is_idle v e ≡ s → is_idle w f ≡ t
+        → cond s (wants_of 0) (cond t (wants_of 1) (step_at (least_of v w))) ≡ End
         → IsLate v e w f
     go true t i j h = absurd (let z : Read 0 1 read_ahead ≡ End = h in cc)
     go false true i j h = absurd (let z : Read 1 1 read_ahead ≡ End = h in cc)

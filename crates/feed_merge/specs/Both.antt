@@ -21,7 +21,8 @@ pub record IsHeld (c : Config) (f : FrameFeed) (bytes : List ℕ) (ended : Bool)
   pub first : IsFirst (waiting_of f) (one ∷ [])
   pub fed : IsFedWith c f bytes ended before
 
--- A feed of a network was fed with an input, and gave these records, the last one with a frame that is under way or not.
+-- A feed of a network was fed with an input, and gave these records, the last one with a frame that is under way or
+-- not.
 abbrev pub OfFeed : Bool → Config → FrameFeed → List ℕ → Bool → List FrameRecord → Type 0
 OfFeed true c f bytes ended given = IsHeld c f bytes ended given
 OfFeed false c f bytes ended given = IsFedWith c f bytes ended given
@@ -41,8 +42,10 @@ pub record AreFedWith (c : Config) (events : List Event) (held_a held_b : Bool) 
   pub next_is : next ≡ max (above_all given_a) (above_all given_b)
   pub early : next ≤ MOST_FRAMES
 
--- One of them was fed more, or it has ended: nothing was given since, and either stream has no groups that it could not have before.
-pub record GoOn (c : Config) (events more : List Event) (next : ℕ) (a b : FrameFeed) (given_a given_b : List FrameRecord) : Type 0 where
+-- One of them was fed more, or it has ended: nothing was given since, and either stream has no groups that it could not
+-- have before.
+pub record GoOn (c : Config) (events more : List Event) (next : ℕ) (a b : FrameFeed)
+    (given_a given_b : List FrameRecord) : Type 0 where
   pub both : AreFedWith c more false false next a b given_a given_b
   pub gave_is : gave more ≡ gave events
   pub groups : (input : ℕ) → input < 2 → (gs : List Numbered) → AreGroups c (fed input more) (has_ended input more) gs

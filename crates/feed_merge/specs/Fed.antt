@@ -30,11 +30,13 @@ ReadsAhead c n files places =
     (input taken : ℕ) → input < 2 → taken + read_ahead < slice_index places input → end_by c (files input) taken ≤ n
 
 -- A feed of a network was fed with an input, and gave these records.
-pub record IsFedWith (c : Config) (f : FrameFeed) (bytes : List ℕ) (ended : Bool) (given : List FrameRecord) : Type 0 where
+pub record IsFedWith (c : Config) (f : FrameFeed) (bytes : List ℕ) (ended : Bool) (given : List FrameRecord) :
+    Type 0 where
   pub network : feed.config_of f ≡ c
   pub stands : FrameFeedStandsFor f bytes ended given
 
--- What waits has a number that is no lower; and if nothing waits and the stream has not ended, no record that follows has one.
+-- What waits has a number that is no lower; and if nothing waits and the stream has not ended, no record that follows
+-- has one.
 pub record IsBehind (next : ℕ) (f : FrameFeed) (given : List FrameRecord) : Type 0 where
   pub waits : (w : Waiting) → waiting_of f ≡ Some w → next ≤ w.frame
   pub idle : waiting_of f ≡ None → feed.has_ended f ≡ false → next ≤ above_all given

@@ -1,5 +1,6 @@
 -- What a feed of frames stands for.
-use Rattle.std.specs.Prelude.{◌≡◌, ℕ, ◌<◌, Bool, false, is_some, not, List, [], ◌∷◌, ◌++◌, length, take, Option, Some, None}
+use Rattle.std.specs.Prelude.{◌≡◌, ℕ, ◌<◌, Bool, false, is_some, not, List, [], ◌∷◌, ◌++◌, length, take, Option, Some}
+use Rattle.std.specs.Prelude.{None}
 use Rattle.plp_config.specs.declared.config.Config.{Config}
 use Rattle.t2mi_stream.specs.UnpiperStandsFor.{fed_len}
 use Rattle.frame_groups.specs.Laws.{IsPrefix}
@@ -37,8 +38,8 @@ IsFirst None later = later ≡ []
 IsFirst (Some w) [] = ⊥
 IsFirst (Some w) (x ∷ later) = (x.number ≡ w.frame) × (mute_of x.content ≡ w.mute)
 
--- These bytes were fed, perhaps to their end, and these records were left behind. They are the first of those that are due; the one
--- that waits is the next.
+-- These bytes were fed, perhaps to their end, and these records were left behind. They are the first of those that are
+-- due; the one that waits is the next.
 pub record FrameFeedStandsFor (f : FrameFeed) (bytes : List ℕ) (ended : Bool) (given : List FrameRecord) : Type 0 where
   pub stands : StandsAt f.inner bytes given
   pub count : fed_of f ≡ length bytes

@@ -13,9 +13,11 @@ use Rattle.stream_laws.specs.Types.{TypesFit}
 use Rattle.frame_groups.specs.Modulated.{FrameRecord}
 use Rattle.feed_merge.specs.Picks.{Picked, pick_of, picks}
 
--- If both feeds are honest damage of the first n frames of one run, each picked frame is one of them, with the record of its number.
+-- If both feeds are honest damage of the first n frames of one run, each picked frame is one of them, with the record
+-- of its number.
 abbrev pub PicksAreFrames : Type 0
-PicksAreFrames = (c : Config) (inputs : ℕ → List (List ℕ)) (n from later : ℕ) (fates others : List Fate) → IsPlan c → TypesFit c
+PicksAreFrames = (c : Config) (inputs : ℕ → List (List ℕ)) (n from later : ℕ) (fates others : List Fate)
+    → IsPlan c → TypesFit c
     → n ≤ MOST_FRAMES → Honest (frames_stream c inputs n) from fates → Honest (frames_stream c inputs n) later others
     → (m : ℕ) (p : Picked)
     → pick_of c (records_due c true (stream_bytes (frames_stream c inputs n) from fates))
@@ -32,7 +34,9 @@ AreOf n [] = Unit {0}
 AreOf n (x ∷ []) = x.number ≡ n
 AreOf n (x ∷ y ∷ records) = ⊥
 
--- If the records of a number come behind those of lower numbers, then so does the frame of that number, if it is picked.
+-- If the records of a number come behind those of lower numbers, then so does the frame of that number, if it is
+-- picked.
 abbrev pub PicksGrow : Type 0
-PicksGrow = (c : Config) (ra rb xs ys : List FrameRecord) (n : ℕ) → AllBelow n ra → AllBelow n rb → AreOf n xs → AreOf n ys
+PicksGrow = (c : Config) (ra rb xs ys : List FrameRecord) (n : ℕ) → AllBelow n ra → AllBelow n rb → AreOf n xs
+    → AreOf n ys
     → picks c (ra ++ xs) (rb ++ ys) ≡ picks c ra rb ++ option_to_list (pick_of c xs ys n)

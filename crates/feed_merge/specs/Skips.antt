@@ -3,7 +3,8 @@ use Rattle.std.specs.Prelude.{◌≡◌, ℕ, ◌+◌, ◌<◌, ◌≤◌, Bool,
 use Rattle.plp_config.specs.declared.moment.TheConstants.{MOST_FRAMES}
 use Rattle.frame_groups.specs.Modulated.{FrameRecord}
 use Rattle.frame_groups.specs.declared.waiting.Waiting.{Waiting}
-use Rattle.feed_merge.specs.FeedStandsFor.{FrameFeedStandsFor, IsFirst, config_of, waiting_of, has_ended, fed_of, left_of}
+use Rattle.feed_merge.specs.FeedStandsFor.{FrameFeedStandsFor, IsFirst, config_of, waiting_of, has_ended, fed_of}
+use Rattle.feed_merge.specs.FeedStandsFor.{left_of}
 use Rattle.feed_merge.specs.declared.feed.FrameFeed.{FrameFeed}
 
 abbrev pub one_if : Bool → ℕ
@@ -28,7 +29,8 @@ AreTaken true o xs = IsOnly o xs
 AreTaken false o xs = xs ≡ []
 
 -- The record that waited was left behind, if it was to be.
-pub record Takes (taken : Bool) (old new : FrameFeed) (bytes : List ℕ) (ended : Bool) (given : List FrameRecord) : Type 0 where
+pub record Takes (taken : Bool) (old new : FrameFeed) (bytes : List ℕ) (ended : Bool) (given : List FrameRecord) :
+    Type 0 where
   pub records : List FrameRecord
   pub are : AreTaken taken (waiting_of old) records
   pub stands : FrameFeedStandsFor new bytes ended (given ++ records)

@@ -33,8 +33,8 @@ left_by m dynamic lists =
     (l1_body m.plan.now m.place.number (pre_part m.plan.now) (conf_part m.plan.now) dynamic)
     (blocks_left m.plan.now (m.place.number % m.plan.now.frames) m.place.plp m.place.place lists)
 
--- What the packets of the frames begun carry, each with the number of its frame; of the last one these are left; and so many units
--- were given.
+-- What the packets of the frames begun carry, each with the number of its frame; of the last one these are left; and so
+-- many units were given.
 unfoldable pub MergerStandsFor : Merger → List Body → List (ℕ × Body) → ℕ → Type 0
 MergerStandsFor m left all given = Flows m.flow.outlet m.plan.now m.place.number left all given
 

@@ -15,8 +15,8 @@ use plp_config::{MOST_FRAMES, Plan};
 use std::alloc::Global;
 use t2mi_stream::{Unpiper, accepted_front_law};
 
-/// The frames of a T2-MI stream, however it is cut and damaged: feed it until a record waits, look at its frame, and skip it. All
-/// memory is taken in `open`.
+/// The frames of a T2-MI stream, however it is cut and damaged: feed it until a record waits, look at its frame, and
+/// skip it. All memory is taken in `open`.
 #[derive(Drop)]
 pub struct FrameFeed<'p> {
     plan: &'p Plan,
@@ -35,7 +35,8 @@ pub struct FrameFeed<'p> {
 }
 
 impl<'p> FrameFeed<'p> {
-    ghost use Rattle.std.specs.Prelude.{◌≡◌, ◌<◌, ◌≤◌, ◌+◌, ◌^◌, ◌++◌, ◌∷◌, ℕ, Bool, List, [], IfOk, IfSome, IfNone, IsSome, Some, None, length};
+    ghost use Rattle.std.specs.Prelude.{◌≡◌, ◌<◌, ◌≤◌, ◌+◌, ◌^◌, ◌++◌, ◌∷◌, ℕ, Bool, List, [], IfOk, IfSome, IfNone};
+    ghost use Rattle.std.specs.Prelude.{IsSome, Some, None, length};
     ghost use Rattle.std.specs.Prelude.{take, true, false};
     ghost use Rattle.plp_config.specs.declared.moment.TheConstants.{MOST_FRAMES};
     ghost use Rattle.frame_groups.specs.Groups.{Group};
@@ -45,7 +46,8 @@ impl<'p> FrameFeed<'p> {
     ghost use Rattle.frame_groups.specs.Begun.{packets_at};
     ghost use Rattle.modulator.specs.StandsFor.{records_due};
     ghost use Rattle.open_group.specs.Shown.{Shows, AreBlocks};
-    ghost use Rattle.feed_merge.specs.FeedStandsFor.{FrameFeedStandsFor, Skipped, config_of, waiting_of, is_whole, has_ended, fed_of, left_of};
+    ghost use Rattle.feed_merge.specs.FeedStandsFor.{FrameFeedStandsFor, Skipped, config_of, waiting_of, is_whole};
+    ghost use Rattle.feed_merge.specs.FeedStandsFor.{has_ended, fed_of, left_of};
     ghost use Rattle.feed_merge.specs.Frames.{IsFrameOf, dynamic_of, lists_of};
     ghost use Rattle.feed_merge.specs.Groups.{AreGroups, HasRoom, CarriesRoom};
 
@@ -86,8 +88,8 @@ impl<'p> FrameFeed<'p> {
         self.inner.finished
     }
 
-    /// Takes bytes of the stream until a record waits or the piece ends, a byte at least, and answers how many. No record waits, and
-    /// with the piece fewer than 2^60 bytes were fed in all.
+    /// Takes bytes of the stream until a record waits or the piece ends, a byte at least, and answers how many. No
+    /// record waits, and with the piece fewer than 2^60 bytes were fed in all.
     pub fn feed(&mut self, piece: &[u8]) -> usize
         requires idle { waiting_of self.old ≡ None }
         requires open { has_ended self.old ≡ false }
@@ -126,16 +128,22 @@ impl<'p> FrameFeed<'p> {
     /// The frame that waits, which is not muted.
     pub fn frame(&self) -> PoolFrame<'_>
         requires whole { is_whole (waiting_of self.now) ≡ true }
-        ensures shows { (bytes : List ℕ) (ended : Bool) (given : List FrameRecord) → FrameFeedStandsFor self.now bytes ended given
-            → (x : FrameRecord) (later : List FrameRecord) → records_due (config_of self.now) ended bytes ≡ given ++ x ∷ later
+        ensures shows { (bytes : List ℕ) (ended : Bool) (given : List FrameRecord)
+            → FrameFeedStandsFor self.now bytes ended given
+            → (x : FrameRecord) (later : List FrameRecord) → records_due (config_of self.now) ended bytes ≡ given
+            ++ x ∷ later
             → (g : Group) → x.content ≡ Whole g
             → Shows (config_of self.now) g.packets (dynamic_of self.now) (lists_of self.now) }
         // So it is by the group of its number, whatever follows; and the blocks that it carries have room.
-        ensures came { (bytes : List ℕ) (ended : Bool) (given : List FrameRecord) → FrameFeedStandsFor self.now bytes ended given
-            → (w : Waiting) → waiting_of self.now ≡ Some w → (gs : List Numbered) → AreGroups (config_of self.now) bytes ended gs
+        ensures came { (bytes : List ℕ) (ended : Bool) (given : List FrameRecord)
+            → FrameFeedStandsFor self.now bytes ended given
+            → (w : Waiting) → waiting_of self.now ≡ Some w → (gs : List Numbered)
+            → AreGroups (config_of self.now) bytes ended gs
             → Shows (config_of self.now) (packets_at gs w.frame) (dynamic_of self.now) (lists_of self.now) }
-        ensures room { (bytes : List ℕ) (ended : Bool) (given : List FrameRecord) → FrameFeedStandsFor self.now bytes ended given
-            → (w : Waiting) → waiting_of self.now ≡ Some w → (gs : List Numbered) → AreGroups (config_of self.now) bytes ended gs
+        ensures room { (bytes : List ℕ) (ended : Bool) (given : List FrameRecord)
+            → FrameFeedStandsFor self.now bytes ended given
+            → (w : Waiting) → waiting_of self.now ≡ Some w → (gs : List Numbered)
+            → AreGroups (config_of self.now) bytes ended gs
             → CarriesRoom (config_of self.now) gs w.frame }
         ensures is { IsFrameOf self.now result }
     {
@@ -151,18 +159,20 @@ impl<'p> FrameFeed<'p> {
         }
     }
 
-    /// The blocks that came of the frame that waits, muted or not, a list for each PLP: None if no packet of it came, or if they have
-    /// no room.
+    /// The blocks that came of the frame that waits, muted or not, a list for each PLP: None if no packet of it came,
+    /// or if they have no room.
     pub fn blocks(&self) -> Option<&Pool>
         requires waits { IsSome (waiting_of self.now) }
         // They are those of the whole stream, whatever follows.
         ensures some { IfSome result (λ pool. (bytes : List ℕ) (ended : Bool) (given : List FrameRecord)
             → FrameFeedStandsFor self.now bytes ended given
-            → (w : Waiting) → waiting_of self.now ≡ Some w → (gs : List Numbered) → AreGroups (config_of self.now) bytes ended gs
+            → (w : Waiting) → waiting_of self.now ≡ Some w → (gs : List Numbered)
+            → AreGroups (config_of self.now) bytes ended gs
             → AreBlocks (config_of self.now) (packets_at gs w.frame) pool.now.lists) }
         ensures none { IfNone result ((bytes : List ℕ) (ended : Bool) (given : List FrameRecord)
             → FrameFeedStandsFor self.now bytes ended given
-            → (w : Waiting) → waiting_of self.now ≡ Some w → (gs : List Numbered) → AreGroups (config_of self.now) bytes ended gs
+            → (w : Waiting) → waiting_of self.now ≡ Some w → (gs : List Numbered)
+            → AreGroups (config_of self.now) bytes ended gs
             → HasRoom (config_of self.now) gs w.frame → packets_at gs w.frame ≡ []) }
         ensures plps { IfSome result (λ pool. length pool.now.lists ≡ length (config_of self.now).plps) }
     {
@@ -185,7 +195,8 @@ impl<'p> FrameFeed<'p> {
     pub fn skip(&mut self)
         requires waits { IsSome (waiting_of self.old) }
         requires early { (w : Waiting) → waiting_of self.old ≡ Some w → w.frame < MOST_FRAMES }
-        ensures skips { (bytes : List ℕ) (ended : Bool) (given : List FrameRecord) → FrameFeedStandsFor self.old bytes ended given
+        ensures skips { (bytes : List ℕ) (ended : Bool) (given : List FrameRecord)
+            → FrameFeedStandsFor self.old bytes ended given
             → Skipped self.old self.new bytes ended given }
         // So no more than so many records are left behind before bytes are fed.
         ensures left { left_of self.new < left_of self.old }

@@ -1,5 +1,5 @@
-//! Two T2-MI feeds of one network become one: each frame comes from the first feed that has it (ETSI TS 102 773). A feed is shown
-//! frame by frame, as it is held.
+//! Two T2-MI feeds of one network become one: each frame comes from the first feed that has it (ETSI TS 102 773). A
+//! feed is shown frame by frame, as it is held.
 #![tactic(auto)]
 
 mod feed;

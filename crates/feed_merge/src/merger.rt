@@ -7,8 +7,8 @@ use frame_writer::{Flow, PoolFrame, PoolPlace, PoolWalk, WalkedPlace};
 use plp_config::Plan;
 use ts_packet::SIZE;
 
-/// Makes one T2-MI stream of frames: begin a frame, take the units, each with the same frame; behind the last frame finish, and take
-/// the rest.
+/// Makes one T2-MI stream of frames: begin a frame, take the units, each with the same frame; behind the last frame
+/// finish, and take the rest.
 #[derive(Drop)]
 pub struct Merger<'p> {
     plan: &'p Plan,
@@ -30,7 +30,8 @@ fn pid_of(plan: &Plan) -> u16
 }
 
 impl<'p> Merger<'p> {
-    ghost use Rattle.std.specs.Prelude.{◌≡◌, ◌<◌, ◌≤◌, ◌+◌, ◌*◌, ◌++◌, ℕ, List, [], true, false, length, take, Some, slice_get};
+    ghost use Rattle.std.specs.Prelude.{◌≡◌, ◌<◌, ◌≤◌, ◌+◌, ◌*◌, ◌++◌, ℕ, List, [], true, false, length, take, Some};
+    ghost use Rattle.std.specs.Prelude.{slice_get};
     ghost use Rattle.t2mi_packet.specs.declared.packet.Body.{Body};
     ghost use Rattle.t2mi_stream.specs.Pipe.{pipe};
     ghost use Rattle.ts_packet.specs.declared.sizes.TheConstants.{SIZE};
@@ -38,7 +39,8 @@ impl<'p> Merger<'p> {
     ghost use Rattle.frame_writer.specs.Flowing.{packet_bound};
     ghost use Rattle.frame_writer.specs.FramePackets.{packets_from};
     ghost use Rattle.frame_writer.specs.Left.{CanBeSent, bodies_of};
-    ghost use Rattle.feed_merge.specs.StandsFor.{MergerStandsFor, GivesUnits, config_of, frame_of, left_in, has_unit, has_finished, is_fed, bytes_left};
+    ghost use Rattle.feed_merge.specs.StandsFor.{MergerStandsFor, GivesUnits, config_of, frame_of, left_in, has_unit};
+    ghost use Rattle.feed_merge.specs.StandsFor.{has_finished, is_fed, bytes_left};
 
     /// A merger to which no frame was given, for a plan. It takes no memory.
     pub fn new(plan: &'p Plan) -> Merger<'p>
@@ -75,8 +77,8 @@ impl<'p> Merger<'p> {
         self.place = place;
     }
 
-    /// Gives units of the frames begun, to the front of these bytes, as long as one is complete and there is room: how many bytes, and
-    /// whether it was the room that ended. The frame is the last one that was begun.
+    /// Gives units of the frames begun, to the front of these bytes, as long as one is complete and there is room: how
+    /// many bytes, and whether it was the room that ended. The frame is the last one that was begun.
     pub fn give(&mut self, frame: &PoolFrame<'_>, out: &mut [u8]) -> (usize, bool)
         requires can { CanBeSent (config_of self.old) frame.now }
         requires room { SIZE ≤ length out.old }
@@ -100,7 +102,8 @@ impl<'p> Merger<'p> {
     pub fn finish(&mut self)
         requires given { has_unit self.old ≡ false }
         requires open { has_finished self.old ≡ false }
-        ensures stands { (left : List Body) (all : List (ℕ × Body)) (given : ℕ) → MergerStandsFor self.old left all given
+        ensures stands { (left : List Body) (all : List (ℕ × Body)) (given : ℕ)
+            → MergerStandsFor self.old left all given
             → MergerStandsFor self.new left all given }
         ensures config { config_of self.new ≡ config_of self.old }
         ensures finished { has_finished self.new ≡ true }

@@ -47,8 +47,8 @@ fn pick_at(frame: u64, a: Option<Seen>, b: Option<Seen>) -> Pick
     }
 }
 
-/// What becomes of the records that wait, each `None` for a feed that ended: the frame of the least number comes from A if A has
-/// it, else from B if B has it, and what either has of that number is left behind.
+/// What becomes of the records that wait, each `None` for a feed that ended: the frame of the least number comes from A
+/// if A has it, else from B if B has it, and what either has of that number is left behind.
 pub fn pick(a: Option<Seen>, b: Option<Seen>) -> Pick
     ensures { result ≡ picked a b }
 {

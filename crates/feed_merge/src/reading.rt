@@ -45,8 +45,8 @@ pub fn is_idle(feed: &FrameFeed<'_>) -> bool
     feed.waiting().is_none() && !feed.is_ended()
 }
 
-/// Bytes of the first input whose feed has no record and has not ended, or else to go on by the records that wait, or to end at one
-/// of frame 2^31 or later.
+/// Bytes of the first input whose feed has no record and has not ended, or else to go on by the records that wait, or
+/// to end at one of frame 2^31 or later.
 pub fn next_step(a: &FrameFeed<'_>, b: &FrameFeed<'_>) -> Step
     ensures { result ≡ step_for a.now b.now }
 {

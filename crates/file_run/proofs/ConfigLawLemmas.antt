@@ -21,14 +21,16 @@ use Rattle.file_run.specs.declared.config_stop.ConfigStop.TheVariants.{Refused, 
 pub record ConfigLaws : Type 0 where
   pub spelled : (text : List ℕ) (c d : Config) → Spells text c → Spells text d → c ≡ d
   pub accepted : (text : List ℕ) (c : Config) (line : ℕ) (why : TextWhy) → Spells text c → Refuses text line why → ⊥
-  pub refused : (text : List ℕ) (line other : ℕ) (why reason : TextWhy) → Refuses text line why → Refuses text other reason
+  pub refused : (text : List ℕ) (line other : ℕ) (why reason : TextWhy) → Refuses text line why
+      → Refuses text other reason
       → (line ≡ other) × (why ≡ reason)
   pub one_rule : OneRuleFails
   pub rules_fail : RefusalFails
   pub one_test : OneTestFails
   pub tests_fail : LackFails
 
-cause_once : ConfigLaws → (text : List ℕ) (cause other : ConfigCause) → IsCause text cause → IsCause text other → cause ≡ other
+cause_once : ConfigLaws → (text : List ℕ) (cause other : ConfigCause) → IsCause text cause → IsCause text other
+    → cause ≡ other
 cause_once l text (Text line why) (Text place reason) a b = let same = l.refused text line place why reason a b in
     λ i. Text (same.0 i) (same.1 i)
 cause_once l text (Text line why) (Rule rule plp) a b = absurd (l.accepted text b.0 line why b.1 a)
@@ -37,17 +39,20 @@ cause_once l text (Rule rule plp) (Rule number place) a b =
     let fault : ConfigFault = record { rule = rule; plp = plp } in
     let other : ConfigFault = record { rule = number; plp = place } in
     let same : fault ≡ other =
-    l.one_rule b.0 fault other (subst (λ (c : Config). rules.Refuses c fault) (l.spelled text a.0 b.0 a.1 b.1) a.2) b.2 in
+    l.one_rule b.0 fault other (subst (λ (c : Config). rules.Refuses c fault) (l.spelled text a.0 b.0 a.1 b.1) a.2)
+    b.2 in
     ap (λ (f : ConfigFault). Rule f.rule f.plp) same
 
 -- a text whose configuration satisfies the rules is not refused
-no_cause : ConfigLaws → (text : List ℕ) (c : Config) (cause : ConfigCause) → Spells text c → AllRules c → IsCause text cause → ⊥
+no_cause : ConfigLaws → (text : List ℕ) (c : Config) (cause : ConfigCause) → Spells text c → AllRules c
+    → IsCause text cause → ⊥
 no_cause l text c (Text line why) s all b = l.accepted text c line why s b
 no_cause l text c (Rule rule plp) s all b =
     l.rules_fail b.0 (record { rule = rule; plp = plp }) b.2 (subst AllRules (l.spelled text c b.0 s b.1) all)
 
 -- a text whose configuration passes the capacity tests fails none
-no_lack : ConfigLaws → (text : List ℕ) (c d : Config) (fault : CapacityFault) → Spells text c → AllTests c → Spells text d
+no_lack : ConfigLaws → (text : List ℕ) (c d : Config) (fault : CapacityFault) → Spells text c → AllTests c
+    → Spells text d
     → capacity.Lacks d fault → ⊥
 no_lack l text c d fault s tests t lacks = l.tests_fail d fault lacks (subst AllTests (l.spelled text c d s t) tests)
 
@@ -73,7 +78,8 @@ plan_once l text (Err (Lacks fault)) (Ok d) a b = absurd (no_lack l text d a.0 f
 plan_once l text (Err (Lacks fault)) (Err (Refused cause)) a b = absurd (no_cause l text a.0 cause a.1 a.2 b)
 plan_once l text (Err (Lacks fault)) (Err (Lacks other)) a b =
     ap (λ (x : CapacityFault). Err (Lacks x))
-    (l.one_test b.0 fault other (subst (λ (c : Config). capacity.Lacks c fault) (l.spelled text a.0 b.0 a.1 b.1) a.3) b.3)
+    (l.one_test b.0 fault other (subst (λ (c : Config). capacity.Lacks c fault) (l.spelled text a.0 b.0 a.1 b.1) a.3)
+    b.3)
 plan_once l text (Ok c) (Err other) a b = absurd b
 plan_once l text (Err (Refused cause)) (Err other) a b = absurd b
 plan_once l text (Err (Lacks fault)) (Err other) a b = absurd b

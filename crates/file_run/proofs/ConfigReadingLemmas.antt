@@ -1,5 +1,6 @@
 -- Runs that read a configuration, step by step.
-use Rattle.std.proofs.Common.{◌≡◌, ◌⊎◌, ℕ, ◌+◌, ◌-◌, ◌<◌, ◌≤◌, min, inl, inr, ⊎_elim, List, [], ◌++◌, length, Option, Some, None}
+use Rattle.std.proofs.Common.{◌≡◌, ◌⊎◌, ℕ, ◌+◌, ◌-◌, ◌<◌, ◌≤◌, min, inl, inr, ⊎_elim, List, [], ◌++◌, length, Option}
+use Rattle.std.proofs.Common.{Some, None}
 use Rattle.std.proofs.Common.{ap, sym, subst, ◌∙◌, arith, append-nil, length-append}
 use Rattle.std.specs.Prelude.{IfSome, IsSome, IfOk, IfErr, Result, option_map, option_and_then}
 use Rattle.std.specs.FinMap.{get}
@@ -25,7 +26,8 @@ use Rattle.file_run.specs.Opening.{Opened}
 use Rattle.file_run.specs.Ahead.{ReadsAhead, IsAtEnd}
 use Rattle.file_run.specs.TextReading.{RefusesText, IsFront}
 
-front_of : (before after : Option (List ℕ)) (text : List ℕ) → option_map (λ l. text ++ l) after ≡ option_map (λ l. [] ++ l) before
+front_of : (before after : Option (List ℕ)) (text : List ℕ) → option_map (λ l. text ++ l) after ≡ option_map
+    (λ l. [] ++ l) before
     → IfSome after (λ l. l ≡ []) ⊎ (length text ≡ 65537) → IfSome before (λ file. IsFront file text)
 front_of None after text e end = tt
 front_of (Some file) None text e end = cc
@@ -98,7 +100,8 @@ whole_file file text f fits =
 spelled_file : (file text : List ℕ) (c : Config) → IsFront file text → Spells text c → Spells file c
 spelled_file file text c f s = subst (λ (t : List ℕ). Spells t c) (whole_file file text f s.fits) s
 
-refused_file : (file text : List ℕ) (line : ℕ) (why : TextWhy) → IsFront file text → Refuses text line why → Refuses file line why
+refused_file : (file text : List ℕ) (line : ℕ) (why : TextWhy) → IsFront file text → Refuses text line why
+    → Refuses file line why
 refused_file file text line why f r =
     ⊎_elim
     (λ (long : RefusesLength text line why).
@@ -108,7 +111,8 @@ refused_file file text line why f r =
     ⊎_elim
     (λ (e : RefusesEnd text line why).
     inr (inl (subst (λ (t : List ℕ). RefusesEnd t line why) (whole_file file text f e.fits) e)))
-    (λ (e : RefusesAt text line why). inr (inr (subst (λ (t : List ℕ). RefusesAt t line why) (whole_file file text f e.fits) e)))
+    (λ (e : RefusesAt text line why). inr
+    (inr (subst (λ (t : List ℕ). RefusesAt t line why) (whole_file file text f e.fits) e)))
     rest)
     r
 
@@ -118,7 +122,8 @@ cause_file file text (Rule rule plp) f r = (r.0, spelled_file file text r.0 f r.
 
 -- the text that was read gives a configuration
 pub gives : (old new : State) (name text : List ℕ) (c : Config) → ReadsText old new name
-    → IfSome old.held (λ held. IsFront (bytes_of held.files name) text) → Spells text c × AllRules c → Gives old new name c
+    → IfSome old.held (λ held. IsFront (bytes_of held.files name) text) → Spells text c × AllRules c
+    → Gives old new name c
 gives old new name text c r f s = record {
   reads = r;
   spells = IfSome_then old.held f (λ held x. spelled_file (bytes_of held.files name) text c x s.0);
@@ -134,18 +139,21 @@ gives_none old new name text (Refused cause) r f s =
 gives_none old new name text OutOfMemory r f s = inr r
 gives_none old new name text other r f s = absurd s
 
--- The file of a name was opened, and its front was read. Then the configuration of the text is that of the file, or there is
--- none.
+-- The file of a name was opened, and its front was read. Then the configuration of the text is that of the file, or
+-- there is none.
 pub record ReadsFront (old new : State) (name bytes : List ℕ) : Type 0 where
   pub reads : ReadsText old new name
   pub front : IfSome old.held (λ held. IsFront (bytes_of held.files name) bytes)
 
-pub front_read : (old mid new : State) (name : List ℕ) (handle : ℕ) (waiting text bytes : List ℕ) → waiting ≡ [] → bytes ≡ text
+pub front_read : (old mid new : State) (name : List ℕ) (handle : ℕ) (waiting text bytes : List ℕ) → waiting ≡ []
+    → bytes ≡ text
     → Opens old mid name handle → SameCounts old mid →
-    ReadsAhead mid new handle waiting text → SameCounts mid new → length text ≤ 65537 → IsAtEnd new handle ⊎ (length text ≡ 65537)
+    ReadsAhead mid new handle waiting text → SameCounts mid new → length text ≤ 65537 → IsAtEnd new handle
+    ⊎ (length text ≡ 65537)
     → ReadsFront old new name bytes
 front_read old mid new name handle waiting text bytes none same o counts r calm few end =
-    let x = text_read old mid new name handle text o counts (subst (λ (w : List ℕ). ReadsAhead mid new handle w text) none r) calm
+    let x = text_read old mid new name handle text o counts (subst (λ (w : List ℕ). ReadsAhead mid new handle w text)
+    none r) calm
     few end in
     record {
       reads = x.0;
@@ -157,7 +165,8 @@ pub front_not_read : (old mid new : State) (name : List ℕ) (handle : ℕ) (wai
     → Opens old mid name handle → SameCounts old mid → ReadsAhead mid new handle waiting text →
     length text < 65537 → ReadsFail old new → FailsToRead old new name
 front_not_read old mid new name handle waiting text none o counts r few rose =
-    text_not_read old mid new name handle text o counts (subst (λ (w : List ℕ). ReadsAhead mid new handle w text) none r) few rose
+    text_not_read old mid new name handle text o counts (subst (λ (w : List ℕ). ReadsAhead mid new handle w text)
+    none r) few rose
 
 -- a reading that failed
 pub reading_fails : {T E : Type 0} (old mid new : State) (result : Result T E) → SameCounts old mid
@@ -167,15 +176,18 @@ reading_fails old mid new result calm m rose first = record {
   rose = subst (λ (k : Counts). Rose k.reads new.counts.reads) calm rose;
   first = subst (λ (k : Counts). new.counts.first ≡ first_of k.first Reading) calm first;
   later = subst (λ (k : Counts). k.reads ≤ new.counts.reads) calm m.later;
-  others = subst (λ (k : Counts). new.counts ≡ record k { reads = new.counts.reads; first = new.counts.first }) calm m.others;
+  others = subst (λ (k : Counts). new.counts ≡ record k { reads = new.counts.reads; first = new.counts.first })
+      calm m.others;
 }
 
-pub config_ok : (old new : State) (name bytes : List ℕ) (result : Result Config ConfigStop) → ReadsFront old new name bytes
+pub config_ok : (old new : State) (name bytes : List ℕ) (result : Result Config ConfigStop)
+    → ReadsFront old new name bytes
     → IfOk result (λ c. Spells bytes c × AllRules c) → IfOk result (Gives old new name)
 config_ok old new name bytes result x ok = IfOk-weaker result (λ c. Spells bytes c × AllRules c) (Gives old new name)
     (λ c s. gives old new name bytes c x.reads x.front s) ok
 
-pub config_err : (old new : State) (name bytes : List ℕ) (result : Result Config ConfigStop) → ReadsFront old new name bytes
+pub config_err : (old new : State) (name bytes : List ℕ) (result : Result Config ConfigStop)
+    → ReadsFront old new name bytes
     → IfErr result (RefusesText bytes) → IfErr result (GivesNone old new name)
 config_err old new name bytes result x err = IfErr-weaker result (RefusesText bytes) (GivesNone old new name)
     (λ outcome s. gives_none old new name bytes outcome x.reads x.front s) err

@@ -1,5 +1,6 @@
 -- Putting out what a machine gives, step by step.
-use Rattle.std.proofs.Common.{◌≡◌, ◌≢◌, ℕ, List, [], ◌∷◌, ◌++◌, ap, sym, subst, ◌∙◌, inl, inr, append_assoc, append-nil, length}
+use Rattle.std.proofs.Common.{◌≡◌, ◌≢◌, ℕ, List, [], ◌∷◌, ◌++◌, ap, sym, subst, ◌∙◌, inl, inr, append_assoc, append-nil}
+use Rattle.std.proofs.Common.{length}
 use Rattle.std.proofs.Common.{length-append, arith}
 use Rattle.std.specs.Prelude.{◌⊎◌}
 use Rattle.std.proofs.lemmas.List.{nil_from_length}
@@ -15,7 +16,8 @@ use Rattle.file_run.specs.declared.output.OpenOutput.{OpenOutput}
 use Rattle.file_run.proofs.EventLemmas.{only_none, only_more, gave_piece}
 use Rattle.file_run.proofs.SinkLemmas.{puts_none, puts_then}
 
-pub drained_none : AppendsNone → {A : Type 0} (Becomes : A → List Event → A → Type 0) (out : OpenOutput) (m : A) (s : State)
+pub drained_none : AppendsNone → {A : Type 0} (Becomes : A → List Event → A → Type 0) (out : OpenOutput)
+    (m : A) (s : State)
     (waiting : List ℕ) → waiting ≡ [] → Drains Becomes out m m s s waiting
 drained_none law {A = A} Becomes out m s waiting none = record {
   late = [];
@@ -46,16 +48,19 @@ drained_some law Becomes out old new was now is waiting left d p = record {
 }
 
 -- A machine gave a piece.
-pub drained_more : {A : Type 0} (Becomes : A → List Event → A → Type 0) (out : OpenOutput) (old mid new : A) (was is : State)
+pub drained_more : {A : Type 0} (Becomes : A → List Event → A → Type 0) (out : OpenOutput) (old mid new : A)
+    (was is : State)
     (waiting left : List ℕ) → Drains Becomes out old mid was is waiting → Gathers Becomes mid new waiting left
     → Drains Becomes out old new was is left
 drained_more Becomes out old mid new was is waiting left d g = record {
   late = d.late ++ Gave g.piece ∷ [];
   only = only_more d.late g.piece d.only;
-  becomes = λ start events h. subst (λ (l : List Event). Becomes start l new) (append_assoc events d.late (Gave g.piece ∷ []))
+  becomes = λ start events h. subst (λ (l : List Event). Becomes start l new)
+      (append_assoc events d.late (Gave g.piece ∷ []))
       (g.becomes start (events ++ d.late) (d.becomes start events h));
   front = d.front;
-  parts = (gave_piece g.piece d.late).gave ∙ ap (λ (l : List ℕ). l ++ g.piece) d.parts ∙ append_assoc d.front waiting g.piece
+  parts = (gave_piece g.piece d.late).gave ∙ ap (λ (l : List ℕ). l ++ g.piece) d.parts
+      ∙ append_assoc d.front waiting g.piece
       ∙ ap (λ (l : List ℕ). d.front ++ l) (sym g.behind);
   puts = d.puts;
 }
@@ -85,8 +90,10 @@ pub gave_first : {A : Type 0} (old mid : A) (waiting : List ℕ) (next : A → S
 gave_first old mid waiting next (inl same) gives = ap next (sym same.0) ∙ gives
 gave_first old mid waiting next (inr first) gives = first
 
-pub waits_first : {A : Type 0} (old mid : A) (waiting front more : List ℕ) (next : A → Step) → ((mid ≡ old) × (waiting ≡ []))
+pub waits_first : {A : Type 0} (old mid : A) (waiting front more : List ℕ) (next : A → Step)
+    → ((mid ≡ old) × (waiting ≡ []))
     ⊎ (next old ≡ Give) → waiting ≡ front ++ more → more ≢ [] → next old ≡ Give
 waits_first old mid waiting front more next (inl same) parts some =
-    absurd (some (nil_from_length more (let n = ap length (sym same.1 ∙ parts) in omega (arith, n, length-append front more))))
+    absurd (some (nil_from_length more (let n = ap length (sym same.1 ∙ parts) in omega
+    (arith, n, length-append front more))))
 waits_first old mid waiting front more next (inr first) parts some = first

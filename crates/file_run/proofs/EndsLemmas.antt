@@ -18,8 +18,8 @@ use Rattle.file_run.specs.declared.stop.RunStop.TheVariants.{Refused, Files, Out
 
 -- ---- what it leaves alone
 
--- No file has changed but the one that is written, which is created once at most; no more files were opened than are read; and what
--- was said before stands.
+-- No file has changed but the one that is written, which is created once at most; no more files were opened than are
+-- read; and what was said before stands.
 abbrev pub OthersOf : Sink → Option Held → Option Held → Type 0
 OthersOf (Into out) old new = OtherFiles out old new
 OthersOf Aloud old new = SameFiles old new
@@ -65,7 +65,8 @@ opened_only old new sink ins count o = record {
   said = grows_same old.said new.said o.said;
 }
 
-not_begun : (old new : State) (sink : Sink) (ins : List (List ℕ)) → FailsToBegin sink old new ins → LeavesAlone old new sink ins
+not_begun : (old new : State) (sink : Sink) (ins : List (List ℕ)) → FailsToBegin sink old new ins
+    → LeavesAlone old new sink ins
 not_begun old new (Into out) ins f = record {
   files = f.files;
   created = (let c = f.created in omega (arith, c));
@@ -77,7 +78,8 @@ not_begun old new (Into out) ins f = record {
 }
 not_begun old new Aloud ins f = absurd f
 
-passed : (old new : State) (sink : Sink) (ins : List (List ℕ)) (places bytes : List ℕ) → Passes sink old new ins places bytes
+passed : (old new : State) (sink : Sink) (ins : List (List ℕ)) (places bytes : List ℕ)
+    → Passes sink old new ins places bytes
     → LeavesAlone old new sink ins
 passed old new (Into out) ins places bytes w = record {
   files = w.files;
@@ -102,12 +104,15 @@ pub leaves_alone : {R E : Type 0} (work : Work R E) (old new : State) (sink : Si
     (result : Result R (RunStop E)) → Ends work old new sink ins result → LeavesAlone old new sink ins
 leaves_alone work old new sink ins (Ok ran) (counts, d) = passed old new sink ins d.places d.bytes d.passes
 leaves_alone work old new sink ins (Err (Refused why)) (counts, d) = passed old new sink ins d.places d.bytes d.passes
-leaves_alone work old new sink ins (Err (Files (TooLong input))) (counts, lt, d) = passed old new sink ins d.places d.bytes d.passes
-leaves_alone work old new sink ins (Err (Files (ReadFault input))) (counts, inl o) = opened_only old new sink ins input o
+leaves_alone work old new sink ins (Err (Files (TooLong input))) (counts, lt, d) = passed old new sink
+    ins d.places d.bytes d.passes
+leaves_alone work old new sink ins (Err (Files (ReadFault input))) (counts, inl o) = opened_only old
+    new sink ins input o
 leaves_alone work old new sink ins (Err (Files (ReadFault input))) (counts, inr (lt, d)) =
     passed old new sink ins d.places d.bytes d.passes
 leaves_alone work old new sink ins (Err (Files WriteFault)) (counts, inl f) = not_begun old new sink ins f
-leaves_alone work old new sink ins (Err (Files WriteFault)) (counts, inr d) = passed old new sink ins d.places d.bytes d.passes
+leaves_alone work old new sink ins (Err (Files WriteFault)) (counts, inr d) = passed old new sink ins
+    d.places d.bytes d.passes
 leaves_alone work old new sink ins (Err OutOfMemory) e = nothing_done old new sink ins e
 
 -- ---- why it ended so
@@ -117,7 +122,8 @@ abbrev pub Decides : {R E : Type 0} → Work R E → State → State → List (L
 Decides work old new ins (Ok ran) = SameCounts old new
     × IfSome old.held (λ h. (places : List ℕ) × (bytes : List ℕ) × work (file_at h ins) (Ok ran) places bytes)
 Decides work old new ins (Err (Refused why)) = SameCounts old new
-    × IfSome old.held (λ h. (places : List ℕ) × (bytes : List ℕ) × work (file_at h ins) (Err (Refused why)) places bytes)
+    × IfSome old.held (λ h. (places : List ℕ) × (bytes : List ℕ) × work (file_at h ins) (Err (Refused why))
+    places bytes)
 Decides work old new ins (Err (Files (TooLong input))) =
     (input < length ins) × IfSome old.held (λ h. longest_file ≤ length (file_at h ins input))
 Decides work old new ins (Err (Files (ReadFault input))) = Rose old.counts.reads new.counts.reads
@@ -128,12 +134,22 @@ pub decides : {R E : Type 0} (work : Work R E) (old new : State) (sink : Sink) (
     (result : Result R (RunStop E)) → Ends work old new sink ins result → Decides work old new ins result
 decides work old new sink ins (Ok ran) (counts, d) = (
   counts,
-  IfSome_then old.held d.told (λ h t. (d.places, d.bytes, subst (λ (f : ℕ → List ℕ). work f (Ok ran) d.places d.bytes) t.0 d.does.1)),
+  IfSome_then old.held d.told (λ h t. (
+    d.places,
+    d.bytes,
+    subst (λ (f : ℕ → List ℕ). work f (Ok ran) d.places d.bytes)
+        t.0 d.does.1,
+  )),
 )
 decides work old new sink ins (Err (Refused why)) (counts, d) = (
   counts,
   IfSome_then old.held d.told
-      (λ h t. (d.places, d.bytes, subst (λ (f : ℕ → List ℕ). work f (Err (Refused why)) d.places d.bytes) t.0 d.does.1)),
+      (λ h t. (
+        d.places,
+        d.bytes,
+        subst (λ (f : ℕ → List ℕ). work f (Err (Refused why)) d.places d.bytes)
+            t.0 d.does.1,
+      )),
 )
 decides work old new sink ins (Err (Files (TooLong input))) (counts, lt, d) = (
   lt,

@@ -1,5 +1,6 @@
 -- What events tell of inputs and of the output, one behind another.
-use Rattle.std.proofs.Common.{◌≡◌, ◌≢◌, ℕ, ◌==◌, Bool, true, false, cond, List, [], ◌∷◌, ◌++◌, refl, ap, sym, ◌∙◌, append-nil}
+use Rattle.std.proofs.Common.{◌≡◌, ◌≢◌, ℕ, ◌==◌, Bool, true, false, cond, List, [], ◌∷◌, ◌++◌, refl, ap, sym, ◌∙◌}
+use Rattle.std.proofs.Common.{append-nil}
 use Rattle.std.proofs.Common.{eq-eqb}
 use Rattle.std.specs.Prelude.{◌||◌}
 use Rattle.std.proofs.lemmas.Bool.{ne_eqb}
@@ -17,7 +18,8 @@ or_on true = refl
 or_on false = refl
 
 -- one event more
-fed_one : (input : ℕ) (events : List Event) (e : Event) → fed input (events ++ e ∷ []) ≡ fed input events ++ bytes_to input e
+fed_one : (input : ℕ) (events : List Event) (e : Event) → fed input (events ++ e ∷ []) ≡ fed input events
+    ++ bytes_to input e
 fed_one input events e = flat_map-append (bytes_to input) events (e ∷ []) ∙ ap (λ (l : List ℕ). fed input events ++ l)
     (append-nil (bytes_to input e))
 
@@ -27,7 +29,8 @@ ended_one input events e = list_any-append (ends input) events (e ∷ []) ∙ ap
     (or_off (ends input e))
 
 gave_one : (events : List Event) (e : Event) → gave (events ++ e ∷ []) ≡ gave events ++ bytes_from e
-gave_one events e = flat_map-append bytes_from events (e ∷ []) ∙ ap (λ (l : List ℕ). gave events ++ l) (append-nil (bytes_from e))
+gave_one events e = flat_map-append bytes_from events (e ∷ []) ∙ ap (λ (l : List ℕ). gave events ++ l)
+    (append-nil (bytes_from e))
 
 -- an event that ends nothing, or gives nothing
 still_open : (input : ℕ) (events : List Event) (e : Event) → ends input e ≡ false → has_ended input (events ++ e ∷ [])
@@ -40,7 +43,8 @@ gives_none events e none = gave_one events e ∙ ap (λ (l : List ℕ). gave eve
 
 -- the bytes for an input, and for another one
 to_itself : (input : ℕ) (bytes : List ℕ) → cond (input == input) bytes [] ≡ bytes
-to_itself input bytes = let self : (input == input) ≡ true = eq-eqb input input refl in ap (λ (b : Bool). cond b bytes []) self
+to_itself input bytes = let self : (input == input) ≡ true = eq-eqb input input refl in ap
+    (λ (b : Bool). cond b bytes []) self
 
 to_another : (input other : ℕ) (bytes : List ℕ) → other ≢ input → cond (input == other) bytes [] ≡ []
 to_another input other bytes differ = let apart : (input == other) ≡ false = ne_eqb input other (λ e. differ (sym e)) in
@@ -63,11 +67,13 @@ pub ended_more : (input : ℕ) (bytes : List ℕ) (events : List Event) → Ende
 ended_more input bytes events =
     let self : (input == input) ≡ true = eq-eqb input input refl in
     record {
-      here = fed_one input events (Ended input bytes) ∙ ap (λ (l : List ℕ). fed input events ++ l) (to_itself input bytes);
+      here = fed_one input events (Ended input bytes) ∙ ap (λ (l : List ℕ). fed input events ++ l)
+          (to_itself input bytes);
       others = λ other differ. fed_apart other events (Ended input bytes) (to_another input other bytes differ);
       ended = ended_one input events (Ended input bytes) ∙ ap (λ (b : Bool). has_ended input events || b) self
           ∙ or_on (has_ended input events);
-      others_ended = λ other differ. still_open other events (Ended input bytes) (ne_eqb input other (λ e. differ (sym e)));
+      others_ended = λ other differ. still_open other events (Ended input bytes)
+          (ne_eqb input other (λ e. differ (sym e)));
       gave = gives_none events (Ended input bytes) refl;
     }
 
@@ -80,9 +86,11 @@ gave_piece bytes events = record {
 
 pub gave_more : (events late : List Event) → OnlyGave late → GaveMore events late
 gave_more events late only = record {
-  fed = λ input. flat_map-append (bytes_to input) events late ∙ ap (λ (l : List ℕ). fed input events ++ l) (only.fed input)
+  fed = λ input. flat_map-append (bytes_to input) events late ∙ ap (λ (l : List ℕ). fed input events ++ l)
+      (only.fed input)
       ∙ append-nil (fed input events);
-  ended = λ input. list_any-append (ends input) events late ∙ ap (λ (b : Bool). has_ended input events || b) (only.ended input)
+  ended = λ input. list_any-append (ends input) events late ∙ ap (λ (b : Bool). has_ended input events || b)
+      (only.ended input)
       ∙ or_off (has_ended input events);
   gave = flat_map-append bytes_from events late;
 }

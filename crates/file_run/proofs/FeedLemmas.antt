@@ -1,5 +1,6 @@
 -- Feeding a machine with what was read.
-use Rattle.std.proofs.Common.{◌≡◌, ℕ, ◌+◌, ◌<◌, ◌≤◌, List, [], ◌∷◌, ◌++◌, length, take, drop, Option, Some, None, refl, ap, sym}
+use Rattle.std.proofs.Common.{◌≡◌, ℕ, ◌+◌, ◌<◌, ◌≤◌, List, [], ◌∷◌, ◌++◌, length, take, drop, Option, Some, None, refl}
+use Rattle.std.proofs.Common.{ap, sym}
 use Rattle.std.proofs.Common.{subst, ◌∙◌, arith, append_assoc}
 use Rattle.std.specs.Prelude.{IfSome, option_map, true, false}
 use Rattle.std.proofs.lemmas.Bool.{true≢false}
@@ -19,7 +20,8 @@ skipped count r = record r { taken = r.taken + count; waiting = drop count r.wai
 abbrev pub finished : Reading → Reading
 finished r = record r { ended = true }
 
-split_rest : (o : Option (List ℕ)) (n : ℕ) (xs : List ℕ) → option_map (λ l. xs ++ l) o ≡ option_map (λ rest. take n xs ++ rest)
+split_rest : (o : Option (List ℕ)) (n : ℕ) (xs : List ℕ) → option_map (λ l. xs ++ l) o ≡ option_map
+    (λ rest. take n xs ++ rest)
     (option_map (λ l. drop n xs ++ l) o)
 split_rest None n xs = refl
 split_rest (Some l) n xs =
@@ -30,9 +32,11 @@ rest_skip : (s : State) (r : Reading) (n : ℕ) → rest_of s r ≡ option_map (
     (rest_of s (skipped n r))
 rest_skip s r n = split_rest (left_of s r.handle) n r.waiting
 
-pub fed_by : {A : Type 0} (Becomes : A → List Event → A → Type 0) (old new : A) (before after : State) (was mid is : Reading)
+pub fed_by : {A : Type 0} (Becomes : A → List Event → A → Type 0) (old new : A) (before after : State)
+    (was mid is : Reading)
     (input count : ℕ) (bytes : List ℕ) → bytes ≡ mid.waiting → count ≤ length bytes
-    → TakesNone before after was mid → was.ended ≡ false → mid.handle ≡ was.handle → has_run_out after was.handle ≡ false
+    → TakesNone before after was mid → was.ended ≡ false → mid.handle ≡ was.handle
+    → has_run_out after was.handle ≡ false
     → is ≡ skipped count mid
     → ((start : A) (events : List Event) → Becomes start events old
     → Becomes start (events ++ Fed input (take count bytes) ∷ []) new) → Feeds Becomes old new before after was is input
@@ -58,13 +62,17 @@ at_end : (o : Option (List ℕ)) (xs : List ℕ) → xs ≡ [] → IfSome o (λ 
 at_end None xs e h = tt
 at_end (Some l) xs e h = ap (λ (ys : List ℕ). ys ++ l) e ∙ h
 
-pub ended_by : {A : Type 0} (Becomes : A → List Event → A → Type 0) (old new : A) (before after : State) (was mid is : Reading)
+pub ended_by : {A : Type 0} (Becomes : A → List Event → A → Type 0) (old new : A) (before after : State)
+    (was mid is : Reading)
     (input count : ℕ) (bytes : List ℕ) → bytes ≡ mid.waiting → count ≡ length mid.waiting
-    → TakesNone before after was mid → mid.handle ≡ was.handle → IsAtEnd after was.handle → is ≡ finished (skipped count mid)
-    → ((start : A) (events : List Event) → Becomes start events old → Becomes start (events ++ Ended input bytes ∷ []) new)
+    → TakesNone before after was mid → mid.handle ≡ was.handle → IsAtEnd after was.handle
+    → is ≡ finished (skipped count mid)
+    → ((start : A) (events : List Event) → Becomes start events old
+    → Becomes start (events ++ Ended input bytes ∷ []) new)
     → Feeds Becomes old new before after was is input
 ended_by Becomes old new before after was mid is input count bytes same all none reader end skip becomes =
-    let whole : take count mid.waiting ≡ bytes = ap (λ (n : ℕ). take n mid.waiting) all ∙ take-length mid.waiting ∙ sym same in
+    let whole : take count mid.waiting ≡ bytes = ap (λ (n : ℕ). take n mid.waiting) all ∙ take-length mid.waiting
+    ∙ sym same in
     let nothing : drop count mid.waiting ≡ [] = ap (λ (n : ℕ). drop n mid.waiting) all ∙ drop-length mid.waiting in
     record {
       event = Ended input bytes;
@@ -86,7 +94,8 @@ ended_by Becomes old new before after was mid is input count bytes same all none
       );
     }
 
-pub room_for : {A : Type 0} (Becomes : A → List Event → A → Type 0) (m : A) (input : ℕ) (before after : State) (was mid : Reading)
+pub room_for : {A : Type 0} (Becomes : A → List Event → A → Type 0) (m : A) (input : ℕ) (before after : State)
+    (was mid : Reading)
     (bytes : List ℕ) → bytes ≡ mid.waiting → TakesNone before after was mid → given_of mid < longest_file
     → IsReader Becomes m input was → HasRoom Becomes m input (length bytes)
 room_for Becomes m input before after was mid bytes same none small r = record {

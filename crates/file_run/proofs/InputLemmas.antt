@@ -1,5 +1,6 @@
 -- Bytes that wait, when more are read behind them and when some are taken.
-use Rattle.std.proofs.Common.{◌≡◌, ◌≢◌, ◌==◌, ℕ, Bool, false, ◌+◌, ◌-◌, ◌<◌, ◌≤◌, List, [], ◌∷◌, ◌++◌, length, take, drop, Option, Some, None, refl, ap}
+use Rattle.std.proofs.Common.{◌≡◌, ◌≢◌, ◌==◌, ℕ, Bool, false, ◌+◌, ◌-◌, ◌<◌, ◌≤◌, List, [], ◌∷◌, ◌++◌, length, take}
+use Rattle.std.proofs.Common.{drop, Option, Some, None, refl, ap}
 use Rattle.std.proofs.Common.{sym, ◌∙◌, arith, append_assoc}
 use Rattle.std.specs.Prelude.{IfSome, option_map, slice_index, slice_index_or, slice_set}
 use Rattle.std.proofs.lemmas.List.{drop-take, drop-drop, length-append, length-take-le, set-get_or, get_or-set_other}
@@ -9,7 +10,8 @@ use Rattle.ports.specs.Desk.{State, Held, Keeps, Reads, content, left_of, has_ru
 use Rattle.file_run.specs.Ahead.{ReadsAhead, IsAtEnd}
 
 -- what was taken from the front of a part
-pub skipped : {X : Type 0} (xs : List X) (start len count : ℕ) → count ≤ len → take (len - count) (drop (start + count) xs)
+pub skipped : {X : Type 0} (xs : List X) (start len count : ℕ) → count ≤ len
+    → take (len - count) (drop (start + count) xs)
     ≡ drop count (take len (drop start xs))
 skipped xs start len count h =
     let split : count + (len - count) ≡ len = omega arith in
@@ -43,13 +45,16 @@ joined None waiting piece = refl
 joined (Some l) waiting piece = ap Some (append_assoc waiting piece l)
 
 -- another handle is at its end only if it was
-other_end : (old new : State) (handle n : ℕ) (buffer : List ℕ) → Reads old new handle n buffer → (other : ℕ) → other ≢ handle
+other_end : (old new : State) (handle n : ℕ) (buffer : List ℕ) → Reads old new handle n buffer → (other : ℕ)
+    → other ≢ handle
     → has_run_out new other ≡ has_run_out old other
 other_end old new handle n buffer r other apart =
-    ap (λ (l : List Bool). slice_index_or l other false) r.ended ∙ get_or-set_other old.ended handle other (n == 0) false apart
+    ap (λ (l : List Bool). slice_index_or l other false) r.ended ∙ get_or-set_other old.ended handle
+    other (n == 0) false apart
 
 -- a read went on
-pub reads_on : (old new : State) (handle n : ℕ) (buffer waiting more : List ℕ) → Reads old new handle n buffer → n ≤ length buffer
+pub reads_on : (old new : State) (handle n : ℕ) (buffer waiting more : List ℕ) → Reads old new handle n buffer
+    → n ≤ length buffer
     → more ≡ waiting ++ take n buffer → ReadsAhead old new handle waiting more
 reads_on old new handle n buffer waiting more r inside is =
     let size : length more ≡ length waiting + n = ap length is ∙ length-append waiting (take n buffer)
@@ -61,7 +66,8 @@ reads_on old new handle n buffer waiting more r inside is =
       opened = r.opened ∙ ap (λ (k : ℕ). slice_set old.opened handle (slice_index old.opened handle + k)) by;
       created = r.created;
       grown = omega arith;
-      next = rw is (joined (left_of new handle) waiting (take n buffer) ∙ ap (option_map (λ l. waiting ++ l)) (sym r.next));
+      next = rw is (joined (left_of new handle) waiting (take n buffer)
+          ∙ ap (option_map (λ l. waiting ++ l)) (sym r.next));
       others = r.others;
       others_end = λ other apart. other_end old new handle n buffer r other apart;
     }
@@ -75,7 +81,8 @@ left_kept old new handle k =
 pub reads_not : (old new : State) (handle : ℕ) (waiting more : List ℕ) → handle < length old.opened → Keeps old new
     → more ≡ waiting → ReadsAhead old new handle waiting more
 reads_not old new handle waiting more came k is =
-    let none : slice_index old.opened handle + (length more - length waiting) ≡ slice_index old.opened handle = let size =
+    let none : slice_index old.opened handle + (length more - length waiting) ≡ slice_index old.opened
+    handle = let size =
     ap length is in omega arith in
     record {
       held = k.held;
@@ -92,17 +99,27 @@ no_rest : (piece l : List ℕ) → piece ++ l ≡ [] → l ≡ []
 no_rest [] l e = e
 no_rest (x ∷ piece) l e = cc
 
-end_after : (left now : Option (List ℕ)) (piece : List ℕ) → left ≡ option_map (λ l. piece ++ l) now → IfSome left (λ l. l ≡ [])
+end_after : (left now : Option (List ℕ)) (piece : List ℕ) → left ≡ option_map (λ l. piece ++ l) now
+    → IfSome left (λ l. l ≡ [])
     → IfSome now (λ l. l ≡ [])
 end_after left None piece e h = tt
 end_after left (Some l) piece e h = let all : piece ++ l ≡ [] = rw e at h in no_rest piece l all
 
 -- a read of no bytes shows the end of the file
-pub at_end : (old new : State) (handle n : ℕ) (buffer : List ℕ) → Reads old new handle n buffer → n ≡ 0 → IsAtEnd new handle
+pub at_end : (old new : State) (handle n : ℕ) (buffer : List ℕ) → Reads old new handle n buffer → n ≡ 0
+    → IsAtEnd new handle
 at_end old new handle n buffer r none =
     end_after (left_of old handle) (left_of new handle) (take n buffer) r.next
     (IfSome_then (left_of old handle) r.end (λ left both. both.0 none))
 
-pub reads_same : (s : State) (handle : ℕ) (waiting : List ℕ) → handle < length s.opened → ReadsAhead s s handle waiting waiting
+pub reads_same : (s : State) (handle : ℕ) (waiting : List ℕ) → handle < length s.opened
+    → ReadsAhead s s handle waiting waiting
 reads_same s handle waiting came =
-    reads_not s s handle waiting waiting came (record { held = refl; said = refl; opened = refl; ended = refl; created = refl }) refl
+    reads_not s s handle waiting waiting came (record {
+      held = refl;
+      said = refl;
+      opened = refl;
+      ended =
+          refl;
+      created = refl;
+    }) refl

@@ -3,7 +3,8 @@ use Rattle.std.proofs.Common.{◌≡◌, ℕ, Bool, true, List, ◌++◌, length
 use Rattle.file_run.specs.FileRun.{IsFed}
 
 -- the file was fed whole
-pub whole_file : (file : List ℕ) (place : ℕ) (bytes : List ℕ) (ended : Bool) → IsFed file place bytes ended → ended ≡ true
+pub whole_file : (file : List ℕ) (place : ℕ) (bytes : List ℕ) (ended : Bool) → IsFed file place bytes ended
+    → ended ≡ true
     → (bytes ≡ file) × (place ≡ length file)
 whole_file file place bytes ended f e =
     let none = f.end e in

@@ -1,10 +1,12 @@
 -- Opening the inputs of a run and beginning its output.
-use Rattle.std.proofs.Common.{◌≡◌, ℕ, zero, suc, ◌+◌, ◌<◌, ◌≤◌, Bool, true, false, List, [], ◌∷◌, ◌++◌, length, take, Option, Some, None}
+use Rattle.std.proofs.Common.{◌≡◌, ℕ, zero, suc, ◌+◌, ◌<◌, ◌≤◌, Bool, true, false, List, [], ◌∷◌, ◌++◌, length, take}
+use Rattle.std.proofs.Common.{Option, Some, None}
 use Rattle.std.proofs.Common.{refl, ap, sym, subst, ◌∙◌, inl, inr, arith, append_assoc, append-nil, length-append}
 use Rattle.std.specs.Prelude.{IsSome, slice_index_or, slice_set, option_map, option_and_then}
 use Rattle.std.specs.FinMap.{get}
 use Rattle.std.proofs.lemmas.Bool.{cases_eq}
-use Rattle.std.proofs.lemmas.List.{length-map, length-take-le, get_or-take, get_or-map, map-append, length_push, get_or_push}
+use Rattle.std.proofs.lemmas.List.{length-map, length-take-le, get_or-take, get_or-map, map-append, length_push}
+use Rattle.std.proofs.lemmas.List.{get_or_push}
 use Rattle.std.proofs.lemmas.List.{get_or_append_left, take_more, take_more_set}
 use Rattle.terms.proofs.OptionLemmas.{was_some}
 use Rattle.ports.specs.declared.counts.Counts.{Counts}
@@ -17,7 +19,8 @@ use Rattle.file_run.specs.DeskLaws.{CreatesEmpty}
 use Rattle.file_run.specs.Reading.{Reading, given_of, rest_of}
 use Rattle.file_run.specs.FileRun.{file_at, AreStarts, AreNamed, OpensInputs, FailsToCreateOutput, SameFiles}
 use Rattle.file_run.specs.FileRun.{OtherFiles}
-use Rattle.file_run.specs.Running.{Start, reading_from, no_reading, reading_at, places_of, HasOut, HoldsOut, Reached, IsRead}
+use Rattle.file_run.specs.Running.{Start, reading_from, no_reading, reading_at, places_of, HasOut, HoldsOut, Reached}
+use Rattle.file_run.specs.Running.{IsRead}
 use Rattle.file_run.specs.Running.{Runs}
 use Rattle.file_run.specs.Running.{HoldsIns, AreOpened, IsBegun}
 use Rattle.file_run.specs.Sink.{AreOthers, Begins, creates}
@@ -63,7 +66,8 @@ none_opened s = record {
 }
 
 -- below a list with one more, or at its end
-pushed : {X : Type 0} (P : ℕ → X → Type 0) (xs : List X) (x d : X) → ((i : ℕ) → i < length xs → P i (slice_index_or xs i d))
+pushed : {X : Type 0} (P : ℕ → X → Type 0) (xs : List X) (x d : X) → ((i : ℕ) → i < length xs
+    → P i (slice_index_or xs i d))
     → P (length xs) x → (i : ℕ) → i < length (xs ++ x ∷ []) → P i (slice_index_or (xs ++ x ∷ []) i d)
 pushed {X = X} P xs x d h last i lt =
     elim (cases_eq i (length xs)) [
@@ -94,13 +98,16 @@ ins_more old mid new h ins name handle size o t =
       held = held;
       files = t.files;
       names = pushed (λ i x. slice_index_or (t.is.names ++ name ∷ []) (length old.opened + i) [] ≡ x) ins name []
-          (λ i lt. get_or_append_left t.is.names (name ∷ []) [] (length old.opened + i) (omega (arith, lt, count)) ∙ t.names i lt)
+          (λ i lt. get_or_append_left t.is.names (name ∷ []) [] (length old.opened + i) (omega (arith, lt, count))
+          ∙ t.names i lt)
           (get_or_push t.is.names name [] (length old.opened + length ins) count);
       present = pushed (λ i x. IsSome (get h.files x)) ins name [] t.present there;
       left = pushed (λ i x. left_of new (length old.opened + i) ≡ Some (bytes_of h.files x)) ins name []
           (λ i lt. o.others (length old.opened + i) (omega (arith, lt, size)) ∙ t.left i lt)
-          (ap (left_of new) (let n = o.number in let e : length old.opened + length ins ≡ handle = omega (arith, n, size) in e)
-          ∙ o.left ∙ ap (option_and_then (λ h. get h.files name)) t.held ∙ found ∙ was_some (get h.files name) [] there);
+          (ap (left_of new) (let n = o.number in let e : length old.opened + length ins ≡ handle = omega
+          (arith, n, size) in e)
+          ∙ o.left ∙ ap (option_and_then (λ h. get h.files name)) t.held ∙ found
+          ∙ was_some (get h.files name) [] there);
     }
 
 fresh_more : (xs : List Bool) (i : ℕ) → slice_index_or (xs ++ false ∷ []) i false ≡ slice_index_or xs i false
@@ -112,7 +119,8 @@ fresh_more (x ∷ xs) (suc i) = fresh_more xs i
 -- a file that is opened leaves the others as far as they were read
 pub runs_on : (old new : State) (name : List ℕ) (handle other : ℕ) → Opens old new name handle → has_run_out new other
     ≡ has_run_out old other
-runs_on old new name handle other o = ap (λ (l : List Bool). slice_index_or l other false) o.ended ∙ fresh_more old.ended other
+runs_on old new name handle other o = ap (λ (l : List Bool). slice_index_or l other false) o.ended
+    ∙ fresh_more old.ended other
 
 pub one_opened : (old mid new : State) (ins : List (List ℕ)) (readings : List Reading) (name : List ℕ) (handle : ℕ)
     (reading : Reading) → Opens mid new name handle → SameCounts mid new → reading ≡ reading_from handle
@@ -124,7 +132,8 @@ one_opened old mid new ins readings name handle reading o calm is was =
     let given : given_of reading ≡ 0 = ap given_of is in
     let at : handle ≡ length old.opened + length readings = let n = o.number in omega (arith, n, size, all) in
     record {
-      opened = o.opened ∙ ap (λ (l : List ℕ). l ++ 0 ∷ []) was.opened ∙ append_assoc old.opened (places_of readings) (0 ∷ [])
+      opened = o.opened ∙ ap (λ (l : List ℕ). l ++ 0 ∷ []) was.opened ∙ append_assoc old.opened (places_of readings)
+          (0 ∷ [])
           ∙ ap (λ (n : ℕ). old.opened ++ (places_of readings ++ n ∷ [])) (sym given)
           ∙ ap (λ (l : List ℕ). old.opened ++ l) (sym (map-append given_of readings (reading ∷ [])));
       all = length_push readings reading ∙ ap (λ (n : ℕ). n + 1) all ∙ sym (length_push ins name);
@@ -203,7 +212,8 @@ opening_failed old mid new ins count readings k f within a = (
 -- The output could not be created.
 other_files : (old mid new : State) (out : List ℕ) (ins : List (List ℕ)) (readings : List Reading) (o : Option Held)
     → o ≡ old.held → SameButFor out mid.held new.held → AreOpened old mid ins readings → OtherFiles out o new.held
-other_files old mid new out ins readings None e s a = subst (λ (m : Option Held). SameButFor out m new.held) (a.untold (sym e)) s
+other_files old mid new out ins readings None e s a = subst (λ (m : Option Held). SameButFor out m new.held)
+    (a.untold (sym e)) s
 other_files old mid new out ins readings (Some h) e s a =
     let t = a.tells h (sym e) in
     let only : SameButFor out (Some t.is) new.held = subst (λ (m : Option Held). SameButFor out m new.held) t.held s in
@@ -220,7 +230,8 @@ creating_failed old mid new out ins readings f fault a = (
     all = length-map readings given_of ∙ a.all;
     starts = all_starts old mid _ readings a;
     names = all_named old mid new ins ins readings (λ h k told is.
-        let only : SameButFor out (Some k) new.held = subst (λ (m : Option Held). SameButFor out m new.held) is f.held in
+        let only : SameButFor out (Some k) new.held = subst (λ (m : Option Held). SameButFor out m new.held)
+        is f.held in
         (only.0, only.1, only.2)) (λ input lt. refl) a;
     files = other_files old mid new out ins readings old.held refl f.held a;
     created = f.created ∙ a.created;
@@ -236,11 +247,13 @@ held_first law b mid new h out same c t =
     record {
       is = k.is;
       held = k.held;
-      names = λ input lt. ap (λ (l : List (List ℕ)). slice_index_or l (length b.desk.opened + input) []) k.names ∙ t.names input lt;
+      names = λ input lt. ap (λ (l : List (List ℕ)). slice_index_or l (length b.desk.opened + input) []) k.names
+          ∙ t.names input lt;
       has = subst (λ (n : ℕ). HasOut b.sink n h k.is []) same k.has;
     }
 
-begins : CreatesEmpty → (b : Start) (mid new : State) (readings : List Reading) (out : OpenOutput) → Begins b.sink mid new out
+begins : CreatesEmpty → (b : Start) (mid new : State) (readings : List Reading) (out : OpenOutput)
+    → Begins b.sink mid new out
     → AreOpened b.desk mid b.ins readings → Reached b new readings []
 begins law b mid new readings out c a =
     let k = begins_at b.sink mid new out c in
@@ -262,7 +275,8 @@ first_read b mid new h readings out input apart c a held lt =
     let t = a.tells h held in
     let all = a.all in
     let begin = a.begin input (omega (arith, lt, all)) in
-    let handle : (reading_at readings input).handle ≡ length b.desk.opened + input = ap (λ (r : Reading). r.handle) begin in
+    let handle : (reading_at readings input).handle ≡ length b.desk.opened + input = ap (λ (r : Reading). r.handle)
+    begin in
     let name : slice_index_or t.is.names (reading_at readings input).handle [] ≡ slice_index_or b.ins input [] =
     ap (λ (k : ℕ). slice_index_or t.is.names k []) handle ∙ t.names input lt in
     let left : left_of new (reading_at readings input).handle ≡ Some (file_at h b.ins input) =
@@ -277,8 +291,10 @@ first_read b mid new h readings out input apart c a held lt =
     }
 
 -- A run begins.
-pub runs_first : CreatesEmpty → (b : Start) (mid new : State) (readings : List Reading) (out : OpenOutput) (reach : ℕ → ℕ)
-    → AreOthers b.sink b.ins → AreOpened b.desk mid b.ins readings → IsBegun mid new b.sink out → Runs b new readings reach []
+pub runs_first : CreatesEmpty → (b : Start) (mid new : State) (readings : List Reading) (out : OpenOutput) (reach : ℕ
+    → ℕ)
+    → AreOthers b.sink b.ins → AreOpened b.desk mid b.ins readings → IsBegun mid new b.sink out
+    → Runs b new readings reach []
 runs_first law b mid new readings out reach apart a c = record {
   apart = apart;
   reached = begins law b mid new readings out c.begins a;
@@ -289,7 +305,8 @@ runs_first law b mid new readings out reach apart a c = record {
   within = λ input lt. let n = ap given_of (a.begin input lt) in omega (arith, n);
   whole = λ input lt on. ap (λ (r : Reading). r.waiting) (a.begin input lt);
   goes_on = λ input lt going. ap (λ (r : Reading). has_run_out new r.handle) (a.begin input lt)
-      ∙ ap (λ (l : List Bool). slice_index_or l (length b.desk.opened + input) false) (begins_at b.sink mid new out c.begins).ended
+      ∙ ap (λ (l : List Bool). slice_index_or l (length b.desk.opened + input) false)
+      (begins_at b.sink mid new out c.begins).ended
       ∙ a.fresh input lt;
   relates = λ h held. record {
     present = (a.tells h held).present;

@@ -4,14 +4,17 @@ use Rattle.std.proofs.Common.{refl, ap, sym, subst, ◌∙◌, inl, inr, arith, 
 use Rattle.std.specs.Prelude.{IsSome, slice_index, slice_index_or, slice_set, option_map}
 use Rattle.std.specs.FinMap.{get}
 use Rattle.std.proofs.lemmas.Bool.{cases_eq}
-use Rattle.std.proofs.lemmas.List.{length-set, length-map, map-set, get_or-set_same, get_or-set_other, get_or-append-add}
+use Rattle.std.proofs.lemmas.List.{length-set, length-map, map-set, get_or-set_same, get_or-set_other}
+use Rattle.std.proofs.lemmas.List.{get_or-append-add}
 use Rattle.std.proofs.lemmas.List.{set-append_right, get_or-map}
 use Rattle.ports.specs.Desk.{State, Held, SameCounts, left_of, has_run_out}
 use Rattle.file_run.specs.Reading.{Reading, given_of, longest_file, ReadsOn}
 use Rattle.file_run.specs.Events.{Event, fed, has_ended, gave, OnlyGave}
-use Rattle.file_run.specs.FileRun.{file_at, AreNamed, OtherFiles, SameFiles, Passes, IsFed, AreFed, Stands, HoldsAll, AllShort}
+use Rattle.file_run.specs.FileRun.{file_at, AreNamed, OtherFiles, SameFiles, Passes, IsFed, AreFed, Stands, HoldsAll}
+use Rattle.file_run.specs.FileRun.{AllShort}
 use Rattle.file_run.specs.FileRun.{StopsWriting}
-use Rattle.file_run.specs.Running.{Start, place_of, no_reading, reading_at, places_of, HasOut, SaysOut, HoldsOut, Reached, IsRead}
+use Rattle.file_run.specs.Running.{Start, place_of, no_reading, reading_at, places_of, HasOut, SaysOut, HoldsOut}
+use Rattle.file_run.specs.Running.{Reached, IsRead}
 use Rattle.file_run.specs.Running.{Relates, Runs, Drains, DrainsFront, IsWhole}
 use Rattle.file_run.specs.Sink.{Sink, Into, Aloud, creates, AreOthers, Puts}
 use Rattle.file_run.specs.declared.machine.Step.{Step}
@@ -20,7 +23,8 @@ use Rattle.file_run.proofs.EventLemmas.{gave_more}
 use Rattle.file_run.proofs.SinkLemmas.{some_is, said_kept, said_on, puts_stay, holds_on, left_on}
 
 -- the place of the reader that read on
-pub moved : (opened : List ℕ) (readings : List Reading) (input : ℕ) (is : Reading) (handle : ℕ) → handle ≡ length opened + input
+pub moved : (opened : List ℕ) (readings : List Reading) (input : ℕ) (is : Reading) (handle : ℕ)
+    → handle ≡ length opened + input
     → input < length readings → given_of (reading_at readings input) ≤ given_of is
     → slice_set (opened ++ places_of readings) handle (slice_index (opened ++ places_of readings) handle
     + (given_of is - given_of (reading_at readings input))) ≡ opened ++ places_of (slice_set readings input is)
@@ -31,7 +35,8 @@ moved opened readings input is handle e lt le =
     let sum : slice_index (opened ++ places_of readings) handle + (given_of is - given_of (reading_at readings input))
     ≡ given_of is = omega (arith, place, le) in
     let at : handle - length opened ≡ input = omega (arith, e) in
-    ap (slice_set (opened ++ places_of readings) handle) sum ∙ set-append_right opened (places_of readings) (length opened) handle
+    ap (slice_set (opened ++ places_of readings) handle) sum ∙ set-append_right opened (places_of readings)
+    (length opened) handle
     (given_of is) refl (omega (arith, e))
     ∙ ap (λ (k : ℕ). opened ++ slice_set (places_of readings) k (given_of is)) at
     ∙ ap (λ (l : List ℕ). opened ++ l) (sym (map-set given_of readings input is))
@@ -45,9 +50,11 @@ reading_other : (readings : List Reading) (input other : ℕ) (is : Reading) →
 reading_other readings input other is differ = get_or-set_other readings input other is no_reading differ
 
 -- what holds of each reader, if one read on
-pub each_reader : (P : ℕ → Reading → Type 0) (readings : List Reading) (input : ℕ) (is : Reading) → input < length readings
+pub each_reader : (P : ℕ → Reading → Type 0) (readings : List Reading) (input : ℕ) (is : Reading)
+    → input < length readings
     → P input is → ((other : ℕ) → other < length readings → other ≢ input → P other (reading_at readings other))
-    → (other : ℕ) → other < length (slice_set readings input is) → P other (reading_at (slice_set readings input is) other)
+    → (other : ℕ) → other < length (slice_set readings input is)
+    → P other (reading_at (slice_set readings input is) other)
 each_reader P readings input is lt here others other inside =
     let was : other < length readings = let e = length-set readings input is in omega (arith, e, inside) in
     elim (cases_eq other input) [
@@ -69,9 +76,11 @@ pub read_on : (b : Start) (old new : State) (readings : List Reading) (input : �
 read_on b old new readings input is bytes lt g r = record {
   opened =
       r.opened
-      ∙ rw g.opened (moved b.desk.opened readings input is (reading_at readings input).handle (g.handles input lt) lt r.later);
+      ∙ rw g.opened (moved b.desk.opened readings input is (reading_at readings input).handle (g.handles input lt)
+      lt r.later);
   all = length-set readings input is ∙ g.all;
-  handles = each_reader (λ k x. x.handle ≡ length b.desk.opened + k) readings input is lt (r.handle ∙ g.handles input lt)
+  handles = each_reader (λ k x. x.handle ≡ length b.desk.opened + k) readings input is lt (r.handle
+      ∙ g.handles input lt)
       (λ other inside differ. g.handles other inside);
   created = r.created ∙ g.created;
   said = said_kept b.sink b.desk.said old.said new.said bytes g.said r.said;
@@ -80,7 +89,8 @@ read_on b old new readings input is bytes lt g r = record {
 }
 
 -- Another reader has left what it had.
-pub other_left : (b : Start) (old new : State) (readings : List Reading) (input other : ℕ) (is : Reading) (bytes : List ℕ)
+pub other_left : (b : Start) (old new : State) (readings : List Reading) (input other : ℕ) (is : Reading)
+    (bytes : List ℕ)
     → input < length readings → other < length readings → other ≢ input
     → Reached b old readings bytes → ReadsOn old new (reading_at readings input) is
     → left_of new (reading_at readings other).handle ≡ left_of old (reading_at readings other).handle
@@ -89,7 +99,8 @@ other_left b old new readings input other is bytes lt inside differ g r =
     (λ e. differ (let a = g.handles input lt in let o = g.handles other inside in omega (arith, a, o, e)))
 
 -- and is at its end only if it was
-pub other_end : (b : Start) (old new : State) (readings : List Reading) (input other : ℕ) (is : Reading) (bytes : List ℕ)
+pub other_end : (b : Start) (old new : State) (readings : List Reading) (input other : ℕ) (is : Reading)
+    (bytes : List ℕ)
     → input < length readings → other < length readings → other ≢ input
     → Reached b old readings bytes → ReadsOn old new (reading_at readings input) is
     → has_run_out new (reading_at readings other).handle ≡ has_run_out old (reading_at readings other).handle
@@ -105,7 +116,8 @@ held_on b h old new bytes front t p =
     record {
       is = k.is;
       held = k.held;
-      names = λ input lt. ap (λ (l : List (List ℕ)). slice_index_or l (length b.desk.opened + input) []) k.names ∙ t.names input lt;
+      names = λ input lt. ap (λ (l : List (List ℕ)). slice_index_or l (length b.desk.opened + input) []) k.names
+          ∙ t.names input lt;
       has = k.has;
     }
 
@@ -126,27 +138,32 @@ put_on b old new readings bytes front g p =
 -- Each reader has left what it had.
 none_left : (b : Start) (h : Held) (old new : State) (readings : List Reading) (bytes front : List ℕ) (input : ℕ)
     → AreOthers b.sink b.ins → b.desk.held ≡ Some h → input < length b.ins → Reached b old readings bytes
-    → Puts (place_of b) old new front → left_of new (reading_at readings input).handle ≡ left_of old (reading_at readings input).handle
+    → Puts (place_of b) old new front → left_of new (reading_at readings input).handle ≡ left_of old
+    (reading_at readings input).handle
 none_left b h old new readings bytes front input s told lt g p =
     let t = g.tells h told in
     let all = g.all in
     let name : slice_index_or t.is.names (reading_at readings input).handle [] ≡ slice_index_or b.ins input [] =
     ap (λ (k : ℕ). slice_index_or t.is.names k []) (g.handles input (omega (arith, lt, all))) ∙ t.names input lt in
-    left_on b.sink b.desk.created h t.is old new bytes front _ (reading_at readings input).handle t.held t.has name (s input lt) p
+    left_on b.sink b.desk.created h t.is old new bytes front _ (reading_at readings input).handle t.held
+    t.has name (s input lt) p
 
-other_files : (name : List ℕ) (created : ℕ) (new : State) (bytes : List ℕ) (o : Option Held) → (o ≡ None → new.held ≡ None)
+other_files : (name : List ℕ) (created : ℕ) (new : State) (bytes : List ℕ) (o : Option Held)
+    → (o ≡ None → new.held ≡ None)
     → ((h : Held) → o ≡ Some h → (k : Held) × (new.held ≡ Some k) × HasOut (Into name) created h k bytes)
     → OtherFiles name o new.held
 other_files name created new bytes None untold tells = untold refl
 other_files name created new bytes (Some h) untold tells = let t = tells h refl in (t.0, t.1, t.2.2)
 
 same_files : (created : ℕ) (new : State) (bytes : List ℕ) (o : Option Held) → (o ≡ None → new.held ≡ None)
-    → ((h : Held) → o ≡ Some h → (k : Held) × (new.held ≡ Some k) × HasOut Aloud created h k bytes) → SameFiles o new.held
+    → ((h : Held) → o ≡ Some h → (k : Held) × (new.held ≡ Some k) × HasOut Aloud created h k bytes)
+    → SameFiles o new.held
 same_files created new bytes None untold tells = untold refl
 same_files created new bytes (Some h) untold tells = tells h refl
 
 -- what went out of a run
-passes_so : (sink : Sink) (old new : State) (ins : List (List ℕ)) (places bytes : List ℕ) → new.opened ≡ old.opened ++ places
+passes_so : (sink : Sink) (old new : State) (ins : List (List ℕ)) (places bytes : List ℕ)
+    → new.opened ≡ old.opened ++ places
     → length places ≡ length ins → AreNamed old new ins places → new.created ≡ old.created + creates sink
     → SaysOut sink old.said new.said bytes → (old.held ≡ None → new.held ≡ None)
     → ((h : Held) → old.held ≡ Some h → (k : Held) × (new.held ≡ Some k) × HasOut sink old.created h k bytes)
@@ -158,7 +175,8 @@ passes_so (Into name) old new ins places bytes opened all names created said unt
   files = other_files name old.created new bytes old.held untold tells;
   created = created;
   said = said;
-  holds = some_is old.held (λ h. (k : Held) × (new.held ≡ Some k) × ((is : List ℕ) × (get k.files name ≡ Some is) × (is ≡ bytes)))
+  holds = some_is old.held (λ h. (k : Held) × (new.held ≡ Some k) × ((is : List ℕ) × (get k.files name ≡ Some is)
+      × (is ≡ bytes)))
       (λ h told. let t = tells h told in (t.0, t.1, (bytes, t.2.1, refl)));
 }
 passes_so Aloud old new ins places bytes opened all names created said untold tells = record {
@@ -228,15 +246,18 @@ stands_by b now readings bytes reach events Came Holds g holds came short taken 
   holds = holds;
   within = λ input lt. let inside : input < length readings = omega (arith, lt, g.all) in let p =
       place_at readings input inside in let w = within input inside in omega (arith, p, w);
-  present = some_is b.desk.held (λ h. (input : ℕ) → input < length b.ins → IsSome (get h.files (slice_index_or b.ins input [])))
+  present = some_is b.desk.held (λ h. (input : ℕ) → input < length b.ins
+      → IsSome (get h.files (slice_index_or b.ins input [])))
       (λ h told. (relates h told).present);
-  inputs = some_is b.desk.held (λ h. AreFed (length b.ins) (file_at h b.ins) (places_of readings) events) (λ h told input lt.
+  inputs = some_is b.desk.held (λ h. AreFed (length b.ins) (file_at h b.ins) (places_of readings) events)
+      (λ h told input lt.
       let inside : input < length readings = omega (arith, lt, g.all) in
       is_fed (file_at h b.ins input) (reading_at readings input).waiting (fed input events)
       (left_of now (reading_at readings input).handle) (has_ended input events) (slice_index (places_of readings) input)
       (let p = place_at readings input inside in let t = taken input inside in omega (arith, p, t))
       ((relates h told).reads input lt));
-  short = λ input lt. let inside : input < length readings = omega (arith, lt, g.all) in let p = place_at readings input inside in
+  short = λ input lt. let inside : input < length readings = omega (arith, lt, g.all) in let p = place_at
+      readings input inside in
       let w = short input inside in omega (arith, p, w);
   taken = λ input lt.
       let inside : input < length readings = omega (arith, lt, g.all) in
@@ -274,7 +295,8 @@ all_short readings short input lt =
     let inside : input < length readings = let n = length-map readings given_of in omega (arith, lt, n) in
     let p = place_at readings input inside in let s = short input inside in omega (arith, p, s)
 
-relates_on : (b : Start) (h : Held) (old new : State) (readings : List Reading) (reach : ℕ → ℕ) (events late : List Event)
+relates_on : (b : Start) (h : Held) (old new : State) (readings : List Reading) (reach : ℕ
+    → ℕ) (events late : List Event)
     (front : List ℕ) → Runs b old readings reach events → OnlyGave late → Puts (place_of b) old new front
     → b.desk.held ≡ Some h → Relates b h new readings (events ++ late)
 relates_on b h old new readings reach events late front r o p told =
@@ -290,7 +312,8 @@ relates_on b h old new readings reach events late front r o p told =
     }
 
 pub runs_drained : {A : Type 0} (Becomes : A → List Event → A → Type 0) (m n : A) (b : Start) (old new : State)
-    (readings : List Reading) (reach later : ℕ → ℕ) (events : List Event) → Runs b old readings reach events → SameCounts old new
+    (readings : List Reading) (reach later : ℕ → ℕ) (events : List Event) → Runs b old readings reach events
+    → SameCounts old new
     → ((input : ℕ) → reach input ≤ later input) → (d : Drains Becomes (place_of b) m n old new [])
     → Runs b new readings later (events ++ d.late)
 runs_drained Becomes m n b old new readings reach later events r calm rises d =
@@ -313,7 +336,8 @@ runs_drained Becomes m n b old new readings reach later events r calm rises d =
     }
 
 -- What a machine gave could not go out.
-pub stops_drained : {A : Type 0} (Becomes : A → List Event → A → Type 0) (start m n : A) (reach : A → ℕ → ℕ) (next : A → Step)
+pub stops_drained : {A : Type 0} (Becomes : A → List Event → A → Type 0) (start m n : A) (reach : A → ℕ
+    → ℕ) (next : A → Step)
     (b : Start) (old new : State) (readings : List Reading) (events : List Event) → Runs b old readings (reach m) events
     → Becomes start events m → next m ≡ Give → DrainsFront Becomes (place_of b) m n old new
     → StopsWriting b.desk new b.sink b.ins reach next (Becomes start) n

@@ -3,9 +3,9 @@ use Rattle.std.proofs.Common.{◌≡◌, ◌≢◌, ℕ, List, [], ◌∷◌, �
 use Rattle.std.specs.Prelude.{option_map}
 use Rattle.std.specs.List.{concat}
 use Rattle.std.proofs.lemmas.List.Elements.{All-nil, All-append, All-cons}
+use Rattle.std.proofs.lemmas.List.Folds.{concat-append}
 use Rattle.terms.proofs.OptionLemmas.{append-none, append_twice}
 use Rattle.ports.specs.Desk.{State, Keeps, Says}
-use Rattle.ports.proofs.TextLemmas.{concat-append}
 use Rattle.file_run.specs.Saying.{Grows, SaysBytes, SaysPage}
 
 -- ---- what standard output grew by
@@ -77,8 +77,3 @@ says_one old new text some s = record {
 pub says_page : (old new : State) (page : List ℕ) → SaysPage old new page → SaysBytes old new page
 says_page old new [] k = says_kept old old new [] (says_none old) k
 says_page old new (byte ∷ bytes) s = says_one old new (byte ∷ bytes) (λ e. cc) s
-
--- by one call if something is on it
-pub page_says : (old new : State) (page : List ℕ) → page ≢ [] → SaysPage old new page → Says old new page
-page_says old new [] some k = absurd (some refl)
-page_says old new (byte ∷ bytes) some s = s

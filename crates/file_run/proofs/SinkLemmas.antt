@@ -1,5 +1,6 @@
 -- What goes into a file and what is said, alike.
-use Rattle.std.proofs.Common.{◌≡◌, ◌≢◌, ℕ, ◌+◌, true, false, List, [], ◌++◌, Option, Some, None, is_some, refl, ap, sym, subst, ◌∙◌}
+use Rattle.std.proofs.Common.{◌≡◌, ◌≢◌, ℕ, ◌+◌, true, false, List, [], ◌++◌, Option, Some, None, is_some, refl, ap, sym}
+use Rattle.std.proofs.Common.{subst, ◌∙◌}
 use Rattle.std.proofs.Common.{arith}
 use Rattle.std.specs.Prelude.{IfSome, IsSome, slice_index_or, option_map, unwrap_or}
 use Rattle.std.specs.FinMap.{get}
@@ -65,7 +66,8 @@ said_none (Into name) a b e = e
 said_none Aloud a b e = grows_same a b e
 
 pub said_on : (sink : Sink) (created : ℕ) (a : Option (List (List ℕ))) (old new : State) (bytes front : List ℕ)
-    → SaysOut sink a old.said bytes → Puts (out_of sink created) old new front → SaysOut sink a new.said (bytes ++ front)
+    → SaysOut sink a old.said bytes → Puts (out_of sink created) old new front
+    → SaysOut sink a new.said (bytes ++ front)
 said_on (Into name) created a old new bytes front s p = p.said ∙ s
 said_on Aloud created a old new bytes front s p = grows_then a old.said new.said bytes front s p.grew
 
@@ -77,7 +79,8 @@ pub record HoldsOn (sink : Sink) (created : ℕ) (h was : Held) (new : State) (b
   pub names : is.names ≡ was.names
   pub has : HasOut sink created h is bytes
 
-written_at : (s : State) (k : Held) (out : ℕ) → s.held ≡ Some k → written_of s out ≡ Some (bytes_of k.files (out_name k out))
+written_at : (s : State) (k : Held) (out : ℕ) → s.held ≡ Some k
+    → written_of s out ≡ Some (bytes_of k.files (out_name k out))
 written_at s k out e = ap (option_map (λ h. bytes_of h.files (out_name h out))) e
 
 -- what is there
@@ -87,7 +90,8 @@ there_is (Some x) bytes some e = ap Some e
 
 -- what is held after bytes went out
 pub holds_on : (sink : Sink) (created : ℕ) (h was : Held) (old new : State) (bytes front : List ℕ) → old.held ≡ Some was
-    → HasOut sink created h was bytes → Puts (out_of sink created) old new front → HoldsOn sink created h was new (bytes ++ front)
+    → HasOut sink created h was bytes → Puts (out_of sink created) old new front
+    → HoldsOn sink created h was new (bytes ++ front)
 holds_on (Into name) out h was old new bytes front held has a =
     let only : OnlyOut out (Some was) new.held = subst (λ (o : Option Held). OnlyOut out o new.held) held a.held in
     let k : Held = only.0 in
@@ -95,7 +99,8 @@ holds_on (Into name) out h was old new bytes front held has a =
     let before : bytes_of was.files (out_name was out) ≡ bytes = ap (bytes_of was.files) has.0
     ∙ ap (λ (o : Option (List ℕ)). unwrap_or o []) has.1 in
     let now : Some (bytes_of k.files (out_name k out)) ≡ Some (bytes_of was.files (out_name was out) ++ front) =
-    sym (written_at new k out only.1) ∙ a.behind ∙ ap (option_map (λ written. written ++ front)) (written_at old was out held) in
+    sym (written_at new k out only.1) ∙ a.behind ∙ ap (option_map (λ written. written ++ front))
+    (written_at old was out held) in
     let is_bytes : bytes_of k.files (out_name k out) ≡ bytes_of was.files (out_name was out) ++ front = cc in
     let all : bytes_of k.files name ≡ bytes ++ front = ap (bytes_of k.files) (sym named) ∙ is_bytes
     ∙ ap (λ (l : List ℕ). l ++ front) before in
@@ -119,7 +124,8 @@ holds_on Aloud created h was old new bytes front held has s =
 
 -- A handle of another file has left what it had.
 pub left_on : (sink : Sink) (created : ℕ) (h was : Held) (old new : State) (bytes front name : List ℕ) (handle : ℕ)
-    → old.held ≡ Some was → HasOut sink created h was bytes → slice_index_or was.names handle [] ≡ name → IsOther sink name
+    → old.held ≡ Some was → HasOut sink created h was bytes → slice_index_or was.names handle [] ≡ name
+    → IsOther sink name
     → Puts (out_of sink created) old new front → left_of new handle ≡ left_of old handle
 left_on (Into file) out h was old new bytes front name handle held has named apart a =
     a.others handle (subst (λ (o : Option Held). IfSome o (λ h. IsApart o handle (out_name h out))) (sym held)
@@ -171,9 +177,11 @@ holds_first law (Into name) h was old new out held same (handle, c, is) =
 holds_first law Aloud h was old new out held same (stays, is) =
     record { is = was; held = ap (λ (s : State). s.held) stays ∙ held; names = refl; has = same }
 
-pub left_first : (sink : Sink) (was : Held) (old new : State) (out : OpenOutput) (name : List ℕ) (handle : ℕ) → old.held ≡ Some was
+pub left_first : (sink : Sink) (was : Held) (old new : State) (out : OpenOutput) (name : List ℕ) (handle : ℕ)
+    → old.held ≡ Some was
     → slice_index_or was.names handle [] ≡ name → IsOther sink name → Begins sink old new out
     → left_of new handle ≡ left_of old handle
 left_first (Into file) was old new out name handle held named apart (made, c, is) =
-    c.others handle (some_at old.held was (λ h. slice_index_or h.names handle [] ≢ file) held (λ e. apart (sym named ∙ e)))
+    c.others handle (some_at old.held was (λ h. slice_index_or h.names handle [] ≢ file) held
+    (λ e. apart (sym named ∙ e)))
 left_first Aloud was old new out name handle held named apart (stays, is) = ap (λ (s : State). left_of s handle) stays

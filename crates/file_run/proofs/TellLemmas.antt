@@ -1,5 +1,6 @@
 -- Saying what a machine gives, step by step.
-use Rattle.std.proofs.Common.{◌≡◌, ◌≢◌, ℕ, Bool, ◌+◌, ◌-◌, ◌<◌, ◌≤◌, true, false, List, [], ◌∷◌, ◌++◌, length, Option, Some, None, refl, ap}
+use Rattle.std.proofs.Common.{◌≡◌, ◌≢◌, ℕ, Bool, ◌+◌, ◌-◌, ◌<◌, ◌≤◌, true, false, List, [], ◌∷◌, ◌++◌, length, Option}
+use Rattle.std.proofs.Common.{Some, None, refl, ap}
 use Rattle.std.proofs.Common.{sym, subst, ◌∙◌, inl, inr, append_assoc, append-nil, arith}
 use Rattle.std.specs.Prelude.{◌⊎◌, IsSome, option_map, option_and_then, slice_set, slice_index, slice_index_or}
 use Rattle.std.specs.FinMap.{get}
@@ -32,7 +33,8 @@ read_further start was is r s on at opened =
     ∙ moved start.opened (r ∷ []) 0 s r.handle (omega (arith, at)) (omega arith) on.later
 
 -- what a reader has left depends on what the desk holds and on the places of its handles
-pub rest_kept : (old new : State) (r : Reading) → new.held ≡ old.held → new.opened ≡ old.opened → rest_of new r ≡ rest_of old r
+pub rest_kept : (old new : State) (r : Reading) → new.held ≡ old.held → new.opened ≡ old.opened
+    → rest_of new r ≡ rest_of old r
 rest_kept old new r held opened = rw (held, opened) refl
 
 -- nothing waits
@@ -40,7 +42,8 @@ pub none_waits : (said : List ℕ) (events : List Event) → MayWait said [] eve
 none_waits said events = record { few = omega arith; since = inl refl }
 
 -- the machine was fed since, and gave nothing
-fed_since : (said : List ℕ) (events : List Event) (e : Event) → ((after : List Event) → gave (after ++ e ∷ []) ≡ gave after)
+fed_since : (said : List ℕ) (events : List Event) (e : Event)
+    → ((after : List Event) → gave (after ++ e ∷ []) ≡ gave after)
     → HadRoom said events → HadRoom said (events ++ e ∷ [])
 fed_since said events e none h = record {
   before = h.before;
@@ -64,7 +67,8 @@ still_waits said unsaid events e none w = record {
 
 -- a piece went onto the page, for which there was room, and the machine gave then or nothing was said
 grown : {A : Type 0} (Becomes : A → List Event → A → Type 0) (next : A → Step) (begin old new : A) (start now : State)
-    (name : List ℕ) (r : Reading) (waiting left : List ℕ) → Gathers Becomes old new waiting left → length waiting + PIECE ≤ PAGE
+    (name : List ℕ) (r : Reading) (waiting left : List ℕ) → Gathers Becomes old new waiting left
+    → length waiting + PIECE ≤ PAGE
     → length left ≤ PAGE → (t : Telling (Becomes begin) next start now name old r waiting)
     → (t.early ≡ []) ⊎ (next t.mid ≡ Give) → Telling (Becomes begin) next start now name new r left
 grown Becomes next begin old new start now name r waiting left g room few t going =
@@ -108,7 +112,8 @@ grown Becomes next begin old new start now name r waiting left g room few t goin
 
 -- If nothing waits, all that the machine gave so far is said.
 unfoldable caught_up : {A : Type 0} (Came : List Event → A → Type 0) (next : A → Step) (machine : A) (start now : State)
-    (name : List ℕ) (r : Reading) → Telling Came next start now name machine r [] → Telling Came next start now name machine r []
+    (name : List ℕ) (r : Reading) → Telling Came next start now name machine r []
+    → Telling Came next start now name machine r []
 caught_up Came next machine start now name r t = record {
   events = t.events;
   came = t.came;
@@ -137,8 +142,10 @@ still_going : {A : Type 0} (next : A → Step) (mid : A) (early : List Event) (x
 still_going next mid early x xs (inl none) = absurd (let e : x ∷ xs ≡ [] = none in cc)
 still_going next mid early x xs (inr going) = going
 
-pub page_grown : {A : Type 0} (Becomes : A → List Event → A → Type 0) (next : A → Step) (begin old new : A) (start now : State)
-    (name : List ℕ) (r : Reading) (waiting left : List ℕ) → Gathers Becomes old new waiting left → length waiting + PIECE ≤ PAGE
+pub page_grown : {A : Type 0} (Becomes : A → List Event → A → Type 0) (next : A → Step) (begin old new : A)
+    (start now : State)
+    (name : List ℕ) (r : Reading) (waiting left : List ℕ) → Gathers Becomes old new waiting left
+    → length waiting + PIECE ≤ PAGE
     → length left ≤ PAGE → next old ≡ Give → Telling (Becomes begin) next start now name old r waiting
     → Telling (Becomes begin) next start now name new r left
 unfolding caught_up
@@ -154,7 +161,8 @@ some_page waiting full none = let e = ap length none in omega (arith, full, e)
 
 -- All that waited was said, since there was no room behind it.
 all_said : {A : Type 0} (Came : List Event → A → Type 0) (next : A → Step) (machine : A) (start was is : State)
-    (name : List ℕ) (r : Reading) (waiting : List ℕ) → waiting ≢ [] → Says was is waiting → PAGE < length waiting + PIECE
+    (name : List ℕ) (r : Reading) (waiting : List ℕ) → waiting ≢ [] → Says was is waiting
+    → PAGE < length waiting + PIECE
     → Telling Came next start was name machine r waiting → Telling Came next start is name machine r []
 all_said Came next machine start was is name r waiting some says full t = record {
   events = t.events;
@@ -181,7 +189,8 @@ all_said Came next machine start was is name r waiting some says full t = record
 }
 
 -- Nothing but counts changed.
-unfoldable pub telling_kept : {A : Type 0} (Came : List Event → A → Type 0) (next : A → Step) (machine : A) (start was is : State)
+unfoldable pub telling_kept : {A : Type 0} (Came : List Event → A → Type 0) (next : A → Step) (machine : A)
+    (start was is : State)
     (name : List ℕ) (r : Reading) (page : List ℕ) → Keeps was is
     → Telling Came next start was name machine r page → Telling Came next start is name machine r page
 telling_kept Came next machine start was is name r page keeps t = record {
@@ -244,13 +253,15 @@ telling_fed Becomes next begin old new start was is name r s input page zero on 
       ended = ended_here f.event 0 f.count _ _ _ _ t.events taken f.marked t.ended;
       reads = λ h told. read_here f.event _ 0 f.count _ _ t.events taken (t.reads h told);
       first = t.first;
-      waits = still_waits (gave t.early) page t.events f.event (λ after. gives_none f.event 0 f.count _ _ after taken) t.waits;
+      waits = still_waits (gave t.early) page t.events f.event (λ after. gives_none f.event 0 f.count _ _ after taken)
+          t.waits;
       pages = t.pages;
     }
 
 -- The file was read on, and the machine was not fed.
 pub telling_read : {A : Type 0} (Came : List Event → A → Type 0) (next : A → Step) (machine : A) (start was is : State)
-    (name : List ℕ) (r s : Reading) (page : List ℕ) → ReadsOn was is r s → TakesNone was is r s → has_run_out is r.handle ≡ false
+    (name : List ℕ) (r s : Reading) (page : List ℕ) → ReadsOn was is r s → TakesNone was is r s
+    → has_run_out is r.handle ≡ false
     → Telling Came next start was name machine r page → Telling Came next start is name machine s page
 telling_read Came next machine start was is name r s page on none going t = record {
   events = t.events;
@@ -281,7 +292,8 @@ same_left (Some left) = refl
 
 -- A file was opened for a reader.
 pub telling_first : {A : Type 0} (Came : List Event → A → Type 0) (next : A → Step) (machine : A) (old new : State)
-    (name : List ℕ) (handle : ℕ) (r : Reading) (page : List ℕ) → Opens old new name handle → r ≡ reading_from handle → page ≡ []
+    (name : List ℕ) (handle : ℕ) (r : Reading) (page : List ℕ) → Opens old new name handle → r ≡ reading_from handle
+    → page ≡ []
     → Came [] machine
     → Telling Came next old new name machine r page
 telling_first Came next machine old new name handle r page o is none came = record {
@@ -316,7 +328,8 @@ telling_first Came next machine old new name handle r page o is none came = reco
 }
 
 -- what a run has told
-unfoldable pub tells_of : {A : Type 0} (Came : List Event → A → Type 0) (next : A → Step) (machine : A) (old new : State)
+unfoldable pub tells_of : {A : Type 0} (Came : List Event → A → Type 0) (next : A → Step) (machine : A)
+    (old new : State)
     (name : List ℕ) (r : Reading) (unsaid : List ℕ) → Telling Came next old new name machine r unsaid
     → Tells Came next old new name machine (given_of r) unsaid
 tells_of Came next machine old new name r unsaid t = record {
@@ -329,16 +342,20 @@ tells_of Came next machine old new name r unsaid t = record {
   going = t.going;
   said = t.said;
   opened = record { present = t.present; held = t.held; opened = t.opened; created = t.created };
-  inputs = some_is old.held (λ h. IsFed (bytes_of h.files name) (given_of r) (fed 0 t.events) (has_ended 0 t.events)) (λ h told.
-      is_fed (bytes_of h.files name) r.waiting (fed 0 t.events) (left_of new r.handle) (has_ended 0 t.events) (given_of r)
+  inputs = some_is old.held (λ h. IsFed (bytes_of h.files name) (given_of r) (fed 0 t.events) (has_ended 0 t.events))
+      (λ h told.
+      is_fed (bytes_of h.files name) r.waiting (fed 0 t.events) (left_of new r.handle) (has_ended 0 t.events)
+      (given_of r)
       (ap (λ (n : ℕ). n + length r.waiting) t.taken) (t.reads h told));
   first = some_is old.held (λ h. StartsWith (bytes_of h.files name) (fed 0 t.early) (has_ended 0 t.early)) t.first;
   waits = t.waits;
 }
 
 -- what a run has told, and then all that was left
-unfoldable pub tells_all : {A : Type 0} (Came : List Event → A → Type 0) (next : A → Step) (machine : A) (start was is : State)
-    (name : List ℕ) (r : Reading) (page : List ℕ) → SaysBytes was is page → Telling Came next start was name machine r page
+unfoldable pub tells_all : {A : Type 0} (Came : List Event → A → Type 0) (next : A → Step) (machine : A)
+    (start was is : State)
+    (name : List ℕ) (r : Reading) (page : List ℕ) → SaysBytes was is page
+    → Telling Came next start was name machine r page
     → Tells Came next start is name machine (given_of r) []
 tells_all Came next machine start was is name r page says t = record {
   events = t.events;
@@ -358,7 +375,8 @@ tells_all Came next machine start was is name r page says t = record {
   };
   inputs = some_is start.held (λ h. IsFed (bytes_of h.files name) (given_of r) (fed 0 t.events) (has_ended 0 t.events))
       (λ h told.
-      is_fed (bytes_of h.files name) r.waiting (fed 0 t.events) (left_of was r.handle) (has_ended 0 t.events) (given_of r)
+      is_fed (bytes_of h.files name) r.waiting (fed 0 t.events) (left_of was r.handle) (has_ended 0 t.events)
+      (given_of r)
       (ap (λ (n : ℕ). n + length r.waiting) t.taken) (t.reads h told));
   first = some_is start.held (λ h. StartsWith (bytes_of h.files name) (fed 0 t.events) (has_ended 0 t.events))
       (λ h told. let rest = t.reads h told in (rest.left, rest.parts, rest.end));
@@ -371,7 +389,8 @@ is_zero input inputs lt one = omega (arith, lt, one)
 
 -- the reader's handle is there
 pub place_within : {A : Type 0} (Came : List Event → A → Type 0) (next : A → Step) (start now : State) (name : List ℕ)
-    (machine : A) (r : Reading) (page : List ℕ) → Telling Came next start now name machine r page → r.handle < length now.opened
+    (machine : A) (r : Reading) (page : List ℕ) → Telling Came next start now name machine r page
+    → r.handle < length now.opened
 place_within Came next start now name machine r page t =
     let n = ap length t.opened ∙ length_push start.opened (given_of r) in let h = t.handle in omega (arith, n, h)
 
@@ -381,6 +400,7 @@ needs next new old s input least most same wants zero few =
     subst (λ (x : Step). Needs x 0 (length s.waiting)) (sym (ap next same ∙ wants)) (zero, few)
 
 pub falls_short : {A : Type 0} (next : A → Step) (new old : A) (s : Reading) (input least most : ℕ) → new ≡ old
-    → next old ≡ Read input least most → input ≡ 0 → length s.waiting < least → FallsShort (next new) 0 (length s.waiting)
+    → next old ≡ Read input least most → input ≡ 0 → length s.waiting < least
+    → FallsShort (next new) 0 (length s.waiting)
 falls_short next new old s input least most same wants zero few =
     subst (λ (x : Step). FallsShort x 0 (length s.waiting)) (sym (ap next same ∙ wants)) (zero, few)

@@ -1,5 +1,6 @@
 -- How a run ends that says what its machine gives.
-use Rattle.std.proofs.Common.{◌≡◌, ◌≢◌, ℕ, ◌-◌, ◌≤◌, List, [], length, refl, ap, sym, subst, ◌∙◌, inl, inr, arith, Ok, Err}
+use Rattle.std.proofs.Common.{◌≡◌, ◌≢◌, ℕ, ◌-◌, ◌≤◌, List, [], length, refl, ap, sym, subst, ◌∙◌, inl, inr, arith, Ok}
+use Rattle.std.proofs.Common.{Err}
 use Rattle.std.proofs.Common.{Option, Some, None}
 use Rattle.std.specs.Prelude.{Result, IfErr, OnOk}
 use Rattle.ports.specs.declared.counts.Counts.{Counts}
@@ -23,7 +24,8 @@ use Rattle.file_run.proofs.OpenLemmas.{reads_fail, writes_fail}
 use Rattle.file_run.proofs.TellLemmas.{telling_kept, tells_of, tells_all}
 
 -- counts since the start
-pub finishes_since : {A : Type 0} (next : A → Step) (start old new : State) (machine : A) (r : Reading) → SameCounts start old
+pub finishes_since : {A : Type 0} (next : A → Step) (start old new : State) (machine : A) (r : Reading)
+    → SameCounts start old
     → Finishes next old new machine r → Finishes next start new machine r
 finishes_since next start old new machine r calm f = record { end = f.end; short = f.short; counts = f.counts ∙ calm }
 
@@ -58,9 +60,11 @@ told_all {A = A} {T = T} Came next start old new name machine r page (Err WriteF
     subst (λ (x : Result T RunFault). OnOk x (TellsAll Came next start new name machine)) (sym last.0) tt
 
 -- what was told when a run broke off
-abbrev pub BrokeOff : {A : Type 0} → (List Event → A → Type 0) → (A → Step) → State → State → List ℕ → A → Reading → List ℕ
+abbrev pub BrokeOff : {A : Type 0} → (List Event → A → Type 0) → (A → Step) → State → State → List ℕ
+    → A → Reading → List ℕ
     → RunFault → Type 0
-BrokeOff Came next start now name machine r page why = (unsaid : List ℕ) × Telling Came next start now name machine r unsaid
+BrokeOff Came next start now name machine r page why = (unsaid : List ℕ)
+    × Telling Came next start now name machine r unsaid
     × (why ≢ WriteFault → unsaid ≡ page) × (why ≡ WriteFault → unsaid ≢ [])
 
 abbrev stopped : {A : Type 0} → (List Event → A → Type 0) → (A → Step) → State → State → List ℕ → A → {T : Type 0}
@@ -68,7 +72,8 @@ abbrev stopped : {A : Type 0} → (List Event → A → Type 0) → (A → Step)
 stopped Came next start new name machine result = IfErr result (StopsTelling Came next start new name machine)
 
 -- what was left could not be said
-lost_last : {A : Type 0} (Came : List Event → A → Type 0) (next : A → Step) (start old new : State) (name : List ℕ) (machine : A)
+lost_last : {A : Type 0} (Came : List Event → A → Type 0) (next : A → Step) (start old new : State) (name : List ℕ)
+    (machine : A)
     (r : Reading) (page : List ℕ) → Telling Came next start old name machine r page → SameCounts start old
     → given_of r ≤ longest_file
     → Keeps old new → WritesFail old new → page ≢ [] → StopsTelling Came next start new name machine WriteFault
@@ -85,7 +90,8 @@ lost_last Came next start old new name machine r page t calm few keeps lost some
 )
 
 -- a later fault is not the first
-first_stays : (first : Option FaultKind) (one later : FaultKind) → first_of (first_of first one) later ≡ first_of first one
+first_stays : (first : Option FaultKind) (one later : FaultKind) → first_of (first_of first one) later ≡ first_of
+    first one
 first_stays None one later = refl
 first_stays (Some first) one later = refl
 
@@ -120,26 +126,33 @@ fails_twice start old new f w =
 -- Writing failed, and then reading: that is not told as a fault of reading.
 pub first_is_told : FirstIsTold
 first_is_told old mid new none w r told =
-    let first : mid.counts.first ≡ Some kind.Writing = w.first ∙ ap (λ (k : Option FaultKind). first_of k kind.Writing) none in
-    let later : new.counts.first ≡ Some kind.Writing = r.first ∙ ap (λ (k : Option FaultKind). first_of k kind.Reading) first in
+    let first : mid.counts.first ≡ Some kind.Writing = w.first ∙ ap (λ (k : Option FaultKind). first_of k kind.Writing)
+    none in
+    let later : new.counts.first ≡ Some kind.Writing = r.first ∙ ap (λ (k : Option FaultKind). first_of k kind.Reading)
+    first in
     let reading : new.counts.first ≡ Some kind.Reading = told.first
     ∙ ap (λ (k : Option FaultKind). first_of k kind.Reading) none in
     let same : Some kind.Writing ≡ Some kind.Reading = sym later ∙ reading in cc
 
 -- what waits in front of the machine
-waits : {A : Type 0} (Came : List Event → A → Type 0) (next : A → Step) (start now : State) (name : List ℕ) (machine : A)
+waits : {A : Type 0} (Came : List Event → A → Type 0) (next : A → Step) (start now : State) (name : List ℕ)
+    (machine : A)
     (r : Reading) (page : List ℕ) (t : Telling Came next start now name machine r page) → length r.waiting ≡ given_of r
     - length (fed 0 t.events)
 waits Came next start now name machine r page t = let e = t.taken in omega (arith, e)
 
 -- all that a run told that broke off for another cause than writing
-broke : {A : Type 0} (Came : List Event → A → Type 0) (next : A → Step) (start now : State) (name : List ℕ) (machine : A)
-    (r : Reading) (page : List ℕ) (why : RunFault) → why ≢ WriteFault → BrokeOff Came next start now name machine r page why
+broke : {A : Type 0} (Came : List Event → A → Type 0) (next : A → Step) (start now : State) (name : List ℕ)
+    (machine : A)
+    (r : Reading) (page : List ℕ) (why : RunFault) → why ≢ WriteFault
+    → BrokeOff Came next start now name machine r page why
     → Telling Came next start now name machine r page
-broke Came next start now name machine r page why other b = subst (λ (l : List ℕ). Telling Came next start now name machine r l)
+broke Came next start now name machine r page why other b = subst (λ (l : List ℕ). Telling Came next
+    start now name machine r l)
     (b.2 other) b.1
 
-told_at : {A : Type 0} (Came : List Event → A → Type 0) (next : A → Step) (start was now : State) (name : List ℕ) (machine : A)
+told_at : {A : Type 0} (Came : List Event → A → Type 0) (next : A → Step) (start was now : State) (name : List ℕ)
+    (machine : A)
     (r : Reading) (page : List ℕ) (most : ℕ) → given_of r ≡ most → SaysBytes was now page
     → (t : Telling Came next start was name machine r page)
     → (x : Tells Came next start now name machine most []) × (x.events ≡ t.events)
@@ -149,9 +162,11 @@ told_at Came next start was now name machine r page most same says t =
     (tells_all Came next machine start was now name r page says t, refl)
 
 -- a run over a file that is too long
-too_much : {A : Type 0} (Came : List Event → A → Type 0) (next : A → Step) (start was now : State) (name : List ℕ) (machine : A)
+too_much : {A : Type 0} (Came : List Event → A → Type 0) (next : A → Step) (start was now : State) (name : List ℕ)
+    (machine : A)
     (r : Reading) (page : List ℕ) → given_of r ≡ longest_file → SaysBytes was now page
-    → (t : Telling Came next start was name machine r page) → Needs (next machine) 0 (length r.waiting) → SameCounts start now
+    → (t : Telling Came next start was name machine r page) → Needs (next machine) 0 (length r.waiting)
+    → SameCounts start now
     → TellsTooMuch Came next start now name machine
 too_much Came next start was now name machine r page same says t wants calm =
     let told : (x : Tells Came next start now name machine longest_file []) × (x.events ≡ t.events) =
@@ -164,7 +179,8 @@ too_much Came next start was now name machine r page same says t wants calm =
     }
 
 -- a run that broke off, or whose last lines could not be said
-pub told_fault : {A T : Type 0} (Came : List Event → A → Type 0) (next : A → Step) (start old new : State) (name : List ℕ)
+pub told_fault : {A T : Type 0} (Came : List Event → A → Type 0) (next : A → Step) (start old new : State)
+    (name : List ℕ)
     (machine : A) (r : Reading) (page : List ℕ) (told result : Result T RunFault)
     → OnOk told (Telling Came next start old name machine r page) → OnOk told (Finishes next start old machine r)
     → IfErr told (BrokeOff Came next start old name machine r page) → IfErr told (Breaks next start old machine r)
@@ -175,20 +191,26 @@ told_fault {A = A} {T = T} Came next start old new name machine r page (Ok u) re
     subst (stopped Came next start new name machine) (sym said.0) tt
 told_fault {A = A} {T = T} Came next start old new name machine r page (Ok u) result t f broken cause (inr lost) =
     subst (stopped Came next start new name machine) (sym lost.0)
-    (lost_last Came next start old new name machine r page t f.counts (let s = f.short in omega (arith, s)) lost.1.0 lost.1.1
+    (lost_last Came next start old new name machine r page t f.counts (let s = f.short in omega (arith, s))
+    lost.1.0 lost.1.1
     lost.1.2)
-told_fault {A = A} {T = T} Came next start old new name machine r page (Err (TooLong input)) result t f broken cause (inl said) =
+told_fault {A = A} {T = T} Came next start old new name machine r page (Err (TooLong input)) result t
+    f broken cause (inl said) =
     let u = broke Came next start old name machine r page (TooLong input) (λ e. cc) broken in
     subst (stopped Came next start new name machine) (sym said.0) (
       cause.0,
-      too_much Came next start old new name machine r page cause.1 (says_page old new page said.1.0) u cause.2 (said.1.1 ∙ cause.3),
+      too_much Came next start old new name machine r page cause.1 (says_page old new page said.1.0) u cause.2 (said.1.1
+          ∙ cause.3),
     )
-told_fault {A = A} {T = T} Came next start old new name machine r page (Err (TooLong input)) result t f broken cause (inr lost) =
+told_fault {A = A} {T = T} Came next start old new name machine r page (Err (TooLong input)) result t
+    f broken cause (inr lost) =
     let u = broke Came next start old name machine r page (TooLong input) (λ e. cc) broken in
     subst (stopped Came next start new name machine) (sym lost.0)
-    (lost_last Came next start old new name machine r page u cause.3 (let s = cause.1 in omega (arith, s)) lost.1.0 lost.1.1
+    (lost_last Came next start old new name machine r page u cause.3 (let s = cause.1 in omega (arith, s))
+    lost.1.0 lost.1.1
     lost.1.2)
-told_fault {A = A} {T = T} Came next start old new name machine r page (Err (ReadFault input)) result t f broken cause last =
+told_fault {A = A} {T = T} Came next start old new name machine r page (Err (ReadFault input)) result
+    t f broken cause last =
     let u = broke Came next start old name machine r page (ReadFault input) (λ e. cc) broken in
     subst (stopped Came next start new name machine) (sym last.0) (
       cause.0,
@@ -199,7 +221,8 @@ told_fault {A = A} {T = T} Came next start old new name machine r page (Err (Rea
             place = given_of r;
             unsaid = [];
             tells = tells_all Came next machine start old new name r page (says_page old new page said.0) u;
-            wants = subst (λ (n : ℕ). FallsShort (next machine) 0 n) (waits Came next start old name machine r page u) cause.2;
+            wants = subst (λ (n : ℕ). FallsShort (next machine) 0 n) (waits Came next start old name machine r page u)
+                cause.2;
             short = cause.1;
             all = inl (refl, ap (λ (k : Counts). k.writes) said.1 ∙ ap (λ (k : Counts). k.writes) cause.3.others);
           },
@@ -211,7 +234,8 @@ told_fault {A = A} {T = T} Came next start old new name machine r page (Err (Rea
             unsaid = page;
             tells = tells_of Came next machine start new name r page
                 (telling_kept Came next machine start old new name r page lost.0 u);
-            wants = subst (λ (n : ℕ). FallsShort (next machine) 0 n) (waits Came next start old name machine r page u) cause.2;
+            wants = subst (λ (n : ℕ). FallsShort (next machine) 0 n) (waits Came next start old name machine r page u)
+                cause.2;
             short = cause.1;
             all = inr (
               lost.2,

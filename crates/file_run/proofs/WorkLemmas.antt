@@ -1,5 +1,6 @@
 -- A run of a machine that does a work ends as one must that does it.
-use Rattle.std.proofs.Common.{◌≡◌, ℕ, ◌-◌, ◌<◌, true, List, [], ◌++◌, length, Option, Some, None, refl, ap, sym, subst, ◌∙◌}
+use Rattle.std.proofs.Common.{◌≡◌, ℕ, ◌-◌, ◌<◌, true, List, [], ◌++◌, length, Option, Some, None, refl, ap, sym, subst}
+use Rattle.std.proofs.Common.{◌∙◌}
 use Rattle.std.proofs.Common.{inl, inr, arith, length-append, append_assoc}
 use Rattle.std.specs.Prelude.{Result, Ok, Err, IfSome, IsSome, slice_index, slice_index_or, replicate}
 use Rattle.std.specs.FinMap.{get}
@@ -38,14 +39,16 @@ made_fed inputs places events taken input lt =
       more = replicate {A = ℕ} more 0;
       parts = refl;
       ahead = few;
-      within = (let n = length-append (fed input events) (replicate {A = ℕ} more 0) in let m = length-replicate {A = ℕ} more 0 in
+      within = (let n = length-append (fed input events) (replicate {A = ℕ} more 0) in let m = length-replicate
+          {A = ℕ} more 0 in
           omega (arith, few, n, m));
       end = λ on. none_more more (let e = t.1 on in omega (arith, e));
     }
 
 -- If all inputs ended, each was read to its end.
 pub are_whole : (inputs : ℕ) (files : ℕ → List ℕ) (places : List ℕ) (events : List Event) → length places ≡ inputs
-    → AreFed inputs files places events → ((input : ℕ) → input < inputs → has_ended input events ≡ true) → AreWhole files places
+    → AreFed inputs files places events → ((input : ℕ) → input < inputs → has_ended input events ≡ true)
+    → AreWhole files places
 are_whole inputs files places events all are ended input lt =
     let inside : input < inputs = omega (arith, lt, all) in
     let f = are input inside in
@@ -59,13 +62,15 @@ are_whole inputs files places events all are ended input lt =
 -- ---- where a run stands, by files
 
 does_of : {old new : State} {ins : List (List ℕ)} (sink : Sink) (work : (ℕ → List ℕ) → List ℕ → List ℕ → Type 0)
-    (places : List ℕ) (events : List Event) (bytes : List ℕ) → length places ≡ length ins → Passes sink old new ins places bytes
+    (places : List ℕ) (events : List Event) (bytes : List ℕ) → length places ≡ length ins
+    → Passes sink old new ins places bytes
     → AreTaken (length ins) places events
     → IfSome old.held (λ h. (input : ℕ) → input < length ins → IsSome (get h.files (slice_index_or ins input [])))
     → IfSome old.held (λ h. AreFed (length ins) (file_at h ins) places events)
     → ((files : ℕ → List ℕ) → AreFed (length ins) files places events → work files places bytes)
     → Does work old new sink ins
-does_of {old = old} {new = new} {ins = ins} sink work places events bytes all passes taken present inputs f = by old.held refl
+does_of {old = old} {new = new} {ins = ins} sink work places events bytes all passes taken present inputs
+    f = by old.held refl
   where
     by : (o : Option Held) → old.held ≡ o → Does work old new sink ins
     by None none =
@@ -107,16 +112,19 @@ does_by : {old new : State} {sink : Sink} {ins : List (List ℕ)} {reach : ℕ �
     → work files s.places bytes)
     → Does work old new sink ins
 does_by {old = old} {new = new} {sink = sink} {ins = ins} work s bytes same f =
-    does_of sink work s.places s.events bytes s.all (subst (Passes sink old new ins s.places) same s.passes) s.taken s.present s.inputs
+    does_of sink work s.places s.events bytes s.all (subst (Passes sink old new ins s.places) same s.passes)
+    s.taken s.present s.inputs
     (λ files are. f files s.all are)
 
 -- ---- how a run ends
 
 module _ {A R E : Type 0} (work : Work R E) (old new : State) (sink : Sink)
-    (ins : List (List ℕ)) (reach : A → ℕ → ℕ) (next : A → Step) (Came : List Event → A → Type 0) (ending : A → Result R E) (now : A)
+    (ins : List (List ℕ)) (reach : A → ℕ → ℕ) (next : A → Step) (Came : List Event → A → Type 0) (ending : A
+    → Result R E) (now : A)
     (m : DoesWork work (length ins) reach next Came ending) where
   come_to_end : (told : Result R E) (result : Result R (RunStop E))
-      → ((files : ℕ → List ℕ) (places bytes : List ℕ) → IsRightAtEnd work files places bytes told → work files result places bytes)
+      → ((files : ℕ → List ℕ) (places bytes : List ℕ) → IsRightAtEnd work files places bytes told
+      → work files result places bytes)
       → ComesToEnd old new sink ins reach next Came ending now told
       → Does (λ files places bytes. AllShort places × work files result places bytes) old new sink ins
   come_to_end told result same e =
@@ -125,17 +133,23 @@ module _ {A R E : Type 0} (work : Work R E) (old new : State) (sink : Sink)
       (λ files all are. (
         e.runs.short,
         same files s.places (gave s.events)
-            (subst (IsRightAtEnd work files s.places (gave s.events)) e.told_is (m.ends files s.places s.events now all are s.within s.came e.end)),
+            (subst (IsRightAtEnd work files s.places (gave s.events)) e.told_is
+            (m.ends files s.places s.events now all are s.within s.came e.end)),
       ))
 
-  stopped : (why : RunFault) → Stops old new sink ins reach next Came now why → Ends work old new sink ins (Err (Files why))
+  stopped : (why : RunFault) → Stops old new sink ins reach next Came now why
+      → Ends work old new sink ins (Err (Files why))
   stopped (TooLong input) g =
       let s = g.stands in (
         g.counts,
         g.place,
         does_by (λ files places bytes. (slice_index places input ≡ longest_file)
             × work files (Err (Files (TooLong input))) places bytes) s (gave s.events) s.holds
-            (λ files all are. (g.gave, m.too_long files s.places s.events now input all are s.within s.came g.place g.gave g.wants)),
+            (λ files all are. (
+              g.gave,
+              m.too_long files s.places s.events now input all are s.within
+                  s.came g.place g.gave g.wants,
+            )),
       )
   stopped (ReadFault input) (counts, inl o) = (counts, inl o)
   stopped (ReadFault input) (counts, inr g) =
@@ -145,7 +159,11 @@ module _ {A R E : Type 0} (work : Work R E) (old new : State) (sink : Sink)
           g.place,
           does_by (λ files places bytes. AllShort places × work files (Err (Files (ReadFault input))) places bytes)
               s (gave s.events) s.holds
-              (λ files all are. (g.short, m.unread files s.places s.events now input all are s.within s.came g.place g.wants)),
+              (λ files all are. (
+                g.short,
+                m.unread files s.places s.events now input all are s.within
+                    s.came g.place g.wants,
+              )),
         ),
       )
   stopped WriteFault (counts, inl o) = (counts, inl o)
@@ -177,14 +195,19 @@ module _ {A R E : Type 0} (work : Work R E) (old new : State) (sink : Sink)
   pub ends_so : (result : Result R (RunStop E)) → RunsOnce old new sink ins reach next Came ending now result
       → Ends work old new sink ins result
   ends_so (Ok ran) e = (e.runs.counts, come_to_end (Ok ran) (Ok ran) (λ files places bytes w. w) e)
-  ends_so (Err (Refused why)) e = (e.runs.counts, come_to_end (Err why) (Err (Refused why)) (λ files places bytes w. w) e)
+  ends_so (Err (Refused why)) e = (
+    e.runs.counts,
+    come_to_end (Err why) (Err (Refused why)) (λ files places bytes w. w)
+        e,
+  )
   ends_so (Err (Files why)) g = stopped why g
   ends_so (Err OutOfMemory) e = e
 
 -- ---- what is so of the files of a run is so of those of the desk, if it tells
 
 pub told_of : {old new : State} {sink : Sink} {ins : List (List ℕ)} {work : (ℕ → List ℕ) → List ℕ → List ℕ → Type 0}
-    (Is : (ℕ → List ℕ) → Type 0) (d : Does work old new sink ins) → Is d.files → IfSome old.held (λ h. Is (file_at h ins))
+    (Is : (ℕ → List ℕ) → Type 0) (d : Does work old new sink ins) → Is d.files
+    → IfSome old.held (λ h. Is (file_at h ins))
 told_of {old = old} Is d is = IfSome_then old.held d.told (λ h t. subst Is t.0 is)
 
 pub works_of : {old new : State} {out : List ℕ} {ins : List (List ℕ)} {work : (ℕ → List ℕ) → List ℕ → List ℕ → Type 0}

@@ -1,5 +1,6 @@
 -- Writes, one behind another.
-use Rattle.std.proofs.Common.{◌≡◌, ◌≢◌, ℕ, ◌+◌, Bool, List, [], ◌++◌, take, drop, slice_index_or, Option, Some, None, refl, ap}
+use Rattle.std.proofs.Common.{◌≡◌, ◌≢◌, ℕ, ◌+◌, Bool, List, [], ◌++◌, take, drop, slice_index_or, Option, Some, None}
+use Rattle.std.proofs.Common.{refl, ap}
 use Rattle.std.proofs.Common.{sym, subst, ◌∙◌, append_assoc, append-nil, take-add, length, ◌<◌, arith}
 use Rattle.std.specs.Prelude.{IfSome, IsSome, option_map}
 use Rattle.std.specs.Ordering.{nat_cmp, eq_by_cmp}
@@ -8,7 +9,8 @@ use Rattle.std.specs.FinMap.{get, insert}
 use Rattle.std.proofs.lemmas.List.{take-append-drop, length-drop}
 use Rattle.file_run.proofs.InputLemmas.{left_kept}
 use Rattle.ports.proofs.WriteLemmas.{get_set, get_other}
-use Rattle.ports.specs.Desk.{Held, State, Keeps, Writes, IsApart, out_name, written_of, with_bytes, with_empty, bytes_of}
+use Rattle.ports.specs.Desk.{Held, State, Keeps, Writes, IsApart, out_name, written_of, with_bytes, with_empty}
+use Rattle.ports.specs.Desk.{bytes_of}
 use Rattle.file_run.specs.DeskLaws.{CreatesEmpty}
 use Rattle.file_run.specs.Writing.{OnlyOut, Appends, AppendsFront}
 
@@ -43,13 +45,19 @@ pub creates_empty : CreatesEmpty
 creates_empty old new name out h c told = (
   with_empty name h,
   c.held ∙ ap (option_map (with_empty name)) told,
-  record { names = refl; there = get_set h.files name []; others = λ other apart. get_other h.files name [] other apart },
+  record {
+    names = refl;
+    there = get_set h.files name [];
+    others = λ other apart. get_other h.files name
+        [] other apart;
+  },
 )
 
 -- a file that is written is there
 there_written : (out : ℕ) (bytes : List ℕ) (old new : Option Held) → new ≡ option_map (with_bytes out bytes) old
     → IfSome new (λ h. IsSome (get h.files (out_name h out)))
-there_written out bytes None new e = subst (λ (o : Option Held). IfSome o (λ h. IsSome (get h.files (out_name h out)))) (sym e) tt
+there_written out bytes None new e = subst (λ (o : Option Held). IfSome o (λ h. IsSome (get h.files (out_name h out))))
+    (sym e) tt
 there_written out bytes (Some h) new e =
     let all : List ℕ = bytes_of h.files (out_name h out) ++ bytes in
     let found : IsSome (get (insert h.files (out_name h out) all) (out_name h out)) =
@@ -68,7 +76,8 @@ behind_none (Some w) = ap Some (sym (append-nil w))
 -- a handle of another file is so after a write
 apart_then : (out handle : ℕ) (a b : Option Held) → OnlyOut out a b → IfSome a (λ h. IsApart a handle (out_name h out))
     → IfSome b (λ h. IsApart b handle (out_name h out))
-apart_then out handle None b o p = subst (λ (held : Option Held). IfSome held (λ h. IsApart held handle (out_name h out)))
+apart_then out handle None b o p = subst (λ (held : Option Held). IfSome held
+    (λ h. IsApart held handle (out_name h out)))
     (sym o) tt
 apart_then out handle (Some h) b o p =
     let names = ap (λ (names : List (List ℕ)). slice_index_or names handle []) o.2 in
@@ -88,7 +97,8 @@ appends_none s out = record {
   others = λ handle apart. refl;
 }
 
-pub appends_written : (old new : State) (out : ℕ) (bytes : List ℕ) → Writes old new out bytes → Appends old new out bytes
+pub appends_written : (old new : State) (out : ℕ) (bytes : List ℕ) → Writes old new out bytes
+    → Appends old new out bytes
 appends_written old new out bytes w = record {
   held = only_written out bytes old.held new.held w.held;
   said = w.said;
@@ -100,7 +110,8 @@ appends_written old new out bytes w = record {
   others = w.others;
 }
 
-pub appends_then : (a b c : State) (out : ℕ) (x y : List ℕ) → Appends a b out x → Appends b c out y → Appends a c out (x ++ y)
+pub appends_then : (a b c : State) (out : ℕ) (x y : List ℕ) → Appends a b out x → Appends b c out y
+    → Appends a c out (x ++ y)
 appends_then a b c out x y p q = record {
   held = only_then out a.held b.held c.held p.held q.held;
   said = q.said ∙ p.said;
@@ -133,13 +144,15 @@ pub more_written : (a b c : State) (out : ℕ) (piece : List ℕ) (m n : ℕ) �
     → Writes b c out (take n (drop m piece)) → Appends a c out (take (m + n) piece)
 more_written a b c out piece m n p w =
     subst (Appends a c out) (sym (take-add m n piece))
-    (appends_then a b c out (take m piece) (take n (drop m piece)) p (appends_written b c out (take n (drop m piece)) w))
+    (appends_then a b c out (take m piece) (take n (drop m piece)) p (appends_written b c out (take n (drop m piece))
+    w))
 
 some_left : (piece : List ℕ) (m : ℕ) → m < length piece → drop m piece ≢ []
 some_left piece m lt e = let n = ap length e in omega (arith, n, lt, length-drop m piece)
 
 -- a front of a piece was written
-pub front_written : (a b c : State) (out : ℕ) (piece : List ℕ) (m : ℕ) → m < length piece → Appends a b out (take m piece)
+pub front_written : (a b c : State) (out : ℕ) (piece : List ℕ) (m : ℕ) → m < length piece
+    → Appends a b out (take m piece)
     → Keeps b c → AppendsFront a c out piece
 front_written a b c out piece m lt p k =
     record {

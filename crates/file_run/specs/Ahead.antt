@@ -1,5 +1,6 @@
 -- Bytes that were read of a file and not yet taken.
-use Rattle.std.specs.Prelude.{◌≡◌, ◌≢◌, ℕ, ◌+◌, ◌-◌, ◌≤◌, List, [], ◌++◌, length, slice_index, slice_set, IfSome, option_map}
+use Rattle.std.specs.Prelude.{◌≡◌, ◌≢◌, ℕ, ◌+◌, ◌-◌, ◌≤◌, List, [], ◌++◌, length, slice_index, slice_set, IfSome}
+use Rattle.std.specs.Prelude.{option_map}
 use Rattle.ports.specs.Desk.{State, left_of, has_run_out}
 
 -- The handle's file was read to its end, if the desk tells.
@@ -13,7 +14,8 @@ pub record ReadsAhead (old new : State) (handle : ℕ) (waiting more : List ℕ)
   pub opened : new.opened ≡ slice_set old.opened handle (slice_index old.opened handle + (length more - length waiting))
   pub created : new.created ≡ old.created
   pub grown : length waiting ≤ length more
-  pub next : option_map (λ left. more ++ left) (left_of new handle) ≡ option_map (λ left. waiting ++ left) (left_of old handle)
+  pub next : option_map (λ left. more ++ left) (left_of new handle) ≡ option_map (λ left. waiting ++ left)
+      (left_of old handle)
   -- so every other handle has left what it had, and is at its end only if it was
   pub others : (other : ℕ) → other ≢ handle → left_of new other ≡ left_of old other
   pub others_end : (other : ℕ) → other ≢ handle → has_run_out new other ≡ has_run_out old other

@@ -9,7 +9,8 @@ use Rattle.file_run.specs.ConfigFile.{IsCause}
 use Rattle.file_run.specs.declared.config_stop.ConfigStop.{ConfigStop}
 use Rattle.file_run.specs.declared.config_stop.ConfigStop.TheVariants.{Refused, Lacks}
 
--- What a text gives, if nothing outside fails: the configuration that it spells, or why it has none that satisfies the rules.
+-- What a text gives, if nothing outside fails: the configuration that it spells, or why it has none that satisfies the
+-- rules.
 abbrev pub GivesConfig : List ℕ → Result Config ConfigStop → Type 0
 GivesConfig text (Ok c) = Spells text c × AllRules c
 GivesConfig text (Err (Refused cause)) = IsCause text cause

@@ -20,5 +20,6 @@ pub record IsEmptied (name : List ℕ) (h k : Held) : Type 0 where
   pub others : (other : List ℕ) → other ≢ name → get k.files other ≡ get h.files other
 
 abbrev pub CreatesEmpty : Type 0
-CreatesEmpty = (old new : State) (name : List ℕ) (out : ℕ) (h : Held) → Creates old new name out → old.held ≡ Some h → (k : Held)
+CreatesEmpty = (old new : State) (name : List ℕ) (out : ℕ) (h : Held) → Creates old new name out → old.held ≡ Some h
+    → (k : Held)
     × (new.held ≡ Some k) × IsEmptied name h k

@@ -40,7 +40,8 @@ SameFiles (Some h) new = (k : Held) × (new ≡ Some k) × (k.files ≡ h.files)
 -- The handle of each of these places is of the input of its number, if the desk tells.
 abbrev pub AreNamed : State → State → List (List ℕ) → List ℕ → Type 0
 AreNamed old new ins places = IfSome old.held (λ h. (k : Held) × (new.held ≡ Some k)
-    × ((input : ℕ) → input < length places → slice_index_or k.names (length old.opened + input) [] ≡ slice_index_or ins input []))
+    × ((input : ℕ) → input < length places → slice_index_or k.names (length old.opened + input) [] ≡ slice_index_or
+    ins input []))
 
 -- Nothing was read.
 abbrev pub AreStarts : List ℕ → Type 0
@@ -78,8 +79,8 @@ abbrev pub FailsToBegin : Sink → State → State → List (List ℕ) → Type 
 FailsToBegin (Into out) old new ins = FailsToCreateOutput old new out ins
 FailsToBegin Aloud old new ins = ⊥
 
--- All inputs were opened, in turn, and read up to these places. Then the output was created, and the desk holds it so, if it
--- tells: by what it held at first, the output has these bytes.
+-- All inputs were opened, in turn, and read up to these places. Then the output was created, and the desk holds it so,
+-- if it tells: by what it held at first, the output has these bytes.
 pub record Works (old new : State) (out : List ℕ) (ins : List (List ℕ)) (places : List ℕ) (HoldsOut : Held → List ℕ
     → Type 0) : Type 0 where
   pub opened : new.opened ≡ old.opened ++ places
@@ -91,8 +92,8 @@ pub record Works (old new : State) (out : List ℕ) (ins : List (List ℕ)) (pla
   pub holds : IfSome old.held (λ h. (k : Held) × (new.held ≡ Some k)
       × ((bytes : List ℕ) × (get k.files out ≡ Some bytes) × HoldsOut h bytes))
 
--- All inputs were opened, in turn, and read up to these places; no file changed, and none was created. Standard output grew by a
--- text.
+-- All inputs were opened, in turn, and read up to these places; no file changed, and none was created. Standard output
+-- grew by a text.
 pub record SaysOf (old new : State) (ins : List (List ℕ)) (places text : List ℕ) : Type 0 where
   pub opened : new.opened ≡ old.opened ++ places
   pub all : length places ≡ length ins
@@ -124,7 +125,8 @@ abbrev pub AreTaken : ℕ → List ℕ → List Event → Type 0
 AreTaken inputs places events = (input : ℕ) → input < inputs → (length (fed input events) ≤ slice_index places input)
     × (has_ended input events ≡ true → slice_index places input ≡ length (fed input events))
 
--- Where a run stands: what was done to its machine, what was read of each file, if the desk tells, and which bytes went out.
+-- Where a run stands: what was done to its machine, what was read of each file, if the desk tells, and which bytes went
+-- out.
 pub record Stands (old new : State) (sink : Sink) (ins : List (List ℕ)) (reach : ℕ → ℕ) (Came : List Event → Type 0)
     (Holds : List Event → List ℕ → Type 0) : Type 0 where
   pub events : List Event
@@ -137,7 +139,8 @@ pub record Stands (old new : State) (sink : Sink) (ins : List (List ℕ)) (reach
   pub within : (input : ℕ) → input < length ins → slice_index places input ≤ reach input
   pub short : (input : ℕ) → input < length ins → slice_index places input ≤ longest_file
   pub taken : AreTaken (length ins) places events
-  pub present : IfSome old.held (λ h. (input : ℕ) → input < length ins → IsSome (get h.files (slice_index_or ins input [])))
+  pub present : IfSome old.held (λ h. (input : ℕ) → input < length ins
+      → IsSome (get h.files (slice_index_or ins input [])))
   pub inputs : IfSome old.held (λ h. AreFed (length ins) (file_at h ins) places events)
 
 -- all that was given went out
@@ -151,8 +154,8 @@ pub record RunsAll (old new : State) (sink : Sink) (ins : List (List ℕ)) (reac
   pub short : AllShort stands.places
   pub counts : SameCounts old new
 
--- An input gave as many bytes as no file may have. What the machine had not taken of them is no more than it wanted, and it never
--- looked at that.
+-- An input gave as many bytes as no file may have. What the machine had not taken of them is no more than it wanted,
+-- and it never looked at that.
 pub record GivesTooMuch (old new : State) (sink : Sink) (ins : List (List ℕ)) (reach : ℕ → ℕ) (next : Step)
     (Came : List Event → Type 0) (input : ℕ) : Type 0 where
   pub stands : Stands old new sink ins reach Came HoldsAll
@@ -169,9 +172,10 @@ pub record FailsToRead (old new : State) (sink : Sink) (ins : List (List ℕ)) (
   pub wants : FallsShort next input (slice_index stands.places input - length (fed input stands.events))
   pub short : AllShort stands.places
 
--- What a machine gave could not go out: it gives since the last reading, before which all went out, and a front of what it
--- gave since, but not all. So no input was read further than was the machine's reach then.
-pub record StopsWriting {A : Type 0} (old new : State) (sink : Sink) (ins : List (List ℕ)) (reach : A → ℕ → ℕ) (next : A → Step)
+-- What a machine gave could not go out: it gives since the last reading, before which all went out, and a front of what
+-- it gave since, but not all. So no input was read further than was the machine's reach then.
+pub record StopsWriting {A : Type 0} (old new : State) (sink : Sink) (ins : List (List ℕ)) (reach : A
+    → ℕ → ℕ) (next : A → Step)
     (Came : List Event → A → Type 0) (now : A) : Type 0 where
   pub mid : A
   pub gives : next mid ≡ Give
@@ -186,11 +190,13 @@ pub record StopsWriting {A : Type 0} (old new : State) (sink : Sink) (ins : List
   pub short : AllShort stands.places
 
 -- A run that did not come to the end of its machine, by its cause.
-abbrev pub Stops : {A : Type 0} → State → State → Sink → List (List ℕ) → (A → ℕ → ℕ) → (A → Step) → (List Event → A → Type 0)
+abbrev pub Stops : {A : Type 0} → State → State → Sink → List (List ℕ) → (A → ℕ → ℕ) → (A → Step)
+    → (List Event → A → Type 0)
     → A → RunFault → Type 0
 Stops old new sink ins reach next Came now (TooLong input) =
     GivesTooMuch old new sink ins (reach now) (next now) (λ events. Came events now) input
 Stops old new sink ins reach next Came now (ReadFault input) = ReadsFail old new
-    × (OpensInputs old new ins input ⊎ FailsToRead old new sink ins (reach now) (next now) (λ events. Came events now) input)
+    × (OpensInputs old new ins input ⊎ FailsToRead old new sink ins (reach now) (next now) (λ events. Came events now)
+    input)
 Stops old new sink ins reach next Came now WriteFault =
     WritesFail old new × (FailsToBegin sink old new ins ⊎ StopsWriting old new sink ins reach next Came now)

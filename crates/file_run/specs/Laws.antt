@@ -17,7 +17,8 @@ pub record EndedMore (input : ℕ) (bytes : List ℕ) (events : List Event) : Ty
   pub here : fed input (events ++ Ended input bytes ∷ []) ≡ fed input events ++ bytes
   pub others : (other : ℕ) → other ≢ input → fed other (events ++ Ended input bytes ∷ []) ≡ fed other events
   pub ended : has_ended input (events ++ Ended input bytes ∷ []) ≡ true
-  pub others_ended : (other : ℕ) → other ≢ input → has_ended other (events ++ Ended input bytes ∷ []) ≡ has_ended other events
+  pub others_ended : (other : ℕ) → other ≢ input → has_ended other (events ++ Ended input bytes ∷ []) ≡ has_ended
+      other events
   pub gave : gave (events ++ Ended input bytes ∷ []) ≡ gave events
 
 -- It only gave, as much as it gave, and then what it gave since.

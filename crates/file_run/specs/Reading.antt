@@ -1,13 +1,14 @@
 -- How a file is read ahead.
-use Rattle.std.specs.Prelude.{◌≡◌, ◌≢◌, ℕ, ◌+◌, ◌-◌, ◌^◌, ◌<◌, ◌≤◌, Bool, if◌then◌else◌, List, ◌++◌, length, slice_index}
+use Rattle.std.specs.Prelude.{◌≡◌, ◌≢◌, ℕ, ◌+◌, ◌-◌, ◌^◌, ◌<◌, ◌≤◌, Bool, if◌then◌else◌, List, ◌++◌, length}
+use Rattle.std.specs.Prelude.{slice_index}
 use Rattle.std.specs.Prelude.{slice_set, Option, option_map}
 use Rattle.ports.specs.Desk.{State, SameCounts, left_of, has_run_out}
 use Rattle.file_run.specs.Faults.{ReadsFail}
 use Rattle.file_run.specs.declared.ahead.ReadStop.{ReadStop}
 use Rattle.file_run.specs.declared.ahead.ReadStop.TheVariants.{TooLong, Fault}
 
--- the handle of a file, how many bytes were taken from it, the bytes that were read behind them, and whether it was found to have
--- ended
+-- the handle of a file, how many bytes were taken from it, the bytes that were read behind them, and whether it was
+-- found to have ended
 pub record Reading : Type 0 where
   pub handle : ℕ
   pub taken : ℕ
@@ -28,7 +29,8 @@ pub record ReadsOn (old new : State) (was is : Reading) : Type 0 where
   pub later : given_of was ≤ given_of is
   pub held : new.held ≡ old.held
   pub said : new.said ≡ old.said
-  pub opened : new.opened ≡ slice_set old.opened was.handle (slice_index old.opened was.handle + (given_of is - given_of was))
+  pub opened : new.opened ≡ slice_set old.opened was.handle
+      (slice_index old.opened was.handle + (given_of is - given_of was))
   pub created : new.created ≡ old.created
   -- so every other handle has left what it had, and is at its end only if it was
   pub others : (other : ℕ) → other ≢ was.handle → left_of new other ≡ left_of old other
@@ -44,8 +46,8 @@ pub record TakesNone (old new : State) (was is : Reading) : Type 0 where
 abbrev pub longest_file : ℕ
 longest_file = 2 ^ 40
 
--- Why a file was not read on: it gave too many bytes, of which no more wait than were wanted, and no count changed; or reading
--- failed, while fewer bytes wait than were wanted.
+-- Why a file was not read on: it gave too many bytes, of which no more wait than were wanted, and no count changed; or
+-- reading failed, while fewer bytes wait than were wanted.
 abbrev pub StopsReading : State → State → Reading → ℕ → ReadStop → Type 0
 StopsReading old new is least TooLong = (given_of is ≡ longest_file) × (length is.waiting ≤ least) × SameCounts old new
 StopsReading old new is least Fault = (given_of is < longest_file) × (length is.waiting < least) × ReadsFail old new

@@ -1,5 +1,6 @@
 -- How far a run has come.
-use Rattle.std.specs.Prelude.{◌≡◌, ◌≢◌, ℕ, ◌+◌, ◌<◌, ◌≤◌, Bool, true, false, List, [], ◌∷◌, ◌++◌, length, map, slice_index_or}
+use Rattle.std.specs.Prelude.{◌≡◌, ◌≢◌, ℕ, ◌+◌, ◌<◌, ◌≤◌, Bool, true, false, List, [], ◌∷◌, ◌++◌, length, map}
+use Rattle.std.specs.Prelude.{slice_index_or}
 use Rattle.std.specs.Prelude.{None, Some, IsSome, IfSome, option_map}
 use Rattle.std.specs.declared.option.Option.{Option}
 use Rattle.std.specs.FinMap.{get}
@@ -54,7 +55,8 @@ abbrev pub SaysOut : Sink → Option (List (List ℕ)) → Option (List (List �
 SaysOut (Into name) old new bytes = new ≡ old
 SaysOut Aloud old new bytes = Grows old new bytes
 
--- What the desk holds, if it told what it held: these bytes went out, no other file is another, and the handles are of the inputs.
+-- What the desk holds, if it told what it held: these bytes went out, no other file is another, and the handles are of
+-- the inputs.
 pub record HoldsOut (b : Start) (h : Held) (now : State) (bytes : List ℕ) : Type 0 where
   pub is : Held
   pub held : now.held ≡ Some is
@@ -66,7 +68,8 @@ pub record HoldsOut (b : Start) (h : Held) (now : State) (bytes : List ℕ) : Ty
 pub record Reached (b : Start) (now : State) (readings : List Reading) (bytes : List ℕ) : Type 0 where
   pub opened : now.opened ≡ b.desk.opened ++ places_of readings
   pub all : length readings ≡ length b.ins
-  pub handles : (input : ℕ) → input < length readings → (reading_at readings input).handle ≡ length b.desk.opened + input
+  pub handles : (input : ℕ) → input < length readings → (reading_at readings input).handle ≡ length
+      b.desk.opened + input
   pub created : now.created ≡ b.desk.created + creates b.sink
   pub said : SaysOut b.sink b.desk.said now.said bytes
   pub untold : b.desk.held ≡ None → now.held ≡ None
@@ -82,7 +85,8 @@ pub record IsRead (file : List ℕ) (rest : Option (List ℕ)) (taken : List ℕ
 -- How the files and the events are related, if the desk told its files.
 pub record Relates (b : Start) (h : Held) (now : State) (readings : List Reading) (events : List Event) : Type 0 where
   pub present : (input : ℕ) → input < length b.ins → IsSome (get h.files (slice_index_or b.ins input []))
-  pub reads : (input : ℕ) → input < length b.ins → IsRead (file_at h b.ins input) (rest_of now (reading_at readings input))
+  pub reads : (input : ℕ) → input < length b.ins
+      → IsRead (file_at h b.ins input) (rest_of now (reading_at readings input))
       (fed input events) (has_ended input events)
 
 -- Behind the end of a file nothing waits.
@@ -109,7 +113,8 @@ pub record Runs (b : Start) (now : State) (readings : List Reading) (reach : ℕ
 -- A machine gave a piece, which went behind the bytes that waited.
 pub record Gathers {A : Type 0} (Becomes : A → List Event → A → Type 0) (old new : A) (was is : List ℕ) : Type 0 where
   pub piece : List ℕ
-  pub becomes : (start : A) (events : List Event) → Becomes start events old → Becomes start (events ++ Gave piece ∷ []) new
+  pub becomes : (start : A) (events : List Event) → Becomes start events old
+      → Becomes start (events ++ Gave piece ∷ []) new
   pub behind : is ≡ was ++ piece
 
 -- Of the bytes that waited a front went out, and the others wait still.
@@ -150,7 +155,8 @@ IsMarked (Ended to bytes) was is = is ≡ true
 IsMarked (Gave bytes) was is = ⊥
 
 -- A machine was fed by a reader.
-pub record Feeds {A : Type 0} (Becomes : A → List Event → A → Type 0) (old new : A) (before after : State) (was is : Reading)
+pub record Feeds {A : Type 0} (Becomes : A → List Event → A → Type 0) (old new : A) (before after : State)
+    (was is : Reading)
     (input : ℕ) : Type 0 where
   pub event : Event
   pub becomes : (start : A) (events : List Event) → Becomes start events old → Becomes start (events ++ event ∷ []) new
@@ -175,7 +181,8 @@ pub record HoldsIns (old new : State) (h : Held) (ins : List (List ℕ)) : Type 
 pub record AreOpened (old new : State) (ins : List (List ℕ)) (readings : List Reading) : Type 0 where
   pub opened : new.opened ≡ old.opened ++ places_of readings
   pub all : length readings ≡ length ins
-  pub begin : (input : ℕ) → input < length readings → reading_at readings input ≡ reading_from (length old.opened + input)
+  pub begin : (input : ℕ) → input < length readings → reading_at readings input ≡ reading_from
+      (length old.opened + input)
   pub fresh : (input : ℕ) → input < length readings → has_run_out new (length old.opened + input) ≡ false
   pub created : new.created ≡ old.created
   pub said : new.said ≡ old.said
@@ -203,7 +210,8 @@ FailsToBeginFor old new sink WriteFault = (start : State) (ins : List (List ℕ)
     → AreOpened start old ins readings → WritesFail start new × FailsToBegin sink start new ins
 
 -- There is a run so far, and the machine is where it came to.
-pub record IsRunning {A : Type 0} (Becomes : List Event → A → Type 0) (reach : A → ℕ → ℕ) (b : Start) (now : State) (machine : A)
+pub record IsRunning {A : Type 0} (Becomes : List Event → A → Type 0) (reach : A → ℕ → ℕ) (b : Start)
+    (now : State) (machine : A)
     (readings : List Reading) : Type 0 where
   pub events : List Event
   pub came : Becomes events machine
@@ -215,7 +223,8 @@ read_fault input stop.TooLong = TooLong input
 read_fault input stop.Fault = ReadFault input
 
 -- A reader has taken what a machine was fed of an input.
-pub record IsReader {A : Type 0} (Becomes : A → List Event → A → Type 0) (m : A) (input : ℕ) (r : Reading) : Type 0 where
+pub record IsReader {A : Type 0} (Becomes : A → List Event → A → Type 0) (m : A) (input : ℕ) (r : Reading) :
+    Type 0 where
   pub start : A
   pub events : List Event
   pub came : Becomes start events m

@@ -28,10 +28,11 @@ most_given = 4096
 
 -- Nothing was said, or last a page on which there was no room for a piece.
 abbrev pub SaidPages : List ℕ → Type 0
-SaidPages said = (said ≡ []) ⊎ ((earlier : List ℕ) × (page : List ℕ) × (said ≡ earlier ++ page) × (most_waiting < length page + most_given))
+SaidPages said = (said ≡ []) ⊎ ((earlier : List ℕ) × (page : List ℕ) × (said ≡ earlier ++ page)
+    × (most_waiting < length page + most_given))
 
--- When the machine gave for the last time, so little waited that there was room for a piece: of what is not said, nothing was to
--- be said before it. And nothing was said before it was to be.
+-- When the machine gave for the last time, so little waited that there was room for a piece: of what is not said,
+-- nothing was to be said before it. And nothing was said before it was to be.
 pub record HadRoom (said : List ℕ) (events : List Event) : Type 0 where
   pub before : List Event
   pub piece : List ℕ
@@ -48,9 +49,10 @@ pub record MayWait (said unsaid : List ℕ) (events : List Event) : Type 0 where
   pub few : length unsaid ≤ most_waiting
   pub since : (unsaid ≡ []) ⊎ HadRoom said events
 
--- The named file was opened and read up to a place, and its bytes were fed to a machine. All that it had given at some moment was
--- said, and of what it gave since this was not said, which is no more than may wait.
-pub record Tells {A : Type 0} (Came : List Event → A → Type 0) (next : A → Step) (old new : State) (name : List ℕ) (now : A)
+-- The named file was opened and read up to a place, and its bytes were fed to a machine. All that it had given at some
+-- moment was said, and of what it gave since this was not said, which is no more than may wait.
+pub record Tells {A : Type 0} (Came : List Event → A → Type 0) (next : A → Step) (old new : State) (name : List ℕ)
+    (now : A)
     (place : ℕ) (unsaid : List ℕ) : Type 0 where
   pub events : List Event
   pub came : Came events now
@@ -74,27 +76,31 @@ pub record TellsAll {A : Type 0} (Came : List Event → A → Type 0) (next : A 
   pub short : place < longest_file
   pub counts : SameCounts old new
 
--- The file gave as many bytes as none may have, and what the machine had not taken of them is no more than it wanted. All that it
--- gave was said.
-pub record TellsTooMuch {A : Type 0} (Came : List Event → A → Type 0) (next : A → Step) (old new : State) (name : List ℕ)
+-- The file gave as many bytes as none may have, and what the machine had not taken of them is no more than it wanted.
+-- All that it gave was said.
+pub record TellsTooMuch {A : Type 0} (Came : List Event → A → Type 0) (next : A → Step) (old new : State)
+    (name : List ℕ)
     (now : A) : Type 0 where
   pub tells : Tells Came next old new name now longest_file []
   pub wants : Needs (next now) 0 (longest_file - length (fed 0 tells.events))
   pub counts : SameCounts old new
 
--- The file could not be read on, and the machine wants more than was read. What it gave was said then, unless that failed too:
+-- The file could not be read on, and the machine wants more than was read. What it gave was said then, unless that
+-- failed too:
 -- then no more is lost than may wait (`waits`), so nothing of it was to be said before the file failed.
-pub record TellsUntilFault {A : Type 0} (Came : List Event → A → Type 0) (next : A → Step) (old new : State) (name : List ℕ)
+pub record TellsUntilFault {A : Type 0} (Came : List Event → A → Type 0) (next : A → Step) (old new : State)
+    (name : List ℕ)
     (now : A) : Type 0 where
   pub place : ℕ
   pub unsaid : List ℕ
   pub tells : Tells Came next old new name now place unsaid
   pub wants : FallsShort (next now) 0 (place - length (fed 0 tells.events))
   pub short : place < longest_file
-  pub all : ((unsaid ≡ []) × (new.counts.writes ≡ old.counts.writes)) ⊎ ((unsaid ≢ []) × Rose old.counts.writes new.counts.writes)
+  pub all : ((unsaid ≡ []) × (new.counts.writes ≡ old.counts.writes))
+      ⊎ ((unsaid ≢ []) × Rose old.counts.writes new.counts.writes)
 
--- The count of reading rose. That of writing may have risen too, but later: the first fault is what it was, or of reading if
--- there was none. That of last lines stayed.
+-- The count of reading rose. That of writing may have risen too, but later: the first fault is what it was, or of
+-- reading if there was none. That of last lines stayed.
 pub record ReadsFailAtLeast (old new : State) : Type 0 where
   pub rose : Rose old.counts.reads new.counts.reads
   pub first : new.counts.first ≡ first_of old.counts.first Reading
@@ -102,12 +108,14 @@ pub record ReadsFailAtLeast (old new : State) : Type 0 where
   pub writes : old.counts.writes ≤ new.counts.writes
   pub lines : new.counts.lines ≡ old.counts.lines
 
--- A run that did not come to the end of its machine, or could not say all, by its cause. After a fault of writing some bytes are
--- not said.
-abbrev pub StopsTelling : {A : Type 0} → (List Event → A → Type 0) → (A → Step) → State → State → List ℕ → A → RunFault → Type 0
+-- A run that did not come to the end of its machine, or could not say all, by its cause. After a fault of writing some
+-- bytes are not said.
+abbrev pub StopsTelling : {A : Type 0} → (List Event → A → Type 0) → (A → Step) → State → State → List ℕ
+    → A → RunFault → Type 0
 StopsTelling Came next old new name now (TooLong input) = (input ≡ 0) × TellsTooMuch Came next old new name now
 StopsTelling Came next old new name now (ReadFault input) = (input ≡ 0)
     × ((ReadsFail old new × Unopened old new) ⊎ (ReadsFailAtLeast old new × TellsUntilFault Came next old new name now))
 StopsTelling Came next old new name now WriteFault =
-    WritesFail old new × ((place : ℕ) × (unsaid : List ℕ) × Tells Came next old new name now place unsaid × (unsaid ≢ [])
+    WritesFail old new × ((place : ℕ) × (unsaid : List ℕ) × Tells Came next old new name now place unsaid
+    × (unsaid ≢ [])
     × (place ≤ longest_file))

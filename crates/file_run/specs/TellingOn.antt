@@ -22,7 +22,8 @@ abbrev pub GivesWay : State → State → List ℕ → List ℕ → Type 0
 GivesWay old new waiting left = (Keeps old new × (left ≡ waiting))
     ⊎ (Says old new waiting × (left ≡ []) × (PAGE < length waiting + PIECE))
 
--- A file was opened and read by a reader, its bytes were fed to a machine, and of what it gave these bytes were not said.
+-- A file was opened and read by a reader, its bytes were fed to a machine, and of what it gave these bytes were not
+-- said.
 pub record Telling {A : Type 0} (Came : List Event → A → Type 0) (next : A → Step) (start now : State) (name : List ℕ)
     (machine : A) (r : Reading) (unsaid : List ℕ) : Type 0 where
   pub events : List Event
@@ -48,7 +49,8 @@ pub record Telling {A : Type 0} (Came : List Event → A → Type 0) (next : A �
   pub pages : SaidPages (gave early)
 
 -- A run was begun in which no call failed.
-pub record HasBegun {A : Type 0} (Becomes : A → List Event → A → Type 0) (next : A → Step) (inputs : A → ℕ) (now : State)
+pub record HasBegun {A : Type 0} (Becomes : A → List Event → A → Type 0) (next : A → Step) (inputs : A
+    → ℕ) (now : State)
     (machine : A) (r : Reading) (page : List ℕ) : Type 0 where
   pub begin : A
   pub start : State

@@ -21,8 +21,8 @@ pub enum ReadStop {
     Fault,
 }
 
-/// Reads a file ahead. It is seen as the file's handle, how many bytes were taken, the bytes that were read behind them, and
-/// whether the file was found to have ended. After `open` it takes no memory.
+/// Reads a file ahead. It is seen as the file's handle, how many bytes were taken, the bytes that were read behind
+/// them, and whether the file was found to have ended. After `open` it takes no memory.
 #[derive(Drop)]
 pub struct ReadAhead {
     handle: u32,
@@ -46,7 +46,8 @@ impl Model for ReadAhead {
 }
 
 impl ReadAhead {
-    ghost use Rattle.std.specs.Prelude.{◌≡◌, ◌<◌, ◌≤◌, ◌+◌, ◌==◌, ℕ, [], true, false, not, length, drop, IfOk, IfErr, OnOk, OnErr, IsTrue};
+    ghost use Rattle.std.specs.Prelude.{◌≡◌, ◌<◌, ◌≤◌, ◌+◌, ◌==◌, ℕ, [], true, false, not, length, drop, IfOk, IfErr};
+    ghost use Rattle.std.specs.Prelude.{OnOk, OnErr, IsTrue};
     ghost use Rattle.ports.specs.Desk.{SameCounts, has_run_out};
     ghost use Rattle.file_run.specs.Ahead.{IsAtEnd};
     ghost use Rattle.file_run.specs.Reading.{given_of, longest_file, ReadsOn, TakesNone, StopsReading};
@@ -90,15 +91,20 @@ impl ReadAhead {
     /// Takes bytes from the front of those that wait.
     pub fn skip(&mut self, count: usize)
         requires { count ≤ length self.old.waiting }
-        ensures taken { self.new ≡ record self.old { taken = self.old.taken + count; waiting = drop count self.old.waiting } }
+        ensures taken { self.new ≡ record self.old {
+          taken = self.old.taken + count;
+          waiting = drop count
+              self.old.waiting;
+        } }
         ensures given { given_of self.new ≡ given_of self.old }
     {
         self.input.skip(count);
         self.taken += count as u64;
     }
 
-    // Reads on if fewer bytes wait than are wanted, no further than `most` bytes: how many, and 0 only at the end of the file. If
-    // the file is nearly too long, no more is read than is wanted, so that what stands before is looked at first.
+    // Reads on if fewer bytes wait than are wanted, no further than `most` bytes: how many, and 0 only at the end of
+    // the file. If the file is nearly too long, no more is read than is wanted, so that what stands before is looked at
+    // first.
     fn read<D: Desk>(&mut self, desk: &mut D, least: usize, most: u64) -> Result<usize, ReadStop>
         requires opened { self.old.handle < length (D.state desk.old).opened }
         requires going { has_run_out (D.state desk.old) self.old.handle ≡ false }
@@ -133,8 +139,8 @@ impl ReadAhead {
         Ok(count)
     }
 
-    /// Reads on until so many bytes wait: false if the file ends before, and then it is not to be read again. It reads no further
-    /// than `most` bytes wait. If it fails, as many bytes wait as were read.
+    /// Reads on until so many bytes wait: false if the file ends before, and then it is not to be read again. It reads
+    /// no further than `most` bytes wait. If it fails, as many bytes wait as were read.
     pub fn read_until<D: Desk>(
         &mut self,
         desk: &mut D,
@@ -147,7 +153,8 @@ impl ReadAhead {
         requires short { given_of self.old < longest_file }
         ensures reads { ReadsOn (D.state desk.old) (D.state desk.new) self.old self.new }
         ensures none { TakesNone (D.state desk.old) (D.state desk.new) self.old self.new }
-        ensures limit { (limit : ℕ) → given_of self.old ≤ limit → self.old.taken + most ≤ limit → given_of self.new ≤ limit }
+        ensures limit { (limit : ℕ) → given_of self.old ≤ limit → self.old.taken + most ≤ limit
+            → given_of self.new ≤ limit }
         ensures full { IfOk result (λ full. IsTrue full → least ≤ length self.new.waiting) }
         ensures end { IfOk result (λ full. full ≡ false
             → (length self.new.waiting < least) × IsAtEnd (D.state desk.new) self.old.handle) }

@@ -77,8 +77,8 @@ fn plan_of(valid: Valid) -> Result<Plan, ConfigStop>
     }
 }
 
-/// Reads the configuration of a named file, tries its rules, and then the capacity tests. It answers as [`read_config`] does, and
-/// `Lacks` if a test fails.
+/// Reads the configuration of a named file, tries its rules, and then the capacity tests. It answers as [`read_config`]
+/// does, and `Lacks` if a test fails.
 pub fn read_plan<D: Desk>(alloc: Global, name: &str, desk: &mut D) -> Result<Plan, ConfigStop>
     ensures ok { IfOk result (λ plan. Gives (D.state desk.old) (D.state desk.new) name.now plan × IsPlan plan) }
     ensures err { IfErr result (GivesNoPlan (D.state desk.old) (D.state desk.new) name.now) }

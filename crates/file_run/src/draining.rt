@@ -58,7 +58,8 @@ pub fn drain<M: Machine, D: Desk>(
     ensures ok { OnOk result (Drains M.Becomes out machine.old machine.new (D.state desk.old) (D.state desk.new) []) }
     ensures nothing { OnOk result (buffer.new ≡ []) }
     ensures dry { OnOk result (M.next machine.new ≢ Step.Give) }
-    ensures err { OnErr result (DrainsFront M.Becomes out machine.old machine.new (D.state desk.old) (D.state desk.new)) }
+    ensures err { OnErr result (DrainsFront M.Becomes out machine.old machine.new (D.state desk.old)
+        (D.state desk.new)) }
     ensures gives { OnErr result (M.next machine.old ≡ Step.Give) }
     ensures reach { (other : ℕ) → M.reach machine.old other ≤ M.reach machine.new other }
     ensures counts { MayFailWriting (D.state desk.old).counts (D.state desk.new).counts result }

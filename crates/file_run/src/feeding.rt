@@ -30,7 +30,8 @@ pub fn feed<M: Machine, D: Desk>(
     ensures machine { OnErr result (machine.new ≡ machine.old) }
     ensures feeds { OnOk result
         (Feeds M.Becomes machine.old machine.new (D.state desk.old) (D.state desk.new) reader.old reader.new input) }
-    ensures limit { (limit : ℕ) → given_of reader.old ≤ limit → reader.old.taken + most ≤ limit → given_of reader.new ≤ limit }
+    ensures limit { (limit : ℕ) → given_of reader.old ≤ limit → reader.old.taken + most ≤ limit
+        → given_of reader.new ≤ limit }
     ensures fewer { OnOk result (spare reader.new < spare reader.old) }
     ensures reach { (other : ℕ) → M.reach machine.old other ≤ M.reach machine.new other }
     ensures counts { OnOk result (SameCounts (D.state desk.old) (D.state desk.new)) }

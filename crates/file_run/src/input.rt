@@ -1,5 +1,6 @@
 // What was read of a file and not yet taken.
-ghost use Rattle.std.specs.Prelude.{◌≡◌, ◌↔◌, IsTrue, ◌+◌, ◌-◌, ◌<◌, ◌≤◌, ◌==◌, [], false, length, take, drop, IfOk, OnErr};
+ghost use Rattle.std.specs.Prelude.{◌≡◌, ◌↔◌, IsTrue, ◌+◌, ◌-◌, ◌<◌, ◌≤◌, ◌==◌, [], false, length, take, drop, IfOk};
+ghost use Rattle.std.specs.Prelude.{OnErr};
 ghost use Rattle.ports.specs.Desk.{Keeps, Reads, has_run_out};
 ghost use Rattle.ports.specs.Counts.{MayFailReading};
 ghost use Rattle.file_run.specs.Ahead.{ReadsAhead, IsAtEnd};
@@ -13,8 +14,8 @@ use std::marker::Model;
 /// How many bytes wait at most.
 pub const BUFFER: usize = 131_072;
 
-/// How many bytes may be wanted at once. There is room for as many behind those that wait: as it is an eighth of the buffer, what
-/// waits is moved to the front once in seven eighths of it at most.
+/// How many bytes may be wanted at once. There is room for as many behind those that wait: as it is an eighth of the
+/// buffer, what waits is moved to the front once in seven eighths of it at most.
 pub const MOST_WANTED: usize = 16_384;
 
 /// A range of places, end excluded.
@@ -156,8 +157,8 @@ impl Input {
         self.span.start += count;
     }
 
-    /// Reads the next bytes of a file behind those that wait, at most `most`: how many, and 0 only at the end of the file, which is
-    /// not read again then.
+    /// Reads the next bytes of a file behind those that wait, at most `most`: how many, and 0 only at the end of the
+    /// file, which is not read again then.
     pub fn read<D: Desk>(
         &mut self,
         desk: &mut D,

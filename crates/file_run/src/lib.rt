@@ -1,4 +1,5 @@
-//! A machine over files: some are read, and one is written or standard output said; and a configuration, read from a file.
+//! A machine over files: some are read, and one is written or standard output said; and a configuration, read from a
+//! file.
 #![tactic(auto)]
 
 mod ahead;
@@ -7,6 +8,7 @@ mod config_reading;
 mod config_stop;
 mod desk_laws;
 mod draining;
+mod feed_counts;
 mod feeding;
 mod input;
 mod laws;
@@ -27,6 +29,7 @@ pub use config_laws::{config_ends_law, one_config_law};
 pub use config_reading::{read_config, read_plan};
 pub use config_stop::{ConfigCause, ConfigStop};
 pub use desk_laws::{appends_law, creates_law};
+pub use feed_counts::{FeedCounts, MOST_FEEDS};
 pub use input::{BUFFER, Input, MOST_WANTED};
 pub use laws::{events_law, faults_law};
 pub use line::{Line, ROOM};

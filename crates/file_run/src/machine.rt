@@ -13,7 +13,8 @@ pub const AHEAD: u64 = 65_536;
 /// What a machine does next.
 #[derive(Clone, Copy, Debug, PartialEq, Eq)]
 pub enum Step {
-    /// It wants at least so many bytes of this input, counted from 0, or its end, and no more than `most` are to wait for it.
+    /// It wants at least so many bytes of this input, counted from 0, or its end, and no more than `most` are to wait
+    /// for it.
     Read {
         input: usize,
         least: usize,
@@ -25,9 +26,9 @@ pub enum Step {
     End,
 }
 
-/// A machine that is fed with the bytes of some inputs, in any cutting, and gives the bytes of one output. It knows no desk. No
-/// call fails: a machine takes also what it cannot use, comes to its end, and its owner asks it then how it ended. So it takes no
-/// memory in its calls, or ends for want of it.
+/// A machine that is fed with the bytes of some inputs, in any cutting, and gives the bytes of one output. It knows no
+/// desk. No call fails: a machine takes also what it cannot use, comes to its end, and its owner asks it then how it
+/// ended. So it takes no memory in its calls, or ends for want of it.
 pub trait Machine {
     ghost use Rattle.file_run.specs.declared.machine.Step.{Step};
 
@@ -111,5 +112,6 @@ pub trait Working: Ending {
 
     /// It does so. Nothing is done.
     fn work_law(&self)
-        ensures { (start : Self) → DoesWork (work start) (Self.inputs start) Self.reach Self.next (Self.Becomes start) Self.ending };
+        ensures { (start : Self) → DoesWork (work start) (Self.inputs start) Self.reach Self.next (Self.Becomes start)
+            Self.ending };
 }

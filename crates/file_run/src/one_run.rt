@@ -25,7 +25,8 @@ pub fn open_readers(alloc: Global, count: usize) -> Result<Vec<ReadAhead>, OutOf
     Ok(readers)
 }
 
-/// Runs a machine over files as `run` does, and tells what came of it. All memory is taken before the first input is opened.
+/// Runs a machine over files as `run` does, and tells what came of it. All memory is taken before the first input is
+/// opened.
 pub fn run_one<M: Ending, D: Desk>(
     alloc: Global,
     machine: &mut M,
@@ -36,7 +37,8 @@ pub fn run_one<M: Ending, D: Desk>(
     requires inputs { M.inputs machine.old ≡ length ins.now }
     requires start { M.Becomes machine.old [] machine.old }
     requires apart { AreOthers (sink_of output) ins.now }
-    ensures { RunsOnce (D.state desk.old) (D.state desk.new) (sink_of output.entry) ins.now M.reach M.next (M.Becomes machine.old) M.ending
+    ensures { RunsOnce (D.state desk.old) (D.state desk.new) (sink_of output.entry) ins.now M.reach M.next
+        (M.Becomes machine.old) M.ending
         machine.new result }
 {
     let mut readers = open_readers(alloc, ins.len())?;
@@ -59,7 +61,8 @@ pub fn run_over<M: Ending, D: Desk>(
     requires inputs { M.inputs machine.old ≡ 1 }
     requires start { M.Becomes machine.old [] machine.old }
     requires apart { IsOther (sink_of output) input.now }
-    ensures { RunsOnce (D.state desk.old) (D.state desk.new) (sink_of output.entry) (input.now ∷ []) M.reach M.next (M.Becomes machine.old) M.ending
+    ensures { RunsOnce (D.state desk.old) (D.state desk.new) (sink_of output.entry) (input.now ∷ [])
+        M.reach M.next (M.Becomes machine.old) M.ending
         machine.new result }
 {
     let ins = [Word::new(alloc, input)?];
@@ -79,7 +82,8 @@ pub fn run_over_two<M: Ending, D: Desk>(
     requires start { M.Becomes machine.old [] machine.old }
     requires apart_first { IsOther (sink_of output) first.now }
     requires apart_second { IsOther (sink_of output) second.now }
-    ensures { RunsOnce (D.state desk.old) (D.state desk.new) (sink_of output.entry) (first.now ∷ second.now ∷ []) M.reach M.next
+    ensures { RunsOnce (D.state desk.old) (D.state desk.new) (sink_of output.entry) (first.now ∷ second.now ∷ [])
+        M.reach M.next
         (M.Becomes machine.old) M.ending machine.new result }
 {
     let ins = [Word::new(alloc, first)?, Word::new(alloc, second)?];
@@ -97,7 +101,8 @@ pub fn run_work_over<M: Working, D: Desk>(
     requires inputs { M.inputs machine.old ≡ 1 }
     requires start { M.Becomes machine.old [] machine.old }
     requires apart { IsOther (sink_of output) input.now }
-    ensures { Ends (M.work machine.old) (D.state desk.old) (D.state desk.new) (sink_of output.entry) (input.now ∷ []) result }
+    ensures { Ends (M.work machine.old) (D.state desk.old) (D.state desk.new) (sink_of output.entry)
+        (input.now ∷ []) result }
 {
     machine.work_law();
     run_over(alloc, machine, input, output, desk)

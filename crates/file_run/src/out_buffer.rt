@@ -11,8 +11,8 @@ use bit_slice::OutOfMemory;
 use std::alloc::Global;
 use std::marker::Model;
 
-/// Bytes that a machine gave and that are not written or said yet, at most [`PAGE`], seen as a list. A machine gives straight
-/// into its room. After `open` it takes no memory.
+/// Bytes that a machine gave and that are not written or said yet, at most [`PAGE`], seen as a list. A machine gives
+/// straight into its room. After `open` it takes no memory.
 #[derive(Drop)]
 pub struct OutBuffer {
     bytes: Vec<u8>,

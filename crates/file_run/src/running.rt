@@ -25,9 +25,9 @@ pub fn fault_of(input: usize, why: ReadStop) -> RunFault
     }
 }
 
-/// Runs a machine over files: opens the inputs in turn, one for each reader; creates the output, if it is a file; and reads what the
-/// machine wants and puts out what it gives until it has come to its end. What it gives goes out before it is fed on. It takes no
-/// memory.
+/// Runs a machine over files: opens the inputs in turn, one for each reader; creates the output, if it is a file; and
+/// reads what the machine wants and puts out what it gives until it has come to its end. What it gives goes out before
+/// it is fed on. It takes no memory.
 pub fn run<M: Machine, D: Desk>(
     machine: &mut M,
     readers: &mut [ReadAhead],
@@ -45,7 +45,8 @@ pub fn run<M: Machine, D: Desk>(
         (λ events. M.Becomes machine.old events machine.new)) }
     ensures end { OnOk result (M.next machine.new ≡ Step.End) }
     ensures err { IfErr result
-        (Stops (D.state desk.old) (D.state desk.new) (sink_of output.entry) ins.now M.reach M.next (M.Becomes machine.old) machine.new) }
+        (Stops (D.state desk.old) (D.state desk.new) (sink_of output.entry) ins.now M.reach M.next
+        (M.Becomes machine.old) machine.new) }
 {
     creates_law();
     open_files(ins, readers, desk)?;

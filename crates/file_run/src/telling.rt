@@ -83,7 +83,8 @@ fn tell_on<M: Machine, D: Desk>(
     ensures end { OnOk result (Finishes M.next (D.state desk.old) (D.state desk.new) machine.new reader.new) }
     ensures err { IfErr result (λ why. (begin : M) (start : State) (name : List ℕ)
         → Telling (M.Becomes begin) M.next start (D.state desk.old) name machine.old reader.old page.old
-        → (unsaid : List ℕ) × Telling (M.Becomes begin) M.next start (D.state desk.new) name machine.new reader.new unsaid
+        → (unsaid : List ℕ) × Telling (M.Becomes begin) M.next start (D.state desk.new) name machine.new
+        reader.new unsaid
         × (why ≢ RunFault.WriteFault → unsaid ≡ page.new) × (why ≡ RunFault.WriteFault → unsaid ≢ [])) }
     ensures cause { IfErr result (Breaks M.next (D.state desk.old) (D.state desk.new) machine.new reader.new) }
 {
@@ -123,8 +124,9 @@ fn tell_last<D: Desk>(
     }
 }
 
-/// Reads the named file for a machine of one input and says what the machine gives, some 128 KiB at a time, until it has come to
-/// its end. The first fault is the answer; after one of reading what waits is said still. It takes no memory.
+/// Reads the named file for a machine of one input and says what the machine gives, some 128 KiB at a time, until it
+/// has come to its end. The first fault is the answer; after one of reading what waits is said still. It takes no
+/// memory.
 pub fn tell<M: Machine, D: Desk>(
     machine: &mut M,
     reader: &mut ReadAhead,

@@ -1,9 +1,9 @@
 // Calls of `bit_slice`.
 //
-// `crc32 BYTES FIRST LEN`, `crc8 BYTES FIRST LEN`, `prbs COUNT` (bytes of the scrambler's sequence), `blocks N` (its bytes 120 N to
-// 120 N + 119), `field BYTES AT WIDTH`, `bytes BYTES FIRST COUNT`, `take BYTES FIRST LEN WIDTH..`, `joined A LEN B FIRST AT WIDTH`, and
-// `put ITEM..`, each VALUE/WIDTH or BYTES@FIRST:LEN, into sinks: how many bits, what they are with their CRC-32 behind, and what
-// becomes of them where there is room for 46 bytes.
+// `crc32 BYTES FIRST LEN`, `crc8 BYTES FIRST LEN`, `prbs COUNT` (bytes of the scrambler's sequence), `blocks N` (its
+// bytes 120 N to 120 N + 119), `field BYTES AT WIDTH`, `bytes BYTES FIRST COUNT`, `take BYTES FIRST LEN WIDTH..`,
+// `joined A LEN B FIRST AT WIDTH`, and `put ITEM..`, each VALUE/WIDTH or BYTES@FIRST:LEN, into sinks: how many bits,
+// what they are with their CRC-32 behind, and what becomes of them where there is room for 46 bytes.
 use crate::words::{Words, all_bits, number, part_of, spelled};
 use bit_slice::{
     BitBuf, BitReader, BitSink, BitSource, CrcSink, FixedBits, Joined, Prbs, PrbsBlocks, SinkFault,

@@ -1,7 +1,7 @@
 // Calls of `bb_frame`.
 //
-// `baseband BYTES` is what stands there, `written MATYPE-1 MATYPE-2 ISSY SYNCD KBCH BYTES` a frame with this data field, and
-// `scramble BYTES` these bytes scrambled.
+// `baseband BYTES` is what stands there, `written MATYPE-1 MATYPE-2 ISSY SYNCD KBCH BYTES` a frame with this data
+// field, and `scramble BYTES` these bytes scrambled.
 ghost use Rattle.std.specs.Prelude.{◌≡◌, ◌<◌, ◌≤◌, ◌+◌, ◌%◌, ◌^◌, length, IsTrue};
 ghost use Rattle.bb_frame.specs.BasebandFrame.{Describes};
 ghost use Rattle.bb_frame.specs.declared.header.TheConstants.{HEADER_BITS};

@@ -34,7 +34,8 @@ fn answer(alloc: Global, networks: &Networks, words: &Words<'_>) -> Result<Strin
     }
 }
 
-// Plays a line. A network is defined, and tells nothing; empty lines and those that begin with `#` are written as they stand.
+// Plays a line. A network is defined, and tells nothing; empty lines and those that begin with `#` are written as they
+// stand.
 fn play_line(
     rt: &(impl Print + AllocGlobal),
     networks: &mut Networks,

@@ -1,6 +1,7 @@
 // The networks of a script, and the calls that want one.
 //
-// `network NAME CELLS SUBSLICES FRAMES PLP;PLP..` defines one, each PLP by the words of its line in a configuration, joined by commas.
+// `network NAME CELLS SUBSLICES FRAMES PLP;PLP..` defines one, each PLP by the words of its line in a configuration,
+// joined by commas.
 mod maps;
 mod queues;
 mod signals;

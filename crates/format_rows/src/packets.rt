@@ -1,9 +1,10 @@
 // Calls of `ts_packet`, `null_delete` and `t2mi_packet`.
 //
-// `transport BYTES` is the header of a packet of 188 bytes and where its payload begins, `carries PID COUNTER POINTER BYTES` a packet that
-// is written with a payload (POINTER is `-` where none begins in it), `null BYTES` whether it is a null packet, and `canonical` the null
-// packet. `deletes on|off RUN..` gives runs of null packets with another packet behind each, and answers each slot that is kept, with
-// its dnp; `slots FIRST DNP..` finds slots again. `t2mi BYTES` is what stands there, and `needed BYTES` how many bytes it wants.
+// `transport BYTES` is the header of a packet of 188 bytes and where its payload begins, `carries PID COUNTER POINTER
+// BYTES` a packet that is written with a payload (POINTER is `-` where none begins in it), `null BYTES` whether it is a
+// null packet, and `canonical` the null packet. `deletes on|off RUN..` gives runs of null packets with another packet
+// behind each, and answers each slot that is kept, with its dnp; `slots FIRST DNP..` finds slots again. `t2mi BYTES` is
+// what stands there, and `needed BYTES` how many bytes it wants.
 ghost use Rattle.std.specs.Prelude.{◌<◌, ◌^◌, length};
 
 use crate::words::{Words, number_8, spelled};

@@ -1,4 +1,5 @@
-// The words of a row. Bytes are pieces in hexadecimal joined by `+`, any of them `PIECE*N` for N times; numbers are decimal.
+// The words of a row. Bytes are pieces in hexadecimal joined by `+`, any of them `PIECE*N` for N times; numbers are
+// decimal.
 ghost use Rattle.std.specs.Prelude.{◌<◌, ◌≤◌, ◌^◌, length};
 
 use bit_slice::BitSlice;

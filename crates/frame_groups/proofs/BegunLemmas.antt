@@ -1,6 +1,7 @@
 -- Where interleaving frames begin, and the groups there.
 use Rattle.std.proofs.Common.{◌≡◌, ◌≢◌, ℕ, zero, suc, ◌+◌, ◌-◌, ◌*◌, ◌%◌, ◌<◌, ◌≤◌, ◌==◌, ◌^◌, Bool, false, List, []}
-use Rattle.std.proofs.Common.{◌∷◌, length, get_or, sum_by, Option, Some, None, refl, ap, ap₂, sym, subst, ◌∙◌, ⊎_elim, arith}
+use Rattle.std.proofs.Common.{◌∷◌, length, get_or, sum_by, Option, Some, None, refl, ap, ap₂, sym, subst, ◌∙◌, ⊎_elim}
+use Rattle.std.proofs.Common.{arith}
 use Rattle.std.specs.List.{range_with_len}
 use Rattle.std.specs.Option.{option_or}
 use Rattle.std.proofs.lemmas.Bool.{cases_eq, cond-true, cond-false, eq-eqb, ne_eqb, le-leb, lt-leb}
@@ -31,7 +32,8 @@ place_there c k d l =
     (omega (arith, e), inside)
 
 -- in a superframe before none begins that a frame carries
-pub none_begins : BeginsInSuperframe → (c : Config) (n b : ℕ) → AllRules c → b < n - n % c.frames → is_begin c n b ≡ false
+pub none_begins : BeginsInSuperframe → (c : Config) (n b : ℕ) → AllRules c → b < n - n % c.frames
+    → is_begin c n b ≡ false
 none_begins inside c n b rules low =
     list_any_none (λ plp. begin_of c plp n == b) (places c)
     (λ k d l.
@@ -53,7 +55,8 @@ pub one_fails : (test : ℕ → Option MuteCause) (a len k : ℕ) (cause : MuteC
 one_fails test a zero k cause h low high e = absurd (omega (arith, low, high))
 one_fails test a (suc len) k cause h low high e =
     ⊎_elim
-    (λ (s : a ≡ k). ap (λ (o : Option MuteCause). option_or o (first_failure test (range_with_len (a + 1) len))) (ap test s ∙ e))
+    (λ (s : a ≡ k). ap (λ (o : Option MuteCause). option_or o (first_failure test (range_with_len (a + 1) len)))
+    (ap test s ∙ e))
     (λ (ne : a ≡ k → ⊥).
     ap (λ (o : Option MuteCause). option_or o (first_failure test (range_with_len (a + 1) len)))
     (h a (omega arith) (omega (arith, low, ne)))
@@ -64,9 +67,11 @@ one_fails test a (suc len) k cause h low high e =
 -- ---- the packets of a frame before
 
 pub at_own : (b : Numbered) (past : List Numbered) → packets_at (b ∷ past) b.number ≡ b.group.packets
-at_own b past = cond-true (b.number == b.number) b.group.packets (packets_at past b.number) (eq-eqb b.number b.number refl)
+at_own b past = cond-true (b.number == b.number) b.group.packets (packets_at past b.number)
+    (eq-eqb b.number b.number refl)
 
-pub at_other : (b : Numbered) (past : List Numbered) (n : ℕ) → b.number ≢ n → packets_at (b ∷ past) n ≡ packets_at past n
+pub at_other : (b : Numbered) (past : List Numbered) (n : ℕ) → b.number ≢ n
+    → packets_at (b ∷ past) n ≡ packets_at past n
 at_other b past n ne = cond-false (b.number == n) b.group.packets (packets_at past n) (ne_eqb b.number n ne)
 
 -- no packets need no chunk
@@ -86,7 +91,8 @@ no_need c = none_needed (λ plp. length (right_blocks c plp []) * chunks_for (bl
     no_times k = omega arith
 
 -- whether packets have room, by the number that is held of the chunks that they need
-pub has_room : (c : Config) (packets : List Packet) (held : ℕ) → held ≡ capped (pool_need c packets) → pool_chunks c < 2 ^ 32
+pub has_room : (c : Config) (packets : List Packet) (held : ℕ) → held ≡ capped (pool_need c packets)
+    → pool_chunks c < 2 ^ 32
     → held ≤ pool_chunks c → room_test c packets ≡ None
 unfolding room_test
 has_room c packets held is few low =
@@ -94,7 +100,8 @@ has_room c packets held is few low =
     ap (λ (t : Bool). unless t (PoolFull (capped (pool_need c packets)) (pool_chunks c)))
     (le-leb (pool_need c packets) (pool_chunks c) l)
 
-pub lacks_room : (c : Config) (packets : List Packet) (held : ℕ) → held ≡ capped (pool_need c packets) → pool_chunks c < 2 ^ 32
+pub lacks_room : (c : Config) (packets : List Packet) (held : ℕ) → held ≡ capped (pool_need c packets)
+    → pool_chunks c < 2 ^ 32
     → pool_chunks c < held → room_test c packets ≡ Some (PoolFull held (pool_chunks c))
 unfolding room_test
 lacks_room c packets held is few high =

@@ -1,5 +1,6 @@
 -- One number after another.
-use Rattle.std.proofs.Common.{◌≡◌, ℕ, zero, suc, ◌+◌, ◌-◌, ◌*◌, ◌≤◌, Bool, true, false, cond, List, [], ◌∷◌, ◌++◌, map, length}
+use Rattle.std.proofs.Common.{◌≡◌, ℕ, zero, suc, ◌+◌, ◌-◌, ◌*◌, ◌≤◌, Bool, true, false, cond, List, [], ◌∷◌, ◌++◌, map}
+use Rattle.std.proofs.Common.{length}
 use Rattle.std.proofs.Common.{Option, Some, None, refl, subst, ◌∙◌, arith}
 use Rattle.std.specs.List.{range_with_len}
 use Rattle.std.proofs.lemmas.List.{length-map, length_push}
@@ -23,7 +24,8 @@ pub next_above : (r : Rules) (m : ℕ) (g : Group) → m + 1 ≤ next_number r.f
 unfolding next_number
 next_above r m g = first_above (λ i. is_same (frame_key r.frames i) g.key) (16 * r.frames) (m + 1)
 
-from_append : (xs ys : List FrameRecord) (n m : ℕ) → AreFrom n xs → n + length xs ≡ m → AreFrom m ys → AreFrom n (xs ++ ys)
+from_append : (xs ys : List FrameRecord) (n m : ℕ) → AreFrom n xs → n + length xs ≡ m → AreFrom m ys
+    → AreFrom n (xs ++ ys)
 from_append [] ys n m a e b = let k : m ≡ n = omega (arith, e) in subst (λ (n : ℕ). AreFrom n ys) k b
 from_append (x ∷ xs) ys n m a e b = (a.0, from_append xs ys (n + 1) m a.1 (omega (arith, e)) b)
 

@@ -1,14 +1,18 @@
 -- The records that are due.
-use Rattle.std.proofs.Common.{◌≡◌, ℕ, ◌+◌, ◌≤◌, ◌<◌, ◌==◌, ◌&&◌, cond, ⊎_elim, Bool, true, false, List, [], ◌∷◌, ◌++◌, Option}
+use Rattle.std.proofs.Common.{◌≡◌, ℕ, ◌+◌, ◌≤◌, ◌<◌, ◌==◌, ◌&&◌, cond, ⊎_elim, Bool, true, false, List, [], ◌∷◌, ◌++◌}
+use Rattle.std.proofs.Common.{Option}
 use Rattle.std.proofs.Common.{Some, None, refl, ap, sym, subst, ◌∙◌, arith, append_assoc, append-nil}
 use Rattle.std.specs.Prelude.{is_some, nat_lt}
-use Rattle.std.proofs.lemmas.Bool.{true≢false, cond-true, cond-false, lt-ltb, le-ltb, ltb-true, ltb-false, eqb-true, cases_lt}
-use Rattle.terms.proofs.OptionLemmas.{some_injective, none_some}
+use Rattle.std.proofs.lemmas.Bool.{true≢false, cond-true, cond-false, lt-ltb, le-ltb, ltb-true, ltb-false, eqb-true}
+use Rattle.std.proofs.lemmas.Bool.{cases_lt}
+use Rattle.std.proofs.lemmas.Option.{same_Some}
+use Rattle.terms.proofs.OptionLemmas.{none_some}
 use Rattle.frame_groups.specs.declared.cause.MuteCause.{MuteCause}
 use Rattle.t2mi_packet.specs.declared.packet.Packet.{Packet}
 use Rattle.frame_groups.specs.Groups.{Group, key_behind}
 use Rattle.frame_groups.specs.Grouping.{Grouped, no_groups, all_groups, one_packet}
-use Rattle.frame_groups.specs.Modulated.{Numbered, Rules, FrameRecord, content_of, gap_record, group_record, number_behind}
+use Rattle.frame_groups.specs.Modulated.{Numbered, Rules, FrameRecord, content_of, gap_record, group_record}
+use Rattle.frame_groups.specs.Modulated.{number_behind}
 use Rattle.frame_groups.specs.Modulated.{gaps_behind, own_record, records_with, records_from, past_after, modulated}
 use Rattle.frame_groups.specs.Laws.{without_last}
 use Rattle.frame_groups.proofs.FrontLemmas.{none_before, without_last-append}
@@ -42,7 +46,8 @@ a_gap : {X : Type 0} (t u : Bool) (a : X) → is_some (cond t (Some a) None) ≡
 a_gap true u a e = refl
 a_gap false u a e = absurd (true≢false (sym e))
 
-is_own : {X : Type 0} (t u : Bool) (a b : X) → t ≡ false → is_some (cond t (Some a) (cond u (Some b) None)) ≡ true → u ≡ true
+is_own : {X : Type 0} (t u : Bool) (a b : X) → t ≡ false → is_some (cond t (Some a) (cond u (Some b) None)) ≡ true
+    → u ≡ true
 is_own true u a b n e = absurd (true≢false n)
 is_own false true a b n e = refl
 is_own false false a b n e = absurd (true≢false (sym e))
@@ -64,7 +69,8 @@ due_of r others [] h none = ap (λ (l : List FrameRecord). without_last (l ++ re
     one (Some n) = refl
 
 module _ (r : Rules) (closed : List Group) (past : List Numbered) (h : Group) (next : ℕ) (fault : Option MuteCause)
-    (ps : List Packet) (given : List FrameRecord) (here : kept_groups r ps ≡ record { closed = closed; under_way = Some h })
+    (ps : List Packet) (given : List FrameRecord)
+    (here : kept_groups r ps ≡ record { closed = closed; under_way = Some h })
     (past_is : past ≡ past_after r [] closed) where
   others : List FrameRecord
   others = records_from r [] closed
@@ -101,11 +107,13 @@ module _ (r : Rules) (closed : List Group) (past : List Numbered) (h : Group) (n
       (number_behind r (past_after r [] (closed ++ h ∷ [])) (one_packet (key_behind (Some h.key) p) p)) in (
         gaps,
         ap without_last m ∙ d
-            ∙ ap (λ (l : List FrameRecord). l ++ gaps) (records_push r closed h ∙ sym (modulated_is r ps closed h here)),
+            ∙ ap (λ (l : List FrameRecord). l ++ gaps) (records_push r closed h
+            ∙ sym (modulated_is r ps closed h here)),
       )
 
   -- what waits_by is the record that comes next
-  told_by : (number : Option ℕ) (closing : Bool) → Follows r closed past h number next closing fault given → (w : Waiting)
+  told_by : (number : Option ℕ) (closing : Bool) → Follows r closed past h number next closing fault given
+      → (w : Waiting)
       → waiting_by number next closing fault ≡ Some w → record_now r past (Some h) number next ≡ Some (record_of h w)
   told_by None closing f w e = none_some w e
   told_by (Some n) closing f w e = go closing (nat_lt next n) (next == n) refl (f.fault_is) e
@@ -115,11 +123,11 @@ module _ (r : Rules) (closed : List Group) (past : List Numbered) (h : Group) (n
           (cond (c && u) (Some (record { frame = n; mute = fault })) None) ≡ Some w
           → record_now r past (Some h) (Some n) next ≡ Some (record_of h w)
       go c true u k a e = cond-true (nat_lt next n) (Some (gap_record next)) (Some (group_record r past h n)) k
-          ∙ ap (λ (w : Waiting). Some (record_of h w)) (some_injective _ w e)
+          ∙ ap (λ (w : Waiting). Some (record_of h w)) (same_Some _ w e)
       go true false true k a e =
           cond-false (nat_lt next n) (Some (gap_record next)) (Some (group_record r past h n)) k
           ∙ ap (λ (o : Option MuteCause). Some (record { number = n; content = content_of h o })) (sym (a refl n refl))
-          ∙ ap (λ (w : Waiting). Some (record_of h w)) (some_injective _ w e)
+          ∙ ap (λ (w : Waiting). Some (record_of h w)) (same_Some _ w e)
       go true false false k a e = none_some w e
       go false false u k a e = none_some w e
 
@@ -149,9 +157,11 @@ module _ (r : Rules) (closed : List Group) (past : List Numbered) (h : Group) (n
       let low : n ≤ next = ltb-false next n (no_gap (nat_lt next n) _ w) in
       let high : next ≤ n = f.under_way refl n refl in
       let same : next ≡ n = omega (arith, low, high) in
-      due_false ∙ ap (λ (l : List FrameRecord). records_from r [] closed ++ l) (sym (gaps_same past (Some n) f.number_is))
+      due_false ∙ ap (λ (l : List FrameRecord). records_from r [] closed ++ l)
+      (sym (gaps_same past (Some n) f.number_is))
       ∙ sym (f.records.front high)
-      ∙ ap (λ (k : ℕ). given ++ gaps_from k n) same ∙ ap (λ (l : List FrameRecord). given ++ l) (no_gaps n) ∙ append-nil given
+      ∙ ap (λ (k : ℕ). given ++ gaps_from k n) same ∙ ap (λ (l : List FrameRecord). given ++ l) (no_gaps n)
+      ∙ append-nil given
 
   -- a record waits_by
   gap_next : (n : ℕ) (closing : Bool) → Follows r closed past h (Some n) next closing fault given → next < n
@@ -201,7 +211,8 @@ module _ (r : Rules) (closed : List Group) (past : List Numbered) (h : Group) (n
       let no = le-ltb next n l in
       let e : next ≡ n = eqb-true next n (is_own (nat_lt next n) (next == n) _ _ no w) in
       let front : given ≡ records_from r [] closed ++ gaps_behind past (Some n) =
-      sym (append-nil given) ∙ ap (λ (l : List FrameRecord). given ++ l) (sym (ap (λ (k : ℕ). gaps_from k n) e ∙ no_gaps n))
+      sym (append-nil given) ∙ ap (λ (l : List FrameRecord). given ++ l) (sym (ap (λ (k : ℕ). gaps_from k n) e
+      ∙ no_gaps n))
       ∙ f.records.front (omega (arith, e)) in (
         group_record r past h n,
         cond-false (nat_lt next n) (Some (gap_record next)) (Some (group_record r past h n)) no,
@@ -226,7 +237,8 @@ due_law r past (Some h) number next true fault ps given (closed, a, f) = record 
   under_way = λ c. absurd (true≢false c);
   ended = λ _ w. waits_closed r closed past h next fault ps given a f.past_is number f w;
   closed = λ _ p e. closed_by r closed past h next fault ps given a f.past_is p e;
-  told = λ g e w k. subst (λ (g : Group). record_now r past (Some h) number next ≡ Some (record_of g w)) (some_injective h g e)
+  told = λ g e w k. subst (λ (g : Group). record_now r past (Some h) number next ≡ Some (record_of g w))
+      (same_Some h g e)
       (told_by r closed past h next fault ps given a f.past_is number true f w k);
   none = λ e. none_some h (sym e);
 }
@@ -235,7 +247,8 @@ due_law r past (Some h) number next false fault ps given (closed, a, f) = record
   under_way = λ _ w. waits_open r closed past h next fault ps given a f.past_is number f w;
   ended = λ c. absurd (true≢false (sym c));
   closed = λ c. absurd (true≢false (sym c));
-  told = λ g e w k. subst (λ (g : Group). record_now r past (Some h) number next ≡ Some (record_of g w)) (some_injective h g e)
+  told = λ g e w k. subst (λ (g : Group). record_now r past (Some h) number next ≡ Some (record_of g w))
+      (same_Some h g e)
       (told_by r closed past h next fault ps given a f.past_is number false f w k);
   none = λ e. none_some h (sym e);
 }

@@ -1,20 +1,25 @@
 -- A group after another.
-use Rattle.std.proofs.Common.{◌≡◌, ℕ, suc, ◌+◌, ◌-◌, ◌<◌, ◌≤◌, Bool, true, false, List, [], ◌∷◌, ◌++◌, map, Option, Some, None}
+use Rattle.std.proofs.Common.{◌≡◌, ℕ, suc, ◌+◌, ◌-◌, ◌<◌, ◌≤◌, Bool, true, false, List, [], ◌∷◌, ◌++◌, map, Option}
+use Rattle.std.proofs.Common.{Some, None}
 use Rattle.std.proofs.Common.{refl, ap, ap₂, sym, subst, ◌∙◌, arith, append_assoc, append-nil}
 use Rattle.std.specs.List.{range_with_len}
 use Rattle.std.proofs.lemmas.Bool.{true≢false}
-use Rattle.terms.proofs.OptionLemmas.{some_injective, none_some}
+use Rattle.std.proofs.lemmas.Option.{same_Some}
+use Rattle.terms.proofs.OptionLemmas.{none_some}
 use Rattle.frame_groups.specs.declared.cause.MuteCause.{MuteCause}
 use Rattle.frame_groups.specs.declared.key.Key.{Key}
 use Rattle.frame_groups.specs.Groups.{Group}
 use Rattle.frame_groups.specs.Numbers.{IsKey, next_number}
-use Rattle.frame_groups.specs.Modulated.{Numbered, Rules, FrameRecord, gap_record, group_record, number_behind, join_number}
-use Rattle.frame_groups.specs.Modulated.{past_with, past_behind, gaps_behind, own_record, records_with, records_from, past_after}
+use Rattle.frame_groups.specs.Modulated.{Numbered, Rules, FrameRecord, gap_record, group_record, number_behind}
+use Rattle.frame_groups.specs.Modulated.{join_number}
+use Rattle.frame_groups.specs.Modulated.{past_with, past_behind, gaps_behind, own_record, records_with, records_from}
+use Rattle.frame_groups.specs.Modulated.{past_after}
 use Rattle.frame_groups.proofs.FrontLemmas.{none_before, records_append}
 use Rattle.frame_groups.proofs.NumberLemmas.{next_law}
 use Rattle.frame_groups.specs.Sequenced.{IsAbove, known_number, gaps_from, HasGiven, Follows}
 
-pub past_after_push : (r : Rules) (past : List Numbered) (gs : List Group) (h : Group) → past_after r past (gs ++ h ∷ [])
+pub past_after_push : (r : Rules) (past : List Numbered) (gs : List Group) (h : Group)
+    → past_after r past (gs ++ h ∷ [])
     ≡ past_behind r (past_after r past gs) h
 past_after_push r past [] h = refl
 past_after_push r past (g ∷ gs) h = past_after_push r (past_behind r past g) gs h
@@ -36,13 +41,14 @@ pub number_above : (r : Rules) (past : List Numbered) (h : Group) (n : ℕ) → 
 number_above r [] h n key e = tt
 number_above r (b ∷ past) h n key e =
     let up = (next_law r.frames b.number h.key key).0.above in
-    let same = some_injective n (next_number r.frames b.number h.key) e in omega (arith, up, same)
+    let same = same_Some n (next_number r.frames b.number h.key) e in omega (arith, up, same)
 
 above_more : (past : List Numbered) (n : ℕ) → IsAbove past n → IsAbove past (n + 1)
 above_more [] n a = tt
 above_more (b ∷ past) n a = omega (arith, a)
 
-pub close_joined : (r : Rules) (closed : List Group) (past : List Numbered) (h : Group) (n next : ℕ) (old new : Option MuteCause)
+pub close_joined : (r : Rules) (closed : List Group) (past : List Numbered) (h : Group) (n next : ℕ)
+    (old new : Option MuteCause)
     (given : List FrameRecord)
     → Follows r closed past h (Some n) next false old given → new ≡ r.fault past h n
     → Follows r closed past h (Some n) next true new given
@@ -51,7 +57,7 @@ close_joined r closed past h n next old new given f e = record {
   past_is = f.past_is;
   number_is = known_is r past h n f.number_is;
   under_way = λ c. absurd (true≢false c);
-  fault_is = λ c m s. e ∙ ap (r.fault past h) (some_injective n m s);
+  fault_is = λ c m s. e ∙ ap (r.fault past h) (same_Some n m s);
   records = f.records;
 }
 
@@ -59,7 +65,8 @@ pub no_gaps : (n : ℕ) → gaps_from n n ≡ []
 no_gaps n = let e : n - n ≡ 0 = omega arith in ap (λ (k : ℕ). map gap_record (range_with_len n k)) e
 
 -- a group before the join is closed
-pub close_first : (r : Rules) (closed : List Group) (past : List Numbered) (h : Group) (number : Option ℕ) (old next : ℕ)
+pub close_first : (r : Rules) (closed : List Group) (past : List Numbered) (h : Group) (number : Option ℕ)
+    (old next : ℕ)
     (fault new : Option MuteCause) (given : List FrameRecord)
     → Follows r closed past h None old false fault given → number ≡ join_number r h
     → ((n : ℕ) → number ≡ Some n → (next ≡ n) × (new ≡ r.fault past h n))
@@ -87,7 +94,8 @@ close_first r closed past h number old next fault new given f e at = record {
           front = λ _.
               ap₂ (λ (g : List FrameRecord) (k : ℕ). g ++ gaps_from k n) f.records.1 same
               ∙ no_gaps n
-              ∙ ap₂ (λ (l : List FrameRecord) (o : List Numbered). l ++ gaps_behind o (Some n)) (sym none) (sym f.records.0);
+              ∙ ap₂ (λ (l : List FrameRecord) (o : List Numbered). l ++ gaps_behind o (Some n)) (sym none)
+              (sym f.records.0);
           all = λ k. absurd (omega (arith, same, k));
         }
 
@@ -96,20 +104,23 @@ pub start_joined : (r : Rules) (closed : List Group) (past : List Numbered) (h g
     (old new : Option MuteCause)
     (given : List FrameRecord)
     → Follows r closed past h (Some n) next true old given → next ≡ n + 1 → IsKey r.frames g.key
-    → Follows r (closed ++ h ∷ []) (past_with past h (Some n)) g (Some (next_number r.frames n g.key)) next false new given
+    → Follows r (closed ++ h ∷ []) (past_with past h (Some n)) g (Some (next_number r.frames n g.key))
+    next false new given
 start_joined r closed past h g n next old new given f e key = record {
   key = key;
   past_is = after;
   number_is = refl;
-  under_way = λ _ m s. let a = some_injective _ m s in let up = above in omega (arith, e, a, up);
+  under_way = λ _ m s. let a = same_Some _ m s in let up = above in omega (arith, e, a, up);
   fault_is = λ c. absurd (true≢false (sym c));
   records =
       record {
         above = omega (arith, e);
         most = let up = above in omega (arith, e, up);
         front = λ _.
-            ap₂ (λ (g' : List FrameRecord) (k : ℕ). g' ++ gaps_from k (next_number r.frames n g.key)) (f.records.all e) e
-            ∙ ap (λ (l : List FrameRecord). l ++ gaps_behind (past_with past h (Some n)) (Some (next_number r.frames n g.key)))
+            ap₂ (λ (g' : List FrameRecord) (k : ℕ). g' ++ gaps_from k (next_number r.frames n g.key))
+            (f.records.all e) e
+            ∙ ap (λ (l : List FrameRecord). l ++ gaps_behind (past_with past h (Some n))
+            (Some (next_number r.frames n g.key)))
             (ap (λ (o : List Numbered). records_from r [] closed ++ records_with r o h) f.past_is ∙ sym
             (records_push r closed h));
         all = λ k. let up = above in absurd (omega (arith, e, k, up));
@@ -123,7 +134,8 @@ start_joined r closed past h g n next old new given f e key = record {
     after = ap (past_with past h) f.number_is ∙ ap (λ (o : List Numbered). past_behind r o h) f.past_is
         ∙ sym (past_after_push r [] closed h)
 
-pub start_first : (r : Rules) (closed : List Group) (past : List Numbered) (h g : Group) (next : ℕ) (old new : Option MuteCause)
+pub start_first : (r : Rules) (closed : List Group) (past : List Numbered) (h g : Group) (next : ℕ)
+    (old new : Option MuteCause)
     (given : List FrameRecord)
     → Follows r closed past h None next true old given → IsKey r.frames g.key
     → Follows r (closed ++ h ∷ []) past g None next false new given
@@ -161,7 +173,13 @@ goes_on r closed past h g number next fault given f same = record {
     go : (o : Option ℕ) → ((n : ℕ) → o ≡ Some n → next ≤ n) → HasGiven r (records_from r [] closed) past h o next given
         → HasGiven r (records_from r [] closed) past g o next given
     go None w a = a
-    go (Some n) w a = let l = w n refl in record { above = a.above; most = a.most; front = a.front; all = λ e. absurd (omega (arith, e, l)) }
+    go (Some n) w a = let l = w n refl in record {
+      above = a.above;
+      most = a.most;
+      front = a.front;
+      all =
+          λ e. absurd (omega (arith, e, l));
+    }
 
 -- the first group begins
 pub begins : (r : Rules) (g : Group) (next : ℕ) (fault : Option MuteCause) → IsKey r.frames g.key
@@ -188,7 +206,7 @@ gap_given r closed past h n next closing fault given f l = record {
   key = f.key;
   past_is = f.past_is;
   number_is = f.number_is;
-  under_way = λ c m s. let a = some_injective n m s in omega (arith, a, l);
+  under_way = λ c m s. let a = same_Some n m s in omega (arith, a, l);
   fault_is = f.fault_is;
   records =
       record {
@@ -202,7 +220,8 @@ gap_given r closed past h n next closing fault given f l = record {
       };
 }
 
-pub own_given : (r : Rules) (closed : List Group) (past : List Numbered) (h : Group) (n next : ℕ) (fault : Option MuteCause)
+pub own_given : (r : Rules) (closed : List Group) (past : List Numbered) (h : Group) (n next : ℕ)
+    (fault : Option MuteCause)
     (given : List FrameRecord)
     → Follows r closed past h (Some n) next true fault given → next ≡ n
     → Follows r closed past h (Some n) (next + 1) true fault (given ++ group_record r past h n ∷ [])
@@ -222,6 +241,7 @@ own_given r closed past h n next fault given f e = record {
             (sym (append-nil given) ∙ ap (λ (l : List FrameRecord). given ++ l)
             (sym (ap (λ (k : ℕ). gaps_from k n) e ∙ no_gaps n)) ∙ f.records.front (omega (arith, e)))
             ∙ append_assoc (records_from r [] closed) (gaps_behind past (Some n)) (group_record r past h n ∷ [])
-            ∙ ap (λ (o : Option ℕ). records_from r [] closed ++ (gaps_behind past o ++ own_record r past h o)) f.number_is;
+            ∙ ap (λ (o : Option ℕ). records_from r [] closed ++ (gaps_behind past o ++ own_record r past h o))
+            f.number_is;
       };
 }

@@ -1,5 +1,6 @@
 -- What follows changes no record but the last.
-use Rattle.std.proofs.Common.{◌≡◌, ℕ, Bool, true, false, cond, List, [], ◌∷◌, ◌++◌, Option, Some, None, refl, ap, sym, subst, ◌∙◌}
+use Rattle.std.proofs.Common.{◌≡◌, ℕ, Bool, true, false, cond, List, [], ◌∷◌, ◌++◌, Option, Some, None, refl, ap, sym}
+use Rattle.std.proofs.Common.{subst, ◌∙◌}
 use Rattle.std.proofs.Common.{append_assoc, append-nil}
 use Rattle.std.specs.List.{filter}
 use Rattle.std.proofs.lemmas.List.Elements.{filter-append}
@@ -9,7 +10,8 @@ use Rattle.frame_groups.specs.Groups.{is_counted, is_same, Group, key_behind, gr
 use Rattle.frame_groups.specs.Grouping.{Grouped, one_packet, one_more, grouped_from, no_groups, grouped, all_groups}
 use Rattle.frame_groups.specs.declared.key.Key.{Key}
 use Rattle.frame_groups.specs.Modulated.{Numbered, Rules, FrameRecord, past_with, past_behind, past_after, join_number}
-use Rattle.frame_groups.specs.Modulated.{gaps_behind, gaps_between, own_record, group_record, records_with, records_from}
+use Rattle.frame_groups.specs.Modulated.{gaps_behind, gaps_between, own_record, group_record, records_with}
+use Rattle.frame_groups.specs.Modulated.{records_from}
 use Rattle.frame_groups.specs.Modulated.{modulated}
 use Rattle.frame_groups.specs.Numbers.{next_number}
 use Rattle.frame_groups.specs.Laws.{without_last, IsPrefix}
@@ -58,7 +60,8 @@ pub has_last : (qs : List Packet) (closed : List Group) (h : Group)
 has_last [] closed h = record { closed = closed; last = h; is = refl }
 has_last (p ∷ qs) closed h = go (λ closed h. has_last qs closed h) (is_same h.key (key_behind (Some h.key) p))
   where
-    go : ((closed : List Group) (h : Group) → HasLast (grouped_from (record { closed = closed; under_way = Some h }) qs))
+    go : ((closed : List Group) (h : Group)
+        → HasLast (grouped_from (record { closed = closed; under_way = Some h }) qs))
         → (t : Bool)
         → HasLast
         (grouped_from
@@ -79,7 +82,8 @@ has_some [] = false
 has_some (b ∷ past) = true
 
 -- once joined, there is a group with a number
-stays_joined : (r : Rules) (gs : List Group) (b : Numbered) (past : List Numbered) → has_some (past_after r (b ∷ past) gs) ≡ true
+stays_joined : (r : Rules) (gs : List Group) (b : Numbered) (past : List Numbered)
+    → has_some (past_after r (b ∷ past) gs) ≡ true
 stays_joined r [] b past = refl
 stays_joined r (g ∷ gs) b past = stays_joined r gs _ (b ∷ past)
 
@@ -88,7 +92,8 @@ pub none_before : (r : Rules) (gs : List Group) → past_after r [] gs ≡ [] �
 none_before r [] e = refl
 none_before r (g ∷ gs) e = go (λ e. none_before r gs e) (join_number r g) e
   where
-    go : (past_after r [] gs ≡ [] → records_from r [] gs ≡ []) → (o : Option ℕ) → past_after r (past_with [] g o) gs ≡ []
+    go : (past_after r [] gs ≡ [] → records_from r [] gs ≡ []) → (o : Option ℕ)
+        → past_after r (past_with [] g o) gs ≡ []
         → (gaps_behind [] o ++ own_record r [] g o) ++ records_from r (past_with [] g o) gs ≡ []
     go rest None e = rest e
     go rest (Some n) e = absurd (true≢false (sym (stays_joined r gs _ []) ∙ ap has_some e))
@@ -134,7 +139,8 @@ front_joined r b past g h more key = record {
       append_assoc (gaps_between b.number (next_number r.frames b.number h.key))
       (group_record r (b ∷ past) h (next_number r.frames b.number h.key) ∷ []) _
       ∙ ap (λ (k : Key). gaps_between b.number (next_number r.frames b.number k)
-      ++ (group_record r (b ∷ past) h (next_number r.frames b.number h.key) ∷ records_from r (past_behind r (b ∷ past) h) more))
+      ++ (group_record r (b ∷ past) h (next_number r.frames b.number h.key) ∷ records_from r
+      (past_behind r (b ∷ past) h) more))
       key;
 }
 
@@ -145,7 +151,8 @@ front_first r g ys = go (join_number r g)
     go None = (ys, refl)
     go (Some n) = (ys, refl)
 
-front_from : (r : Rules) (closed : List Group) (g h : Group) (more : List Group) → h.key ≡ g.key → (past : List Numbered)
+front_from : (r : Rules) (closed : List Group) (g h : Group) (more : List Group) → h.key ≡ g.key
+    → (past : List Numbered)
     → past_after r [] closed ≡ past
     → IsPrefix (without_last (records_from r [] closed ++ records_from r past (g ∷ [])))
     (without_last (records_from r [] closed ++ records_from r past (h ∷ more)))
@@ -157,7 +164,8 @@ front_from r closed g h more key [] e =
     (front_first r g (without_last (records_from r [] (h ∷ more))))
 
 front_groups : (r : Rules) (closed : List Group) (g h : Group) (more : List Group) → h.key ≡ g.key
-    → IsPrefix (without_last (records_from r [] (closed ++ g ∷ []))) (without_last (records_from r [] (closed ++ h ∷ more)))
+    → IsPrefix (without_last (records_from r [] (closed ++ g ∷ [])))
+    (without_last (records_from r [] (closed ++ h ∷ more)))
 front_groups r closed g h more key =
     subst (λ (l : List FrameRecord). IsPrefix (without_last l) (without_last (records_from r [] (closed ++ h ∷ more))))
     (sym (records_append r [] closed (g ∷ [])))
@@ -172,7 +180,8 @@ unfolding grouped
 front_kept r [] qs = (without_last (records_from r [] (all_groups (grouped qs))), refl)
 front_kept r (p ∷ ps) qs =
     let l = has_last ps [] (one_packet (key_behind None p) p) in
-    let e : grouped_from no_groups ((p ∷ ps) ++ qs) ≡ grouped_from (record { closed = l.closed; under_way = Some l.last }) qs =
+    let e : grouped_from no_groups ((p ∷ ps) ++ qs) ≡ grouped_from
+    (record { closed = l.closed; under_way = Some l.last }) qs =
     grouped_append no_groups (p ∷ ps) qs ∙ ap (λ (g : Grouped). grouped_from g qs) l.is in
     let s = goes_on qs l.closed l.last in
     let f = front_groups r l.closed l.last s.group s.more s.key in

@@ -1,5 +1,6 @@
 -- The test of a shape says whether it passes.
-use Rattle.std.proofs.Common.{◌≡◌, ℕ, zero, suc, ◌+◌, ◌-◌, ◌*◌, ◌/◌, ◌%◌, ◌<◌, ◌==◌, ◌&&◌, ◌||◌, not, Bool, true, false, List}
+use Rattle.std.proofs.Common.{◌≡◌, ℕ, zero, suc, ◌+◌, ◌-◌, ◌*◌, ◌/◌, ◌%◌, ◌<◌, ◌==◌, ◌&&◌, ◌||◌, not, Bool, true, false}
+use Rattle.std.proofs.Common.{List}
 use Rattle.std.proofs.Common.{[], ◌∷◌, cond, length, refl, sym, ap, ◌∙◌, subst, arith}
 use Rattle.std.specs.Prelude.{slice_index, nat_le, filter}
 use Rattle.std.specs.List.{list_all, range_with_len}
@@ -13,12 +14,14 @@ use Rattle.scheduler.specs.Shape.{FrameShape, cells_of}
 use Rattle.cell_map.specs.Address.{IsCarried, position_of, part_of, address_at, address_of}
 use Rattle.cell_map.specs.CellMap.{Passes, is_carried, carried_cells}
 use Rattle.cell_map.specs.Laws.{PartsRepeat}
-use Rattle.frame_groups.specs.MapTest.{each_below, each_cell, is_within, are_apart, all_apart, counts_within, frame_passes}
+use Rattle.frame_groups.specs.MapTest.{each_below, each_cell, is_within, are_apart, all_apart, counts_within}
+use Rattle.frame_groups.specs.MapTest.{frame_passes}
 use Rattle.frame_groups.specs.MapTest.{map_passes}
 use Rattle.frame_groups.specs.TestLaws.{MapPasses}
 
 -- each number from one on passes
-range_at : (a n : ℕ) (test : ℕ → Bool) → list_all test (range_with_len a n) ≡ true → (k : ℕ) → k < n → test (a + k) ≡ true
+range_at : (a n : ℕ) (test : ℕ → Bool) → list_all test (range_with_len a n) ≡ true → (k : ℕ) → k < n
+    → test (a + k) ≡ true
 range_at a zero test e k l = absurd (omega (arith, l))
 range_at a (suc n) test e zero l = let x : a ≡ a + 0 = omega arith in
     subst (λ (j : ℕ). test j ≡ true) x (and_parts (test a) (list_all test (range_with_len (a + 1) n)) e).0
@@ -27,11 +30,13 @@ range_at a (suc n) test e (suc k) l =
     subst (λ (j : ℕ). test j ≡ true) x
     (range_at (a + 1) n test (and_parts (test a) (list_all test (range_with_len (a + 1) n)) e).1 k (omega (arith, l)))
 
-range_from : (a n : ℕ) (test : ℕ → Bool) → ((k : ℕ) → k < n → test (a + k) ≡ true) → list_all test (range_with_len a n) ≡ true
+range_from : (a n : ℕ) (test : ℕ → Bool) → ((k : ℕ) → k < n → test (a + k) ≡ true)
+    → list_all test (range_with_len a n) ≡ true
 range_from a zero test h = refl
 range_from a (suc n) test h =
     let x : a + 0 ≡ a = omega arith in
-    and_from (test a) (list_all test (range_with_len (a + 1) n)) (subst (λ (j : ℕ). test j ≡ true) x (h 0 (omega arith)))
+    and_from (test a) (list_all test (range_with_len (a + 1) n)) (subst (λ (j : ℕ). test j ≡ true) x
+    (h 0 (omega arith)))
     (range_from (a + 1) n test (λ k l. let y : a + suc k ≡ a + 1 + k = omega arith in
     subst (λ (j : ℕ). test j ≡ true) y (h (suc k) (omega (arith, l)))))
 
@@ -39,10 +44,12 @@ each_at : (n : ℕ) (test : ℕ → Bool) → each_below n test ≡ true → (k 
 each_at n test e k l = let x : 0 + k ≡ k = omega arith in subst (λ (j : ℕ). test j ≡ true) x (range_at 0 n test e k l)
 
 each_from : (n : ℕ) (test : ℕ → Bool) → ((k : ℕ) → k < n → test k ≡ true) → each_below n test ≡ true
-each_from n test h = range_from 0 n test (λ k l. let x : k ≡ 0 + k = omega arith in subst (λ (j : ℕ). test j ≡ true) x (h k l))
+each_from n test h = range_from 0 n test (λ k l. let x : k ≡ 0 + k = omega arith in subst (λ (j : ℕ). test j ≡ true)
+    x (h k l))
 
 -- those of a list that are kept pass, exactly if each one does or is not kept
-filtered : (keep test : ℕ → Bool) (xs : List ℕ) → list_all test (filter keep xs) ≡ list_all (λ k. not (keep k) || test k) xs
+filtered : (keep test : ℕ → Bool) (xs : List ℕ) → list_all test (filter keep xs) ≡ list_all
+    (λ k. not (keep k) || test k) xs
 filtered keep test [] = refl
 filtered keep test (x ∷ xs) = go (keep x) (filtered keep test xs)
   where
@@ -78,7 +85,8 @@ carried_from c shape frame_idx i b test h =
     (λ q l. keeps (is_carried c shape frame_idx i b q) (test q) (h q l))
 
 -- each cell that a frame carries passes
-cell_at : (c : Config) (shape : FrameShape) (frame_idx : ℕ) (test : ℕ → ℕ → ℕ → Bool) → each_cell c shape frame_idx test ≡ true
+cell_at : (c : Config) (shape : FrameShape) (frame_idx : ℕ) (test : ℕ → ℕ → ℕ → Bool)
+    → each_cell c shape frame_idx test ≡ true
     → (i b q : ℕ) → IsCarried c shape frame_idx i b q → test i b q ≡ true
 cell_at c shape frame_idx test e i b q is =
     carried_at c shape frame_idx i b (test i b)
@@ -95,7 +103,8 @@ cell_from c shape frame_idx test h =
     each_from (length c.plps)
     (λ plp. each_below (slice_index shape.counts plp)
     (λ block. list_all (test plp block) (carried_cells c shape frame_idx plp block)))
-    (λ i x. each_from (slice_index shape.counts i) (λ block. list_all (test i block) (carried_cells c shape frame_idx i block))
+    (λ i x. each_from (slice_index shape.counts i) (λ block. list_all (test i block)
+    (carried_cells c shape frame_idx i block))
     (λ b y. carried_from c shape frame_idx i b (test i b)
     (λ q z w. h i b q (record {
       there = record { configured = x; sent = y; within = z };
@@ -103,7 +112,8 @@ cell_from c shape frame_idx test h =
     }))))
 
 -- two cells with one address are one
-apart_at : (a b i j d e q r : ℕ) → (not (a == b) || ((i == j) && (d == e) && (q == r))) ≡ true → a ≡ b → (i ≡ j) × (d ≡ e)
+apart_at : (a b i j d e q r : ℕ) → (not (a == b) || ((i == j) && (d == e) && (q == r))) ≡ true → a ≡ b
+    → (i ≡ j) × (d ≡ e)
     × (q ≡ r)
 apart_at a b i j d e q r t same = go (a == b) (eq-eqb a b same) t
   where
@@ -114,13 +124,15 @@ apart_at a b i j d e q r t same = go (a == b) (eq-eqb a b same) t
         (eqb-true i j second.0, eqb-true d e second.1, eqb-true q r first.1)
     go false y t = absurd (both_ways false refl y)
 
-apart_from : (a b i j d e q r : ℕ) → (a ≡ b → (i ≡ j) × (d ≡ e) × (q ≡ r)) → (not (a == b) || ((i == j) && (d == e) && (q == r)))
+apart_from : (a b i j d e q r : ℕ) → (a ≡ b → (i ≡ j) × (d ≡ e) × (q ≡ r))
+    → (not (a == b) || ((i == j) && (d == e) && (q == r)))
     ≡ true
 apart_from a b i j d e q r h = go (a == b) refl
   where
     go : (x : Bool) → (a == b) ≡ x → (not x || ((i == j) && (d == e) && (q == r))) ≡ true
     go true y = let s = h (eqb-true a b y) in
-        and_from ((i == j) && (d == e)) (q == r) (and_from (i == j) (d == e) (eq-eqb i j s.0) (eq-eqb d e s.1)) (eq-eqb q r s.2)
+        and_from ((i == j) && (d == e)) (q == r) (and_from (i == j) (d == e) (eq-eqb i j s.0) (eq-eqb d e s.1))
+        (eq-eqb q r s.2)
     go false y = refl
 
 -- a frame and the one with its number in the first superframe carry the same cells at the same addresses
@@ -134,19 +146,22 @@ address_again : (c : Config) (shape : FrameShape) (frame_idx other plp block cel
     → part_of c other plp ≡ part_of c frame_idx plp
     → address_of c shape other plp block cell ≡ address_of c shape frame_idx plp block cell
 address_again c shape frame_idx other plp block cell same =
-    ap (λ (part : ℕ). address_at c shape plp (position_of c shape plp block cell - part * cells_of c shape.counts plp)) same
+    ap (λ (part : ℕ). address_at c shape plp (position_of c shape plp block cell - part * cells_of c shape.counts plp))
+    same
 
 module _ (repeat : PartsRepeat) (c : Config) (shape : FrameShape) (plan : IsPlan c) where
   -- the same of a frame of a run, by its number in its superframe
   again : (frame_idx plp block cell : ℕ) → IsCarried c shape frame_idx plp block cell
       → IsCarried c shape (frame_idx % c.frames) plp block cell
   again frame_idx plp block cell is =
-      carried_again c shape frame_idx (frame_idx % c.frames) plp block cell (repeat c frame_idx plp plan is.there.configured) is
+      carried_again c shape frame_idx (frame_idx % c.frames) plp block cell
+      (repeat c frame_idx plp plan is.there.configured) is
 
   there_again : (frame_idx plp block cell : ℕ) → IsCarried c shape frame_idx plp block cell
       → address_of c shape (frame_idx % c.frames) plp block cell ≡ address_of c shape frame_idx plp block cell
   there_again frame_idx plp block cell is =
-      address_again c shape frame_idx (frame_idx % c.frames) plp block cell (repeat c frame_idx plp plan is.there.configured)
+      address_again c shape frame_idx (frame_idx % c.frames) plp block cell
+      (repeat c frame_idx plp plan is.there.configured)
 
   -- each frame of a run is like one of a superframe
   frame_at : each_below c.frames (frame_passes c shape) ≡ true → (frame_idx : ℕ)
@@ -159,7 +174,8 @@ module _ (repeat : PartsRepeat) (c : Config) (shape : FrameShape) (plan : IsPlan
       → IsCarried c shape frame_idx plp block cell → address_of c shape frame_idx plp block cell < c.cells
   below_at e frame_idx plp block cell is =
       let other : ℕ = frame_idx % c.frames in
-      let both = and_parts (each_cell c shape other (is_within c shape other)) (all_apart c shape other) (frame_at e frame_idx) in
+      let both = and_parts (each_cell c shape other (is_within c shape other)) (all_apart c shape other)
+      (frame_at e frame_idx) in
       let low = ltb-true (address_of c shape other plp block cell) c.cells
       (cell_at c shape other (is_within c shape other) both.0 plp block cell (again frame_idx plp block cell is)) in
       subst (λ (k : ℕ). k < c.cells) (there_again frame_idx plp block cell is) low
@@ -169,12 +185,14 @@ module _ (repeat : PartsRepeat) (c : Config) (shape : FrameShape) (plan : IsPlan
       → address_of c shape frame_idx i b q ≡ address_of c shape frame_idx j d r → (i ≡ j) × (b ≡ d) × (q ≡ r)
   all_apart_at e frame_idx i b q j d r one other same =
       let at : ℕ = frame_idx % c.frames in
-      let both = and_parts (each_cell c shape at (is_within c shape at)) (all_apart c shape at) (frame_at e frame_idx) in
+      let both = and_parts (each_cell c shape at (is_within c shape at)) (all_apart c shape at)
+      (frame_at e frame_idx) in
       let first = there_again frame_idx i b q one in
       let second = there_again frame_idx j d r other in
       apart_at (address_of c shape at i b q) (address_of c shape at j d r) i j b d q r
       (cell_at c shape at (are_apart c shape at i b q)
-      (cell_at c shape at (λ i b q. each_cell c shape at (are_apart c shape at i b q)) both.1 i b q (again frame_idx i b q one))
+      (cell_at c shape at (λ i b q. each_cell c shape at (are_apart c shape at i b q)) both.1 i b q
+      (again frame_idx i b q one))
       j d r (again frame_idx j d r other))
       (first ∙ same ∙ sym second)
 
@@ -184,7 +202,8 @@ module _ (repeat : PartsRepeat) (c : Config) (shape : FrameShape) (plan : IsPlan
       let both = and_parts (counts_within c shape) (each_below c.frames (frame_passes c shape)) e in
       record {
         counts = λ plp l. leb-true (slice_index shape.counts plp) (plp_at c.plps plp).blocks
-            (each_at (length c.plps) (λ plp. nat_le (slice_index shape.counts plp) (plp_at c.plps plp).blocks) both.0 plp l);
+            (each_at (length c.plps) (λ plp. nat_le (slice_index shape.counts plp) (plp_at c.plps plp).blocks)
+            both.0 plp l);
         below = below_at both.1;
         apart = all_apart_at both.1;
       }

@@ -1,8 +1,10 @@
 -- The frame that a timestamp names.
-use Rattle.std.proofs.Common.{◌≡◌, ℕ, ◌%◌, ◌<◌, ◌==◌, ◌&&◌, Bool, true, false, Option, Some, None, refl, ap, ap₂, sym, subst, ◌∙◌}
+use Rattle.std.proofs.Common.{◌≡◌, ℕ, ◌%◌, ◌<◌, ◌==◌, ◌&&◌, Bool, true, false, Option, Some, None, refl, ap, ap₂, sym}
+use Rattle.std.proofs.Common.{subst, ◌∙◌}
 use Rattle.std.specs.Prelude.{slice_get, if◌then◌else◌, nat_le, nat_lt, is_some, unwrap_or}
 use Rattle.std.specs.Option.{option_and_then}
-use Rattle.std.proofs.lemmas.Bool.{and_parts, and_from, eqb-true, eq-eqb, ltb-true, lt-ltb, leb-true, le-leb, false≢true}
+use Rattle.std.proofs.lemmas.Bool.{and_parts, and_from, eqb-true, eq-eqb, ltb-true, lt-ltb, leb-true, le-leb}
+use Rattle.std.proofs.lemmas.Bool.{false≢true}
 use Rattle.plp_config.specs.Emission.{emission, subseconds_by, origin, frame_subseconds, FindsFrame}
 use Rattle.plp_config.specs.Laws.{EmissionFound}
 use Rattle.plp_config.specs.Rules.{AllRules}
@@ -42,9 +44,11 @@ some_if b x n e f = rw (e, f) refl
 module _ (found : EmissionFound) (c : Config) (all : AllRules c) where
   grid_found : (moment : Moment) → is_on_grid c moment ≡ true → FindsFrame c moment (frames_passed c moment)
   grid_found moment e =
-      let p = and_parts (nat_lt moment.subseconds (subseconds_per_second c.band) && nat_le (origin c) (subseconds_by c moment))
+      let p = and_parts (nat_lt moment.subseconds (subseconds_per_second c.band) && nat_le (origin c)
+      (subseconds_by c moment))
       (passed c moment % frame_subseconds c == 0) e in
-      let q = and_parts (nat_lt moment.subseconds (subseconds_per_second c.band)) (nat_le (origin c) (subseconds_by c moment))
+      let q = and_parts (nat_lt moment.subseconds (subseconds_per_second c.band))
+      (nat_le (origin c) (subseconds_by c moment))
       p.0 in
       record {
         carried = ltb-true moment.subseconds (subseconds_per_second c.band) q.0;
@@ -70,8 +74,12 @@ module _ (found : EmissionFound) (c : Config) (all : AllRules c) where
       let t = if_some (is_on_grid c moment && nat_lt m MOST_FRAMES && is_same (frame_key c.frames m) key) m n e in
       let p = and_parts (is_on_grid c moment && nat_lt m MOST_FRAMES) (is_same (frame_key c.frames m) key) t.0 in
       let q = and_parts (is_on_grid c moment) (nat_lt m MOST_FRAMES) p.0 in
-      let at : (m < MOST_FRAMES) × (moment ≡ emission c m) × (frame_key c.frames m ≡ key) =
-      (ltb-true m MOST_FRAMES q.1, (found c moment m all).1 (grid_found moment q.0), key_same (frame_key c.frames m) key p.1) in
+      let at : (m < MOST_FRAMES) × (moment ≡ emission c m) × (frame_key c.frames m ≡ key) = (
+        ltb-true m MOST_FRAMES q.1,
+        (found c moment m all).1 (grid_found moment q.0),
+        key_same (frame_key c.frames m)
+            key p.1,
+      ) in
       subst (λ (k : ℕ). (k < MOST_FRAMES) × (moment ≡ emission c k) × (frame_key c.frames k ≡ key)) t.1 at
 
   with_to : (key : Key) (moment : Moment) (n : ℕ) → n < MOST_FRAMES → moment ≡ emission c n → frame_key c.frames n ≡ key
@@ -93,7 +101,8 @@ module _ (found : EmissionFound) (c : Config) (all : AllRules c) where
   named_from g n (Some s) f e = let w = with_from g.key (moment_of s) n e in
       record { stamp = s; first = f; small = w.0; emission-is = w.1; key = w.2 }
 
-  pub named_both : (g : Group) (n : ℕ) → (named_frame c g ≡ Some n → IsNamed c g n) × (IsNamed c g n → named_frame c g ≡ Some n)
+  pub named_both : (g : Group) (n : ℕ) → (named_frame c g ≡ Some n → IsNamed c g n)
+      × (IsNamed c g n → named_frame c g ≡ Some n)
   named_both g n = (
     (λ e. named_from g n (slice_get (stamps_of g.packets) 0) refl e),
     (λ is. ap (option_and_then (λ s. frame_with c g.key (moment_of s))) is.first

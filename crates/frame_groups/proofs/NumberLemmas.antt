@@ -1,5 +1,6 @@
 -- The least number above that has a key.
-use Rattle.std.proofs.Common.{◌≡◌, refl, ℕ, zero, suc, ◌+◌, ◌-◌, ◌*◌, ◌/◌, ◌%◌, ◌<◌, ◌≤◌, ◌==◌, Bool, true, false, ap, ap₂, sym}
+use Rattle.std.proofs.Common.{◌≡◌, refl, ℕ, zero, suc, ◌+◌, ◌-◌, ◌*◌, ◌/◌, ◌%◌, ◌<◌, ◌≤◌, ◌==◌, Bool, true, false, ap}
+use Rattle.std.proofs.Common.{ap₂, sym}
 use Rattle.std.proofs.Common.{subst, ◌∙◌, ⊎_elim, arith, mul-le-mul_left, mul-le-mul_right}
 use Rattle.std.proofs.lemmas.Bool.{cases_eq, cases_lt, cond-true, cond-false, eqb-true, eq-eqb, and_parts, and_from}
 use Rattle.std.proofs.lemmas.Bool.{false_from_ne_true, true≢false}
@@ -30,7 +31,8 @@ same_key k l e =
 
 pub is_same_self : (k l : Key) → k ≡ l → is_same k l ≡ true
 is_same_self k l e = and_from (k.superframe == l.superframe) (k.frame == l.frame)
-    (eq-eqb k.superframe l.superframe (ap (λ (k : Key). k.superframe) e)) (eq-eqb k.frame l.frame (ap (λ (k : Key). k.frame) e))
+    (eq-eqb k.superframe l.superframe (ap (λ (k : Key). k.superframe) e))
+    (eq-eqb k.frame l.frame (ap (λ (k : Key). k.frame) e))
 
 -- keys come again after 16 superframes
 key_at : (frames q s f : ℕ) → s < 16 → f < frames → frame_key frames (16 * frames * q + (s * frames + f))
@@ -122,7 +124,8 @@ next_law frames n k h = (subst (IsNext frames n k) (sym first) is_next, first)
     never : (i : ℕ) → n < i → i < next_by frames n k → i ≡ 16 * frames * (i / frames / 16) + x → ⊥
     never i a b at =
         let less : 16 * frames * (i / frames / 16) + x < 16 * frames * r.round + x = omega (arith, at, b, r.value) in
-        let no : i ≤ n = apart (16 * frames) r.round (i / frames / 16) x i n less at (omega (arith, r.value, r.below)) in
+        let no : i ≤ n = apart (16 * frames) r.round (i / frames / 16) x i n less at
+        (omega (arith, r.value, r.below)) in
         omega arith
 
     least : (i : ℕ) → n < i → i < next_by frames n k → is_same (frame_key frames i) k ≡ false
@@ -132,7 +135,8 @@ next_law frames n k h = (subst (IsNext frames n k) (sym first) is_next, first)
     is_next = record { above = r.above; has = has; least = least }
 
     first : first_from (λ i. is_same (frame_key frames i) k) (16 * frames) (n + 1) ≡ next_by frames n k
-    first = first_is (λ i. is_same (frame_key frames i) k) (16 * frames) (n + 1) (next_by frames n k) (omega (arith, r.above))
+    first = first_is (λ i. is_same (frame_key frames i) k) (16 * frames) (n + 1) (next_by frames n k)
+        (omega (arith, r.above))
         (omega (arith, r.below)) (is_same_self _ k has) (λ i a b. least i (omega (arith, a)) b)
 
 -- a number with the key of a later frame, if that is nearer than keys come again
@@ -158,7 +162,11 @@ one_round d x q r n next m a b low up near =
 pub found : (frames n m : ℕ) → 0 < frames → n < m → m < n + 16 * frames → next_number frames n (frame_key frames m) ≡ m
 found frames n m some low near =
     let k : Key = frame_key frames m in
-    let is : IsKey frames k = record { superframe = mod_below (m / frames) 16 (omega arith); frame = mod_below m frames some } in
+    let is : IsKey frames k = record {
+      superframe = mod_below (m / frames) 16 (omega arith);
+      frame =
+          mod_below m frames some;
+    } in
     let next : ℕ = next_number frames n k in
     let l : IsNext frames n k next = (next_law frames n k is).0 in
     let up : next ≤ m =

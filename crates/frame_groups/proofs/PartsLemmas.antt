@@ -1,5 +1,6 @@
 -- The test of an L1-current says whether it is the configuration's and the frame's.
-use Rattle.std.proofs.Common.{◌≡◌, ℕ, ◌%◌, ◌==◌, ◌&&◌, Bool, true, false, List, [], ◌∷◌, map, length, Option, Some, None, Ok, Err}
+use Rattle.std.proofs.Common.{◌≡◌, ℕ, ◌%◌, ◌==◌, ◌&&◌, Bool, true, false, List, [], ◌∷◌, map, length, Option, Some}
+use Rattle.std.proofs.Common.{None, Ok, Err}
 use Rattle.std.proofs.Common.{refl, ap, sym, subst, ◌∙◌, arith, append-nil}
 use Rattle.std.specs.Prelude.{is_some, unwrap_or, nat_eq}
 use Rattle.std.specs.Cmp.Lexicographic.{pointwise, pointwise_decides, bytes_decides}
@@ -8,12 +9,14 @@ use Rattle.std.proofs.lemmas.List.{length-map}
 use Rattle.plp_config.specs.declared.config.Config.{Config}
 use Rattle.plp_config.specs.declared.plp.Plp.{Plp}
 use Rattle.l1_signal.specs.Fields.{Row, values, Reading}
-use Rattle.l1_signal.specs.L1Configurable.{conf_first_rows, conf_more_rows, conf_plp_rows, conf_back_rows, conf_plp_at, conf_at}
+use Rattle.l1_signal.specs.L1Configurable.{conf_first_rows, conf_more_rows, conf_plp_rows, conf_back_rows, conf_plp_at}
+use Rattle.l1_signal.specs.L1Configurable.{conf_at}
 use Rattle.l1_signal.specs.L1Configurable.{conf_read, info_size, ConfSpells}
 use Rattle.l1_signal.specs.L1Dynamic.{dyn_read, DynSpells}
 use Rattle.l1_signal.specs.L1Of.{pre_of, conf_plp_of, conf_of}
 use Rattle.l1_signal.specs.L1Pre.{pre_rows, pre_at, pre_reading, PreSpells}
-use Rattle.l1_signal.specs.Laws.{PreReadBack, PreReadSpelled, ConfReadBack, ConfReadSpelled, DynReadBack, DynReadSpelled}
+use Rattle.l1_signal.specs.Laws.{PreReadBack, PreReadSpelled, ConfReadBack, ConfReadSpelled, DynReadBack}
+use Rattle.l1_signal.specs.Laws.{DynReadSpelled}
 use Rattle.l1_signal.specs.declared.conf.L1Conf.{L1Conf}
 use Rattle.l1_signal.specs.declared.conf_plp.ConfPlp.{ConfPlp}
 use Rattle.l1_signal.specs.declared.dyn_plp.DynPlp.{DynPlp}
@@ -21,7 +24,8 @@ use Rattle.l1_signal.specs.declared.dynamic.L1Dyn.{L1Dyn}
 use Rattle.l1_signal.specs.declared.pre.L1Pre.{L1Pre}
 use Rattle.frame_groups.specs.Carried.{L1Parts}
 use Rattle.frame_groups.specs.TestLaws.{IsOfFrame, PreValues, ConfTold, PartsTold}
-use Rattle.frame_groups.specs.Tests.{read_whole, same_told, pre_agrees, same_conf, conf_agrees, dyn_agrees, read_dynamic}
+use Rattle.frame_groups.specs.Tests.{read_whole, same_told, pre_agrees, same_conf, conf_agrees, dyn_agrees}
+use Rattle.frame_groups.specs.Tests.{read_dynamic}
 use Rattle.frame_groups.specs.Tests.{parts_agree}
 
 -- what is read whole
@@ -31,7 +35,8 @@ read_pair y [] x e = ap (λ (z : _). Ok (z, [])) (ap (λ (o : Option _). unwrap_
 read_pair {A = A} y (b ∷ rest) x e =
     let some : length (b ∷ rest) ≡ 0 → ⊥ = λ z. omega (arith, z) in
     absurd (false≢true
-    (ap is_some (sym (cond-false {A = Option A} (length (b ∷ rest) == 0) (Some y) None (ne_eqb (length (b ∷ rest)) 0 some))
+    (ap is_some (sym (cond-false {A = Option A} (length (b ∷ rest) == 0) (Some y) None
+    (ne_eqb (length (b ∷ rest)) 0 some))
     ∙ e)))
 
 read_some : {A : Type 0} (r : Reading A) (x : A) → read_whole r ≡ Some x → r ≡ Ok (x, [])
@@ -61,7 +66,8 @@ same_plp x y = (
   (λ e. subst (λ (z : ConfPlp). same_told conf_plp_rows x z ≡ true) e (told_self conf_plp_rows x)),
 )
 
-conf_with : (a b d e g h : List ℕ) (x y : List ConfPlp) → a ≡ b → d ≡ e → x ≡ y → g ≡ h → conf_at a d x g ≡ conf_at b e y h
+conf_with : (a b d e g h : List ℕ) (x y : List ConfPlp) → a ≡ b → d ≡ e → x ≡ y → g ≡ h
+    → conf_at a d x g ≡ conf_at b e y h
 conf_with a b d e g h x y p q r s = rw (p, q, r, s) refl
 
 conf_equal : (x y : L1Conf) → same_conf x y ≡ true → x ≡ y
@@ -81,9 +87,11 @@ conf_equal x y e =
 
 conf_self : (x : L1Conf) → same_conf x x ≡ true
 conf_self x =
-    and_from (same_told conf_first_rows x x && same_told conf_more_rows x x && pointwise (same_told conf_plp_rows) x.plps x.plps)
+    and_from (same_told conf_first_rows x x && same_told conf_more_rows x x && pointwise (same_told conf_plp_rows)
+    x.plps x.plps)
     (same_told conf_back_rows x x)
-    (and_from (same_told conf_first_rows x x && same_told conf_more_rows x x) (pointwise (same_told conf_plp_rows) x.plps x.plps)
+    (and_from (same_told conf_first_rows x x && same_told conf_more_rows x x)
+    (pointwise (same_told conf_plp_rows) x.plps x.plps)
     (and_from (same_told conf_first_rows x x) (same_told conf_more_rows x x) (told_self conf_first_rows x)
     (told_self conf_more_rows x)) ((pointwise_decides same_plp x.plps x.plps).1 refl))
     (told_self conf_back_rows x)
@@ -116,7 +124,8 @@ dyn_is_told c n (Some dynamic) e =
       ids = numbers_equal ids own p.1;
     }
 
-module _ (pre_back : PreReadBack) (pre_spelled : PreReadSpelled) (conf_back : ConfReadBack) (conf_spelled : ConfReadSpelled)
+module _ (pre_back : PreReadBack) (pre_spelled : PreReadSpelled) (conf_back : ConfReadBack)
+    (conf_spelled : ConfReadSpelled)
     (dyn_back : DynReadBack) (dyn_spelled : DynReadSpelled) (c : Config) where
   pre_from : (bits : List Bool) → pre_agrees c (read_whole (pre_reading false bits)) ≡ true → PreSpells (pre_of c) bits
   pre_from bits e =
@@ -128,7 +137,8 @@ module _ (pre_back : PreReadBack) (pre_spelled : PreReadSpelled) (conf_back : Co
 
   pre_to : (bits : List Bool) → PreSpells (pre_of c) bits → pre_agrees c (read_whole (pre_reading false bits)) ≡ true
   pre_to bits s =
-      ap (λ r. pre_agrees c (read_whole r)) (ap (pre_reading false) (sym (append-nil bits)) ∙ pre_back false (pre_of c) bits [] s)
+      ap (λ r. pre_agrees c (read_whole r)) (ap (pre_reading false) (sym (append-nil bits))
+      ∙ pre_back false (pre_of c) bits [] s)
       ∙ told_self pre_rows (pre_of c)
 
   own_size : length (conf_of c).plps ≡ length c.plps
@@ -149,7 +159,8 @@ module _ (pre_back : PreReadBack) (pre_spelled : PreReadSpelled) (conf_back : Co
       → conf_agrees c (read_whole (conf_read (info_size (length c.plps)) bits)) ≡ true
   conf_to bits s =
       ap (λ r. conf_agrees c (read_whole r))
-      (ap (λ (k : ℕ). conf_read (info_size k) bits) (sym own_size) ∙ ap (conf_read (info_size (length (conf_of c).plps)))
+      (ap (λ (k : ℕ). conf_read (info_size k) bits) (sym own_size)
+      ∙ ap (conf_read (info_size (length (conf_of c).plps)))
       (sym (append-nil bits)) ∙ conf_back (conf_of c) bits [] s) ∙ conf_self (conf_of c)
 
   dyn_to : (n : ℕ) (dynamic : L1Dyn) (l1 : L1Parts) → DynSpells dynamic l1.dynamic → dynamic.frame_idx ≡ n % c.frames
@@ -193,7 +204,8 @@ module _ (pre_back : PreReadBack) (pre_spelled : PreReadSpelled) (conf_back : Co
             (dyn_to n is.dynamic l1 is.spells is.frame is.ids)),
       )
 
-module _ (pre_back : PreReadBack) (pre_spelled : PreReadSpelled) (conf_back : ConfReadBack) (conf_spelled : ConfReadSpelled)
+module _ (pre_back : PreReadBack) (pre_spelled : PreReadSpelled) (conf_back : ConfReadBack)
+    (conf_spelled : ConfReadSpelled)
     (dyn_back : DynReadBack) (dyn_spelled : DynReadSpelled) where
   pub conf_is_told : ConfTold
   conf_is_told c bits = (

@@ -1,6 +1,7 @@
 -- The tests, packet by packet.
-use Rattle.std.proofs.Common.{◌≡◌, ℕ, zero, suc, ◌+◌, ◌*◌, ◌<◌, ◌≤◌, ◌==◌, ◌&&◌, ◌||◌, not, Bool, true, false, List, [], ◌∷◌}
-use Rattle.std.proofs.Common.{◌++◌, map, length, sum_by, Option, Some, None, refl, ap, ap₂, sym, ◌∙◌, arith, length-append}
+use Rattle.std.proofs.Common.{◌≡◌, ℕ, zero, suc, ◌+◌, ◌*◌, ◌<◌, ◌≤◌, ◌==◌, ◌&&◌, ◌||◌, not, Bool, true, false, List, []}
+use Rattle.std.proofs.Common.{◌∷◌}
+use Rattle.std.proofs.Common.{◌++◌, map, length, Option, Some, None, refl, ap, ap₂, sym, ◌∙◌, arith, length-append}
 use Rattle.std.specs.Prelude.{slice_index, slice_get, if◌then◌else◌, nat_le, nat_lt, is_some, cond, option_map}
 use Rattle.std.specs.List.{range_with_len, list_all, find, filter}
 use Rattle.std.specs.Option.{option_or, option_and_then, option_map_or}
@@ -21,30 +22,37 @@ use Rattle.t2mi_packet.specs.declared.packet.Packet.{Packet}
 use Rattle.t2mi_packet.specs.declared.packet.Stamp.{Stamp}
 use Rattle.frame_groups.specs.Modulated.{Numbered}
 use Rattle.frame_groups.specs.declared.cause.MuteCause.TheVariants.{PacketMissing, L1Refused, PoolFull}
-use Rattle.frame_groups.specs.Carried.{body_block, has_length, blocks_of, right_blocks, L1Parts, body_l1, l1s_of, body_stamp}
+use Rattle.frame_groups.specs.Carried.{body_block, has_length, blocks_of, right_blocks, L1Parts, body_l1, l1s_of}
+use Rattle.frame_groups.specs.Carried.{body_stamp}
 use Rattle.frame_groups.specs.Carried.{stamps_of}
 use Rattle.frame_groups.specs.TestLaws.{TestsAreTallied, TallyGrows}
-use Rattle.frame_groups.specs.Tally.{Tally, all_alike, is_unlike, first_unlike, tally, alike_behind, unlike_behind, tally_need}
-use Rattle.frame_groups.specs.Tally.{tally_room, tally_pool, tally_missing, tally_l1, first_late, tally_time, tally_counts}
+use Rattle.frame_groups.specs.Tally.{Tally, all_alike, is_unlike, first_unlike, tally, alike_behind, unlike_behind}
+use Rattle.frame_groups.specs.Tally.{tally_need}
+use Rattle.frame_groups.specs.Tally.{tally_room, tally_pool, tally_missing, tally_l1, first_late, tally_time}
+use Rattle.frame_groups.specs.Tally.{tally_counts}
 use Rattle.frame_groups.specs.Tally.{tally_blocks}
 use Rattle.frame_groups.specs.Tally.{tally_map, tally_fault}
 use Rattle.frame_groups.specs.Tests.{unless, begins_superframe, pool_chunks, capped, pool_need, room_test, begun_test}
 use Rattle.frame_groups.specs.Tests.{first_failure, has_count, pool_test, missing_test}
-use Rattle.frame_groups.specs.Tests.{same_parts, parts_agree, l1s_agree, l1_test, stamp_agrees, disagrees, time_test, first_shape}
+use Rattle.frame_groups.specs.Tests.{same_parts, parts_agree, l1s_agree, l1_test, stamp_agrees, disagrees, time_test}
+use Rattle.frame_groups.specs.Tests.{first_shape}
 use Rattle.frame_groups.specs.Tests.{has_counts, is_known, blocks_test, map_test, packets_fault}
 
 -- one packet more
 blocks_more : (c : Config) (packets : List Packet) (p : Packet) (plp : ℕ) → blocks_of c plp (packets ++ p ∷ [])
     ≡ blocks_of c plp packets ++ blocks_of c plp (p ∷ [])
-blocks_more c packets p plp = filter_map-append (λ (p : Packet). body_block (plp_at c.plps plp).id p.body) packets (p ∷ [])
+blocks_more c packets p plp = filter_map-append (λ (p : Packet). body_block (plp_at c.plps plp).id p.body)
+    packets (p ∷ [])
 
-block_count_more : (c : Config) (packets : List Packet) (p : Packet) (plp : ℕ) → length (blocks_of c plp (packets ++ p ∷ []))
+block_count_more : (c : Config) (packets : List Packet) (p : Packet) (plp : ℕ)
+    → length (blocks_of c plp (packets ++ p ∷ []))
     ≡ length (blocks_of c plp packets) + length (blocks_of c plp (p ∷ []))
 block_count_more c packets p plp = ap length (blocks_more c packets p plp) ∙ length-append (blocks_of c plp packets)
     (blocks_of c plp (p ∷ []))
 
 right_count_more : (c : Config) (packets : List Packet) (p : Packet) (plp : ℕ)
-    → length (right_blocks c plp (packets ++ p ∷ [])) ≡ length (right_blocks c plp packets) + length (right_blocks c plp (p ∷ []))
+    → length (right_blocks c plp (packets ++ p ∷ [])) ≡ length (right_blocks c plp packets) + length
+    (right_blocks c plp (p ∷ []))
 right_count_more c packets p plp =
     ap (λ (l : List (List Bool)). length (filter (has_length c plp) l)) (blocks_more c packets p plp)
     ∙ ap length (filter-append (has_length c plp) (blocks_of c plp packets) (blocks_of c plp (p ∷ [])))
@@ -58,7 +66,8 @@ alike_more : (xs ys : List L1Parts) → all_alike (xs ++ ys) ≡ (all_alike xs &
 alike_more [] ys = refl
 alike_more (x ∷ xs) ys = list_all-append (same_parts x) xs ys
 
-unlike_more : (xs ys : List Stamp) → first_unlike (xs ++ ys) ≡ option_or (first_unlike xs) (unlike_behind (slice_get xs 0) ys)
+unlike_more : (xs ys : List Stamp) → first_unlike (xs ++ ys) ≡ option_or (first_unlike xs)
+    (unlike_behind (slice_get xs 0) ys)
 unlike_more [] ys = refl
 unlike_more (x ∷ xs) ys = find-append (is_unlike x) xs ys
 
@@ -69,7 +78,8 @@ and_one false u = refl
 
 known_more : (c : Config) (packets : List Packet) (p : Packet) → list_all (is_known c) (packets ++ p ∷ [])
     ≡ (list_all (is_known c) packets && is_known c p)
-known_more c packets p = list_all-append (is_known c) packets (p ∷ []) ∙ and_one (list_all (is_known c) packets) (is_known c p)
+known_more c packets p = list_all-append (is_known c) packets (p ∷ [])
+    ∙ and_one (list_all (is_known c) packets) (is_known c p)
 
 pub at_place : (c : Config) (f : ℕ → ℕ) (plp : ℕ) → plp < length c.plps → slice_index (map f (places c)) plp ≡ f plp
 at_place c f plp inside = get_or-map-range_with_len f 0 (length c.plps) plp plp 0 inside (omega arith)
@@ -84,7 +94,8 @@ counts_more : (c : Config) (old more new : ℕ → ℕ) → ((plp : ℕ) → new
     ≡ map (λ plp. slice_index (map old (places c)) plp + more plp) (places c)
 counts_more c old more new h =
     maps_same new (λ plp. slice_index (map old (places c)) plp + more plp) (length c.plps)
-    (λ plp inside. h plp ∙ ap (λ (k : ℕ). k + more plp) (sym (at_place c old plp inside))) 0 (length c.plps) (omega arith)
+    (λ plp inside. h plp ∙ ap (λ (k : ℕ). k + more plp) (sym (at_place c old plp inside))) 0 (length c.plps)
+    (omega arith)
 
 made : (right other blocks others : List ℕ) (l m : Option L1Parts) (a b : Bool) (s t u v : Option Stamp) (x y : Bool)
     → right ≡ other → blocks ≡ others → l ≡ m → a ≡ b → s ≡ t → u ≡ v → x ≡ y
@@ -115,11 +126,13 @@ need_is c packets =
     let right : ℕ → ℕ = λ plp. length (right_blocks c plp packets) in
     sums_same (λ plp. right plp * chunks_for (block_bytes c plp))
     (λ plp. slice_index (map right (places c)) plp * chunks_for (block_bytes c plp)) 0 (length c.plps)
-    (λ plp low high. ap (λ (k : ℕ). k * chunks_for (block_bytes c plp)) (sym (at_place c right plp (omega (arith, high)))))
+    (λ plp low high. ap (λ (k : ℕ). k * chunks_for (block_bytes c plp))
+    (sym (at_place c right plp (omega (arith, high)))))
 
 room_is : (c : Config) (packets : List Packet) → room_test c packets ≡ tally_room c (tally c packets)
 unfolding room_test
-room_is c packets = ap (λ (k : ℕ). unless (nat_le k (pool_chunks c)) (PoolFull (capped k) (pool_chunks c))) (need_is c packets)
+room_is c packets = ap (λ (k : ℕ). unless (nat_le k (pool_chunks c)) (PoolFull (capped k) (pool_chunks c)))
+    (need_is c packets)
 
 pool_is : (c : Config) (past : List Numbered) (n : ℕ) (packets : List Packet) → pool_test c past n packets
     ≡ tally_pool c past n (tally c packets)
@@ -130,7 +143,8 @@ some_is : {X : Type 0} (xs : List X) → nat_lt 0 (length xs) ≡ is_some (slice
 some_is [] = refl
 some_is (x ∷ xs) = lt-ltb 0 (length (x ∷ xs)) (omega arith)
 
-missing_is : (c : Config) (n : ℕ) (packets : List Packet) → missing_test c n packets ≡ tally_missing c n (tally c packets)
+missing_is : (c : Config) (n : ℕ) (packets : List Packet) → missing_test c n packets ≡ tally_missing
+    c n (tally c packets)
 unfolding missing_test
 missing_is c n packets = ap₂ (λ (a b : Bool). unless (a && (not (begins_superframe c n) || b)) PacketMissing)
     (some_is (l1s_of packets)) (some_is (stamps_of packets))
@@ -150,7 +164,8 @@ agrees_like c n s t e =
     let first = and_parts ((s.bw == bw c.band) && (s.seconds == (emission c n).seconds))
     (s.subseconds == (emission c n).subseconds) e in
     let second = and_parts (s.bw == bw c.band) (s.seconds == (emission c n).seconds) first.0 in
-    ap (λ (k : ℕ). not ((t.bw == k) && (t.seconds == (emission c n).seconds) && (t.subseconds == (emission c n).subseconds)))
+    ap (λ (k : ℕ). not ((t.bw == k) && (t.seconds == (emission c n).seconds)
+    && (t.subseconds == (emission c n).subseconds)))
     (sym (eqb-true s.bw (bw c.band) second.0))
     ∙ ap (λ (k : ℕ). not ((t.bw == s.bw) && (t.seconds == k) && (t.subseconds == (emission c n).subseconds)))
     (sym (eqb-true s.seconds (emission c n).seconds second.1))
@@ -165,7 +180,8 @@ late_is : (c : Config) (n : ℕ) (t : Tally) (stamps : List Stamp) → t.unlike 
     → find (λ s. not (stamp_agrees c n s)) stamps ≡ option_and_then (first_late c n t) (slice_get stamps 0)
 late_is c n t [] e = refl
 late_is c n t (s ∷ stamps) e =
-    go (stamp_agrees c n s) (λ h. found_same (λ s. not (stamp_agrees c n s)) (is_unlike s) (λ u. agrees_like c n s u h) stamps
+    go (stamp_agrees c n s) (λ h. found_same (λ s. not (stamp_agrees c n s)) (is_unlike s) (λ u. agrees_like c n s u h)
+    stamps
     ∙ sym e)
   where
     go : (b : Bool) → (b ≡ true → find (λ s. not (stamp_agrees c n s)) stamps ≡ t.unlike)
@@ -185,7 +201,8 @@ counts_is c past n packets None = refl
 counts_is c past n packets (Some shape) =
     let blocks : ℕ → ℕ = λ plp. length (blocks_of c plp packets) in
     alls_same (λ plp. has_count c past n plp (blocks plp) (slice_index shape.counts plp))
-    (λ plp. has_count c past n plp (slice_index (map blocks (places c)) plp) (slice_index shape.counts plp)) 0 (length c.plps)
+    (λ plp. has_count c past n plp (slice_index (map blocks (places c)) plp) (slice_index shape.counts plp))
+    0 (length c.plps)
     (λ plp low high. ap (λ (k : ℕ). has_count c past n plp k (slice_index shape.counts plp))
     (sym (at_place c blocks plp (omega (arith, high)))))
 

@@ -20,12 +20,13 @@ due r true ps = modulated r ps
 abbrev pub ComesNext : List FrameRecord → List FrameRecord → FrameRecord → Type 0
 ComesNext all given x = (more : List FrameRecord) × (all ≡ given ++ x ∷ more)
 
--- If no record waits, those that are due were given. One that waits comes next: of those due by the packets that came, or,
--- if the group is closed, by them and the packet that closed it, or at the end.
+-- If no record waits, those that are due were given. One that waits comes next: of those due by the packets that came,
+-- or, if the group is closed, by them and the packet that closed it, or at the end.
 pub record DueLaw (r : Rules) (past : List Numbered) (g : Option Group) (p : Progress) (ps : List Packet)
     (given : List FrameRecord) : Type 0 where
   pub idle : waits p ≡ false → due r p.closing ps ≡ given
-  pub under_way : p.closing ≡ false → waits p ≡ true → (x : FrameRecord) × (record_now r past g p.number p.next ≡ Some x)
+  pub under_way : p.closing ≡ false → waits p ≡ true → (x : FrameRecord)
+      × (record_now r past g p.number p.next ≡ Some x)
       × ComesNext (due r false ps) given x
   pub ended : p.closing ≡ true → waits p ≡ true → (x : FrameRecord) × (record_now r past g p.number p.next ≡ Some x)
       × ComesNext (due r true ps) given x
@@ -36,5 +37,6 @@ pub record DueLaw (r : Rules) (past : List Numbered) (g : Option Group) (p : Pro
   pub none : g ≡ None → due r true ps ≡ given
 
 abbrev pub RecordsAreDue : Type 0
-RecordsAreDue = (r : Rules) (past : List Numbered) (g : Option Group) (p : Progress) (ps : List Packet) (given : List FrameRecord)
+RecordsAreDue = (r : Rules) (past : List Numbered) (g : Option Group) (p : Progress) (ps : List Packet)
+    (given : List FrameRecord)
     → Sequenced r past g p.number p.next p.closing p.fault ps given → DueLaw r past g p ps given

@@ -1,6 +1,7 @@
--- The packets of each T2 frame: the longest runs of packets with one key (frame_idx and superframe_idx of ETSI TS 102 773, clause
--- 5).
-use Rattle.std.specs.Prelude.{ℕ, ◌==◌, ◌&&◌, nat_lt, Bool, true, false, List, [], ◌∷◌, Option, Some, None, if◌then◌else◌}
+-- The packets of each T2 frame: the longest runs of packets with one key (frame_idx and superframe_idx of ETSI TS 102
+-- 773, clause 5).
+use Rattle.std.specs.Prelude.{ℕ, ◌==◌, ◌&&◌, nat_lt, Bool, true, false, List, [], ◌∷◌, Option, Some, None}
+use Rattle.std.specs.Prelude.{if◌then◌else◌}
 use Rattle.std.specs.List.{filter}
 use Rattle.frame_groups.specs.declared.key.Key.{Key}
 use Rattle.t2mi_packet.specs.declared.packet.Packet.{Packet}
@@ -10,8 +11,8 @@ use Rattle.t2mi_packet.specs.declared.packet.Body.TheVariants.{Block, L1Current,
 abbrev pub is_same : Key → Key → Bool
 is_same k l = (k.superframe == l.superframe) && (k.frame == l.frame)
 
--- What belongs to a frame, if a superframe has so many: a baseband frame or an L1-current with a frame_idx below their number,
--- and every timestamp.
+-- What belongs to a frame, if a superframe has so many: a baseband frame or an L1-current with a frame_idx below their
+-- number, and every timestamp.
 abbrev pub body_counts : ℕ → Body → Bool
 body_counts frames (Block frame_idx plp_id first bits) = nat_lt frame_idx frames
 body_counts frames (L1Current frame_idx pre conf dynamic extension) = nat_lt frame_idx frames

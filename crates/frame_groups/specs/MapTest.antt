@@ -1,4 +1,5 @@
--- Whether a shape has a cell map, by going over its cells in each frame of a superframe (EN 302 755, clauses 6.5 and 8).
+-- Whether a shape has a cell map, by going over its cells in each frame of a superframe (EN 302 755, clauses 6.5 and
+-- 8).
 use Rattle.std.specs.Prelude.{ℕ, ◌==◌, ◌&&◌, ◌||◌, not, nat_lt, nat_le, Bool, length, slice_index}
 use Rattle.std.specs.List.{list_all, range_with_len}
 use Rattle.plp_config.specs.Plps.{plp_at}
@@ -33,11 +34,13 @@ all_apart c shape frame_idx =
 
 -- no PLP has more blocks than it may
 abbrev pub counts_within : Config → FrameShape → Bool
-counts_within c shape = each_below (length c.plps) (λ plp. nat_le (slice_index shape.counts plp) (plp_at c.plps plp).blocks)
+counts_within c shape = each_below (length c.plps) (λ plp. nat_le (slice_index shape.counts plp)
+    (plp_at c.plps plp).blocks)
 
 -- each address is one of the frame, and no two cells share one
 abbrev pub frame_passes : Config → FrameShape → ℕ → Bool
-frame_passes c shape frame_idx = each_cell c shape frame_idx (is_within c shape frame_idx) && all_apart c shape frame_idx
+frame_passes c shape frame_idx = each_cell c shape frame_idx (is_within c shape frame_idx)
+    && all_apart c shape frame_idx
 
 -- and so it is in each frame of a superframe
 unfoldable pub map_passes : Config → FrameShape → Bool

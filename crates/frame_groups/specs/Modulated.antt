@@ -22,8 +22,8 @@ pub record Numbered : Type 0 where
   pub number : ℕ
   pub group : Group
 
--- what decides of a group: the network, how many frames a superframe has, the frame that a group's timestamp names, and why it is
--- not the frame of a number, behind groups that have numbers, the last one in front
+-- what decides of a group: the network, how many frames a superframe has, the frame that a group's timestamp names, and
+-- why it is not the frame of a number, behind groups that have numbers, the last one in front
 pub record Rules : Type 0 where
   pub network : Config
   pub frames : ℕ

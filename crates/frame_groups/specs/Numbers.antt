@@ -28,7 +28,8 @@ pub record IsKey (frames : ℕ) (k : Key) : Type 0 where
 -- the same number by arithmetic
 abbrev pub next_by : ℕ → ℕ → Key → ℕ
 next_by frames n k =
-    n + 1 + (k.superframe * frames + k.frame + superframe_period * frames * (n + 1) - (n + 1)) % (superframe_period * frames)
+    n + 1 + (k.superframe * frames + k.frame + superframe_period * frames * (n + 1) - (n + 1)) %
+    (superframe_period * frames)
 
 -- A number is the least above another whose frame has a key.
 pub record IsNext (frames n : ℕ) (k : Key) (next : ℕ) : Type 0 where

@@ -1,5 +1,6 @@
 -- Which records of frames are readable (EN 302 755, clauses 5 to 8).
-use Rattle.std.specs.Prelude.{ℕ, ◌-◌, ◌==◌, ◌&&◌, Bool, true, List, length, map, take, replicate, slice_index, Option, Some}
+use Rattle.std.specs.Prelude.{ℕ, ◌-◌, ◌==◌, ◌&&◌, Bool, true, List, length, map, take, replicate, slice_index, Option}
+use Rattle.std.specs.Prelude.{Some}
 use Rattle.std.specs.Prelude.{None, if◌then◌else◌, option_map}
 use Rattle.std.specs.Bool.{beq}
 use Rattle.std.specs.Cmp.Lexicographic.{pointwise}
@@ -26,13 +27,16 @@ use Rattle.frame_groups.specs.Tests.{read_whole, pre_agrees, conf_agrees, dyn_ag
 
 -- the dynamic part of L1-post, if it reads
 abbrev pub told_dynamic : Config → List Bool → Option L1Dyn
-told_dynamic c post = read_whole (dyn_read (length c.plps) (part post (conf_len (length c.plps)) (dyn_len (length c.plps))))
+told_dynamic c post = read_whole (dyn_read (length c.plps) (part post (conf_len (length c.plps))
+    (dyn_len (length c.plps))))
 
 -- L1-post has its length and its CRC_32, the configuration's configurable part, and a dynamic part of frame n
 abbrev pub post_agrees : Config → ℕ → List Bool → Bool
 post_agrees c n post =
-    (length post == post_len (length c.plps)) && pointwise beq post (crc_behind true (take (length post - CRC_BITS) post))
-    && conf_agrees c (read_whole (conf_read (info_size (length c.plps)) (take (conf_len (length c.plps)) post))) && dyn_agrees c n
+    (length post == post_len (length c.plps)) && pointwise beq post
+    (crc_behind true (take (length post - CRC_BITS) post))
+    && conf_agrees c (read_whole (conf_read (info_size (length c.plps)) (take (conf_len (length c.plps)) post)))
+    && dyn_agrees c n
     (told_dynamic c post)
 
 -- how many blocks of each PLP come with frame n: those of the interleaving frame that begins in it, if one does
@@ -62,7 +66,8 @@ abbrev pub fitting : Config → ℕ → List Block → List (Option Cell) → Op
 fitting c n blocks cells None = None
 fitting c n blocks cells (Some shape) = if shape_agrees c n blocks cells shape then Some shape else None
 
--- the shape of a record of frame n that is readable: its L1-pre is the configuration's, L1-post agrees, and what it tells
+-- the shape of a record of frame n that is readable: its L1-pre is the configuration's, L1-post agrees, and what it
+-- tells
 unfoldable pub readable : Config → ℕ → List Bool → List Bool → List Block → List (Option Cell) → Option FrameShape
 readable c n pre post blocks cells =
     if pre_agrees c (read_whole (pre_reading true pre)) && post_agrees c n post

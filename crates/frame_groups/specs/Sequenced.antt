@@ -1,5 +1,6 @@
 -- How far the records of groups have come, as `Sequence` and the crates above it say it.
-use Rattle.std.specs.Prelude.{◌≡◌, ℕ, ◌+◌, ◌-◌, ◌<◌, ◌≤◌, nat_lt, Bool, true, false, List, [], ◌∷◌, ◌++◌, map, Option, Some}
+use Rattle.std.specs.Prelude.{◌≡◌, ℕ, ◌+◌, ◌-◌, ◌<◌, ◌≤◌, nat_lt, Bool, true, false, List, [], ◌∷◌, ◌++◌, map, Option}
+use Rattle.std.specs.Prelude.{Some}
 use Rattle.std.specs.Prelude.{None}
 use Rattle.std.specs.Prelude.{if◌then◌else◌}
 use Rattle.std.specs.List.{filter, range_with_len}
@@ -10,7 +11,8 @@ use Rattle.frame_groups.specs.Groups.{Group, is_counted, is_same, key_behind}
 use Rattle.frame_groups.specs.Grouping.{Grouped, grouped, no_groups}
 use Rattle.frame_groups.specs.declared.waiting.Progress.{Progress}
 use Rattle.frame_groups.specs.Numbers.{IsKey}
-use Rattle.frame_groups.specs.Modulated.{Numbered, Rules, FrameRecord, gap_record, group_record, number_behind, past_with}
+use Rattle.frame_groups.specs.Modulated.{Numbered, Rules, FrameRecord, gap_record, group_record, number_behind}
+use Rattle.frame_groups.specs.Modulated.{past_with}
 use Rattle.frame_groups.specs.Modulated.{gaps_behind, records_with, records_from, past_after}
 
 -- the number of a group: under way it is known behind the join alone
@@ -65,7 +67,8 @@ kept_groups r ps = grouped (filter (is_counted r.frames) ps)
 -- Packets came, and records were given. The group under way comes behind groups that have numbers.
 abbrev pub Sequenced : Rules → List Numbered → Option Group → Option ℕ → ℕ → Bool → Option MuteCause → List Packet
     → List FrameRecord → Type 0
-Sequenced r past None number next closing fault ps given = (kept_groups r ps ≡ no_groups) × (past ≡ []) × (number ≡ None)
+Sequenced r past None number next closing fault ps given = (kept_groups r ps ≡ no_groups) × (past ≡ [])
+    × (number ≡ None)
     × (closing ≡ false) × (given ≡ [])
 Sequenced r past (Some h) number next closing fault ps given = (closed : List Group)
     × (kept_groups r ps ≡ record { closed = closed; under_way = Some h })
@@ -75,7 +78,8 @@ Sequenced r past (Some h) number next closing fault ps given = (closed : List Gr
 abbrev pub record_now : Rules → List Numbered → Option Group → Option ℕ → ℕ → Option FrameRecord
 record_now r past None number next = None
 record_now r past (Some h) None next = None
-record_now r past (Some h) (Some n) next = if nat_lt next n then Some (gap_record next) else Some (group_record r past h n)
+record_now r past (Some h) (Some n) next = if nat_lt next n then Some (gap_record next) else Some
+    (group_record r past h n)
 
 -- A packet ends a group: it belongs to a frame, and has another key.
 abbrev pub Ends : Rules → Option Key → Packet → Type 0

@@ -1,5 +1,7 @@
--- What the tests need of packets, packet by packet: two numbers for each PLP, one L1-current, two timestamps and two answers.
-use Rattle.std.specs.Prelude.{ℕ, ◌+◌, ◌*◌, ◌==◌, ◌&&◌, ◌||◌, not, nat_le, is_some, Bool, true, false, List, [], ◌∷◌, length, map}
+-- What the tests need of packets, packet by packet: two numbers for each PLP, one L1-current, two timestamps and two
+-- answers.
+use Rattle.std.specs.Prelude.{ℕ, ◌+◌, ◌*◌, ◌==◌, ◌&&◌, ◌||◌, not, nat_le, is_some, Bool, true, false, List, [], ◌∷◌}
+use Rattle.std.specs.Prelude.{length, map}
 use Rattle.std.specs.Prelude.{sum_by, slice_get, slice_index, Option, Some, None, option_map, if◌then◌else◌}
 use Rattle.std.specs.List.{find, list_all, range_with_len}
 use Rattle.std.specs.Option.{option_or, option_and_then, option_map_or}
@@ -96,7 +98,8 @@ abbrev pub first_late : Config → ℕ → Tally → Stamp → Option Stamp
 first_late c n t s = if stamp_agrees c n s then t.unlike else Some s
 
 abbrev pub tally_time : Config → ℕ → Tally → Option MuteCause
-tally_time c n t = if begins_superframe c n then option_map (disagrees c n) (option_and_then (first_late c n t) t.stamp) else None
+tally_time c n t = if begins_superframe c n then option_map (disagrees c n) (option_and_then (first_late c n t) t.stamp)
+    else None
 
 -- e
 abbrev pub tally_counts : Config → List Numbered → ℕ → Tally → Option FrameShape → Bool

@@ -1,5 +1,6 @@
 -- Laws of the six tests.
-use Rattle.std.specs.Prelude.{◌≡◌, ◌↔◌, ℕ, ◌%◌, ◌<◌, ◌==◌, true, Bool, List, [], ◌∷◌, ◌++◌, length, map, slice_get, Some}
+use Rattle.std.specs.Prelude.{◌≡◌, ◌↔◌, ℕ, ◌%◌, ◌<◌, ◌==◌, true, Bool, List, [], ◌∷◌, ◌++◌, length, map, slice_get}
+use Rattle.std.specs.Prelude.{Some}
 use Rattle.plp_config.specs.Capacity.{IsPlan}
 use Rattle.plp_config.specs.Emission.{emission}
 use Rattle.plp_config.specs.Places.{FramesStandAlone}
@@ -23,14 +24,15 @@ use Rattle.frame_groups.specs.MapTest.{map_passes}
 use Rattle.frame_groups.specs.Tally.{tally, tally_with, tally_fault}
 use Rattle.plp_config.specs.declared.moment.TheConstants.{MOST_FRAMES}
 use Rattle.frame_groups.specs.Tests.{room_test, pool_test, has_count}
-use Rattle.frame_groups.specs.Tests.{read_whole, same_told, conf_agrees, parts_agree, packets_fault, moment_of, named_frame}
+use Rattle.frame_groups.specs.Tests.{read_whole, same_told, conf_agrees, parts_agree, packets_fault, moment_of}
+use Rattle.frame_groups.specs.Tests.{named_frame}
 
 -- The test of a shape, which goes over the frames of one superframe, says whether it passes in every frame of a plan.
 abbrev pub MapPasses : Type 0
 MapPasses = (c : Config) (shape : FrameShape) → IsPlan c → (map_passes c shape ≡ true) ↔ Passes c shape
 
--- An L1-current is one of frame n: it spells the configuration's L1-pre and configurable part, and a dynamic part with FRAME_IDX
--- of the frame and the identifiers in order.
+-- An L1-current is one of frame n: it spells the configuration's L1-pre and configurable part, and a dynamic part with
+-- FRAME_IDX of the frame and the identifiers in order.
 pub record IsOfFrame (c : Config) (n : ℕ) (l1 : L1Parts) : Type 0 where
   pub pre : PreSpells (pre_of c) l1.pre
   pub conf : ConfSpells (conf_of c) l1.conf
@@ -45,7 +47,8 @@ PreValues = (x y : L1Pre) → (same_told pre_rows x y ≡ true) ↔ (x ≡ y)
 
 -- The test of a configurable part says whether it spells the configuration's values.
 abbrev pub ConfTold : Type 0
-ConfTold = (c : Config) (bits : List Bool) → (conf_agrees c (read_whole (conf_read (info_size (length c.plps)) bits)) ≡ true)
+ConfTold = (c : Config) (bits : List Bool)
+    → (conf_agrees c (read_whole (conf_read (info_size (length c.plps)) bits)) ≡ true)
     ↔ ConfSpells (conf_of c) bits
 
 -- The test of an L1-current says whether it is one.
@@ -58,17 +61,19 @@ TestsAreTallied = (c : Config) (past : List Numbered) (n : ℕ) (packets : List 
     ≡ tally_fault c past n (tally c packets)
 
 abbrev pub TallyGrows : Type 0
-TallyGrows = (c : Config) (packets : List Packet) (p : Packet) → tally c (packets ++ p ∷ []) ≡ tally_with c (tally c packets) p
+TallyGrows = (c : Config) (packets : List Packet) (p : Packet) → tally c (packets ++ p ∷ []) ≡ tally_with
+    c (tally c packets) p
 
--- The groups before decide nothing: there is room if the group has it, and a PLP has as many blocks as told if it has them in the
--- group.
+-- The groups before decide nothing: there is room if the group has it, and a PLP has as many blocks as told if it has
+-- them in the group.
 pub record AreAlone (c : Config) (past : List Numbered) (n : ℕ) (packets : List Packet) : Type 0 where
   pub room : pool_test c past n packets ≡ room_test c packets
   pub counts : (plp own told : ℕ) → plp < length c.plps → has_count c past n plp own told ≡ (own == told)
 
 -- So it is if every interleaving frame is carried by one frame.
 abbrev pub TestsAlone : Type 0
-TestsAlone = (c : Config) (past : List Numbered) (n : ℕ) (packets : List Packet) → FramesStandAlone c → AreAlone c past n packets
+TestsAlone = (c : Config) (past : List Numbered) (n : ℕ) (packets : List Packet) → FramesStandAlone c
+    → AreAlone c past n packets
 
 -- The group's first timestamp tells the emission of frame n, which has the group's key.
 pub record IsNamed (c : Config) (g : Group) (n : ℕ) : Type 0 where

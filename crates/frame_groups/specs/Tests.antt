@@ -1,7 +1,9 @@
--- Why the packets of a group are not those of a frame: the first of our six tests that fails. The fields are those of ETSI TS 102
--- 773, clause 5.
-use Rattle.std.specs.Prelude.{ℕ, ◌*◌, ◌/◌, ◌%◌, ◌-◌, ◌^◌, ◌==◌, ◌&&◌, ◌||◌, not, min, nat_eq, nat_lt, nat_le, Bool, true, false}
-use Rattle.std.specs.Prelude.{List, [], ◌∷◌, length, map, sum_by, slice_get, slice_index, Option, Some, None, option_map, Ok, Err}
+-- Why the packets of a group are not those of a frame: the first of our six tests that fails. The fields are those of
+-- ETSI TS 102 773, clause 5.
+use Rattle.std.specs.Prelude.{ℕ, ◌*◌, ◌/◌, ◌%◌, ◌-◌, ◌^◌, ◌==◌, ◌&&◌, ◌||◌, not, min, nat_eq, nat_lt, nat_le, Bool}
+use Rattle.std.specs.Prelude.{true, false}
+use Rattle.std.specs.Prelude.{List, [], ◌∷◌, length, map, sum_by, slice_get, slice_index, Option, Some, None}
+use Rattle.std.specs.Prelude.{option_map, Ok, Err}
 use Rattle.std.specs.Prelude.{if◌then◌else◌}
 use Rattle.std.specs.Bool.{beq}
 use Rattle.std.specs.Cmp.Lexicographic.{pointwise}
@@ -20,7 +22,8 @@ use Rattle.linked_pool.specs.Pool.{chunks_for}
 use Rattle.linked_pool.specs.Fits.{group_chunks}
 use Rattle.scheduler.specs.Shape.{FrameShape}
 use Rattle.l1_signal.specs.Fields.{Row, Reading, values}
-use Rattle.l1_signal.specs.L1Configurable.{conf_first_rows, conf_more_rows, conf_plp_rows, conf_back_rows, conf_read, info_size}
+use Rattle.l1_signal.specs.L1Configurable.{conf_first_rows, conf_more_rows, conf_plp_rows, conf_back_rows, conf_read}
+use Rattle.l1_signal.specs.L1Configurable.{info_size}
 use Rattle.l1_signal.specs.L1Dynamic.{dyn_read}
 use Rattle.l1_signal.specs.L1Of.{pre_of, conf_of, told_shape}
 use Rattle.l1_signal.specs.L1Pre.{pre_rows, pre_reading}
@@ -35,7 +38,8 @@ use Rattle.frame_groups.specs.Groups.{Group, is_same}
 use Rattle.frame_groups.specs.Modulated.{Numbered, Rules}
 use Rattle.frame_groups.specs.Numbers.{frame_key}
 use Rattle.frame_groups.specs.declared.cause.MuteCause.{MuteCause}
-use Rattle.frame_groups.specs.declared.cause.MuteCause.TheVariants.{PacketMissing, L1Refused, MapRefused, PoolFull, TimeDisagrees}
+use Rattle.frame_groups.specs.declared.cause.MuteCause.TheVariants.{PacketMissing, L1Refused, MapRefused, PoolFull}
+use Rattle.frame_groups.specs.declared.cause.MuteCause.TheVariants.{TimeDisagrees}
 use Rattle.frame_groups.specs.declared.key.Key.{Key}
 use Rattle.frame_groups.specs.Carried.{has_length, blocks_of, right_blocks, L1Parts, l1s_of, stamps_of}
 use Rattle.frame_groups.specs.Begun.{is_begin, packets_at}
@@ -77,20 +81,22 @@ abbrev pub first_failure : {X : Type 0} → (X → Option MuteCause) → List X 
 first_failure test [] = None
 first_failure test (x ∷ xs) = option_or (test x) (first_failure test xs)
 
--- a: in order of number, the blocks of each group have room in which an interleaving frame begins that frame n carries, and last
--- those of the group itself
+-- a: in order of number, the blocks of each group have room in which an interleaving frame begins that frame n carries,
+-- and last those of the group itself
 unfoldable pub pool_test : Config → List Numbered → ℕ → List Packet → Option MuteCause
 pool_test c past n packets = option_or (first_failure (begun_test c past n) (range_with_len 0 n)) (room_test c packets)
 
 -- b: there is an L1-current, and a timestamp if a superframe begins (clauses 5.2.4 and 5.2.7)
 unfoldable pub missing_test : Config → ℕ → List Packet → Option MuteCause
 missing_test c n packets =
-    unless (nat_lt 0 (length (l1s_of packets)) && (not (begins_superframe c n) || nat_lt 0 (length (stamps_of packets))))
+    unless (nat_lt 0 (length (l1s_of packets)) && (not (begins_superframe c n) || nat_lt 0
+    (length (stamps_of packets))))
     PacketMissing
 
 -- two L1-current packets are the same
 abbrev pub same_parts : L1Parts → L1Parts → Bool
-same_parts a b = pointwise beq a.pre b.pre && pointwise beq a.conf b.conf && pointwise beq a.dynamic b.dynamic && pointwise beq
+same_parts a b = pointwise beq a.pre b.pre && pointwise beq a.conf b.conf && pointwise beq a.dynamic b.dynamic
+    && pointwise beq
     a.extension b.extension
 
 -- what is read of bits, if nothing is left of them
@@ -119,7 +125,8 @@ conf_agrees c (Some conf) = same_conf conf (conf_of c)
 -- a dynamic part is one of frame n, and has the PLPs in order (clause 7.2.3.2)
 abbrev pub dyn_agrees : Config → ℕ → Option L1Dyn → Bool
 dyn_agrees c n None = false
-dyn_agrees c n (Some dynamic) = (dynamic.frame_idx == n % c.frames) && pointwise nat_eq (map (λ plp. plp.plp_id) dynamic.plps)
+dyn_agrees c n (Some dynamic) = (dynamic.frame_idx == n % c.frames) && pointwise nat_eq
+    (map (λ plp. plp.plp_id) dynamic.plps)
     (map (λ plp. plp.id) c.plps)
 
 abbrev pub read_dynamic : Config → L1Parts → Option L1Dyn
@@ -142,7 +149,8 @@ l1_test c n packets = unless (l1s_agree c n (l1s_of packets)) L1Refused
 -- a timestamp tells the bandwidth and the emission of frame n; utco decides nothing
 abbrev pub stamp_agrees : Config → ℕ → Stamp → Bool
 stamp_agrees c n stamp =
-    (stamp.bw == bw c.band) && (stamp.seconds == (emission c n).seconds) && (stamp.subseconds == (emission c n).subseconds)
+    (stamp.bw == bw c.band) && (stamp.seconds == (emission c n).seconds)
+    && (stamp.subseconds == (emission c n).subseconds)
 
 abbrev pub disagrees : Config → ℕ → Stamp → MuteCause
 disagrees c n stamp = TimeDisagrees stamp (emission c n)
@@ -162,10 +170,11 @@ first_shape c packets = option_and_then (l1_shape c) (slice_get (l1s_of packets)
 
 -- packets have so many blocks of a PLP, each of its length
 abbrev pub has_begun : Config → ℕ → List Packet → ℕ → Bool
-has_begun c plp packets told = (length (blocks_of c plp packets) == told) && (length (right_blocks c plp packets) == told)
+has_begun c plp packets told = (length (blocks_of c plp packets) == told)
+    && (length (right_blocks c plp packets) == told)
 
--- with so many blocks in the group, a PLP has as many as told: in the group, if an interleaving frame begins in frame n; else it
--- has none there, and those of its interleaving frame in the group of the frame in which that one begins
+-- with so many blocks in the group, a PLP has as many as told: in the group, if an interleaving frame begins in frame
+-- n; else it has none there, and those of its interleaving frame in the group of the frame in which that one begins
 abbrev pub has_count : Config → List Numbered → ℕ → ℕ → ℕ → ℕ → Bool
 has_count c past n plp own told = if is_first c plp n then own == told
     else (own == 0) && has_begun c plp (packets_at past (begin_of c plp n)) told
@@ -189,7 +198,8 @@ is_known c p = body_known c p.body
 
 -- e: there are as many blocks as the first L1-current tells, and no others
 unfoldable pub blocks_test : Config → List Numbered → ℕ → List Packet → Option MuteCause
-blocks_test c past n packets = unless (has_counts c past n packets (first_shape c packets) && list_all (is_known c) packets)
+blocks_test c past n packets = unless (has_counts c past n packets (first_shape c packets)
+    && list_all (is_known c) packets)
     PacketMissing
 
 -- f: the cells of the blocks that it tells stand apart, in the frame
@@ -229,7 +239,8 @@ frames_passed c moment = passed c moment / frame_subseconds c
 -- the frame of a run that leaves at a moment and has a key
 unfoldable pub frame_with : Config → Key → Moment → Option ℕ
 frame_with c key moment =
-    if is_on_grid c moment && nat_lt (frames_passed c moment) MOST_FRAMES && is_same (frame_key c.frames (frames_passed c moment))
+    if is_on_grid c moment && nat_lt (frames_passed c moment) MOST_FRAMES && is_same
+    (frame_key c.frames (frames_passed c moment))
     key then Some (frames_passed c moment) else None
 
 -- the frame that the first timestamp of a group names: it has the emission that this tells, and the group's key

@@ -1,5 +1,6 @@
 -- The record that waits.
-use Rattle.std.specs.Prelude.{◌≡◌, ℕ, ◌+◌, ◌-◌, ◌*◌, ◌^◌, ◌≤◌, ◌==◌, ◌&&◌, ◌||◌, not, nat_lt, Bool, Option, Some, None, is_some}
+use Rattle.std.specs.Prelude.{◌≡◌, ℕ, ◌+◌, ◌-◌, ◌*◌, ◌^◌, ◌≤◌, ◌==◌, ◌&&◌, ◌||◌, not, nat_lt, Bool, Option, Some, None}
+use Rattle.std.specs.Prelude.{is_some}
 use Rattle.std.specs.Prelude.{if◌then◌else◌}
 use Rattle.frame_groups.specs.declared.cause.MuteCause.{MuteCause}
 use Rattle.frame_groups.specs.declared.cause.MuteCause.TheVariants.{Gap}
@@ -40,8 +41,8 @@ greatest_step = superframe_period * 255
 abbrev pub most_number : ℕ
 most_number = 2 ^ 32 - 1
 
--- the most records that a group can still bring: those up to its number, or of a group under way whose number is not known its
--- own
+-- the most records that a group can still bring: those up to its number, or of a group under way whose number is not
+-- known its own
 abbrev pub records_by : Option ℕ → ℕ → Bool → ℕ
 records_by None next closing = if closing then 0 else 1
 records_by (Some n) next closing = n + 1 - next

@@ -62,7 +62,8 @@ pub trait OpenGroup {
     /// The frame that its timestamp names: below `plp_config::MOST_FRAMES`.
     fn named(&self) -> Option<u64>
         requires { is_intact self.now ≡ true }
-        ensures value { (past : List Numbered) (h : Group) → holds self.now past (Some h) → result ≡ (rules self.now).named h }
+        ensures value { (past : List Numbered) (h : Group) → holds self.now past (Some h)
+            → result ≡ (rules self.now).named h }
         ensures small { IfSome result (λ n. n < MOST_FRAMES) };
 
     /// Why it is not the frame of a number, which is above those of the groups before it.

@@ -1,4 +1,5 @@
-//! T2-MI packets in groups, one for each T2 frame, our six tests of each, and the records of the frames (ETSI TS 102 773, clause 5).
+//! T2-MI packets in groups, one for each T2 frame, our six tests of each, and the records of the frames (ETSI TS 102
+//! 773, clause 5).
 #![tactic(auto)]
 
 mod cause;

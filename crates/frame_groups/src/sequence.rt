@@ -86,7 +86,8 @@ fn number_behind(frames: u8, number: Option<u64>, key: Key) -> Option<u64>
     requires small { (n : ℕ) → number ≡ Some n → n ≤ most_number }
     ensures none { number ≡ None → result ≡ None }
     ensures some { (n : ℕ) → number ≡ Some n → IsKey frames key → result ≡ Some (next_number frames n key) }
-    ensures near { (bound : ℕ) → ((n : ℕ) → number ≡ Some n → n ≤ bound) → (n : ℕ) → result ≡ Some n → n ≤ bound + greatest_step }
+    ensures near { (bound : ℕ) → ((n : ℕ) → number ≡ Some n → n ≤ bound) → (n : ℕ) → result ≡ Some n
+        → n ≤ bound + greatest_step }
 {
     match number {
         Some(number) => Some(next_number(frames, number, key)),
@@ -107,7 +108,8 @@ pub struct Sequence<G: OpenGroup + Drop> {
 }
 
 impl<G: OpenGroup + Drop> Sequence<G> {
-    ghost use Rattle.std.specs.Prelude.{◌≡◌, ◌<◌, ◌≤◌, ◌+◌, ◌-◌, ◌++◌, ◌∷◌, ℕ, List, [], Option, Some, None, is_some, true};
+    ghost use Rattle.std.specs.Prelude.{◌≡◌, ◌<◌, ◌≤◌, ◌+◌, ◌-◌, ◌++◌, ◌∷◌, ℕ, List, [], Option, Some, None, is_some};
+    ghost use Rattle.std.specs.Prelude.{true};
     ghost use Rattle.std.specs.Prelude.{false};
     ghost use Rattle.plp_config.specs.declared.moment.TheConstants.{MOST_FRAMES};
     ghost use Rattle.t2mi_packet.specs.declared.packet.Packet.{Packet};
@@ -148,7 +150,8 @@ impl<G: OpenGroup + Drop> Sequence<G> {
         ensures group { self.new.group ≡ self.old.group }
         ensures intact { G.is_intact self.new.group ≡ true }
         ensures closing { self.new.progress.closing ≡ true }
-        ensures near { (bound : ℕ) → MOST_FRAMES ≤ bound → IsWithin bound self.old.progress → IsWithin bound self.new.progress }
+        ensures near { (bound : ℕ) → MOST_FRAMES ≤ bound → IsWithin bound self.old.progress
+            → IsWithin bound self.new.progress }
         ensures next { (self.new.progress.next ≡ self.old.progress.next) ⊎ (self.new.progress.next < MOST_FRAMES) }
         ensures left { records_left self.new.progress ≤ records_left self.old.progress }
     {
@@ -163,11 +166,13 @@ impl<G: OpenGroup + Drop> Sequence<G> {
         requires near { IsWithin (most_number - greatest_step) self.old.progress }
         requires counted { is_counted (G.rules self.old.group).frames packet.now ≡ true }
         requires fits { Fits packet.now }
-        ensures follows { (ps : List Packet) (given : List FrameRecord) → is_same key (key_behind (Some key) packet.now) ≡ false
+        ensures follows { (ps : List Packet) (given : List FrameRecord)
+            → is_same key (key_behind (Some key) packet.now) ≡ false
             → Keeps (G.holds self.old.group) (G.rules self.old.group) self.old.progress ps given
             → Keeps (G.holds self.new.group) (G.rules self.new.group) self.new.progress (ps ++ packet.now ∷ []) given }
         ensures rules { G.rules self.new.group ≡ G.rules self.old.group }
-        ensures near { (bound : ℕ) → IsWithin bound self.old.progress → IsWithin (bound + greatest_step) self.new.progress }
+        ensures near { (bound : ℕ) → IsWithin bound self.old.progress
+            → IsWithin (bound + greatest_step) self.new.progress }
         ensures next { self.new.progress.next ≡ self.old.progress.next }
         ensures open { self.new.progress.closing ≡ false }
         ensures intact { G.is_intact self.new.group ≡ true }
@@ -215,8 +220,8 @@ impl<G: OpenGroup + Drop> Sequence<G> {
         true
     }
 
-    /// Works off a packet, unless its group is closed by it and a record waits: then it has to come again, once the record was
-    /// given.
+    /// Works off a packet, unless its group is closed by it and a record waits: then it has to come again, once the
+    /// record was given.
     pub fn work(&mut self, packet: &Packet<'_>) -> bool
         requires idle { waits self.old.progress ≡ false }
         requires near { IsWithin (most_number - greatest_step) self.old.progress }
@@ -266,7 +271,8 @@ impl<G: OpenGroup + Drop> Sequence<G> {
         requires { waits self.old.progress ≡ true }
         ensures follows { (ps : List Packet) (given : List FrameRecord) (x : FrameRecord)
             → (k : Keeps (G.holds self.old.group) (G.rules self.old.group) self.old.progress ps given)
-            → record_now (G.rules self.old.group) k.past k.group self.old.progress.number self.old.progress.next ≡ Some x
+            → record_now (G.rules self.old.group) k.past k.group self.old.progress.number self.old.progress.next ≡ Some
+            x
             → Keeps (G.holds self.new.group) (G.rules self.new.group) self.new.progress ps (given ++ x ∷ []) }
         ensures group { self.new.group ≡ self.old.group }
         ensures intact { waits self.new.progress ≡ true → G.is_intact self.new.group ≡ true }

@@ -1,5 +1,6 @@
 // Laws of the definitions. Their functions do nothing.
-ghost use Rattle.frame_groups.specs.TestLaws.{MapPasses, PreValues, ConfTold, PartsTold, TestsAreTallied, TallyGrows, FrameNamed};
+ghost use Rattle.frame_groups.specs.TestLaws.{MapPasses, PreValues, ConfTold, PartsTold, TestsAreTallied, TallyGrows};
+ghost use Rattle.frame_groups.specs.TestLaws.{FrameNamed};
 ghost use Rattle.frame_groups.specs.TestLaws.{TestsAlone};
 
 use cell_map::map_law;

@@ -14,7 +14,8 @@ pub struct Waiting {
 /// How far the records of groups have come.
 #[derive(Clone, Copy, Debug, PartialEq, Eq)]
 pub struct Progress {
-    /// The number of the group under way, if it is known: that of the join once it is closed, and those behind it at once.
+    /// The number of the group under way, if it is known: that of the join once it is closed, and those behind it at
+    /// once.
     pub number: Option<u64>,
     /// The number of the next record.
     pub next: u64,

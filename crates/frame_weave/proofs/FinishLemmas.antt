@@ -46,7 +46,8 @@ and_false false = refl
 -- at each place a block stands, and no other one
 full_is : (c : Config) (counts : List ℕ) (slots : Slots) (placed : List Placed) → HoldsPlaced slots placed
     → AreSized c counts slots.pool
-    → (slots.alike && list_all (λ k. nat_lt 0 (length (list_at slots.pool k))) (range_with_len 0 (place_count c counts)))
+    → (slots.alike && list_all (λ k. nat_lt 0 (length (list_at slots.pool k)))
+    (range_with_len 0 (place_count c counts)))
     ≡ list_all (λ k. is_one (blocks_at placed k)) (range_with_len 0 (place_count c counts))
 full_is c counts slots placed h sized = go slots.alike refl
   where
@@ -57,7 +58,8 @@ full_is c counts slots placed h sized = go slots.alike refl
         → (slots.alike && full) ≡ list_all (λ k. is_one (blocks_at placed k)) (range_with_len 0 (place_count c counts))
     go true e =
         ap (λ (t : Bool). t && full) e
-        ∙ alls_same (λ k. nat_lt 0 (length (list_at slots.pool k))) (λ k. is_one (blocks_at placed k)) 0 (place_count c counts)
+        ∙ alls_same (λ k. nat_lt 0 (length (list_at slots.pool k))) (λ k. is_one (blocks_at placed k))
+        0 (place_count c counts)
         (λ k low high.
         ap (λ (l : List (List ℕ)). nat_lt 0 (length l)) (h.first k)
         ∙ take_some (blocks_at placed k) ∙ with_true (nat_lt 0 (length (blocks_at placed k)))
@@ -104,12 +106,14 @@ woven_told c n s (t ∷ more) gs first blocks =
     let placed = placed_by c n t gs in
     let g = first.signalled in
     let agree = list_all (same_dynamic t) more in
-    let full : ℕ → Bool = λ count. list_all (λ place. nat_lt 0 (length (list_at s.slots.pool place))) (range_with_len 0 count) in
+    let full : ℕ → Bool = λ count. list_all (λ place. nat_lt 0 (length (list_at s.slots.pool place)))
+    (range_with_len 0 count) in
     let count = slice_index_or s.layout.starts.items (length c.plps) 0 in
     ap (λ (b : Bool). b && s.agree && s.layout.is_room && s.slots.alike && full count) g.taken
     ∙ ap (λ (b : Bool). true && b && s.layout.is_room && s.slots.alike && full count) first.agree
     ∙ ap (λ (b : Bool). true && agree && b && s.slots.alike && full count) g.laid.room
-    ∙ ap (λ (k : ℕ). true && agree && has_room c counts && s.slots.alike && full k) (g.laid.starts (length c.plps) (omega arith))
+    ∙ ap (λ (k : ℕ). true && agree && has_room c counts && s.slots.alike && full k)
+    (g.laid.starts (length c.plps) (omega arith))
     ∙ all_five agree (has_room c counts) s.slots.alike (full (place_count c counts))
     ∙ ap (λ (b : Bool). agree && (has_room c counts && b)) (full_is c counts s.slots placed blocks first.sized)
     ∙ sym (some_if (agree && is_whole c n t placed) (group_with c n (woven_bodies c n t placed)))
@@ -121,14 +125,16 @@ all_blocks : (c : Config) (n : ℕ) (counts : List ℕ) (s : State) (placed : Li
 all_blocks c n counts s placed laid h =
     let starts = s.layout.starts.items in
     let pool = s.slots.pool in
-    flat_same (λ plp. slot_bodies c n pool plp (slice_index starts plp) (slice_index starts (plp + 1) - slice_index starts plp))
+    flat_same (λ plp. slot_bodies c n pool plp (slice_index starts plp) (slice_index starts (plp + 1)
+    - slice_index starts plp))
     (plp_bodies c n counts placed) 0 (length c.plps)
     (λ plp low high.
     let start = laid.starts plp (omega (arith, high)) in
     let end = laid.starts (plp + 1) (omega (arith, high)) in
     let more = start_more counts plp in
     ap₂ (λ (a m : ℕ). slot_bodies c n pool plp a m) start (omega (arith, start, end, more))
-    ∙ map_same (λ k. block_body c n plp (slice_index_or (list_at pool k) 0 [])) (λ k. block_body c n plp (block_at placed k))
+    ∙ map_same (λ k. block_body c n plp (slice_index_or (list_at pool k) 0 []))
+    (λ k. block_body c n plp (block_at placed k))
     (start_of counts plp) (slice_index counts plp)
     (λ k from to. ap (block_body c n plp)
     (ap (λ (l : List (List ℕ)). slice_index_or l 0 []) (h.first k) ∙ take_first (blocks_at placed k))))
@@ -138,7 +144,8 @@ if_some true x y e = e
 if_some false x y e = absurd (false≢true (ap is_some e))
 
 -- and the group is made of them
-pub woven_made : (c : Config) (n : ℕ) (s : State) (made : MadeGroup) (sig gs : List Group) (g : Group) → TakesFirst c s n sig
+pub woven_made : (c : Config) (n : ℕ) (s : State) (made : MadeGroup) (sig gs : List Group) (g : Group)
+    → TakesFirst c s n sig
     → HoldsPlaced s.slots (placed_of c n sig gs) → woven_by c n sig gs ≡ Some g
     → ((bodies : List Body) → HoldsMade c n s.made bodies
     → HoldsMade c n made (bodies ++ all_bodies c n s.slots.pool s.layout.starts.items (length c.plps)))
@@ -155,5 +162,6 @@ woven_made c n s made (t ∷ more) gs g first blocks is pushed =
     let held = subst (λ (l : List Body). HoldsMade c n made (front ++ l))
     (all_blocks c n counts s placed first.signalled.laid blocks) (pushed front first.signalled.front) in
     subst (Holds made.group [])
-    (if_some (list_all (same_dynamic t) more && is_whole c n t placed) (group_with c n (woven_bodies c n t placed)) g is)
+    (if_some (list_all (same_dynamic t) more && is_whole c n t placed) (group_with c n (woven_bodies c n t placed))
+    g is)
     (made_group c n made.is_begun made.group (front ++ back) (omega (arith, some, size)) held)

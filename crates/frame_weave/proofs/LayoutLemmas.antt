@@ -1,5 +1,6 @@
 -- The places of one PLP more are laid.
-use Rattle.std.proofs.Common.{◌≡◌, ℕ, zero, suc, ◌+◌, ◌*◌, ◌<◌, ◌≤◌, List, length, sum_by, ap, ap₂, sym, ◌∙◌, ⊎_elim, arith}
+use Rattle.std.proofs.Common.{◌≡◌, ℕ, zero, suc, ◌+◌, ◌*◌, ◌<◌, ◌≤◌, List, length, sum_by, ap, ap₂, sym, ◌∙◌, ⊎_elim}
+use Rattle.std.proofs.Common.{arith}
 use Rattle.std.specs.Prelude.{slice_index, slice_set}
 use Rattle.std.specs.List.{range_with_len}
 use Rattle.std.proofs.lemmas.Bool.{cases_eq}
@@ -11,7 +12,8 @@ use Rattle.frame_weave.proofs.SumLemmas.{sum_more, start_more}
 use Rattle.frame_weave.specs.Places.{start_of, plp_need}
 
 pub starts_more : (counts starts : List ℕ) (plp end count : ℕ) → plp + 1 < length starts
-    → ((j : ℕ) → j ≤ plp → slice_index starts j ≡ start_of counts j) → end ≡ start_of counts plp → count ≡ slice_index counts plp
+    → ((j : ℕ) → j ≤ plp → slice_index starts j ≡ start_of counts j) → end ≡ start_of counts plp
+    → count ≡ slice_index counts plp
     → (j : ℕ) → j ≤ plp + 1 → slice_index (slice_set starts (plp + 1) (end + count)) j ≡ start_of counts j
 starts_more counts starts plp end count inside before e more j l =
     ⊎_elim
@@ -26,7 +28,8 @@ starts_more counts starts plp end count inside before e more j l =
 
 pub need_more : (c : Config) (counts : List ℕ) (plp need count chunks : ℕ)
     → need ≡ sum_by (plp_need c counts) (range_with_len 0 plp) → count ≡ slice_index counts plp
-    → chunks ≡ chunks_for (block_bytes c plp) → need + count * chunks ≡ sum_by (plp_need c counts) (range_with_len 0 (plp + 1))
+    → chunks ≡ chunks_for (block_bytes c plp) → need + count * chunks ≡ sum_by (plp_need c counts)
+    (range_with_len 0 (plp + 1))
 need_more c counts plp need count chunks before e size =
     let all = sum_more (plp_need c counts) plp in
     let one = ap₂ (λ (a b : ℕ). a * b) e size in
@@ -38,4 +41,5 @@ times_within (suc a) b w l = let rest = times_within a b w l in omega (arith, re
 
 pub need_small : (plp need count chunks : ℕ) → need ≤ 1769445 * plp → count ≤ 65535 → chunks ≤ 27
     → need + count * chunks ≤ 1769445 * (plp + 1)
-need_small plp need count chunks small few most = let times = times_within count chunks 27 most in omega (arith, small, few, times)
+need_small plp need count chunks small few most = let times = times_within count chunks 27 most in omega
+    (arith, small, few, times)

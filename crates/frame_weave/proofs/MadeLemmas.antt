@@ -1,5 +1,6 @@
 -- One packet more is made.
-use Rattle.std.proofs.Common.{◌≡◌, ◌≤◌, ◌+◌, ◌-◌, ℕ, Bool, true, List, [], ◌∷◌, ◌++◌, map, Option, Some, None, is_some, refl, ap, sym}
+use Rattle.std.proofs.Common.{◌≡◌, ◌≤◌, ◌+◌, ◌-◌, ℕ, Bool, true, List, [], ◌∷◌, ◌++◌, map, Option, Some, None, is_some}
+use Rattle.std.proofs.Common.{refl, ap, sym}
 use Rattle.std.proofs.Common.{◌<◌, subst, ◌∙◌, ⊎_elim, arith, append-nil, append_assoc}
 use Rattle.std.specs.Prelude.{slice_index, slice_index_or}
 use Rattle.std.specs.List.{flat_map, range_with_len}
@@ -30,7 +31,8 @@ more_with c n bodies body packet is =
     (ap (λ (p : Packet). map (packet_with c 0 n) bodies ++ p ∷ []) is
     ∙ sym (map-append (packet_with c 0 n) bodies (body ∷ [])))
 
-pub added_body : (c : Config) (n : ℕ) (begun : Bool) (old new : PooledGroup) (bodies : List Body) (body : Body) (packet : Packet)
+pub added_body : (c : Config) (n : ℕ) (begun : Bool) (old new : PooledGroup) (bodies : List Body) (body : Body)
+    (packet : Packet)
     → begun ≡ true → packet ≡ packet_with c 0 n body
     → ((past : List Numbered) (h : Group) → Holds old past (Some h) → Holds new past (Some (one_more h packet)))
     → HoldsBodies c n begun old bodies → HoldsBodies c n begun new (bodies ++ body ∷ [])
@@ -66,7 +68,8 @@ alone_first old new key packet begun alone = (
 )
 
 -- the block at one place more
-slot_more : (c : Config) (n : ℕ) (pool : State) (plp first k : ℕ) → first ≤ k → slot_bodies c n pool plp first (k + 1 - first)
+slot_more : (c : Config) (n : ℕ) (pool : State) (plp first k : ℕ) → first ≤ k
+    → slot_bodies c n pool plp first (k + 1 - first)
     ≡ slot_bodies c n pool plp first (k - first) ++ block_body c n plp (slice_index_or (list_at pool k) 0 []) ∷ []
 slot_more c n pool plp first k l =
     let f : ℕ → Body = λ k. block_body c n plp (slice_index_or (list_at pool k) 0 []) in
@@ -77,17 +80,21 @@ slot_more c n pool plp first k l =
     ∙ map-append f (range_with_len first (k - first)) ((first + (k - first)) ∷ [])
     ∙ ap (λ (m : ℕ). map f (range_with_len first (k - first)) ++ f m ∷ []) last
 
-pub added_slot : (c : Config) (n : ℕ) (begun : Bool) (group : PooledGroup) (bodies : List Body) (pool : State) (plp first k : ℕ)
+pub added_slot : (c : Config) (n : ℕ) (begun : Bool) (group : PooledGroup) (bodies : List Body) (pool : State)
+    (plp first k : ℕ)
     → first ≤ k → HoldsBodies c n begun group
-    ((bodies ++ slot_bodies c n pool plp first (k - first)) ++ block_body c n plp (slice_index_or (list_at pool k) 0 []) ∷ [])
+    ((bodies ++ slot_bodies c n pool plp first (k - first)) ++ block_body c n plp (slice_index_or (list_at pool k) 0 [])
+    ∷ [])
     → HoldsBodies c n begun group (bodies ++ slot_bodies c n pool plp first (k + 1 - first))
 added_slot c n begun group bodies pool plp first k l =
     subst (HoldsBodies c n begun group)
-    (append_assoc bodies (slot_bodies c n pool plp first (k - first)) (block_body c n plp (slice_index_or (list_at pool k) 0 []) ∷ [])
+    (append_assoc bodies (slot_bodies c n pool plp first (k - first))
+    (block_body c n plp (slice_index_or (list_at pool k) 0 []) ∷ [])
     ∙ ap (λ (l : List Body). bodies ++ l) (sym (slot_more c n pool plp first k l)))
 
 -- the blocks of one PLP more
-pub added_plp : (c : Config) (n : ℕ) (begun : Bool) (group : PooledGroup) (bodies : List Body) (pool : State) (starts : List ℕ)
+pub added_plp : (c : Config) (n : ℕ) (begun : Bool) (group : PooledGroup) (bodies : List Body) (pool : State)
+    (starts : List ℕ)
     (plp : ℕ) → HoldsBodies c n begun group
     ((bodies ++ all_bodies c n pool starts plp)
     ++ slot_bodies c n pool plp (slice_index starts plp) (slice_index starts (plp + 1) - slice_index starts plp))
@@ -102,7 +109,8 @@ added_plp c n begun group bodies pool starts plp =
     ∙ ap (λ (l : List Body). all_bodies c n pool starts plp ++ l) (append-nil (f plp)))))
 
 -- a loop ends at its end, or where it began
-pub same_end : (start end place : ℕ) → start ≤ place → (start ≤ end → place ≤ end) → (end ≤ start → place ≡ start) → end ≤ place
+pub same_end : (start end place : ℕ) → start ≤ place → (start ≤ end → place ≤ end) → (end ≤ start → place ≡ start)
+    → end ≤ place
     → place - start ≡ end - start
 same_end start end place low most none over =
     ⊎_elim (λ (e : start ≡ end). let same = none (omega arith) in omega (arith, e, same))

@@ -44,7 +44,8 @@ sums_added f g h a (suc n) each =
     let rest = sums_added f g h (a + 1) n each in
     omega (arith, x, y, z, one, rest)
 
-sums_most : (f g : ℕ → ℕ) (a n : ℕ) → ((k : ℕ) → f k ≤ g k) → sum_by f (range_with_len a n) ≤ sum_by g (range_with_len a n)
+sums_most : (f g : ℕ → ℕ) (a n : ℕ) → ((k : ℕ) → f k ≤ g k) → sum_by f (range_with_len a n) ≤ sum_by
+    g (range_with_len a n)
 sums_most f g a zero each = omega arith
 sums_most f g a (suc n) each =
     let x = sum_by-cons f a (range_with_len (a + 1) n) in
@@ -64,22 +65,26 @@ times_most a (suc w) least = omega arith
 pub right_more : (c : Config) (packets more : List Packet) (plp : ℕ) → right_blocks c plp (packets ++ more)
     ≡ right_blocks c plp packets ++ right_blocks c plp more
 right_more c packets more plp =
-    ap (filter (has_length c plp)) (filter_map-append (λ (p : Packet). body_block (plp_at c.plps plp).id p.body) packets more)
+    ap (filter (has_length c plp)) (filter_map-append (λ (p : Packet). body_block (plp_at c.plps plp).id p.body)
+    packets more)
     ∙ filter-append (has_length c plp) (blocks_of c plp packets) (blocks_of c plp more)
 
 abbrev need_of : Config → List Packet → ℕ → ℕ
 need_of c packets plp = length (right_blocks c plp packets) * chunks_for (block_bytes c plp)
 
-need_more : (c : Config) (packets more : List Packet) → pool_need c (packets ++ more) ≡ pool_need c packets + pool_need c more
+need_more : (c : Config) (packets more : List Packet) → pool_need c (packets ++ more) ≡ pool_need c packets + pool_need
+    c more
 need_more c packets more =
     sums_added (need_of c packets) (need_of c more) (need_of c (packets ++ more)) 0 (length c.plps)
     (λ plp.
     ap (λ (n : ℕ). n * chunks_for (block_bytes c plp))
     (ap length (right_more c packets more plp) ∙ length-append (right_blocks c plp packets) (right_blocks c plp more))
-    ∙ times_more (length (right_blocks c plp packets)) (length (right_blocks c plp more)) (chunks_for (block_bytes c plp)))
+    ∙ times_more (length (right_blocks c plp packets)) (length (right_blocks c plp more))
+    (chunks_for (block_bytes c plp)))
 
 -- what has room with more has room without
-pub fits_before : (c : Config) (packets more : List Packet) → fits_pool c (packets ++ more) ≡ true → fits_pool c packets ≡ true
+pub fits_before : (c : Config) (packets more : List Packet) → fits_pool c (packets ++ more) ≡ true
+    → fits_pool c packets ≡ true
 fits_before c packets more fits =
     let all = leb-true (pool_need c (packets ++ more)) (pool_chunks c) fits in
     let sum = need_more c packets more in
@@ -138,7 +143,8 @@ flat_one {A = A} g k x a (suc n) own others low high =
     (cases_eq a k)
 
 -- a mark stays one when more packets come
-stays_marked : (c : Config) (packets more : List Packet) (mark : Mark) (block : MarkedBlock) → Marks c packets mark block
+stays_marked : (c : Config) (packets more : List Packet) (mark : Mark) (block : MarkedBlock)
+    → Marks c packets mark block
     → Marks c (packets ++ more) mark block
 stays_marked c packets more mark block m =
     let grown = right_more c packets more block.plp in
@@ -168,7 +174,8 @@ grown_marks c packets p =
 -- a packet that brings no right block
 pub none_marked : (c : Config) (packets : List Packet) (p : Packet) (marks : List Mark)
     → ((plp : ℕ) → plp < length c.plps → right_blocks c plp (p ∷ []) ≡ [])
-    → AreMarks c packets marks (marked_blocks c packets) → AreMarks c (packets ++ p ∷ []) marks (marked_blocks c (packets ++ p ∷ []))
+    → AreMarks c packets marks (marked_blocks c packets) → AreMarks c (packets ++ p ∷ []) marks
+    (marked_blocks c (packets ++ p ∷ []))
 none_marked c packets p marks none h =
     subst (AreMarks c (packets ++ p ∷ []) marks)
     (sym (grown_marks c packets p
@@ -183,7 +190,8 @@ none_marked c packets p marks none h =
     })
 
 -- one more stands at the end
-one_marked : (c : Config) (packets : List Packet) (p : Packet) (marks : List Mark) (blocks : List MarkedBlock) (mark : Mark)
+one_marked : (c : Config) (packets : List Packet) (p : Packet) (marks : List Mark) (blocks : List MarkedBlock)
+    (mark : Mark)
     (block : MarkedBlock) → AreMarks c packets marks blocks → Marks c (packets ++ p ∷ []) mark block
     → AreMarks c (packets ++ p ∷ []) (marks ++ mark ∷ []) (blocks ++ block ∷ [])
 one_marked c packets p marks blocks mark block h m =
@@ -196,10 +204,13 @@ one_marked c packets p marks blocks mark block h m =
           ⊎_elim
           (λ (e : i ≡ length blocks).
           let front : slice_index_or (marks ++ mark ∷ []) i no_mark ≡ mark =
-          ap (λ (k : ℕ). slice_index_or (marks ++ mark ∷ []) k no_mark) (e ∙ sym size) ∙ get_or-append_seam marks mark [] no_mark in
+          ap (λ (k : ℕ). slice_index_or (marks ++ mark ∷ []) k no_mark) (e ∙ sym size)
+          ∙ get_or-append_seam marks mark [] no_mark in
           let back : slice_index_or (blocks ++ block ∷ []) i no_block ≡ block =
-          ap (λ (k : ℕ). slice_index_or (blocks ++ block ∷ []) k no_block) e ∙ get_or-append_seam blocks block [] no_block in
-          subst (λ (x : Mark). Marks c (packets ++ p ∷ []) x (slice_index_or (blocks ++ block ∷ []) i no_block)) (sym front)
+          ap (λ (k : ℕ). slice_index_or (blocks ++ block ∷ []) k no_block) e
+          ∙ get_or-append_seam blocks block [] no_block in
+          subst (λ (x : Mark). Marks c (packets ++ p ∷ []) x (slice_index_or (blocks ++ block ∷ []) i no_block))
+          (sym front)
           (subst (λ (y : MarkedBlock). Marks c (packets ++ p ∷ []) mark y) (sym back) m))
           (λ (ne : i ≡ length blocks → ⊥).
           let before : i < length blocks = omega (arith, inside, blocks_more, ne) in
@@ -207,7 +218,8 @@ one_marked c packets p marks blocks mark block h m =
           (sym (get_or-append marks (mark ∷ []) no_mark i (omega (arith, before, size))))
           (subst (λ (y : MarkedBlock). Marks c (packets ++ p ∷ []) (slice_index_or marks i no_mark) y)
           (sym (get_or-append blocks (block ∷ []) no_block i before))
-          (stays_marked c packets (p ∷ []) (slice_index_or marks i no_mark) (slice_index_or blocks i no_block) (h.each i before))))
+          (stays_marked c packets (p ∷ []) (slice_index_or marks i no_mark) (slice_index_or blocks i no_block)
+          (h.each i before))))
           (cases_eq i (length blocks));
     }
 
@@ -230,9 +242,11 @@ pub stays_held : (c : Config) (packets : List Packet) (p : Packet) (old new : He
     → new.origin ≡ option_or old.origin (l1_count p.packet_count p.body) → HoldsMarks c old packets
     → HoldsMarks c new (packets ++ p ∷ [])
 stays_held c packets p old new none marks origin h = record {
-  marks = λ fits. subst (λ (l : List Mark). AreMarks c (packets ++ p ∷ []) l (marked_blocks c (packets ++ p ∷ []))) (sym marks)
+  marks = λ fits. subst (λ (l : List Mark). AreMarks c (packets ++ p ∷ []) l (marked_blocks c (packets ++ p ∷ [])))
+      (sym marks)
       (none_marked c packets p old.marks.items none (h.marks (fits_before c packets (p ∷ []) fits)));
-  origin = origin ∙ ap (λ (o : Option ℕ). option_or o (l1_count p.packet_count p.body)) h.origin ∙ sym (origin_more packets p);
+  origin = origin ∙ ap (λ (o : Option ℕ). option_or o (l1_count p.packet_count p.body)) h.origin
+      ∙ sym (origin_more packets p);
 }
 
 pub or_none : (o : Option ℕ) → o ≡ option_or o None
@@ -246,7 +260,8 @@ pub other_held : (c : Config) (packets : List Packet) (p : Packet) (old new : He
     → HoldsMarks c new (packets ++ p ∷ [])
 other_held c packets p old new none =
     stays_held c packets p old new
-    (λ plp inside. ap (λ (o : Option (List Bool)). filter (has_length c plp) (cons_option o [])) (none (plp_at c.plps plp).id))
+    (λ plp inside. ap (λ (o : Option (List Bool)). filter (has_length c plp) (cons_option o []))
+    (none (plp_at c.plps plp).id))
 
 -- a block
 module _ (c : Config) (packets : List Packet) (p : Packet) (frame_idx id : ℕ) (first : Bool) (bits : List Bool)
@@ -296,13 +311,16 @@ module _ (c : Config) (packets : List Packet) (p : Packet) (frame_idx id : ℕ) 
       block_here =
           flat_one (λ plp. map (marked_block p.packet_count plp) (right_blocks c plp (p ∷ []))) k
           (marked_block p.packet_count k bits) 0 (length c.plps) (ap (map (marked_block p.packet_count k)) own_right)
-          (λ plp inside ne. ap (map (marked_block p.packet_count plp)) (other_right plp (at.others plp (omega (arith, inside)) ne)))
+          (λ plp inside ne. ap (map (marked_block p.packet_count plp))
+          (other_right plp (at.others plp (omega (arith, inside)) ne)))
           (omega arith) (let l = at.inside in omega (arith, l))
 
-      own_mark : (mark : Mark) → mark.plp ≡ k → mark.count ≡ p.packet_count → mark.place ≡ length (right_blocks c k packets)
+      own_mark : (mark : Mark) → mark.plp ≡ k → mark.count ≡ p.packet_count
+          → mark.place ≡ length (right_blocks c k packets)
           → Marks c (packets ++ p ∷ []) mark (marked_block p.packet_count k bits)
       own_mark mark plp count place =
-          let grown = right_more c packets (p ∷ []) k ∙ ap (λ (l : List (List Bool)). right_blocks c k packets ++ l) own_right in
+          let grown = right_more c packets (p ∷ []) k ∙ ap (λ (l : List (List Bool)). right_blocks c k packets ++ l)
+          own_right in
           record {
             plp = plp;
             count = count;
@@ -312,7 +330,8 @@ module _ (c : Config) (packets : List Packet) (p : Packet) (frame_idx id : ℕ) 
             bytes = ap (λ (l : List (List Bool)). slice_index_or (map held_bytes l) mark.place []) grown
                 ∙ ap (λ (l : List (List ℕ)). slice_index_or l mark.place [])
                 (map-append held_bytes (right_blocks c k packets) (bits ∷ []))
-                ∙ ap (λ (n : ℕ). slice_index_or (map held_bytes (right_blocks c k packets) ++ held_bytes bits ∷ []) n [])
+                ∙ ap (λ (n : ℕ). slice_index_or (map held_bytes (right_blocks c k packets) ++ held_bytes bits ∷ [])
+                n [])
                 (place ∙ sym (length-map (right_blocks c k packets) held_bytes))
                 ∙ get_or-append_seam (map held_bytes (right_blocks c k packets)) (held_bytes bits) [] [];
             len = let size = length-bytes_of bits in omega (arith, size, right);
@@ -337,10 +356,12 @@ module _ (c : Config) (packets : List Packet) (p : Packet) (frame_idx id : ℕ) 
             let items : new.marks.items ≡ old.marks.items ++ mark ∷ [] = pushed
             ∙ cond-true (nat_lt (length old.marks.items) most) (old.marks.items ++ mark ∷ []) old.marks.items
             (lt-ltb (length old.marks.items) most room) in
-            subst (λ (l : List Mark). AreMarks c (packets ++ p ∷ []) l (marked_blocks c (packets ++ p ∷ []))) (sym items)
+            subst (λ (l : List Mark). AreMarks c (packets ++ p ∷ []) l (marked_blocks c (packets ++ p ∷ [])))
+            (sym items)
             (subst (AreMarks c (packets ++ p ∷ []) (old.marks.items ++ mark ∷ []))
             (sym (grown_marks c packets p ∙ ap (λ (l : List MarkedBlock). marked_blocks c packets ++ l) block_here))
-            (one_marked c packets p old.marks.items (marked_blocks c packets) mark (marked_block p.packet_count k bits) before
+            (one_marked c packets p old.marks.items (marked_blocks c packets) mark (marked_block p.packet_count k bits)
+            before
             (own_mark mark plp count (place fits))));
         origin = origin ∙ h.origin ∙ or_none (first_count packets)
             ∙ ap (option_or (first_count packets)) (sym no_l1) ∙ sym (origin_more packets p);

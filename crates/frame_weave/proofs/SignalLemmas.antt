@@ -1,5 +1,6 @@
 -- What an L1-current of a frame tells.
-use Rattle.std.proofs.Common.{◌≡◌, ℕ, ◌≤◌, ◌&&◌, Bool, true, false, List, [], ◌∷◌, ◌++◌, map, length, Option, Some, None, is_some}
+use Rattle.std.proofs.Common.{◌≡◌, ℕ, ◌≤◌, ◌&&◌, Bool, true, false, List, [], ◌∷◌, ◌++◌, map, length, Option, Some}
+use Rattle.std.proofs.Common.{None, is_some}
 use Rattle.std.proofs.Common.{refl, ap, sym, subst, ◌∙◌, arith}
 use Rattle.std.specs.Prelude.{cond}
 use Rattle.std.specs.Option.{option_map, option_map_or, option_and_then}
@@ -17,7 +18,8 @@ use Rattle.l1_signal.proofs.PostLemmas.{conf_plps-len}
 use Rattle.t2mi_packet.specs.declared.packet.Packet.{Packet}
 use Rattle.frame_groups.specs.Carried.{L1Parts}
 use Rattle.frame_groups.specs.TestLaws.{PartsTold}
-use Rattle.frame_groups.specs.Tests.{read_whole, pre_agrees, conf_agrees, dyn_agrees, read_dynamic, parts_agree, first_shape}
+use Rattle.frame_groups.specs.Tests.{read_whole, pre_agrees, conf_agrees, dyn_agrees, read_dynamic, parts_agree}
+use Rattle.frame_groups.specs.Tests.{first_shape}
 use Rattle.frame_groups.specs.Tests.{l1_shape, begins_superframe}
 use Rattle.frame_writer.specs.FramePackets.{packet_with, stamp_of}
 use Rattle.open_group.specs.Signals.{first_parts, signals}
@@ -27,11 +29,13 @@ use Rattle.t2mi_packet.specs.declared.packet.Body.TheVariants.{Timestamp}
 
 -- its parts fit
 pub fitting : PartsTold → PreLength → ConfLength → DynLength → (c : Config) (n : ℕ) (l1 : L1Parts)
-    → conf_len (length c.plps) ≤ MOST_CONF_BITS → dyn_len (length c.plps) ≤ MOST_DYN_BITS → parts_agree c n l1 ≡ true → Fitting l1
+    → conf_len (length c.plps) ≤ MOST_CONF_BITS → dyn_len (length c.plps) ≤ MOST_DYN_BITS → parts_agree c n l1 ≡ true
+    → Fitting l1
 fitting told pre_len conf_length dyn_length c n l1 conf_most dyn_most e =
     let of = (told c n l1).0 e in
     let conf = conf_length (conf_of c) l1.conf of.conf ∙ ap conf_len (conf_plps-len c) in
-    let plps : length of.dynamic.plps ≡ length c.plps = sym (length-map of.dynamic.plps (λ plp. plp.plp_id)) ∙ ap length of.ids
+    let plps : length of.dynamic.plps ≡ length c.plps = sym (length-map of.dynamic.plps (λ plp. plp.plp_id))
+    ∙ ap length of.ids
     ∙ length-map c.plps (λ plp. plp.id) in
     let dynamic = dyn_length of.dynamic l1.dynamic of.spells ∙ ap dyn_len plps in
     record {
@@ -51,7 +55,8 @@ has_parts c n packets e = go (first_parts packets) refl e
     go (Some l1) is e = (l1, is, e)
 
 -- and it tells a shape
-tells_shape : (c : Config) (n : ℕ) (l1 : L1Parts) → parts_agree c n l1 ≡ true → is_some (option_map told_shape (read_dynamic c l1)) ≡ true
+tells_shape : (c : Config) (n : ℕ) (l1 : L1Parts) → parts_agree c n l1 ≡ true
+    → is_some (option_map told_shape (read_dynamic c l1)) ≡ true
 unfolding parts_agree
 tells_shape c n l1 e =
     go (read_dynamic c l1)
@@ -66,7 +71,8 @@ pub has_shape : (c : Config) (n : ℕ) (packets : List Packet) → signals c n p
     → is_some (first_shape c packets) ≡ true
 has_shape c n packets e =
     let has = has_parts c n packets e in
-    subst (λ (o : Option L1Parts). is_some (option_and_then (l1_shape c) o) ≡ true) (sym has.1) (tells_shape c n has.0 has.2)
+    subst (λ (o : Option L1Parts). is_some (option_and_then (l1_shape c) o) ≡ true) (sym has.1)
+    (tells_shape c n has.0 has.2)
 
 -- the first L1-current of a group that was begun with one
 pub made_parts : (c : Config) (n : ℕ) (l1 : L1Parts)

@@ -1,14 +1,14 @@
 -- One block more is placed.
-use Rattle.std.proofs.Common.{◌≡◌, ◌≢◌, ℕ, ◌+◌, ◌<◌, ◌≤◌, ◌&&◌, ◌⊎◌, Bool, true, false, List, [], ◌∷◌, ◌++◌, map, length}
-use Rattle.std.proofs.Common.{take, filter, refl, ap, sym, subst, ◌∙◌, ⊎_elim, arith, append-nil, inr, inl}
+use Rattle.std.proofs.Common.{◌≡◌, ◌≢◌, ℕ, ◌+◌, ◌<◌, ◌≤◌, ◌&&◌, ◌⊎◌, Bool, true, false, List, [], ◌∷◌, ◌++◌, map}
+use Rattle.std.proofs.Common.{length}
+use Rattle.std.proofs.Common.{take, filter, refl, ap, sym, subst, ◌∙◌, ⊎_elim, arith, append-nil}
 use Rattle.std.specs.Prelude.{bytes_eq, slice_index_or, cond}
 use Rattle.std.specs.List.{list_all}
-use Rattle.std.proofs.lemmas.Bool.{cases_eq, eq-eqb, ne_eqb, and_left, and_right}
+use Rattle.std.proofs.lemmas.Bool.{cases_eq, eq-eqb, ne_eqb, and_left, and_right, and_cases, and_from, and_parts}
 use Rattle.std.proofs.lemmas.List.{map-append, get_or-set_same, get_or-set_other, length-set}
 use Rattle.std.proofs.lemmas.List.Elements.{filter-append}
 use Rattle.std.proofs.lemmas.List.Folds.{list_all-append}
 use Rattle.std.proofs.lemmas.List.Sums.{sum_by-cons, sum_by-set}
-use Rattle.terms.proofs.CaseLemmas.{both}
 use Rattle.linked_pool.specs.Pool.{State, list_at, chunks_of, chunks_for, appended, IsWhole}
 use Rattle.plp_config.specs.Capacity.{block_bytes}
 use Rattle.plp_config.specs.declared.config.Config.{Config}
@@ -53,17 +53,11 @@ abbrev fits_first : List (List ℕ) → List ℕ → Bool
 fits_first [] x = true
 fits_first (b ∷ more) x = bytes_eq b x
 
-alike_more : (blocks : List (List ℕ)) (x : List ℕ) → are_alike (blocks ++ x ∷ []) ≡ (are_alike blocks && fits_first blocks x)
+alike_more : (blocks : List (List ℕ)) (x : List ℕ)
+    → are_alike (blocks ++ x ∷ []) ≡ (are_alike blocks && fits_first blocks x)
 alike_more [] x = refl
 alike_more (b ∷ more) x = list_all-append (bytes_eq b) more (x ∷ [])
     ∙ ap (λ (t : Bool). list_all (bytes_eq b) more && t) (sym (with_true (bytes_eq b x)))
-
-one_false : (a b : Bool) → (a && b) ≡ false → (a ≡ false) ⊎ (b ≡ false)
-one_false true b e = inr e
-one_false false b e = inl refl
-
-and_by : (a b : Bool) → a ≡ true → b ≡ true → (a && b) ≡ true
-and_by a b x y = ap (λ (t : Bool). t && b) x ∙ y
 
 -- the first of the blocks at a place stays the first
 take_more : (blocks : List (List ℕ)) (x : List ℕ) → 0 < length blocks → take 1 (blocks ++ x ∷ []) ≡ take 1 blocks
@@ -80,11 +74,11 @@ told_more old new placed place bytes first told h =
     record {
       first = first;
       same = λ e k.
-          let two = both old.alike (fits_first (blocks_at placed place) bytes) (sym told ∙ e) in
+          let two = and_parts old.alike (fits_first (blocks_at placed place) bytes) (sym told ∙ e) in
           ⊎_elim
           (λ (s : k ≡ place).
           subst (λ (j : ℕ). are_alike (blocks_at (placed ++ at place bytes ∷ []) j) ≡ true) (sym s)
-          (here ∙ and_by (are_alike (blocks_at placed place)) (fits_first (blocks_at placed place) bytes)
+          (here ∙ and_from (are_alike (blocks_at placed place)) (fits_first (blocks_at placed place) bytes)
           (h.same two.0 place) two.1))
           (λ (ne : k ≡ place → ⊥). ap are_alike (more_elsewhere placed place k bytes ne) ∙ h.same two.0 k)
           (cases_eq k place);
@@ -104,20 +98,23 @@ told_more old new placed place bytes first told h =
           (cases_eq there.0 place))
           (λ (o : fits_first (blocks_at placed place) bytes ≡ false).
           (place, here ∙ and_right (are_alike (blocks_at placed place)) (fits_first (blocks_at placed place) bytes) o))
-          (one_false old.alike (fits_first (blocks_at placed place) bytes) (sym told ∙ e));
+          (and_cases old.alike (fits_first (blocks_at placed place) bytes) (sym told ∙ e));
     }
 
 -- a block at a place of its PLP
 module _ (c : Config) (counts : List ℕ) (plp place : ℕ) (bytes : List ℕ) (inside : plp < length c.plps)
-    (low : start_of counts plp ≤ place) (high : place < start_of counts (plp + 1)) (len : length bytes ≡ block_bytes c plp)
+    (low : start_of counts plp ≤ place) (high : place < start_of counts (plp + 1))
+    (len : length bytes ≡ block_bytes c plp)
     (room : has_room c counts ≡ true) where
   within : place < place_count c counts
-  within = let rises = start_least counts (plp + 1) (length c.plps) (omega (arith, inside)) in omega (arith, rises, high)
+  within = let rises = start_least counts (plp + 1) (length c.plps) (omega (arith, inside)) in omega
+      (arith, rises, high)
 
   -- there is no other yet
   module _ (old : State) (none : list_at old place ≡ []) (sized : AreSized c counts old) (whole : IsWhole old) where
     there : place < length old.lists
-    there = let few = places_few c counts room in let lists = sized.lists in let l = within in omega (arith, few, lists, l)
+    there = let few = places_few c counts room in let lists = sized.lists in let l = within in omega
+        (arith, few, lists, l)
 
     here_is : list_at (appended old place bytes) place ≡ bytes ∷ []
     here_is = get_or-set_same old.lists place (list_at old place ++ bytes ∷ []) [] there
@@ -142,9 +139,11 @@ module _ (c : Config) (counts : List ℕ) (plp place : ℕ) (bytes : List ℕ) (
           let both = ap (λ (j : ℕ). chunks_for (block_bytes c j)) same in
           omega (arith, held, size, both))
           (λ (ne : k ≡ place → ⊥).
-          let held = ap chunks_of (elsewhere_is k ne) in let before = sized.each q within k from to in omega (arith, held, before))
+          let held = ap chunks_of (elsewhere_is k ne) in let before = sized.each q within k from to in
+          omega (arith, held, before))
           (cases_eq k place);
-      none = λ k behind. elsewhere_is k (λ e. let l = within in absurd (omega (arith, l, e, behind))) ∙ sized.none k behind;
+      none = λ k behind. elsewhere_is k (λ e. let l = within in absurd (omega (arith, l, e, behind)))
+          ∙ sized.none k behind;
       opened = sized.opened;
       lists = length-set old.lists place (list_at old place ++ bytes ∷ []) ∙ sized.lists;
     }
@@ -163,7 +162,8 @@ module _ (c : Config) (counts : List ℕ) (plp place : ℕ) (bytes : List ℕ) (
       → Fills c counts new (placed ++ at place bytes ∷ [])
   filled old new placed puts fills = go (blocks_at placed place) refl
     where
-      go : (blocks : List (List ℕ)) → blocks_at placed place ≡ blocks → Fills c counts new (placed ++ at place bytes ∷ [])
+      go : (blocks : List (List ℕ)) → blocks_at placed place ≡ blocks
+          → Fills c counts new (placed ++ at place bytes ∷ [])
       go [] is =
           let none : list_at old.pool place ≡ [] = fills.holds.first place ∙ ap (take 1) is in
           let put = puts.first none (there old.pool none fills.sized puts.whole)

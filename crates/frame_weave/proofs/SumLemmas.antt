@@ -1,5 +1,6 @@
 -- Sums over the places of a frame, PLP by PLP.
-use Rattle.std.proofs.Common.{◌≡◌, ℕ, zero, suc, ◌+◌, ◌-◌, ◌*◌, ◌<◌, ◌≤◌, List, [], ◌∷◌, length, get_or, sum_by, refl, ap, sym, ◌∙◌}
+use Rattle.std.proofs.Common.{◌≡◌, ℕ, zero, suc, ◌+◌, ◌-◌, ◌*◌, ◌<◌, ◌≤◌, List, [], ◌∷◌, length, get_or, sum_by, refl}
+use Rattle.std.proofs.Common.{ap, sym, ◌∙◌}
 use Rattle.std.proofs.Common.{⊎_elim, arith, Bool, true, false, subst}
 use Rattle.std.specs.Prelude.{slice_index}
 use Rattle.std.specs.List.{range_with_len, list_all}
@@ -25,7 +26,8 @@ pub start_more : (counts : List ℕ) (plp : ℕ) → start_of counts (plp + 1) �
 start_more counts plp = sum_more (λ j. slice_index counts j) plp
 
 pub start_rises : (counts : List ℕ) (a d : ℕ) → start_of counts a ≤ start_of counts (a + d)
-start_rises counts a zero = let e : a + zero ≡ a = omega arith in let same = ap (start_of counts) e in omega (arith, same)
+start_rises counts a zero = let e : a + zero ≡ a = omega arith in let same = ap (start_of counts) e in
+    omega (arith, same)
 start_rises counts a (suc d) =
     let e : a + suc d ≡ a + d + 1 = omega arith in
     let same = ap (start_of counts) e in
@@ -41,13 +43,16 @@ start_least counts a b l =
     omega (arith, same, rises)
 
 -- a place is one of one PLP
-pub one_plp : (counts : List ℕ) (p q k : ℕ) → start_of counts p ≤ k → k < start_of counts (p + 1) → start_of counts q ≤ k
+pub one_plp : (counts : List ℕ) (p q k : ℕ) → start_of counts p ≤ k → k < start_of counts (p + 1)
+    → start_of counts q ≤ k
     → k < start_of counts (q + 1) → p ≡ q
 one_plp counts p q k from to low high =
     ⊎_elim (λ (e : p ≡ q). e)
     (⊎_elim
-    (λ (l : p < q). let rises = start_least counts (p + 1) q (omega (arith, l)) in absurd (omega (arith, rises, to, low)))
-    (λ (l : q < p). let rises = start_least counts (q + 1) p (omega (arith, l)) in absurd (omega (arith, rises, high, from))))
+    (λ (l : p < q). let rises = start_least counts (p + 1) q (omega (arith, l)) in absurd
+    (omega (arith, rises, to, low)))
+    (λ (l : q < p). let rises = start_least counts (q + 1) p (omega (arith, l)) in absurd
+    (omega (arith, rises, high, from))))
     (cases_order p q)
 
 -- what is at most one number at each place, and what is so PLP by PLP
@@ -104,7 +109,8 @@ sum_none f a (suc n) none =
     omega (arith, x, one, rest)
 
 -- there are no more places than chunks
-count_most : (c : Config) (counts : List ℕ) (p : ℕ) → start_of counts p ≤ sum_by (plp_need c counts) (range_with_len 0 p)
+count_most : (c : Config) (counts : List ℕ) (p : ℕ) → start_of counts p ≤ sum_by (plp_need c counts)
+    (range_with_len 0 p)
 count_most c counts zero = let none : start_of counts zero ≡ 0 = refl in omega (arith, none)
 count_most c counts (suc p) =
     let step : suc p ≡ p + 1 = omega arith in
@@ -142,7 +148,8 @@ all_room c counts pool sized room =
     omega (arith, all, parts, none, most, need)
 
 -- each number below one passes a test, or one does not
-pub all_below : (test : ℕ → Bool) (n : ℕ) → ((k : ℕ) → k < n → test k ≡ true) → list_all test (range_with_len 0 n) ≡ true
+pub all_below : (test : ℕ → Bool) (n : ℕ) → ((k : ℕ) → k < n → test k ≡ true)
+    → list_all test (range_with_len 0 n) ≡ true
 all_below test n each =
     list_all-from_AllPass test (range_with_len 0 n)
     (λ k d l.
@@ -152,6 +159,7 @@ all_below test n each =
 
 pub not_all_below : (test : ℕ → Bool) (n k : ℕ) → k < n → test k ≡ false → list_all test (range_with_len 0 n) ≡ false
 not_all_below test n k inside none =
-    let within : k < length (range_with_len 0 n) = let size = length-range_with_len 0 n in omega (arith, size, inside) in
+    let within : k < length (range_with_len 0 n) = let size = length-range_with_len 0 n in omega
+    (arith, size, inside) in
     list_all_at test (range_with_len 0 n) k 0 within
     (subst (λ (j : ℕ). test j ≡ false) (let e = get_or-range_with_len 0 n k 0 inside in omega (arith, e)) none)

@@ -28,7 +28,8 @@ use Rattle.frame_weave.specs.Placed.{Placed, placed_from}
 use Rattle.frame_weave.specs.Places.{has_room}
 use Rattle.frame_weave.specs.Slots.{IsLaid, HoldsPlaced, AreSized, Fills}
 use Rattle.frame_weave.specs.Weaves.{State, Signalled, TakesFirst}
-use Rattle.frame_weave.specs.Woven.{signalling, same_dynamic, counts_by, placed_in, placed_by, placed_of, origin_of, stamp_bodies}
+use Rattle.frame_weave.specs.Woven.{signalling, same_dynamic, counts_by, placed_in, placed_by, placed_of, origin_of}
+use Rattle.frame_weave.specs.Woven.{stamp_bodies}
 use Rattle.frame_weave.specs.Woven.{front_bodies, l1_bodies, group_with}
 use Rattle.frame_weave.specs.declared.slots.Slots.{Slots}
 
@@ -44,7 +45,8 @@ pub none_placed : (c : Config) (n : ℕ) (gs : List Group) → placed_of c n gs 
 none_placed c n [] = refl
 none_placed c n (t ∷ more) = go (has_room c (counts_by c n t))
   where
-    go : (b : Bool) → (if b then flat_map (placed_in c (counts_by c n t) (unwrap_or (first_count t.packets) 0)) [] else []) ≡ []
+    go : (b : Bool) → (if b then flat_map (placed_in c (counts_by c n t) (unwrap_or (first_count t.packets) 0))
+        [] else []) ≡ []
     go true = refl
     go false = refl
 
@@ -74,12 +76,14 @@ compared c n old new (t ∷ more) h taken rest told signal first =
     let other = has_parts c n h.packets signal in
     let made : Holds old.made.group [] (Some (group_with c n (front_bodies c n t))) =
     made_group c n old.made.is_begun old.made.group (front_bodies c n t) (some_front c n t own.0 own.1) s.front in
-    let held = ap (λ (o : Option L1Parts). first_parts (group_with c n (stamp_bodies c n ++ l1_bodies c n o)).packets) own.1
+    let held = ap (λ (o : Option L1Parts). first_parts (group_with c n (stamp_bodies c n ++ l1_bodies c n o)).packets)
+    own.1
     ∙ made_parts c n own.0 in
     let agree : new.agree ≡ (old.agree && pointwise beq own.0.dynamic other.0.dynamic) =
     told (group_with c n (front_bodies c n t)) _ other.0 made held other.1 in
     let same : same_dynamic t h ≡ pointwise beq own.0.dynamic other.0.dynamic =
-    ap₂ (λ (x y : Option L1Parts). pointwise beq (option_map_or (λ l1. l1.dynamic) x []) (option_map_or (λ l1. l1.dynamic) y []))
+    ap₂ (λ (x y : Option L1Parts). pointwise beq (option_map_or (λ l1. l1.dynamic) x [])
+    (option_map_or (λ l1. l1.dynamic) y []))
     own.1 other.1 in
     record {
       signalled = subst (λ (x : State). Signalled c x n t) (sym rest)
@@ -91,7 +95,8 @@ compared c n old new (t ∷ more) h taken rest told signal first =
     }
 
 -- places without blocks
-none_sized : (c : Config) (counts : List ℕ) (pool : Pool) → ((k : ℕ) → list_at pool k ≡ []) → pool.opened ≡ pool_chunks c
+none_sized : (c : Config) (counts : List ℕ) (pool : Pool) → ((k : ℕ) → list_at pool k ≡ [])
+    → pool.opened ≡ pool_chunks c
     → length pool.lists ≡ pool_chunks c → AreSized c counts pool
 none_sized c counts pool none opened lists = record {
   each = λ plp inside k low high. let e = ap chunks_of (none k) in omega (arith, e);
@@ -116,14 +121,17 @@ taken_first c n old new (t ∷ more) h taken agree slots takes blocks opened lis
 
 -- the blocks of one group more
 in_more : (c : Config) (counts : List ℕ) (other : ℕ) (placed : List Group) (h : Group)
-    → flat_map (placed_in c counts other) (placed ++ h ∷ []) ≡ flat_map (placed_in c counts other) placed ++ placed_in c counts other h
+    → flat_map (placed_in c counts other) (placed ++ h ∷ []) ≡ flat_map (placed_in c counts other) placed
+    ++ placed_in c counts other h
 in_more c counts other placed h =
     flat_map-append (placed_in c counts other) placed (h ∷ [])
-    ∙ ap (λ (l : List Placed). flat_map (placed_in c counts other) placed ++ l) (append-nil (placed_in c counts other h))
+    ∙ ap (λ (l : List Placed). flat_map (placed_in c counts other) placed ++ l)
+    (append-nil (placed_in c counts other h))
 
 -- a group whose blocks are not placed
 pub not_placed : (c : Config) (n : ℕ) (s : State) (gs placed : List Group) (h : Group) → TakesFirst c s n gs
-    → false ≡ (s.is_taken && s.layout.is_room && fits_pool c h.packets) → placed_of c n gs placed ≡ placed_of c n gs (placed ++ h ∷ [])
+    → false ≡ (s.is_taken && s.layout.is_room && fits_pool c h.packets)
+    → placed_of c n gs placed ≡ placed_of c n gs (placed ++ h ∷ [])
 not_placed c n s [] placed h first none = refl
 not_placed c n s (t ∷ more) placed h first none =
     go (has_room c counts) (fits_pool c h.packets) refl refl
@@ -164,14 +172,17 @@ one_placed c n t h placed room fits =
     ∙ ap (λ (u : Bool). if u then flat_map (placed_in c counts other) (placed ++ h ∷ []) else []) (sym room)
 
 -- it is placed besides those that were
-pub placed_more : (c : Config) (n : ℕ) (s : State) (new : Slots) (gs placed : List Group) (h : Group) → TakesFirst c s n gs
+pub placed_more : (c : Config) (n : ℕ) (s : State) (new : Slots) (gs placed : List Group) (h : Group)
+    → TakesFirst c s n gs
     → (s.is_taken && s.layout.is_room && fits_pool c h.packets) ≡ true → HoldsPlaced s.slots (placed_of c n gs placed)
-    → ((counts : List ℕ) (before : List Placed) → IsLaid c counts s.layout → has_room c counts ≡ true → Fills c counts s.slots before
+    → ((counts : List ℕ) (before : List Placed) → IsLaid c counts s.layout → has_room c counts ≡ true
+    → Fills c counts s.slots before
     → Fills c counts new (before ++ placed_from counts (origin_of s.origin h) 0 (marked_blocks c h.packets)))
     → TakesFirst c (record s { slots = new }) n gs × HoldsPlaced new (placed_of c n gs (placed ++ h ∷ []))
 placed_more c n s new [] placed h first can blocks more =
     absurd (both_ways s.is_taken first.0
-    (and_parts s.is_taken s.layout.is_room (and_parts (s.is_taken && s.layout.is_room) (fits_pool c h.packets) can).0).0)
+    (and_parts s.is_taken s.layout.is_room (and_parts (s.is_taken && s.layout.is_room) (fits_pool c h.packets)
+    can).0).0)
 placed_more c n s new (t ∷ others) placed h first can blocks more =
     let counts = counts_by c n t in
     let g = first.signalled in
@@ -184,7 +195,8 @@ placed_more c n s new (t ∷ others) placed h first can blocks more =
         sized = all.sized;
       },
       subst (HoldsPlaced new)
-          (ap (λ (o : ℕ). placed_by c n t placed ++ placed_from counts (origin_of o h) 0 (marked_blocks c h.packets)) g.origin
+          (ap (λ (o : ℕ). placed_by c n t placed ++ placed_from counts (origin_of o h) 0 (marked_blocks c h.packets))
+          g.origin
           ∙ one_placed c n t h placed room parts.1)
           all.holds,
     )

@@ -33,7 +33,8 @@ pub record Marks (c : Config) (packets : List Packet) (mark : Mark) (block : Mar
 -- There is one for each, in order.
 pub record AreMarks (c : Config) (packets : List Packet) (marks : List Mark) (blocks : List MarkedBlock) : Type 0 where
   pub len : length marks ≡ length blocks
-  pub each : (i : ℕ) → i < length blocks → Marks c packets (slice_index_or marks i no_mark) (slice_index_or blocks i no_block)
+  pub each : (i : ℕ) → i < length blocks → Marks c packets (slice_index_or marks i no_mark)
+      (slice_index_or blocks i no_block)
 
 -- If the right blocks have room, the marks are theirs.
 pub record HoldsMarks (c : Config) (held : HeldMarks) (packets : List Packet) : Type 0 where

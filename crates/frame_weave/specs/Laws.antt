@@ -27,12 +27,13 @@ StoodIsPlaced = (counts : List ℕ) (origin first : ℕ) (came : List Stood) →
     → placed_from counts origin first (map (λ s. s.block) came)
     ≡ map (λ s. record { place = s.place; bytes = s.block.bytes }) came
 
--- If each block that is placed is the one of its place in a frame, all at a place are the same, and the first one is that of the
--- frame.
+-- If each block that is placed is the one of its place in a frame, all at a place are the same, and the first one is
+-- that of the frame.
 pub record IsOfFrame (bytes_of : ℕ → List ℕ) (placed : List Placed) (place : ℕ) : Type 0 where
   pub alike : are_alike (blocks_at placed place) ≡ true
   pub first : 0 < length (blocks_at placed place) → block_at placed place ≡ bytes_of place
 
 abbrev pub PlacedIsOfFrame : Type 0
-PlacedIsOfFrame = (bytes_of : ℕ → List ℕ) (placed : List Placed) (place : ℕ) → All (λ (p : Placed). p.bytes ≡ bytes_of p.place) placed
+PlacedIsOfFrame = (bytes_of : ℕ → List ℕ) (placed : List Placed) (place : ℕ)
+    → All (λ (p : Placed). p.bytes ≡ bytes_of p.place) placed
     → IsOfFrame bytes_of placed place

@@ -39,5 +39,6 @@ slot_bodies c n pool plp first count =
 -- and those of the first PLPs
 abbrev pub all_bodies : Config → ℕ → State → List ℕ → ℕ → List Body
 all_bodies c n pool starts plps =
-    flat_map (λ plp. slot_bodies c n pool plp (slice_index starts plp) (slice_index starts (plp + 1) - slice_index starts plp))
+    flat_map (λ plp. slot_bodies c n pool plp (slice_index starts plp) (slice_index starts (plp + 1)
+    - slice_index starts plp))
     (range_with_len 0 plps)

@@ -1,4 +1,5 @@
--- What packet_count tells of the packets of a group (ETSI TS 102 773, clause 5.1): where each stands among those of its frame.
+-- What packet_count tells of the packets of a group (ETSI TS 102 773, clause 5.1): where each stands among those of its
+-- frame.
 use Rattle.std.specs.Prelude.{ℕ, Bool, List, [], ◌∷◌, map, slice_get, Option, Some, None}
 use Rattle.std.specs.List.{flat_map, filter_map}
 use Rattle.plp_config.specs.Places.{places}
@@ -9,7 +10,8 @@ use Rattle.t2mi_packet.specs.declared.packet.Packet.{Packet}
 use Rattle.frame_groups.specs.Carried.{right_blocks}
 use Rattle.open_group.specs.Sent.{held_bytes}
 
--- a block that has the length of its PLP: the place of the PLP, packet_count of the packet that brought it, and its bytes
+-- a block that has the length of its PLP: the place of the PLP, packet_count of the packet that brought it, and its
+-- bytes
 pub record MarkedBlock : Type 0 where
   pub plp : ℕ
   pub count : ℕ

@@ -1,5 +1,6 @@
 -- Where the blocks of a group stand in its frame (ETSI TS 102 773, clause 5.1): packet_count tells it modulo 256.
-use Rattle.std.specs.Prelude.{ℕ, ◌+◌, ◌*◌, ◌%◌, ◌==◌, ◌&&◌, max, nat_lt, Bool, true, bytes_eq, List, length, [], ◌∷◌, ◌++◌, map, filter}
+use Rattle.std.specs.Prelude.{ℕ, ◌+◌, ◌*◌, ◌%◌, ◌==◌, ◌&&◌, max, nat_lt, Bool, true, bytes_eq, List, length, [], ◌∷◌}
+use Rattle.std.specs.Prelude.{◌++◌, map, filter}
 use Rattle.std.specs.Prelude.{slice_index_or, if◌then◌else◌}
 use Rattle.std.specs.List.{list_all}
 use Rattle.frame_weave.specs.Marked.{MarkedBlock}
@@ -24,7 +25,8 @@ has_place counts origin first b = nat_lt (place_of counts origin first b) (start
 -- a block that has one stands there, and those behind it stand behind it; one that has none is passed over
 abbrev pub one_placed : List ℕ → ℕ → ℕ → MarkedBlock → List Placed
 one_placed counts origin first b =
-    if has_place counts origin first b then record { place = place_of counts origin first b; bytes = b.bytes } ∷ [] else []
+    if has_place counts origin first b then record { place = place_of counts origin first b; bytes = b.bytes }
+    ∷ [] else []
 
 abbrev pub first_behind : List ℕ → ℕ → ℕ → MarkedBlock → ℕ
 first_behind counts origin first b =

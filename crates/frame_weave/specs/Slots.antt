@@ -29,7 +29,8 @@ pub record AreSized (c : Config) (counts : List ℕ) (pool : State) : Type 0 whe
   pub opened : pool.opened ≡ pool_chunks c
   pub lists : length pool.lists ≡ pool_chunks c
 
--- A block is put at a place: there is none yet, and it has room; or there is one, and it is told whether this is the same.
+-- A block is put at a place: there is none yet, and it has room; or there is one, and it is told whether this is the
+-- same.
 pub record Puts (old new : Slots) (place : ℕ) (block : List ℕ) : Type 0 where
   pub whole : IsWhole old.pool
   pub first : list_at old.pool place ≡ [] → place < length old.pool.lists → chunks_for (length block) ≤ old.pool.spare

@@ -1,5 +1,6 @@
 -- The frame that several groups make (ETSI TS 102 773, clause 5).
-use Rattle.std.specs.Prelude.{ℕ, ◌+◌, ◌%◌, ◌&&◌, Bool, false, List, [], ◌∷◌, ◌++◌, map, filter, slice_index, Option, Some, None}
+use Rattle.std.specs.Prelude.{ℕ, ◌+◌, ◌%◌, ◌&&◌, Bool, false, List, [], ◌∷◌, ◌++◌, map, filter, slice_index, Option}
+use Rattle.std.specs.Prelude.{Some, None}
 use Rattle.std.specs.Prelude.{if◌then◌else◌}
 use Rattle.std.specs.Bool.{beq}
 use Rattle.std.specs.Cmp.Lexicographic.{pointwise}
@@ -60,7 +61,8 @@ block_body c n plp bytes = Block (n % c.frames) (plp_at c.plps plp).id false (bi
 
 abbrev pub plp_bodies : Config → ℕ → List ℕ → List Placed → ℕ → List Body
 plp_bodies c n counts placed plp =
-    map (λ place. block_body c n plp (block_at placed place)) (range_with_len (start_of counts plp) (slice_index counts plp))
+    map (λ place. block_body c n plp (block_at placed place)) (range_with_len (start_of counts plp)
+    (slice_index counts plp))
 
 abbrev pub l1_bodies : Config → ℕ → Option L1Parts → List Body
 l1_bodies c n None = []

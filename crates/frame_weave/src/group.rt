@@ -10,8 +10,9 @@ use plp_config::Plan;
 use std::alloc::Global;
 use t2mi_packet::Packet;
 
-/// The group under way of one feed of several. Besides what a [`PooledGroup`] holds it knows packet_count of the first L1-current
-/// and, as long as the blocks have room, of each block that has the length of its PLP. All its memory is taken in `open`.
+/// The group under way of one feed of several. Besides what a [`PooledGroup`] holds it knows packet_count of the first
+/// L1-current and, as long as the blocks have room, of each block that has the length of its PLP. All its memory is
+/// taken in `open`.
 #[derive(Drop)]
 pub struct MarkedGroup<'p> {
     plan: &'p Plan,
@@ -75,7 +76,8 @@ impl<'p> MarkedGroup<'p> {
 
     /// packet_count of its first L1-current.
     pub fn origin(&self) -> Option<u8>
-        ensures { (past : List Numbered) (h : Group) → HoldsMarked self.now past (Some h) → result ≡ first_count h.packets }
+        ensures { (past : List Numbered) (h : Group) → HoldsMarked self.now past (Some h)
+            → result ≡ first_count h.packets }
     {
         self.marks.origin()
     }

@@ -43,7 +43,8 @@ fn stamp_of(plan: &Plan, number: u64) -> Stamp
 }
 
 impl<'p> MadeGroup<'p> {
-    ghost use Rattle.std.specs.Prelude.{◌≡◌, ◌<◌, ◌≤◌, ◌^◌, ◌++◌, ◌∷◌, [], true, false, ℕ, List, Option, Some, None, IfOk, length};
+    ghost use Rattle.std.specs.Prelude.{◌≡◌, ◌<◌, ◌≤◌, ◌^◌, ◌++◌, ◌∷◌, [], true, false, ℕ, List, Option, Some, None};
+    ghost use Rattle.std.specs.Prelude.{IfOk, length};
     ghost use Rattle.std.specs.Prelude.{take};
     ghost use Rattle.t2mi_packet.specs.T2miPacket.{Fits};
     ghost use Rattle.t2mi_packet.specs.declared.packet.Body.{Body};
@@ -100,7 +101,8 @@ impl<'p> MadeGroup<'p> {
     fn push_stamp(&mut self, number: u64)
         requires { number < 2 ^ 32 }
         ensures holds { (bodies : List Body) → HoldsMade self.old.plan.now number self.old bodies
-            → HoldsMade self.old.plan.now number self.new (bodies ++ Body.Timestamp (stamp_by self.old.plan.now number) ∷ []) }
+            → HoldsMade self.old.plan.now number self.new (bodies ++ Body.Timestamp (stamp_by self.old.plan.now number)
+            ∷ []) }
         ensures alone { IsAlone self.old.group → IsAlone self.new.group }
         ensures plan { self.new.plan.now ≡ self.old.plan.now }
     {
@@ -162,7 +164,8 @@ impl<'p> MadeGroup<'p> {
         requires inside { plp < length self.old.plan.now.plps }
         requires short { length block.now ≤ MOST_BLOCK_BYTES }
         ensures holds { (bodies : List Body) → HoldsMade self.old.plan.now number self.old bodies
-            → HoldsMade self.old.plan.now number self.new (bodies ++ block_body self.old.plan.now number plp block.now ∷ []) }
+            → HoldsMade self.old.plan.now number self.new (bodies ++ block_body self.old.plan.now number
+            plp block.now ∷ []) }
         ensures alone { IsAlone self.old.group → IsAlone self.new.group }
         ensures plan { self.new.plan.now ≡ self.old.plan.now }
     {

@@ -7,8 +7,8 @@ use plp_config::Plan;
 use std::alloc::Global;
 use t2mi_packet::{Body, Packet};
 
-/// Of a block that has the length of its PLP: the place of the PLP, packet_count of the packet that brought it, and its place
-/// among the blocks of the PLP.
+/// Of a block that has the length of its PLP: the place of the PLP, packet_count of the packet that brought it, and its
+/// place among the blocks of the PLP.
 #[derive(Clone, Copy, Debug, PartialEq, Eq)]
 pub struct Mark {
     pub plp: u8,
@@ -29,7 +29,8 @@ pub struct HeldMarks {
 }
 
 impl HeldMarks {
-    ghost use Rattle.std.specs.Prelude.{◌≡◌, ◌≤◌, ◌<◌, ◌∷◌, ◌++◌, ◌*◌, [], ℕ, Bool, List, Option, Some, None, true, IfOk, length, map};
+    ghost use Rattle.std.specs.Prelude.{◌≡◌, ◌≤◌, ◌<◌, ◌∷◌, ◌++◌, ◌*◌, [], ℕ, Bool, List, Option, Some, None, true};
+    ghost use Rattle.std.specs.Prelude.{IfOk, length, map};
     ghost use Rattle.std.specs.Prelude.{vec_len, slice_get, if◌then◌else◌, nat_lt};
     ghost use Rattle.std.specs.List.{filter_map};
     ghost use Rattle.std.specs.Option.{option_or};

@@ -70,7 +70,8 @@ fn place_block(
     requires lists { length layout.now.starts.items ≡ length walk.old.lists + 1 }
     requires short { AreShort walk.old.lists }
     ensures stands { (c : Config) (counts : List ℕ) (packets : List Packet) (b : MarkedBlock) (placed : List Placed)
-        → IsLaid c counts layout.now → has_room c counts ≡ true → Marks c packets mark b → AreBlocks c packets walk.old.lists
+        → IsLaid c counts layout.now → has_room c counts ≡ true → Marks c packets mark b
+        → AreBlocks c packets walk.old.lists
         → Fills c counts slots.old placed
         → Fills c counts slots.new (placed ++ one_placed counts origin first b)
         × (result ≡ first_behind counts origin first b) }
@@ -94,7 +95,8 @@ pub fn place_blocks(layout: &Layout, slots: &mut Slots, pool: &Pool, origin: u64
     requires lists { length layout.now.starts.items ≡ length pool.now.lists + 1 }
     requires short { AreShort pool.now.lists }
     ensures places { slots.new.places ≡ slots.old.places }
-    ensures placed { (c : Config) (counts : List ℕ) (packets : List Packet) (blocks : List MarkedBlock) (placed : List Placed)
+    ensures placed { (c : Config) (counts : List ℕ) (packets : List Packet) (blocks : List MarkedBlock)
+        (placed : List Placed)
         → IsLaid c counts layout.now → has_room c counts ≡ true → AreMarks c packets marks.now blocks
         → AreBlocks c packets pool.now.lists → Fills c counts slots.old placed
         → Fills c counts slots.new (placed ++ placed_from counts origin 0 blocks) }

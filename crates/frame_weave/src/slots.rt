@@ -10,8 +10,8 @@ use open_group::short_law;
 use plp_config::{MOST_BLOCK_BYTES, Plan};
 use std::alloc::Global;
 
-/// The blocks of a frame, at their places: of each place the first one that was placed there. It is told whether the others are
-/// the same.
+/// The blocks of a frame, at their places: of each place the first one that was placed there. It is told whether the
+/// others are the same.
 #[derive(Drop)]
 pub struct Slots {
     // A list for each place.
@@ -50,7 +50,8 @@ fn clear_lists(pool: &mut Pool, lists: u32)
 }
 
 impl Slots {
-    ghost use Rattle.std.specs.Prelude.{◌≡◌, ◌≢◌, ◌≤◌, ◌<◌, ◌&&◌, ◌∷◌, ◌++◌, ℕ, List, [], true, length, take, bytes_eq, IfOk, IfSome};
+    ghost use Rattle.std.specs.Prelude.{◌≡◌, ◌≢◌, ◌≤◌, ◌<◌, ◌&&◌, ◌∷◌, ◌++◌, ℕ, List, [], true, length, take, bytes_eq};
+    ghost use Rattle.std.specs.Prelude.{IfOk, IfSome};
     ghost use Rattle.std.specs.Prelude.{IsNone, slice_index_or, nat_lt};
     ghost use Rattle.std.specs.List.{list_all, range_with_len};
     ghost use Rattle.linked_pool.specs.Pool.{list_at, chunks_for, appended};
@@ -86,7 +87,8 @@ impl Slots {
     fn put_first(&mut self, place: u32, block: &[u8])
         requires place { place < length self.old.pool.lists }
         requires short { length block.now ≤ MOST_BLOCK_BYTES }
-        ensures put { chunks_for (length block.now) ≤ self.old.pool.spare → self.new.pool ≡ appended self.old.pool place block.now }
+        ensures put { chunks_for (length block.now) ≤ self.old.pool.spare
+            → self.new.pool ≡ appended self.old.pool place block.now }
         ensures alike { self.new.alike ≡ self.old.alike }
         ensures places { self.new.places ≡ self.old.places }
     {
@@ -140,7 +142,8 @@ impl Slots {
 
     /// Whether there is a block at each of so many places.
     pub fn is_full(&self, count: u32) -> bool
-        ensures { result ≡ list_all (λ place. nat_lt 0 (length (list_at self.now.pool place))) (range_with_len 0 count) }
+        ensures { result ≡ list_all (λ place. nat_lt 0 (length (list_at self.now.pool place)))
+            (range_with_len 0 count) }
     {
         for place in 0..count {
             if !self.has_block(place) {

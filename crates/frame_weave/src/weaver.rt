@@ -28,13 +28,14 @@ use open_group::{HeldParts, PooledGroup};
 use plp_config::Plan;
 use std::alloc::Global;
 
-/// Weaves a frame of what several groups have of it. They are looked at one after another, and then placed in the same order. All
-/// memory is taken in `open`.
+/// Weaves a frame of what several groups have of it. They are looked at one after another, and then placed in the same
+/// order. All memory is taken in `open`.
 #[derive(Drop)]
 pub struct Weaver<'p> {
     plan: &'p Plan,
     number: u64,
-    // The L1 signalling was taken of a group that was looked at; and whether the other groups that have some tell the same.
+    // The L1 signalling was taken of a group that was looked at; and whether the other groups that have some tell the
+    // same.
     is_taken: bool,
     agree: bool,
     // packet_count of its L1-current.
@@ -198,7 +199,8 @@ impl<'p> Weaver<'p> {
     pub fn look(&mut self, group: &MarkedGroup<'_>)
         requires intact { group.now.group.intact ≡ true }
         requires network { group.now.group.network ≡ self.old.plan.now }
-        ensures weaves { (past : List Numbered) (h : Group) (n : ℕ) (looked : List Group) → HoldsMarked group.now past (Some h)
+        ensures weaves { (past : List Numbered) (h : Group) (n : ℕ) (looked : List Group)
+            → HoldsMarked group.now past (Some h)
             → Weaves self.old n looked [] → Weaves self.new n (looked ++ h ∷ []) [] }
         ensures own { IsOwn self.old → IsOwn self.new }
         ensures plan { self.new.plan.now ≡ self.old.plan.now }
@@ -260,8 +262,10 @@ impl<'p> Weaver<'p> {
 
     /// Makes the group of those that were looked at and placed, if they make one.
     pub fn finish(&mut self) -> bool
-        ensures told { (n : ℕ) (gs : List Group) → Weaves self.old n gs gs → result ≡ is_some (woven self.old.plan.now n gs) }
-        ensures group { (n : ℕ) (gs : List Group) (g : Group) → Weaves self.old n gs gs → woven self.old.plan.now n gs ≡ Some g
+        ensures told { (n : ℕ) (gs : List Group) → Weaves self.old n gs gs
+            → result ≡ is_some (woven self.old.plan.now n gs) }
+        ensures group { (n : ℕ) (gs : List Group) (g : Group) → Weaves self.old n gs gs
+            → woven self.old.plan.now n gs ≡ Some g
             → Holds self.new.made.group [] (Some g) }
         ensures own { IsOwn self.old → IsOwn self.new }
         ensures plan { self.new.plan.now ≡ self.old.plan.now }

@@ -1,5 +1,6 @@
 -- Units go out of a flow as long as there is room.
-use Rattle.std.proofs.Common.{◌≡◌, ◌≢◌, ℕ, ◌+◌, ◌*◌, ◌<◌, ◌≤◌, true, false, List, [], ◌∷◌, ◌++◌, length, drop, take, Some}
+use Rattle.std.proofs.Common.{◌≡◌, ◌≢◌, ℕ, ◌+◌, ◌*◌, ◌<◌, ◌≤◌, true, false, List, [], ◌∷◌, ◌++◌, length, drop, take}
+use Rattle.std.proofs.Common.{Some}
 use Rattle.std.proofs.Common.{refl, ap, sym, subst, ◌∙◌, arith, append-nil, append_assoc, length-append}
 use Rattle.std.specs.Prelude.{slice_get}
 use Rattle.std.proofs.lemmas.Bool.{true≢false}
@@ -26,7 +27,8 @@ abbrev Fronts : {X : Type 0} → List X → List X → Type 0
 Fronts {X} xs ys = (later : List X) × (ys ≡ xs ++ later)
 
 -- what stands behind the first of a list
-pub front_then : {X : Type 0} (xs ys zs : List X) → Fronts xs zs → Fronts ys (drop (length xs) zs) → Fronts (xs ++ ys) zs
+pub front_then : {X : Type 0} (xs ys zs : List X) → Fronts xs zs → Fronts ys (drop (length xs) zs)
+    → Fronts (xs ++ ys) zs
 front_then xs ys zs p q =
     let rest : p.0 ≡ ys ++ q.0 = sym (drop_at xs p.0 (length xs) refl) ∙ ap (drop (length xs)) (sym p.1) ∙ q.1 in
     (q.0, p.1 ∙ ap (λ l. xs ++ l) rest ∙ sym (append_assoc xs ys q.0))
@@ -51,9 +53,11 @@ gives_none c flow n left = record {
 }
 
 pub gives_one : (c : Config) (old new : Flow) (n k : ℕ) (before now : List Body) (unit : List ℕ) → k ≡ n
-    → ((all : List (ℕ × Body)) (given : ℕ) → Flows old.outlet c n before all given → (more : List (List ℕ)) → (old.finished ≡ true → more ≡ [])
+    → ((all : List (ℕ × Body)) (given : ℕ) → Flows old.outlet c n before all given → (more : List (List ℕ))
+    → (old.finished ≡ true → more ≡ [])
     → slice_get (pipe c.pid (packets_from c 0 all ++ more)) given ≡ Some unit)
-    → ((all : List (ℕ × Body)) (given : ℕ) → Flows old.outlet c n before all given → Flows new.outlet c k now all (given + 1))
+    → ((all : List (ℕ × Body)) (given : ℕ) → Flows old.outlet c n before all given
+    → Flows new.outlet c k now all (given + 1))
     → (old.finished ≡ false → (all : List (ℕ × Body)) (given : ℕ) → Flows old.outlet c n before all given
     → given < length (complete_units c.pid (packets_from c 0 all)))
     → new.finished ≡ old.finished → bytes_bound new.outlet now < bytes_bound old.outlet before
@@ -74,28 +78,34 @@ gives_then c old mid new n before then now us vs g h =
     let size : length (us ++ vs) ≡ length us + length vs = length-append us vs in
     record {
       flows = λ all given f.
-          subst (λ (k : ℕ). Flows new.outlet c n now all k) (omega (arith, size)) (h.flows all (given + length us) (g.flows all given f));
+          subst (λ (k : ℕ). Flows new.outlet c n now all k) (omega (arith, size))
+          (h.flows all (given + length us) (g.flows all given f));
       next = λ all given f more over.
           let p : List (List ℕ) = pipe c.pid (packets_from c 0 all ++ more) in
           front_then us vs (drop given p) (g.next all given f more over)
           (subst (Fronts vs) (sym (drop-drop (length us) given p))
           (h.next all (given + length us) (g.flows all given f) more (λ on. over (sym g.finished ∙ on))));
-      complete = λ off some all given f. go given _ vs (λ e. h.complete (g.finished ∙ off) e all (given + length us) (g.flows all given f))
+      complete = λ off some all given f. go given _ vs (λ e. h.complete (g.finished ∙ off) e all (given + length us)
+          (g.flows all given f))
           (λ e. g.complete off e all given f) some;
       finished = h.finished ∙ g.finished;
       less = (let a = g.less in let b = h.less in omega (arith, a, b, size));
     }
   where
-    go : (m k : ℕ) (vs : List (List ℕ)) → (vs ≢ [] → m + length us + length vs ≤ k) → (us ≢ [] → m + length us ≤ k) → us ++ vs ≢ []
+    go : (m k : ℕ) (vs : List (List ℕ)) → (vs ≢ [] → m + length us + length vs ≤ k) → (us ≢ [] → m + length us ≤ k)
+        → us ++ vs ≢ []
         → m + length (us ++ vs) ≤ k
     go m k [] later first some =
         let f = first (λ e. some (append-nil us ∙ e)) in let s = ap length (append-nil us) in omega (arith, f, s)
     go m k (v ∷ vs) later first some =
-        let l = later (λ e. absurd (let z = ap length e in omega (arith, z))) in omega (arith, l, length-append us (v ∷ vs))
+        let l = later (λ e. absurd (let z = ap length e in omega (arith, z))) in omega
+        (arith, l, length-append us (v ∷ vs))
 
 -- it ends since there is no room
-pub ends_full : (c : Config) (old new : Flow) (n : ℕ) (before now : List Body) (out : List ℕ) (len : ℕ) (units : List (List ℕ))
-    → len ≤ length out → 0 < len → take len out ≡ joined units → len ≡ SIZE * length units → Gives c old new n before now units
+pub ends_full : (c : Config) (old new : Flow) (n : ℕ) (before now : List Body) (out : List ℕ) (len : ℕ)
+    (units : List (List ℕ))
+    → len ≤ length out → 0 < len → take len out ≡ joined units → len ≡ SIZE * length units
+    → Gives c old new n before now units
     → GivesAll c old new n before now true (take len out)
 ends_full c old new n before now out len units inside some bytes count gives = record {
   units = units;
@@ -107,7 +117,8 @@ ends_full c old new n before now out len units inside some bytes count gives = r
 }
 
 -- or since no more is complete: what was given before stands in front
-pub ends_behind : (c : Config) (old new : Flow) (n : ℕ) (before now : List Body) (xs ys : List ℕ) (len k : ℕ) (units : List (List ℕ))
+pub ends_behind : (c : Config) (old new : Flow) (n : ℕ) (before now : List Body) (xs ys : List ℕ) (len k : ℕ)
+    (units : List (List ℕ))
     → len ≤ length xs → take len xs ≡ joined units → len ≡ SIZE * length units → Gives c old new n before now units
     → HasCaughtUp c new n now → GivesAll c old new n before now false (take len (put_mid len k xs ys))
 ends_behind c old new n before now xs ys len k units inside bytes count gives caught =

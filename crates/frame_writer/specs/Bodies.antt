@@ -1,5 +1,5 @@
 -- What the packets of a frame carry whose blocks wait in a pool (ETSI TS 102 773, clause 5).
-use Rattle.std.specs.Prelude.{ℕ, ◌+◌, ◌%◌, ◌==◌, Bool, true, false, List, [], ◌∷◌, ◌++◌}
+use Rattle.std.specs.Prelude.{ℕ, ◌+◌, ◌%◌, Bool, true, false, List, [], ◌∷◌, ◌++◌}
 use Rattle.terms.specs.Bits.{bits_of}
 use Rattle.plp_config.specs.Plps.{plp_at}
 use Rattle.plp_config.specs.declared.config.Config.{Config}
@@ -10,7 +10,8 @@ use Rattle.frame_writer.specs.FramePackets.{l1_body, with_stamp}
 -- blocks of a PLP by its identifier, as bytes; intl_frame_start is 1 on the first one in the frame
 abbrev pub block_bodies : ℕ → ℕ → Bool → List (List ℕ) → List Body
 block_bodies frame_idx id first [] = []
-block_bodies frame_idx id first (b ∷ blocks) = Block frame_idx id first (bits_of b) ∷ block_bodies frame_idx id false blocks
+block_bodies frame_idx id first (b ∷ blocks) = Block frame_idx id first (bits_of b) ∷ block_bodies frame_idx
+    id false blocks
 
 -- the blocks of lists, one for each PLP from one on
 abbrev pub list_bodies : Config → ℕ → ℕ → List (List (List ℕ)) → List Body

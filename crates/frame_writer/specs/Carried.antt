@@ -21,9 +21,10 @@ pub record AfterPiece (stands : Standing) (piece : List ℕ) (pid : ℕ) (events
   pub stood : stands pid before
   pub events_are : events ≡ before ++ Piped piece ∷ []
 
--- Of all packets some were built, of which the piper has all bytes but some of the last one; so many bodies are left, of one
--- frame. Before the end no unit was given that was not complete.
-pub record Carries (stands : Standing) (finished : Bool) (rest : List ℕ) (number : ℕ) (c : Config) (n : ℕ) (left : List Body)
+-- Of all packets some were built, of which the piper has all bytes but some of the last one; so many bodies are left,
+-- of one frame. Before the end no unit was given that was not complete.
+pub record Carries (stands : Standing) (finished : Bool) (rest : List ℕ) (number : ℕ) (c : Config) (n : ℕ)
+    (left : List Body)
     (all : List (ℕ × Body)) (given : ℕ) : Type 0 where
   pub events : List PiperEvent
   pub stood : stands c.pid events

@@ -12,9 +12,11 @@ use Rattle.frame_writer.specs.declared.flow.Outlet.{Outlet}
 abbrev pub rest_of : Outlet → List ℕ
 rest_of o = drop o.at (bytes_of o.packet)
 
--- Of all bodies, those that are left are of one frame; the packets of the others have come so far, and so many units were given.
+-- Of all bodies, those that are left are of one frame; the packets of the others have come so far, and so many units
+-- were given.
 abbrev pub Flows : Outlet → Config → ℕ → List Body → List (ℕ × Body) → ℕ → Type 0
-Flows o c n left all given = Carries (PiperStandsFor o.piper) (is_finished o.piper) (rest_of o) o.packet_count c n left all given
+Flows o c n left all given = Carries (PiperStandsFor o.piper) (is_finished o.piper) (rest_of o) o.packet_count
+    c n left all given
 
 -- how many bytes are at hand: those that wait, and those of its packet that the piper did not take
 abbrev pub at_hand : Outlet → ℕ

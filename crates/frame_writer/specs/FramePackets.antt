@@ -12,7 +12,12 @@ use Rattle.t2mi_packet.specs.declared.packet.Stamp.{Stamp}
 
 -- the timestamp of the superframe that begins with frame n: its emission
 abbrev pub stamp_of : Config → ℕ → Stamp
-stamp_of c n = record { bw = bw c.band; seconds = (emission c n).seconds; subseconds = (emission c n).subseconds; utco = c.utco }
+stamp_of c n = record {
+  bw = bw c.band;
+  seconds = (emission c n).seconds;
+  subseconds = (emission c n).subseconds;
+  utco = c.utco;
+}
 
 -- the L1-current of frame n
 abbrev pub l1_body : Config → ℕ → List Bool → List Bool → List Bool → Body
@@ -24,9 +29,16 @@ with_stamp c n bodies = if n % c.frames == 0 then Timestamp (stamp_of c n) ∷ b
 
 -- a packet of frame n, by its place among all packets: packet_count is modulo 256, superframe_idx modulo 16
 abbrev pub packet_with : Config → ℕ → ℕ → Body → Packet
-packet_with c place n body = record { packet_count = place % 256; superframe = n / c.frames % 16; stream = 0; body = body }
+packet_with c place n body = record {
+  packet_count = place % 256;
+  superframe = n / c.frames % 16;
+  stream =
+      0;
+  body = body;
+}
 
 -- packets from a place on, as their bytes
 abbrev pub packets_from : Config → ℕ → List (ℕ × Body) → List (List ℕ)
 packets_from c place [] = []
-packets_from c place (b ∷ bodies) = bytes_of (written_bits (packet_with c place b.0 b.1)) ∷ packets_from c (place + 1) bodies
+packets_from c place (b ∷ bodies) = bytes_of (written_bits (packet_with c place b.0 b.1)) ∷ packets_from
+    c (place + 1) bodies

@@ -16,7 +16,8 @@ use Rattle.frame_writer.specs.declared.frame.PoolPlace.{PoolPlace}
 abbrev pub first_left : Config → ℕ → ℕ → ℕ → List (List (List ℕ)) → List Body
 first_left c frame_idx plp place [] = []
 first_left c frame_idx plp place (blocks ∷ lists) =
-    block_bodies frame_idx (plp_at c.plps plp).id (place == 0) (drop place blocks) ++ list_bodies c frame_idx (plp + 1) lists
+    block_bodies frame_idx (plp_at c.plps plp).id (place == 0) (drop place blocks) ++ list_bodies c frame_idx
+    (plp + 1) lists
 
 -- the blocks of a PLP from a place on, and those of the PLPs behind it
 abbrev pub blocks_left : Config → ℕ → ℕ → ℕ → List (List (List ℕ)) → List Body
@@ -37,7 +38,8 @@ pub record CanBeSent (c : Config) (f : PoolFrame) : Type 0 where
   pub conf : length f.conf ≤ MOST_CONF_BITS
   pub dynamic : length f.dynamic ≤ MOST_DYN_BITS
   pub plps : length f.blocks.now.lists ≡ length c.plps
-  pub short : (list place : ℕ) → length (slice_index_or (slice_index_or f.blocks.now.lists list []) place []) ≤ MOST_BLOCK_BYTES
+  pub short : (list place : ℕ) → length (slice_index_or (slice_index_or f.blocks.now.lists list []) place [])
+      ≤ MOST_BLOCK_BYTES
 
 -- Nothing is left behind a place, whatever the frame is.
 abbrev pub IsOver : PoolPlace → Type 0

@@ -28,7 +28,8 @@ pub struct Outlet {
 }
 
 impl Outlet {
-    ghost use Rattle.std.specs.Prelude.{◌≡◌, ◌<◌, ◌≤◌, ◌+◌, ◌^◌, ◌++◌, ℕ, List, [], true, false, length, nat_le, slice_get, Some};
+    ghost use Rattle.std.specs.Prelude.{◌≡◌, ◌<◌, ◌≤◌, ◌+◌, ◌^◌, ◌++◌, ℕ, List, [], true, false, length, nat_le};
+    ghost use Rattle.std.specs.Prelude.{slice_get, Some};
     ghost use Rattle.plp_config.specs.declared.config.Config.{Config};
     ghost use Rattle.t2mi_packet.specs.declared.packet.Body.{Body};
     ghost use Rattle.t2mi_stream.specs.Complete.{complete_units};
@@ -64,13 +65,16 @@ impl Outlet {
             → Flows self.old c n left all given → Flows self.new c n left all (given + 1) }
         ensures stays { result ≡ false → (self.new ≡ self.old) × (out.new ≡ out.old) }
         ensures none { result ≡ false → is_finished self.old.piper ≡ true
-            → (c : Config) (n : ℕ) (left : List Body) (all : List (ℕ × Body)) (given : ℕ) → Flows self.old c n left all given
+            → (c : Config) (n : ℕ) (left : List Body) (all : List (ℕ × Body)) (given : ℕ)
+            → Flows self.old c n left all given
             → AllGone (rest_of self.old) left [] → length (pipe c.pid (packets_from c 0 all)) ≡ given }
         ensures complete { result ≡ true → is_finished self.old.piper ≡ false
-            → (c : Config) (n : ℕ) (left : List Body) (all : List (ℕ × Body)) (given : ℕ) → Flows self.old c n left all given
+            → (c : Config) (n : ℕ) (left : List Body) (all : List (ℕ × Body)) (given : ℕ)
+            → Flows self.old c n left all given
             → given < length (complete_units c.pid (packets_from c 0 all)) }
         ensures caught_up { result ≡ false → is_finished self.old.piper ≡ false
-            → (c : Config) (n : ℕ) (left : List Body) (all : List (ℕ × Body)) (given : ℕ) → Flows self.old c n left all given
+            → (c : Config) (n : ℕ) (left : List Body) (all : List (ℕ × Body)) (given : ℕ)
+            → Flows self.old c n left all given
             → AllGone (rest_of self.old) left [] → given ≡ length (complete_units c.pid (packets_from c 0 all)) }
         ensures rest { rest_of self.old ≡ [] → rest_of self.new ≡ [] }
         ensures less { result ≡ true → (left : List Body) → bytes_bound self.new left < bytes_bound self.old left }
@@ -163,8 +167,8 @@ impl Outlet {
         false
     }
 
-    /// Builds packets of a frame until a unit is at hand or no packet is left, and answers whether no packet is left. Behind the
-    /// last frame that is the end.
+    /// Builds packets of a frame until a unit is at hand or no packet is left, and answers whether no packet is left.
+    /// Behind the last frame that is the end.
     pub fn go_on<X, S: FrameSource<X>>(
         &mut self,
         is_last: bool,
@@ -210,7 +214,8 @@ pub struct Flow {
 }
 
 impl Flow {
-    ghost use Rattle.std.specs.Prelude.{◌≡◌, ◌<◌, ◌≤◌, ◌+◌, ◌^◌, ◌++◌, ℕ, List, [], true, false, length, slice_get, Some};
+    ghost use Rattle.std.specs.Prelude.{◌≡◌, ◌<◌, ◌≤◌, ◌+◌, ◌^◌, ◌++◌, ℕ, List, [], true, false, length, slice_get};
+    ghost use Rattle.std.specs.Prelude.{Some};
     ghost use Rattle.plp_config.specs.declared.config.Config.{Config};
     ghost use Rattle.t2mi_packet.specs.declared.packet.Body.{Body};
     ghost use Rattle.t2mi_stream.specs.Complete.{complete_units};
@@ -237,7 +242,8 @@ impl Flow {
     pub fn begin<X, S: FrameSource<X>>(&mut self, frame: &X, plan: &Plan, source: &mut S)
         requires of { S.IsFor source.old frame.now plan.now }
         requires open { self.old.finished ≡ false }
-        ensures feeds { Feeds plan.now self.old.outlet self.new.outlet (S.number source.old) (S.left source.old frame.now plan.now)
+        ensures feeds { Feeds plan.now self.old.outlet self.new.outlet (S.number source.old)
+            (S.left source.old frame.now plan.now)
             (S.left source.new frame.now plan.now) }
         ensures over { self.new.dry ≡ true → S.left source.new frame.now plan.now ≡ [] }
         ensures ends { self.new.dry ≡ true → S.IsOver source.new }
@@ -267,7 +273,8 @@ impl Flow {
             → slice_get (pipe plan.now.pid (packets_from plan.now 0 all ++ more)) given ≡ Some out.new }
         ensures flows { result ≡ true → (all : List (ℕ × Body)) (given : ℕ)
             → Flows self.old.outlet plan.now (S.number source.old) (S.left source.old frame.now plan.now) all given
-            → Flows self.new.outlet plan.now (S.number source.new) (S.left source.new frame.now plan.now) all (given + 1) }
+            → Flows self.new.outlet plan.now (S.number source.new) (S.left source.new frame.now plan.now)
+            all (given + 1) }
         ensures stays { result ≡ false → (self.new ≡ self.old) × (source.new ≡ source.old) × (out.new ≡ out.old) }
         ensures none { result ≡ false → self.old.finished ≡ true → (all : List (ℕ × Body)) (given : ℕ)
             → Flows self.old.outlet plan.now (S.number source.old) (S.left source.old frame.now plan.now) all given
@@ -308,7 +315,8 @@ impl Flow {
         ensures flows { result ≡ true → (c : Config) (n : ℕ) (all : List (ℕ × Body)) (given : ℕ)
             → Flows self.old.outlet c n [] all given → Flows self.new.outlet c n [] all (given + 1) }
         ensures stays { result ≡ false → (self.new ≡ self.old) × (out.new ≡ out.old) }
-        ensures none { result ≡ false → self.old.finished ≡ true → (c : Config) (n : ℕ) (all : List (ℕ × Body)) (given : ℕ)
+        ensures none { result ≡ false → self.old.finished ≡ true → (c : Config) (n : ℕ) (all : List (ℕ × Body))
+            (given : ℕ)
             → Flows self.old.outlet c n [] all given → length (pipe c.pid (packets_from c 0 all)) ≡ given }
         ensures less { result ≡ true → bytes_bound self.new.outlet [] < bytes_bound self.old.outlet [] }
         ensures finished { self.new.finished ≡ self.old.finished }

@@ -13,8 +13,8 @@ use linked_pool::{BlockRef, Pool};
 use plp_config::Plan;
 use t2mi_packet::LARGEST;
 
-/// A frame: L1-pre without its CRC_32, the configurable and the dynamic part of L1-post, and its blocks, a list for each PLP. It is
-/// lent by those who hold it, and no block is taken from it.
+/// A frame: L1-pre without its CRC_32, the configurable and the dynamic part of L1-post, and its blocks, a list for
+/// each PLP. It is lent by those who hold it, and no block is taken from it.
 #[derive(Drop)]
 pub struct PoolFrame<'g> {
     pub pre: BitSlice<'g>,
@@ -33,7 +33,8 @@ pub struct PoolPlace {
     place: u32,
 }
 
-// The next block, from a place in the list of a PLP on: the PLP that has it, and its place there. No PLP has it if all are over.
+// The next block, from a place in the list of a PLP on: the PLP that has it, and its place there. No PLP has it if all
+// are over.
 fn next_block(pool: &Pool, plp: u32, place: u32, end: u32) -> (u32, u32)
     requires end { end ≡ length pool.now.lists }
     requires order { plp ≤ end }
@@ -113,7 +114,8 @@ impl PoolPlace {
         requires step { self.old.step ≡ FrameStep.Blocks }
         requires can { CanBeSent plan.now frame.now }
         requires inside { self.old.plp ≤ length plan.now.plps }
-        ensures some { result ≡ true → Builds plan.now self.old.number packet_count (left_of plan.now self.old frame.now)
+        ensures some { result ≡ true → Builds plan.now self.old.number packet_count
+            (left_of plan.now self.old frame.now)
             (left_of plan.now self.new frame.now) out.new }
         ensures none { result ≡ false → left_of plan.now self.old frame.now ≡ [] }
         ensures over { result ≡ false → self.new.step ≡ FrameStep.Over }
@@ -157,7 +159,8 @@ impl PoolPlace {
         requires can { CanBeSent plan.now frame.now }
         requires early { self.old.number < MOST_FRAMES }
         requires inside { self.old.plp ≤ length plan.now.plps }
-        ensures some { result ≡ true → Builds plan.now self.old.number packet_count (left_of plan.now self.old frame.now)
+        ensures some { result ≡ true → Builds plan.now self.old.number packet_count
+            (left_of plan.now self.old frame.now)
             (left_of plan.now self.new frame.now) out.new }
         ensures none { result ≡ false → left_of plan.now self.old frame.now ≡ [] }
         ensures over { result ≡ false → IsOver self.new }
@@ -218,8 +221,8 @@ impl<'g> FrameSource<PoolFrame<'g>> for PoolPlace {
     }
 }
 
-/// A place among the packets of a frame, and a walk over its blocks. It builds what the place builds, and finds the block behind
-/// the last one in a fixed number of steps.
+/// A place among the packets of a frame, and a walk over its blocks. It builds what the place builds, and finds the
+/// block behind the last one in a fixed number of steps.
 #[derive(Drop)]
 pub struct WalkedPlace<'g> {
     pub place: PoolPlace,

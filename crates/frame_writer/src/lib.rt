@@ -1,4 +1,5 @@
-//! The packets of frames become units, with memory of fixed size (ETSI TS 102 773); also those of a frame whose blocks wait in a pool.
+//! The packets of frames become units, with memory of fixed size (ETSI TS 102 773); also those of a frame whose blocks
+//! wait in a pool.
 #![tactic(auto)]
 
 mod flow;

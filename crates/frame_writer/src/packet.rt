@@ -57,7 +57,8 @@ fn stamp_of(plan: &Plan, frame: u64) -> Stamp
 /// The timestamp of the superframe that begins with a frame.
 pub fn write_timestamp(out: &mut FixedBits<LARGEST>, plan: &Plan, packet_count: u8, frame: u64)
     requires { frame < 2 ^ 32 }
-    ensures bits { out.new ≡ written_bits (packet_with plan.now packet_count frame (Body.Timestamp (stamp_of plan.now frame))) }
+    ensures bits { out.new ≡ written_bits (packet_with plan.now packet_count frame
+        (Body.Timestamp (stamp_of plan.now frame))) }
     ensures whole { IsWhole out.new }
 {
     let packet = Packet {
@@ -101,8 +102,8 @@ pub fn write_l1_current(
     write_packet(out, &packet);
 }
 
-// Begins the packet of a block of so many bytes, of a PLP by its identifier. The block is to be put behind it, and then a packet
-// is made of it.
+// Begins the packet of a block of so many bytes, of a PLP by its identifier. The block is to be put behind it, and then
+// a packet is made of it.
 fn begin(
     out: &mut FixedBits<LARGEST>,
     plan: &Plan,

@@ -8,8 +8,8 @@ use bit_slice::FixedBits;
 use plp_config::Plan;
 use t2mi_packet::LARGEST;
 
-/// The packets of a frame that were not built yet. It may be no more than a place among them: `X` is what else tells of the frame,
-/// handed in at each call.
+/// The packets of a frame that were not built yet. It may be no more than a place among them: `X` is what else tells of
+/// the frame, handed in at each call.
 pub trait FrameSource<X> {
     /// The number of the frame.
     ghost number: { Self → ℕ };

@@ -19,9 +19,11 @@ fn next_unit<X, S: FrameSource<X>>(
     requires of { S.IsFor source.old frame.now plan.now }
     requires over { flow.old.dry ≡ true → S.left source.old frame.now plan.now ≡ [] }
     requires ends { flow.old.dry ≡ true → S.IsOver source.old }
-    ensures some { result ≡ true → Gives plan.now flow.old flow.new (S.number source.old) (S.left source.old frame.now plan.now)
+    ensures some { result ≡ true → Gives plan.now flow.old flow.new (S.number source.old)
+        (S.left source.old frame.now plan.now)
         (S.left source.new frame.now plan.now) (unit.new ∷ []) }
-    ensures none { result ≡ false → HasCaughtUp plan.now flow.new (S.number source.old) (S.left source.new frame.now plan.now) }
+    ensures none { result ≡ false → HasCaughtUp plan.now flow.new (S.number source.old)
+        (S.left source.new frame.now plan.now) }
     ensures stays { result ≡ false → (flow.new ≡ flow.old) × (source.new ≡ source.old) }
     ensures whole { length unit.new ≡ SIZE }
     ensures of { S.IsFor source.new frame.now plan.now }
@@ -44,9 +46,11 @@ fn next_front<X, S: FrameSource<X>>(
     requires over { flow.old.dry ≡ true → S.left source.old frame.now plan.now ≡ [] }
     requires ends { flow.old.dry ≡ true → S.IsOver source.old }
     requires room { SIZE ≤ length out.old }
-    ensures some { result ≡ true → Gives plan.now flow.old flow.new (S.number source.old) (S.left source.old frame.now plan.now)
+    ensures some { result ≡ true → Gives plan.now flow.old flow.new (S.number source.old)
+        (S.left source.old frame.now plan.now)
         (S.left source.new frame.now plan.now) (take SIZE out.new ∷ []) }
-    ensures none { result ≡ false → HasCaughtUp plan.now flow.new (S.number source.old) (S.left source.new frame.now plan.now) }
+    ensures none { result ≡ false → HasCaughtUp plan.now flow.new (S.number source.old)
+        (S.left source.new frame.now plan.now) }
     ensures stays { result ≡ false → (flow.new ≡ flow.old) × (source.new ≡ source.old) }
     ensures size { length out.new ≡ length out.old }
     ensures of { S.IsFor source.new frame.now plan.now }
@@ -62,8 +66,8 @@ impl Flow {
     ghost use Rattle.ts_packet.specs.declared.sizes.TheConstants.{SIZE};
     ghost use Rattle.frame_writer.specs.Units.{GivesAll};
 
-    /// Gives units of the frames begun, to the front of these bytes, as long as one is complete and there is room: how many
-    /// bytes, and whether it was the room that ended.
+    /// Gives units of the frames begun, to the front of these bytes, as long as one is complete and there is room: how
+    /// many bytes, and whether it was the room that ended.
     pub fn give<X, S: FrameSource<X>>(
         &mut self,
         frame: &X,

@@ -14,7 +14,8 @@ fn skip(blocks: &mut Blocks<'_>, count: u64)
     }
 }
 
-/// The blocks of a pool. One behind the last one that was asked for is found in as many steps as there are blocks from this to that.
+/// The blocks of a pool. One behind the last one that was asked for is found in as many steps as there are blocks from
+/// this to that.
 #[derive(Drop)]
 pub struct PoolWalk<'g> {
     pool: &'g Pool,
@@ -72,8 +73,9 @@ impl<'g> PoolWalk<'g> {
         }
     }
 
-    /// The block of a list at a place, from 0; None if the list ends before. If the last one that was asked for stands before it in
-    /// the list, it takes as many steps as there are blocks from this on, and else as many as there are before that place.
+    /// The block of a list at a place, from 0; None if the list ends before. If the last one that was asked for stands
+    /// before it in the list, it takes as many steps as there are blocks from this on, and else as many as there are
+    /// before that place.
     pub fn block(&mut self, list: u32, place: u32) -> Option<BlockRef<'g>>
         requires { list < length self.old.lists }
         ensures none { IsNone result ↔ (length (list_at self.old list) ≤ place) }

@@ -1,5 +1,6 @@
 -- How many bytes of the frames begun wait for a unit at most.
-use Rattle.std.proofs.Common.{◌≡◌, ℕ, ◌+◌, ◌-◌, ◌%◌, ◌<◌, ◌≤◌, Bool, true, List, [], ◌∷◌, ◌++◌, length, ap, sym, ◌∙◌, inl, inr}
+use Rattle.std.proofs.Common.{◌≡◌, ℕ, ◌+◌, ◌-◌, ◌%◌, ◌<◌, ◌≤◌, Bool, true, List, [], ◌∷◌, ◌++◌, length, ap, sym, ◌∙◌}
+use Rattle.std.proofs.Common.{inl, inr}
 use Rattle.std.proofs.Common.{arith, length-append}
 use Rattle.std.specs.Prelude.{◌==◌}
 use Rattle.std.proofs.lemmas.Bool.{cases_lt, cases_Bool}
@@ -36,7 +37,13 @@ packet_size written p = let bits = written p in length-bytes_of (written_bits p)
 -- an L1-current has 63 bytes at least
 signal_size : (number superframe frame_idx : ℕ) (pre conf dynamic : List Bool) → length pre ≡ 168 → 191 ≤ length conf
     → 63 ≤ packet_len
-    (record { packet_count = number; superframe = superframe; stream = 0; body = L1Current frame_idx pre conf dynamic [] })
+    (record {
+      packet_count = number;
+      superframe = superframe;
+      stream = 0;
+      body = L1Current frame_idx
+          pre conf dynamic [];
+    })
 signal_size number superframe frame_idx pre conf dynamic long some = omega (arith, long, some)
 
 -- the parts of it that all frames share
@@ -56,9 +63,11 @@ begins_size join written c number n dynamic rest pre conf =
     let all = join (bytes_of (written_bits p)) (packets_from c (number + 1) (of_frame n rest)) in
     omega (arith, size, some, all)
 
-stamped_size : JoinedLength → WrittenLength → (c : Config) (number n : ℕ) (dynamic : List Bool) (rest : List Body) (stamp : Body)
+stamped_size : JoinedLength → WrittenLength → (c : Config) (number n : ℕ) (dynamic : List Bool) (rest : List Body)
+    (stamp : Body)
     → length (pre_part c) ≡ 168 → 191 ≤ length (conf_part c)
-    → 63 ≤ length (joined (packets_from c number (of_frame n (stamp ∷ l1_body c n (pre_part c) (conf_part c) dynamic ∷ rest))))
+    → 63 ≤ length (joined (packets_from c number
+    (of_frame n (stamp ∷ l1_body c n (pre_part c) (conf_part c) dynamic ∷ rest))))
 stamped_size join written c number n dynamic rest stamp pre conf =
     let behind = begins_size join written c (number + 1) n dynamic rest pre conf in
     let all = join (bytes_of (written_bits (packet_with c number n stamp)))
@@ -66,7 +75,8 @@ stamped_size join written c number n dynamic rest stamp pre conf =
     omega (arith, behind, all)
 
 -- a frame has 63 bytes at least
-frame_size : JoinedLength → WrittenLength → (c : Config) (number n : ℕ) (counts : List ℕ) (blocks : ℕ → List (List Bool))
+frame_size : JoinedLength → WrittenLength → (c : Config) (number n : ℕ) (counts : List ℕ) (blocks : ℕ
+    → List (List Bool))
     → length (pre_part c) ≡ 168 → 191 ≤ length (conf_part c)
     → 63 ≤ length (joined (packets_from c number (of_frame n (frame_bodies c n counts blocks))))
 frame_size join written c number n counts blocks pre conf =
@@ -81,7 +91,8 @@ joined_two : (xs ys : List (List ℕ)) → length (joined (xs ++ ys)) ≡ length
 joined_two xs ys = ap length (flat_map-append (items true) xs ys) ∙ length-append (joined xs) (joined ys)
 
 -- one frame more
-front_size : JoinedLength → WrittenLength → (c : Config) (inputs : ℕ → List (List ℕ)) (n : ℕ) → length (pre_part c) ≡ 168
+front_size : JoinedLength → WrittenLength → (c : Config) (inputs : ℕ → List (List ℕ)) (n : ℕ)
+    → length (pre_part c) ≡ 168
     → 191 ≤ length (conf_part c)
     → length (joined (front_packets c inputs n)) + 63 ≤ length (joined (front_packets c inputs (n + 1)))
 unfolding front_packets
@@ -91,11 +102,13 @@ front_size join written c inputs n pre conf =
     let is : packets_from c 0 (bodies_before c inputs (n + 1)) ≡ packets_from c 0 before
     ++ packets_from c (0 + length before) last =
     ap (packets_from c 0) (bodies_more c inputs n) ∙ packets_append c 0 before last in
-    let size : length (joined (packets_from c 0 (bodies_before c inputs (n + 1)))) ≡ length (joined (packets_from c 0 before))
+    let size : length (joined (packets_from c 0 (bodies_before c inputs (n + 1)))) ≡ length
+    (joined (packets_from c 0 before))
     + length (joined (packets_from c (0 + length before) last)) =
     ap (λ (l : List (List ℕ)). length (joined l)) is
     ∙ joined_two (packets_from c 0 before) (packets_from c (0 + length before) last) in
-    let some = frame_size join written c (0 + length before) n (told_counts c inputs n) (own_blocks c inputs n) pre conf in
+    let some = frame_size join written c (0 + length before) n (told_counts c inputs n) (own_blocks c inputs n)
+    pre conf in
     omega (arith, size, some)
 
 front_rises : (c : Config) (inputs : ℕ → List (List ℕ)) (n k : ℕ) → n ≤ k → length (joined (front_packets c inputs n))
@@ -103,7 +116,8 @@ front_rises : (c : Config) (inputs : ℕ → List (List ℕ)) (n k : ℕ) → n 
 front_rises c inputs n k le =
     let sum : n + (k - n) ≡ k = omega arith in
     let more = fronts_grow c inputs n (k - n) in
-    let is : front_packets c inputs k ≡ front_packets c inputs n ++ more.0 = ap (front_packets c inputs) (sym sum) ∙ more.1 in
+    let is : front_packets c inputs k ≡ front_packets c inputs n ++ more.0 = ap (front_packets c inputs) (sym sum)
+    ∙ more.1 in
     let size = ap (λ (l : List (List ℕ)). length (joined l)) is ∙ joined_two (front_packets c inputs n) more.0 in
     omega (arith, size)
 
@@ -117,7 +131,8 @@ waits_three stays count rises join written pre conf c inputs n k all units plan 
     let last = front_size join written c inputs (n + 1 + 1) parts.0 parts.1 in
     let up = front_rises c inputs (n + 1 + 1 + 1) k (omega (arith, three)) in
     let complete : ℕ = length (complete_units c.pid (front_packets c inputs k)) in
-    let wait : length (joined (front_packets c inputs k)) < carried_len complete (joined (front_packets c inputs k)) + 184 =
+    let wait : length (joined (front_packets c inputs k)) < carried_len complete (joined (front_packets c inputs k))
+    + 184 =
     elim (cases_lt (length (joined (front_packets c inputs k)))
     (carried_len complete (joined (front_packets c inputs k)) + 184)) [
       | inl lt ↦ lt
@@ -125,7 +140,8 @@ waits_three stays count rises join written pre conf c inputs n k all units plan 
     ] in
     let sum : k + (all - k) ≡ all = omega (arith, within) in
     let more = fronts_grow c inputs k (all - k) in
-    let is : front_packets c inputs all ≡ front_packets c inputs k ++ more.0 = ap (front_packets c inputs) (sym sum) ∙ more.1 in
+    let is : front_packets c inputs all ≡ front_packets c inputs k ++ more.0 = ap (front_packets c inputs) (sym sum)
+    ∙ more.1 in
     let same : carried_len complete (joined (front_packets c inputs all))
     ≡ carried_len complete (joined (front_packets c inputs k)) =
     ap (λ (l : List (List ℕ)). carried_len complete (joined l)) is

@@ -1,5 +1,6 @@
 -- How much a frame has to give at most.
-use Rattle.std.proofs.Common.{◌≡◌, ℕ, suc, ◌+◌, ◌-◌, ◌*◌, ◌/◌, ◌%◌, ◌^◌, ◌<◌, ◌≤◌, Bool, true, false, cond, List, [], ◌∷◌}
+use Rattle.std.proofs.Common.{◌≡◌, ℕ, suc, ◌+◌, ◌-◌, ◌*◌, ◌/◌, ◌%◌, ◌^◌, ◌<◌, ◌≤◌, Bool, true, false, cond, List, []}
+use Rattle.std.proofs.Common.{◌∷◌}
 use Rattle.std.proofs.Common.{length, refl, ap, sym, subst, ◌∙◌, inl, inr, arith, length-append}
 use Rattle.std.specs.Prelude.{sum_by}
 use Rattle.std.specs.Int.{div_ceil}
@@ -29,7 +30,8 @@ use Rattle.gateway_core.proofs.LeftLemmas.{bodies_more}
 use Rattle.frame_writer.specs.declared.step.FrameStep.{FrameStep}
 use Rattle.frame_writer.specs.declared.step.FrameStep.TheVariants.{Stamp, Signal, Blocks, Over}
 
-bodies_count : (frame id : ℕ) (first : Bool) (blocks : List (List Bool)) → length (block_bodies frame id first blocks)
+pub bodies_count : (frame id : ℕ) (first : Bool) (blocks : List (List Bool))
+    → length (block_bodies frame id first blocks)
     ≡ length blocks
 bodies_count frame id first [] = refl
 bodies_count frame id first (b ∷ blocks) = omega (arith, bodies_count frame id false blocks)
@@ -51,7 +53,8 @@ bodies_within field c n blocks (p ∷ plps) from at each =
     subst (λ (k : ℕ). length (blocks k) ≤ p.blocks) (sym same) (each 0 (omega arith)) in
     let f = field c from in
     let wide : 883 ≤ 4 + block_bytes c from = omega (arith, f) in
-    let bytes : 883 ≤ 4 + info_bits p.fec p.rate / 8 = subst (λ (q : Plp). 883 ≤ 4 + info_bits q.fec q.rate / 8) (sym is) wide in
+    let bytes : 883 ≤ 4 + info_bits p.fec p.rate / 8 = subst (λ (q : Plp). 883 ≤ 4 + info_bits q.fec q.rate / 8)
+    (sym is) wide in
     let here : length (blocks from) * 883 ≤ block_room p = mul-le-mul few bytes in
     let rest = bodies_within field c n blocks plps (from + 1)
     (λ i lt. let e : from + suc i ≡ from + 1 + i = omega arith in at (suc i) (omega (arith, lt)) ∙ ap (plp_at c.plps) e)
@@ -63,10 +66,12 @@ bodies_within field c n blocks (p ∷ plps) from at each =
       rest,
       sum_by-cons block_room p plps,
       bodies_count (n % c.frames) (plp_at c.plps from).id true (blocks from),
-      length-append (bodies_of c n blocks from) (flat_map (bodies_of c n blocks) (range_with_len (from + 1) (length plps))),
+      length-append (bodies_of c n blocks from) (flat_map (bodies_of c n blocks)
+          (range_with_len (from + 1) (length plps))),
     )
 
-few_steps : (c : Config) (n : ℕ) (step : FrameStep) (signal : Body) (rest : List Body) → length (from_step c n step signal rest)
+few_steps : (c : Config) (n : ℕ) (step : FrameStep) (signal : Body) (rest : List Body)
+    → length (from_step c n step signal rest)
     ≤ length rest + 2
 few_steps c n Stamp signal rest = omega arith
 few_steps c n Signal signal rest = omega arith
@@ -74,7 +79,8 @@ few_steps c n Blocks signal rest = omega arith
 few_steps c n Over signal rest = omega arith
 
 -- So the packets of a frame have fewer than 2^32 bytes.
-pub few_left : FieldRange → (c : Config) (n : ℕ) (step : FrameStep) (signal : Body) (blocks : ℕ → List (List Bool)) → IsPlan c
+pub few_left : FieldRange → (c : Config) (n : ℕ) (step : FrameStep) (signal : Body) (blocks : ℕ → List (List Bool))
+    → IsPlan c
     → ((j : ℕ) → j < length c.plps → length (blocks j) ≤ (plp_at c.plps j).blocks)
     → packet_bound * length (from_step c n step signal (blocks_left c n blocks 0 true)) ≤ 2 ^ 32
 unfolding longest_rest

@@ -1,5 +1,6 @@
 -- The last frame.
-use Rattle.std.proofs.Common.{◌≡◌, ℕ, ◌*◌, ◌<◌, ◌≤◌, Bool, true, List, [], length, refl, ap, sym, ◌∙◌, arith, length-take}
+use Rattle.std.proofs.Common.{◌≡◌, ℕ, ◌*◌, ◌<◌, ◌≤◌, Bool, true, List, [], length, refl, ap, sym, ◌∙◌, arith}
+use Rattle.std.proofs.Common.{length-take}
 use Rattle.std.proofs.Common.{append-nil}
 use Rattle.std.specs.Prelude.{◌↔◌}
 use Rattle.std.specs.declared.option.Option.{Option}
@@ -27,23 +28,27 @@ itself : (c : Config) (events : List Event) (plp : ℕ)
 itself c events plp = record { rest = []; front = sym (append-nil (offered plp events)); whole = λ on. refl }
 
 -- no more was given of a stream than it has, and all of it once it was closed
-least_given : (c : Config) (g : Gateway) (held : List (Option (List ℕ))) (events : List Event) (w : Works c g held events) (plp : ℕ)
+least_given : (c : Config) (g : Gateway) (held : List (Option (List ℕ))) (events : List Event)
+    (w : Works c g held events) (plp : ℕ)
     → plp < length c.plps → length (offered plp w.done) ≤ length (split c (λ q. offered q events) plp)
 least_given c g held events w plp lt =
     let e = ap length (w.splits.splits.each plp lt).front in
     let t = length-take (length (offered plp w.done)) (split c (λ q. offered q events) plp) in
     omega (arith, e, t)
 
-all_given : (c : Config) (g : Gateway) (held : List (Option (List ℕ))) (events : List Event) (w : Works c g held events) (plp : ℕ)
+all_given : (c : Config) (g : Gateway) (held : List (Option (List ℕ))) (events : List Event) (w : Works c g held events)
+    (plp : ℕ)
     → plp < length c.plps → has_ended plp w.done ≡ true
     → length (offered plp w.done) ≡ length (split c (λ q. offered q events) plp)
 all_given c g held events w plp lt on =
     let least = least_given c g held events w plp lt in
-    let most = closed_length c (λ q. offered q events) (λ q. offered q events) (λ q. has_ended q events) (offered plp w.done)
+    let most = closed_length c (λ q. offered q events) (λ q. offered q events) (λ q. has_ended q events)
+    (offered plp w.done)
     (has_ended plp w.done) plp (begun events) lt (w.splits.splits.each plp lt) (λ q i. itself c events q) on in
     omega (arith, least, most)
 
-frames_are : (c : Config) (g : Gateway) (held : List (Option (List ℕ))) (events : List Event) (w : Works c g held events)
+frames_are : (c : Config) (g : Gateway) (held : List (Option (List ℕ))) (events : List Event)
+    (w : Works c g held events)
     → ((plp : ℕ) → plp < length c.plps → has_ended plp w.done ≡ true)
     → frame_count c (λ plp. length (offered plp w.done)) ≡ frames_of c (λ plp. offered plp events)
 frames_are c g held events w all =
@@ -56,14 +61,17 @@ all_closed : NotYetLast → (c : Config) (g : Gateway) (held : List (Option (Lis
     → IsLast c events → (plp : ℕ) → plp < length c.plps → has_ended plp w.done ≡ true
 all_closed law c g held events plan plps w none last plp lt =
     bool_cases (has_ended plp w.done) (λ on. on) (λ off.
-    let enough = none_wanted (has_ended plp w.done) (slots_by c plp (begun w.done * c.ticks)) (length (offered plp w.done)) (wants_of g plp)
+    let enough = none_wanted (has_ended plp w.done) (slots_by c plp (begun w.done * c.ticks))
+    (length (offered plp w.done)) (wants_of g plp)
     (wants_is g c w.done plp w.stands (omega (arith, lt, plps))) (none plp lt) off in
     let least = least_given c g held events w plp lt in
-    let more = law c (λ p. length (split c (λ q. offered q events) p)) plp (begun w.done) plan lt (omega (arith, enough, least)) in
+    let more = law c (λ p. length (split c (λ q. offered q events) p)) plp (begun w.done) plan lt
+    (omega (arith, enough, least)) in
     let frames = last.frames in let same = w.splits.begun_is in
     absurd (omega (arith, more, frames, same)))
 
-pub last_is : NotYetLast → (c : Config) (g : Gateway) (held : List (Option (List ℕ))) (events : List Event) (answer : Bool) → IsPlan c
+pub last_is : NotYetLast → (c : Config) (g : Gateway) (held : List (Option (List ℕ))) (events : List Event)
+    (answer : Bool) → IsPlan c
     → plps_of g ≡ length c.plps → (w : Works c g held events) → ((plp : ℕ) → plp < length c.plps → wants_of g plp ≡ 0)
     → ((d : Config) (done : List Event) → GatewayStandsFor g d done → (answer ≡ true) ↔ core.IsLast d done)
     → (answer ≡ true) ↔ IsLast c events

@@ -86,12 +86,14 @@ pub begins_behind : (c : Config) (plp frame : ℕ) → 1 ≤ spread c.plps plp
     → frame * c.ticks ≤ begun_before c plp frame * epoch_ticks c plp
 begins_behind c plp frame some =
     let up : frame ≤ begun_before c plp frame * spread c.plps plp = div_ceil-ge frame (spread c.plps plp) some in
-    let ticks : frame * c.ticks ≤ begun_before c plp frame * spread c.plps plp * c.ticks = mul-le-mul_right c.ticks up in
+    let ticks : frame * c.ticks ≤ begun_before c plp frame * spread c.plps plp * c.ticks = mul-le-mul_right
+    c.ticks up in
     let e = mul_assoc (begun_before c plp frame) (spread c.plps plp) c.ticks in
     omega (arith, ticks, e)
 
 -- and with it if it is its first one.
-pub begins_with : (c : Config) (plp frame : ℕ) → is_first c plp frame ≡ true → begun_before c plp frame * epoch_ticks c plp
+pub begins_with : (c : Config) (plp frame : ℕ) → is_first c plp frame ≡ true
+    → begun_before c plp frame * epoch_ticks c plp
     ≡ frame * c.ticks
 begins_with c plp frame on =
     let whole : frame % spread c.plps plp ≡ 0 = eqb-true (frame % spread c.plps plp) 0 on in

@@ -1,5 +1,6 @@
 -- What was done to a gateway with the packets of a slot.
-use Rattle.std.proofs.Common.{◌≡◌, ◌≢◌, ℕ, zero, suc, ◌+◌, ◌<◌, ◌≤◌, ◌||◌, Bool, true, false, List, [], ◌∷◌, ◌++◌, Some, None}
+use Rattle.std.proofs.Common.{◌≡◌, ◌≢◌, ℕ, zero, suc, ◌+◌, ◌<◌, ◌≤◌, ◌||◌, Bool, true, false, List, [], ◌∷◌, ◌++◌, Some}
+use Rattle.std.proofs.Common.{None}
 use Rattle.std.proofs.Common.{refl, ap, sym, subst, ◌∙◌, inl, inr, arith, append_assoc, append-nil}
 use Rattle.std.specs.Prelude.{if◌then◌else◌}
 use Rattle.std.specs.declared.option.Option.{Option}
@@ -7,7 +8,8 @@ use Rattle.std.proofs.lemmas.Bool.{cases_eq, ne_eqb}
 use Rattle.std.proofs.lemmas.Bool.Decides.{Decides-eqb}
 use Rattle.std.proofs.lemmas.Grind.{flat_map-append}
 use Rattle.plp_config.specs.declared.config.Config.{Config}
-use Rattle.gateway_core.specs.Events.{Event, Offered, Ended, Begun, Gave, Finished, packets_to, offered, ends, has_ended, begun, given, finished}
+use Rattle.gateway_core.specs.Events.{Event, Offered, Ended, Begun, Gave, Finished, packets_to, offered, ends}
+use Rattle.gateway_core.specs.Events.{has_ended, begun, given, finished}
 use Rattle.gateway_core.proofs.HoldsLemmas.{begun_same, given_same, finished_same}
 use Rattle.gateway_core.specs.Order.{is_member}
 use Rattle.gateway_core.specs.Slots.{held_at, offered_of, passed_of, passed}
@@ -82,7 +84,8 @@ one_if : (b : Bool) (es : List Event) → AreQuiet es → AreQuiet (if b then es
 one_if true es q = q
 one_if false es q = tt
 
-pub passed_quiet : (c : Config) (held : List (Option (List ℕ))) (turn : ℕ) (shared : Bool) (n : ℕ) → AreQuiet (passed c held turn shared n)
+pub passed_quiet : (c : Config) (held : List (Option (List ℕ))) (turn : ℕ) (shared : Bool) (n : ℕ)
+    → AreQuiet (passed c held turn shared n)
 passed_quiet c held turn shared zero = tt
 passed_quiet c held turn shared (suc n) =
     let e : suc n ≡ n + 1 = omega arith in
@@ -96,7 +99,8 @@ no_end : (plp k : ℕ) (shared : Bool) (o : Option (List ℕ)) → has_ended plp
 no_end plp k shared None = refl
 no_end plp k shared (Some packet) = refl
 
-no_end_if : (plp : ℕ) (b : Bool) (es : List Event) → has_ended plp es ≡ false → has_ended plp (if b then es else []) ≡ false
+no_end_if : (plp : ℕ) (b : Bool) (es : List Event) → has_ended plp es ≡ false
+    → has_ended plp (if b then es else []) ≡ false
 no_end_if plp true es e = e
 no_end_if plp false es e = refl
 
@@ -144,7 +148,8 @@ step_is c held turn shared n plp =
 others_with : (c : Config) (held : List (Option (List ℕ))) (turn : ℕ) (shared : Bool) (n plp : ℕ) → plp ≢ n
     → offered plp (passed_of c held turn shared n) ≡ []
 others_with c held turn shared n plp d =
-    other_if plp (is_member c turn n) (offered_of n shared (held_at held n)) (other_with plp n shared (held_at held n) d)
+    other_if plp (is_member c turn n) (offered_of n shared (held_at held n))
+    (other_with plp n shared (held_at held n) d)
 
 pub passed_later : (c : Config) (held : List (Option (List ℕ))) (turn : ℕ) (shared : Bool) (n plp : ℕ) → n ≤ plp
     → offered plp (passed c held turn shared n) ≡ []
@@ -152,7 +157,11 @@ passed_later c held turn shared zero plp le = refl
 passed_later c held turn shared (suc n) plp le =
     let e : suc n ≡ n + 1 = omega arith in
     ap (λ (m : ℕ). offered plp (passed c held turn shared m)) e ∙ step_is c held turn shared n plp
-    ∙ rw (passed_later c held turn shared n plp (omega (arith, le)), others_with c held turn shared n plp (λ z. omega (arith, le, z))) refl
+    ∙ rw (
+      passed_later c held turn shared n plp (omega (arith, le)),
+      others_with c held turn shared n
+          plp (λ z. omega (arith, le, z)),
+    ) refl
 
 pub passed_offers : (c : Config) (held : List (Option (List ℕ))) (turn : ℕ) (shared : Bool) (n plp : ℕ) → plp < n
     → offered plp (passed c held turn shared n) ≡ own_of_slot c held turn shared plp
@@ -161,11 +170,13 @@ passed_offers c held turn shared (suc n) plp lt =
     let e : suc n ≡ n + 1 = omega arith in
     ap (λ (m : ℕ). offered plp (passed c held turn shared m)) e ∙ step_is c held turn shared n plp
     ∙ elim (cases_eq plp n) [
-      | inl same ↦ subst (λ (k : ℕ). offered k (passed c held turn shared n) ++ offered k (passed_of c held turn shared n)
+      | inl same ↦ subst (λ (k : ℕ). offered k (passed c held turn shared n) ++ offered k
+          (passed_of c held turn shared n)
           ≡ own_of_slot c held turn shared k) (sym same)
           (rw (passed_later c held turn shared n n (omega arith))
           (here_if n (is_member c turn n) (offered_of n shared (held_at held n)) (passing shared (held_at held n))
           (here_with n shared (held_at held n))))
       | inr d ↦ rw (others_with c held turn shared n plp d)
-          (append-nil (offered plp (passed c held turn shared n)) ∙ passed_offers c held turn shared n plp (omega (arith, lt, d)))
+          (append-nil (offered plp (passed c held turn shared n)) ∙ passed_offers c held turn shared
+          n plp (omega (arith, lt, d)))
     ]

@@ -1,5 +1,6 @@
 -- An input takes packets, and its chain null packets behind them.
-use Rattle.std.proofs.Common.{◌≡◌, ℕ, zero, suc, ◌+◌, ◌-◌, ◌*◌, ◌<◌, ◌≤◌, Bool, true, false, cond, List, [], ◌∷◌, ◌++◌, Option}
+use Rattle.std.proofs.Common.{◌≡◌, ℕ, zero, suc, ◌+◌, ◌-◌, ◌*◌, ◌<◌, ◌≤◌, Bool, true, false, cond, List, [], ◌∷◌, ◌++◌}
+use Rattle.std.proofs.Common.{Option}
 use Rattle.std.proofs.Common.{Some, None, length, map, replicate, is_some, refl, ap, sym, subst, ◌∙◌, arith, append-nil}
 use Rattle.std.proofs.Common.{append_assoc, max, inl, inr, ◌^◌}
 use Rattle.std.specs.Prelude.{IfSome}
@@ -36,9 +37,11 @@ use Rattle.gateway_core.specs.Served.{IsServed}
 use Rattle.gateway_core.specs.declared.input.Input.{Input}
 use Rattle.gateway_core.specs.InputsStandFor.{Cuts}
 use Rattle.gateway_core.specs.Lists.{bits_in, AllShort}
-use Rattle.gateway_core.proofs.EpochLemmas.{none_before, before_first, before_next, before_same, begins_behind, begins_with}
+use Rattle.gateway_core.proofs.EpochLemmas.{none_before, before_first, before_next, before_same, begins_behind}
+use Rattle.gateway_core.proofs.EpochLemmas.{begins_with}
 
-offered_push : (events : List queue.Event) (x : List ℕ) → queue.offered (events ++ queue.Offered x ∷ []) ≡ queue.offered events
+offered_push : (events : List queue.Event) (x : List ℕ) → queue.offered (events ++ queue.Offered x ∷ []) ≡ queue.offered
+    events
     ++ x ∷ []
 offered_push events x = flat_map-append packet_of events (queue.Offered x ∷ [])
 
@@ -50,7 +53,8 @@ offered_stay : (events : List queue.Event) → queue.offered (events ++ queue.Cu
 offered_stay events = flat_map-append packet_of events (queue.Cut ∷ []) ∙ append-nil (queue.offered events)
 
 cuts_push : (events : List queue.Event) → queue.cuts (events ++ queue.Cut ∷ []) ≡ queue.cuts events + 1
-cuts_push events = let e = sum_by-append (λ (e : queue.Event). cond (is_cut e) 1 0) events (queue.Cut ∷ []) in omega (arith, e)
+cuts_push events = let e = sum_by-append (λ (e : queue.Event). cond (is_cut e) 1 0) events (queue.Cut ∷ []) in
+    omega (arith, e)
 
 -- an input that wants a packet has not ended
 pub record Wants (b : Bool) (gap : ℕ) : Type 0 where
@@ -69,7 +73,8 @@ room : (chain : Chain) (due slot : ℕ) (total : Option ℕ) (c : Config) (plp :
 room chain due slot total c plp t early h lt = omega (arith, h.within, h.slot_is, lt)
 
 -- the interleaving frame that begins in the next frame is the next one
-cut_with : (chain : Chain) (due slot : ℕ) (total : Option ℕ) (c : Config) (plp : ℕ) (t : Told) (early : List (List Bool))
+cut_with : (chain : Chain) (due slot : ℕ) (total : Option ℕ) (c : Config) (plp : ℕ) (t : Told)
+    (early : List (List Bool))
     (h : Fed chain due slot total c plp t early) → is_first c plp t.frame ≡ true
     → queue.cuts h.events * epoch_ticks c plp ≡ t.frame * c.ticks
 cut_with chain due slot total c plp t early h on =
@@ -113,12 +118,15 @@ fed_offer old new due slot total c plp t packet was is list takes place lt h =
 
 null_more : (packets : List (List ℕ)) (n : ℕ) → (packets ++ replicate n null_packet) ++ null_packet ∷ []
     ≡ packets ++ replicate (n + 1) null_packet
-null_more packets n = append_assoc packets (replicate n null_packet) (null_packet ∷ []) ∙ ap (λ (l : List (List ℕ)). packets ++ l)
+null_more packets n = append_assoc packets (replicate n null_packet) (null_packet ∷ [])
+    ∙ ap (λ (l : List (List ℕ)). packets ++ l)
     (replicate_more n null_packet)
 
-pub fed_null : (old new : Chain) (due slot : ℕ) (total : Option ℕ) (c : Config) (plp : ℕ) (t : Told) (was is : State) (list : ℕ)
+pub fed_null : (old new : Chain) (due slot : ℕ) (total : Option ℕ) (c : Config) (plp : ℕ) (t : Told)
+    (was is : State) (list : ℕ)
     → TakesIfReady old new null_packet was is list → HasPlace c plp was list → t.ended ≡ true
-    → slot < due → Fed old due slot total c plp t (bits_in was list) → Fed new due (slot + 1) total c plp t (bits_in is list)
+    → slot < due → Fed old due slot total c plp t (bits_in was list)
+    → Fed new due (slot + 1) total c plp t (bits_in is list)
 fed_null old new due slot total c plp t was is list takes place ended before h =
     let took = takes c plp h.events (record { stands = h.stands; put = h.early_is; place = place })
     (room old due slot total c plp t (bits_in was list) h before) in
@@ -143,16 +151,19 @@ alike zero k x = refl
 alike (suc n) zero x = refl
 alike (suc n) (suc k) x = alike n k x
 
-null_slots : (packets : List (List ℕ)) (n k : ℕ) → packet_at (packets ++ replicate n null_packet) k ≡ packet_at packets k
+null_slots : (packets : List (List ℕ)) (n k : ℕ) → packet_at (packets ++ replicate n null_packet) k ≡ packet_at
+    packets k
 null_slots [] n k = alike n k null_packet
 null_slots (p ∷ ps) n zero = refl
 null_slots (p ∷ ps) n (suc k) = null_slots ps n k
 
 -- the packets that a chain was given are those of the input
-same_slots : (packets rest : List (List ℕ)) (ended : Bool) (n k : ℕ) → (ended ≡ false → n ≡ 0) → (ended ≡ true → rest ≡ [])
+same_slots : (packets rest : List (List ℕ)) (ended : Bool) (n k : ℕ) → (ended ≡ false → n ≡ 0)
+    → (ended ≡ true → rest ≡ [])
     → k < length (packets ++ replicate n null_packet)
     → packet_at (packets ++ replicate n null_packet) k ≡ packet_at (packets ++ rest) k
-same_slots packets rest true n k still whole lt = null_slots packets n k ∙ sym (rw (whole refl, append-nil packets) refl)
+same_slots packets rest true n k still whole lt = null_slots packets n k
+    ∙ sym (rw (whole refl, append-nil packets) refl)
 same_slots packets rest false n k still whole lt =
     let none : packets ++ replicate n null_packet ≡ packets = rw (still refl, append-nil packets) refl in
     let inside : k < length packets = rw none at lt in
@@ -168,10 +179,12 @@ given_blocks law old due slot total c plp t early h input plan lt on e more =
     law c plp (packet_at (queue.offered h.events)) (packet_at input) (queue.cuts h.events) plan lt (λ k inside.
     let by : k < slots_by c plp (t.frame * c.ticks) =
     subst (λ (tick : ℕ). k < slots_by c plp tick) (cut_with old due slot total c plp t early h on) inside in
-    let within : k < length (t.packets ++ replicate h.nulls null_packet) = rw (← h.given, ← h.slot_is, e, h.due_is) by in
+    let within : k < length (t.packets ++ replicate h.nulls null_packet) = rw (← h.given, ← h.slot_is, e, h.due_is)
+    by in
     rw (h.given, more.front) (same_slots t.packets more.rest t.ended h.nulls k h.still more.whole within))
 
--- When the next interleaving frame begins, no fewer slots are over than when a frame does of which so many begin before.
+-- When the next interleaving frame begins, no fewer slots are over than when a frame does of which so many begin
+-- before.
 due_within : CountRises → SlotLength → SpreadDividesFrames → (c : Config) (plp frame due cuts : ℕ) → IsPlan c
     → plp < length c.plps → due ≡ slots_by c plp (frame * c.ticks) → cuts ≡ begun_before c plp frame
     → due ≤ slots_by c plp (cuts * epoch_ticks c plp)
@@ -184,7 +197,8 @@ due_within rises slot spreads c plp frame due cuts plan lt e n =
 
 -- What the end of an interleaving frame leaves.
 pub fed_cut : BlocksLaw → CountRises → SlotLength → SpreadDividesFrames → (old new : Chain) (due slot next : ℕ)
-    (total : Option ℕ) (c : Config) (plp : ℕ) (t : Told) (was is : State) (list count : ℕ) → EndsIfReady old new was is list count
+    (total : Option ℕ) (c : Config) (plp : ℕ) (t : Told) (was is : State) (list count : ℕ)
+    → EndsIfReady old new was is list count
     → IsPlan c → plp < length c.plps
     → HasPlace c plp was list → is_first c plp t.frame ≡ true → slot ≡ due
     → next ≡ slots_by c plp ((t.frame + 1) * c.ticks)
@@ -219,7 +233,8 @@ fed_cut law rises length_of spreads old new due slot next total c plp t was is l
     }
 
 -- A frame in which no interleaving frame begins leaves what there is.
-pub fed_pass : CountRises → SlotLength → SpreadDividesFrames → (chain : Chain) (due slot next : ℕ) (total : Option ℕ) (c : Config)
+pub fed_pass : CountRises → SlotLength → SpreadDividesFrames → (chain : Chain) (due slot next : ℕ) (total : Option ℕ)
+    (c : Config)
     (plp : ℕ) (t : Told) (early : List (List Bool)) → IsPlan c → plp < length c.plps → is_first c plp t.frame ≡ false
     → next ≡ slots_by c plp ((t.frame + 1) * c.ticks) → Fed chain due slot total c plp t early
     → Fed chain next slot total c plp (in_next t) early
@@ -301,7 +316,8 @@ served i pool list h = ∥∥₁_map h (λ (s : IsSupplied i pool list). record 
 -- what is told of an input that ended
 pub ended_told : (b : Bool) (n : ℕ) (total : Option ℕ) → is_some total ≡ true → total ≡ cond b (Some n) None → b ≡ true
 ended_told true n total some e = refl
-ended_told false n total some e = absurd (let z : false ≡ true = subst (λ (o : Option ℕ). is_some o ≡ true) e some in cc)
+ended_told false n total some e = absurd (let z : false ≡ true = subst (λ (o : Option ℕ). is_some o ≡ true)
+    e some in cc)
 
 -- A pool whose other lists stay has place as before.
 pub place_stays : (c : Config) (plp : ℕ) (was is : State) (list : ℕ) → Others was is list → HasPlace c plp was list
@@ -322,7 +338,8 @@ others_on was mid is list a b = record {
 }
 
 -- All lists stay short if the one that changes does.
-pub all_short : (was is : State) (list : ℕ) → Others was is list → (AreShort (list_at was list) → AreShort (list_at is list))
+pub all_short : (was is : State) (list : ℕ) → Others was is list → (AreShort (list_at was list)
+    → AreShort (list_at is list))
     → AllShort was → AllShort is
 all_short was is list others stays short = λ j.
     elim (cases_eq j list) [

@@ -1,5 +1,6 @@
 -- Which packet is wanted first.
-use Rattle.std.proofs.Common.{◌≡◌, ℕ, ◌-◌, ◌*◌, ◌<◌, ◌≤◌, true, false, List, length, Some, None, refl, ap, sym, subst, ◌∙◌}
+use Rattle.std.proofs.Common.{◌≡◌, ℕ, ◌-◌, ◌*◌, ◌<◌, ◌≤◌, true, false, List, length, Some, None, refl, ap, sym, subst}
+use Rattle.std.proofs.Common.{◌∙◌}
 use Rattle.std.proofs.Common.{inl, inr, arith, ⊎_elim}
 use Rattle.std.specs.Prelude.{unwrap_or}
 use Rattle.std.specs.declared.option.Option.{Option}
@@ -30,7 +31,8 @@ record IsFirst (c : Config) (turn : ℕ) : Type 0 where
   first : common_of c turn ≡ None
   inside : turn < length c.plps
 
-first_by : (c : Config) (plp : ℕ) → plp < length c.plps → (o : Option ℕ) → common_of c plp ≡ o → IsFirst c (unwrap_or o plp)
+first_by : (c : Config) (plp : ℕ) → plp < length c.plps → (o : Option ℕ) → common_of c plp ≡ o
+    → IsFirst c (unwrap_or o plp)
 first_by c plp inside None e = record { first = e; inside = inside }
 first_by c plp inside (Some m) e =
     let h = has_common c plp m e in record { first = (let i = h.is in rw i refl); inside = h.inside }
@@ -41,7 +43,8 @@ turn_first c plp inside = first_by c plp inside (common_of c plp) refl
 -- ---- what came, and what went on
 
 -- what is known of an input that did not end
-record Alive (c : Config) (g : Gateway) (held : List (Option (List ℕ))) (events : List Event) (w : Works c g held events) (plp : ℕ)
+record Alive (c : Config) (g : Gateway) (held : List (Option (List ℕ))) (events : List Event)
+    (w : Works c g held events) (plp : ℕ)
     : Type 0 where
   going : has_ended plp w.done ≡ false
   first : has_ended (turn_of c plp) w.done ≡ false
@@ -60,7 +63,8 @@ alive law c g held events plp rules plps w i off =
     record {
       going = going;
       first = bool_cases (has_ended (turn_of c plp) w.done)
-          (λ on. absurd (true≢false (sym ((s.each (turn_of c plp) f.inside).whole on plp i.0 (self_member c plp i)).0 ∙ off))) (λ n. n);
+          (λ on. absurd (true≢false (sym ((s.each (turn_of c plp) f.inside).whole on plp i.0 (self_member c plp i)).0
+          ∙ off))) (λ n. n);
       count = s.step plp i off;
       least = elim ((s.each plp i.0).settled plp i.0 (self_member c plp i)) [
         | inl le ↦ le
@@ -71,7 +75,8 @@ alive law c g held events plp rules plps w i off =
     }
 
 -- of a group that is settled nothing is wanted
-alive_settled : InStep → (c : Config) (g : Gateway) (held : List (Option (List ℕ))) (events : List Event) (plp : ℕ) → AllRules c
+alive_settled : InStep → (c : Config) (g : Gateway) (held : List (Option (List ℕ))) (events : List Event) (plp : ℕ)
+    → AllRules c
     → plps_of g ≡ length c.plps → (w : Works c g held events) → IsInput c plp → has_ended plp events ≡ false
     → wants_of g (turn_of c plp) ≡ 0 → slots_by c plp (begun w.done * c.ticks) ≤ length (offered plp w.done)
 alive_settled law c g held events plp rules plps w i off none =
@@ -83,13 +88,16 @@ alive_settled law c g held events plp rules plps w i off none =
     (let s = a.slots in let k = a.count in omega (arith, n, s, k))
 
 ended_none : InStep → (c : Config) (g : Gateway) (held : List (Option (List ℕ))) (events : List Event) (plp : ℕ)
-    → plps_of g ≡ length c.plps → (w : Works c g held events) → IsInput c plp → has_ended plp events ≡ true → wants_of g plp ≡ 0
+    → plps_of g ≡ length c.plps → (w : Works c g held events) → IsInput c plp → has_ended plp events ≡ true
+    → wants_of g plp ≡ 0
 ended_none law c g held events plp plps w i on =
     let done : has_ended plp w.done ≡ true = w.splits.splits.closed_is plp i ∙ on in
     wants_is g c w.done plp w.stands (let lt = i.0 in omega (arith, lt, plps)) ∙ rw done refl
 
-pub none_wanted_at : InStep → (c : Config) (g : Gateway) (held : List (Option (List ℕ))) (events : List Event) (plp : ℕ) → AllRules c
-    → plps_of g ≡ length c.plps → Works c g held events → AreSettled c g (length c.plps) → plp < length c.plps → wants_of g plp ≡ 0
+pub none_wanted_at : InStep → (c : Config) (g : Gateway) (held : List (Option (List ℕ))) (events : List Event) (plp : ℕ)
+    → AllRules c
+    → plps_of g ≡ length c.plps → Works c g held events → AreSettled c g (length c.plps) → plp < length c.plps
+    → wants_of g plp ≡ 0
 none_wanted_at law c g held events plp rules plps w settled inside =
     let f = turn_first c plp inside in
     let first = settled (turn_of c plp) f.inside f.first in
@@ -104,7 +112,8 @@ none_wanted_at law c g held events plp rules plps w settled inside =
 
 -- ---- the first that is wanted
 
-settled_not : InStep → (c : Config) (g : Gateway) (held : List (Option (List ℕ))) (events : List Event) (plp : ℕ) → AllRules c
+settled_not : InStep → (c : Config) (g : Gateway) (held : List (Option (List ℕ))) (events : List Event) (plp : ℕ)
+    → AllRules c
     → plps_of g ≡ length c.plps → Works c g held events → wants_of g (turn_of c plp) ≡ 0 → ¬ (IsWanted c events plp)
 settled_not law c g held events plp rules plps w none wanted =
     let le = alive_settled law c g held events plp rules plps w wanted.input wanted.is_open none in
@@ -114,7 +123,8 @@ settled_not law c g held events plp rules plps w none wanted =
     let frames = ap (λ (n : ℕ). slots_by c plp (n * c.ticks)) w.splits.begun_is in
     omega (arith, le, least, less, frames)
 
-comes_first : InStep → (c : Config) (g : Gateway) (held : List (Option (List ℕ))) (events : List Event) (plp : ℕ) → AllRules c
+comes_first : InStep → (c : Config) (g : Gateway) (held : List (Option (List ℕ))) (events : List Event) (plp : ℕ)
+    → AllRules c
     → plps_of g ≡ length c.plps → Works c g held events → ComesOfTurn c g held plp → IsWantedFirst c events plp
 comes_first law c g held events plp rules plps w t =
     let s = w.splits.splits in
@@ -123,7 +133,8 @@ comes_first law c g held events plp rules plps w t =
     let at = turn_is c t.turn plp rules t.inside t.first n.comes.member in
     let frames : (k : ℕ) → slots_by c k (begun w.done * c.ticks) ≡ slots_by c k (begun events * c.ticks) =
     λ k. ap (λ (n : ℕ). slots_by c k (n * c.ticks)) w.splits.begun_is in
-    let want = some_wanted (has_ended plp w.done) (slots_by c plp (begun w.done * c.ticks)) (length (offered plp w.done)) (wants_of g plp)
+    let want = some_wanted (has_ended plp w.done) (slots_by c plp (begun w.done * c.ticks))
+    (length (offered plp w.done)) (wants_of g plp)
     (wants_is g c w.done plp w.stands (let lt = n.inside in omega (arith, lt, plps))) n.comes.some in
     let off : has_ended plp events ≡ false = sym (s.closed_is plp i) ∙ want.is_open in
     let count = none_held c _ held _ _ _ _ plp s i n.comes.none off in
@@ -139,7 +150,8 @@ comes_first law c g held events plp rules plps w t =
           elim earlier [
             | inl before ↦
                 let f = turn_first c other wanted.input.0 in
-                settled_not law c g held events other rules plps w (t.before (turn_of c other) (omega (arith, before, at)) f.first) wanted
+                settled_not law c g held events other rules plps w (t.before (turn_of c other)
+                (omega (arith, before, at)) f.first) wanted
             | inr same ↦
                 let here = ap (λ (k : ℕ). length (offered k w.done)) same.0 in
                 let ka = a.count in let kb = b.count in let least = b.least in
@@ -153,13 +165,15 @@ comes_first law c g held events plp rules plps w t =
                       elim (n.before other tie.1 member) [
                         | inl none ↦ omega (arith, none, wants, less, fr, equal, here, ka, kb, count)
                         | inr some ↦ some (s.held_is other wanted.input
-                            ∙ slice_get_past (offered other events) (length (offered other w.done)) (omega (arith, equal, here, ka, kb, count)))
+                            ∙ slice_get_past (offered other events) (length (offered other w.done))
+                            (omega (arith, equal, here, ka, kb, count)))
                       ]
                 ]
           ];
     }
 
-pub finds_wanted : InStep → (c : Config) (g : Gateway) (held : List (Option (List ℕ))) (events : List Event) (o : Option ℕ) → AllRules c
+pub finds_wanted : InStep → (c : Config) (g : Gateway) (held : List (Option (List ℕ))) (events : List Event)
+    (o : Option ℕ) → AllRules c
     → plps_of g ≡ length c.plps → Works c g held events → FindsFirst c g held o → FindsWanted c events o
 finds_wanted law c g held events None rules plps w settled = λ plp wanted.
     let f = turn_first c plp wanted.input.0 in
@@ -168,8 +182,10 @@ finds_wanted law c g held events (Some plp) rules plps w t = comes_first law c g
 
 -- whatever came
 pub none_wanted_by : InStep → (c : Config) (g : Gateway) (held : List (Option (List ℕ))) (plp : ℕ) → AllRules c
-    → plps_of g ≡ length c.plps → ∥ HasWorked c g held ∥₁ → AreSettled c g (length c.plps) → plp < length c.plps → wants_of g plp ≡ 0
+    → plps_of g ≡ length c.plps → ∥ HasWorked c g held ∥₁ → AreSettled c g (length c.plps) → plp < length c.plps
+    → wants_of g plp ≡ 0
 none_wanted_by law c g held plp rules plps worked settled inside =
     ⊎_elim (λ (some : 0 < wants_of g plp). absurd (not_there worked (λ (w : HasWorked c g held).
-    let none = none_wanted_at law c g held w.events plp rules plps w.works settled inside in omega (arith, some, none))))
+    let none = none_wanted_at law c g held w.events plp rules plps w.works settled inside in omega
+    (arith, some, none))))
     (λ (none : wants_of g plp ≤ 0). omega (arith, none)) (cases_lt 0 (wants_of g plp))

@@ -1,10 +1,9 @@
 -- A frame that is over, and what stays as one gives its packets.
-use Rattle.std.proofs.Common.{◌≡◌, ℕ, [], Bool, List, refl, ap}
-use Rattle.std.proofs.Math.Path.{fun_ext}
+use Rattle.std.proofs.Common.{◌≡◌, [], ap}
 use Rattle.plp_config.specs.declared.config.Config.{Config}
 use Rattle.frame_writer.specs.FramePackets.{l1_body}
 use Rattle.gateway_core.specs.BlocksLeft.{blocks_left}
-use Rattle.gateway_core.specs.Left.{Layout, Stays, left, early_of, layout_of, stays_of}
+use Rattle.gateway_core.specs.Left.{left}
 use Rattle.frame_writer.specs.FirstPacket.{from_step}
 use Rattle.gateway_core.specs.Lists.{own_in}
 use Rattle.gateway_core.specs.declared.frame.Frame.{Frame}

@@ -1,5 +1,6 @@
 -- A gateway after one event more.
-use Rattle.std.proofs.Common.{◌≡◌, ◌≢◌, ℕ, ◌+◌, ◌-◌, ◌%◌, ◌<◌, Bool, true, false, cond, List, [], ◌∷◌, ◌++◌, Option, Some, None}
+use Rattle.std.proofs.Common.{◌≡◌, ◌≢◌, ℕ, ◌+◌, ◌-◌, ◌%◌, ◌<◌, Bool, true, false, cond, List, [], ◌∷◌, ◌++◌, Option}
+use Rattle.std.proofs.Common.{Some, None}
 use Rattle.std.proofs.Common.{is_some, length, map, replicate, refl, ap, sym, subst, ◌∙◌, inl, inr, arith, append-nil}
 use Rattle.std.proofs.Common.{append_assoc}
 use Rattle.std.specs.Prelude.{slice_get, slice_index_or, slice_index, ◌==◌, ◌||◌, ◌↔◌}
@@ -21,10 +22,12 @@ use Rattle.t2mi_packet.specs.declared.packet.Body.{Body}
 use Rattle.gateway_core.specs.BlocksLeft.{blocks_left}
 use Rattle.gateway_core.specs.Lists.{bits_in}
 use Rattle.frame_writer.specs.Carried.{of_frame}
-use Rattle.gateway_core.specs.Events.{Event, Offered, Ended, Begun, Gave, Finished, offered, has_ended, begins, begun, gives}
+use Rattle.gateway_core.specs.Events.{Event, Offered, Ended, Begun, Gave, Finished, offered, has_ended, begins, begun}
+use Rattle.gateway_core.specs.Events.{gives}
 use Rattle.gateway_core.specs.Events.{given, finishes, finished}
 use Rattle.frame_writer.specs.Flowing.{Flows}
-use Rattle.gateway_core.specs.InputsStandFor.{HasFrame, AllFed, AllContinue, AllEnded, HaveEnded, AreSupplied, CountsStay}
+use Rattle.gateway_core.specs.InputsStandFor.{HasFrame, AllFed, AllContinue, AllEnded, HaveEnded, AreSupplied}
+use Rattle.gateway_core.specs.InputsStandFor.{CountsStay}
 use Rattle.gateway_core.specs.IsFed.{IsFed, wanted}
 use Rattle.gateway_core.specs.Left.{all_of, early_at}
 use Rattle.frame_writer.specs.FirstPacket.{from_step}
@@ -51,7 +54,8 @@ use Rattle.gateway_core.proofs.LeftLemmas.{bodies_more as more_left}
 use Rattle.terms.proofs.RangeLemmas.{range_more}
 
 -- what continues with an event continues without it
-pub cont_packet : (t : Told) (packet : List ℕ) (input : List (List ℕ)) → t.ended ≡ false → Continues (with_packet t packet) input
+pub cont_packet : (t : Told) (packet : List ℕ) (input : List (List ℕ)) → t.ended ≡ false
+    → Continues (with_packet t packet) input
     → Continues t input
 cont_packet t packet input off h = record {
   rest = packet ∷ h.rest;
@@ -62,7 +66,8 @@ cont_packet t packet input off h = record {
 pub cont_end : (t : Told) (input : List (List ℕ)) → Continues (at_end t) input → Continues t input
 cont_end t input h = record { rest = h.rest; front = h.front; whole = λ on. h.whole refl }
 
-pub other_offered : (j plp : ℕ) (events : List Event) (packet : List ℕ) → j ≢ plp → told j (events ++ Offered plp packet ∷ [])
+pub other_offered : (j plp : ℕ) (events : List Event) (packet : List ℕ) → j ≢ plp
+    → told j (events ++ Offered plp packet ∷ [])
     ≡ told j events
 other_offered j plp events packet differ =
     let no : (plp == j) ≡ false = ne_eqb plp j (λ e. differ (sym e)) in
@@ -73,7 +78,8 @@ other_ended j plp events differ =
     let no : (plp == j) ≡ false = ne_eqb plp j (λ e. differ (sym e)) in
     nothing_told j events (Ended plp) refl no refl
 
-pub back_offered : (c : Config) (events : List Event) (plp : ℕ) (packet : List ℕ) (all : ℕ → List (List ℕ)) → has_ended plp events
+pub back_offered : (c : Config) (events : List Event) (plp : ℕ) (packet : List ℕ) (all : ℕ → List (List ℕ))
+    → has_ended plp events
     ≡ false
     → AllContinue c (events ++ Offered plp packet ∷ []) all → AllContinue c events all
 back_offered c events plp packet all off h = λ j lt.
@@ -89,9 +95,11 @@ pub back_ended : (c : Config) (events : List Event) (plp : ℕ) (all : ℕ → L
     → AllContinue c (events ++ Ended plp ∷ []) all → AllContinue c events all
 back_ended c events plp all h = λ j lt.
     elim (cases_eq j plp) [
-      | inl same ↦ subst (λ (k : ℕ). Continues (told k (events ++ Ended plp ∷ [])) (all k) → Continues (told k events) (all k))
+      | inl same ↦ subst (λ (k : ℕ). Continues (told k (events ++ Ended plp ∷ [])) (all k)
+          → Continues (told k events) (all k))
           (sym same)
-          (λ w. cont_end (told plp events) (all plp) (subst (λ (t : Told). Continues t (all plp)) (told_ended plp events) w))
+          (λ w. cont_end (told plp events) (all plp) (subst (λ (t : Told). Continues t (all plp))
+          (told_ended plp events) w))
           (h j lt)
       | inr differ ↦ subst (λ (t : Told). Continues t (all j)) (other_ended j plp events differ) (h j lt)
     ]
@@ -111,7 +119,8 @@ or_one : (b : Bool) → (b || true) ≡ true
 or_one true = refl
 or_one false = refl
 
-pub finished_same : (events : List Event) (e : Event) → finishes e ≡ false → finished (events ++ e ∷ []) ≡ finished events
+pub finished_same : (events : List Event) (e : Event) → finishes e ≡ false
+    → finished (events ++ e ∷ []) ≡ finished events
 finished_same events e off = list_any-append finishes events (e ∷ []) ∙ rw off (or_none (finished events))
 
 pub finished_now : (events : List Event) → finished (events ++ Finished ∷ []) ≡ true
@@ -127,7 +136,8 @@ begun_same events e off = count_same (begun events) (begins e) (begun (events ++
 pub given_same : (events : List Event) (e : Event) → gives e ≡ false → given (events ++ e ∷ []) ≡ given events
 given_same events e off = count_same (given events) (gives e) (given (events ++ e ∷ [])) (given_with events e) off
 
-pub holds_with : (old new : List Input) (before after : ℕ → List (List Bool)) (s : Signalling) (frames : ℕ) (flow : Flow) (n : ℕ)
+pub holds_with : (old new : List Input) (before after : ℕ → List (List Bool)) (s : Signalling) (frames : ℕ)
+    (flow : Flow) (n : ℕ)
     (left : List Body) (c : Config) (events : List Event) (e : Event)
     → begins e ≡ false → gives e ≡ false → finishes e ≡ false → AllFed new after c (events ++ e ∷ [])
     → ((all : ℕ → List (List ℕ)) → AllContinue c (events ++ e ∷ []) all → AllContinue c events all)
@@ -145,7 +155,8 @@ holds_with old new before after s frames flow n left c events e b g f fed back h
 
 -- an input that wants packets has not ended
 open_input : (inputs : List Input) (early : ℕ → List (List Bool)) (plp : ℕ) (c : Config) (events : List Event)
-    → plp < length inputs → 0 < slice_index (map wanted inputs) plp → AllFed inputs early c events → has_ended plp events ≡ false
+    → plp < length inputs → 0 < slice_index (map wanted inputs) plp → AllFed inputs early c events
+    → has_ended plp events ≡ false
 open_input [] early plp c events lt some h = absurd (omega arith)
 open_input (x ∷ xs) early plp c events lt some h =
     let at : slice_index (map wanted (x ∷ xs)) plp ≡ wanted (slice_index_or (x ∷ xs) plp x) =
@@ -153,10 +164,12 @@ open_input (x ∷ xs) early plp c events lt some h =
     let here : 0 < wanted (slice_index_or (x ∷ xs) plp x) = omega (arith, some, at) in
     let w = wants _ (has_ended plp events) (length (offered plp events)) _ here (h plp x lt).total_is in w.still
 
-holds_offer : (old new : List Input) (before after : ℕ → List (List Bool)) (s : Signalling) (frames : ℕ) (flow : Flow) (n : ℕ)
+holds_offer : (old new : List Input) (before after : ℕ → List (List Bool)) (s : Signalling) (frames : ℕ)
+    (flow : Flow) (n : ℕ)
     (left : List Body) (c : Config) (events : List Event) (plp : ℕ) (packet : List ℕ)
     → plp < length old → 0 < slice_index (map wanted old) plp → AllFed new after c (events ++ Offered plp packet ∷ [])
-    → Holds old before s frames flow n left c events → Holds new after s frames flow n left c (events ++ Offered plp packet ∷ [])
+    → Holds old before s frames flow n left c events → Holds new after s frames flow n left c
+    (events ++ Offered plp packet ∷ [])
 holds_offer old new before after s frames flow n left c events plp packet lt some fed h =
     holds_with old new before after s frames flow n left c events (Offered plp packet) refl refl refl fed
     (λ all more. back_offered c events plp packet all (open_input old before plp c events lt some h.fed) more) h
@@ -165,11 +178,14 @@ holds_offer old new before after s frames flow n left c events plp packet lt som
 pub early_over : (inputs : List Input) (p : Config) (n : ℕ) (step : FrameStep) (plp : ℕ) (pool : State) (c : Config)
     (events : List Event) → step ≡ Over → AllFed inputs (early_at p n step plp pool) c events
     → AllFed inputs (bits_in pool) c events
-early_over inputs p n step plp pool c events e h = subst (λ (s : FrameStep). AllFed inputs (early_at p n s plp pool) c events) e h
+early_over inputs p n step plp pool c events e h = subst (λ (s : FrameStep). AllFed inputs (early_at p n s plp pool)
+    c events) e h
 
 -- They may get more: nothing is left of the frame yet.
-pub holds_over : (old new : List Input) (before : ℕ → List (List Bool)) (s : Signalling) (frames : ℕ) (flow : Flow) (p : Config)
-    (n : ℕ) (step : FrameStep) (place : ℕ) (signal : Body) (rest blocks : List Body) (pool : State) (c : Config) (events : List Event)
+pub holds_over : (old new : List Input) (before : ℕ → List (List Bool)) (s : Signalling) (frames : ℕ)
+    (flow : Flow) (p : Config)
+    (n : ℕ) (step : FrameStep) (place : ℕ) (signal : Body) (rest blocks : List Body) (pool : State) (c : Config)
+    (events : List Event)
     (plp : ℕ) (packet : List ℕ)
     → step ≡ Over → plp < length old → 0 < slice_index (map wanted old) plp
     → AllFed new (bits_in pool) c (events ++ Offered plp packet ∷ [])
@@ -178,11 +194,15 @@ pub holds_over : (old new : List Input) (before : ℕ → List (List Bool)) (s :
     (events ++ Offered plp packet ∷ [])
 holds_over old new before s frames flow p n step place signal rest blocks pool c events plp packet e lt some fed h =
     let stays : from_step p n step signal rest ≡ from_step p n step signal blocks =
-    ap (λ (s : FrameStep). from_step p n s signal rest) e ∙ sym (ap (λ (s : FrameStep). from_step p n s signal blocks) e) in
-    subst (λ (l : List Body). Holds new (early_at p n step place pool) s frames flow n l c (events ++ Offered plp packet ∷ []))
+    ap (λ (s : FrameStep). from_step p n s signal rest) e
+    ∙ sym (ap (λ (s : FrameStep). from_step p n s signal blocks) e) in
+    subst (λ (l : List Body). Holds new (early_at p n step place pool) s frames flow n l c
+    (events ++ Offered plp packet ∷ []))
     stays
-    (holds_offer old new before (early_at p n step place pool) s frames flow n (from_step p n step signal rest) c events plp
-    packet lt some (subst (λ (s : FrameStep). AllFed new (early_at p n s place pool) c (events ++ Offered plp packet ∷ [])) (sym e)
+    (holds_offer old new before (early_at p n step place pool) s frames flow n (from_step p n step signal rest)
+    c events plp
+    packet lt some (subst (λ (s : FrameStep). AllFed new (early_at p n s place pool) c
+    (events ++ Offered plp packet ∷ [])) (sym e)
     fed) h)
 
 pub has_frame : (p c : Config) (pool : State) → p ≡ c → pool.opened ≡ frame_chunks p → length pool.lists ≡ length p.plps
@@ -190,7 +210,8 @@ pub has_frame : (p c : Config) (pool : State) → p ≡ c → pool.opened ≡ fr
 has_frame p c pool e chunks lists =
     subst (λ (k : Config). HasFrame k pool) e (record { enough = omega (arith, chunks); lists = lists })
 
-pub holds_end : (old new : List Input) (early : ℕ → List (List Bool)) (s : Signalling) (frames : ℕ) (flow : Flow) (n : ℕ)
+pub holds_end : (old new : List Input) (early : ℕ → List (List Bool)) (s : Signalling) (frames : ℕ) (flow : Flow)
+    (n : ℕ)
     (left : List Body) (c : Config) (events : List Event) (plp : ℕ)
     → AllFed new early c (events ++ Ended plp ∷ []) → Holds old early s frames flow n left c events
     → Holds new early s frames flow n left c (events ++ Ended plp ∷ [])
@@ -212,16 +233,20 @@ fed_kept inputs before after c events kept h = λ j d lt. subst (IsFed (slice_in
     (sym (kept j)) (h j d lt)
 
 pub back_same : (c : Config) (events : List Event) (e : Event) (all : ℕ → List (List ℕ))
-    → ((j : ℕ) → told j (events ++ e ∷ []) ≡ told j events) → AllContinue c (events ++ e ∷ []) all → AllContinue c events all
+    → ((j : ℕ) → told j (events ++ e ∷ []) ≡ told j events) → AllContinue c (events ++ e ∷ []) all
+    → AllContinue c events all
 back_same c events e all same h = λ j lt. subst (λ (t : Told). Continues t (all j)) (same j) (h j lt)
 
-pub holds_gave : (inputs : List Input) (before after : ℕ → List (List Bool)) (s : Signalling) (frames : ℕ) (old new : Flow)
+pub holds_gave : (inputs : List Input) (before after : ℕ → List (List Bool)) (s : Signalling) (frames : ℕ)
+    (old new : Flow)
     (n m : ℕ) (left next : List Body) (c : Config) (events : List Event) → new.finished ≡ old.finished
-    → ((all : List (ℕ × Body)) (given : ℕ) → Flows old.outlet c n left all given → Flows new.outlet c m next all (given + 1))
+    → ((all : List (ℕ × Body)) (given : ℕ) → Flows old.outlet c n left all given
+    → Flows new.outlet c m next all (given + 1))
     → ((j : ℕ) → after j ≡ before j)
     → Holds inputs before s frames old n left c events → Holds inputs after s frames new m next c (events ++ Gave ∷ [])
 holds_gave inputs before after s frames old new n m left next c events fin step kept h =
-    let same : (j : ℕ) → told j (events ++ Gave ∷ []) ≡ told j events = λ j. nothing_told j events Gave refl refl refl in
+    let same : (j : ℕ) → told j (events ++ Gave ∷ []) ≡ told j events = λ j. nothing_told j events Gave
+    refl refl refl in
     record {
       fed = fed_same inputs before after c events Gave same kept h.fed;
       pre = h.pre;
@@ -233,12 +258,15 @@ holds_gave inputs before after s frames old new n m left next c events fin step 
           (step (bodies_before c all frames) (given events) (h.flows all (back_same c events Gave all same more)));
     }
 
-pub holds_finish : (inputs : List Input) (early : ℕ → List (List Bool)) (s : Signalling) (frames : ℕ) (old new : Flow) (n : ℕ)
+pub holds_finish : (inputs : List Input) (early : ℕ → List (List Bool)) (s : Signalling) (frames : ℕ)
+    (old new : Flow) (n : ℕ)
     (left : List Body) (c : Config) (events : List Event) → new.finished ≡ true
     → ((all : List (ℕ × Body)) (given : ℕ) → Flows old.outlet c n left all given → Flows new.outlet c n left all given)
-    → Holds inputs early s frames old n left c events → Holds inputs early s frames new n left c (events ++ Finished ∷ [])
+    → Holds inputs early s frames old n left c events → Holds inputs early s frames new n left c
+    (events ++ Finished ∷ [])
 holds_finish inputs early s frames old new n left c events fin step h =
-    let same : (j : ℕ) → told j (events ++ Finished ∷ []) ≡ told j events = λ j. nothing_told j events Finished refl refl refl in
+    let same : (j : ℕ) → told j (events ++ Finished ∷ []) ≡ told j events = λ j. nothing_told j events
+    Finished refl refl refl in
     record {
       fed = fed_same inputs early early c events Finished same (λ j. refl) h.fed;
       pre = h.pre;
@@ -251,7 +279,8 @@ holds_finish inputs early s frames old new n left c events fin step h =
     }
 
 -- the packets of a new frame
-step_is : (c : Config) (n : ℕ) (signal : Body) (rest : List Body) (b : Bool) → from_step c n (cond b Stamp Signal) signal rest
+step_is : (c : Config) (n : ℕ) (signal : Body) (rest : List Body) (b : Bool)
+    → from_step c n (cond b Stamp Signal) signal rest
     ≡ cond b (from_step c n Stamp signal rest) (signal ∷ rest)
 step_is c n signal rest true = refl
 step_is c n signal rest false = refl
@@ -283,16 +312,21 @@ bodies_more c all n =
     ∙ ap (λ (l : List (ℕ × Body)). bodies_before c all n ++ l)
     (append-nil (of_frame n (frame_bodies c n (told_counts c all n) (own_blocks c all n))))
 
-pub holds_begin : (old new : List Input) (before after : ℕ → List (List Bool)) (s : Signalling) (frames : ℕ) (flow next : Flow)
-    (n m : ℕ) (left begin rest : List Body) (counts : List ℕ) (blocks : ℕ → List (List Bool)) (c : Config) (events : List Event)
+pub holds_begin : (old new : List Input) (before after : ℕ → List (List Bool)) (s : Signalling) (frames : ℕ)
+    (flow next : Flow)
+    (n m : ℕ) (left begin rest : List Body) (counts : List ℕ) (blocks : ℕ → List (List Bool)) (c : Config)
+    (events : List Event)
     → left ≡ [] → next.finished ≡ flow.finished → AllFed new after c (events ++ Begun ∷ []) → 0 < length c.plps
     → ((all : ℕ → List (List ℕ)) → AllContinue c events all → counts ≡ told_counts c all frames)
     → ((all : ℕ → List (List ℕ)) → AllContinue c events all → (j : ℕ) → j < length c.plps
     → blocks j ≡ own_blocks c all frames j)
     → begin ≡ all_of c s frames counts blocks
-    → ((all : List (ℕ × Body)) (given : ℕ) → Flows flow.outlet c frames begin all given → Flows next.outlet c m rest all given)
-    → Holds old before s frames flow n left c events → Holds new after s (frames + 1) next m rest c (events ++ Begun ∷ [])
-holds_begin old new before after s frames flow next n m left begin rest counts blocks c events gone fin fed some told made is
+    → ((all : List (ℕ × Body)) (given : ℕ) → Flows flow.outlet c frames begin all given
+    → Flows next.outlet c m rest all given)
+    → Holds old before s frames flow n left c events → Holds new after s (frames + 1) next m rest c
+    (events ++ Begun ∷ [])
+holds_begin old new before after s frames flow next n m left begin rest counts blocks c events gone fin
+    fed some told made is
     step h = record {
       fed = fed;
       pre = h.pre;
@@ -306,15 +340,19 @@ holds_begin old new before after s frames flow next n m left begin rest counts b
           is ∙ new_bodies c s frames counts (told_counts c all frames) blocks (own_blocks c all frames) h.pre h.conf
           (told all cont) some (made all cont) in
           let longer : bodies_before c all frames ++ of_frame frames begin ≡ bodies_before c all (frames + 1) =
-          ap (λ (l : List Body). bodies_before c all frames ++ of_frame frames l) bodies ∙ sym (bodies_more c all frames) in
-          subst (λ (k : ℕ). Flows next.outlet c m rest (bodies_before c all (frames + 1)) k) (sym (given_same events Begun refl))
+          ap (λ (l : List Body). bodies_before c all frames ++ of_frame frames l) bodies
+          ∙ sym (bodies_more c all frames) in
+          subst (λ (k : ℕ). Flows next.outlet c m rest (bodies_before c all (frames + 1)) k)
+          (sym (given_same events Begun refl))
           (subst (λ (l : List (ℕ × Body)). Flows next.outlet c m rest l (given events)) longer
           (step _ (given events) (carries_more _ _ _ _ c n frames left begin (bodies_before c all frames)
           (given events) gone was)));
     }
 
-pub holds_unit : (p c : Config) (inputs : List Input) (early : ℕ → List (List Bool)) (s : Signalling) (frames : ℕ) (flow : Flow)
-    (n : ℕ) (left : List Body) (events : List Event) (all : ℕ → List (List ℕ)) (more : List (List ℕ)) (out : List ℕ) → p ≡ c
+pub holds_unit : (p c : Config) (inputs : List Input) (early : ℕ → List (List Bool)) (s : Signalling)
+    (frames : ℕ) (flow : Flow)
+    (n : ℕ) (left : List Body) (events : List Event) (all : ℕ → List (List ℕ)) (more : List (List ℕ)) (out : List ℕ)
+    → p ≡ c
     → ((bodies : List (ℕ × Body)) (given : ℕ) → Flows flow.outlet p n left bodies given → (more : List (List ℕ))
     → (flow.finished ≡ true → more ≡ []) → slice_get (pipe p.pid (packets_from p 0 bodies ++ more)) given ≡ Some out)
     → Holds inputs early s frames flow n left c events → AllContinue c events all → (finished events ≡ true → more ≡ [])
@@ -324,11 +362,13 @@ holds_unit p c inputs early s frames flow n left events all more out e unit h co
     let here = subst (λ (k : Config). (bodies : List (ℕ × Body)) (given : ℕ) → Flows flow.outlet k n left bodies given
     → (more : List (List ℕ)) → (flow.finished ≡ true → more ≡ [])
     → slice_get (pipe k.pid (packets_from k 0 bodies ++ more)) given ≡ Some out) e unit in
-    subst (λ (m : ℕ). slice_get (pipe c.pid (packets_from c 0 (bodies_before c all m) ++ more)) (given events) ≡ Some out)
+    subst (λ (m : ℕ). slice_get (pipe c.pid (packets_from c 0 (bodies_before c all m) ++ more)) (given events) ≡ Some
+    out)
     h.frames_are
     (here (bodies_before c all frames) (given events) (h.flows all cont) more (λ fin. none (sym h.last ∙ fin)))
 
-pub holds_none : (p c : Config) (inputs : List Input) (early : ℕ → List (List Bool)) (s : Signalling) (frames : ℕ) (flow : Flow)
+pub holds_none : (p c : Config) (inputs : List Input) (early : ℕ → List (List Bool)) (s : Signalling)
+    (frames : ℕ) (flow : Flow)
     (n : ℕ) (left : List Body) (events : List Event) (all : ℕ → List (List ℕ)) → p ≡ c
     → (flow.finished ≡ true → (bodies : List (ℕ × Body)) (given : ℕ) → Flows flow.outlet p n left bodies given
     → length (pipe p.pid (packets_from p 0 bodies)) ≡ given)
@@ -351,8 +391,10 @@ pub holds_complete : (p c : Config) (inputs : List Input) (early : ℕ → List 
 unfolding front_packets
 holds_complete p c inputs early s frames flow n left events all e complete h off cont =
     let here = subst (λ (k : Config). flow.finished ≡ false → (bodies : List (ℕ × Body)) (given : ℕ)
-    → Flows flow.outlet k n left bodies given → given < length (complete_units k.pid (packets_from k 0 bodies))) e complete in
-    subst (λ (m : ℕ). given events < length (complete_units c.pid (packets_from c 0 (bodies_before c all m)))) h.frames_are
+    → Flows flow.outlet k n left bodies given → given < length (complete_units k.pid (packets_from k 0 bodies)))
+    e complete in
+    subst (λ (m : ℕ). given events < length (complete_units c.pid (packets_from c 0 (bodies_before c all m))))
+    h.frames_are
     (here (h.last ∙ off) (bodies_before c all frames) (given events) (h.flows all cont))
 
 pub holds_caught_up : (p c : Config) (inputs : List Input) (early : ℕ → List (List Bool)) (s : Signalling) (frames : ℕ)
@@ -364,8 +406,10 @@ pub holds_caught_up : (p c : Config) (inputs : List Input) (early : ℕ → List
 unfolding front_packets
 holds_caught_up p c inputs early s frames flow n left events all e caught h off cont =
     let here = subst (λ (k : Config). flow.finished ≡ false → (bodies : List (ℕ × Body)) (given : ℕ)
-    → Flows flow.outlet k n left bodies given → given ≡ length (complete_units k.pid (packets_from k 0 bodies))) e caught in
-    subst (λ (m : ℕ). given events ≡ length (complete_units c.pid (packets_from c 0 (bodies_before c all m)))) h.frames_are
+    → Flows flow.outlet k n left bodies given → given ≡ length (complete_units k.pid (packets_from k 0 bodies)))
+    e caught in
+    subst (λ (m : ℕ). given events ≡ length (complete_units c.pid (packets_from c 0 (bodies_before c all m))))
+    h.frames_are
     (here (h.last ∙ off) (bodies_before c all frames) (given events) (h.flows all cont))
 
 -- an answer tells whether a number is below a count, if one is told and the number is the count if it is not
@@ -385,8 +429,10 @@ totals_ended [] early c events h ended plp lt = absurd (omega arith)
 totals_ended (x ∷ xs) early c events h ended plp lt = is_ended (has_ended plp events) (length (offered plp events)) _
     (h plp x lt).total_is (ended plp x lt)
 
-totals : (inputs : List Input) (early : ℕ → List (List Bool)) (c : Config) (events : List Event) → AllFed inputs early c events
-    → ((plp : ℕ) → plp < length inputs → has_ended plp events ≡ true) → HaveEnded inputs (λ plp. length (offered plp events))
+totals : (inputs : List Input) (early : ℕ → List (List Bool)) (c : Config) (events : List Event)
+    → AllFed inputs early c events
+    → ((plp : ℕ) → plp < length inputs → has_ended plp events ≡ true)
+    → HaveEnded inputs (λ plp. length (offered plp events))
 totals inputs early c events h ended = λ j d lt.
     (h j d lt).total_is ∙ ap (λ (b : Bool). cond {A = Option ℕ} b (Some (length (offered j events))) None) (ended j lt)
 
@@ -395,13 +441,16 @@ pub last_none : (inputs : List Input) (early : ℕ → List (List Bool)) (c : Co
 last_none inputs early c events len h off = λ last.
     off (λ j d lt. ap is_some (totals inputs early c events h (λ plp inside. last.ended plp (omega arith)) j d lt))
 
-pub last_some : (inputs : List Input) (early : ℕ → List (List Bool)) (c : Config) (events : List Event) (frames count : ℕ)
+pub last_some : (inputs : List Input) (early : ℕ → List (List Bool)) (c : Config) (events : List Event)
+    (frames count : ℕ)
     → length inputs ≡ length c.plps → AllFed inputs early c events → frames ≡ begun events → AllEnded inputs
-    → ((packets : ℕ → ℕ) → HaveEnded inputs packets → count ≡ frame_count c packets) → (count ≡ frames → IsLast c events)
+    → ((packets : ℕ → ℕ) → HaveEnded inputs packets → count ≡ frame_count c packets)
+    → (count ≡ frames → IsLast c events)
     × (IsLast c events → count ≡ frames)
 last_some inputs early c events frames count len h e ended is =
     let all = totals_ended inputs early c events h ended in
-    let counted : count ≡ frame_count c (λ plp. length (offered plp events)) = is _ (totals inputs early c events h all) in (
+    let counted : count ≡ frame_count c (λ plp. length (offered plp events)) = is _
+    (totals inputs early c events h all) in (
       λ same. record { ended = λ plp lt. all plp (omega arith); frames = sym e ∙ sym same ∙ counted },
       λ last. counted
           ∙ sym last.frames ∙ sym e,
@@ -469,7 +518,8 @@ fit_zeros c counts e = record {
 
 -- ---- what the inputs stand for, whatever it is, from call to call
 
-pub supplied_over : (c : Config) (frame n : ℕ) (inputs same : List Input) (step : FrameStep) (place : ℕ) (pool : State) → same ≡ inputs
+pub supplied_over : (c : Config) (frame n : ℕ) (inputs same : List Input) (step : FrameStep) (place : ℕ) (pool : State)
+    → same ≡ inputs
     → step ≡ Over → AreSupplied c frame inputs (early_at c n step place pool) → AreSupplied c frame same (bits_in pool)
 supplied_over c frame n inputs same step place pool e over s = record {
   events = s.events;
@@ -478,14 +528,17 @@ supplied_over c frame n inputs same step place pool e over s = record {
       (early_over inputs c n step place pool c s.events over s.fed);
 }
 
-pub supplied_offered : (c : Config) (frame n plp : ℕ) (packet : List ℕ) (old new : List Input) (step : FrameStep) (place : ℕ)
+pub supplied_offered : (c : Config) (frame n plp : ℕ) (packet : List ℕ) (old new : List Input) (step : FrameStep)
+    (place : ℕ)
     (was is : State) → step ≡ Over
-    → ((events : List Event) → AllFed old (bits_in was) c events → AllFed new (bits_in is) c (events ++ Offered plp packet ∷ []))
+    → ((events : List Event) → AllFed old (bits_in was) c events
+    → AllFed new (bits_in is) c (events ++ Offered plp packet ∷ []))
     → AreSupplied c frame old (early_at c n step place was) → AreSupplied c frame new (early_at c n step place is)
 supplied_offered c frame n plp packet old new step place was is over fed s = record {
   events = s.events ++ Offered plp packet ∷ [];
   frame_is = s.frame_is ∙ sym (ap (λ (t : Told). t.frame) (told_offered plp s.events packet));
-  fed = subst (λ (p : FrameStep). AllFed new (early_at c n p place is) c (s.events ++ Offered plp packet ∷ [])) (sym over)
+  fed = subst (λ (p : FrameStep). AllFed new (early_at c n p place is) c (s.events ++ Offered plp packet ∷ []))
+      (sym over)
       (fed s.events (early_over old c n step place was c s.events over s.fed));
 }
 
@@ -499,7 +552,8 @@ supplied_ended c frame plp old new early fed s = record {
 }
 
 pub supplied_begun : (c : Config) (frame : ℕ) (old new : List Input) (early late : ℕ → List (List Bool))
-    → ((events : List Event) → frame ≡ begun events → AllFed old early c events → AllFed new late c (events ++ Begun ∷ []))
+    → ((events : List Event) → frame ≡ begun events → AllFed old early c events
+    → AllFed new late c (events ++ Begun ∷ []))
     → AreSupplied c frame old early → AreSupplied c (frame + 1) new late
 supplied_begun c frame old new early late fed s = record {
   events = s.events ++ Begun ∷ [];

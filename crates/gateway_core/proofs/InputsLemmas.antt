@@ -1,11 +1,13 @@
 -- One of the inputs changes, and the others stay.
-use Rattle.std.proofs.Common.{◌≡◌, ◌≢◌, ℕ, ◌+◌, ◌*◌, ◌<◌, ◌≤◌, Bool, true, false, cond, List, [], ◌∷◌, ◌++◌, length, map, refl}
+use Rattle.std.proofs.Common.{◌≡◌, ◌≢◌, ℕ, ◌+◌, ◌*◌, ◌<◌, ◌≤◌, Bool, true, false, cond, List, [], ◌∷◌, ◌++◌, length}
+use Rattle.std.proofs.Common.{map, refl}
 use Rattle.std.proofs.Common.{ap, sym, subst, ◌∙◌, inl, inr, arith, append-nil, eq-eqb}
 use Rattle.std.specs.Prelude.{slice_index_or, slice_index, slice_set, ◌==◌, ◌||◌}
 use Rattle.std.proofs.Math.Bool.{or-true}
 use Rattle.std.proofs.lemmas.Bool.{cases_eq, cases_lt, cases_Bool, ne_eqb}
 use Rattle.std.proofs.lemmas.Grind.{flat_map-append, same_number_lists, not_there}
-use Rattle.std.proofs.lemmas.List.{length-map, map-set, length-set, get_or-set_same, get_or-set_other, get_or-map, get_or_default}
+use Rattle.std.proofs.lemmas.List.{length-map, map-set, length-set, get_or-set_same, get_or-set_other, get_or-map}
+use Rattle.std.proofs.lemmas.List.{get_or_default}
 use Rattle.std.proofs.lemmas.List.{get_or_append_left, get_or_push}
 use Rattle.std.proofs.lemmas.List.Folds.{list_any-append}
 use Rattle.std.proofs.lemmas.List.FromFn.{length-map-range_with_len, get_or-map-range_with_len}
@@ -26,7 +28,8 @@ use Rattle.mode_adapt.specs.Place.{HasPlace}
 use Rattle.mode_adapt.specs.Deletion.{packet_at}
 use Rattle.gateway_core.specs.Events.{Event, Offered, Ended, Begun, packets_to, offered, ends, has_ended, begins, begun}
 use Rattle.gateway_core.specs.IsFed.{IsFed, IsSupplied, wanted, most}
-use Rattle.gateway_core.specs.InputsStandFor.{AllFed, AreFor, AllContinue, AreBlocks, HasCut, CutsOne, CutUntil, HasFrame}
+use Rattle.gateway_core.specs.InputsStandFor.{AllFed, AreFor, AllContinue, AreBlocks, HasCut, CutsOne, CutUntil}
+use Rattle.gateway_core.specs.InputsStandFor.{HasFrame}
 use Rattle.gateway_core.specs.InputsStandFor.{SameMost, AreSupplied, GoesOn, CountsStay}
 use Rattle.gateway_core.specs.Lists.{bits_in, own_in, later_in}
 use Rattle.gateway_core.specs.InputSoFar.{Told, told, with_packet, at_end, in_next, Continues}
@@ -88,10 +91,12 @@ differs : (a b : ℕ) → a ≢ b → (a == b) ≡ false
 differs a b ne = ne_eqb a b ne
 
 -- one input has one event more, and perhaps put a block; d is any default
-one_fed : (items : List Input) (s : ℕ) (d new : Input) (early late : ℕ → List (List Bool)) (c : Config) (events : List Event)
+one_fed : (items : List Input) (s : ℕ) (d new : Input) (early late : ℕ → List (List Bool)) (c : Config)
+    (events : List Event)
     (e : Event) → s < length items
     → ((j : ℕ) → j ≢ s → told j (events ++ e ∷ []) ≡ told j events) → ((j : ℕ) → j ≢ s → late j ≡ early j)
-    → (IsFed (slice_index_or items s d) c s (told s events) (early s) → IsFed new c s (told s (events ++ e ∷ [])) (late s))
+    → (IsFed (slice_index_or items s d) c s (told s events) (early s)
+    → IsFed new c s (told s (events ++ e ∷ [])) (late s))
     → AllFed items early c events → AllFed (slice_set items s new) late c (events ++ e ∷ [])
 one_fed items s d new early late c events e lt others stays more h = λ j f inside.
     elim (cases_eq j s) [
@@ -106,12 +111,14 @@ one_fed items s d new early late c events e lt others stays more h = λ j f insi
           let within : j < length items = simp (length-set) at inside in
           subst (λ (i : Input). IsFed i c j (told j (events ++ e ∷ [])) (late j)) (sym at)
           (subst (λ (t : Told). IsFed (slice_index_or items j f) c j t (late j)) (sym (others j differ))
-          (subst (λ (l : List (List Bool)). IsFed (slice_index_or items j f) c j (told j events) l) (sym (stays j differ))
+          (subst (λ (l : List (List Bool)). IsFed (slice_index_or items j f) c j (told j events) l)
+          (sym (stays j differ))
           (h j f within)))
     ]
 
 -- what an input put holds no more than a frame
-pub list_fits : EarlyFits → (i : Input) (c : Config) (plp : ℕ) (t : Told) (pool : State) → IsFed i c plp t (bits_in pool plp)
+pub list_fits : EarlyFits → (i : Input) (c : Config) (plp : ℕ) (t : Told) (pool : State)
+    → IsFed i c plp t (bits_in pool plp)
     → ListFits c plp (list_at pool plp)
 list_fits fits i c plp t pool h = fits c plp h.events (list_at pool plp) h.early_is
 
@@ -128,9 +135,11 @@ has_place fits items d pool s c events whole frame h =
           (h other d (omega (arith, whole, lt)));
     }
 
-pub fed_offered : EarlyFits → (items : List Input) (s : ℕ) (d new : Input) (packet : List ℕ) (was is : State) (c : Config)
+pub fed_offered : EarlyFits → (items : List Input) (s : ℕ) (d new : Input) (packet : List ℕ) (was is : State)
+    (c : Config)
     (events : List Event) → s < length items
-    → ((c : Config) (plp : ℕ) (t : Told) → HasPlace c plp was s → IsFed (slice_index_or items s d) c plp t (bits_in was s)
+    → ((c : Config) (plp : ℕ) (t : Told) → HasPlace c plp was s → IsFed (slice_index_or items s d) c
+    plp t (bits_in was s)
     → IsFed new c plp (with_packet t packet) (bits_in is s)) → Others was is s
     → length items ≡ length c.plps → HasFrame c was → AllFed items (bits_in was) c events
     → AllFed (slice_set items s new) (bits_in is) c (events ++ Offered s packet ∷ [])
@@ -141,7 +150,8 @@ fed_offered fits items s d new packet was is c events lt more o whole frame h =
     (λ old. subst (λ (t : Told). IsFed new c s t (bits_in is s)) (sym (told_offered s events packet))
     (more c s (told s events) (has_place fits items d was s c events whole frame h) old)) h
 
-pub fed_ended : (items : List Input) (s : ℕ) (d new : Input) (early : ℕ → List (List Bool)) (c : Config) (events : List Event)
+pub fed_ended : (items : List Input) (s : ℕ) (d new : Input) (early : ℕ → List (List Bool)) (c : Config)
+    (events : List Event)
     → s < length items
     → ((c : Config) (plp : ℕ) (t : Told) (early : List (List Bool)) → IsFed (slice_index_or items s d) c plp t early
     → IsFed new c plp (at_end t) early)
@@ -150,16 +160,19 @@ fed_ended items s d new early c events lt more h =
     one_fed items s d new early early c events (Ended s) lt
     (λ j differ. nothing_told j events (Ended s) refl (rw (differs s j (λ e. differ (sym e))) refl) refl)
     (λ j differ. refl)
-    (λ old. subst (λ (t : Told). IsFed new c s t (early s)) (sym (told_ended s events)) (more c s (told s events) (early s) old))
+    (λ old. subst (λ (t : Told). IsFed new c s t (early s)) (sym (told_ended s events))
+    (more c s (told s events) (early s) old))
     h
 
-pub same_most : (items : List Input) (s : ℕ) (d new : Input) → s < length items → most new ≡ most (slice_index_or items s d)
+pub same_most : (items : List Input) (s : ℕ) (d new : Input) → s < length items
+    → most new ≡ most (slice_index_or items s d)
     → SameMost items (slice_set items s new)
 same_most items s d new lt e = λ j f.
     elim (cases_eq j s) [
       | inl same ↦
           let at : slice_index_or (slice_set items s new) s f ≡ new = get_or-set_same items s new f lt in
-          subst (λ (k : ℕ). most (slice_index_or (slice_set items s new) k f) ≡ most (slice_index_or items k f)) (sym same)
+          subst (λ (k : ℕ). most (slice_index_or (slice_set items s new) k f) ≡ most (slice_index_or items k f))
+          (sym same)
           (ap most at ∙ e ∙ ap most (get_or_default items s d f lt))
       | inr differ ↦ ap most (get_or-set_other items s j new f differ)
     ]
@@ -183,7 +196,8 @@ same_wanted (x ∷ xs) old j len lt h =
 abbrev pub Below : {X : Type 0} → (ℕ → X → Type 0) → List X → ℕ → Type 0
 Below {X = X} P items n = (j : ℕ) (d : X) → j < n → P j (slice_index_or items j d)
 
-pub pushed : {X : Type 0} (P : ℕ → X → Type 0) (items : List X) (n : ℕ) (y : X) → length items ≡ n → Below P items n → P n y
+pub pushed : {X : Type 0} (P : ℕ → X → Type 0) (items : List X) (n : ℕ) (y : X) → length items ≡ n → Below P items n
+    → P n y
     → Below P (items ++ y ∷ []) (n + 1)
 pushed {X} P items n y len h here = λ j d lt.
     elim (cases_lt j n) [
@@ -193,10 +207,12 @@ pushed {X} P items n y len h here = λ j d lt.
       | inr from ↦
           let same : j ≡ n = omega arith in
           let at : slice_index_or (items ++ y ∷ []) n d ≡ y = get_or_push items y d n len in
-          subst (λ (k : ℕ). P k (slice_index_or (items ++ y ∷ []) k d)) (sym same) (subst (λ (x : X). P n x) (sym at) here)
+          subst (λ (k : ℕ). P k (slice_index_or (items ++ y ∷ []) k d)) (sym same)
+          (subst (λ (x : X). P n x) (sym at) here)
     ]
 
-goes_cut : (i : Input) (c : Config) (plp : ℕ) (t : Told) (pool : State) (before count : ℕ) → is_first c plp t.frame ≡ true
+goes_cut : (i : Input) (c : Config) (plp : ℕ) (t : Told) (pool : State) (before count : ℕ)
+    → is_first c plp t.frame ≡ true
     → HasCut i c plp t pool count → GoesOn i c plp t pool before count
 goes_cut i c plp t pool before count on h = record {
   cut = λ _. h;
@@ -205,8 +221,10 @@ goes_cut i c plp t pool before count on h = record {
 }
 
 -- An input that ends an interleaving frame goes on behind the frame.
-pub cuts_one : (items : List Input) (s : ℕ) (d new : Input) (c : Config) (frame due : ℕ) (was is : State) (before count : ℕ)
-    → s < length items → IsPlan c → s < length c.plps → is_first c s frame ≡ true → due ≡ slots_by c s ((frame + 1) * c.ticks)
+pub cuts_one : (items : List Input) (s : ℕ) (d new : Input) (c : Config) (frame due : ℕ) (was is : State)
+    (before count : ℕ)
+    → s < length items → IsPlan c → s < length c.plps → is_first c s frame ≡ true
+    → due ≡ slots_by c s ((frame + 1) * c.ticks)
     → ((c : Config) (plp : ℕ) (t : Told) → IsPlan c → plp < length c.plps → HasPlace c plp was s
     → is_first c plp t.frame ≡ true → due ≡ slots_by c plp ((t.frame + 1) * c.ticks)
     → IsFed (slice_index_or items s d) c plp t (bits_in was s) → HasCut new c plp t is count)
@@ -245,7 +263,8 @@ no_more : (t : Told) → Continues t t.packets
 no_more t = record { rest = []; front = sym (append-nil t.packets); whole = λ on. refl }
 
 -- Its list holds no more than an interleaving frame,
-goes_fits : EarlyFits → BlocksFit → (i : Input) (c : Config) (plp : ℕ) (t : Told) (pool : State) (before count : ℕ) → IsPlan c
+goes_fits : EarlyFits → BlocksFit → (i : Input) (c : Config) (plp : ℕ) (t : Told) (pool : State) (before count : ℕ)
+    → IsPlan c
     → plp < length c.plps → GoesOn i c plp t pool before count → ListFits c plp (list_at pool plp)
 goes_fits early late i c plp t pool before count plan lt h =
     elim (cases_Bool (is_first c plp t.frame)) [
@@ -255,7 +274,8 @@ goes_fits early late i c plp t pool before count plan lt h =
     ]
 
 -- the blocks that are not sent are what it put for later,
-goes_fed : (i : Input) (c : Config) (plp : ℕ) (t : Told) (pool : State) (before count : ℕ) → GoesOn i c plp t pool before count
+goes_fed : (i : Input) (c : Config) (plp : ℕ) (t : Told) (pool : State) (before count : ℕ)
+    → GoesOn i c plp t pool before count
     → IsFed i c plp (in_next t) (later_in c t.frame pool plp)
 goes_fed i c plp t pool before count h =
     elim (cases_Bool (is_first c plp t.frame)) [
@@ -264,8 +284,10 @@ goes_fed i c plp t pool before count h =
     ]
 
 -- those that are sent are those of its interleaving frame,
-goes_blocks : (i : Input) (c : Config) (plp : ℕ) (t : Told) (pool : State) (before count : ℕ) (inputs : ℕ → List (List ℕ))
-    → GoesOn i c plp t pool before count → Continues t (inputs plp) → own_in c t.frame pool plp ≡ own_blocks c inputs t.frame plp
+goes_blocks : (i : Input) (c : Config) (plp : ℕ) (t : Told) (pool : State) (before count : ℕ) (inputs : ℕ
+    → List (List ℕ))
+    → GoesOn i c plp t pool before count → Continues t (inputs plp)
+    → own_in c t.frame pool plp ≡ own_blocks c inputs t.frame plp
 goes_blocks i c plp t pool before count inputs h more =
     elim (cases_Bool (is_first c plp t.frame)) [
       | inl on ↦ rw on ((h.cut on).blocks (inputs plp) more)
@@ -273,9 +295,11 @@ goes_blocks i c plp t pool before count inputs h more =
     ]
 
 -- and so many it has.
-goes_count : (i : Input) (c : Config) (plp : ℕ) (t : Told) (pool : State) (before count : ℕ) (inputs : ℕ → List (List ℕ))
+goes_count : (i : Input) (c : Config) (plp : ℕ) (t : Told) (pool : State) (before count : ℕ) (inputs : ℕ
+    → List (List ℕ))
     → GoesOn i c plp t pool before count → Continues t (inputs plp)
-    → (is_first c plp t.frame ≡ false → before ≡ told_count c inputs t.frame plp) → count ≡ told_count c inputs t.frame plp
+    → (is_first c plp t.frame ≡ false → before ≡ told_count c inputs t.frame plp)
+    → count ≡ told_count c inputs t.frame plp
 goes_count i c plp t pool before count inputs h more stays =
     elim (cases_Bool (is_first c plp t.frame)) [
       | inl on ↦ (h.cut on).count_is ∙ sym (length-map (list_at pool plp) bits_of)
@@ -285,11 +309,13 @@ goes_count i c plp t pool before count inputs h more stays =
 
 -- ---- one behind the other
 
--- The input at a place has place in the pool: the lists below have the blocks of the frame or those for later, and those above
--- have what was put before.
-place_next : EarlyFits → BlocksFit → (c : Config) (frame : ℕ) (old new : List Input) (was is : State) (before counts : List ℕ)
+-- The input at a place has place in the pool: the lists below have the blocks of the frame or those for later, and
+-- those above have what was put before.
+place_next : EarlyFits → BlocksFit → (c : Config) (frame : ℕ) (old new : List Input) (was is : State)
+    (before counts : List ℕ)
     (n : ℕ) (events : List Event) (d : Input) → IsPlan c → length old ≡ length c.plps
-    → CutUntil c frame old new was is before counts n → frame ≡ begun events → HasFrame c was → AllFed old (bits_in was) c events
+    → CutUntil c frame old new was is before counts n → frame ≡ begun events → HasFrame c was
+    → AllFed old (bits_in was) c events
     → HasPlace c n is n
 place_next early late c frame old new was is before counts n events d plan whole h e has all =
     record {
@@ -361,7 +387,8 @@ cut_step early late c frame old new newer was is next before counts n count plan
       ];
       on = λ events e has all j d lt. elim (cases_lt j n) [
         | inl below ↦
-            let k = goes_stays (slice_index_or new j d) c j (told j events) is next (slice_index before j) (slice_index counts j)
+            let k = goes_stays (slice_index_or new j d) c j (told j events) is next (slice_index before j)
+            (slice_index counts j)
             (one.lists.lists j (omega arith)) (h.on events e has all j d below) in
             rw (one.others j d (omega arith), other j (omega arith)) k
         | inr from ↦
@@ -400,30 +427,37 @@ cut_fed c frame old new was is before counts n events h all len e has fed = λ j
     (subst (λ (m : ℕ). IsFed (slice_index_or new j d) c j (in_next (told j events)) (later_in c m is j)) (sym e) on)
 
 pub cut_blocks : (c : Config) (frame : ℕ) (old new : List Input) (was is : State) (before counts : List ℕ) (n : ℕ)
-    (events : List Event) (inputs : ℕ → List (List ℕ)) → CutUntil c frame old new was is before counts n → n ≡ length old
+    (events : List Event) (inputs : ℕ → List (List ℕ)) → CutUntil c frame old new was is before counts n
+    → n ≡ length old
     → length old ≡ length c.plps → frame ≡ begun events → HasFrame c was → AllFed old (bits_in was) c events
     → AllContinue c events inputs → AreBlocks is c frame inputs
 cut_blocks c frame [] new was is before counts n events inputs h all whole e has fed more = λ j lt. absurd (omega arith)
 cut_blocks c frame (x ∷ xs) new was is before counts n events inputs h all whole e has fed more = λ j lt.
-    let on = goes_blocks (slice_index_or new j x) c j (told j events) is (slice_index before j) (slice_index counts j) inputs
+    let on = goes_blocks (slice_index_or new j x) c j (told j events) is (slice_index before j) (slice_index counts j)
+    inputs
     (h.on events e has fed j x (omega arith)) (more j lt) in
     subst (λ (m : ℕ). own_in c m is j ≡ own_blocks c inputs m j) (sym e) on
 
 count_at : (c : Config) (frame : ℕ) (old new : List Input) (was is : State) (before counts : List ℕ) (n : ℕ)
-    (events : List Event) (inputs : ℕ → List (List ℕ)) (j : ℕ) → CutUntil c frame old new was is before counts n → n ≡ length old
-    → length old ≡ length c.plps → j < length old → frame ≡ begun events → HasFrame c was → AllFed old (bits_in was) c events
-    → CountsStay c events frame before → AllContinue c events inputs → slice_index counts j ≡ told_count c inputs frame j
+    (events : List Event) (inputs : ℕ → List (List ℕ)) (j : ℕ) → CutUntil c frame old new was is before counts n
+    → n ≡ length old
+    → length old ≡ length c.plps → j < length old → frame ≡ begun events → HasFrame c was
+    → AllFed old (bits_in was) c events
+    → CountsStay c events frame before → AllContinue c events inputs
+    → slice_index counts j ≡ told_count c inputs frame j
 count_at c frame [] new was is before counts n events inputs j h all whole lt e has fed stay more = absurd (omega arith)
 count_at c frame (x ∷ xs) new was is before counts n events inputs j h all whole lt e has fed stay more =
     let configured : j < length c.plps = omega (arith, whole, lt) in
-    let on = goes_count (slice_index_or new j x) c j (told j events) is (slice_index before j) (slice_index counts j) inputs
+    let on = goes_count (slice_index_or new j x) c j (told j events) is (slice_index before j) (slice_index counts j)
+    inputs
     (h.on events e has fed j x (omega arith)) (more j configured)
     (subst (λ (m : ℕ). is_first c j m ≡ false → slice_index before j ≡ told_count c inputs m j) e
     (stay inputs more j configured)) in
     subst (λ (m : ℕ). slice_index counts j ≡ told_count c inputs m j) (sym e) on
 
 pub cut_counts : (c : Config) (frame : ℕ) (old new : List Input) (was is : State) (before counts : List ℕ) (n : ℕ)
-    (events : List Event) (inputs : ℕ → List (List ℕ)) → CutUntil c frame old new was is before counts n → n ≡ length old
+    (events : List Event) (inputs : ℕ → List (List ℕ)) → CutUntil c frame old new was is before counts n
+    → n ≡ length old
     → length old ≡ length c.plps → length counts ≡ length c.plps → frame ≡ begun events → HasFrame c was
     → AllFed old (bits_in was) c events → CountsStay c events frame before → AllContinue c events inputs
     → counts ≡ told_counts c inputs frame
@@ -431,9 +465,11 @@ cut_counts c frame old new was is before counts n events inputs h all whole len 
     let told : length (told_counts c inputs frame) ≡ length c.plps =
     length-map-range_with_len (told_count c inputs frame) 0 (length c.plps) in
     same_number_lists counts (told_counts c inputs frame) (len ∙ sym told)
-    (λ j lt. count_at c frame old new was is before counts n events inputs j h all whole (omega (arith, lt, len, whole)) e has fed
+    (λ j lt. count_at c frame old new was is before counts n events inputs j h all whole (omega (arith, lt, len, whole))
+    e has fed
     stay more
-    ∙ sym (get_or-map-range_with_len (told_count c inputs frame) 0 (length c.plps) j j 0 (omega (arith, lt, len)) (omega arith)))
+    ∙ sym (get_or-map-range_with_len (told_count c inputs frame) 0 (length c.plps) j j 0 (omega (arith, lt, len))
+    (omega arith)))
 
 -- In the next frame they are the same for each PLP of which no interleaving frame begins in it.
 pub counts_stay : SpreadDividesFrames → (c : Config) (frame : ℕ) (counts : List ℕ) (events : List Event) → IsPlan c
@@ -476,7 +512,8 @@ cut_within early late c frame [] new was is before counts n plp plan h all whole
 cut_within early late c frame (x ∷ xs) new was is before counts n plp plan h all whole has lt supplied =
     elim (cases_lt (plp_at c.plps plp).blocks (length (list_at is plp))) [
       | inl more ↦ absurd (not_there supplied (λ (s : AreSupplied c frame (x ∷ xs) (bits_in was)).
-          let fits = goes_fits early late (slice_index_or new plp x) c plp (told plp s.events) is (slice_index before plp)
+          let fits = goes_fits early late (slice_index_or new plp x) c plp (told plp s.events) is
+          (slice_index before plp)
           (slice_index counts plp) plan lt (h.on s.events s.frame_is has s.fed plp x (omega arith)) in
           let few = fits.few in
           omega (arith, more, few)))
@@ -484,18 +521,22 @@ cut_within early late c frame (x ∷ xs) new was is before counts n plp plan h a
     ]
 
 -- what the others want stays
-pub others_want : (items : List Input) (s : ℕ) (new : Input) (j : ℕ) → j ≢ s → slice_index (map wanted (slice_set items s new)) j
+pub others_want : (items : List Input) (s : ℕ) (new : Input) (j : ℕ) → j ≢ s
+    → slice_index (map wanted (slice_set items s new)) j
     ≡ slice_index (map wanted items) j
 others_want items s new j differ = ap (λ (l : List ℕ). slice_index l j) (map-set wanted items s new)
     ∙ get_or-set_other (map wanted items) s j (wanted new) 0 differ
 
-pub one_wants : (items : List Input) (s : ℕ) (new : Input) → s < length items → slice_index (map wanted (slice_set items s new)) s
+pub one_wants : (items : List Input) (s : ℕ) (new : Input) → s < length items
+    → slice_index (map wanted (slice_set items s new)) s
     ≡ wanted new
 one_wants items s new lt =
     let inside : s < length (map wanted items) = rw (length-map items wanted) lt in
-    ap (λ (l : List ℕ). slice_index l s) (map-set wanted items s new) ∙ get_or-set_same (map wanted items) s (wanted new) 0 inside
+    ap (λ (l : List ℕ). slice_index l s) (map-set wanted items s new) ∙ get_or-set_same (map wanted items)
+    s (wanted new) 0 inside
 
 pub one_fewer : (items : List Input) (s : ℕ) (d new : Input) → s < length items
     → wanted new + 1 ≡ wanted (slice_index_or items s d)
     → slice_index (map wanted (slice_set items s new)) s + 1 ≡ slice_index (map wanted items) s
-one_fewer items s d new lt h = ap (λ (n : ℕ). n + 1) (one_wants items s new lt) ∙ h ∙ sym (get_or-map wanted items s d 0 lt)
+one_fewer items s d new lt h = ap (λ (n : ℕ). n + 1) (one_wants items s new lt) ∙ h
+    ∙ sym (get_or-map wanted items s d 0 lt)

@@ -1,5 +1,6 @@
 -- How many frames a run has, and what decides their packets.
-use Rattle.std.proofs.Common.{◌≡◌, ℕ, zero, suc, ◌+◌, ◌-◌, ◌*◌, ◌%◌, ◌<◌, ◌≤◌, Bool, true, List, [], ◌∷◌, ◌++◌, length, max}
+use Rattle.std.proofs.Common.{◌≡◌, ℕ, zero, suc, ◌+◌, ◌-◌, ◌*◌, ◌%◌, ◌<◌, ◌≤◌, Bool, true, List, [], ◌∷◌, ◌++◌, length}
+use Rattle.std.proofs.Common.{max}
 use Rattle.std.proofs.Common.{cond, refl, ap, sym, subst, ◌∙◌, inl, inr, arith, append-nil, append_assoc, add-one}
 use Rattle.std.specs.Int.{div_ceil}
 use Rattle.std.proofs.lemmas.Bool.{cases_lt}
@@ -41,7 +42,11 @@ tick_none c packets = refl
 
 -- a product by a positive number is less only if the factor is
 less : (a b n : ℕ) → a * n < b * n → a < b
-less a b n lt = elim (cases_lt a b) [ inl is ↦ is | inr ge ↦ absurd (let p = mul-le-mul_right n ge in omega (arith, p, lt)) ]
+less a b n lt = elim (cases_lt a b) [
+  | inl is ↦ is
+  | inr ge ↦ absurd (let p = mul-le-mul_right n ge in
+      omega (arith, p, lt))
+]
 
 pub not_last : FrameCountLeast → EndsAfterStart → NotOverBy → SlotLength → EpochTicks → NotYetLast
 not_last least ends over slot epoch c packets plp m plan lt le =
@@ -95,7 +100,8 @@ frame_same c n all other h =
     (λ j le lt. ap (λ (l : List (List Bool)). block_bodies (n % c.frames) (plp_at c.plps j).id true
     (cond {A = List (List Bool)} (is_first c j n) l [])) (h j (omega arith))) in
     ap (λ (l : List ℕ). frame_bodies c n l f) counts
-    ∙ ap (λ (l : List Body). with_stamp c n (l1_body c n (pre_part c) (conf_part c) (dyn_part c n (told_counts c other n)) ∷ l))
+    ∙ ap (λ (l : List Body). with_stamp c n (l1_body c n (pre_part c) (conf_part c)
+    (dyn_part c n (told_counts c other n)) ∷ l))
     blocks
 
 bodies_same : (c : Config) (all other : ℕ → List (List ℕ)) (n : ℕ)
@@ -123,7 +129,8 @@ fronts_decided blocks slot rises c inputs other n plan h =
     let s = slot c j plan.rules configured in
     let by = begins_by c j m in
     let up : m * c.ticks ≤ (n - 1) * c.ticks = (let d : m ≤ n - 1 = omega arith in mul-le-mul_right c.ticks d) in
-    let le = rises (num c) (den c j) (interleaving_frame c j m * epoch_ticks c j) ((n - 1) * c.ticks) (omega (arith, s.0, s.2))
+    let le = rises (num c) (den c j) (interleaving_frame c j m * epoch_ticks c j) ((n - 1) * c.ticks)
+    (omega (arith, s.0, s.2))
     (omega (arith, by, up)) in
     h j k configured (omega (arith, inside, le))))))
 
@@ -131,12 +138,15 @@ tick_same : (c : Config) (f g : ℕ → ℕ) (n : ℕ) → ((j : ℕ) → j < n 
 tick_same c f g zero h = tick_none c f ∙ sym (tick_none c g)
 tick_same c f g (suc n) h =
     subst (λ (k : ℕ). last_tick c f k ≡ last_tick c g k) (add-one n)
-    (tick_more c f n ∙ ap (λ (m : ℕ). max m (start c n (f n) + delay c n)) (tick_same c f g n (λ j lt. h j (omega arith)))
+    (tick_more c f n ∙ ap (λ (m : ℕ). max m (start c n (f n) + delay c n))
+    (tick_same c f g n (λ j lt. h j (omega arith)))
     ∙ ap (λ (k : ℕ). max (last_tick c g n) (start c n k + delay c n)) (h n (omega arith)) ∙ sym (tick_more c g n))
 
-pub frame_count_same : (c : Config) (f g : ℕ → ℕ) → ((j : ℕ) → j < length c.plps → f j ≡ g j) → frame_count c f ≡ frame_count c g
+pub frame_count_same : (c : Config) (f g : ℕ → ℕ) → ((j : ℕ) → j < length c.plps → f j ≡ g j)
+    → frame_count c f ≡ frame_count c g
 unfolding frame_count
-frame_count_same c f g h = ap (λ (tick : ℕ). div_ceil tick (c.frames * c.ticks) * c.frames) (tick_same c f g (length c.plps) h)
+frame_count_same c f g h = ap (λ (tick : ℕ). div_ceil tick (c.frames * c.ticks) * c.frames)
+    (tick_same c f g (length c.plps) h)
 
 pub last_all : LastIsAll
 last_all c events inputs last cont =

@@ -1,6 +1,8 @@
 -- The blocks that are left, one by one.
-use Rattle.std.proofs.Common.{◌≡◌, ◌≢◌, ℕ, zero, suc, ◌+◌, ◌-◌, ◌%◌, ◌<◌, ◌≤◌, Bool, true, false, List, [], ◌∷◌, ◌++◌, length}
-use Rattle.std.proofs.Common.{map, drop, refl, ap, sym, subst, ◌∙◌, inl, inr, arith, eq-eqb, get_or-set_same, get_or-set_other}
+use Rattle.std.proofs.Common.{◌≡◌, ◌≢◌, ℕ, zero, suc, ◌+◌, ◌-◌, ◌%◌, ◌<◌, ◌≤◌, Bool, true, false, List, [], ◌∷◌, ◌++◌}
+use Rattle.std.proofs.Common.{length}
+use Rattle.std.proofs.Common.{map, drop, refl, ap, sym, subst, ◌∙◌, inl, inr, arith, eq-eqb, get_or-set_same}
+use Rattle.std.proofs.Common.{get_or-set_other}
 use Rattle.std.proofs.Common.{cond}
 use Rattle.std.specs.Prelude.{◌==◌, ◌||◌, not, slice_index_or}
 use Rattle.std.specs.List.{flat_map, range_with_len}
@@ -31,11 +33,14 @@ use Rattle.gateway_core.specs.Lists.{bits_in, own_in, later_in, AllShort, IsNext
 
 -- the PLPs from one on are that one and the others
 pub bodies_more : (c : Config) (n : ℕ) (blocks : ℕ → List (List Bool)) (from : ℕ) → from < length c.plps
-    → plp_bodies c n blocks from ≡ block_bodies (n % c.frames) (plp_at c.plps from).id true (blocks from) ++ plp_bodies c n blocks
+    → plp_bodies c n blocks from ≡ block_bodies (n % c.frames) (plp_at c.plps from).id true (blocks from)
+    ++ plp_bodies c n blocks
     (from + 1)
-bodies_more c n blocks from lt = let e : length c.plps - from ≡ suc (length c.plps - (from + 1)) = omega arith in rw e refl
+bodies_more c n blocks from lt = let e : length c.plps - from ≡ suc (length c.plps - (from + 1)) = omega
+    arith in rw e refl
 
-bodies_none : (c : Config) (n : ℕ) (blocks : ℕ → List (List Bool)) (from : ℕ) → length c.plps ≤ from → plp_bodies c n blocks from
+bodies_none : (c : Config) (n : ℕ) (blocks : ℕ → List (List Bool)) (from : ℕ) → length c.plps ≤ from
+    → plp_bodies c n blocks from
     ≡ []
 bodies_none c n blocks from le = let e : length c.plps - from ≡ 0 = omega arith in rw e refl
 
@@ -47,11 +52,13 @@ none_from f a (suc k) h = rw (h a (omega arith)) (none_from f (a + 1) k (λ j le
 bodies_same : (c : Config) (n : ℕ) (f g : ℕ → List (List Bool)) (from : ℕ) → ((j : ℕ) → from ≤ j → f j ≡ g j)
     → plp_bodies c n f from ≡ plp_bodies c n g from
 bodies_same c n f g from h =
-    flat_same _ _ from (length c.plps - from) (λ j le lt. ap (block_bodies (n % c.frames) (plp_at c.plps j).id true) (h j le))
+    flat_same _ _ from (length c.plps - from) (λ j le lt. ap (block_bodies (n % c.frames) (plp_at c.plps j).id true)
+    (h j le))
 
 -- PLPs without blocks are passed over
 bodies_past : (c : Config) (n : ℕ) (blocks : ℕ → List (List Bool)) (from k : ℕ)
-    → ((j : ℕ) → from ≤ j → j < from + k → blocks j ≡ []) → plp_bodies c n blocks from ≡ plp_bodies c n blocks (from + k)
+    → ((j : ℕ) → from ≤ j → j < from + k → blocks j ≡ []) → plp_bodies c n blocks from ≡ plp_bodies c
+    n blocks (from + k)
 bodies_past c n blocks from zero h = let z : from ≡ from + 0 = omega arith in ap (plp_bodies c n blocks) z
 bodies_past c n blocks from (suc k) h =
     let z : (from + 1) + k ≡ from + suc k = omega arith in
@@ -61,7 +68,8 @@ bodies_past c n blocks from (suc k) h =
       | inl lt ↦
           let none : blocks from ≡ [] = h from (omega arith) (omega arith) in
           bodies_more c n blocks from lt
-          ∙ ap (λ (l : List (List Bool)). block_bodies (n % c.frames) (plp_at c.plps from).id true l ++ plp_bodies c n blocks
+          ∙ ap (λ (l : List (List Bool)). block_bodies (n % c.frames) (plp_at c.plps from).id true l
+          ++ plp_bodies c n blocks
           (from + 1)) none ∙ rest
       | inr ge ↦ bodies_none c n blocks from ge ∙ sym (bodies_none c n blocks (from + suc k) (omega arith))
     ]
@@ -75,7 +83,8 @@ first_new true plp next differ = refl
 first_new false plp next differ = let no : (next == plp) ≡ false = ne_eqb next plp (λ e. differ (sym e)) in rw no refl
 
 -- what is left does not change if PLPs without blocks are passed over
-skipped : (c : Config) (n : ℕ) (blocks : ℕ → List (List Bool)) (plp next : ℕ) (first : Bool) → plp ≤ next → next < length c.plps
+skipped : (c : Config) (n : ℕ) (blocks : ℕ → List (List Bool)) (plp next : ℕ) (first : Bool) → plp ≤ next
+    → next < length c.plps
     → ((j : ℕ) → plp ≤ j → j < next → blocks j ≡ [])
     → blocks_left c n blocks plp first ≡ blocks_left c n blocks next (first || not (next == plp))
 skipped c n blocks plp next first le lt h =
@@ -90,21 +99,25 @@ skipped c n blocks plp next first le lt h =
           let past : plp_bodies c n blocks (plp + 1) ≡ plp_bodies c n blocks next =
           bodies_past c n blocks (plp + 1) (next - (plp + 1)) (λ j from to. h j (omega arith) (omega arith))
           ∙ ap (plp_bodies c n blocks) gap in
-          ap (λ (l : List (List Bool)). block_bodies (n % c.frames) (plp_at c.plps plp).id first l ++ plp_bodies c n blocks
+          ap (λ (l : List (List Bool)). block_bodies (n % c.frames) (plp_at c.plps plp).id first l
+          ++ plp_bodies c n blocks
           (plp + 1)) none
-          ∙ past ∙ bodies_more c n blocks next lt ∙ ap (blocks_left c n blocks next) (sym (first_new first plp next differ))
+          ∙ past ∙ bodies_more c n blocks next lt ∙ ap (blocks_left c n blocks next)
+          (sym (first_new first plp next differ))
     ]
 
 none_left : (c : Config) (n : ℕ) (blocks : ℕ → List (List Bool)) (plp : ℕ) (first : Bool)
     → ((j : ℕ) → plp ≤ j → blocks j ≡ []) → blocks_left c n blocks plp first ≡ []
 none_left c n blocks plp first h =
-    ap (λ (l : List (List Bool)). block_bodies (n % c.frames) (plp_at c.plps plp).id first l ++ plp_bodies c n blocks (plp + 1))
+    ap (λ (l : List (List Bool)). block_bodies (n % c.frames) (plp_at c.plps plp).id first l
+    ++ plp_bodies c n blocks (plp + 1))
     (h plp (omega arith))
     ∙ none_from (λ j. block_bodies (n % c.frames) (plp_at c.plps j).id true (blocks j)) (plp + 1) _
     (λ j le. ap (block_bodies (n % c.frames) (plp_at c.plps j).id true) (h j (omega arith)))
 
 -- a pool without the first block of a list
-pop_same : (pool : State) (list : ℕ) → list < length pool.lists → list_at (popped pool list) list ≡ drop 1 (list_at pool list)
+pop_same : (pool : State) (list : ℕ) → list < length pool.lists → list_at (popped pool list) list ≡ drop
+    1 (list_at pool list)
 pop_same pool list lt = get_or-set_same pool.lists list (drop 1 (list_at pool list)) [] lt
 
 pop_other : (pool : State) (list j : ℕ) → j ≢ list → list_at (popped pool list) j ≡ list_at pool j
@@ -131,14 +144,17 @@ later_is c n pool j none =
     ]
 
 -- A list that gives a block leaves those of the others.
-own_other : (c : Config) (n : ℕ) (pool : State) (list j : ℕ) → j ≢ list → own_in c n (popped pool list) j ≡ own_in c n pool j
+own_other : (c : Config) (n : ℕ) (pool : State) (list j : ℕ) → j ≢ list
+    → own_in c n (popped pool list) j ≡ own_in c n pool j
 own_other c n pool list j differ =
-    ap (λ (l : List (List ℕ)). cond {A = List (List Bool)} (is_first c j n) (map bits_of l) []) (pop_other pool list j differ)
+    ap (λ (l : List (List ℕ)). cond {A = List (List Bool)} (is_first c j n) (map bits_of l) [])
+    (pop_other pool list j differ)
 
 later_other : (c : Config) (n : ℕ) (pool : State) (list j : ℕ) → j ≢ list → later_in c n (popped pool list) j
     ≡ later_in c n pool j
 later_other c n pool list j differ =
-    ap (λ (l : List (List ℕ)). cond {A = List (List Bool)} (is_first c j n) [] (map bits_of l)) (pop_other pool list j differ)
+    ap (λ (l : List (List ℕ)). cond {A = List (List Bool)} (is_first c j n) [] (map bits_of l))
+    (pop_other pool list j differ)
 
 -- the next block, and what comes behind it
 block_left : (c : Config) (n : ℕ) (pool : State) (plp : ℕ) (first : Bool) → plp < length pool.lists
@@ -153,18 +169,22 @@ block_left c n pool plp first lt on some =
     let others : plp_bodies c n (own_in c n pool) (plp + 1) ≡ plp_bodies c n (own_in c n (popped pool plp)) (plp + 1) =
     bodies_same c n (own_in c n pool) (own_in c n (popped pool plp)) (plp + 1)
     (λ j from. sym (own_other c n pool plp j (λ e. absurd (omega arith)))) in
-    let own : own_in c n pool plp ≡ map bits_of (slice_index_or (list_at pool plp) 0 [] ∷ list_at (popped pool plp) plp) =
+    let own : own_in c n pool plp ≡ map bits_of (slice_index_or (list_at pool plp) 0 [] ∷ list_at (popped pool plp)
+    plp) =
     own_is c n pool plp on ∙ ap (map bits_of) front in
     ap (λ (l : List (List Bool)). block_bodies (n % c.frames) (plp_at c.plps plp).id first l
     ++ plp_bodies c n (own_in c n pool) (plp + 1)) own
-    ∙ ap (λ (l : List Body). Block (n % c.frames) (plp_at c.plps plp).id first (bits_of (slice_index_or (list_at pool plp) 0 []))
+    ∙ ap (λ (l : List Body). Block (n % c.frames) (plp_at c.plps plp).id first
+    (bits_of (slice_index_or (list_at pool plp) 0 []))
     ∷ (block_bodies (n % c.frames) (plp_at c.plps plp).id false (bits_in (popped pool plp) plp) ++ l)) others
     ∙ ap (λ (l : List (List Bool)). Block (n % c.frames) (plp_at c.plps plp).id first
     (bits_of (slice_index_or (list_at pool plp) 0 []))
-    ∷ (block_bodies (n % c.frames) (plp_at c.plps plp).id false l ++ plp_bodies c n (own_in c n (popped pool plp)) (plp + 1)))
+    ∷ (block_bodies (n % c.frames) (plp_at c.plps plp).id false l ++ plp_bodies c n (own_in c n (popped pool plp))
+    (plp + 1)))
     (sym (own_is c n (popped pool plp) plp on))
 
-pub built_block : (c : Config) (n number : ℕ) (step : FrameStep) (signal : Body) (pool : State) (plp next : ℕ) (first now : Bool)
+pub built_block : (c : Config) (n number : ℕ) (step : FrameStep) (signal : Body) (pool : State) (plp next : ℕ)
+    (first now : Bool)
     (block : List ℕ) (bits : List Bool) → step ≡ Blocks → length pool.lists ≡ length c.plps → IsNext c n pool plp next
     → now ≡ (first || not (next == plp)) → block ≡ slice_index_or (list_at pool next) 0 []
     → bits ≡ written_bits (packet_with c number n (Block (n % c.frames) (plp_at c.plps next).id now (bits_of block)))
@@ -172,7 +192,8 @@ pub built_block : (c : Config) (n number : ℕ) (step : FrameStep) (signal : Bod
     (from_step c n step signal (blocks_left c n (own_in c n (popped pool next)) next false)) bits
 built_block c n number step signal pool plp next first now block bits e plps is begins front built whole =
     let inside = is.inside in
-    let was : blocks_left c n (own_in c n pool) plp first ≡ Block (n % c.frames) (plp_at c.plps next).id now (bits_of block)
+    let was : blocks_left c n (own_in c n pool) plp first ≡ Block (n % c.frames) (plp_at c.plps next).id
+    now (bits_of block)
     ∷ blocks_left c n (own_in c n (popped pool next)) next false =
     skipped c n (own_in c n pool) plp next first is.order (omega arith) is.none
     ∙ ap (blocks_left c n (own_in c n pool) next) (sym begins) ∙ block_left c n pool next now inside is.own is.some
@@ -180,10 +201,17 @@ built_block c n number step signal pool plp next first now block bits e plps is 
     ∷ blocks_left c n (own_in c n (popped pool next)) next false) (sym front) in
     subst (λ (s : FrameStep). Builds c n number (from_step c n s signal (blocks_left c n (own_in c n pool) plp first))
     (from_step c n s signal (blocks_left c n (own_in c n (popped pool next)) next false)) bits) (sym e)
-    (record { body = Block (n % c.frames) (plp_at c.plps next).id now (bits_of block); was = was; built = built; whole = whole })
+    (record {
+      body = Block (n % c.frames) (plp_at c.plps next).id now (bits_of block);
+      was = was;
+      built =
+          built;
+      whole = whole;
+    })
 
 -- Nothing is left of a frame without blocks.
-pub nothing_left : (c : Config) (n : ℕ) (step : FrameStep) (signal : Body) (pool : State) (plp : ℕ) (first : Bool) → step ≡ Blocks
+pub nothing_left : (c : Config) (n : ℕ) (step : FrameStep) (signal : Body) (pool : State) (plp : ℕ) (first : Bool)
+    → step ≡ Blocks
     → ((j : ℕ) → plp ≤ j → own_in c n pool j ≡ [])
     → from_step c n step signal (blocks_left c n (own_in c n pool) plp first) ≡ []
 nothing_left c n step signal pool plp first e none =
@@ -221,7 +249,8 @@ until_popped c n plp next pool is j =
           ∙ sym (is_from c n plp pool j (let order = is.order in omega arith))
     ]
 
-pub early_popped : (c : Config) (n plp next : ℕ) (step : FrameStep) (pool : State) → step ≡ Blocks → IsNext c n pool plp next → (j : ℕ)
+pub early_popped : (c : Config) (n plp next : ℕ) (step : FrameStep) (pool : State) → step ≡ Blocks
+    → IsNext c n pool plp next → (j : ℕ)
     → early_at c n step next (popped pool next) j ≡ early_at c n step plp pool j
 early_popped c n plp next step pool e is j =
     ap (λ (s : FrameStep). early_at c n s next (popped pool next) j) e ∙ until_popped c n plp next pool is j
@@ -244,7 +273,8 @@ at_begin c n pool false j = refl
 pub early_begin : (c : Config) (n : ℕ) (step : FrameStep) (pool : State) → step ≡ first_step c n → (j : ℕ)
     → early_at c n step 0 pool j ≡ later_in c n pool j
 early_begin c n step pool e j =
-    ap (λ (s : FrameStep). early_at c n s 0 pool j) e ∙ at_begin c n pool (n % c.frames == 0) j ∙ is_from c n 0 pool j (omega arith)
+    ap (λ (s : FrameStep). early_at c n s 0 pool j) e ∙ at_begin c n pool (n % c.frames == 0) j
+    ∙ is_from c n 0 pool j (omega arith)
 
 -- The blocks stay short as a list gives its first one.
 pub pop_short : (pool : State) (list : ℕ) → list < length pool.lists → AllShort pool → AllShort (popped pool list)

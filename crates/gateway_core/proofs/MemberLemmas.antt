@@ -1,12 +1,13 @@
 -- The groups of a network, and what the stream of a PLP depends on.
-use Rattle.std.proofs.Common.{◌≡◌, ℕ, zero, suc, ◌≢◌, ◌+◌, ◌<◌, ◌≤◌, ◌==◌, not, Bool, true, false, List, ◌∷◌, length, map, take}
+use Rattle.std.proofs.Common.{◌≡◌, ℕ, zero, suc, ◌≢◌, ◌+◌, ◌<◌, ◌≤◌, ◌==◌, not, Bool, true, false, List, ◌∷◌, length}
+use Rattle.std.proofs.Common.{map, take}
 use Rattle.std.proofs.Common.{Some, None, refl, ap, ap₂, sym, subst, ◌∙◌, arith}
 use Rattle.std.specs.Prelude.{filter, unwrap_or}
 use Rattle.std.specs.declared.option.Option.{Option}
 use Rattle.std.specs.List.{find, range_with_len}
-use Rattle.std.proofs.lemmas.Bool.{true≢false}
+use Rattle.std.proofs.lemmas.Bool.{true≢false, and_parts}
 use Rattle.std.proofs.lemmas.Bool.Decides.{Decides-eqb}
-use Rattle.terms.proofs.CaseLemmas.{bool_cases, both}
+use Rattle.terms.proofs.CaseLemmas.{bool_cases}
 use Rattle.terms.proofs.OptionLemmas.{none_some}
 use Rattle.plp_config.specs.Plps.{plp_at}
 use Rattle.plp_config.specs.Rules.{AllRules}
@@ -36,7 +37,7 @@ pub own_of : (c : Config) (turn plp : ℕ) → is_common c turn ≡ true → is_
     → (is_common c plp ≡ false) × (group_of c plp ≡ group_of c turn)
 own_of c turn plp common member =
     let own : is_own_in c (group_of c turn) plp ≡ true = rw common at member in
-    let b = both (not (is_common c plp)) (group_of c plp == group_of c turn) own in
+    let b = and_parts (not (is_common c plp)) (group_of c plp == group_of c turn) own in
     (not_true (is_common c plp) b.0, (Decides-eqb (group_of c plp) (group_of c turn)).0 b.1)
 
 -- they have inputs
@@ -52,7 +53,8 @@ pub turn_common : (c : Config) (plp : ℕ) → is_common c plp ≡ true → turn
 turn_common c plp common = turn_by c plp None (rw common refl)
 
 -- each input is in the group of its turn
-self_by : (c : Config) (plp : ℕ) → is_common c plp ≡ false → (o : Option ℕ) → common_of c plp ≡ o → is_member c (unwrap_or o plp) plp ≡ true
+self_by : (c : Config) (plp : ℕ) → is_common c plp ≡ false → (o : Option ℕ) → common_of c plp ≡ o
+    → is_member c (unwrap_or o plp) plp ≡ true
 self_by c plp own None e = alone_is c plp own
 self_by c plp own (Some common) e =
     let h = has_common c plp common e in
@@ -62,27 +64,31 @@ pub self_member : (c : Config) (plp : ℕ) → IsInput c plp → is_member c (tu
 self_member c plp i = self_by c plp i.1 (common_of c plp) refl
 
 -- and of no other: a group has one common PLP
-none_before : (c : Config) (group common n : ℕ) → AllRules c → common < length c.plps → is_common c common ≡ true → group_of c common ≡ group
+none_before : (c : Config) (group common n : ℕ) → AllRules c → common < length c.plps → is_common c common ≡ true
+    → group_of c common ≡ group
     → n ≤ common → find (is_common_in c group) (range_with_len 0 n) ≡ None
 none_before c group common zero rules inside is same le = refl
 none_before c group common (suc n) rules inside is same le =
-    let step = found_none (is_common_in c group) n (none_before c group common n rules inside is same (omega (arith, le)))
+    let step = found_none (is_common_in c group) n (none_before c group common n rules inside is same
+    (omega (arith, le)))
     (bool_cases (is_common_in c group n)
-    (λ on. absurd (let b = both (is_common c n) (group_of c n == group) on in
+    (λ on. absurd (let b = and_parts (is_common c n) (group_of c n == group) on in
     rules OneCommon common inside (type_is (plp_at c.plps common).plp_type is) n (omega (arith, le))
     (type_is (plp_at c.plps n).plp_type b.0, (Decides-eqb (group_of c n) group).0 b.1 ∙ sym same)))
     (λ off. off)) in
     let e : n + 1 ≡ suc n = omega arith in
     subst (λ (m : ℕ). find (is_common_in c group) (range_with_len 0 m) ≡ None) e step
 
-pub common_is : (c : Config) (turn plp : ℕ) → AllRules c → turn < length c.plps → is_common c turn ≡ true → is_common c plp ≡ false
+pub common_is : (c : Config) (turn plp : ℕ) → AllRules c → turn < length c.plps → is_common c turn ≡ true
+    → is_common c plp ≡ false
     → group_of c plp ≡ group_of c turn → common_of c plp ≡ Some turn
 common_is c turn plp rules inside common own same =
     rw own (found_first (is_common_in c (group_of c plp)) (length c.plps) turn inside
     (none_before c (group_of c plp) turn turn rules inside common (sym same) (omega arith))
     (rw (common, same) ((Decides-eqb (group_of c turn) (group_of c turn)).1 refl)))
 
-pub turn_is : (c : Config) (turn plp : ℕ) → AllRules c → turn < length c.plps → common_of c turn ≡ None → is_member c turn plp ≡ true
+pub turn_is : (c : Config) (turn plp : ℕ) → AllRules c → turn < length c.plps → common_of c turn ≡ None
+    → is_member c turn plp ≡ true
     → turn_of c plp ≡ turn
 turn_is c turn plp rules inside first member =
     bool_cases (is_common c turn)
@@ -99,7 +105,8 @@ kept_same : {X : Type 0} (test : ℕ → Bool) (f g : ℕ → X) (a n : ℕ)
 kept_same test f g a zero same = refl
 kept_same test f g a (suc n) same =
     bool_cases (test a)
-    (λ on. rw on (ap₂ (λ x l. x ∷ l) (same a (omega arith) on) (kept_same test f g (a + 1) n (λ plp lt on. same plp (omega (arith, lt)) on))))
+    (λ on. rw on (ap₂ (λ x l. x ∷ l) (same a (omega arith) on) (kept_same test f g (a + 1) n
+    (λ plp lt on. same plp (omega (arith, lt)) on))))
     (λ off. rw off (kept_same test f g (a + 1) n (λ plp lt on. same plp (omega (arith, lt)) on)))
 
 pub own_same : {X : Type 0} (c : Config) (f g : ℕ → X) (group : ℕ)
@@ -115,9 +122,11 @@ depends_by : (c : Config) (f g : ℕ → List (List ℕ)) (plp : ℕ) (o : Optio
 unfolding split
 depends_by c f g plp None true e is inside same =
     rw e (ap common_stream (own_same c f g (group_of c plp) (λ q lt own. same q lt (of_common c plp q e own))))
-depends_by c f g plp (Some m) true e is inside same = absurd (let z : None ≡ Some m = (let n : common_of c plp ≡ None = rw e refl in sym n ∙ is) in none_some m z)
+depends_by c f g plp (Some m) true e is inside same = absurd
+    (let z : None ≡ Some m = (let n : common_of c plp ≡ None = rw e refl in sym n ∙ is) in none_some m z)
 depends_by c f g plp None false e is inside same =
-    rw e (rw (let k : find (is_common_in c (group_of c plp)) (range_with_len 0 (length c.plps)) ≡ None = rw e at is in k)
+    rw e (rw (let k : find (is_common_in c (group_of c plp)) (range_with_len 0 (length c.plps)) ≡ None =
+    rw e at is in k)
     (same plp inside (alone_is c plp e)))
 depends_by c f g plp (Some m) false e is inside same =
     let h = has_common c plp m is in
@@ -133,10 +142,12 @@ pub split_depends : (c : Config) (f g : ℕ → List (List ℕ)) (plp : ℕ) →
 split_depends c f g plp inside same = depends_by c f g plp (common_of c plp) (is_common c plp) refl refl inside same
 
 pub front_decided : (c : Config) (f g : ℕ → List (List ℕ)) (plp n : ℕ) → plp < length c.plps
-    → ((source : ℕ) → source < length c.plps → is_member c (turn_of c plp) source ≡ true → take n (f source) ≡ take n (g source))
+    → ((source : ℕ) → source < length c.plps → is_member c (turn_of c plp) source ≡ true
+    → take n (f source) ≡ take n (g source))
     → take n (split c f plp) ≡ take n (split c g plp)
 front_decided c f g plp n inside same =
-    split_front c f plp n ∙ split_depends c (λ q. take n (f q)) (λ q. take n (g q)) plp inside same ∙ sym (split_front c g plp n)
+    split_front c f plp n ∙ split_depends c (λ q. take n (f q)) (λ q. take n (g q)) plp inside same
+    ∙ sym (split_front c g plp n)
 
 -- ---- the longest stream of a group
 
@@ -163,17 +174,21 @@ some_kept test f a (suc n) plp from to on =
     bool_cases (test a)
     (λ here. rw here (bool_cases (plp == a)
     (λ e. let same = ap (λ (k : ℕ). length (f k)) ((Decides-eqb plp a).0 e) in omega (arith, same))
-    (λ d. let later = some_kept test f (a + 1) n plp (omega (arith, from, differs plp a d)) (omega (arith, to)) on in omega (arith, later))))
+    (λ d. let later = some_kept test f (a + 1) n plp (omega (arith, from, differs plp a d)) (omega (arith, to))
+    on in omega (arith, later))))
     (λ off. rw off (some_kept test f (a + 1) n plp (omega (
       arith,
       from,
       differs plp a
-          (bool_cases (plp == a) (λ e. absurd (true≢false (sym on ∙ ap test ((Decides-eqb plp a).0 e) ∙ off))) (λ d. d)),
+          (bool_cases (plp == a) (λ e. absurd (true≢false (sym on ∙ ap test ((Decides-eqb plp a).0 e) ∙ off)))
+          (λ d. d)),
     )) (omega (arith, to)) on))
   where
     differs : (x y : ℕ) → (x == y) ≡ false → x ≢ y
     differs x y d e = true≢false (sym ((Decides-eqb x y).1 e) ∙ d)
 
-pub longest_some : (c : Config) (f : ℕ → List (List ℕ)) (group plp : ℕ) → plp < length c.plps → is_own_in c group plp ≡ true
+pub longest_some : (c : Config) (f : ℕ → List (List ℕ)) (group plp : ℕ) → plp < length c.plps
+    → is_own_in c group plp ≡ true
     → length (f plp) ≤ longest (group_streams c f group)
-longest_some c f group plp inside own = some_kept (is_own_in c group) f 0 (length c.plps) plp (omega arith) (omega (arith, inside)) own
+longest_some c f group plp inside own = some_kept (is_own_in c group) f 0 (length c.plps) plp (omega arith)
+    (omega (arith, inside)) own

@@ -1,5 +1,6 @@
 -- Slots go on until a packet of an input comes next.
-use Rattle.std.proofs.Common.{◌≡◌, ◌≢◌, ◌⊎◌, ℕ, ◌+◌, ◌<◌, ◌≤◌, Bool, true, false, List, ◌++◌, length, Some, None, refl, ap, sym, subst, ◌∙◌, inl, inr}
+use Rattle.std.proofs.Common.{◌≡◌, ◌≢◌, ◌⊎◌, ℕ, ◌+◌, ◌<◌, ◌≤◌, Bool, true, false, List, ◌++◌, length, Some, None, refl}
+use Rattle.std.proofs.Common.{ap, sym, subst, ◌∙◌, inl, inr}
 use Rattle.std.proofs.Common.{arith, ⊎_elim}
 use Rattle.std.specs.Prelude.{unwrap_or, if◌then◌else◌}
 use Rattle.std.specs.declared.option.Option.{Option}
@@ -20,7 +21,8 @@ use Rattle.gateway_core.specs.Works.{Moves, AreSettled, ComesOfTurn}
 use Rattle.gateway_core.proofs.MemberLemmas.{alone_is, turn_is}
 use Rattle.gateway_core.proofs.OnLemmas.{works_on}
 
-pub then_moves : (c : Config) (g h k : Gateway) (a b d : List (Option (List ℕ))) → Moves c g h a b → Moves c h k b d → Moves c g k a d
+pub then_moves : (c : Config) (g h k : Gateway) (a b d : List (Option (List ℕ))) → Moves c g h a b → Moves c h k b d
+    → Moves c g k a d
 then_moves c g h k a b d m n = record {
   goes = λ events w. n.goes events (m.goes events w);
   size = n.size ∙ m.size;
@@ -35,36 +37,44 @@ kept_same : (b : Bool) (o : Option (List ℕ)) → b ≡ false → (if b then No
 kept_same b o e = rw e refl
 
 -- what is held behind a slot that went on is wanted still
-pub wanted_on : (c : Config) (old new : Gateway) (held after : List (Option (List ℕ))) (turn : ℕ) → length held ≡ length c.plps
-    → PassesOn c held turn (length c.plps) after → OthersWant c turn old new → HeldWanted c old held → HeldWanted c new after
+pub wanted_on : (c : Config) (old new : Gateway) (held after : List (Option (List ℕ))) (turn : ℕ)
+    → length held ≡ length c.plps
+    → PassesOn c held turn (length c.plps) after → OthersWant c turn old new → HeldWanted c old held
+    → HeldWanted c new after
 wanted_on c old new held after turn size p others wanted = λ plp own some.
     ⊎_elim
     (λ (lt : plp < length c.plps). bool_cases (is_member c turn plp)
     (λ member. absurd (some (p.below plp lt ∙ kept_none (is_member c turn plp) (held_at held plp) member)))
     (λ off.
-    let same : held_at after plp ≡ held_at held plp = p.below plp lt ∙ kept_same (is_member c turn plp) (held_at held plp) off in
+    let same : held_at after plp ≡ held_at held plp = p.below plp lt ∙ kept_same (is_member c turn plp)
+    (held_at held plp) off in
     let w = wanted plp own (λ z. some (same ∙ z)) in
     let n = others plp off (λ e. true≢false (sym (alone_is c turn (ap (is_common c) (sym e) ∙ own))
     ∙ subst (λ (k : ℕ). is_member c turn k ≡ false) e off)) in
     omega (arith, w, n)))
-    (λ (le : length c.plps ≤ plp). absurd (some (get_or-eq_default after None (let s = p.size in omega (arith, s, size, le)))))
+    (λ (le : length c.plps ≤ plp). absurd
+    (some (get_or-eq_default after None (let s = p.size in omega (arith, s, size, le)))))
     (cases_lt plp (length c.plps))
 
 -- the first PLP of another group
-first_apart : (c : Config) (turn other : ℕ) → AllRules c → turn < length c.plps → common_of c turn ≡ None → common_of c other ≡ None
+first_apart : (c : Config) (turn other : ℕ) → AllRules c → turn < length c.plps → common_of c turn ≡ None
+    → common_of c other ≡ None
     → other ≢ turn → is_member c turn other ≡ false
 first_apart c turn other rules inside first second d =
     bool_cases (is_member c turn other)
-    (λ on. absurd (d (sym (ap (λ (o : Option ℕ). unwrap_or o other) second) ∙ turn_is c turn other rules inside first on)))
+    (λ on. absurd (d (sym (ap (λ (o : Option ℕ). unwrap_or o other) second)
+    ∙ turn_is c turn other rules inside first on)))
     (λ off. off)
 
-pub settled_on : (c : Config) (old new : Gateway) (turn : ℕ) → AllRules c → turn < length c.plps → common_of c turn ≡ None
+pub settled_on : (c : Config) (old new : Gateway) (turn : ℕ) → AllRules c → turn < length c.plps
+    → common_of c turn ≡ None
     → OthersWant c turn old new → AreSettled c old turn → AreSettled c new turn
 settled_on c old new turn rules inside first others s = λ t lt none.
     let apart : t ≢ turn = λ e. omega (arith, lt, e) in
     others t (first_apart c turn t rules inside first none apart) apart ∙ s t lt none
 
-pub settled_more : (c : Config) (g : Gateway) (turn : ℕ) → AreSettled c g turn → (common_of c turn ≡ None → wants_of g turn ≡ 0)
+pub settled_more : (c : Config) (g : Gateway) (turn : ℕ) → AreSettled c g turn
+    → (common_of c turn ≡ None → wants_of g turn ≡ 0)
     → AreSettled c g (turn + 1)
 settled_more c g turn s here = λ t lt none. elim (cases_eq t turn) [
   | inl e ↦ ap (wants_of g) e ∙ here (ap (common_of c) (sym e) ∙ none)
@@ -89,8 +99,10 @@ pass_moves law c g next held after turn rules plps size inside first some come p
 -- ---- the first group of which something is wanted
 
 -- the answer of a group, by whether it is the first PLP of one
-pub comes_of : (c : Config) (old new : Gateway) (held : List (Option (List ℕ))) (turn plp : ℕ) → AllRules c → turn < length c.plps
-    → common_of c turn ≡ None → OthersWant c turn old new → AreSettled c old turn → ComesNext c new held turn (length c.plps) plp
+pub comes_of : (c : Config) (old new : Gateway) (held : List (Option (List ℕ))) (turn plp : ℕ) → AllRules c
+    → turn < length c.plps
+    → common_of c turn ≡ None → OthersWant c turn old new → AreSettled c old turn
+    → ComesNext c new held turn (length c.plps) plp
     → ComesOfTurn c new held plp
 comes_of c old new held turn plp rules inside first others s next = record {
   turn = turn;

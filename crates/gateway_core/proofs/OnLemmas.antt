@@ -15,10 +15,12 @@ use Rattle.gateway_core.specs.Events.{Event, Offered, Ended, packets_to, offered
 use Rattle.gateway_core.specs.StandsFor.{GatewayStandsFor, plps_of, wants_of}
 use Rattle.gateway_core.specs.declared.gateway.Gateway.{Gateway}
 use Rattle.gateway_core.specs.Order.{is_member}
-use Rattle.gateway_core.specs.Slots.{held_at, is_held_in, any_held, HasCome, PassesOn, slot_in, passed, share_events, pass_events}
+use Rattle.gateway_core.specs.Slots.{held_at, is_held_in, any_held, HasCome, PassesOn, slot_in, passed, share_events}
+use Rattle.gateway_core.specs.Slots.{pass_events}
 use Rattle.gateway_core.specs.Splitting.{Splits}
 use Rattle.gateway_core.specs.Works.{Works}
-use Rattle.gateway_core.proofs.EventLemmas.{offered_append, ended_append, AreQuiet, all_quiet, passed_quiet, passed_ends, passed_later}
+use Rattle.gateway_core.proofs.EventLemmas.{offered_append, ended_append, AreQuiet, all_quiet, passed_quiet}
+use Rattle.gateway_core.proofs.EventLemmas.{passed_ends, passed_later}
 use Rattle.gateway_core.proofs.EventLemmas.{passed_offers}
 use Rattle.gateway_core.proofs.MemberLemmas.{own_of, alone_is}
 use Rattle.gateway_core.proofs.PassedLemmas.{slot_passed, stream_ended}
@@ -29,15 +31,18 @@ use Rattle.gateway_core.proofs.WorkLemmas.{Came, ready_of, some_held, with_empty
 -- a common PLP has no input itself
 not_itself : (c : Config) (turn : ℕ) → is_common c turn ≡ true → is_member c turn turn ≡ false
 not_itself c turn common =
-    bool_cases (is_member c turn turn) (λ on. absurd (true≢false (sym common ∙ (own_of c turn turn common on).0))) (λ off. off)
+    bool_cases (is_member c turn turn) (λ on. absurd (true≢false (sym common ∙ (own_of c turn turn common on).0)))
+    (λ off. off)
 
 -- nothing goes on of a PLP outside of the group
-none_outside : (c : Config) (held : List (Option (List ℕ))) (turn : ℕ) (shared : Bool) (plp : ℕ) → is_member c turn plp ≡ false
+none_outside : (c : Config) (held : List (Option (List ℕ))) (turn : ℕ) (shared : Bool) (plp : ℕ)
+    → is_member c turn plp ≡ false
     → offered plp (passed c held turn shared (length c.plps)) ≡ []
 none_outside c held turn shared plp off =
     ⊎_elim (λ (lt : plp < length c.plps). passed_offers c held turn shared (length c.plps) plp lt
     ∙ without (is_member c turn plp) (passing shared (held_at held plp)) off)
-    (λ (le : length c.plps ≤ plp). passed_later c held turn shared (length c.plps) plp le) (cases_lt plp (length c.plps))
+    (λ (le : length c.plps ≤ plp). passed_later c held turn shared (length c.plps) plp le)
+    (cases_lt plp (length c.plps))
 
 one_here : (turn : ℕ) (packet : List ℕ) → packets_to turn (Offered turn packet) ≡ packet ∷ []
 one_here turn packet = rw ((Decides-eqb turn turn).1 refl) refl
@@ -47,20 +52,24 @@ none_there turn plp packet d = rw (ne_eqb turn plp (λ e. d (sym e))) refl
 
 -- ---- with a common PLP
 
-shared_passed : (c : Config) (held after : List (Option (List ℕ))) (turn : ℕ) (done : List Event) → is_common c turn ≡ true
+shared_passed : (c : Config) (held after : List (Option (List ℕ))) (turn : ℕ) (done : List Event)
+    → is_common c turn ≡ true
     → PassesOn c held turn (length c.plps) after
-    → IsPassed c held after (λ plp. offered plp done) (λ plp. offered plp (done ++ share_events c held turn (length c.plps))) turn
+    → IsPassed c held after (λ plp. offered plp done)
+    (λ plp. offered plp (done ++ share_events c held turn (length c.plps))) turn
     (is_shared (slot_in c held turn))
 shared_passed c held after turn done common p =
     let shared : Bool = is_shared (slot_in c held turn) in
     let packet : List ℕ = common_packet (slot_in c held turn) in
     let all : (plp : ℕ) → offered plp (done ++ share_events c held turn (length c.plps))
-    ≡ offered plp done ++ (packets_to plp (Offered turn packet) ++ offered plp (passed c held turn shared (length c.plps))) =
+    ≡ offered plp done ++ (packets_to plp (Offered turn packet) ++ offered plp
+    (passed c held turn shared (length c.plps))) =
     λ plp. offered_append plp done (share_events c held turn (length c.plps)) in
     let apart : (plp : ℕ) → is_member c turn plp ≡ true → plp ≢ turn = λ plp member e.
     true≢false (sym (subst (λ (k : ℕ). is_member c turn k ≡ true) e member) ∙ not_itself c turn common) in
     record {
-      lead = λ on. all turn ∙ rw (one_here turn packet, none_outside c held turn shared turn (not_itself c turn common)) refl;
+      lead = λ on. all turn ∙ rw (one_here turn packet, none_outside c held turn shared turn (not_itself c turn common))
+          refl;
       own = λ plp lt member. all plp ∙ rw (none_there turn plp packet (apart plp member))
           (ap (λ (l : List (List ℕ)). offered plp done ++ l) (passed_offers c held turn shared (length c.plps) plp lt
           ∙ with_empty (is_member c turn plp) (passing shared (held_at held plp)) member));
@@ -73,15 +82,19 @@ shared_passed c held after turn done common p =
 
 -- ---- without
 
-alone_passed : (c : Config) (held after : List (Option (List ℕ))) (turn : ℕ) (done : List Event) → is_common c turn ≡ false
+alone_passed : (c : Config) (held after : List (Option (List ℕ))) (turn : ℕ) (done : List Event)
+    → is_common c turn ≡ false
     → PassesOn c held turn (length c.plps) after
-    → IsPassed c held after (λ plp. offered plp done) (λ plp. offered plp (done ++ passed c held turn false (length c.plps))) turn false
+    → IsPassed c held after (λ plp. offered plp done)
+    (λ plp. offered plp (done ++ passed c held turn false (length c.plps))) turn false
 alone_passed c held after turn done own p = record {
   lead = λ on. absurd (true≢false (sym on ∙ own));
   own = λ plp lt member. offers c held turn false done plp lt
-      ∙ ap (λ (l : List (List ℕ)). offered plp done ++ l) (with_empty (is_member c turn plp) (passing false (held_at held plp)) member);
+      ∙ ap (λ (l : List (List ℕ)). offered plp done ++ l) (with_empty (is_member c turn plp)
+      (passing false (held_at held plp)) member);
   rest = λ plp off differ. offered_append plp done (passed c held turn false (length c.plps))
-      ∙ ap (λ (l : List (List ℕ)). offered plp done ++ l) (none_outside c held turn false plp off) ∙ append-nil (offered plp done);
+      ∙ ap (λ (l : List (List ℕ)). offered plp done ++ l) (none_outside c held turn false plp off)
+      ∙ append-nil (offered plp done);
   on = λ on. absurd (true≢false (sym on ∙ own));
   off = λ _. refl;
   kept = p.below;
@@ -90,20 +103,26 @@ alone_passed c held after turn done own p = record {
 -- ---- what holds behind it
 
 -- the same of which as much was closed
-closed_as : (c : Config) (held : List (Option (List ℕ))) (came : ℕ → List (List ℕ)) (over : ℕ → Bool) (gave : ℕ → List (List ℕ))
-    (closed now : ℕ → Bool) → ((plp : ℕ) → closed plp ≡ now plp) → Splits c held came over gave closed → Splits c held came over gave now
+closed_as : (c : Config) (held : List (Option (List ℕ))) (came : ℕ → List (List ℕ)) (over : ℕ → Bool) (gave : ℕ
+    → List (List ℕ))
+    (closed now : ℕ → Bool) → ((plp : ℕ) → closed plp ≡ now plp) → Splits c held came over gave closed
+    → Splits c held came over gave now
 closed_as c held came over gave closed now same s =
     let path : closed ≡ now = λ i plp. same plp i in
     subst (λ (f : ℕ → Bool). Splits c held came over gave f) path s
 
-pub gave_as : (c : Config) (held : List (Option (List ℕ))) (came : ℕ → List (List ℕ)) (over : ℕ → Bool) (gave more : ℕ → List (List ℕ))
-    (closed : ℕ → Bool) → ((plp : ℕ) → gave plp ≡ more plp) → Splits c held came over gave closed → Splits c held came over more closed
+pub gave_as : (c : Config) (held : List (Option (List ℕ))) (came : ℕ → List (List ℕ)) (over : ℕ → Bool) (gave more : ℕ
+    → List (List ℕ))
+    (closed : ℕ → Bool) → ((plp : ℕ) → gave plp ≡ more plp) → Splits c held came over gave closed
+    → Splits c held came over more closed
 gave_as c held came over gave more closed same s =
     let path : gave ≡ more = λ i plp. same plp i in
     subst (λ (f : ℕ → List (List ℕ)). Splits c held came over f closed) path s
 
-held_as : (c : Config) (held after : List (Option (List ℕ))) (came : ℕ → List (List ℕ)) (over : ℕ → Bool) (gave : ℕ → List (List ℕ))
-    (closed : ℕ → Bool) → ((plp : ℕ) → plp < length c.plps → held_at after plp ≡ held_at held plp) → Splits c held came over gave closed
+held_as : (c : Config) (held after : List (Option (List ℕ))) (came : ℕ → List (List ℕ)) (over : ℕ → Bool) (gave : ℕ
+    → List (List ℕ))
+    (closed : ℕ → Bool) → ((plp : ℕ) → plp < length c.plps → held_at after plp ≡ held_at held plp)
+    → Splits c held came over gave closed
     → Splits c after came over gave closed
 held_as c held after came over gave closed same s = record {
   each = s.each;
@@ -124,7 +143,8 @@ shared_ended : (c : Config) (held : List (Option (List ℕ))) (turn : ℕ) (done
     → has_ended plp done ≡ has_ended plp (done ++ share_events c held turn (length c.plps))
 shared_ended c held turn done plp =
     sym (ended_append plp done (share_events c held turn (length c.plps))
-    ∙ rw (passed_ends c held turn (is_shared (slot_in c held turn)) (length c.plps) plp) (or_false (has_ended plp done)))
+    ∙ rw (passed_ends c held turn (is_shared (slot_in c held turn)) (length c.plps) plp)
+    (or_false (has_ended plp done)))
 
 none_kept : (b : Bool) (o : Option (List ℕ)) → (b ≡ true → o ≡ None) → (if b then None else o) ≡ o
 none_kept true o none = sym (none refl)
@@ -136,25 +156,29 @@ held_none true (Some x) e on = absurd (true≢false e)
 held_none false (Some x) e on = absurd (true≢false (sym on))
 
 end_here : (turn : ℕ) (done : List Event) → has_ended turn (done ++ Ended turn ∷ []) ≡ true
-end_here turn done = ended_append turn done (Ended turn ∷ []) ∙ rw ((Decides-eqb turn turn).1 refl) (or_true (has_ended turn done))
+end_here turn done = ended_append turn done (Ended turn ∷ []) ∙ rw ((Decides-eqb turn turn).1 refl)
+    (or_true (has_ended turn done))
   where
     or_true : (b : Bool) → (b || true) ≡ true
     or_true true = refl
     or_true false = refl
 
-end_there : (turn plp : ℕ) (done : List Event) → plp ≢ turn → has_ended plp (done ++ Ended turn ∷ []) ≡ has_ended plp done
+end_there : (turn plp : ℕ) (done : List Event) → plp ≢ turn → has_ended plp (done ++ Ended turn ∷ []) ≡ has_ended
+    plp done
 end_there turn plp done d =
     ended_append plp done (Ended turn ∷ []) ∙ rw (ne_eqb turn plp (λ e. d (sym e))) (or_false (has_ended plp done))
 
 -- nothing is held of a group alone, so nothing of it has come
-alone_held : (c : Config) (g : Gateway) (held : List (Option (List ℕ))) (turn : ℕ) → turn < length c.plps → is_common c turn ≡ false
+alone_held : (c : Config) (g : Gateway) (held : List (Option (List ℕ))) (turn : ℕ) → turn < length c.plps
+    → is_common c turn ≡ false
     → 0 < wants_of g turn → HasCome c g held turn turn → held_at held turn ≢ None
 alone_held c g held turn inside own some come = elim (come (alone_is c turn own)) [
   | inl none ↦ absurd (omega (arith, some, none))
   | inr is ↦ is
 ]
 
-came_on : InStep → (c : Config) (g : Gateway) (held after : List (Option (List ℕ))) (events done : List Event) (turn : ℕ) → AllRules c
+came_on : InStep → (c : Config) (g : Gateway) (held after : List (Option (List ℕ))) (events done : List Event)
+    (turn : ℕ) → AllRules c
     → plps_of g ≡ length c.plps → GatewayStandsFor g c done → Came c held events done → turn < length c.plps
     → common_of c turn ≡ None → 0 < wants_of g turn → ((plp : ℕ) → plp < length c.plps → HasCome c g held turn plp)
     → PassesOn c held turn (length c.plps) after
@@ -168,7 +192,8 @@ came_on law c g held after events done turn rules plps stands s inside first som
     bool_cases (is_common c turn)
     (λ common. rw (on, common)
     (closed_as c after _ _ _ _ _ (shared_ended c held turn done)
-    (slot_passed c held after _ _ _ _ _ turn (is_shared (slot_in c held turn)) s r h (shared_passed c held after turn done common p))))
+    (slot_passed c held after _ _ _ _ _ turn (is_shared (slot_in c held turn)) s r h
+    (shared_passed c held after turn done common p))))
     (λ own. rw (on, own)
     (closed_as c after _ _ _ _ _ (still_ended c held turn false done)
     (slot_passed c held after _ _ _ _ _ turn false s r h (alone_passed c held after turn done own p)))))
@@ -176,11 +201,14 @@ came_on law c g held after events done turn rules plps stands s inside first som
     let none : (plp : ℕ) → plp < n → is_member c turn plp ≡ true → held_at held plp ≡ None = λ plp lt member.
     held_none (is_member c turn plp) (held_at held plp) (not_found (is_held_in c held turn) plp n lt off) member in
     let common : is_common c turn ≡ true = bool_cases (is_common c turn) (λ on. on)
-    (λ own. absurd (alone_held c g held turn inside own some (come turn inside) (none turn inside (alone_is c turn own)))) in
+    (λ own. absurd (alone_held c g held turn inside own some (come turn inside)
+    (none turn inside (alone_is c turn own)))) in
     rw off
-    (held_as c held after _ _ _ _ (λ plp lt. p.below plp lt ∙ none_kept (is_member c turn plp) (held_at held plp) (none plp lt))
+    (held_as c held after _ _ _ _ (λ plp lt. p.below plp lt ∙ none_kept (is_member c turn plp) (held_at held plp)
+    (none plp lt))
     (gave_as c held _ _ _ _ _ (λ plp. sym (offered_append plp done (Ended turn ∷ []) ∙ append-nil (offered plp done)))
-    (stream_ended c held _ _ _ _ (λ plp. has_ended plp (done ++ Ended turn ∷ [])) turn s r common none (end_here turn done)
+    (stream_ended c held _ _ _ _ (λ plp. has_ended plp (done ++ Ended turn ∷ [])) turn s r common none
+    (end_here turn done)
     (λ plp d. end_there turn plp done d)))))
 
 quiet_on : (c : Config) (held : List (Option (List ℕ))) (turn n : ℕ) → AreQuiet (pass_events c held turn n)
@@ -191,7 +219,8 @@ quiet_on c held turn n =
     (λ own. rw (on, own) (passed_quiet c held turn false n)))
     (λ off. rw off (tt, tt))
 
-pub works_on : InStep → (c : Config) (g next : Gateway) (held after : List (Option (List ℕ))) (events : List Event) (turn : ℕ) → AllRules c
+pub works_on : InStep → (c : Config) (g next : Gateway) (held after : List (Option (List ℕ))) (events : List Event)
+    (turn : ℕ) → AllRules c
     → plps_of g ≡ length c.plps → turn < length c.plps
     → common_of c turn ≡ None → 0 < wants_of g turn → ((plp : ℕ) → plp < length c.plps → HasCome c g held turn plp)
     → PassesOn c held turn (length c.plps) after
@@ -207,6 +236,7 @@ works_on law c g next held after events turn rules plps inside first some come p
         begun_is = q.begun_is ∙ w.splits.begun_is;
         given_is = q.given_is ∙ w.splits.given_is;
         finished_is = q.finished_is ∙ w.splits.finished_is;
-        splits = came_on law c g held after events w.done turn rules plps w.stands w.splits.splits inside first some come p;
+        splits = came_on law c g held after events w.done turn rules plps w.stands w.splits.splits inside
+            first some come p;
       };
     }

@@ -1,10 +1,10 @@
 -- What goes on of the inputs of a group, one after the other.
-use Rattle.std.proofs.Common.{◌≡◌, ◌≢◌, ℕ, ◌+◌, ◌<◌, ◌≤◌, ◌==◌, ◌&&◌, not, Bool, true, false, List, [], ◌∷◌, ◌++◌, Some, None, refl, ap, sym, subst, ◌∙◌, inl, inr}
+use Rattle.std.proofs.Common.{◌≡◌, ◌≢◌, ℕ, ◌+◌, ◌<◌, ◌≤◌, ◌==◌, ◌&&◌, not, Bool, true, false, List, [], ◌∷◌, ◌++◌, Some}
+use Rattle.std.proofs.Common.{None, refl, ap, sym, subst, ◌∙◌, inl, inr}
 use Rattle.std.proofs.Common.{arith, append_assoc, append-nil}
 use Rattle.std.specs.declared.option.Option.{Option}
 use Rattle.std.specs.Prelude.{is_some}
-use Rattle.std.proofs.lemmas.Bool.{cases_eq, true≢false}
-use Rattle.terms.proofs.CaseLemmas.{both}
+use Rattle.std.proofs.lemmas.Bool.{cases_eq, true≢false, and_parts}
 use Rattle.plp_config.specs.declared.config.Config.{Config}
 use Rattle.common_plp.specs.Groups.{is_common, group_of, is_own_in}
 use Rattle.common_plp.specs.Shared.{common_packet, is_shared}
@@ -19,7 +19,8 @@ use Rattle.gateway_core.specs.Slots.{any_held, is_held_in, slot_in, share_events
 use Rattle.gateway_core.proofs.RangeLemmas.{flat_more, not_found}
 
 -- what was done to a gateway, and what is held, when those of the inputs below a count went on
-pub record IsPassing (c : Config) (old now : Gateway) (was is : List (Option (List ℕ))) (turn : ℕ) (shared : Bool) (count : ℕ) : Type 0
+pub record IsPassing (c : Config) (old now : Gateway) (was is : List (Option (List ℕ))) (turn : ℕ) (shared : Bool)
+    (count : ℕ) : Type 0
   where
     pub stands : (d : Config) (done : List Event) → GatewayStandsFor old d done
         → GatewayStandsFor now d (done ++ passed c was turn shared count)
@@ -27,7 +28,8 @@ pub record IsPassing (c : Config) (old now : Gateway) (was is : List (Option (Li
     pub held : PassesOn c was turn count is
     pub behind : (plp : ℕ) → count ≤ plp → wants_of now plp ≡ wants_of old plp
     pub apart : (plp : ℕ) → is_member c turn plp ≡ false → wants_of now plp ≡ wants_of old plp
-    pub fewer : (plp : ℕ) → plp < count → is_member c turn plp ≡ true → held_at was plp ≢ None → wants_of now plp < wants_of old plp
+    pub fewer : (plp : ℕ) → plp < count → is_member c turn plp ≡ true → held_at was plp ≢ None
+        → wants_of now plp < wants_of old plp
 
 pub passing_none : (c : Config) (g : Gateway) (held : List (Option (List ℕ))) (turn : ℕ) (shared : Bool)
     → IsPassing c g g held held turn shared 0
@@ -47,7 +49,8 @@ passed_with c turn shared plp held = if is_member c turn plp then offered_of plp
 abbrev kept_with : Config → ℕ → ℕ → Option (List ℕ) → Option (List ℕ)
 kept_with c turn plp held = if is_member c turn plp then None else held
 
-pub passing_more : (c : Config) (old now next : Gateway) (was is after : List (Option (List ℕ))) (turn : ℕ) (shared : Bool) (count : ℕ)
+pub passing_more : (c : Config) (old now next : Gateway) (was is after : List (Option (List ℕ))) (turn : ℕ)
+    (shared : Bool) (count : ℕ)
     → IsPassing c old now was is turn shared count
     → ((d : Config) (done : List Event) → GatewayStandsFor now d done
     → GatewayStandsFor next d (done ++ passed_of c is turn shared count))
@@ -65,7 +68,8 @@ passing_more c old now next was is after turn shared count p stands others same 
           subst (λ (l : List Event). GatewayStandsFor next d l)
           (append_assoc done (passed c was turn shared count) (passed_of c was turn shared count)
           ∙ ap (λ (l : List Event). done ++ l) (sym (flat_more (passed_of c was turn shared) count)))
-          (subst (λ (h : Option (List ℕ)). GatewayStandsFor next d ((done ++ passed c was turn shared count) ++ passed_with c turn shared count h)) here
+          (subst (λ (h : Option (List ℕ)). GatewayStandsFor next d ((done ++ passed c was turn shared count)
+          ++ passed_with c turn shared count h)) here
           (stands d (done ++ passed c was turn shared count) (p.stands d done s)));
       status = status ∙ p.status;
       held = record {
@@ -86,19 +90,22 @@ passing_more c old now next was is after turn shared count p stands others same 
             (λ z. some (ap (held_at was) e ∙ sym here ∙ z)) in
             let before = p.behind count (omega arith) in omega (arith, less, before))
         | inr differ ↦
-            (let less = p.fewer plp (omega (arith, lt, differ)) on some in let now = others plp differ in omega (arith, less, now))
+            (let less = p.fewer plp (omega (arith, lt, differ)) on some in let now = others plp differ in
+            omega (arith, less, now))
       ];
     }
 
 -- ---- a slot of a group
 
 -- an input of the group of a common PLP is not common
-pub member_own : (c : Config) (turn plp : ℕ) → is_common c turn ≡ true → is_member c turn plp ≡ true → is_common c plp ≡ false
+pub member_own : (c : Config) (turn plp : ℕ) → is_common c turn ≡ true → is_member c turn plp ≡ true
+    → is_common c plp ≡ false
 member_own c turn plp common member =
     let own : is_own_in c (group_of c turn) plp ≡ true = rw common at member in
-    not_true (is_common c plp) (both (not (is_common c plp)) (group_of c plp == group_of c turn) own).0
+    not_true (is_common c plp) (and_parts (not (is_common c plp)) (group_of c plp == group_of c turn) own).0
 
-pub members_wanted : (c : Config) (old new : Gateway) (held : List (Option (List ℕ))) (turn : ℕ) → is_common c turn ≡ true
+pub members_wanted : (c : Config) (old new : Gateway) (held : List (Option (List ℕ))) (turn : ℕ)
+    → is_common c turn ≡ true
     → HeldWanted c old held → ((other : ℕ) → other ≢ turn → wants_of new other ≡ wants_of old other)
     → (plp : ℕ) → is_member c turn plp ≡ true → held_at held plp ≢ None → 0 < wants_of new plp
 members_wanted c old new held turn common wanted others plp member some =
@@ -107,14 +114,17 @@ members_wanted c old new held turn common wanted others plp member some =
     let same = others plp (λ e. true≢false (sym common ∙ ap (is_common c) (sym e) ∙ own)) in
     omega (arith, w, same)
 
-pub shared_stands : (c d : Config) (done : List Event) (held : List (Option (List ℕ))) (turn count : ℕ) (packet : List ℕ) (shared : Bool)
+pub shared_stands : (c d : Config) (done : List Event) (held : List (Option (List ℕ))) (turn count : ℕ)
+    (packet : List ℕ) (shared : Bool)
     (g : Gateway) → packet ≡ common_packet (slot_in c held turn) → shared ≡ is_shared (slot_in c held turn)
     → GatewayStandsFor g d ((done ++ Offered turn packet ∷ []) ++ passed c held turn shared count)
     → GatewayStandsFor g d (done ++ share_events c held turn count)
 shared_stands c d done held turn count packet shared g is on s =
-    subst (λ (b : Bool). GatewayStandsFor g d (done ++ Offered turn (common_packet (slot_in c held turn)) ∷ passed c held turn b count)) on
+    subst (λ (b : Bool). GatewayStandsFor g d (done ++ Offered turn (common_packet (slot_in c held turn))
+    ∷ passed c held turn b count)) on
     (subst (λ (p : List ℕ). GatewayStandsFor g d (done ++ Offered turn p ∷ passed c held turn shared count)) is
-    (subst (λ (l : List Event). GatewayStandsFor g d l) (append_assoc done (Offered turn packet ∷ []) (passed c held turn shared count)) s))
+    (subst (λ (l : List Event). GatewayStandsFor g d l) (append_assoc done (Offered turn packet ∷ [])
+    (passed c held turn shared count)) s))
 
 -- where nothing is held, nothing goes on
 none_here : (b : Bool) (o : Option (List ℕ)) → (b && is_some o) ≡ false → o ≡ (if b then None else o)
@@ -126,6 +136,7 @@ pub none_passes : (c : Config) (held : List (Option (List ℕ))) (turn count : �
     → PassesOn c held turn count held
 none_passes c held turn count none = record {
   size = refl;
-  below = λ plp lt. none_here (is_member c turn plp) (held_at held plp) (not_found (is_held_in c held turn) plp count lt none);
+  below = λ plp lt. none_here (is_member c turn plp) (held_at held plp) (not_found (is_held_in c held turn)
+      plp count lt none);
   behind = λ plp le. refl;
 }

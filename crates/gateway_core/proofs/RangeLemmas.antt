@@ -1,5 +1,6 @@
 -- Tests and lists over the places below a number.
-use Rattle.std.proofs.Common.{◌≡◌, ℕ, zero, suc, ◌+◌, ◌-◌, ◌<◌, ◌||◌, Bool, true, false, cond, List, [], ◌∷◌, ◌++◌, map, length, refl, ap, sym, ◌∙◌}
+use Rattle.std.proofs.Common.{◌≡◌, ℕ, zero, suc, ◌+◌, ◌-◌, ◌<◌, ◌||◌, Bool, true, false, cond, List, [], ◌∷◌, ◌++◌, map}
+use Rattle.std.proofs.Common.{length, refl, ap, sym, ◌∙◌}
 use Rattle.std.proofs.Common.{arith, append-nil}
 use Rattle.std.specs.Prelude.{filter}
 use Rattle.std.specs.declared.option.Option.{Option}
@@ -13,15 +14,18 @@ use Rattle.plp_config.specs.declared.config.Config.{Config}
 use Rattle.common_plp.specs.Groups.{is_common, group_of, is_own_in}
 use Rattle.gateway_core.specs.Slots.{held_at, seen_of, slot_in}
 
-pub flat_more : {X : Type 0} (f : ℕ → List X) (n : ℕ) → flat_map f (range_with_len 0 (n + 1)) ≡ flat_map f (range_with_len 0 n) ++ f n
+pub flat_more : {X : Type 0} (f : ℕ → List X) (n : ℕ) → flat_map f (range_with_len 0 (n + 1)) ≡ flat_map
+    f (range_with_len 0 n) ++ f n
 flat_more f n =
     ap (flat_map f) (places_more n) ∙ flat_map-append f (range_with_len 0 n) (n ∷ [])
     ∙ ap (λ l. flat_map f (range_with_len 0 n) ++ l) (append-nil (f n))
 
-pub any_append : {X : Type 0} (test : X → Bool) (xs ys : List X) → list_any test (xs ++ ys) ≡ (list_any test xs || list_any test ys)
+pub any_append : {X : Type 0} (test : X → Bool) (xs ys : List X)
+    → list_any test (xs ++ ys) ≡ (list_any test xs || list_any test ys)
 any_append test [] ys = refl
 any_append test (x ∷ xs) ys =
-    ap (λ (b : Bool). test x || b) (any_append test xs ys) ∙ sym (or_assoc (test x) (list_any test xs) (list_any test ys))
+    ap (λ (b : Bool). test x || b) (any_append test xs ys)
+    ∙ sym (or_assoc (test x) (list_any test xs) (list_any test ys))
 
 pub any_more : (test : ℕ → Bool) (n : ℕ) → list_any test (range_with_len 0 n) ≡ false → test n ≡ false
     → list_any test (range_with_len 0 (n + 1)) ≡ false
@@ -49,7 +53,8 @@ kept_seen c held turn common [] = refl
 kept_seen c held turn common (place ∷ places) =
     rw common (one (is_own_in c (group_of c turn) place) (kept_seen c held turn common places))
   where
-    one : (b : Bool) → flat_map (seen_of c held turn) places ≡ map (held_at held) (filter (is_own_in c (group_of c turn)) places)
+    one : (b : Bool) → flat_map (seen_of c held turn) places ≡ map (held_at held)
+        (filter (is_own_in c (group_of c turn)) places)
         → cond b (held_at held place ∷ []) [] ++ flat_map (seen_of c held turn) places
         ≡ map (held_at held) (cond b (place ∷ filter (is_own_in c (group_of c turn)) places)
         (filter (is_own_in c (group_of c turn)) places))

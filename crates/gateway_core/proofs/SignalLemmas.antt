@@ -1,5 +1,6 @@
 -- A sink with room for all bits takes them all.
-use Rattle.std.proofs.Common.{◌≡◌, ℕ, ◌-◌, ◌*◌, ◌≤◌, Bool, false, List, [], ◌++◌, length, take, Some, Result, Ok, Err, ap, ◌∙◌}
+use Rattle.std.proofs.Common.{◌≡◌, ℕ, ◌-◌, ◌*◌, ◌≤◌, Bool, false, List, [], ◌++◌, length, take, Some, Result, Ok, Err}
+use Rattle.std.proofs.Common.{ap, ◌∙◌}
 use Rattle.std.proofs.Common.{arith, length-append, refl}
 use Rattle.std.specs.Prelude.{OnOk, IfErr, IsOk}
 use Rattle.std.proofs.lemmas.List.{length-take}
@@ -36,7 +37,8 @@ pub takes_all : (r : Result (Unit {0}) SinkFault) (n : ℕ) (old new bits : List
 takes_all (Ok u) n old new bits none few stops = refl
 takes_all (Err e) n old new bits none few stops = absurd (never_full n old new bits e none few stops)
 
-pub written_whole : (r : Result (Unit {0}) SinkFault) (n : ℕ) (old new bits : List Bool) → old ≡ [] → length bits ≤ 8 * n
+pub written_whole : (r : Result (Unit {0}) SinkFault) (n : ℕ) (old new bits : List Bool) → old ≡ []
+    → length bits ≤ 8 * n
     → OnOk r (Puts (sink n old) (sink n new) bits) → IfErr r (Stops (sink n old) (sink n new) bits) → new ≡ bits
 written_whole (Ok u) n old new bits none few puts stops = puts.written ∙ ap (λ (l : List Bool). l ++ bits) none
 written_whole (Err e) n old new bits none few puts stops = absurd (never_full n old new bits e none few stops)

@@ -23,7 +23,8 @@ use Rattle.gateway_core.proofs.MemberLemmas.{member_input, alone_is, alone_same,
 use Rattle.gateway_core.proofs.MemberLemmas.{common_is}
 
 -- one packet more of a stream
-pub more_given : (c : Config) (came : ℕ → List (List ℕ)) (over : ℕ → Bool) (gave : List (List ℕ)) (closed : Bool) (plp : ℕ) (packet : List ℕ)
+pub more_given : (c : Config) (came : ℕ → List (List ℕ)) (over : ℕ → Bool) (gave : List (List ℕ)) (closed : Bool)
+    (plp : ℕ) (packet : List ℕ)
     → IsSplit c came over gave closed plp → closed ≡ false
     → ((source : ℕ) → source < length c.plps → is_member c (turn_of c plp) source ≡ true
     → (length gave + 1 ≤ length (came source)) ⊎ (over source ≡ true))
@@ -53,7 +54,8 @@ passing shared None = []
 passing shared (Some packet) = going_on shared packet ∷ []
 
 -- what is known of an input of the group
-pub record Known (c : Config) (held : List (Option (List ℕ))) (came : ℕ → List (List ℕ)) (over : ℕ → Bool) (gave : ℕ → List (List ℕ))
+pub record Known (c : Config) (held : List (Option (List ℕ))) (came : ℕ → List (List ℕ)) (over : ℕ → Bool) (gave : ℕ
+    → List (List ℕ))
     (turn plp : ℕ) : Type 0 where
   pub input : IsInput c plp
   pub turn_is : turn_of c plp ≡ turn
@@ -68,26 +70,32 @@ pub some_within : (xs : List (List ℕ)) (n : ℕ) (o : Option (List ℕ)) → o
 some_within xs n None e some = absurd (some refl)
 some_within xs n (Some x) e some = slice_get_within xs n x (sym e)
 
-pub known : (c : Config) (held : List (Option (List ℕ))) (came : ℕ → List (List ℕ)) (over : ℕ → Bool) (gave : ℕ → List (List ℕ))
-    (closed : ℕ → Bool) (turn plp : ℕ) → Splits c held came over gave closed → IsReady c held over closed turn → plp < length c.plps
+pub known : (c : Config) (held : List (Option (List ℕ))) (came : ℕ → List (List ℕ)) (over : ℕ → Bool) (gave : ℕ
+    → List (List ℕ))
+    (closed : ℕ → Bool) (turn plp : ℕ) → Splits c held came over gave closed → IsReady c held over closed turn
+    → plp < length c.plps
     → is_member c turn plp ≡ true → Known c held came over gave turn plp
 known c held came over gave closed turn plp s r inside member =
     let i = member_input c turn plp inside member in
     let t = turn_is c turn plp r.rules r.inside r.first member in
-    let live : over plp ≡ false → length (gave plp) ≡ length (gave turn) = λ off. s.step plp i off ∙ ap (λ (k : ℕ). length (gave k)) t in
+    let live : over plp ≡ false → length (gave plp) ≡ length (gave turn) = λ off. s.step plp i off
+    ∙ ap (λ (k : ℕ). length (gave k)) t in
     let done : over plp ≡ true → length (came plp) ≤ length (gave plp) = λ on.
     ((s.each plp inside).whole (s.closed_is plp i ∙ on) plp inside (alone_is c plp i.1)).1 in
-    let few : length (gave plp) ≤ length (gave turn) = (let b = s.behind plp i in let e = ap (λ (k : ℕ). length (gave k)) t in
+    let few : length (gave plp) ≤ length (gave turn) = (let b = s.behind plp i in let e = ap
+    (λ (k : ℕ). length (gave k)) t in
     omega (arith, b, e)) in
     record {
       input = i;
       turn_is = t;
       live = live;
       open_if = λ some. bool_cases (over plp)
-          (λ on. absurd (some (s.held_is plp i ∙ slice_get_past (came plp) (length (gave plp)) (done on)))) (λ off. off);
+          (λ on. absurd (some (s.held_is plp i ∙ slice_get_past (came plp) (length (gave plp)) (done on))))
+          (λ off. off);
       few = few;
       done = done;
-      next = bool_cases (over plp) (λ on. inr on) (λ off. inl (let w = some_within (came plp) (length (gave plp)) (held_at held plp)
+      next = bool_cases (over plp) (λ on. inr on)
+          (λ off. inl (let w = some_within (came plp) (length (gave plp)) (held_at held plp)
           (s.held_is plp i) (r.come plp inside member off) in let e = live off in omega (arith, w, e)));
       here = bool_cases (over plp)
           (λ on. s.held_is plp i ∙ slice_get_past (came plp) (length (gave plp)) (done on)
@@ -96,8 +104,10 @@ known c held came over gave closed turn plp s r inside member =
     }
 
 -- what the inputs of a common PLP's group have in the slot
-pub slot_is : (c : Config) (held : List (Option (List ℕ))) (came : ℕ → List (List ℕ)) (over : ℕ → Bool) (gave : ℕ → List (List ℕ))
-    (closed : ℕ → Bool) (turn : ℕ) → Splits c held came over gave closed → IsReady c held over closed turn → is_common c turn ≡ true
+pub slot_is : (c : Config) (held : List (Option (List ℕ))) (came : ℕ → List (List ℕ)) (over : ℕ → Bool) (gave : ℕ
+    → List (List ℕ))
+    (closed : ℕ → Bool) (turn : ℕ) → Splits c held came over gave closed → IsReady c held over closed turn
+    → is_common c turn ≡ true
     → slot_in c held turn ≡ slot_of (group_streams c came (group_of c turn)) (length (gave turn))
 slot_is c held came over gave closed turn s r common =
     own_same c (held_at held) (λ q. slice_get (came q) (length (gave turn))) (group_of c turn)
@@ -105,7 +115,8 @@ slot_is c held came over gave closed turn s r common =
     ∙ sym (map-map (λ stream. slice_get stream (length (gave turn))) came (own_places c (group_of c turn)))
 
 -- what goes on of an input is the next packet of its stream
-pub next_packet : (c : Config) (held : List (Option (List ℕ))) (came : ℕ → List (List ℕ)) (over : ℕ → Bool) (gave : ℕ → List (List ℕ))
+pub next_packet : (c : Config) (held : List (Option (List ℕ))) (came : ℕ → List (List ℕ)) (over : ℕ → Bool) (gave : ℕ
+    → List (List ℕ))
     (closed : ℕ → Bool) (turn plp : ℕ) (shared : Bool) (packet : List ℕ) → Splits c held came over gave closed
     → IsReady c held over closed turn
     → (is_common c turn ≡ true → shared ≡ is_shared (slot_in c held turn)) → (is_common c turn ≡ false → shared ≡ false)
@@ -119,7 +130,8 @@ next_packet c held came over gave closed turn plp shared packet s r on off insid
     (λ common.
     let o = own_of c turn plp common member in
     let from : common_of c plp ≡ Some turn = common_is c turn plp r.rules r.inside common o.0 o.1 in
-    let stream : packet_at (split c came plp) n ≡ own_packet (slot_of (group_streams c came (group_of c plp)) n) (packet_at (came plp) n) =
+    let stream : packet_at (split c came plp) n ≡ own_packet (slot_of (group_streams c came (group_of c plp)) n)
+    (packet_at (came plp) n) =
     split_slot c came plp n ∙ own_case (is_common c plp) (is_some (common_of c plp)) _ _ _ o.0 (ap is_some from) in
     let slot : is_shared (slot_in c held turn) ≡ is_shared (slot_of (group_streams c came (group_of c plp)) n) =
     ap is_shared (slot_is c held came over gave closed turn s r common
@@ -129,18 +141,23 @@ next_packet c held came over gave closed turn plp shared packet s r on off insid
     let same : plp ≡ turn = alone_same c turn plp own member in
     let none : common_of c plp ≡ None = ap (common_of c) same ∙ r.first in
     let stream : packet_at (split c came plp) n ≡ packet_at (came plp) n =
-    split_slot c came plp n ∙ alone_case (is_common c plp) (is_some (common_of c plp)) _ _ _ k.input.1 (ap is_some none) in
+    split_slot c came plp n ∙ alone_case (is_common c plp) (is_some (common_of c plp)) _ _ _ k.input.1
+    (ap is_some none) in
     ap (λ (b : Bool). going_on b packet) (off own) ∙ sym here ∙ sym stream)
   where
-    own_case : (common some : Bool) (x y z : List ℕ) → common ≡ false → some ≡ true → (if common then x else if some then y else z) ≡ y
+    own_case : (common some : Bool) (x y z : List ℕ) → common ≡ false → some ≡ true
+        → (if common then x else if some then y else z) ≡ y
     own_case common some x y z off on = rw (off, on) refl
 
-    alone_case : (common some : Bool) (x y z : List ℕ) → common ≡ false → some ≡ false → (if common then x else if some then y else z) ≡ z
+    alone_case : (common some : Bool) (x y z : List ℕ) → common ≡ false → some ≡ false
+        → (if common then x else if some then y else z) ≡ z
     alone_case common some x y z off none = rw (off, none) refl
 
 -- so is what goes in the common PLP
-pub lead_packet : (c : Config) (held : List (Option (List ℕ))) (came : ℕ → List (List ℕ)) (over : ℕ → Bool) (gave : ℕ → List (List ℕ))
-    (closed : ℕ → Bool) (turn : ℕ) → Splits c held came over gave closed → IsReady c held over closed turn → is_common c turn ≡ true
+pub lead_packet : (c : Config) (held : List (Option (List ℕ))) (came : ℕ → List (List ℕ)) (over : ℕ → Bool) (gave : ℕ
+    → List (List ℕ))
+    (closed : ℕ → Bool) (turn : ℕ) → Splits c held came over gave closed → IsReady c held over closed turn
+    → is_common c turn ≡ true
     → common_packet (slot_in c held turn) ≡ packet_at (split c came turn) (length (gave turn))
 lead_packet c held came over gave closed turn s r common =
     ap common_packet (slot_is c held came over gave closed turn s r common)
@@ -150,10 +167,12 @@ lead_packet c held came over gave closed turn s r common =
     first_case common x y on = rw on refl
 
 -- what went on of a slot
-pub record IsPassed (c : Config) (held after : List (Option (List ℕ))) (gave more : ℕ → List (List ℕ)) (turn : ℕ) (shared : Bool)
+pub record IsPassed (c : Config) (held after : List (Option (List ℕ))) (gave more : ℕ → List (List ℕ))
+    (turn : ℕ) (shared : Bool)
     : Type 0 where
   pub lead : is_common c turn ≡ true → more turn ≡ gave turn ++ common_packet (slot_in c held turn) ∷ []
-  pub own : (plp : ℕ) → plp < length c.plps → is_member c turn plp ≡ true → more plp ≡ gave plp ++ passing shared (held_at held plp)
+  pub own : (plp : ℕ) → plp < length c.plps → is_member c turn plp ≡ true
+      → more plp ≡ gave plp ++ passing shared (held_at held plp)
   pub rest : (plp : ℕ) → is_member c turn plp ≡ false → plp ≢ turn → more plp ≡ gave plp
   pub on : is_common c turn ≡ true → shared ≡ is_shared (slot_in c held turn)
   pub off : is_common c turn ≡ false → shared ≡ false

@@ -1,6 +1,8 @@
 -- What came of the inputs, and what went on of it.
-use Rattle.std.proofs.Common.{◌≡◌, ◌≢◌, ◌⊎◌, ℕ, zero, suc, ◌+◌, ◌<◌, ◌≤◌, Bool, true, false, inl, inr, List, [], ◌∷◌, ◌++◌}
-use Rattle.std.proofs.Common.{length, take, drop, Some, None, refl, ap, sym, subst, ◌∙◌, arith, append-nil, length-append}
+use Rattle.std.proofs.Common.{◌≡◌, ◌≢◌, ◌⊎◌, ℕ, zero, suc, ◌+◌, ◌<◌, ◌≤◌, Bool, true, false, inl, inr, List, [], ◌∷◌}
+use Rattle.std.proofs.Common.{◌++◌}
+use Rattle.std.proofs.Common.{length, take, drop, Some, None, refl, ap, sym, subst, ◌∙◌, arith, append-nil}
+use Rattle.std.proofs.Common.{length-append}
 use Rattle.std.specs.Prelude.{slice_get}
 use Rattle.std.specs.declared.option.Option.{Option}
 use Rattle.std.proofs.Common.{⊎_elim, get_or}
@@ -36,18 +38,21 @@ abbrev pub told_as : (ℕ → List (List ℕ)) → (ℕ → Bool) → ℕ → �
 told_as came over frame plp = record { packets = came plp; ended = over plp; frame = frame }
 
 -- what a PLP was given is the front of its stream, whatever follows
-given_front : (c : Config) (came inputs : ℕ → List (List ℕ)) (over : ℕ → Bool) (gave : List (List ℕ)) (closed : Bool) (plp frame : ℕ)
+given_front : (c : Config) (came inputs : ℕ → List (List ℕ)) (over : ℕ → Bool) (gave : List (List ℕ))
+    (closed : Bool) (plp frame : ℕ)
     → plp < length c.plps → IsSplit c came over gave closed plp
     → ((q : ℕ) → IsInput c q → Continues (told_as came over frame q) (inputs q))
     → take (length gave) (split c inputs plp) ≡ gave
 given_front c came inputs over gave closed plp frame inside s k =
     front_decided c inputs came plp (length gave) inside
-    (λ q lt member. front_same (told_as came over frame q) (inputs q) (length gave) (k q (member_input c (turn_of c plp) q lt member))
+    (λ q lt member. front_same (told_as came over frame q) (inputs q) (length gave)
+    (k q (member_input c (turn_of c plp) q lt member))
     (s.settled q lt member))
     ∙ sym s.front
 
 -- a stream that was closed has no more
-pub closed_length : (c : Config) (came inputs : ℕ → List (List ℕ)) (over : ℕ → Bool) (gave : List (List ℕ)) (closed : Bool) (plp frame : ℕ)
+pub closed_length : (c : Config) (came inputs : ℕ → List (List ℕ)) (over : ℕ → Bool) (gave : List (List ℕ))
+    (closed : Bool) (plp frame : ℕ)
     → plp < length c.plps → IsSplit c came over gave closed plp
     → ((q : ℕ) → IsInput c q → Continues (told_as came over frame q) (inputs q)) → closed ≡ true
     → length (split c inputs plp) ≤ length gave
@@ -59,8 +64,10 @@ closed_length c came inputs over gave closed plp frame inside s k on =
     let l = w.1 in omega (arith, e, l)) in
     bool_cases (is_common c plp)
     (λ common.
-    let all = longest_few c inputs (group_of c plp) (length gave) (λ q lt own. few q lt (of_common c plp q common own)) in
-    let here : length (split c inputs plp) ≡ longest (group_streams c inputs (group_of c plp)) = size ∙ rw common refl in
+    let all = longest_few c inputs (group_of c plp) (length gave)
+    (λ q lt own. few q lt (of_common c plp q common own)) in
+    let here : length (split c inputs plp) ≡ longest (group_streams c inputs (group_of c plp)) = size
+    ∙ rw common refl in
     omega (arith, all, here))
     (λ own.
     let all = few plp inside (alone_is c plp own) in
@@ -76,14 +83,17 @@ goes_on c came inputs over t plp frame inside s k =
     record {
       rest = drop n (split c inputs plp);
       front = sym (take-append-drop n (split c inputs plp))
-          ∙ ap (λ (l : List (List ℕ)). l ++ drop n (split c inputs plp)) (given_front c came inputs over t.packets t.ended plp frame inside s k);
-      whole = λ on. drop_all n (split c inputs plp) (closed_length c came inputs over t.packets t.ended plp frame inside s k on);
+          ∙ ap (λ (l : List (List ℕ)). l ++ drop n (split c inputs plp)) (given_front c came inputs over
+          t.packets t.ended plp frame inside s k);
+      whole = λ on. drop_all n (split c inputs plp) (closed_length c came inputs over t.packets t.ended
+          plp frame inside s k on);
     }
 
 -- ---- one packet more comes, or an input ends
 
 pub past_none : (xs : List (List ℕ)) (n : ℕ) → slice_get xs n ≡ None → length xs ≤ n
-past_none xs n e = ⊎_elim (λ (lt : n < length xs). absurd (none_some {P = ⊥} (get_or xs n []) (sym e ∙ slice_get-get_or xs n [] lt)))
+past_none xs n e = ⊎_elim (λ (lt : n < length xs). absurd (none_some {P = ⊥} (get_or xs n []) (sym e
+    ∙ slice_get-get_or xs n [] lt)))
     (λ (le : length xs ≤ n). le) (cases_lt n (length xs))
 
 -- an input of which nothing is held, and which did not end, has as many as went on
@@ -107,10 +117,14 @@ last_is (y ∷ xs) x (suc n) e = last_is xs x n (omega (arith, e))
 pub at_or : (P : ℕ → Type 0) (plp k : ℕ) → (k ≡ plp → P k) → (k ≢ plp → P k) → P k
 at_or P plp k here other = elim (cases_eq k plp) [ inl e ↦ here e | inr d ↦ other d ]
 
-pub packet_came : (c : Config) (held next : List (Option (List ℕ))) (came more : ℕ → List (List ℕ)) (over still : ℕ → Bool)
-    (gave : ℕ → List (List ℕ)) (closed : ℕ → Bool) (plp : ℕ) (packet : List ℕ) → Splits c held came over gave closed → IsInput c plp
-    → held_at held plp ≡ None → over plp ≡ false → more plp ≡ came plp ++ packet ∷ [] → ((k : ℕ) → k ≢ plp → more k ≡ came k)
-    → ((k : ℕ) → still k ≡ over k) → held_at next plp ≡ Some packet → ((k : ℕ) → k ≢ plp → held_at next k ≡ held_at held k)
+pub packet_came : (c : Config) (held next : List (Option (List ℕ))) (came more : ℕ → List (List ℕ)) (over still : ℕ
+    → Bool)
+    (gave : ℕ → List (List ℕ)) (closed : ℕ → Bool) (plp : ℕ) (packet : List ℕ) → Splits c held came over gave closed
+    → IsInput c plp
+    → held_at held plp ≡ None → over plp ≡ false → more plp ≡ came plp ++ packet ∷ []
+    → ((k : ℕ) → k ≢ plp → more k ≡ came k)
+    → ((k : ℕ) → still k ≡ over k) → held_at next plp ≡ Some packet
+    → ((k : ℕ) → k ≢ plp → held_at next k ≡ held_at held k)
     → Splits c next more still gave closed
 packet_came c held next came more over still gave closed plp packet s i none going one others same here apart =
     let count = none_held c _ held came over gave closed plp s i none going in
@@ -127,19 +141,25 @@ packet_came c held next came more over still gave closed plp packet s i none goi
         front = e.front ∙ front_decided c came more p (length (gave p)) lt (λ q inside member.
             at_or (λ q. take (length (gave p)) (came q) ≡ take (length (gave p)) (more q)) plp q
             (λ is. elim (e.settled q inside member) [
-              | inl le ↦ sym (ap (take (length (gave p))) (ap more is ∙ one ∙ ap (λ (l : List (List ℕ)). l ++ packet ∷ []) (ap came (sym is)))
+              | inl le ↦ sym (ap (take (length (gave p))) (ap more is ∙ one
+                  ∙ ap (λ (l : List (List ℕ)). l ++ packet ∷ []) (ap came (sym is)))
                   ∙ take-append-le (length (gave p)) (came q) (packet ∷ []) le)
               | inr on ↦ absurd (true≢false (sym on ∙ ap over is ∙ going))
             ])
             (λ d. ap (take (length (gave p))) (sym (others q d))));
-        whole = λ on q inside member. let w = e.whole on q inside member in
-            (same q ∙ w.0, (let n = ap length (others q (λ is. true≢false (sym w.0 ∙ ap over is ∙ going))) in let l = w.1 in omega (arith, n, l)));
+        whole = λ on q inside member. let w = e.whole on q inside member in (
+          same q ∙ w.0,
+          (let n = ap length (others q (λ is. true≢false (sym w.0 ∙ ap over is ∙ going))) in
+              let l = w.1 in omega (arith, n, l)),
+        );
       };
       closed_is = λ k input. s.closed_is k input ∙ sym (same k);
       held_is = λ k input. at_or (λ k. held_at next k ≡ slice_get (more k) (length (gave k))) plp k
           (λ e. subst (λ (j : ℕ). held_at next j ≡ slice_get (more j) (length (gave j))) (sym e)
-          (here ∙ sym (ap (λ (l : List (List ℕ)). slice_get l (length (gave plp))) one ∙ last_is (came plp) packet (length (gave plp)) count)))
-          (λ d. apart k d ∙ s.held_is k input ∙ ap (λ (l : List (List ℕ)). slice_get l (length (gave k))) (sym (others k d)));
+          (here ∙ sym (ap (λ (l : List (List ℕ)). slice_get l (length (gave plp))) one
+          ∙ last_is (came plp) packet (length (gave plp)) count)))
+          (λ d. apart k d ∙ s.held_is k input ∙ ap (λ (l : List (List ℕ)). slice_get l (length (gave k)))
+          (sym (others k d)));
       few = λ k input. at_or (λ k. length (more k) ≤ length (gave k) + 1) plp k
           (λ e. subst (λ (j : ℕ). length (more j) ≤ length (gave j) + 1) (sym e) (omega (arith, grown, count)))
           (λ d. let n = ap length (others k d) in let f = s.few k input in omega (arith, n, f));
@@ -163,7 +183,8 @@ input_ended c held came more over now gave closed shut plp s i none going same o
           | inl le ↦ inl (let n = size q in omega (arith, le, n))
           | inr is ↦ inr (later q is)
         ];
-        front = e.front ∙ front_decided c came more p (length (gave p)) lt (λ q inside member. ap (take (length (gave p))) (sym (same q)));
+        front = e.front ∙ front_decided c came more p (length (gave p)) lt
+            (λ q inside member. ap (take (length (gave p))) (sym (same q)));
         whole = λ is q inside member. elim (cases_eq p plp) [
           | inl here ↦
               let it : q ≡ plp = alone_same c p q (ap (is_common c) here ∙ i.1) member ∙ here in (
@@ -180,5 +201,6 @@ input_ended c held came more over now gave closed shut plp s i none going same o
       held_is = λ k input. s.held_is k input ∙ ap (λ (l : List (List ℕ)). slice_get l (length (gave k))) (sym (same k));
       few = λ k input. (let f = s.few k input in let n = size k in omega (arith, f, n));
       behind = s.behind;
-      step = λ k input going. s.step k input (bool_cases (over k) (λ is. absurd (true≢false (sym (later k is) ∙ going))) (λ f. f));
+      step = λ k input going. s.step k input (bool_cases (over k) (λ is. absurd (true≢false (sym (later k is) ∙ going)))
+          (λ f. f));
     }

@@ -1,5 +1,6 @@
 -- What a gateway with common PLPs stands for behind each call.
-use Rattle.std.proofs.Common.{◌≡◌, ◌≢◌, ℕ, ◌+◌, ◌-◌, ◌*◌, ◌<◌, ◌≤◌, Bool, true, false, List, [], ◌∷◌, ◌++◌, length, Some, None}
+use Rattle.std.proofs.Common.{◌≡◌, ◌≢◌, ℕ, ◌+◌, ◌-◌, ◌*◌, ◌<◌, ◌≤◌, Bool, true, false, List, [], ◌∷◌, ◌++◌, length}
+use Rattle.std.proofs.Common.{Some, None}
 use Rattle.std.proofs.Common.{refl, ap, sym, subst, ◌∙◌, inl, inr, arith, replicate, ⊎_elim}
 use Rattle.std.specs.Prelude.{slice_get}
 use Rattle.std.specs.declared.option.Option.{Option}
@@ -28,7 +29,8 @@ use Rattle.gateway_core.specs.InputSoFar.{Told, told}
 use Rattle.gateway_core.specs.InputsStandFor.{AllContinue}
 use Rattle.gateway_core.specs.StandsFor.{GatewayStandsFor, plps_of, wants_of}
 use Rattle.gateway_core.specs.declared.gateway.Gateway.{Gateway}
-use Rattle.gateway_core.proofs.HoldsLemmas.{other_offered, other_ended, begun_same, given_same, finished_same, begun_with}
+use Rattle.gateway_core.proofs.HoldsLemmas.{other_offered, other_ended, begun_same, given_same, finished_same}
+use Rattle.gateway_core.proofs.HoldsLemmas.{begun_with}
 use Rattle.gateway_core.proofs.HoldsLemmas.{given_with}
 use Rattle.gateway_core.proofs.InputsLemmas.{told_offered, told_ended}
 use Rattle.gateway_core.specs.Continuing.{InputsContinue}
@@ -50,10 +52,12 @@ use Rattle.gateway_core.proofs.SplitLemmas.{goes_on, none_held, packet_came, inp
 
 none_at : (n plp : ℕ) → held_at (replicate n None) plp ≡ None
 none_at n plp = ⊎_elim (λ (lt : plp < n). get_or-replicate n plp None None lt)
-    (λ (le : n ≤ plp). get_or-eq_default (replicate n None) None (omega (arith, le, length-replicate {A = Option (List ℕ)} n None)))
+    (λ (le : n ≤ plp). get_or-eq_default (replicate n None) None
+    (omega (arith, le, length-replicate {A = Option (List ℕ)} n None)))
     (cases_lt plp n)
 
-pub new_works : (c : Config) (g : Gateway) (held : List (Option (List ℕ))) (n : ℕ) → held ≡ replicate n None → GatewayStandsFor g c []
+pub new_works : (c : Config) (g : Gateway) (held : List (Option (List ℕ))) (n : ℕ) → held ≡ replicate n None
+    → GatewayStandsFor g c []
     → Works c g held []
 new_works c g held n is stands = record {
   done = [];
@@ -77,8 +81,10 @@ new_works c g held n is stands = record {
   };
 }
 
-pub none_is_wanted : (c : Config) (g : Gateway) (held : List (Option (List ℕ))) (n : ℕ) → held ≡ replicate n None → HeldWanted c g held
-none_is_wanted c g held n is = λ plp own some. absurd (some (ap (λ (h : List (Option (List ℕ))). held_at h plp) is ∙ none_at n plp))
+pub none_is_wanted : (c : Config) (g : Gateway) (held : List (Option (List ℕ))) (n : ℕ) → held ≡ replicate n None
+    → HeldWanted c g held
+none_is_wanted c g held n is = λ plp own some. absurd (some (ap (λ (h : List (Option (List ℕ))). held_at h plp) is
+    ∙ none_at n plp))
 
 -- ---- slots went on
 
@@ -88,7 +94,8 @@ after_move c g next items was is now from to m events w =
     subst (λ (h : List (Option (List ℕ))). Works c next h events) (sym to)
     (m.goes events (subst (λ (h : List (Option (List ℕ))). Works c g h events) (sym from) w))
 
-pub asks_of : InStep → (s : SplitGateway) (held : List (Option (List ℕ))) (o : Option ℕ) → s.held.items ≡ held → AllRules s.plan.now
+pub asks_of : InStep → (s : SplitGateway) (held : List (Option (List ℕ))) (o : Option ℕ) → s.held.items ≡ held
+    → AllRules s.plan.now
     → FindsFirst s.plan.now s.gateway held o → Asks s o
 asks_of law s held None is rules settled = λ plp lt.
     none_wanted_by law s.plan.now s.gateway s.held.items plp rules s.plps s.worked settled lt
@@ -106,11 +113,13 @@ asks_of law s held (Some plp) is rules t =
 pub all_continue : (c : Config) (held : List (Option (List ℕ))) (events done : List Event) (inputs : ℕ → List (List ℕ))
     → Splitting c held events done → InputsContinue c events inputs → AllContinue c done (split c inputs)
 all_continue c held events done inputs s k = λ plp lt.
-    goes_on c (λ q. offered q events) inputs (λ q. has_ended q events) (told plp done) plp (begun events) lt (s.splits.each plp lt) k
+    goes_on c (λ q. offered q events) inputs (λ q. has_ended q events) (told plp done) plp (begun events)
+    lt (s.splits.each plp lt) k
 
 -- ---- a packet, and an end
 
-pub offered_works : (c : Config) (g : Gateway) (held after : List (Option (List ℕ))) (events : List Event) (plp : ℕ) (packet : List ℕ)
+pub offered_works : (c : Config) (g : Gateway) (held after : List (Option (List ℕ))) (events : List Event)
+    (plp : ℕ) (packet : List ℕ)
     → IsInput c plp → held_at held plp ≡ None → has_ended plp events ≡ false → held_at after plp ≡ Some packet
     → ((k : ℕ) → k ≢ plp → held_at after k ≡ held_at held k) → Works c g held events
     → Works c g after (events ++ Offered plp packet ∷ [])
@@ -143,12 +152,16 @@ ended_works c g next held events plp i none off stands w = record {
   splits = record {
     begun_is = begun_same w.done (Ended plp) refl ∙ w.splits.begun_is ∙ sym (begun_same events (Ended plp) refl);
     given_is = given_same w.done (Ended plp) refl ∙ w.splits.given_is ∙ sym (given_same events (Ended plp) refl);
-    finished_is = finished_same w.done (Ended plp) refl ∙ w.splits.finished_is ∙ sym (finished_same events (Ended plp) refl);
+    finished_is = finished_same w.done (Ended plp) refl ∙ w.splits.finished_is
+        ∙ sym (finished_same events (Ended plp) refl);
     splits = gave_as c held _ _ _ (λ k. offered k (w.done ++ Ended plp ∷ [])) _ (λ k. sym (same_packets w.done k))
-        (input_ended c held _ (λ k. offered k (events ++ Ended plp ∷ [])) _ (λ k. has_ended k (events ++ Ended plp ∷ [])) _ _
+        (input_ended c held _ (λ k. offered k (events ++ Ended plp ∷ [])) _
+        (λ k. has_ended k (events ++ Ended plp ∷ [])) _ _
         (λ k. has_ended k (w.done ++ Ended plp ∷ [])) plp w.splits.splits i none off (same_packets events)
-        (ap (λ (t : Told). t.ended) (told_ended plp events)) (λ k d. ap (λ (t : Told). t.ended) (other_ended k plp events d))
-        (ap (λ (t : Told). t.ended) (told_ended plp w.done)) (λ k d. ap (λ (t : Told). t.ended) (other_ended k plp w.done d)));
+        (ap (λ (t : Told). t.ended) (told_ended plp events)) (λ k d. ap (λ (t : Told). t.ended)
+        (other_ended k plp events d))
+        (ap (λ (t : Told). t.ended) (told_ended plp w.done)) (λ k d. ap (λ (t : Told). t.ended)
+        (other_ended k plp w.done d)));
   };
 }
   where
@@ -164,7 +177,8 @@ ended_works c g next held events plp i none off stands w = record {
 -- the same in four functions
 splits_as : (c : Config) (held : List (Option (List ℕ))) (came more : ℕ → List (List ℕ)) (over now : ℕ → Bool)
     (gave sent : ℕ → List (List ℕ)) (closed shut : ℕ → Bool) → ((k : ℕ) → came k ≡ more k) → ((k : ℕ) → over k ≡ now k)
-    → ((k : ℕ) → gave k ≡ sent k) → ((k : ℕ) → closed k ≡ shut k) → Splits c held came over gave closed → Splits c held more now sent shut
+    → ((k : ℕ) → gave k ≡ sent k) → ((k : ℕ) → closed k ≡ shut k) → Splits c held came over gave closed
+    → Splits c held more now sent shut
 splits_as c held came more over now gave sent closed shut a b d e s =
     let pa : came ≡ more = λ i k. a k i in
     let pb : over ≡ now = λ i k. b k i in
@@ -184,12 +198,16 @@ quiet_works c g next held events e none off stands w = record {
   done = w.done ++ e ∷ [];
   stands = stands c w.done w.stands;
   splits = record {
-    begun_is = begun_with w.done e ∙ ap (λ (n : ℕ). n + cond (begins e) 1 0) w.splits.begun_is ∙ sym (begun_with events e);
-    given_is = given_with w.done e ∙ ap (λ (n : ℕ). n + cond (gives e) 1 0) w.splits.given_is ∙ sym (given_with events e);
-    finished_is = any_append finishes w.done (e ∷ []) ∙ ap (λ (b : Bool). b || list_any finishes (e ∷ [])) w.splits.finished_is
+    begun_is = begun_with w.done e ∙ ap (λ (n : ℕ). n + cond (begins e) 1 0) w.splits.begun_is
+        ∙ sym (begun_with events e);
+    given_is = given_with w.done e ∙ ap (λ (n : ℕ). n + cond (gives e) 1 0) w.splits.given_is
+        ∙ sym (given_with events e);
+    finished_is = any_append finishes w.done (e ∷ []) ∙ ap (λ (b : Bool). b || list_any finishes (e ∷ []))
+        w.splits.finished_is
         ∙ sym (any_append finishes events (e ∷ []));
     splits = splits_as c held _ (λ k. offered k (events ++ e ∷ [])) _ (λ k. has_ended k (events ++ e ∷ [])) _
-        (λ k. offered k (w.done ++ e ∷ [])) _ (λ k. has_ended k (w.done ++ e ∷ [])) (packets events) (over events) (packets w.done)
+        (λ k. offered k (w.done ++ e ∷ [])) _ (λ k. has_ended k (w.done ++ e ∷ [])) (packets events)
+        (over events) (packets w.done)
         (over w.done) w.splits.splits;
   };
 }
@@ -203,8 +221,10 @@ quiet_works c g next held events e none off stands w = record {
 -- ---- what holds of a struct
 
 pub worked_by : (c : Config) (g next : Gateway) (was is : List (Option (List ℕ))) → ∥ HasWorked c g was ∥₁
-    → ((events : List Event) → Works c g was events → (now : List Event) × Works c next is now) → ∥ HasWorked c next is ∥₁
-worked_by c g next was is w f = ∥∥₁_map w (λ (h : HasWorked c g was). let n = f h.events h.works in record { events = n.0; works = n.1 })
+    → ((events : List Event) → Works c g was events → (now : List Event) × Works c next is now)
+    → ∥ HasWorked c next is ∥₁
+worked_by c g next was is w f = ∥∥₁_map w (λ (h : HasWorked c g was). let n = f h.events h.works in
+    record { events = n.0; works = n.1 })
 
 -- a place behind the last PLP counts as common
 common_beyond : (c : Config) (plp : ℕ) → length c.plps ≤ plp → is_common c plp ≡ true
@@ -212,7 +232,8 @@ common_beyond c plp le = ap (λ (p : Plp). is_common_type p.plp_type) (get_or-eq
 
 own_inside : (c : Config) (plp : ℕ) → is_common c plp ≡ false → plp < length c.plps
 own_inside c plp own = ⊎_elim (λ (lt : plp < length c.plps). lt)
-    (λ (le : length c.plps ≤ plp). absurd (true≢false (sym (common_beyond c plp le) ∙ own))) (cases_lt plp (length c.plps))
+    (λ (le : length c.plps ≤ plp). absurd (true≢false (sym (common_beyond c plp le) ∙ own)))
+    (cases_lt plp (length c.plps))
 
 -- if nothing is wanted nothing is held
 pub begun_wanted : (c : Config) (g next : Gateway) (held : List (Option (List ℕ))) → HeldWanted c g held
@@ -225,7 +246,8 @@ pub same_wanted : (c : Config) (g next : Gateway) (held : List (Option (List ℕ
 same_wanted c g next held w same = λ plp own some. (let lt = w plp own some in let e = same plp in omega (arith, lt, e))
 
 pub ended_wanted : (c : Config) (g next : Gateway) (held : List (Option (List ℕ))) (plp : ℕ) → HeldWanted c g held
-    → held_at held plp ≡ None → ((other : ℕ) → other ≢ plp → wants_of next other ≡ wants_of g other) → HeldWanted c next held
+    → held_at held plp ≡ None → ((other : ℕ) → other ≢ plp → wants_of next other ≡ wants_of g other)
+    → HeldWanted c next held
 ended_wanted c g next held plp w none others = λ k own some. elim (cases_eq k plp) [
   | inl e ↦ absurd (some (ap (held_at held) e ∙ none))
   | inr d ↦ (let lt = w k own some in let s = others k d in omega (arith, lt, s))
@@ -239,16 +261,20 @@ offered_wanted c g held after plp w here apart = λ k own some. elim (cases_eq k
 ]
 
 -- an input that is asked for did not end
-pub asked_going : (c : Config) (g : Gateway) (held : List (Option (List ℕ))) (events : List Event) (plp : ℕ) → plps_of g ≡ length c.plps
+pub asked_going : (c : Config) (g : Gateway) (held : List (Option (List ℕ))) (events : List Event) (plp : ℕ)
+    → plps_of g ≡ length c.plps
     → (w : Works c g held events) → IsInput c plp → 0 < wants_of g plp
-    → (has_ended plp events ≡ false) × (wants_of g plp ≡ slots_by c plp (begun w.done * c.ticks) - length (offered plp w.done))
+    → (has_ended plp events ≡ false) × (wants_of g plp ≡ slots_by c plp (begun w.done * c.ticks) - length
+    (offered plp w.done))
 asked_going c g held events plp plps w i some =
     let is = wants_is g c w.done plp w.stands (let lt = i.0 in omega (arith, lt, plps)) in
-    let want = some_wanted (has_ended plp w.done) (slots_by c plp (begun w.done * c.ticks)) (length (offered plp w.done)) (wants_of g plp)
+    let want = some_wanted (has_ended plp w.done) (slots_by c plp (begun w.done * c.ticks))
+    (length (offered plp w.done)) (wants_of g plp)
     is some in
     (sym (w.splits.splits.closed_is plp i) ∙ want.is_open, is ∙ rw want.is_open refl)
 
-pub asked_wants : (c : Config) (g : Gateway) (held : List (Option (List ℕ))) (events : List Event) (plp : ℕ) → plps_of g ≡ length c.plps
+pub asked_wants : (c : Config) (g : Gateway) (held : List (Option (List ℕ))) (events : List Event) (plp : ℕ)
+    → plps_of g ≡ length c.plps
     → Works c g held events → IsInput c plp → held_at held plp ≡ None → 0 < wants_of g plp
     → wants_of g plp ≡ slots_by c plp (begun events * c.ticks) - length (offered plp events)
 asked_wants c g held events plp plps w i none some =
@@ -262,9 +288,14 @@ asked_wants c g held events plp plps w i none some =
 pub kept_works : (c : Config) (g next : Gateway) (held : List (Option (List ℕ))) (events : List Event)
     → ((d : Config) (done : List Event) → GatewayStandsFor g d done → GatewayStandsFor next d done)
     → Works c g held events → Works c next held events
-kept_works c g next held events stands w = record { done = w.done; stands = stands c w.done w.stands; splits = w.splits }
+kept_works c g next held events stands w = record {
+  done = w.done;
+  stands = stands c w.done w.stands;
+  splits = w.splits;
+}
 
-pub unit_of : (c d : Config) (g : Gateway) (held : List (Option (List ℕ))) (events : List Event) (inputs : ℕ → List (List ℕ))
+pub unit_of : (c d : Config) (g : Gateway) (held : List (Option (List ℕ))) (events : List Event) (inputs : ℕ
+    → List (List ℕ))
     (more : List (List ℕ)) (unit : List ℕ) → c ≡ d → (w : Works c g held events)
     → ((e : Config) (done : List Event) → GatewayStandsFor g e done → (all : ℕ → List (List ℕ)) → AllContinue e done all
     → (rest : List (List ℕ)) → (finished done ≡ true → rest ≡ [])
@@ -274,12 +305,15 @@ pub unit_of : (c d : Config) (g : Gateway) (held : List (Option (List ℕ))) (ev
 unit_of c d g held events inputs more unit same w law k none =
     subst (λ (e : Config). InputsContinue e events inputs
     → slice_get (pipe e.pid (front_packets e (split e inputs) (begun events) ++ more)) (given events) ≡ Some unit) same
-    (λ k. subst (λ (n : ℕ). slice_get (pipe c.pid (front_packets c (split c inputs) n ++ more)) (given events) ≡ Some unit) w.splits.begun_is
-    (subst (λ (n : ℕ). slice_get (pipe c.pid (front_packets c (split c inputs) (begun w.done) ++ more)) n ≡ Some unit) w.splits.given_is
+    (λ k. subst (λ (n : ℕ). slice_get (pipe c.pid (front_packets c (split c inputs) n ++ more)) (given events) ≡ Some
+    unit) w.splits.begun_is
+    (subst (λ (n : ℕ). slice_get (pipe c.pid (front_packets c (split c inputs) (begun w.done) ++ more)) n ≡ Some unit)
+    w.splits.given_is
     (law c w.done w.stands (split c inputs) (all_continue c held events w.done inputs w.splits k) more
     (λ on. none (sym w.splits.finished_is ∙ on))))) k
 
-pub caught_of : (c d : Config) (g : Gateway) (held : List (Option (List ℕ))) (events : List Event) (inputs : ℕ → List (List ℕ)) → c ≡ d
+pub caught_of : (c d : Config) (g : Gateway) (held : List (Option (List ℕ))) (events : List Event) (inputs : ℕ
+    → List (List ℕ)) → c ≡ d
     → (w : Works c g held events)
     → ((e : Config) (done : List Event) → GatewayStandsFor g e done → finished done ≡ false → (all : ℕ → List (List ℕ))
     → AllContinue e done all → given done ≡ length (complete_units e.pid (front_packets e all (begun done))))
@@ -289,10 +323,12 @@ caught_of c d g held events inputs same w law off k =
     subst (λ (e : Config). InputsContinue e events inputs
     → given events ≡ length (complete_units e.pid (front_packets e (split e inputs) (begun events)))) same
     (λ k. sym w.splits.given_is
-    ∙ law c w.done w.stands (w.splits.finished_is ∙ off) (split c inputs) (all_continue c held events w.done inputs w.splits k)
+    ∙ law c w.done w.stands (w.splits.finished_is ∙ off) (split c inputs) (all_continue c held events
+    w.done inputs w.splits k)
     ∙ ap (λ (n : ℕ). length (complete_units c.pid (front_packets c (split c inputs) n))) w.splits.begun_is) k
 
-pub none_of : (c d : Config) (g : Gateway) (held : List (Option (List ℕ))) (events : List Event) (inputs : ℕ → List (List ℕ)) → c ≡ d
+pub none_of : (c d : Config) (g : Gateway) (held : List (Option (List ℕ))) (events : List Event) (inputs : ℕ
+    → List (List ℕ)) → c ≡ d
     → (w : Works c g held events)
     → ((e : Config) (done : List Event) → GatewayStandsFor g e done → finished done ≡ true → (all : ℕ → List (List ℕ))
     → AllContinue e done all → length (pipe e.pid (front_packets e all (begun done))) ≡ given done)
@@ -302,5 +338,6 @@ none_of c d g held events inputs same w law on k =
     subst (λ (e : Config). InputsContinue e events inputs
     → length (pipe e.pid (front_packets e (split e inputs) (begun events))) ≡ given events) same
     (λ k. sym (ap (λ (n : ℕ). length (pipe c.pid (front_packets c (split c inputs) n))) w.splits.begun_is)
-    ∙ law c w.done w.stands (w.splits.finished_is ∙ on) (split c inputs) (all_continue c held events w.done inputs w.splits k)
+    ∙ law c w.done w.stands (w.splits.finished_is ∙ on) (split c inputs) (all_continue c held events
+    w.done inputs w.splits k)
     ∙ w.splits.given_is) k

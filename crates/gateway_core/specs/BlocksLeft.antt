@@ -7,5 +7,6 @@ use Rattle.gateway_core.specs.Packets.{block_bodies, plp_bodies}
 
 -- the blocks from a PLP on; the next one is the first of its PLP, or is not
 abbrev pub blocks_left : Config → ℕ → (ℕ → List (List Bool)) → ℕ → Bool → List Body
-blocks_left c n blocks plp first = block_bodies (n % c.frames) (plp_at c.plps plp).id first (blocks plp) ++ plp_bodies c n blocks
+blocks_left c n blocks plp first = block_bodies (n % c.frames) (plp_at c.plps plp).id first (blocks plp)
+    ++ plp_bodies c n blocks
     (plp + 1)

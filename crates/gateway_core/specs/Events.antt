@@ -2,7 +2,8 @@
 use Rattle.std.specs.Prelude.{ℕ, ◌==◌, Bool, true, false, List, [], ◌∷◌, count_by, if◌then◌else◌}
 use Rattle.std.specs.List.{flat_map, list_any}
 
--- A packet was offered to the input of a PLP, or that input ended; a frame was begun; a unit was given; no more frames come.
+-- A packet was offered to the input of a PLP, or that input ended; a frame was begun; a unit was given; no more frames
+-- come.
 pub data Event : Type 0 where
   Offered : ℕ → List ℕ → Event
   Ended : ℕ → Event

@@ -21,7 +21,8 @@ in_next t = record t { frame = t.frame + 1 }
 abbrev pub told : ℕ → List Event → Told
 told plp events = record { packets = offered plp events; ended = has_ended plp events; frame = begun events }
 
--- These packets of an input continue what is known: what was offered is their front, and all of them if the input ended.
+-- These packets of an input continue what is known: what was offered is their front, and all of them if the input
+-- ended.
 pub record Continues (t : Told) (input : List (List ℕ)) : Type 0 where
   pub rest : List (List ℕ)
   pub front : input ≡ t.packets ++ rest

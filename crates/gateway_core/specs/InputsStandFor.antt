@@ -25,7 +25,8 @@ pub record HasFrame (c : Config) (pool : State) : Type 0 where
 
 -- Each stands for what events tell of it, and has put these blocks of the next interleaving frame.
 abbrev pub AllFed : List Input → (ℕ → List (List Bool)) → Config → List Event → Type 0
-AllFed inputs early c events = (j : ℕ) (d : Input) → j < length inputs → IsFed (slice_index_or inputs j d) c j (told j events)
+AllFed inputs early c events = (j : ℕ) (d : Input) → j < length inputs
+    → IsFed (slice_index_or inputs j d) c j (told j events)
     (early j)
 
 -- There are events that they stand for, with so many frames begun.
@@ -46,13 +47,15 @@ AllContinue c events inputs = (j : ℕ) → j < length c.plps → Continues (tol
 abbrev pub AreBlocks : State → Config → ℕ → (ℕ → List (List ℕ)) → Type 0
 AreBlocks pool c frame inputs = (j : ℕ) → j < length c.plps → own_in c frame pool j ≡ own_blocks c inputs frame j
 
--- For all inputs that continue, the numbers of blocks of the PLPs of which no interleaving frame begins in the next frame are
--- those that it tells: they stay.
+-- For all inputs that continue, the numbers of blocks of the PLPs of which no interleaving frame begins in the next
+-- frame are those that it tells: they stay.
 abbrev pub CountsStay : Config → List Event → ℕ → List ℕ → Type 0
 CountsStay c events frame counts = (inputs : ℕ → List (List ℕ)) → AllContinue c events inputs
-    → (plp : ℕ) → plp < length c.plps → is_first c plp frame ≡ false → slice_index counts plp ≡ told_count c inputs frame plp
+    → (plp : ℕ) → plp < length c.plps → is_first c plp frame ≡ false
+    → slice_index counts plp ≡ told_count c inputs frame plp
 
--- An input put the blocks of the interleaving frame that begins in a frame into the list of its place, and so many there are;
+-- An input put the blocks of the interleaving frame that begins in a frame into the list of its place, and so many
+-- there are;
 -- the frame behind it is the next one.
 pub record Cuts (chain : Chain) (due slot : ℕ) (total : Option ℕ) (c : Config) (plp : ℕ) (t : Told) (pool : State)
     (count : ℕ) : Type 0 where
@@ -64,15 +67,16 @@ pub record Cuts (chain : Chain) (due slot : ℕ) (total : Option ℕ) (c : Confi
 abbrev pub HasCut : Input → Config → ℕ → Told → State → ℕ → Type 0
 HasCut i c plp t pool count = Cuts i.chain i.due i.slot i.total c plp t pool count
 
--- An input went on behind a frame, and so many blocks has its PLP in the interleaving frame that this one carries: if none begins
--- in it, it put nothing, and they are those of the frame before.
+-- An input went on behind a frame, and so many blocks has its PLP in the interleaving frame that this one carries: if
+-- none begins in it, it put nothing, and they are those of the frame before.
 pub record GoesOn (i : Input) (c : Config) (plp : ℕ) (t : Told) (pool : State) (before count : ℕ) : Type 0 where
   pub cut : is_first c plp t.frame ≡ true → HasCut i c plp t pool count
   pub fed : is_first c plp t.frame ≡ false → IsFed i c plp (in_next t) (bits_in pool plp)
   pub stays : is_first c plp t.frame ≡ false → count ≡ before
 
 -- The input at a place did.
-pub record CutsOne (c : Config) (frame : ℕ) (old new : List Input) (was is : State) (plp before count : ℕ) : Type 0 where
+pub record CutsOne (c : Config) (frame : ℕ) (old new : List Input) (was is : State) (plp before count : ℕ) :
+    Type 0 where
   pub others : (j : ℕ) (d : Input) → j ≢ plp → slice_index_or new j d ≡ slice_index_or old j d
   pub lists : Others was is plp
   pub few : (d : Input) (blocks : ℕ) → most (slice_index_or old plp d) ≤ blocks → before ≤ blocks → count ≤ blocks
@@ -103,4 +107,5 @@ abbrev pub AllEnded : List Input → Type 0
 AllEnded inputs = (j : ℕ) (d : Input) → j < length inputs → is_some (slice_index_or inputs j d).total ≡ true
 
 abbrev pub HaveEnded : List Input → (ℕ → ℕ) → Type 0
-HaveEnded inputs packets = (j : ℕ) (d : Input) → j < length inputs → (slice_index_or inputs j d).total ≡ Some (packets j)
+HaveEnded inputs packets = (j : ℕ) (d : Input) → j < length inputs → (slice_index_or inputs j d).total ≡ Some
+    (packets j)

@@ -24,8 +24,10 @@ wanted i = if is_some i.total then 0 else i.due - i.slot
 abbrev pub begun_before : Config → ℕ → ℕ → ℕ
 begun_before c plp frame = div_ceil frame (spread c.plps plp)
 
--- A chain was given what was offered, and null packets from the end on; it has put these blocks of the next interleaving frame.
--- So many slots are over when the next frame begins, so many have their packets, and so many packets there were at the end.
+-- A chain was given what was offered, and null packets from the end on; it has put these blocks of the next
+-- interleaving frame.
+-- So many slots are over when the next frame begins, so many have their packets, and so many packets there were at the
+-- end.
 pub record Fed (chain : Chain) (due slot : ℕ) (total : Option ℕ) (c : Config) (plp : ℕ) (t : Told)
     (early : List (List Bool)) : Type 0 where
   pub events : List queue.Event
@@ -56,8 +58,8 @@ pub record IsSupplied (i : Input) (pool : State) (list : ℕ) : Type 0 where
 abbrev pub most : Input → ℕ
 most i = most_blocks i.chain
 
--- what null packets leave as it was: the slots that are over when the next frame begins, how many packets there were if the input
--- ended, and that number
+-- what null packets leave as it was: the slots that are over when the next frame begins, how many packets there were if
+-- the input ended, and that number
 pub record Bounds : Type 0 where
   pub due : ℕ
   pub total : Option ℕ

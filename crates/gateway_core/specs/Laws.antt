@@ -25,10 +25,11 @@ FrontsGrow = (c : Config) (inputs : ℕ → List (List ℕ)) (n k : ℕ) → (mo
 -- All units of the frames below n begin with the complete units of fewer frames.
 abbrev pub UnitsLaw : Type 0
 UnitsLaw = (c : Config) (inputs : ℕ → List (List ℕ)) (k n : ℕ) → k ≤ n
-    → (rest : List (List ℕ)) × (pipe c.pid (front_packets c inputs n) ≡ complete_units c.pid (front_packets c inputs k) ++ rest)
+    → (rest : List (List ℕ)) × (pipe c.pid (front_packets c inputs n) ≡ complete_units c.pid (front_packets c inputs k)
+    ++ rest)
 
--- The packets of the frames below n follow from the input packets in the slots that are over when the last of these frames
--- begins.
+-- The packets of the frames below n follow from the input packets in the slots that are over when the last of these
+-- frames begins.
 abbrev pub FrontsDecided : Type 0
 FrontsDecided = (c : Config) (inputs other : ℕ → List (List ℕ)) (n : ℕ) → IsPlan c
     → ((plp k : ℕ) → plp < length c.plps → k < slots_by c plp ((n - 1) * c.ticks)
@@ -37,11 +38,12 @@ FrontsDecided = (c : Config) (inputs other : ℕ → List (List ℕ)) (n : ℕ) 
 
 -- When the last frame was begun, the packets of the frames begun are all packets.
 abbrev pub LastIsAll : Type 0
-LastIsAll = (c : Config) (events : List Event) (inputs : ℕ → List (List ℕ)) → IsLast c events → AllContinue c events inputs
+LastIsAll = (c : Config) (events : List Event) (inputs : ℕ → List (List ℕ)) → IsLast c events
+    → AllContinue c events inputs
     → front_packets c inputs (begun events) ≡ packets_of c inputs
 
--- Fewer bytes wait for a unit than three frames have: so the complete units of the frames below k carry the first byte of each
--- frame that has three of them behind its beginning, whatever frames follow.
+-- Fewer bytes wait for a unit than three frames have: so the complete units of the frames below k carry the first byte
+-- of each frame that has three of them behind its beginning, whatever frames follow.
 abbrev pub WaitsThreeFrames : Type 0
 WaitsThreeFrames = (c : Config) (inputs : ℕ → List (List ℕ)) (n k all units : ℕ) → IsPlan c → n + 3 ≤ k → k ≤ all
     → length (complete_units c.pid (front_packets c inputs k)) ≤ units → length (joined (front_packets c inputs n))

@@ -22,8 +22,8 @@ abbrev pub all_of : Config → Signalling → ℕ → List ℕ → (ℕ → List
 all_of c s n counts blocks = from_step c n (first_step c n) (l1_body c n s.pre s.conf (dyn_part c n counts))
     (blocks_left c n blocks 0 true)
 
--- The blocks that the chains put already of interleaving frames that begin behind frame n. While it gives its packets they are
--- those of the lists before a place, which gave all theirs, and those of the PLPs of which none begins in it;
+-- The blocks that the chains put already of interleaving frames that begin behind frame n. While it gives its packets
+-- they are those of the lists before a place, which gave all theirs, and those of the PLPs of which none begins in it;
 abbrev pub early_until : Config → ℕ → ℕ → State → ℕ → List (List Bool)
 early_until c n plp pool j = if nat_lt j plp then bits_in pool j else later_in c n pool j
 
@@ -37,8 +37,8 @@ early_at c n Over plp pool j = bits_in pool j
 abbrev pub early_of : Config → Frame → ℕ → List (List Bool)
 early_of c f j = early_at c f.number f.step f.plp f.blocks j
 
--- of what stays as a frame gives its packets: its number, the lists and the chunks of its pool, and how many blocks each PLP has
--- in the interleaving frame that it carries
+-- of what stays as a frame gives its packets: its number, the lists and the chunks of its pool, and how many blocks
+-- each PLP has in the interleaving frame that it carries
 pub record Layout : Type 0 where
   pub number : ℕ
   pub lists : ℕ
@@ -46,7 +46,13 @@ pub record Layout : Type 0 where
   pub counts : List ℕ
 
 abbrev pub layout_of : Frame → Layout
-layout_of f = record { number = f.number; lists = length f.blocks.lists; chunks = f.blocks.opened; counts = f.counts.items }
+layout_of f = record {
+  number = f.number;
+  lists = length f.blocks.lists;
+  chunks = f.blocks.opened;
+  counts =
+      f.counts.items;
+}
 
 -- all that stays: what the chains put already of later interleaving frames, and the layout
 pub record Stays : Type 0 where

@@ -17,11 +17,12 @@ turn_of c plp = unwrap_or (common_of c plp) plp
 abbrev pub is_member : Config → ℕ → ℕ → Bool
 is_member c turn plp = if is_common c turn then is_own_in c (group_of c turn) plp else plp == turn
 
--- A slot of a PLP is looked at before one of another: that of an earlier group, or of the same group an earlier slot, or the same
--- slot of an earlier PLP.
+-- A slot of a PLP is looked at before one of another: that of an earlier group, or of the same group an earlier slot,
+-- or the same slot of an earlier PLP.
 abbrev pub IsEarlier : Config → ℕ → ℕ → ℕ → ℕ → Type 0
 IsEarlier c plp slot other late =
-    (turn_of c plp < turn_of c other) ⊎ ((turn_of c plp ≡ turn_of c other) × ((slot < late) ⊎ ((slot ≡ late) × (plp < other))))
+    (turn_of c plp < turn_of c other) ⊎ ((turn_of c plp ≡ turn_of c other)
+    × ((slot < late) ⊎ ((slot ≡ late) × (plp < other))))
 
 -- The next frame wants a packet of an input.
 pub record IsWanted (c : Config) (events : List Event) (plp : ℕ) : Type 0 where

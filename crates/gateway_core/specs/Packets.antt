@@ -21,8 +21,8 @@ abbrev pub plp_bodies : Config → ℕ → (ℕ → List (List Bool)) → ℕ �
 plp_bodies c n blocks from = flat_map (λ plp. block_bodies (n % c.frames) (plp_at c.plps plp).id true (blocks plp))
     (range_with_len from (length c.plps - from))
 
--- what the packets of frame n carry: a timestamp in the first frame of a superframe, then the L1 signalling, which tells these
--- numbers of blocks, then the blocks that are sent in it, PLP by PLP
+-- what the packets of frame n carry: a timestamp in the first frame of a superframe, then the L1 signalling, which
+-- tells these numbers of blocks, then the blocks that are sent in it, PLP by PLP
 abbrev pub frame_bodies : Config → ℕ → List ℕ → (ℕ → List (List Bool)) → List Body
 frame_bodies c n counts blocks =
     with_stamp c n (l1_body c n (pre_part c) (conf_part c) (dyn_part c n counts) ∷ plp_bodies c n blocks 0)

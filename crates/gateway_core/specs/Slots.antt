@@ -1,5 +1,6 @@
 -- The packets of the slot under way. No public clause cites this module.
-use Rattle.std.specs.Prelude.{◌≡◌, ◌≢◌, ◌⊎◌, ℕ, ◌<◌, ◌≤◌, ◌&&◌, Bool, true, false, List, [], ◌∷◌, length, map, is_some, Some, None, if◌then◌else◌}
+use Rattle.std.specs.Prelude.{◌≡◌, ◌≢◌, ◌⊎◌, ℕ, ◌<◌, ◌≤◌, ◌&&◌, Bool, true, false, List, [], ◌∷◌, length, map, is_some}
+use Rattle.std.specs.Prelude.{Some, None, if◌then◌else◌}
 use Rattle.std.specs.Prelude.{slice_index_or}
 use Rattle.std.specs.declared.option.Option.{Option}
 use Rattle.std.specs.List.{flat_map, list_any, range_with_len}
@@ -72,13 +73,15 @@ abbrev pub kept_of : Config → List (Option (List ℕ)) → ℕ → ℕ → Opt
 kept_of c held turn plp = if is_member c turn plp then None else held_at held plp
 
 -- What is held of a PLP went on, and nothing else.
-pub record PassesOne (c : Config) (held : List (Option (List ℕ))) (turn plp : ℕ) (now : List (Option (List ℕ))) : Type 0 where
+pub record PassesOne (c : Config) (held : List (Option (List ℕ))) (turn plp : ℕ) (now : List (Option (List ℕ))) :
+    Type 0 where
   pub size : length now ≡ length held
   pub here : held_at now plp ≡ kept_of c held turn plp
   pub others : (other : ℕ) → other ≢ plp → held_at now other ≡ held_at held other
 
 -- What is held of the inputs of a group below a count did, and nothing else.
-pub record PassesOn (c : Config) (held : List (Option (List ℕ))) (turn count : ℕ) (now : List (Option (List ℕ))) : Type 0 where
+pub record PassesOn (c : Config) (held : List (Option (List ℕ))) (turn count : ℕ) (now : List (Option (List ℕ))) :
+    Type 0 where
   pub size : length now ≡ length held
   pub below : (plp : ℕ) → plp < count → held_at now plp ≡ kept_of c held turn plp
   pub behind : (plp : ℕ) → count ≤ plp → held_at now plp ≡ held_at held plp
@@ -87,7 +90,8 @@ pub record PassesOn (c : Config) (held : List (Option (List ℕ))) (turn count :
 abbrev pub slot_in : Config → List (Option (List ℕ)) → ℕ → List (Option (List ℕ))
 slot_in c held turn = map (held_at held) (own_places c (group_of c turn))
 
--- what is done to the gateway when all of a slot has come: the common PLP is given what is shared, and each input's PLP what is not;
+-- what is done to the gateway when all of a slot has come: the common PLP is given what is shared, and each input's PLP
+-- what is not;
 -- or the common PLP's stream ends, since all of its group did
 abbrev pub share_events : Config → List (Option (List ℕ)) → ℕ → ℕ → List Event
 share_events c held turn count =

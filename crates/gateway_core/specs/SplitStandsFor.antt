@@ -11,7 +11,8 @@ use Rattle.gateway_core.specs.Slots.{held_at}
 use Rattle.gateway_core.specs.Works.{Works}
 use Rattle.gateway_core.specs.declared.split_gateway.SplitGateway.{SplitGateway}
 
--- Of its configuration, what was done to it, in turn: packets came of inputs, and inputs ended; frames were begun, and units given.
+-- Of its configuration, what was done to it, in turn: packets came of inputs, and inputs ended; frames were begun, and
+-- units given.
 unfoldable pub SplitGatewayStandsFor : SplitGateway → Config → List Event → Type 0
 SplitGatewayStandsFor s c events = (s.plan.now ≡ c) × Works s.plan.now s.gateway s.held.items events
 

@@ -16,16 +16,18 @@ use Rattle.gateway_core.specs.declared.gateway.Gateway.{Gateway}
 use Rattle.gateway_core.specs.declared.input.Input.{Input}
 use Rattle.frame_writer.specs.declared.signalling.Signalling.{Signalling}
 
--- Its inputs were fed, and their chains put these blocks already; so many frames were begun, and for all inputs that continue
--- what was offered the packets of those frames have come so far.
-pub record Holds (inputs : List Input) (early : ℕ → List (List Bool)) (s : Signalling) (frames : ℕ) (flow : Flow) (n : ℕ)
+-- Its inputs were fed, and their chains put these blocks already; so many frames were begun, and for all inputs that
+-- continue what was offered the packets of those frames have come so far.
+pub record Holds (inputs : List Input) (early : ℕ → List (List Bool)) (s : Signalling) (frames : ℕ) (flow : Flow)
+    (n : ℕ)
     (left : List Body) (c : Config) (events : List Event) : Type 0 where
   pub fed : AllFed inputs early c events
   pub pre : s.pre ≡ pre_part c
   pub conf : s.conf ≡ conf_part c
   pub frames_are : frames ≡ begun events
   pub last : flow.finished ≡ finished events
-  pub flows : (all : ℕ → List (List ℕ)) → AllContinue c events all → Flows flow.outlet c n left (bodies_before c all frames)
+  pub flows : (all : ℕ → List (List ℕ)) → AllContinue c events all
+      → Flows flow.outlet c n left (bodies_before c all frames)
       (given events)
 
 -- its configuration, and what was done to it, in turn; it tells the numbers of blocks that stay
@@ -67,7 +69,14 @@ pub record Status : Type 0 where
   pub left : ℕ
 
 abbrev pub status_of : Gateway → Status
-status_of g = record { plps = plps_of g; frame = frame_of g; unit = has_unit g; finished = has_finished g; left = bytes_left g }
+status_of g = record {
+  plps = plps_of g;
+  frame = frame_of g;
+  unit = has_unit g;
+  finished = has_finished
+      g;
+  left = bytes_left g;
+}
 
 -- that of one that was opened for so many PLPs
 abbrev pub new_status : ℕ → Status
@@ -78,7 +87,8 @@ pub record IsLast (c : Config) (events : List Event) : Type 0 where
   pub ended : (plp : ℕ) → plp < length c.plps → has_ended plp events ≡ true
   pub frames : begun events ≡ frame_count c (λ plp. length (offered plp events))
 
--- how many packets the next frame wants from the input of a PLP: those of the slots that are over when it begins, without
--- those offered; none from one that ended
+-- how many packets the next frame wants from the input of a PLP: those of the slots that are over when it begins,
+-- without those offered; none from one that ended
 abbrev pub wants_by : Config → List Event → ℕ → ℕ
-wants_by c events plp = if has_ended plp events then 0 else slots_by c plp (begun events * c.ticks) - length (offered plp events)
+wants_by c events plp = if has_ended plp events then 0 else slots_by c plp (begun events * c.ticks) -
+    length (offered plp events)

@@ -1,5 +1,6 @@
 // The packets of a frame, one by one.
-ghost use Rattle.std.specs.Prelude.{◌≡◌, ◌≢◌, ◌<◌, ◌≤◌, ◌==◌, ◌||◌, not, ℕ, [], length, slice_index_or, vec_len, IfSome, IfNone};
+ghost use Rattle.std.specs.Prelude.{◌≡◌, ◌≢◌, ◌<◌, ◌≤◌, ◌==◌, ◌||◌, not, ℕ, [], length, slice_index_or, vec_len};
+ghost use Rattle.std.specs.Prelude.{IfSome, IfNone};
 ghost use Rattle.linked_pool.specs.Fits.{frame_chunks};
 ghost use Rattle.linked_pool.specs.Pool.{list_at};
 ghost use Rattle.plp_config.specs.declared.moment.TheConstants.{MOST_FRAMES};
@@ -32,8 +33,8 @@ fn next_list(plan: &Plan, pool: &Pool, frame: u64, from: u32) -> Option<u32>
     None
 }
 
-// Whether the next block, of PLP plp, is the first one of its PLP: it is of a later PLP than from, or no block of from was built
-// yet. Its packet has intl_frame_start then.
+// Whether the next block, of PLP plp, is the first one of its PLP: it is of a later PLP than from, or no block of from
+// was built yet. Its packet has intl_frame_start then.
 fn is_first(first: bool, from: u32, plp: u32) -> bool
     ensures { result ≡ first || not (plp == from) }
 {
@@ -49,8 +50,9 @@ fn front_block(pool: &Pool, list: u32) -> BlockRef<'_>
     pool.front(list).unwrap()
 }
 
-/// The packets of a frame that were not built yet. The lists of the PLPs of which an interleaving frame begins in it hold its
-/// blocks that were not; the others, and all once none is left, hold the blocks that the chains put already for later ones.
+/// The packets of a frame that were not built yet. The lists of the PLPs of which an interleaving frame begins in it
+/// hold its blocks that were not; the others, and all once none is left, hold the blocks that the chains put already
+/// for later ones.
 #[derive(Drop)]
 pub struct Frame {
     number: u64,
@@ -101,8 +103,8 @@ impl Frame {
         })
     }
 
-    /// Begins the frame whose blocks the lists hold, no more of a PLP than an interleaving frame has; `counts` tells how many
-    /// blocks each PLP has in the one that the frame carries.
+    /// Begins the frame whose blocks the lists hold, no more of a PLP than an interleaving frame has; `counts` tells
+    /// how many blocks each PLP has in the one that the frame carries.
     pub fn begin(&mut self, plan: &Plan, number: u64)
         requires early { number < MOST_FRAMES }
         requires plps { length self.old.blocks.lists ≡ length plan.now.plps }
@@ -129,7 +131,8 @@ impl Frame {
         requires plps { length self.old.blocks.lists ≡ length plan.now.plps }
         requires step { self.old.step ≡ FrameStep.Blocks }
         ensures some { result ≡ true → (s : Signalling)
-            → Builds plan.now self.old.number packet_count (left plan.now s self.old) (left plan.now s self.new) out.new }
+            → Builds plan.now self.old.number packet_count (left plan.now s self.old) (left plan.now s self.new)
+            out.new }
         ensures none { result ≡ false → (s : Signalling) → left plan.now s self.old ≡ [] }
         ensures over { result ≡ false → self.new.step ≡ Over }
         ensures stays { result ≡ false → out.new ≡ out.old }
@@ -166,7 +169,8 @@ impl Frame {
         out: &mut FixedBits<LARGEST>,
     ) -> bool
         requires { length self.old.blocks.lists ≡ length plan.now.plps }
-        ensures some { result ≡ true → Builds plan.now self.old.number packet_count (left plan.now signalling.now self.old)
+        ensures some { result ≡ true → Builds plan.now self.old.number packet_count
+            (left plan.now signalling.now self.old)
             (left plan.now signalling.now self.new) out.new }
         ensures none { result ≡ false → (left plan.now signalling.now self.old ≡ [])
             × (left plan.now signalling.now self.new ≡ []) }

@@ -18,9 +18,9 @@ use plp_config::Plan;
 use std::alloc::Global;
 use ts_packet::{SIZE, TsPacket};
 
-/// Makes the T2-MI stream of a network (TS 102 773) from the packets of its inputs: offer the packets that the next frame wants,
-/// begin it, take the units; behind the last frame finish, and take the rest. A PLP is named by its place in the configuration,
-/// from 0 on.
+/// Makes the T2-MI stream of a network (TS 102 773) from the packets of its inputs: offer the packets that the next
+/// frame wants, begin it, take the units; behind the last frame finish, and take the rest. A PLP is named by its place
+/// in the configuration, from 0 on.
 #[derive(Drop)]
 pub struct Gateway<'p> {
     plan: &'p Plan,
@@ -49,7 +49,8 @@ fn pid_of(plan: &Plan) -> u16
 }
 
 impl<'p> Gateway<'p> {
-    ghost use Rattle.std.specs.Prelude.{◌≡◌, ◌≢◌, ◌<◌, ◌≤◌, ◌+◌, ◌^◌, ◌++◌, ◌∷◌, ◌↔◌, ℕ, List, [], true, false, length, Some};
+    ghost use Rattle.std.specs.Prelude.{◌≡◌, ◌≢◌, ◌<◌, ◌≤◌, ◌+◌, ◌^◌, ◌++◌, ◌∷◌, ◌↔◌, ℕ, List, [], true, false, length};
+    ghost use Rattle.std.specs.Prelude.{Some};
     ghost use Rattle.std.specs.Prelude.{IfOk, slice_get};
     ghost use Rattle.plp_config.specs.declared.config.Config.{Config};
     ghost use Rattle.t2mi_stream.specs.Complete.{complete_units};
@@ -75,8 +76,8 @@ impl<'p> Gateway<'p> {
         })
     }
 
-    /// How many packets the next frame still wants from the input of a PLP: those of the slots that are over when it begins,
-    /// 0 from an input that ended.
+    /// How many packets the next frame still wants from the input of a PLP: those of the slots that are over when it
+    /// begins, 0 from an input that ended.
     pub fn wants(&self, plp: usize) -> u64
         requires { plp < plps_of self.now }
         ensures value { result ≡ wants_of self.now plp }
@@ -145,8 +146,8 @@ impl<'p> Gateway<'p> {
             .begin(&self.signalling, self.plan, &mut self.frame);
     }
 
-    /// Gives the next unit of the frames begun, a transport packet, if it is complete: 184 bytes wait. After [`Gateway::finish`]
-    /// it gives also the rest. Else `out` stays.
+    /// Gives the next unit of the frames begun, a transport packet, if it is complete: 184 bytes wait. After
+    /// [`Gateway::finish`] it gives also the rest. Else `out` stays.
     pub fn next_ts(&mut self, out: &mut [u8; SIZE]) -> bool
         ensures is { result ≡ has_unit self.old }
         // Whatever packets follow, the unit is the next one of all.
@@ -163,7 +164,8 @@ impl<'p> Gateway<'p> {
         ensures less { result ≡ true → bytes_left self.new < bytes_left self.old }
         ensures kept { result ≡ false → bytes_left self.new ≡ bytes_left self.old }
         // Before the end a unit of the frames begun is given as soon as it is complete, and no other.
-        ensures complete { (c : Config) (events : List Event) → GatewayStandsFor self.old c events → finished events ≡ false
+        ensures complete { (c : Config) (events : List Event) → GatewayStandsFor self.old c events
+            → finished events ≡ false
             → (inputs : ℕ → List (List ℕ)) → AllContinue c events inputs
             → (result ≡ true) ↔ (given events < length (complete_units c.pid (front_packets c inputs (begun events)))) }
         ensures caught_up { result ≡ false → (c : Config) (events : List Event) → GatewayStandsFor self.old c events
@@ -188,7 +190,8 @@ impl<'p> Gateway<'p> {
 
     /// Whether all inputs ended and as many frames were begun as their packets need.
     pub fn last(&self) -> bool
-        ensures { (c : Config) (events : List Event) → GatewayStandsFor self.now c events → (result ≡ true) ↔ IsLast c events }
+        ensures { (c : Config) (events : List Event) → GatewayStandsFor self.now c events → (result ≡ true)
+            ↔ IsLast c events }
     {
         match frame_count(self.plan, &self.inputs) {
             None => false,
@@ -201,7 +204,10 @@ impl<'p> Gateway<'p> {
         ensures stands { (c : Config) (events : List Event) → GatewayStandsFor self.old c events
             → GatewayStandsFor self.new c (events ++ Finished ∷ []) }
         ensures wants { (plp : ℕ) → wants_of self.new plp ≡ wants_of self.old plp }
-        ensures status { status_of self.new ≡ record (status_of self.old) { unit = has_unit self.new; finished = true } }
+        ensures status { status_of self.new ≡ record (status_of self.old) {
+          unit = has_unit self.new;
+          finished = true;
+        } }
     {
         self.flow.finish();
     }

@@ -60,7 +60,8 @@ fn end_frame(chain: &mut Chain, pool: &mut Pool, list: u32) -> u16
 }
 
 impl Input {
-    ghost use Rattle.std.specs.Prelude.{◌≡◌, ◌<◌, ◌≤◌, ◌+◌, ◌*◌, ◌^◌, ℕ, List, Bool, [], true, false, length, IfOk, IfSome};
+    ghost use Rattle.std.specs.Prelude.{◌≡◌, ◌<◌, ◌≤◌, ◌+◌, ◌*◌, ◌^◌, ℕ, List, Bool, [], true, false, length, IfOk};
+    ghost use Rattle.std.specs.Prelude.{IfSome};
     ghost use Rattle.std.specs.Prelude.{is_some};
     ghost use Rattle.linked_pool.specs.Pool.{Others, IsWhole};
     ghost use Rattle.plp_config.specs.InterleavingFrames.{is_first};
@@ -195,9 +196,9 @@ impl Input {
         }
     }
 
-    /// Puts what is left of the interleaving frame that begins in the next frame, and goes on to the frame behind it, by whose
-    /// begin so many slots are over; the answer is how many blocks the interleaving frame has. An input that ended has null
-    /// packets. The list has the blocks that the chain put of it.
+    /// Puts what is left of the interleaving frame that begins in the next frame, and goes on to the frame behind it,
+    /// by whose begin so many slots are over; the answer is how many blocks the interleaving frame has. An input that
+    /// ended has null packets. The list has the blocks that the chain put of it.
     pub fn cut(&mut self, due: u64, pool: &mut Pool, list: u32) -> u16
         requires wanted { wanted self.old ≡ 0 }
         requires small { due < 2 ^ 54 }
@@ -223,7 +224,8 @@ impl Input {
         count
     }
 
-    /// Goes on behind the next frame, in which no interleaving frame begins, to the one by whose begin so many slots are over.
+    /// Goes on behind the next frame, in which no interleaving frame begins, to the one by whose begin so many slots
+    /// are over.
     pub fn pass(&mut self, due: u64)
         requires { due < 2 ^ 54 }
         ensures fed { (c : Config) (plp : ℕ) (t : Told) (early : List (List Bool)) → IsPlan c → plp < length c.plps

@@ -1,5 +1,6 @@
 // The inputs of all PLPs.
-ghost use Rattle.std.specs.Prelude.{◌≡◌, ◌≢◌, ◌<◌, ◌≤◌, ◌+◌, ◌^◌, ◌++◌, ◌∷◌, [], ℕ, List, Bool, length, map, slice_index};
+ghost use Rattle.std.specs.Prelude.{◌≡◌, ◌≢◌, ◌<◌, ◌≤◌, ◌+◌, ◌^◌, ◌++◌, ◌∷◌, [], ℕ, List, Bool, length, map};
+ghost use Rattle.std.specs.Prelude.{slice_index};
 ghost use Rattle.std.specs.Prelude.{slice_index_or, IfOk};
 ghost use Rattle.linked_pool.specs.Pool.{IsWhole, list_at};
 ghost use Rattle.plp_config.specs.declared.moment.TheConstants.{MOST_FRAMES};
@@ -10,7 +11,8 @@ ghost use Rattle.scheduler.specs.Laws.{CountsFit};
 ghost use Rattle.mode_adapt.specs.Blocks.{told_counts};
 ghost use Rattle.gateway_core.specs.IsFed.{IsFed, IsSupplied, wanted, most};
 ghost use Rattle.gateway_core.specs.Events.{Event, Offered, Ended, Begun, begun};
-ghost use Rattle.gateway_core.specs.InputsStandFor.{AllFed, AreFor, AllContinue, AreBlocks, CutsOne, SameMost, HasFrame};
+ghost use Rattle.gateway_core.specs.InputsStandFor.{AllFed, AreFor, AllContinue, AreBlocks, CutsOne, SameMost};
+ghost use Rattle.gateway_core.specs.InputsStandFor.{HasFrame};
 ghost use Rattle.gateway_core.specs.InputsStandFor.{AreSupplied, CountsStay};
 ghost use Rattle.gateway_core.specs.Lists.{bits_in, later_in, AllShort};
 ghost use Rattle.gateway_core.specs.declared.input.Input.{Input};
@@ -80,8 +82,8 @@ pub fn end(inputs: &mut [Input], plp: usize)
     inputs[plp].end();
 }
 
-// Goes on behind the next frame for one PLP: how many blocks the interleaving frame has that it carries. If none begins in it,
-// they are those of the frame before.
+// Goes on behind the next frame for one PLP: how many blocks the interleaving frame has that it carries. If none begins
+// in it, they are those of the frame before.
 fn cut_one(
     plan: &Plan,
     inputs: &mut [Input],
@@ -109,8 +111,8 @@ fn cut_one(
     inputs[plp].cut(due, pool, plp as u32)
 }
 
-/// Ends the interleaving frames that begin in the next frame: the list of each PLP of which one does has its blocks. At each
-/// place stands how many blocks the one has that the frame carries. After it the frame behind it is the next one.
+/// Ends the interleaving frames that begin in the next frame: the list of each PLP of which one does has its blocks. At
+/// each place stands how many blocks the one has that the frame carries. After it the frame behind it is the next one.
 pub fn cut(plan: &Plan, inputs: &mut [Input], pool: &mut Pool, frame: u64, counts: &mut [u16])
     requires whole { length inputs.old ≡ length plan.now.plps }
     requires early { frame < MOST_FRAMES }
@@ -131,7 +133,8 @@ pub fn cut(plan: &Plan, inputs: &mut [Input], pool: &mut Pool, frame: u64, count
         → CountsStay plan.now (events ++ Begun ∷ []) (frame + 1) counts.new }
     ensures fit { AreFor inputs.old plan.now → CountsFit plan.now counts.old → CountsFit plan.now counts.new }
     // no list has more than an interleaving frame
-    ensures within { (plp : ℕ) → plp < length plan.now.plps → length (list_at pool.new plp) ≤ (plp_at plan.now.plps plp).blocks }
+    ensures within { (plp : ℕ) → plp < length plan.now.plps
+        → length (list_at pool.new plp) ≤ (plp_at plan.now.plps plp).blocks }
     ensures len { length counts.new ≡ length counts.old }
     ensures most { SameMost inputs.old inputs.new }
     ensures short { AllShort pool.old → AllShort pool.new }

@@ -7,8 +7,9 @@ use plp_config::{length_law, run_length_law, slot_time_law};
 use t2mi_packet::written_law;
 use t2mi_stream::complete_law;
 
-/// A run is three frames longer at least than the next frame when all packets that it wants of an input were there. So a
-/// caller that ends each input where it ends, and begins no frame once the last was begun, begins no frame behind the run.
+/// A run is three frames longer at least than the next frame when all packets that it wants of an input were there. So
+/// a caller that ends each input where it ends, and begins no frame once the last was begun, begins no frame behind the
+/// run.
 pub fn not_yet_last_law()
     ensures { NotYetLast }
 {
@@ -17,8 +18,8 @@ pub fn not_yet_last_law()
     slot_time_law();
 }
 
-/// The packets of fewer frames are the first ones, and follow from the packets of the slots that are over when the last of
-/// these frames begins.
+/// The packets of fewer frames are the first ones, and follow from the packets of the slots that are over when the last
+/// of these frames begins.
 pub fn front_law()
     ensures grow { FrontsGrow }
     ensures decided { FrontsDecided }
@@ -40,7 +41,8 @@ pub fn last_law()
     ensures { LastIsAll }
 {}
 
-/// The units that are complete when a frame was begun carry the first byte of each frame but that one and the one before it.
+/// The units that are complete when a frame was begun carry the first byte of each frame but that one and the one
+/// before it.
 pub fn ahead_law()
     ensures { WaitsThreeFrames }
 {

@@ -1,5 +1,5 @@
-//! The gateway's core: packets of transport streams become units of transport packets that carry T2-MI; with common PLPs, what all
-//! inputs of a group have in a slot goes once (EN 302 755, annex D).
+//! The gateway's core: packets of transport streams become units of transport packets that carry T2-MI; with common
+//! PLPs, what all inputs of a group have in a slot goes once (EN 302 755, annex D).
 #![tactic(auto)]
 
 mod dynamic;

@@ -63,13 +63,15 @@ pub fn pass_on(
     requires turn { turn < length plan.now.plps }
     requires plps { plps_of gateway.old ≡ length plan.now.plps }
     requires held { length held.old ≡ length plan.now.plps }
-    requires wanted { (plp : ℕ) → plp < length plan.now.plps → is_member plan.now turn plp ≡ true → held_at held.old plp ≢ None
+    requires wanted { (plp : ℕ) → plp < length plan.now.plps → is_member plan.now turn plp ≡ true
+        → held_at held.old plp ≢ None
         → 0 < wants_of gateway.old plp }
     requires given { has_unit gateway.old ≡ false }
     ensures stands { (c : Config) (done : List Event) → GatewayStandsFor gateway.old c done
         → GatewayStandsFor gateway.new c (done ++ passed plan.now held.old turn shared (length plan.now.plps)) }
     ensures others { OthersWant plan.now turn gateway.old gateway.new }
-    ensures fewer { (plp : ℕ) → is_member plan.now turn plp ≡ true → held_at held.old plp ≢ None → plp < length plan.now.plps
+    ensures fewer { (plp : ℕ) → is_member plan.now turn plp ≡ true → held_at held.old plp ≢ None
+        → plp < length plan.now.plps
         → wants_of gateway.new plp < wants_of gateway.old plp }
     ensures first { is_member plan.now turn turn ≡ false → wants_of gateway.new turn ≡ wants_of gateway.old turn }
     ensures status { status_of gateway.new ≡ status_of gateway.old }

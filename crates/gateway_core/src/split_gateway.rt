@@ -14,11 +14,13 @@ use plp_config::Plan;
 use std::alloc::Global;
 use ts_packet::{SIZE, TsPacket};
 
-/// Makes the T2-MI stream of a network from the packets of the inputs of its PLPs that are not common: a packet that all inputs of a
-/// group have in a slot goes once, in the common PLP of the group.
+/// Makes the T2-MI stream of a network from the packets of the inputs of its PLPs that are not common: a packet that
+/// all inputs of a group have in a slot goes once, in the common PLP of the group.
 ///
-/// Ask which packet comes [`next`](Self::next), and [`offer`](Self::offer) it, or [`end_input`](Self::end_input), until none comes;
-/// begin the frame; take the units; behind the last frame finish, and take the rest. An input is named by the place of its PLP.
+/// Ask which packet comes [`next`](Self::next), and [`offer`](Self::offer) it, or [`end_input`](Self::end_input), until
+/// none comes;
+/// begin the frame; take the units; behind the last frame finish, and take the rest. An input is named by the place of
+/// its PLP.
 #[derive(Drop)]
 pub struct SplitGateway<'p> {
     plan: &'p Plan,
@@ -46,18 +48,21 @@ fn none_held(alloc: Global, count: usize) -> Result<Vec<Option<TsPacket>>, OutOf
 }
 
 impl<'p> SplitGateway<'p> {
-    ghost use Rattle.std.specs.Prelude.{◌≤◌, ◌+◌, ◌-◌, ◌*◌, ◌^◌, ◌++◌, ◌∷◌, ◌↔◌, ℕ, List, [], true, false, Some, slice_get};
+    ghost use Rattle.std.specs.Prelude.{◌≤◌, ◌+◌, ◌-◌, ◌*◌, ◌^◌, ◌++◌, ◌∷◌, ◌↔◌, ℕ, List, [], true, false, Some};
+    ghost use Rattle.std.specs.Prelude.{slice_get};
     ghost use Rattle.plp_config.specs.declared.config.Config.{Config};
     ghost use Rattle.plp_config.specs.declared.moment.TheConstants.{MOST_FRAMES};
     ghost use Rattle.t2mi_stream.specs.Complete.{complete_units};
     ghost use Rattle.t2mi_stream.specs.Pipe.{pipe};
     ghost use Rattle.common_plp.specs.Split.{split};
-    ghost use Rattle.gateway_core.specs.Events.{Event, Offered, Ended, Begun, Gave, Finished, offered, begun, given, finished};
+    ghost use Rattle.gateway_core.specs.Events.{Event, Offered, Ended, Begun, Gave, Finished, offered, begun, given};
+    ghost use Rattle.gateway_core.specs.Events.{finished};
     ghost use Rattle.plp_config.specs.SlotTime.{slots_by};
     ghost use Rattle.gateway_core.specs.Packets.{front_packets};
     ghost use Rattle.gateway_core.specs.StandsFor.{new_status};
     ghost use Rattle.gateway_core.specs.Continuing.{InputsContinue, IsLast};
-    ghost use Rattle.gateway_core.specs.SplitStandsFor.{SplitGatewayStandsFor, IsAsked, NoneWanted, Asks, FindsWanted, config_of, wants_of};
+    ghost use Rattle.gateway_core.specs.SplitStandsFor.{SplitGatewayStandsFor, IsAsked, NoneWanted, Asks, FindsWanted};
+    ghost use Rattle.gateway_core.specs.SplitStandsFor.{config_of, wants_of};
     ghost use Rattle.gateway_core.specs.SplitStandsFor.{frame_of, has_unit, bytes_left, has_finished, status_of};
 
     /// A gateway to which nothing came, for a plan. It takes all the memory that it needs.
@@ -78,14 +83,15 @@ impl<'p> SplitGateway<'p> {
         })
     }
 
-    /// The input of which the next frame wants a packet first, group by group, slot by slot and input by input; `None` if it wants no
-    /// more.
+    /// The input of which the next frame wants a packet first, group by group, slot by slot and input by input; `None`
+    /// if it wants no more.
     pub fn next(&mut self) -> Option<usize>
         requires given { has_unit self.old ≡ false }
         ensures stands { (c : Config) (events : List Event) → SplitGatewayStandsFor self.old c events
             → SplitGatewayStandsFor self.new c events }
         ensures asks { Asks self.new result }
-        ensures first { (c : Config) (events : List Event) → SplitGatewayStandsFor self.new c events → FindsWanted c events result }
+        ensures first { (c : Config) (events : List Event) → SplitGatewayStandsFor self.new c events
+            → FindsWanted c events result }
         ensures config { config_of self.new ≡ config_of self.old }
         ensures status { status_of self.new ≡ status_of self.old }
     {
@@ -127,8 +133,8 @@ impl<'p> SplitGateway<'p> {
         self.gateway.end_input(plp);
     }
 
-    /// Begins the next frame, which wants no more packets and has a number below `plp_config::MOST_FRAMES`, once all complete units
-    /// were taken and before [`SplitGateway::finish`].
+    /// Begins the next frame, which wants no more packets and has a number below `plp_config::MOST_FRAMES`, once all
+    /// complete units were taken and before [`SplitGateway::finish`].
     pub fn begin_frame(&mut self)
         requires wanted { NoneWanted self.old }
         requires given { has_unit self.old ≡ false }
@@ -148,15 +154,16 @@ impl<'p> SplitGateway<'p> {
         self.gateway.begin_frame();
     }
 
-    /// Gives the next unit of the frames begun, a transport packet, if it is complete. After [`SplitGateway::finish`] it gives also the
-    /// rest. Else `out` stays.
+    /// Gives the next unit of the frames begun, a transport packet, if it is complete. After [`SplitGateway::finish`]
+    /// it gives also the rest. Else `out` stays.
     pub fn next_ts(&mut self, out: &mut [u8; SIZE]) -> bool
         ensures is { result ≡ has_unit self.old }
         // Whatever packets follow, the unit is the next one of all.
         ensures unit { result ≡ true → (c : Config) (events : List Event) → SplitGatewayStandsFor self.old c events
             → (inputs : ℕ → List (List ℕ)) → InputsContinue c events inputs
             → (more : List (List ℕ)) → (finished events ≡ true → more ≡ [])
-            → slice_get (pipe c.pid (front_packets c (split c inputs) (begun events) ++ more)) (given events) ≡ Some out.new }
+            → slice_get (pipe c.pid (front_packets c (split c inputs) (begun events) ++ more)) (given events) ≡ Some
+            out.new }
         ensures stands { result ≡ true → (c : Config) (events : List Event) → SplitGatewayStandsFor self.old c events
             → SplitGatewayStandsFor self.new c (events ++ Gave ∷ []) }
         ensures still { result ≡ false → (c : Config) (events : List Event) → SplitGatewayStandsFor self.old c events
@@ -165,7 +172,8 @@ impl<'p> SplitGateway<'p> {
         ensures less { result ≡ true → bytes_left self.new < bytes_left self.old }
         ensures kept { result ≡ false → bytes_left self.new ≡ bytes_left self.old }
         // Before the end all units of the frames begun that are complete are given; after it none is left out.
-        ensures caught_up { result ≡ false → (c : Config) (events : List Event) → SplitGatewayStandsFor self.old c events
+        ensures caught_up { result ≡ false → (c : Config) (events : List Event)
+            → SplitGatewayStandsFor self.old c events
             → finished events ≡ false → (inputs : ℕ → List (List ℕ)) → InputsContinue c events inputs
             → given events ≡ length (complete_units c.pid (front_packets c (split c inputs) (begun events))) }
         ensures none { result ≡ false → (c : Config) (events : List Event) → SplitGatewayStandsFor self.old c events
@@ -180,10 +188,12 @@ impl<'p> SplitGateway<'p> {
         self.gateway.next_ts(out)
     }
 
-    /// Whether all inputs ended and as many frames were begun as their streams need. The next frame wants no more packets.
+    /// Whether all inputs ended and as many frames were begun as their streams need. The next frame wants no more
+    /// packets.
     pub fn last(&self) -> bool
         requires { NoneWanted self.now }
-        ensures { (c : Config) (events : List Event) → SplitGatewayStandsFor self.now c events → (result ≡ true) ↔ IsLast c events }
+        ensures { (c : Config) (events : List Event) → SplitGatewayStandsFor self.now c events → (result ≡ true)
+            ↔ IsLast c events }
     {
         self.plan.rules_law();
         not_yet_last_law();
@@ -195,7 +205,10 @@ impl<'p> SplitGateway<'p> {
         ensures stands { (c : Config) (events : List Event) → SplitGatewayStandsFor self.old c events
             → SplitGatewayStandsFor self.new c (events ++ Finished ∷ []) }
         ensures config { config_of self.new ≡ config_of self.old }
-        ensures status { status_of self.new ≡ record (status_of self.old) { unit = has_unit self.new; finished = true } }
+        ensures status { status_of self.new ≡ record (status_of self.old) {
+          unit = has_unit self.new;
+          finished = true;
+        } }
     {
         self.gateway.finish();
     }

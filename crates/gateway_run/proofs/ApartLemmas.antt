@@ -1,5 +1,6 @@
 -- What a gateway asks for each of whose inputs goes in its own PLP.
-use Rattle.std.proofs.Common.{◌≡◌, ℕ, ◌-◌, ◌*◌, ◌<◌, ◌≤◌, Bool, true, false, cond, List, length, Option, Some, None, sym, subst, ◌∙◌}
+use Rattle.std.proofs.Common.{◌≡◌, ℕ, ◌-◌, ◌*◌, ◌<◌, ◌≤◌, Bool, true, false, cond, List, length, Option, Some, None}
+use Rattle.std.proofs.Common.{sym, subst, ◌∙◌}
 use Rattle.std.proofs.Common.{arith, inl, inr}
 use Rattle.std.specs.Prelude.{◌≢◌, ◌↔◌}
 use Rattle.std.proofs.lemmas.Bool.{cases_lt}
@@ -63,13 +64,15 @@ module _ (g : Gateway) (c : Config) (plps : plps_of g ≡ length c.plps) (is_ope
           inside = l.0;
           is_open = wanted.is_open;
           less = wanted.less;
-          wants_are = open_wants (has_ended plp events) slots (length (offered plp events)) (wants_of g plp) is wanted.is_open;
+          wants_are = open_wants (has_ended plp events) slots (length (offered plp events)) (wants_of g plp)
+              is wanted.is_open;
           below = λ other inside before. none_left events other s inside (l.2 other (omega arith) before);
         };
     is_going = going;
   }
 
-  pub asks_apart : (count : ℕ) → count ≡ length c.plps → (asked : Option ℕ) → IsFirst g 0 count asked → Asks Apart c (seen_of g c) asked
+  pub asks_apart : (count : ℕ) → count ≡ length c.plps → (asked : Option ℕ) → IsFirst g 0 count asked
+      → Asks Apart c (seen_of g c) asked
   asks_apart count all asked l = asks_for asked (subst (λ (n : ℕ). IsFirst g 0 n asked) all l)
 
 pub last_apart : (c : Config) (events : List Event) (told : Bool) → (told ≡ true) ↔ IsLast c events

@@ -1,5 +1,6 @@
 -- A frame begins, or none comes.
-use Rattle.std.proofs.Common.{◌≡◌, ℕ, ◌+◌, ◌-◌, ◌*◌, ◌<◌, true, false, List, [], ◌∷◌, ◌++◌, length, refl, ap, sym, subst}
+use Rattle.std.proofs.Common.{◌≡◌, ℕ, ◌+◌, ◌-◌, ◌*◌, ◌<◌, true, false, List, [], ◌∷◌, ◌++◌, length, refl, ap, sym}
+use Rattle.std.proofs.Common.{subst}
 use Rattle.std.proofs.Common.{◌∙◌, inl, inr, arith, length-append, append-nil}
 use Rattle.ts_packet.specs.TsFile.{joined}
 use Rattle.std.proofs.lemmas.Bool.{cases_eq}
@@ -44,7 +45,8 @@ module _ (way : Sharing) where
 
   -- nothing was told of inputs but that a frame began, or no more comes
   offered_on : (c : Config) (done : List run.Event) (old new : List Event) (tails : ℕ → List ℕ)
-      → ((plp : ℕ) → (told plp new).packets ≡ (told plp old).packets) → ((plp : ℕ) → has_ended plp new ≡ has_ended plp old)
+      → ((plp : ℕ) → (told plp new).packets ≡ (told plp old).packets)
+      → ((plp : ℕ) → has_ended plp new ≡ has_ended plp old)
       → NoTails tails
       → AreOffered way c done old tails → AreOffered way c done new tails
   offered_on c done old new tails packets ended none h = record {
@@ -57,7 +59,8 @@ module _ (way : Sharing) where
   }
 
   -- the run is longer than the frames begun, if it is not over
-  more_frames : NotYetLast → OwnLength way → (c : Config) (done : List run.Event) (g : List Event → Type 0) (place : Place)
+  more_frames : NotYetLast → OwnLength way → (c : Config) (done : List run.Event) (g : List Event
+      → Type 0) (place : Place)
       (ran : Ran) (h : Holds way c done g place ran) → IsBeforeFrame c h.events h.tails → (IsLastBy way c h.events → ⊥)
       → (inputs : ℕ → List (List ℕ)) → Continue way c h.events inputs → begun h.events < frames_by way c inputs
   more_frames law own c done g place ran h b not_last inputs k =
@@ -94,7 +97,8 @@ module _ (way : Sharing) where
       record {
         within = λ plp lt.
             let m = ap (λ (t : Told). length t.packets) (told_begun (place_of way c plp) events) in
-            let rises = slots_rise c (place_of way c plp) (begun events) (begun (events ++ Begun ∷ [])) (omega (arith, n)) in
+            let rises = slots_rise c (place_of way c plp) (begun events) (begun (events ++ Begun ∷ []))
+            (omega (arith, n)) in
             let le = h.within plp lt in
             omega (arith, m, rises, le);
         there = λ plp lt on.
@@ -109,7 +113,8 @@ module _ (way : Sharing) where
 
   -- A frame was begun.
   pub frame_begun : NotYetLast → OwnLength way → FrontsGrow → (c : Config) (done : List run.Event)
-      (g next : List Event → Type 0) (place after : Place) (ran now : Ran) → IsReadyFor c done g place ran → after.phase ≡ Gives
+      (g next : List Event → Type 0) (place after : Place) (ran now : Ran) → IsReadyFor c done g place ran
+      → after.phase ≡ Gives
       → now.frames ≡ ran.frames + 1 → now.units ≡ ran.units
       → ((events : List Event) → g events → IsLastBy way c events → ⊥)
       → ((events : List Event) → g events → next (events ++ Begun ∷ []))
@@ -131,7 +136,8 @@ module _ (way : Sharing) where
             offered_on c done h.events (h.events ++ Begun ∷ []) h.tails
             (λ plp. ap (λ (t : Told). t.packets) (told_begun plp h.events))
             (λ plp. ap (λ (t : Told). t.ended) (told_begun plp h.events)) b.none h.inputs;
-        time = time_begun c h.events b.all (more_frames law own c done g place ran h b (not_last h.events h.stands)) b.is_going
+        time = time_begun c h.events b.all (more_frames law own c done g place ran h b (not_last h.events h.stands))
+            b.is_going
             h.time;
         sends = sends_begun way grow c done h.events b.is_going h.sends;
         is_in = subst (λ (p : Phase). IsIn way c (h.events ++ Begun ∷ []) h.tails p) (sym to) (
@@ -139,14 +145,16 @@ module _ (way : Sharing) where
           record {
             begun_all = omega arith;
             units = λ inputs k. let w = b.complete inputs (back_begun way c h.events inputs k) in let q =
-                ap (λ (j : ℕ). length (complete_units c.pid (front_packets c (streams_by way c inputs) j))) before in omega (arith, w, q, m);
+                ap (λ (j : ℕ). length (complete_units c.pid (front_packets c (streams_by way c inputs) j)))
+                before in omega (arith, w, q, m);
           },
         );
         cut = λ plp some. absurd (some (b.none plp));
       }
 
   -- No more frames come.
-  pub frames_ended : (c : Config) (done : List run.Event) (g next : List Event → Type 0) (place after : Place) (ran : Ran)
+  pub frames_ended : (c : Config) (done : List run.Event) (g next : List Event → Type 0) (place after : Place)
+      (ran : Ran)
       → IsReadyFor c done g place ran → after.phase ≡ Rests
       → ((events : List Event) → g events → IsLastBy way c events)
       → ((events : List Event) → g events → next (events ++ Finished ∷ []))
@@ -164,9 +172,11 @@ module _ (way : Sharing) where
         frames = h.frames ∙ sym n;
         units = h.units ∙ sym m;
         tails = h.tails;
-        inputs = offered_on c done h.events (h.events ++ Finished ∷ []) h.tails (λ plp. ap (λ (t : Told). t.packets) (same plp))
+        inputs = offered_on c done h.events (h.events ++ Finished ∷ []) h.tails
+            (λ plp. ap (λ (t : Told). t.packets) (same plp))
             (λ plp. ap (λ (t : Told). t.ended) (same plp)) b.none h.inputs;
-        time = time_same way c h.events Finished same refl (λ on. still_last way c h.events Finished h.plan.rules same (last h.events h.stands))
+        time = time_same way c h.events Finished same refl (λ on. still_last way c h.events Finished
+            h.plan.rules same (last h.events h.stands))
             h.time;
         sends = sends_finished way c done h.events b.is_going h.sends;
         is_in = subst (λ (p : Phase). IsIn way c (h.events ++ Finished ∷ []) h.tails p) (sym to) (
@@ -174,7 +184,8 @@ module _ (way : Sharing) where
           record {
             begun_all = omega arith;
             units = λ inputs k. let w = b.complete inputs (back_same way c h.events Finished inputs same k) in let q =
-                ap (λ (j : ℕ). length (complete_units c.pid (front_packets c (streams_by way c inputs) j))) n in omega (arith, w, q, m);
+                ap (λ (j : ℕ). length (complete_units c.pid (front_packets c (streams_by way c inputs) j)))
+                n in omega (arith, w, q, m);
           },
           finished_now h.events,
         );
@@ -201,7 +212,8 @@ module _ (way : Sharing) where
 
   -- Another frame would be one too many.
   pub too_many : NotYetLast → OwnLength way → (c : Config) (done : List run.Event) (g : List Event → Type 0)
-      (place after : Place) (ran : Ran) → IsReadyFor c done g place ran → after.phase ≡ Stopped TooManyFrames → ran.frames ≡ MOST_FRAMES
+      (place after : Place) (ran : Ran) → IsReadyFor c done g place ran → after.phase ≡ Stopped TooManyFrames
+      → ran.frames ≡ MOST_FRAMES
       → ((events : List Event) → g events → IsLastBy way c events → ⊥) → Holds way c done g place ran
       → Holds way c done g after ran
   too_many law own c done g place after ran ready to most not_last h =

@@ -12,32 +12,39 @@ use Rattle.gateway_run.specs.Inputs.{Continue}
 
 module _ (way : Sharing) where
   pub back_offered : (c : Config) (events : List Event) (plp : ℕ) (packet : List ℕ) (all : ℕ → List (List ℕ))
-      → has_ended plp events ≡ false → Continue way c (events ++ Offered plp packet ∷ []) all → Continue way c events all
+      → has_ended plp events ≡ false → Continue way c (events ++ Offered plp packet ∷ []) all
+      → Continue way c events all
   back_offered c events plp packet all off h = λ k lt.
       elim (cases_eq (place_of way c k) plp) [
         | inl same ↦ subst (λ (p : ℕ). Continues (told p (events ++ Offered plp packet ∷ [])) (all k)
             → Continues (told p events) (all k)) (sym same)
             (λ x. cont_packet (told plp events) packet (all k) off
             (subst (λ (t : Told). Continues t (all k)) (told_offered plp events packet) x)) (h k lt)
-        | inr differ ↦ subst (λ (t : Told). Continues t (all k)) (other_offered (place_of way c k) plp events packet differ) (h k lt)
+        | inr differ ↦ subst (λ (t : Told). Continues t (all k)) (other_offered (place_of way c k) plp
+            events packet differ) (h k lt)
       ]
 
   pub back_ended : (c : Config) (events : List Event) (plp : ℕ) (all : ℕ → List (List ℕ))
       → Continue way c (events ++ Ended plp ∷ []) all → Continue way c events all
   back_ended c events plp all h = λ k lt.
       elim (cases_eq (place_of way c k) plp) [
-        | inl same ↦ subst (λ (p : ℕ). Continues (told p (events ++ Ended plp ∷ [])) (all k) → Continues (told p events) (all k))
+        | inl same ↦ subst (λ (p : ℕ). Continues (told p (events ++ Ended plp ∷ [])) (all k)
+            → Continues (told p events) (all k))
             (sym same)
-            (λ x. cont_end (told plp events) (all k) (subst (λ (t : Told). Continues t (all k)) (told_ended plp events) x))
+            (λ x. cont_end (told plp events) (all k) (subst (λ (t : Told). Continues t (all k)) (told_ended plp events)
+            x))
             (h k lt)
-        | inr differ ↦ subst (λ (t : Told). Continues t (all k)) (other_ended (place_of way c k) plp events differ) (h k lt)
+        | inr differ ↦ subst (λ (t : Told). Continues t (all k)) (other_ended (place_of way c k) plp events differ)
+            (h k lt)
       ]
 
   pub back_same : (c : Config) (events : List Event) (e : Event) (all : ℕ → List (List ℕ))
-      → ((j : ℕ) → told j (events ++ e ∷ []) ≡ told j events) → Continue way c (events ++ e ∷ []) all → Continue way c events all
+      → ((j : ℕ) → told j (events ++ e ∷ []) ≡ told j events) → Continue way c (events ++ e ∷ []) all
+      → Continue way c events all
   back_same c events e all same h = λ k lt. subst (λ (t : Told). Continues t (all k)) (same (place_of way c k)) (h k lt)
 
-  pub back_begun : (c : Config) (events : List Event) (all : ℕ → List (List ℕ)) → Continue way c (events ++ Begun ∷ []) all
+  pub back_begun : (c : Config) (events : List Event) (all : ℕ → List (List ℕ))
+      → Continue way c (events ++ Begun ∷ []) all
       → Continue way c events all
   back_begun c events all h = λ k lt.
       cont_next (told (place_of way c k) events) (all k)

@@ -1,5 +1,6 @@
 -- A run over files has an ending: the first bad packet that a frame wants, or the number of its frames tells.
-use Rattle.std.proofs.Common.{◌≡◌, ◌≢◌, ◌⊎◌, ℕ, zero, suc, ◌+◌, ◌-◌, ◌*◌, ◌/◌, ◌<◌, ◌≤◌, List, [], ◌∷◌, length, Result, Ok, Err, refl, ap}
+use Rattle.std.proofs.Common.{◌≡◌, ◌≢◌, ◌⊎◌, ℕ, zero, suc, ◌+◌, ◌-◌, ◌*◌, ◌/◌, ◌<◌, ◌≤◌, List, [], ◌∷◌, length, Result}
+use Rattle.std.proofs.Common.{Ok, Err, refl, ap}
 use Rattle.std.proofs.Common.{subst, ◌∙◌, inl, inr, arith}
 use Rattle.std.proofs.Math.Decide.{dec_lt}
 use Rattle.std.proofs.Math.Nat.{zero-div}
@@ -30,14 +31,16 @@ decide_some (b ∷ bytes) = yes (λ e. cc)
 module _ (way : Sharing) where
   decide_wants : (c : Config) (files : ℕ → List ℕ) (frame plp : ℕ) → Dec (WantsBad way c files frame plp)
   decide_wants c files frame plp =
-      decide_both (decide_some (left_in (files plp))) (dec_lt (length (packets_in (files plp))) (slots_by c (place_of way c plp) (frame * c.ticks)))
+      decide_both (decide_some (left_in (files plp))) (dec_lt (length (packets_in (files plp)))
+      (slots_by c (place_of way c plp) (frame * c.ticks)))
 
   -- the first input of which a frame wants a bad packet
   abbrev WantsFirst : Config → (ℕ → List ℕ) → ℕ → Type 0
   WantsFirst c files frame = (plp : ℕ)
       × IsFirstOf way c (WantsBad way c files frame) (λ k. length (packets_in (files k))) (input_count way c) plp
 
-  none_or_bad_of : (c : Config) (files : ℕ → List ℕ) (frame : ℕ) → MeetsNone way c files frame ⊎ WantsFirst c files frame
+  none_or_bad_of : (c : Config) (files : ℕ → List ℕ) (frame : ℕ) → MeetsNone way c files frame
+      ⊎ WantsFirst c files frame
   none_or_bad_of c files frame =
       none_or_first way c (WantsBad way c files frame) (λ k. length (packets_in (files k)))
       (λ plp. as_sum (decide_wants c files frame plp)) (input_count way c)
@@ -46,7 +49,8 @@ module _ (way : Sharing) where
   none_at_first : (c : Config) (files : ℕ → List ℕ) (plp : ℕ) → ¬ (WantsBad way c files 0 plp)
   none_at_first c files plp wants =
       let start : 0 * c.ticks * den c (place_of way c plp) ≡ 0 = omega arith in
-      let none : slots_by c (place_of way c plp) (0 * c.ticks) ≡ 0 = ap (λ (n : ℕ). n / num c) start ∙ zero-div (num c) in
+      let none : slots_by c (place_of way c plp) (0 * c.ticks) ≡ 0 = ap (λ (n : ℕ). n / num c) start
+      ∙ zero-div (num c) in
       let lt = wants.1 in omega (arith, lt, none)
 
   none_before : (c : Config) (files : ℕ → List ℕ) (frame plp : ℕ) → WantsBad way c files frame plp
@@ -60,7 +64,8 @@ module _ (way : Sharing) where
   FirstBad c files count = (frame : ℕ) × (frame < count)
       × ((plp : ℕ) × MeetsBad way c files frame plp (length (packets_in (files plp))))
 
-  none_or_bad : (c : Config) (files : ℕ → List ℕ) (count : ℕ) → ((frame : ℕ) → frame < count → MeetsNone way c files frame)
+  none_or_bad : (c : Config) (files : ℕ → List ℕ) (count : ℕ) → ((frame : ℕ) → frame < count
+      → MeetsNone way c files frame)
       ⊎ FirstBad c files count
   none_or_bad c files count =
       elim (first_other (MeetsNone way c files) (WantsFirst c files) (none_or_bad_of c files) count) [
@@ -99,15 +104,22 @@ module _ (way : Sharing) where
       → (result : Result Ran GatewayStop) × MustRun way c files result
   ends_by law own c files plan =
       elim (none_or_bad c files (MOST_FRAMES + 1)) [
-        | inr bad ↦
-            (Err (Bad bad.2.0 (length (packets_in (files bad.2.0)))), (bad.0, bad.2.1, (let lt = bad.1 in omega (arith, lt))))
+        | inr bad ↦ (
+          Err (Bad bad.2.0 (length (packets_in (files bad.2.0)))),
+          (bad.0, bad.2.1, (let lt = bad.1 in omega (arith, lt))),
+        )
         | inl all ↦
             let none : MeetsNone way c files MOST_FRAMES = all MOST_FRAMES (omega arith) in
             elim (cases_lt MOST_FRAMES (frames_of way c files)) [
               | inl more ↦ (Err TooManyFrames, (none, more))
               | inr few ↦ (
                 Ok (record { frames = frames_of way c files; units = length (units_of way c files) }),
-                ((λ plp lt bad. none plp lt (bad, wanted_late law own c files plp MOST_FRAMES plan lt few)), refl, refl, few),
+                (
+                  (λ plp lt bad. none plp lt (bad, wanted_late law own c files plp MOST_FRAMES plan lt few)),
+                  refl,
+                  refl,
+                  few,
+                ),
               )
             ]
       ]

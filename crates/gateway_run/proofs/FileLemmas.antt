@@ -1,5 +1,6 @@
 -- The packets of a file of which some were taken.
-use Rattle.std.proofs.Common.{◌≡◌, ◌≢◌, ℕ, zero, suc, ◌+◌, ◌*◌, ◌<◌, ◌≤◌, Bool, true, false, List, [], ◌∷◌, ◌++◌, length, take}
+use Rattle.std.proofs.Common.{◌≡◌, ◌≢◌, ℕ, zero, suc, ◌+◌, ◌*◌, ◌<◌, ◌≤◌, Bool, true, false, List, [], ◌∷◌, ◌++◌}
+use Rattle.std.proofs.Common.{length, take}
 use Rattle.std.proofs.Common.{drop, refl, ap, sym, ◌∙◌, arith, append_assoc, append-nil, length-append, inl, inr}
 use Rattle.std.specs.Prelude.{slice_index, nat_le, ◌==◌, ◌⊎◌}
 use Rattle.std.proofs.lemmas.Bool.{cases_Bool, ne_eqb, and_right}
@@ -18,7 +19,8 @@ le_false a b lt = grind (arith)
 pub no_short : (bytes : List ℕ) → length bytes < SIZE → begins_with_packet bytes ≡ false
 no_short bytes lt = rw (le_false SIZE (length bytes) lt) refl
 
-is_packet : (packet rest : List ℕ) → length packet ≡ SIZE → slice_index packet 0 ≡ SYNC → begins_with_packet (packet ++ rest)
+is_packet : (packet rest : List ℕ) → length packet ≡ SIZE → slice_index packet 0 ≡ SYNC
+    → begins_with_packet (packet ++ rest)
     ≡ true
 is_packet packet rest long sync =
     let a : nat_le SIZE (length (packet ++ rest)) ≡ true =
@@ -36,7 +38,8 @@ fuel (suc n) (suc m) bytes a b =
     elim (cases_Bool (begins_with_packet bytes)) [
       | inl yes_ ↦
           let l = length-drop SIZE bytes in
-          rw yes_ (ap (λ (ps : List (List ℕ)). take SIZE bytes ∷ ps) (fuel n m (drop SIZE bytes) (omega arith) (omega arith)))
+          rw yes_ (ap (λ (ps : List (List ℕ)). take SIZE bytes ∷ ps) (fuel n m (drop SIZE bytes) (omega arith)
+          (omega arith)))
       | inr no_ ↦ rw no_ refl
     ]
 
@@ -53,7 +56,8 @@ packets_cons packet rest long sync =
     ap (λ (n : ℕ). packets_up_to n (packet ++ rest)) size ∙ one_packet packet rest (187 + length rest) long sync
     ∙ ap (λ (ps : List (List ℕ)). packet ∷ ps) (fuel (187 + length rest) (length rest) rest (omega arith) (omega arith))
 
-pub packets_joined : (packets : List (List ℕ)) (rest : List ℕ) → ArePackets packets → packets_in (joined packets ++ rest)
+pub packets_joined : (packets : List (List ℕ)) (rest : List ℕ) → ArePackets packets
+    → packets_in (joined packets ++ rest)
     ≡ packets ++ packets_in rest
 packets_joined [] rest each = refl
 packets_joined (p ∷ packets) rest each =
@@ -62,11 +66,19 @@ packets_joined (p ∷ packets) rest each =
 
 pub joined_length : (packets : List (List ℕ)) → ArePackets packets → length (joined packets) ≡ SIZE * length packets
 joined_length [] each = refl
-joined_length (p ∷ packets) each = omega (arith, length-append p (joined packets), joined_length packets each.1, each.0.0)
+joined_length (p ∷ packets) each = omega (
+  arith,
+  length-append p (joined packets),
+  joined_length packets
+      each.1,
+  each.0.0,
+)
 
-pub left_joined : (packets : List (List ℕ)) (rest : List ℕ) → ArePackets packets → left_in (joined packets ++ rest) ≡ left_in rest
+pub left_joined : (packets : List (List ℕ)) (rest : List ℕ) → ArePackets packets
+    → left_in (joined packets ++ rest) ≡ left_in rest
 left_joined packets rest each =
-    let n : SIZE * length (packets_in (joined packets ++ rest)) ≡ length (joined packets) + SIZE * length (packets_in rest) =
+    let n : SIZE * length (packets_in (joined packets ++ rest)) ≡ length (joined packets) + SIZE * length
+    (packets_in rest) =
     let e = ap length (packets_joined packets rest each) in
     omega (arith, e, length-append packets (packets_in rest), joined_length packets each) in
     ap (λ (k : ℕ). drop k (joined packets ++ rest)) n
@@ -89,7 +101,8 @@ pub nothing_left : left_in [] ≡ []
 unfolding packets_up_to
 nothing_left = refl
 
-pub packets_push : (packets : List (List ℕ)) (p : List ℕ) → ArePackets packets → length p ≡ SIZE → slice_index p 0 ≡ SYNC
+pub packets_push : (packets : List (List ℕ)) (p : List ℕ) → ArePackets packets → length p ≡ SIZE
+    → slice_index p 0 ≡ SYNC
     → ArePackets (packets ++ p ∷ [])
 packets_push [] p each long sync = ((long, sync), tt)
 packets_push (q ∷ packets) p each long sync = (each.0, packets_push packets p each.1 long sync)
@@ -101,11 +114,13 @@ pub record IsRead (file : List ℕ) (packets : List (List ℕ)) (ended : Bool) (
   pub end : ended ≡ true → left ≡ []
 
 -- what was taken comes first
-pub taken_first : (file : List ℕ) (packets : List (List ℕ)) (ended : Bool) (left : List ℕ) → IsRead file packets ended left
+pub taken_first : (file : List ℕ) (packets : List (List ℕ)) (ended : Bool) (left : List ℕ)
+    → IsRead file packets ended left
     → packets_in file ≡ packets ++ packets_in left
 taken_first file packets ended left r = ap packets_in r.parts ∙ packets_joined packets left r.each
 
-pub taken_few : (file : List ℕ) (packets : List (List ℕ)) (ended : Bool) (left : List ℕ) → IsRead file packets ended left
+pub taken_few : (file : List ℕ) (packets : List (List ℕ)) (ended : Bool) (left : List ℕ)
+    → IsRead file packets ended left
     → length packets ≤ length (packets_in file)
 taken_few file packets ended left r = let e = ap length (taken_first file packets ended left r) in
     omega (arith, e, length-append packets (packets_in left))
@@ -116,7 +131,8 @@ taken_all file packets left r =
     taken_first file packets true left r ∙ ap (λ (l : List ℕ). packets ++ packets_in l) (r.end refl)
     ∙ ap (λ (ps : List (List ℕ)). packets ++ ps) nothing_in ∙ append-nil packets
 
-pub none_bad : (file : List ℕ) (packets : List (List ℕ)) (left : List ℕ) → IsRead file packets true left → ¬ (HasBad file)
+pub none_bad : (file : List ℕ) (packets : List (List ℕ)) (left : List ℕ) → IsRead file packets true left
+    → ¬ (HasBad file)
 none_bad file packets left r bad =
     bad (ap left_in r.parts ∙ left_joined packets left r.each ∙ ap left_in (r.end refl) ∙ nothing_left)
 
@@ -163,8 +179,10 @@ first_byte [] more some = absurd (some refl)
 first_byte (x ∷ tail) more some = refl
 
 -- what is no packet for its first byte, or since nothing follows, is none
-pub still_bad : (tail more : List ℕ) (ended : Bool) → tail ≢ [] → begins_with_packet tail ≡ false → (slice_index tail 0 ≢ SYNC)
+pub still_bad : (tail more : List ℕ) (ended : Bool) → tail ≢ [] → begins_with_packet tail ≡ false
+    → (slice_index tail 0 ≢ SYNC)
     ⊎ (ended ≡ true) → (ended ≡ true → more ≡ []) → begins_with_packet (tail ++ more) ≡ false
-still_bad tail more ended some off (inl sync) end = no_sync (tail ++ more) (λ e. sync (sym (first_byte tail more some) ∙ e))
+still_bad tail more ended some off (inl sync) end = no_sync (tail ++ more) (λ e. sync (sym (first_byte tail more some)
+    ∙ e))
 still_bad tail more ended some off (inr on) end = ap (λ (l : List ℕ). begins_with_packet (tail ++ l)) (end on)
     ∙ ap begins_with_packet (append-nil tail) ∙ off

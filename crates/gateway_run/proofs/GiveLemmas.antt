@@ -1,5 +1,6 @@
 -- Units are given.
-use Rattle.std.proofs.Common.{◌≡◌, ℕ, ◌+◌, ◌-◌, ◌<◌, true, false, List, [], ◌∷◌, ◌++◌, length, refl, ap, sym, subst, ◌∙◌}
+use Rattle.std.proofs.Common.{◌≡◌, ℕ, ◌+◌, ◌-◌, ◌<◌, true, false, List, [], ◌∷◌, ◌++◌, length, refl, ap, sym, subst}
+use Rattle.std.proofs.Common.{◌∙◌}
 use Rattle.std.proofs.Common.{inl, inr, arith, append-nil}
 use Rattle.std.specs.Prelude.{Option, Some, None}
 use Rattle.plp_config.specs.declared.config.Config.{Config}
@@ -29,12 +30,14 @@ use Rattle.gateway_run.proofs.StepLemmas.{sends_gave, time_same}
 use Rattle.gateway_run.proofs.TakeLemmas.{offered_as, looked_in}
 
 module _ (way : Sharing) where
-  no_tails : (phase : Phase) (c : Config) (events : List Event) (tails : ℕ → List ℕ) → IsGiving phase → IsIn way c events tails phase
+  no_tails : (phase : Phase) (c : Config) (events : List Event) (tails : ℕ → List ℕ) → IsGiving phase
+      → IsIn way c events tails phase
       → NoTails tails
   no_tails phase c events tails i s =
       elim (giving_cases phase i) [
         | inl gives ↦
-            (let at : NoTails tails × HasGiven way c events (begun events - 1) = subst (λ (p : Phase). IsIn way c events tails p) gives s in
+            (let at : NoTails tails × HasGiven way c events (begun events - 1) = subst
+            (λ (p : Phase). IsIn way c events tails p) gives s in
             at.0)
         | inr rests ↦
             (let at : NoTails tails × HasGiven way c events (begun events) × (finished events ≡ true) =
@@ -42,7 +45,8 @@ module _ (way : Sharing) where
       ]
 
   -- one unit more was given
-  given_more : (c : Config) (events : List Event) (frames now : ℕ) → ((plp : ℕ) → told plp (events ++ Gave ∷ []) ≡ told plp events)
+  given_more : (c : Config) (events : List Event) (frames now : ℕ)
+      → ((plp : ℕ) → told plp (events ++ Gave ∷ []) ≡ told plp events)
       → now ≡ frames → HasGiven way c events frames → HasGiven way c (events ++ Gave ∷ []) now
   given_more c events frames now same e h = record {
     begun_all = (let b = h.begun_all in let n = begun_same events Gave refl in omega (arith, b, n, e));
@@ -60,9 +64,13 @@ module _ (way : Sharing) where
       let n = begun_same events Gave refl in
       elim (giving_cases phase i) [
         | inl gives ↦
-            let at : NoTails tails × HasGiven way c events (begun events - 1) = subst (λ (p : Phase). IsIn way c events tails p) gives s in
-            subst (λ (p : Phase). IsIn way c (events ++ Gave ∷ []) tails p) (sym gives)
-            (at.0, given_more c events (begun events - 1) (begun (events ++ Gave ∷ []) - 1) same (ap (λ (k : ℕ). k - 1) n) at.1)
+            let at : NoTails tails × HasGiven way c events (begun events - 1) = subst
+            (λ (p : Phase). IsIn way c events tails p) gives s in
+            subst (λ (p : Phase). IsIn way c (events ++ Gave ∷ []) tails p) (sym gives) (
+              at.0,
+              given_more c events (begun events - 1) (begun (events ++ Gave ∷ []) - 1) same
+                  (ap (λ (k : ℕ). k - 1) n) at.1,
+            )
         | inr rests ↦
             let at : NoTails tails × HasGiven way c events (begun events) × (finished events ≡ true) =
             subst (λ (p : Phase). IsIn way c events tails p) rests s in
@@ -75,7 +83,8 @@ module _ (way : Sharing) where
       ]
 
   -- A unit was given.
-  pub unit_gave : EventsTell → (c : Config) (done : List run.Event) (g next : List Event → Type 0) (place : Place) (ran now : Ran)
+  pub unit_gave : EventsTell → (c : Config) (done : List run.Event) (g next : List Event → Type 0) (place : Place)
+      (ran now : Ran)
       (unit bytes : List ℕ) → IsGiving place.phase → bytes ≡ unit → now.frames ≡ ran.frames → now.units ≡ ran.units + 1
       → ((events : List Event) → g events → IsNext way c events unit)
       → ((events : List Event) → g events → next (events ++ Gave ∷ []))
@@ -93,20 +102,24 @@ module _ (way : Sharing) where
         units = (let u = h.units in let m = given_with h.events Gave in omega (arith, units, u, m));
         tails = h.tails;
         inputs = record {
-          each = λ plp lt. offered_as _ _ _ _ (told (place_of way c plp) h.events) (told (place_of way c plp) (h.events ++ Gave ∷ [])) _ (f.fed plp) (f.ended plp)
+          each = λ plp lt. offered_as _ _ _ _ (told (place_of way c plp) h.events)
+              (told (place_of way c plp) (h.events ++ Gave ∷ [])) _ (f.fed plp) (f.ended plp)
               (same (place_of way c plp)) (h.inputs.each plp lt);
           whole = λ plp on. none plp;
         };
         time = time_same way c h.events Gave same refl
-            (λ on. still_last way c h.events Gave h.plan.rules same (h.time.last (sym (finished_same h.events Gave refl) ∙ on))) h.time;
-        sends = sends_gave way c done (done ++ run.Gave bytes ∷ []) h.events unit (f.gave ∙ ap (λ (l : List ℕ). run.gave done ++ l) is)
+            (λ on. still_last way c h.events Gave h.plan.rules same (h.time.last (sym (finished_same h.events Gave refl)
+            ∙ on))) h.time;
+        sends = sends_gave way c done (done ++ run.Gave bytes ∷ []) h.events unit (f.gave
+            ∙ ap (λ (l : List ℕ). run.gave done ++ l) is)
             (gives h.events h.stands) h.sends;
         is_in = in_giving place.phase c h.events h.tails i same h.is_in;
         cut = λ plp some. absurd (some (none plp));
       }
 
   -- Nothing was given.
-  pub nothing_gave : EventsTell → (c : Config) (done : List run.Event) (g : List Event → Type 0) (place : Place) (ran : Ran)
+  pub nothing_gave : EventsTell → (c : Config) (done : List run.Event) (g : List Event → Type 0) (place : Place)
+      (ran : Ran)
       → Holds way c done g place ran → Holds way c (done ++ run.Gave [] ∷ []) g place ran
   nothing_gave tell c done g place ran h =
       let f = tell.given [] done in
@@ -135,7 +148,8 @@ module _ (way : Sharing) where
       }
 
   -- All units of the run were given.
-  pub units_over : EventsTell → (c : Config) (done : List run.Event) (g next : List Event → Type 0) (place after : Place) (ran : Ran)
+  pub units_over : EventsTell → (c : Config) (done : List run.Event) (g next : List Event → Type 0)
+      (place after : Place) (ran : Ran)
       → place.phase ≡ Rests → after.phase ≡ Done
       → ((events : List Event) → g events → next events)
       → ((events : List Event) → g events → finished events ≡ true → AreAll way c events)

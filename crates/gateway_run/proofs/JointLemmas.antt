@@ -16,7 +16,8 @@ use Rattle.gateway_core.specs.InputSoFar.{told, Continues}
 use Rattle.gateway_core.proofs.LawLemmas.{frame_count_same}
 use Rattle.gateway_core.specs.Continuing.{InputsContinue, IsLast, frames_of}
 use Rattle.gateway_core.specs.Order.{IsInput, IsWanted, IsWantedFirst, turn_of}
-use Rattle.gateway_core.specs.SplitStandsFor.{SplitGatewayStandsFor, IsAsked, NoneWanted, config_of, has_finished, wants_of}
+use Rattle.gateway_core.specs.SplitStandsFor.{SplitGatewayStandsFor, IsAsked, NoneWanted, config_of, has_finished}
+use Rattle.gateway_core.specs.SplitStandsFor.{wants_of}
 use Rattle.gateway_core.specs.declared.split_gateway.SplitGateway.{SplitGateway}
 use Rattle.gateway_core.proofs.MemberLemmas.{member_input, split_depends}
 use Rattle.gateway_core.proofs.StandLemmas.{asked_wants}
@@ -54,7 +55,8 @@ frames_joint : (c : Config) (events : List Event)
 frames_joint c events =
     let by : ℕ → List (List ℕ) = λ plp. offered (plp - commons c.plps + commons c.plps) events in
     frame_count_same c (λ plp. length (split c by plp)) (λ plp. length (split c (λ k. offered k events) plp))
-    (λ plp lt. ap (λ (l : List (List ℕ)). length l) (split_depends c by (λ k. offered k events) plp lt (λ source inside member.
+    (λ plp lt. ap (λ (l : List (List ℕ)). length l) (split_depends c by (λ k. offered k events) plp lt
+    (λ source inside member.
     ap (λ (k : ℕ). offered k events) (back_place c source (member_input c (turn_of c plp) source inside member)))))
 
 last_there : (c : Config) (events : List Event) → AllRules c → IsLast c events → IsLastBy Joint c events
@@ -72,7 +74,11 @@ last_back c events last = record {
 
 pub last_joint : (c : Config) (events : List Event) (told : Bool) → AllRules c → (told ≡ true) ↔ IsLast c events
     → (told ≡ true) ↔ IsLastBy Joint c events
-last_joint c events told rules iff = (λ on. last_there c events rules (iff.0 on), λ last. iff.1 (last_back c events last))
+last_joint c events told rules iff = (
+  λ on. last_there c events rules (iff.0 on),
+  λ last. iff.1
+      (last_back c events last),
+)
 
 -- ---- what was looked for
 
@@ -83,12 +89,15 @@ unfolding SplitGatewayStandsFor
 finished_is s c events stands =
     core.finished_is s.gateway s.plan.now stands.1.done stands.1.stands ∙ stands.1.splits.finished_is
 
-wants_is : (s : SplitGateway) (c : Config) (events : List Event) (plp : ℕ) → SplitGatewayStandsFor s c events → IsAsked s plp
+wants_is : (s : SplitGateway) (c : Config) (events : List Event) (plp : ℕ) → SplitGatewayStandsFor s c events
+    → IsAsked s plp
     → wants_of s plp ≡ slots_by c plp (begun events * c.ticks) - length (offered plp events)
 unfolding SplitGatewayStandsFor
 wants_is s c events plp stands asked =
-    subst (λ (e : Config). wants_of s plp ≡ slots_by e plp (begun events * e.ticks) - length (offered plp events)) stands.0
-    (asked_wants s.plan.now s.gateway s.held.items events plp s.plps stands.1 (asked.inside, asked.own) asked.none asked.some)
+    subst (λ (e : Config). wants_of s plp ≡ slots_by e plp (begun events * e.ticks) - length (offered plp events))
+    stands.0
+    (asked_wants s.plan.now s.gateway s.held.items events plp s.plps stands.1 (asked.inside, asked.own)
+    asked.none asked.some)
 
 -- An input has all if none of it is wanted.
 has_all : (c : Config) (events : List Event) (input : ℕ) → AllRules c → input < input_count Joint c
@@ -101,17 +110,21 @@ has_all c events input rules lt never off =
     ]
 
 -- it is not before the common PLPs
-pub never_before : (s : SplitGateway) (c : Config) (plp first : ℕ) → config_of s ≡ c → first ≡ commons c.plps → IsAsked s plp
+pub never_before : (s : SplitGateway) (c : Config) (plp first : ℕ) → config_of s ≡ c → first ≡ commons c.plps
+    → IsAsked s plp
     → first ≤ plp
 never_before s c plp first same count asked =
-    let behind = behind_own c plp (subst (λ (d : Config). is_common d plp ≡ false) same asked.own) in omega (arith, behind, count)
+    let behind = behind_own c plp (subst (λ (d : Config). is_common d plp ≡ false) same asked.own) in
+    omega (arith, behind, count)
 
-module _ (s : SplitGateway) (c : Config) (rules : AllRules c) (same : config_of s ≡ c) (is_open : has_finished s ≡ false) where
+module _ (s : SplitGateway) (c : Config) (rules : AllRules c) (same : config_of s ≡ c)
+    (is_open : has_finished s ≡ false) where
   going : (events : List Event) → SplitGatewayStandsFor s c events → finished events ≡ false
   going events stands = sym (finished_is s c events stands) ∙ is_open
 
   -- It asks for none,
-  pub asks_none : NoneWanted s → ((events : List Event) → SplitGatewayStandsFor s c events → (plp : ℕ) → ¬ (IsWanted c events plp))
+  pub asks_none : NoneWanted s → ((events : List Event) → SplitGatewayStandsFor s c events → (plp : ℕ)
+      → ¬ (IsWanted c events plp))
       → Asks Joint c (seen_of s c) None
   asks_none none never = record {
     is_of = same;

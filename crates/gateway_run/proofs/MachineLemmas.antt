@@ -22,7 +22,8 @@ use Rattle.gateway_run.proofs.TakeLemmas.{Waits}
 pub offered_length : (bytes : List ℕ) (ended over : Bool) (packets : List (List ℕ)) (tail : List ℕ) → tail ≡ []
     → IsOffered bytes ended packets over tail → length bytes ≡ SIZE * length packets
 offered_length bytes ended over packets tail e o =
-    ap length (o.parts ∙ ap (λ (l : List ℕ). joined packets ++ l) e ∙ append-nil (joined packets)) ∙ joined_length packets o.each
+    ap length (o.parts ∙ ap (λ (l : List ℕ). joined packets ++ l) e ∙ append-nil (joined packets))
+    ∙ joined_length packets o.each
 
 -- no input is to be read less far
 pub reach_more : (c : Config) (plp frame later : ℕ) → frame ≤ later → SIZE * slots_by c plp (frame * c.ticks)
@@ -30,15 +31,18 @@ pub reach_more : (c : Config) (plp frame later : ℕ) → frame ≤ later → SI
 reach_more c plp frame later le = let s = slots_rise c plp frame later le in omega (arith, s)
 
 -- What a frame wants of the input that is looked at can be read.
-pub wanted_by : (way : Sharing) (c : Config) (done : List run.Event) (g : List Event → Type 0) (place : Place) (ran : Ran)
-    (wants n inputs : ℕ) → place.phase ≡ Wants → inputs ≡ input_count way c → Waits way c done g place ran wants → n ≤ wants
+pub wanted_by : (way : Sharing) (c : Config) (done : List run.Event) (g : List Event → Type 0) (place : Place)
+    (ran : Ran)
+    (wants n inputs : ℕ) → place.phase ≡ Wants → inputs ≡ input_count way c → Waits way c done g place ran wants
+    → n ≤ wants
     → (0 < wants → 0 < n) → Holds way c done g place ran
     → CanBeRead inputs done (reach_by way c place.phase ran.frames) place.input SIZE (SIZE * n)
 wanted_by way c done g place ran wants n inputs e all wait few some h =
     let w = wait h in
     let i = w.first.inside in
     let o = h.inputs.each place.input i in
-    let at = ap (λ (m : ℕ). slots_by c (place_of way c place.input) (m * c.ticks)) (ap (λ (p : Phase). frame_read p ran.frames) e ∙ h.frames) in
+    let at = ap (λ (m : ℕ). slots_by c (place_of way c place.input) (m * c.ticks))
+    (ap (λ (p : Phase). frame_read p ran.frames) e ∙ h.frames) in
     let l = w.first.less in
     let k = w.first.wants_are in
     let size = offered_length _ _ _ _ _ (w.none place.input) o in

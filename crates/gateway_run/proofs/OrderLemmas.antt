@@ -98,10 +98,12 @@ pub earlier_still : (way : Sharing) (c : Config) (input sooner slot other late :
     → IsBefore way c input slot other late → IsBefore way c input sooner other late
 earlier_still Apart c input sooner slot other late le before = before
 earlier_still Joint c input sooner slot other late le before =
-    less_still (turn_of c (place_of Joint c input)) slot (place_of Joint c input) (turn_of c (place_of Joint c other)) late
+    less_still (turn_of c (place_of Joint c input)) slot (place_of Joint c input) (turn_of c (place_of Joint c other))
+    late
     (place_of Joint c other) sooner le before
 
-pub before_on : (way : Sharing) (c : Config) (input slot other late third last : ℕ) → IsBefore way c input slot other late
+pub before_on : (way : Sharing) (c : Config) (input slot other late third last : ℕ)
+    → IsBefore way c input slot other late
     → IsBefore way c other late third last → IsBefore way c input slot third last
 before_on Apart c input slot other late third last a b = omega (arith, a, b)
 before_on Joint c input slot other late third last a b =
@@ -125,7 +127,8 @@ before_or Apart c input slot other late =
       ]
     ]
 before_or Joint c input slot other late =
-    elim (less_or (turn_of c (place_of Joint c input)) slot (place_of Joint c input) (turn_of c (place_of Joint c other)) late
+    elim (less_or (turn_of c (place_of Joint c input)) slot (place_of Joint c input)
+    (turn_of c (place_of Joint c other)) late
     (place_of Joint c other)) [
       | inl before ↦ inl before
       | inr more ↦ elim more [ inl same ↦ inr (inl (omega (arith, same))) | inr behind ↦ inr (inr behind) ]
@@ -200,7 +203,8 @@ none_or_first way c P slot decide (suc n) =
                     inside = omega (arith, within);
                     holds = f.holds;
                     first = λ other lt before here. elim (cases_eq other n) [
-                      | inl same ↦ never_before way c n (slot n) (before_on way c n (slot n) found.0 (slot found.0) n (slot n)
+                      | inl same ↦ never_before way c n (slot n) (before_on way c n (slot n) found.0
+                          (slot found.0) n (slot n)
                           (subst (λ (k : ℕ). IsBefore way c k (slot k) found.0 (slot found.0)) same before) later)
                       | inr differ ↦ f.first other (omega (arith, lt, differ)) before here
                     ];

@@ -1,5 +1,6 @@
 -- What a gateway gave, by the files.
-use Rattle.std.proofs.Common.{◌≡◌, ◌≢◌, ℕ, ◌+◌, ◌-◌, ◌*◌, ◌<◌, ◌≤◌, Bool, true, false, List, [], ◌++◌, length, refl, ap, sym}
+use Rattle.std.proofs.Common.{◌≡◌, ◌≢◌, ℕ, ◌+◌, ◌-◌, ◌*◌, ◌<◌, ◌≤◌, Bool, true, false, List, [], ◌++◌, length, refl, ap}
+use Rattle.std.proofs.Common.{sym}
 use Rattle.std.proofs.Common.{subst, ◌∙◌, inl, inr, arith, append_assoc, append-nil, length-append}
 use Rattle.std.proofs.lemmas.Bool.{cases_Bool}
 use Rattle.std.proofs.lemmas.Grind.{flat_map-append}
@@ -21,20 +22,24 @@ use Rattle.gateway_core.specs.Packets.{front_packets, packets_of}
 use Rattle.common_plp.specs.Inputs.{place_of, input_count, streams_by}
 use Rattle.common_plp.specs.Sharing.{Sharing}
 use Rattle.gateway_run.specs.Inputs.{Continue}
-use Rattle.gateway_run.specs.GatewayRun.{inputs_of, frames_of, units_of, ReadsNoBad, MeetsNone, MeetsBad, BeginsUnits, CompleteBefore}
+use Rattle.gateway_run.specs.GatewayRun.{inputs_of, frames_of, units_of, ReadsNoBad, MeetsNone, MeetsBad, BeginsUnits}
+use Rattle.gateway_run.specs.GatewayRun.{CompleteBefore}
 use Rattle.gateway_run.specs.Holds.{IsOffered, AreComplete, AreAll, HasGiven, HasAll, MetBad, NoTails, IsIn, Holds}
 use Rattle.gateway_run.specs.declared.place.Phase.{Phase}
 use Rattle.gateway_run.specs.declared.place.Phase.TheVariants.{Done, Stopped}
 use Rattle.gateway_run.specs.declared.stop.GatewayStop.TheVariants.{Bad}
 use Rattle.gateway_run.specs.declared.place.Place.{Place}
 use Rattle.gateway_run.specs.declared.stop.Ran.{Ran}
-use Rattle.gateway_run.proofs.FileLemmas.{IsRead, continues, taken_few, taken_all, none_bad, next_bad, not_wanted, still_bad}
+use Rattle.gateway_run.proofs.FileLemmas.{IsRead, continues, taken_few, taken_all, none_bad, next_bad, not_wanted}
+use Rattle.gateway_run.proofs.FileLemmas.{still_bad}
 use Rattle.gateway_run.proofs.MachineLemmas.{offered_length}
 use Rattle.gateway_run.proofs.OrderLemmas.{earlier_still}
 use Rattle.gateway_run.proofs.StreamLemmas.{frames_same}
 
-read_of : (file bytes tail : List ℕ) (place : ℕ) (ended over : Bool) (packets : List (List ℕ)) → (over ≡ true → tail ≡ [])
-    → (f : IsFed file place bytes ended) → IsOffered bytes ended packets over tail → IsRead file packets over (tail ++ f.more)
+read_of : (file bytes tail : List ℕ) (place : ℕ) (ended over : Bool) (packets : List (List ℕ))
+    → (over ≡ true → tail ≡ [])
+    → (f : IsFed file place bytes ended) → IsOffered bytes ended packets over tail
+    → IsRead file packets over (tail ++ f.more)
 read_of file bytes tail place ended over packets whole f o = record {
   parts = f.parts ∙ ap (λ (l : List ℕ). l ++ f.more) o.parts ∙ append_assoc (joined packets) tail f.more;
   each = o.each;
@@ -64,7 +69,8 @@ module _ (way : Sharing) (c : Config) (done : List run.Event) (g : List Event �
 
   -- the packets of the files continue what was offered
   pub continue_files : Continue way c h.events (inputs_of files)
-  continue_files plp lt = continues (files plp) (offered (place_of way c plp) h.events) (has_ended (place_of way c plp) h.events) _
+  continue_files plp lt = continues (files plp) (offered (place_of way c plp) h.events)
+      (has_ended (place_of way c plp) h.events) _
       (begun h.events) (reads plp lt)
 
   -- If so much was offered, no bad packet is wanted of so much.
@@ -83,7 +89,8 @@ module _ (way : Sharing) (c : Config) (done : List run.Event) (g : List Event �
 
   -- Nor in the one under way, of an input of which it has all.
   pub none_here : (plp : ℕ) → plp < input_count way c → HasAll way c h.events plp
-      → ¬ (HasBad (files plp) × length (packets_in (files plp)) < slots_by c (place_of way c plp) (ran.frames * c.ticks))
+      → ¬ (HasBad (files plp) × length (packets_in (files plp)) < slots_by c (place_of way c plp)
+      (ran.frames * c.ticks))
   none_here plp lt all = never_wanted plp (slots_by c (place_of way c plp) (ran.frames * c.ticks)) lt (λ on.
       let t = all on in
       let e = ap (λ (n : ℕ). slots_by c (place_of way c plp) (n * c.ticks)) h.frames in
@@ -101,13 +108,15 @@ module _ (way : Sharing) (c : Config) (done : List run.Event) (g : List Event �
   ended_read : finished h.events ≡ true → (plp : ℕ) (lt : plp < input_count way c)
       → IsRead (files plp) (offered (place_of way c plp) h.events) true (h.tails plp ++ (are plp lt).more)
   ended_read on plp lt =
-      subst (λ (b : Bool). IsRead (files plp) (offered (place_of way c plp) h.events) b (h.tails plp ++ (are plp lt).more))
+      subst (λ (b : Bool). IsRead (files plp) (offered (place_of way c plp) h.events) b
+      (h.tails plp ++ (are plp lt).more))
       ((h.time.last on).ended plp lt) (reads plp lt)
 
   -- and all frames of the files were begun.
   last_frames : finished h.events ≡ true → begun h.events ≡ frames_of way c files
   last_frames on =
-      (h.time.last on).frames ∙ frames_same way c (λ j. offered (place_of way c j) h.events) (inputs_of files) h.plan.rules
+      (h.time.last on).frames ∙ frames_same way c (λ j. offered (place_of way c j) h.events) (inputs_of files)
+      h.plan.rules
       (λ j lt. sym (taken_all (files j) (offered (place_of way c j) h.events) _ (ended_read on j lt)))
 
   -- All units of all packets of the files were given.
@@ -127,7 +136,8 @@ module _ (way : Sharing) (c : Config) (done : List run.Event) (g : List Event �
       let whole : pipe c.pid (front (begun h.events)) ≡ h.sends.units ++ all.0 =
       ap (pipe c.pid) (sym (append-nil (front (begun h.events)))) ∙ all.1 in
       let size = i.2 (inputs_of files) continue_files in
-      let none : all.0 ≡ [] = nil_from_length all.0 (let n = ap length whole in let m = length-append h.sends.units all.0 in
+      let none : all.0 ≡ [] = nil_from_length all.0 (let n = ap length whole in let m = length-append
+      h.sends.units all.0 in
       let d = h.sends.count in omega (arith, n, m, d, size)) in
       let units : units_of way c files ≡ h.sends.units =
       ap (λ (n : ℕ). pipe c.pid (front n)) (sym frames) ∙ whole ∙ ap (λ (l : List (List ℕ)). h.sends.units ++ l) none
@@ -174,7 +184,8 @@ module _ (way : Sharing) (c : Config) (done : List run.Event) (g : List Event �
         | inl on ↦ ([], append-nil (front (begun h.events)) ∙ ap front (last_frames on), λ _. refl)
         | inr off ↦
             let few = h.time.few (inputs_of files) continue_files in
-            let sum : begun h.events + (frames_of way c files - begun h.events) ≡ frames_of way c files = omega (arith, few) in
+            let sum : begun h.events + (frames_of way c files - begun h.events) ≡ frames_of way c files =
+            omega (arith, few) in
             let r = grow c streams (begun h.events) (frames_of way c files - begun h.events) in
             (r.0, sym r.1 ∙ ap front sum, λ on. absurd (let z : true ≡ false = sym on ∙ off in cc))
       ] in
@@ -187,7 +198,8 @@ module _ (way : Sharing) (c : Config) (done : List run.Event) (g : List Event �
   -- The bad packet that is met first was met.
   pub meets_bad : (plp packet : ℕ) → place.phase ≡ Stopped (Bad plp packet) → MeetsBad way c files ran.frames plp packet
   meets_bad plp packet e =
-      let m : MetBad way c h.events h.tails plp packet = subst (λ (p : Phase). IsIn way c h.events h.tails p) e h.is_in in
+      let m : MetBad way c h.events h.tails plp packet = subst (λ (p : Phase). IsIn way c h.events h.tails p)
+      e h.is_in in
       let f = are plp m.place in
       let some : h.tails plp ++ f.more ≢ [] =
       λ z. m.some (nil_from_length (h.tails plp) (let n = ap length z in let l = length-append (h.tails plp) f.more in
@@ -199,9 +211,14 @@ module _ (way : Sharing) (c : Config) (done : List run.Event) (g : List Event �
       record {
         place = m.place;
         number = m.number ∙ sym bad.number;
-        wants = (bad.bad, (let n = bad.number in let w = m.wanted in let p = m.number in omega (arith, n, w, p, slots)));
+        wants = (
+          bad.bad,
+          (let n = bad.number in let w = m.wanted in let p = m.number in omega
+              (arith, n, w, p, slots)),
+        );
         before = none_before;
         below = λ j lt before. none_here j lt (m.below j lt
-            (earlier_still way c j (length (offered (place_of way c j) h.events)) (length (packets_in (files j))) plp packet
+            (earlier_still way c j (length (offered (place_of way c j) h.events)) (length (packets_in (files j)))
+            plp packet
             (offered_few j lt) before));
       }

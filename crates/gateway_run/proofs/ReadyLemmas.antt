@@ -35,7 +35,8 @@ module _ (way : Sharing) (c : Config) where
   }
 
   -- behind a packet or an end of the input that was looked at
-  pub ready_on : (s next : Seen) (t u : Status) (place : Place) (asked : Option ℕ) (ran : Ran) → IsReady way c s t place ran
+  pub ready_on : (s next : Seen) (t u : Status) (place : Place) (asked : Option ℕ) (ran : Ran)
+      → IsReady way c s t place ran
       → place.phase ≡ Wants → u ≡ t → Asks way c next asked → IsReady way c next u (place_by asked) ran
   ready_on s next t u place asked ran r wants status a =
       subst (λ (x : Status). IsReady way c next x (place_by asked) ran) (sym status)
@@ -43,7 +44,8 @@ module _ (way : Sharing) (c : Config) where
 
   -- behind the units of a frame
   pub ready_behind : (s next : Seen) (t mid u : Status) (place : Place) (asked : Option ℕ) (ran : Ran)
-      → IsReady way c s t place ran → place.phase ≡ Gives → mid.unit ≡ false → mid.finished ≡ t.finished → mid.frame ≡ t.frame
+      → IsReady way c s t place ran → place.phase ≡ Gives → mid.unit ≡ false → mid.finished ≡ t.finished
+      → mid.frame ≡ t.frame
       → mid.left ≡ t.left → u ≡ mid → Asks way c next asked → IsReady way c next u (place_by asked) ran
   ready_behind s next t mid u place asked ran r gives unit finished frame left status a =
       subst (λ (x : Status). IsReady way c next x (place_by asked) ran) (sym status)

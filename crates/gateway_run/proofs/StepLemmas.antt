@@ -1,5 +1,6 @@
 -- What events more leave of what was.
-use Rattle.std.proofs.Common.{◌≡◌, ℕ, ◌+◌, ◌-◌, ◌*◌, ◌≤◌, true, false, List, [], ◌∷◌, ◌++◌, length, refl, ap, sym, ◌∙◌, arith}
+use Rattle.std.proofs.Common.{◌≡◌, ℕ, ◌+◌, ◌-◌, ◌*◌, ◌≤◌, true, false, List, [], ◌∷◌, ◌++◌, length, refl, ap, sym, ◌∙◌}
+use Rattle.std.proofs.Common.{arith}
 use Rattle.std.proofs.Common.{append_assoc}
 use Rattle.std.specs.Prelude.{slice_get}
 use Rattle.std.proofs.lemmas.List.{length_push}
@@ -10,7 +11,8 @@ use Rattle.plp_config.specs.SlotTime.{slots_by}
 use Rattle.plp_config.specs.declared.config.Config.{Config}
 use Rattle.t2mi_stream.specs.Complete.{complete_units}
 use Rattle.t2mi_stream.specs.Pipe.{pipe}
-use Rattle.gateway_core.specs.Events.{Event, Offered, Ended, Begun, Gave, Finished, has_ended, begins, begun, gives, given}
+use Rattle.gateway_core.specs.Events.{Event, Offered, Ended, Begun, Gave, Finished, has_ended, begins, begun, gives}
+use Rattle.gateway_core.specs.Events.{given}
 use Rattle.gateway_core.specs.Events.{finished}
 use Rattle.gateway_core.specs.Laws.{FrontsGrow}
 use Rattle.gateway_core.specs.Packets.{front_packets}
@@ -56,11 +58,13 @@ module _ (way : Sharing) where
     finished_is = finished_same events (Ended plp) refl;
   }
 
-  pub complete_kept : (c : Config) (old new : List Event) → IsStep c old new → AreComplete way c old → AreComplete way c new
+  pub complete_kept : (c : Config) (old new : List Event) → IsStep c old new → AreComplete way c old
+      → AreComplete way c new
   complete_kept c old new s h inputs k = s.given_is ∙ h inputs (s.back inputs k)
       ∙ ap (λ (n : ℕ). length (complete_units c.pid (front_packets c (streams_by way c inputs) n))) (sym s.begun_is)
 
-  pub sends_kept : (c : Config) (done is : List run.Event) (old new : List Event) → IsStep c old new → run.gave is ≡ run.gave done
+  pub sends_kept : (c : Config) (done is : List run.Event) (old new : List Event) → IsStep c old new
+      → run.gave is ≡ run.gave done
       → Sends way c done old → Sends way c is new
   sends_kept c done is old new s same h = record {
     units = h.units;
@@ -89,12 +93,14 @@ module _ (way : Sharing) where
           r.0,
           ap (λ (m : ℕ). pipe c.pid (front_packets c (streams_by way c inputs) m ++ more)) n
               ∙ ap (λ (l : List (List ℕ)). pipe c.pid (l ++ more)) grown.1
-              ∙ ap (pipe c.pid) (append_assoc (front_packets c (streams_by way c inputs) (begun events)) grown.0 more) ∙ r.1,
+              ∙ ap (pipe c.pid) (append_assoc (front_packets c (streams_by way c inputs) (begun events)) grown.0 more)
+              ∙ r.1,
         );
   }
 
   -- no frame more
-  pub sends_finished : (c : Config) (done : List run.Event) (events : List Event) → finished events ≡ false → Sends way c done events
+  pub sends_finished : (c : Config) (done : List run.Event) (events : List Event) → finished events ≡ false
+      → Sends way c done events
       → Sends way c done (events ++ Finished ∷ [])
   sends_finished c done events off h = record {
     units = h.units;
@@ -104,17 +110,22 @@ module _ (way : Sharing) where
         let same : (plp : ℕ) → told plp (events ++ Finished ∷ []) ≡ told plp events =
         λ plp. nothing_told plp events Finished refl refl refl in
         let r = h.front inputs (back_same way c events Finished inputs same k) more
-        (λ on. absurd (let z : true ≡ false = sym on ∙ off in cc)) in
-        (r.0, ap (λ (n : ℕ). pipe c.pid (front_packets c (streams_by way c inputs) n ++ more)) (begun_same events Finished refl) ∙ r.1);
+        (λ on. absurd (let z : true ≡ false = sym on ∙ off in cc)) in (
+          r.0,
+          ap (λ (n : ℕ). pipe c.pid (front_packets c (streams_by way c inputs) n ++ more))
+              (begun_same events Finished refl) ∙ r.1,
+        );
   }
 
   -- a unit more
   pub sends_gave : (c : Config) (done is : List run.Event) (events : List Event) (unit : List ℕ)
-      → run.gave is ≡ run.gave done ++ unit → IsNext way c events unit → Sends way c done events → Sends way c is (events ++ Gave ∷ [])
+      → run.gave is ≡ run.gave done ++ unit → IsNext way c events unit → Sends way c done events
+      → Sends way c is (events ++ Gave ∷ [])
   sends_gave c done is events unit gave gives h = record {
     units = h.units ++ unit ∷ [];
     gave = gave ∙ ap (λ (l : List ℕ). l ++ unit) h.gave ∙ sym (joined_push h.units unit);
-    count = (let k = given_with events Gave in let m = h.count in let p = length_push h.units unit in omega (arith, k, m, p));
+    count = (let k = given_with events Gave in let m = h.count in let p = length_push h.units unit in
+        omega (arith, k, m, p));
     front = λ inputs k more none.
         let same : (plp : ℕ) → told plp (events ++ Gave ∷ []) ≡ told plp events =
         λ plp. nothing_told plp events Gave refl refl refl in
@@ -125,19 +136,23 @@ module _ (way : Sharing) where
         ∙ ap (slice_get (pipe c.pid (front_packets c (streams_by way c inputs) (begun events) ++ more))) (sym h.count)
         ∙ gives inputs was more end) in (
           n.0,
-          ap (λ (m : ℕ). pipe c.pid (front_packets c (streams_by way c inputs) m ++ more)) (begun_same events Gave refl) ∙ r.1
+          ap (λ (m : ℕ). pipe c.pid (front_packets c (streams_by way c inputs) m ++ more)) (begun_same events Gave refl)
+              ∙ r.1
               ∙ ap (λ (l : List (List ℕ)). h.units ++ l) n.1 ∙ sym (append_assoc h.units (unit ∷ []) n.0),
         );
   }
 
   -- Nothing was told of inputs, and no frame was begun.
-  pub time_same : (c : Config) (events : List Event) (e : Event) → ((plp : ℕ) → told plp (events ++ e ∷ []) ≡ told plp events)
-      → begins e ≡ false → (finished (events ++ e ∷ []) ≡ true → IsLastBy way c (events ++ e ∷ [])) → IsInTime way c events
+  pub time_same : (c : Config) (events : List Event) (e : Event)
+      → ((plp : ℕ) → told plp (events ++ e ∷ []) ≡ told plp events)
+      → begins e ≡ false → (finished (events ++ e ∷ []) ≡ true → IsLastBy way c (events ++ e ∷ []))
+      → IsInTime way c events
       → IsInTime way c (events ++ e ∷ [])
   time_same c events e same off last h =
       let n = begun_same events e off in
       record {
-        within = λ plp lt. let m = ap (λ (t : Told). length t.packets) (same (place_of way c plp)) in let le = h.within plp lt in let s =
+        within = λ plp lt. let m = ap (λ (t : Told). length t.packets) (same (place_of way c plp)) in
+            let le = h.within plp lt in let s =
             ap (λ (k : ℕ). slots_by c (place_of way c plp) (k * c.ticks)) n in omega (arith, m, s, le);
         there = λ plp lt on. let m = ap (λ (t : Told). length t.packets) (same (place_of way c plp)) in let le =
             h.there plp lt (sym (ap (λ (t : Told). t.ended) (same (place_of way c plp))) ∙ on) in let s =

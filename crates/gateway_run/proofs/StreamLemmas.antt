@@ -1,5 +1,6 @@
 -- What goes in the PLPs, by the inputs.
-use Rattle.std.proofs.Common.{◌≡◌, ℕ, zero, suc, ◌+◌, ◌-◌, ◌<◌, true, false, List, [], ◌∷◌, ◌++◌, length, refl, ap, sym, subst}
+use Rattle.std.proofs.Common.{◌≡◌, ℕ, zero, suc, ◌+◌, ◌-◌, ◌<◌, true, false, List, [], ◌∷◌, ◌++◌, length, refl, ap, sym}
+use Rattle.std.proofs.Common.{subst}
 use Rattle.std.proofs.Common.{◌∙◌, inl, inr, ◌⊎◌, arith}
 use Rattle.std.proofs.lemmas.Bool.{cases_Bool, cases_eq}
 use Rattle.plp_config.specs.Rules.{AllRules}
@@ -35,7 +36,8 @@ own_length law Apart = length_apart
 own_length law Joint = length_joint law
 
 -- inputs that are the same give the same streams
-joint_same : (c : Config) (f g : ℕ → List (List ℕ)) → AllRules c → ((input : ℕ) → input < input_count Joint c → f input ≡ g input)
+joint_same : (c : Config) (f g : ℕ → List (List ℕ)) → AllRules c → ((input : ℕ) → input < input_count Joint c
+    → f input ≡ g input)
     → (plp : ℕ) → plp < length c.plps → streams_by Joint c f plp ≡ streams_by Joint c g plp
 joint_same c f g rules same plp lt =
     split_depends c (λ k. f (k - commons c.plps)) (λ k. g (k - commons c.plps)) plp lt (λ source inside member.
@@ -78,6 +80,7 @@ pub still_last : (way : Sharing) (c : Config) (events : List Event) (e : Event) 
 still_last way c events e rules same last = record {
   ended = λ input lt. ap (λ (t : Told). t.ended) (same (place_of way c input)) ∙ last.ended input lt;
   frames = ap (λ (t : Told). t.frame) (same 0) ∙ last.frames
-      ∙ sym (frames_same way c (λ input. offered (place_of way c input) (events ++ e ∷ [])) (λ input. offered (place_of way c input) events)
+      ∙ sym (frames_same way c (λ input. offered (place_of way c input) (events ++ e ∷ []))
+      (λ input. offered (place_of way c input) events)
       rules (λ input lt. ap (λ (t : Told). t.packets) (same (place_of way c input))));
 }

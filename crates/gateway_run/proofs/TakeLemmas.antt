@@ -1,5 +1,6 @@
 -- An input was fed, or ended.
-use Rattle.std.proofs.Common.{◌≡◌, ◌≢◌, ℕ, ◌+◌, ◌-◌, ◌*◌, ◌<◌, ◌≤◌, Bool, true, false, cond, List, [], ◌∷◌, ◌++◌, length, take}
+use Rattle.std.proofs.Common.{◌≡◌, ◌≢◌, ℕ, ◌+◌, ◌-◌, ◌*◌, ◌<◌, ◌≤◌, Bool, true, false, cond, List, [], ◌∷◌, ◌++◌}
+use Rattle.std.proofs.Common.{length, take}
 use Rattle.std.proofs.Common.{refl, ap, sym, subst, ◌∙◌, inl, inr, arith, append-nil, eq-eqb}
 use Rattle.std.specs.Prelude.{◌==◌, ◌⊎◌, slice_index, Option, Some, None}
 use Rattle.std.proofs.lemmas.Bool.{cases_eq, ne_eqb}
@@ -33,7 +34,11 @@ use Rattle.gateway_run.proofs.StepLemmas.{IsStep, step_offered, step_ended, comp
 
 -- what holds of one input and of each other
 each_input : (P : ℕ → Type 0) (plp : ℕ) → P plp → ((k : ℕ) → k ≢ plp → P k) → (k : ℕ) → P k
-each_input P plp here others k = elim (cases_eq k plp) [ inl same ↦ subst P (sym same) here | inr differ ↦ others k differ ]
+each_input P plp here others k = elim (cases_eq k plp) [
+  | inl same ↦ subst P (sym same) here
+  | inr differ
+      ↦ others k differ
+]
 
 -- a packet more, or a tail
 offered_packet : (bytes now packet : List ℕ) (ended is over still : Bool) (packets more : List (List ℕ)) (tail : List ℕ)
@@ -42,7 +47,8 @@ offered_packet : (bytes now packet : List ℕ) (ended is over still : Bool) (pac
     → IsOffered now is more still tail
 offered_packet bytes now packet ended is over still packets more tail e n i s m long sync o = record {
   parts = n ∙ ap (λ (l : List ℕ). l ++ packet) (o.parts ∙ ap (λ (l : List ℕ). joined packets ++ l) e
-      ∙ append-nil (joined packets)) ∙ sym (joined_push packets packet) ∙ ap joined (sym m) ∙ sym (append-nil (joined more))
+      ∙ append-nil (joined packets)) ∙ sym (joined_push packets packet) ∙ ap joined (sym m)
+      ∙ sym (append-nil (joined more))
       ∙ ap (λ (l : List ℕ). joined more ++ l) (sym e);
   each = subst (λ (l : List (List ℕ)). ArePackets l) (sym m) (packets_push packets packet o.each long sync);
   end = λ z. i ∙ o.end z ∙ sym s;
@@ -57,16 +63,20 @@ offered_as bytes now ended is t u tail n i e o = record {
   end = λ z. i ∙ o.end z ∙ ap (λ (t : Told). t.ended) (sym e);
 }
 
-offered_tail : (bytes now more : List ℕ) (ended is over : Bool) (packets : List (List ℕ)) (tail new : List ℕ) → tail ≡ []
-    → new ≡ more → more ≢ [] → now ≡ bytes ++ more → IsOffered bytes ended packets over tail → IsOffered now is packets over new
+offered_tail : (bytes now more : List ℕ) (ended is over : Bool) (packets : List (List ℕ)) (tail new : List ℕ)
+    → tail ≡ []
+    → new ≡ more → more ≢ [] → now ≡ bytes ++ more → IsOffered bytes ended packets over tail
+    → IsOffered now is packets over new
 offered_tail bytes now more ended is over packets tail new e f some n o = record {
-  parts = n ∙ ap (λ (l : List ℕ). l ++ more) (o.parts ∙ ap (λ (l : List ℕ). joined packets ++ l) e ∙ append-nil (joined packets))
+  parts = n ∙ ap (λ (l : List ℕ). l ++ more) (o.parts ∙ ap (λ (l : List ℕ). joined packets ++ l) e
+      ∙ append-nil (joined packets))
       ∙ ap (λ (l : List ℕ). joined packets ++ l) (sym f);
   each = o.each;
   end = λ z. absurd (some (sym f ∙ z));
 }
 
-tail_as : (bytes now : List ℕ) (ended is over : Bool) (packets : List (List ℕ)) (tail new : List ℕ) → new ≡ tail → now ≡ bytes
+tail_as : (bytes now : List ℕ) (ended is over : Bool) (packets : List (List ℕ)) (tail new : List ℕ) → new ≡ tail
+    → now ≡ bytes
     → is ≡ ended → IsOffered bytes ended packets over tail → IsOffered now is packets over new
 tail_as bytes now ended is over packets tail new e n i o = record {
   parts = n ∙ o.parts ∙ ap (λ (l : List ℕ). joined packets ++ l) (sym e);
@@ -76,7 +86,8 @@ tail_as bytes now ended is over packets tail new e n i o = record {
 
 module _ (way : Sharing) where
   -- if it is behind a look
-  pub looked_in : (c : Config) (events : List Event) (tails : ℕ → List ℕ) (asked : Option ℕ) → NoTails tails → AreComplete way c events
+  pub looked_in : (c : Config) (events : List Event) (tails : ℕ → List ℕ) (asked : Option ℕ) → NoTails tails
+      → AreComplete way c events
       → IsIn way c events tails (place_by asked).phase
   looked_in c events tails None t k = (t, k)
   looked_in c events tails (Some input) t k = (t, k)
@@ -93,7 +104,8 @@ module _ (way : Sharing) where
   abbrev pub Waits : Config → List run.Event → (List Event → Type 0) → Place → Ran → ℕ → Type 0
   Waits c done g place ran wants = (h : Holds way c done g place ran) → IsWaiting c h.events h.tails place.input wants
 
-  last_none : (c : Config) (old new : List Event) → IsStep way c old new → finished old ≡ false → finished new ≡ true → IsLastBy way c new
+  last_none : (c : Config) (old new : List Event) → IsStep way c old new → finished old ≡ false → finished new ≡ true
+      → IsLastBy way c new
   last_none c old new s off on = absurd (let z : true ≡ false = sym on ∙ s.finished_is ∙ off in cc)
 
   -- other inputs have other PLPs
@@ -101,28 +113,41 @@ module _ (way : Sharing) where
   others_apart c k plp differ e = differ (place_apart way c k plp e)
 
   -- one packet more in time, or an end
-  time_offered : (c : Config) (events : List Event) (plp : ℕ) (packet : List ℕ) → has_ended (place_of way c plp) events ≡ false
-      → length (offered (place_of way c plp) events) < slots_by c (place_of way c plp) (begun events * c.ticks) → finished events ≡ false → IsInTime way c events
+  time_offered : (c : Config) (events : List Event) (plp : ℕ) (packet : List ℕ)
+      → has_ended (place_of way c plp) events ≡ false
+      → length (offered (place_of way c plp) events) < slots_by c (place_of way c plp) (begun events * c.ticks)
+      → finished events ≡ false → IsInTime way c events
       → IsInTime way c (events ++ Offered (place_of way c plp) packet ∷ [])
   time_offered c events plp packet off less going h =
-      let s : IsStep way c events (events ++ Offered (place_of way c plp) packet ∷ []) = step_offered way c events (place_of way c plp) packet off in
-      let more : length (offered (place_of way c plp) (events ++ Offered (place_of way c plp) packet ∷ [])) ≡ length (offered (place_of way c plp) events) + 1 =
-      ap (λ (t : Told). length t.packets) (told_offered (place_of way c plp) events packet) ∙ length_push (offered (place_of way c plp) events) packet in
+      let s : IsStep way c events (events ++ Offered (place_of way c plp) packet ∷ []) = step_offered
+      way c events (place_of way c plp) packet off in
+      let more : length (offered (place_of way c plp) (events ++ Offered (place_of way c plp) packet ∷ [])) ≡ length
+      (offered (place_of way c plp) events) + 1 =
+      ap (λ (t : Told). length t.packets) (told_offered (place_of way c plp) events packet)
+      ∙ length_push (offered (place_of way c plp) events) packet in
       record {
         within =
-            each_input (λ k. k < input_count way c → length (offered (place_of way c k) (events ++ Offered (place_of way c plp) packet ∷ []))
+            each_input (λ k. k < input_count way c
+            → length (offered (place_of way c k) (events ++ Offered (place_of way c plp) packet ∷ []))
             ≤ slots_by c (place_of way c k) (begun (events ++ Offered (place_of way c plp) packet ∷ []) * c.ticks)) plp
-            (λ lt. let b = ap (λ (k : ℕ). slots_by c (place_of way c plp) (k * c.ticks)) s.begun_is in omega (arith, more, less, b))
-            (λ k differ lt. let n = ap (λ (t : Told). length t.packets) (other_offered (place_of way c k) (place_of way c plp) events packet (others_apart c k plp differ)) in
-            let l = h.within k lt in let b = ap (λ (j : ℕ). slots_by c (place_of way c k) (j * c.ticks)) s.begun_is in omega (arith, n, l, b));
-        there = each_input (λ k. k < input_count way c → has_ended (place_of way c k) (events ++ Offered (place_of way c plp) packet ∷ []) ≡ false
+            (λ lt. let b = ap (λ (k : ℕ). slots_by c (place_of way c plp) (k * c.ticks)) s.begun_is in
+            omega (arith, more, less, b))
+            (λ k differ lt. let n = ap (λ (t : Told). length t.packets) (other_offered (place_of way c k)
+            (place_of way c plp) events packet (others_apart c k plp differ)) in
+            let l = h.within k lt in let b = ap (λ (j : ℕ). slots_by c (place_of way c k) (j * c.ticks))
+            s.begun_is in omega (arith, n, l, b));
+        there = each_input (λ k. k < input_count way c
+            → has_ended (place_of way c k) (events ++ Offered (place_of way c plp) packet ∷ []) ≡ false
             → slots_by c (place_of way c k) ((begun (events ++ Offered (place_of way c plp) packet ∷ []) - 1) * c.ticks)
             ≤ length (offered (place_of way c k) (events ++ Offered (place_of way c plp) packet ∷ []))) plp
-            (λ lt on. let l = h.there plp lt off in let b = ap (λ (k : ℕ). slots_by c (place_of way c plp) ((k - 1) * c.ticks)) s.begun_is in
+            (λ lt on. let l = h.there plp lt off in let b = ap (λ (k : ℕ). slots_by c (place_of way c plp)
+            ((k - 1) * c.ticks)) s.begun_is in
             omega (arith, more, l, b))
-            (λ k differ lt on. let o = other_offered (place_of way c k) (place_of way c plp) events packet (others_apart c k plp differ) in let n = ap (λ (t : Told). length t.packets) o in
+            (λ k differ lt on. let o = other_offered (place_of way c k) (place_of way c plp) events packet
+            (others_apart c k plp differ) in let n = ap (λ (t : Told). length t.packets) o in
             let l = h.there k lt (sym (ap (λ (t : Told). t.ended) o) ∙ on) in
-            let b = ap (λ (j : ℕ). slots_by c (place_of way c k) ((j - 1) * c.ticks)) s.begun_is in omega (arith, n, l, b));
+            let b = ap (λ (j : ℕ). slots_by c (place_of way c k) ((j - 1) * c.ticks)) s.begun_is in omega
+            (arith, n, l, b));
         few = few_kept way c events (events ++ Offered (place_of way c plp) packet ∷ []) s h.few;
         last = last_none c events (events ++ Offered (place_of way c plp) packet ∷ []) s going;
       }
@@ -130,34 +155,46 @@ module _ (way : Sharing) where
   time_ended : (c : Config) (events : List Event) (plp : ℕ) → finished events ≡ false → IsInTime way c events
       → IsInTime way c (events ++ Ended (place_of way c plp) ∷ [])
   time_ended c events plp going h =
-      let s : IsStep way c events (events ++ Ended (place_of way c plp) ∷ []) = step_ended way c events (place_of way c plp) in
-      let same : (k : ℕ) → length (offered (place_of way c k) (events ++ Ended (place_of way c plp) ∷ [])) ≡ length (offered (place_of way c k) events) =
-      each_input (λ k. length (offered (place_of way c k) (events ++ Ended (place_of way c plp) ∷ [])) ≡ length (offered (place_of way c k) events)) plp
+      let s : IsStep way c events (events ++ Ended (place_of way c plp) ∷ []) = step_ended way c events
+      (place_of way c plp) in
+      let same : (k : ℕ) → length (offered (place_of way c k) (events ++ Ended (place_of way c plp) ∷ [])) ≡ length
+      (offered (place_of way c k) events) =
+      each_input (λ k. length (offered (place_of way c k) (events ++ Ended (place_of way c plp) ∷ [])) ≡ length
+      (offered (place_of way c k) events)) plp
       (ap (λ (t : Told). length t.packets) (told_ended (place_of way c plp) events))
-      (λ k differ. ap (λ (t : Told). length t.packets) (other_ended (place_of way c k) (place_of way c plp) events (others_apart c k plp differ))) in
+      (λ k differ. ap (λ (t : Told). length t.packets) (other_ended (place_of way c k) (place_of way c plp)
+      events (others_apart c k plp differ))) in
       record {
-        within = λ k lt. let n = same k in let l = h.within k lt in let b = ap (λ (j : ℕ). slots_by c (place_of way c k) (j * c.ticks)) s.begun_is in
+        within = λ k lt. let n = same k in let l = h.within k lt in let b = ap
+            (λ (j : ℕ). slots_by c (place_of way c k) (j * c.ticks)) s.begun_is in
             omega (arith, n, l, b);
-        there = each_input (λ k. k < input_count way c → has_ended (place_of way c k) (events ++ Ended (place_of way c plp) ∷ []) ≡ false
-            → slots_by c (place_of way c k) ((begun (events ++ Ended (place_of way c plp) ∷ []) - 1) * c.ticks) ≤ length (offered (place_of way c k) (events ++ Ended (place_of way c plp) ∷ []))) plp
-            (λ lt on. absurd (let z : true ≡ false = sym (ap (λ (t : Told). t.ended) (told_ended (place_of way c plp) events)) ∙ on in cc))
+        there = each_input (λ k. k < input_count way c
+            → has_ended (place_of way c k) (events ++ Ended (place_of way c plp) ∷ []) ≡ false
+            → slots_by c (place_of way c k) ((begun (events ++ Ended (place_of way c plp) ∷ []) - 1) * c.ticks) ≤ length
+            (offered (place_of way c k) (events ++ Ended (place_of way c plp) ∷ []))) plp
+            (λ lt on. absurd (let z : true ≡ false = sym (ap (λ (t : Told). t.ended)
+            (told_ended (place_of way c plp) events)) ∙ on in cc))
             (λ k differ lt on. let n = same k in
-            let l = h.there k lt (sym (ap (λ (t : Told). t.ended) (other_ended (place_of way c k) (place_of way c plp) events (others_apart c k plp differ))) ∙ on) in
-            let b = ap (λ (j : ℕ). slots_by c (place_of way c k) ((j - 1) * c.ticks)) s.begun_is in omega (arith, n, l, b));
+            let l = h.there k lt (sym (ap (λ (t : Told). t.ended) (other_ended (place_of way c k) (place_of way c plp)
+            events (others_apart c k plp differ))) ∙ on) in
+            let b = ap (λ (j : ℕ). slots_by c (place_of way c k) ((j - 1) * c.ticks)) s.begun_is in omega
+            (arith, n, l, b));
         few = few_kept way c events (events ++ Ended (place_of way c plp) ∷ []) s h.few;
         last = last_none c events (events ++ Ended (place_of way c plp) ∷ []) s going;
       }
 
   -- A packet was offered.
   pub packet_offered : EventsTell → (c : Config) (done : List run.Event) (g next : List Event → Type 0)
-      (place : Place) (asked : Option ℕ) (ran : Ran) (wants : ℕ) (packet bytes : List ℕ) → Waits c done g place ran wants
+      (place : Place) (asked : Option ℕ) (ran : Ran) (wants : ℕ) (packet bytes : List ℕ)
+      → Waits c done g place ran wants
       → packet ≡ bytes → length packet ≡ SIZE → slice_index packet 0 ≡ SYNC
       → ((events : List Event) → g events → next (events ++ Offered (place_of way c place.input) packet ∷ []))
       → Holds way c done g place ran → Holds way c (done ++ run.Fed place.input bytes ∷ []) next (place_by asked) ran
   packet_offered tell c done g next place asked ran wants packet bytes wait same long sync stands h =
       let w = wait h in
       let off = w.first.is_open in
-      let s : IsStep way c h.events (h.events ++ Offered (place_of way c place.input) packet ∷ []) = step_offered way c h.events (place_of way c place.input) packet off in
+      let s : IsStep way c h.events (h.events ++ Offered (place_of way c place.input) packet ∷ []) =
+      step_offered way c h.events (place_of way c place.input) packet off in
       let f = tell.fed place.input bytes done in
       let t = told_offered (place_of way c place.input) h.events packet in
       record {
@@ -170,20 +207,26 @@ module _ (way : Sharing) where
         inputs = record {
           each = each_input (λ k. k < input_count way c
               → IsOffered (run.fed k (done ++ run.Fed place.input bytes ∷ []))
-              (run.has_ended k (done ++ run.Fed place.input bytes ∷ [])) (offered (place_of way c k) (h.events ++ Offered (place_of way c place.input) packet ∷ []))
-              (has_ended (place_of way c k) (h.events ++ Offered (place_of way c place.input) packet ∷ [])) (h.tails k)) place.input
+              (run.has_ended k (done ++ run.Fed place.input bytes ∷ [])) (offered (place_of way c k)
+              (h.events ++ Offered (place_of way c place.input) packet ∷ []))
+              (has_ended (place_of way c k) (h.events ++ Offered (place_of way c place.input) packet ∷ [])) (h.tails k))
+              place.input
               (λ lt. offered_packet _ _ packet _ _ _ _ _ _ _ (w.none place.input)
               (f.here ∙ ap (λ (l : List ℕ). run.fed place.input done ++ l) (sym same)) (f.ended place.input)
               (ap (λ (t : Told). t.ended) t) (ap (λ (t : Told). t.packets) t) long sync (h.inputs.each place.input lt))
-              (λ k differ lt. offered_as _ _ _ _ (told (place_of way c k) h.events) (told (place_of way c k) (h.events ++ Offered (place_of way c place.input) packet ∷ [])) _
-              (f.others k differ) (f.ended k) (other_offered (place_of way c k) (place_of way c place.input) h.events packet (others_apart c k place.input differ)) (h.inputs.each k lt));
+              (λ k differ lt. offered_as _ _ _ _ (told (place_of way c k) h.events)
+              (told (place_of way c k) (h.events ++ Offered (place_of way c place.input) packet ∷ [])) _
+              (f.others k differ) (f.ended k) (other_offered (place_of way c k) (place_of way c place.input)
+              h.events packet (others_apart c k place.input differ)) (h.inputs.each k lt));
           whole = λ k on. w.none k;
         };
         time = time_offered c h.events place.input packet off w.first.less w.is_going h.time;
-        sends = sends_kept way c done (done ++ run.Fed place.input bytes ∷ []) h.events (h.events ++ Offered (place_of way c place.input) packet ∷ []) s
+        sends = sends_kept way c done (done ++ run.Fed place.input bytes ∷ []) h.events
+            (h.events ++ Offered (place_of way c place.input) packet ∷ []) s
             f.gave h.sends;
         is_in = looked_in c (h.events ++ Offered (place_of way c place.input) packet ∷ []) h.tails asked
-            w.none (complete_kept way c h.events (h.events ++ Offered (place_of way c place.input) packet ∷ []) s w.complete);
+            w.none (complete_kept way c h.events (h.events ++ Offered (place_of way c place.input) packet ∷ [])
+            s w.complete);
         cut = λ k some. absurd (some (w.none k));
       }
 
@@ -195,7 +238,8 @@ module _ (way : Sharing) where
       → Holds way c done g place ran → Holds way c (done ++ run.Ended place.input bytes ∷ []) next (place_by asked) ran
   input_ended tell c done g next place asked ran wants bytes wait nothing stands h =
       let w = wait h in
-      let s : IsStep way c h.events (h.events ++ Ended (place_of way c place.input) ∷ []) = step_ended way c h.events (place_of way c place.input) in
+      let s : IsStep way c h.events (h.events ++ Ended (place_of way c place.input) ∷ []) = step_ended
+      way c h.events (place_of way c place.input) in
       let f = tell.ended place.input bytes done in
       let t = told_ended (place_of way c place.input) h.events in
       record {
@@ -208,20 +252,26 @@ module _ (way : Sharing) where
         inputs = record {
           each = each_input (λ k. k < input_count way c
               → IsOffered (run.fed k (done ++ run.Ended place.input bytes ∷ []))
-              (run.has_ended k (done ++ run.Ended place.input bytes ∷ [])) (offered (place_of way c k) (h.events ++ Ended (place_of way c place.input) ∷ []))
-              (has_ended (place_of way c k) (h.events ++ Ended (place_of way c place.input) ∷ [])) (h.tails k)) place.input
+              (run.has_ended k (done ++ run.Ended place.input bytes ∷ []))
+              (offered (place_of way c k) (h.events ++ Ended (place_of way c place.input) ∷ []))
+              (has_ended (place_of way c k) (h.events ++ Ended (place_of way c place.input) ∷ [])) (h.tails k))
+              place.input
               (λ lt. let o = h.inputs.each place.input lt in record {
-                parts = f.here ∙ ap (λ (l : List ℕ). run.fed place.input done ++ l) nothing ∙ append-nil (run.fed place.input done)
+                parts = f.here ∙ ap (λ (l : List ℕ). run.fed place.input done ++ l) nothing
+                    ∙ append-nil (run.fed place.input done)
                     ∙ o.parts ∙ ap (λ (t : Told). joined t.packets ++ h.tails place.input) (sym t);
                 each = subst (λ (t : Told). ArePackets t.packets) (sym t) o.each;
                 end = λ _. f.ended ∙ ap (λ (t : Told). t.ended) (sym t);
               })
-              (λ k differ lt. offered_as _ _ _ _ (told (place_of way c k) h.events) (told (place_of way c k) (h.events ++ Ended (place_of way c place.input) ∷ [])) _ (f.others k differ)
-              (f.others_ended k differ) (other_ended (place_of way c k) (place_of way c place.input) h.events (others_apart c k place.input differ)) (h.inputs.each k lt));
+              (λ k differ lt. offered_as _ _ _ _ (told (place_of way c k) h.events)
+              (told (place_of way c k) (h.events ++ Ended (place_of way c place.input) ∷ [])) _ (f.others k differ)
+              (f.others_ended k differ) (other_ended (place_of way c k) (place_of way c place.input)
+              h.events (others_apart c k place.input differ)) (h.inputs.each k lt));
           whole = λ k on. w.none k;
         };
         time = time_ended c h.events place.input w.is_going h.time;
-        sends = sends_kept way c done (done ++ run.Ended place.input bytes ∷ []) h.events (h.events ++ Ended (place_of way c place.input) ∷ []) s f.gave
+        sends = sends_kept way c done (done ++ run.Ended place.input bytes ∷ []) h.events
+            (h.events ++ Ended (place_of way c place.input) ∷ []) s f.gave
             h.sends;
         is_in = looked_in c (h.events ++ Ended (place_of way c place.input) ∷ []) h.tails asked w.none
             (complete_kept way c h.events (h.events ++ Ended (place_of way c place.input) ∷ []) s w.complete);
@@ -247,9 +297,11 @@ module _ (way : Sharing) where
 
   -- These bytes are no packet.
   stopped_at : (c : Config) (done is : List run.Event) (g : List Event → Type 0) (place after : Place)
-      (ran : Ran) (wants : ℕ) (bytes : List ℕ) (why : GatewayStop) → Waits c done g place ran wants → after.phase ≡ Stopped why → bytes ≢ []
+      (ran : Ran) (wants : ℕ) (bytes : List ℕ) (why : GatewayStop) → Waits c done g place ran wants
+      → after.phase ≡ Stopped why → bytes ≢ []
       → (slice_index bytes 0 ≢ SYNC) ⊎ (run.has_ended place.input is ≡ true) → IsTold done is place.input bytes
-      → (h : Holds way c done g place ran) → StopsFor way c h.events (one_tail place.input bytes) why → Holds way c is g after ran
+      → (h : Holds way c done g place ran) → StopsFor way c h.events (one_tail place.input bytes) why
+      → Holds way c is g after ran
   stopped_at c done is g place after ran wants bytes why wait to some cut tells h stops =
       let w = wait h in
       record {
@@ -260,24 +312,34 @@ module _ (way : Sharing) where
         units = h.units;
         tails = one_tail place.input bytes;
         inputs = record {
-          each = each_input (λ k. k < input_count way c → IsOffered (run.fed k is) (run.has_ended k is) (offered (place_of way c k) h.events)
+          each = each_input (λ k. k < input_count way c → IsOffered (run.fed k is) (run.has_ended k is)
+              (offered (place_of way c k) h.events)
               (has_ended (place_of way c k) h.events) (one_tail place.input bytes k)) place.input
-              (λ lt. offered_tail _ _ bytes _ _ _ _ _ _ (w.none place.input) (tail_here place.input bytes) some tells.here
+              (λ lt. offered_tail _ _ bytes _ _ _ _ _ _ (w.none place.input) (tail_here place.input bytes)
+              some tells.here
               (h.inputs.each place.input lt))
-              (λ k differ lt. tail_as _ _ _ _ _ _ _ _ (tail_other place.input k bytes differ ∙ sym (w.none k)) (tells.others k differ)
+              (λ k differ lt. tail_as _ _ _ _ _ _ _ _ (tail_other place.input k bytes differ ∙ sym (w.none k))
+              (tells.others k differ)
               (tells.ended k differ) (h.inputs.each k lt));
-          whole = each_input (λ k. has_ended (place_of way c k) h.events ≡ true → one_tail place.input bytes k ≡ []) place.input
+          whole = each_input (λ k. has_ended (place_of way c k) h.events ≡ true → one_tail place.input bytes k ≡ [])
+              place.input
               (λ on. absurd (let z : true ≡ false = sym on ∙ w.first.is_open in cc))
               (λ k differ on. tail_other place.input k bytes differ);
         };
         time = h.time;
-        sends = record { units = h.sends.units; gave = tells.gave ∙ h.sends.gave; count = h.sends.count; front = h.sends.front };
+        sends = record {
+          units = h.sends.units;
+          gave = tells.gave ∙ h.sends.gave;
+          count = h.sends.count;
+          front = h.sends.front;
+        };
         is_in = subst (λ (p : Phase). IsIn way c h.events (one_tail place.input bytes) p) (sym to) stops;
         cut = each_input (λ k. one_tail place.input bytes k ≢ [] → (slice_index (one_tail place.input bytes k) 0 ≢ SYNC)
             ⊎ (run.has_ended k is ≡ true)) place.input
             (λ there.
             elim cut [
-              | inl sync ↦ inl (λ z. sync (sym (ap (λ (l : List ℕ). slice_index l 0) (tail_here place.input bytes)) ∙ z))
+              | inl sync ↦ inl (λ z. sync (sym (ap (λ (l : List ℕ). slice_index l 0) (tail_here place.input bytes))
+                  ∙ z))
               | inr on ↦
                   inr on
             ])
@@ -285,26 +347,33 @@ module _ (way : Sharing) where
       }
 
   pub fed_stopped : EventsTell → (c : Config) (done : List run.Event) (g : List Event → Type 0)
-      (place after : Place) (ran : Ran) (wants : ℕ) (bytes : List ℕ) (why : GatewayStop) → Waits c done g place ran wants → after.phase ≡ Stopped why → bytes ≢ []
-      → slice_index bytes 0 ≢ SYNC → (h : Holds way c done g place ran) → StopsFor way c h.events (one_tail place.input bytes) why
+      (place after : Place) (ran : Ran) (wants : ℕ) (bytes : List ℕ) (why : GatewayStop)
+      → Waits c done g place ran wants → after.phase ≡ Stopped why → bytes ≢ []
+      → slice_index bytes 0 ≢ SYNC → (h : Holds way c done g place ran)
+      → StopsFor way c h.events (one_tail place.input bytes) why
       → Holds way c (done ++ run.Fed place.input bytes ∷ []) g after ran
   fed_stopped tell c done g place after ran wants bytes why wait to some sync h stops =
       let f = tell.fed place.input bytes done in
-      stopped_at c done (done ++ run.Fed place.input bytes ∷ []) g place after ran wants bytes why wait to some (inl sync)
+      stopped_at c done (done ++ run.Fed place.input bytes ∷ []) g place after ran wants bytes why wait
+      to some (inl sync)
       (record { here = f.here; others = f.others; ended = λ k differ. f.ended k; gave = f.gave }) h stops
 
   pub ended_stopped : EventsTell → (c : Config) (done : List run.Event) (g : List Event → Type 0)
-      (place after : Place) (ran : Ran) (wants : ℕ) (bytes : List ℕ) (why : GatewayStop) → Waits c done g place ran wants → after.phase ≡ Stopped why → bytes ≢ []
+      (place after : Place) (ran : Ran) (wants : ℕ) (bytes : List ℕ) (why : GatewayStop)
+      → Waits c done g place ran wants → after.phase ≡ Stopped why → bytes ≢ []
       → (h : Holds way c done g place ran) → StopsFor way c h.events (one_tail place.input bytes) why
       → Holds way c (done ++ run.Ended place.input bytes ∷ []) g after ran
   ended_stopped tell c done g place after ran wants bytes why wait to some h stops =
       let f = tell.ended place.input bytes done in
-      stopped_at c done (done ++ run.Ended place.input bytes ∷ []) g place after ran wants bytes why wait to some (inr f.ended)
+      stopped_at c done (done ++ run.Ended place.input bytes ∷ []) g place after ran wants bytes why
+      wait to some (inr f.ended)
       (record { here = f.here; others = f.others; ended = f.others_ended; gave = f.gave }) h stops
 
   -- The next packet of the input that is looked at is bad.
-  pub met_bad : (c : Config) (done : List run.Event) (g : List Event → Type 0) (place : Place) (ran : Ran) (wants : ℕ) (bytes : List ℕ)
-      → Waits c done g place ran wants → bytes ≢ [] → begins_with_packet bytes ≡ false → (h : Holds way c done g place ran)
+  pub met_bad : (c : Config) (done : List run.Event) (g : List Event → Type 0) (place : Place) (ran : Ran)
+      (wants : ℕ) (bytes : List ℕ)
+      → Waits c done g place ran wants → bytes ≢ [] → begins_with_packet bytes ≡ false
+      → (h : Holds way c done g place ran)
       → MetBad way c h.events (one_tail place.input bytes) place.input
       (slots_by c (place_of way c place.input) (ran.frames * c.ticks) - wants)
   met_bad c done g place ran wants bytes wait some off h =
@@ -322,7 +391,8 @@ module _ (way : Sharing) where
         some = λ z. some (sym (tail_here place.input bytes) ∙ z);
         bad = ap begins_with_packet (tail_here place.input bytes) ∙ off;
         below = λ other lt before. w.first.below other lt
-            (subst (λ (n : ℕ). IsBefore way c other (length (offered (place_of way c other) h.events)) place.input n) number before);
+            (subst (λ (n : ℕ). IsBefore way c other (length (offered (place_of way c other) h.events)) place.input n)
+            number before);
         others = λ other differ. tail_other place.input other bytes differ;
         complete = w.complete;
         is_going = w.is_going;

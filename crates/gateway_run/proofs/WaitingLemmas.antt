@@ -14,11 +14,13 @@ use Rattle.gateway_run.specs.declared.stop.Ran.{Ran}
 use Rattle.gateway_run.proofs.BeginLemmas.{IsReadyFor}
 use Rattle.gateway_run.proofs.TakeLemmas.{Waits}
 
-module _ (way : Sharing) (c : Config) (s : Seen) (t : Status) (place : Place) (ran : Ran) (r : IsReady way c s t place ran)
+module _ (way : Sharing) (c : Config) (s : Seen) (t : Status) (place : Place) (ran : Ran)
+    (r : IsReady way c s t place ran)
     (done : List run.Event) where
   pub waits : place.phase ≡ Wants → Waits way c done s.stands place ran (s.wants place.input)
   waits e = λ h.
-      let i : NoTails h.tails × AreComplete way c h.events = subst (λ (p : Phase). IsIn way c h.events h.tails p) e h.is_in in
+      let i : NoTails h.tails × AreComplete way c h.events = subst (λ (p : Phase). IsIn way c h.events h.tails p)
+      e h.is_in in
       let a = (r.wanting e).0 in
       record {
         none = i.0;
@@ -29,7 +31,8 @@ module _ (way : Sharing) (c : Config) (s : Seen) (t : Status) (place : Place) (r
 
   pub ready_for : place.phase ≡ Begins → IsReadyFor way c done s.stands place ran
   ready_for e = λ h.
-      let i : NoTails h.tails × AreComplete way c h.events = subst (λ (p : Phase). IsIn way c h.events h.tails p) e h.is_in in
+      let i : NoTails h.tails × AreComplete way c h.events = subst (λ (p : Phase). IsIn way c h.events h.tails p)
+      e h.is_in in
       let a = (r.beginning e).0 in
       record {
         none = i.0;

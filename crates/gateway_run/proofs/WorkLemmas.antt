@@ -1,5 +1,6 @@
 -- How a run of a gateway ends, by the bytes of its files.
-use Rattle.std.proofs.Common.{◌≡◌, ◌≢◌, ℕ, ◌+◌, ◌-◌, ◌*◌, ◌/◌, ◌<◌, ◌≤◌, true, false, List, [], ◌++◌, length, refl, ap, sym, subst}
+use Rattle.std.proofs.Common.{◌≡◌, ◌≢◌, ℕ, ◌+◌, ◌-◌, ◌*◌, ◌/◌, ◌<◌, ◌≤◌, true, false, List, [], ◌++◌, length, refl, ap}
+use Rattle.std.proofs.Common.{sym, subst}
 use Rattle.std.proofs.Common.{◌∙◌, arith, append_assoc, length-append}
 use Rattle.std.specs.Prelude.{slice_index}
 use Rattle.std.proofs.Math.Nat.{div-mul-le_self}
@@ -26,7 +27,8 @@ use Rattle.gateway_core.specs.StandsFor.{Status}
 use Rattle.common_plp.specs.Inputs.{place_of, input_count, streams_by}
 use Rattle.common_plp.specs.Sharing.{Sharing}
 use Rattle.gateway_run.specs.GatewayRun.{inputs_of, frames_of, units_of, MeetsNone, ReadsNoFurther, HasTooManyFrames}
-use Rattle.gateway_run.specs.GatewayRun.{RunsAll, StopsAtBad, StopsAtLate, StopsReading, StopsWriting, CompleteBefore, gateway_work}
+use Rattle.gateway_run.specs.GatewayRun.{RunsAll, StopsAtBad, StopsAtLate, StopsReading, StopsWriting, CompleteBefore}
+use Rattle.gateway_run.specs.GatewayRun.{gateway_work}
 use Rattle.gateway_run.specs.Holds.{NoTails, HasGiven, IsOneTooMany, MetBad, IsIn, Holds}
 use Rattle.gateway_run.specs.Inputs.{IsBefore}
 use Rattle.gateway_run.specs.Phases.{step_by, reach_by, frame_read, ending_of}
@@ -45,7 +47,8 @@ use Rattle.gateway_run.proofs.OutputLemmas.{none_whole, gave_since, gave_front, 
 use Rattle.gateway_run.proofs.PhaseLemmas.{falls_short_at, read_early, read_few}
 use Rattle.gateway_run.proofs.WaitingLemmas.{waits, ready_for}
 
-needs_at : (wants at : ℕ) (p : Phase) (input count : ℕ) → Needs (step_by wants at p) input count → (p ≡ phase.Wants) × (at ≡ input)
+needs_at : (wants at : ℕ) (p : Phase) (input count : ℕ) → Needs (step_by wants at p) input count → (p ≡ phase.Wants)
+    × (at ≡ input)
     × (count ≤ SIZE)
 needs_at wants at phase.Wants input count w = (refl, w.0, w.1)
 needs_at wants at phase.Begins input count w = absurd w
@@ -55,7 +58,8 @@ needs_at wants at phase.Done input count w = absurd w
 needs_at wants at (phase.Stopped why) input count w = absurd w
 
 -- Whole packets are never as many bytes as no file may have.
-no_multiple : (fed packets place : ℕ) → fed ≡ SIZE * packets → place ≡ longest_file → place - fed ≤ SIZE → place < fed + SIZE
+no_multiple : (fed packets place : ℕ) → fed ≡ SIZE * packets → place ≡ longest_file → place - fed ≤ SIZE
+    → place < fed + SIZE
 no_multiple fed packets place whole long near = omega (arith, whole, long, near)
 
 -- and a place in the packet behind some whole ones tells how many these are
@@ -67,13 +71,17 @@ whole_slots fed packets place whole least near =
 
 -- ---- a gateway of which so much is known, and of whose files so much was read
 
-module _ (way : Sharing) (c : Config) (s : Seen) (t : Status) (place : Place) (ran : Ran) (ready : IsReady way c s t place ran)
-    (files : ℕ → List ℕ) (places : List ℕ) (events : List run.Event) (are : AreFed (input_count way c) files places events)
-    (further : ReadsNoFurther way c places (frame_read place.phase ran.frames)) (h : Holds way c events s.stands place ran) where
+module _ (way : Sharing) (c : Config) (s : Seen) (t : Status) (place : Place) (ran : Ran)
+    (ready : IsReady way c s t place ran)
+    (files : ℕ → List ℕ) (places : List ℕ) (events : List run.Event) (are : AreFed (input_count way c)
+    files places events)
+    (further : ReadsNoFurther way c places (frame_read place.phase ran.frames))
+    (h : Holds way c events s.stands place ran) where
   further_in : (p : Phase) → place.phase ≡ p → ReadsNoFurther way c places (frame_read p ran.frames)
   further_in p e = subst (λ (p : Phase). ReadsNoFurther way c places (frame_read p ran.frames)) e further
 
-  runs_all : place.phase ≡ phase.Done → length places ≡ input_count way c → RunsAll way c files ran places (run.gave events)
+  runs_all : place.phase ≡ phase.Done → length places ≡ input_count way c
+      → RunsAll way c files ran places (run.gave events)
   runs_all e all =
       let a = gave_all way c events s.stands place ran h files places are e in
       record {
@@ -88,7 +96,8 @@ module _ (way : Sharing) (c : Config) (s : Seen) (t : Status) (place : Place) (r
   stops_at_bad : UnitsLaw → (input packet : ℕ) → place.phase ≡ phase.Stopped (Bad input packet)
       → StopsAtBad way c files input packet places (run.gave events)
   stops_at_bad units input packet e =
-      let m : MetBad way c h.events h.tails input packet = subst (λ (p : Phase). IsIn way c h.events h.tails p) e h.is_in in
+      let m : MetBad way c h.events h.tails input packet = subst (λ (p : Phase). IsIn way c h.events h.tails p)
+      e h.is_in in
       record {
         frame = ran.frames;
         early = ready.counted.early;
@@ -120,8 +129,10 @@ module _ (way : Sharing) (c : Config) (s : Seen) (t : Status) (place : Place) (r
       }
 
   ends_in : UnitsLaw → FrontsGrow → (p : Phase) → place.phase ≡ p → step_by (s.wants place.input) place.input p ≡ End
-      → length places ≡ input_count way c → IsRightAtEnd (gateway_work way c) files places (run.gave events) (ending_of p ran)
-  ends_in units grow phase.Wants e end all = absurd (let z : step_by (s.wants place.input) place.input phase.Wants ≡ End = end in cc)
+      → length places ≡ input_count way c → IsRightAtEnd (gateway_work way c) files places (run.gave events)
+      (ending_of p ran)
+  ends_in units grow phase.Wants e end all = absurd (let z : step_by (s.wants place.input) place.input
+      phase.Wants ≡ End = end in cc)
   ends_in units grow phase.Begins e end all = absurd (let z : Give ≡ End = end in cc)
   ends_in units grow phase.Gives e end all = absurd (let z : Give ≡ End = end in cc)
   ends_in units grow phase.Rests e end all = absurd (let z : Give ≡ End = end in cc)
@@ -141,20 +152,24 @@ module _ (way : Sharing) (c : Config) (s : Seen) (t : Status) (place : Place) (r
       let size = offered_length _ _ _ _ _ (w.none place.input) (h.inputs.each place.input inside) in
       let slots = ap (λ (f : ℕ). slots_by c plp (f * c.ticks)) h.frames in
       let less = w.first.less in
-      let slot = whole_slots (length (run.fed place.input events)) (length (offered plp h.events)) (slice_index places place.input) size
+      let slot = whole_slots (length (run.fed place.input events)) (length (offered plp h.events))
+      (slice_index places place.input) size
       (are place.input inside).ahead short in
       record {
         frame = ran.frames;
         early = ready.counted.early;
         wants = omega (arith, size, slots, less, short);
         no_further = further_in phase.Wants e;
-        read = none_whole way c events s.stands place ran h files places are place.input inside (w.none place.input) short;
+        read = none_whole way c events s.stands place ran h files places are place.input inside (w.none place.input)
+            short;
         before = (
           none_before way c events s.stands place ran h files places are,
           λ other lt before.
               none_here way c events s.stands place ran h files places are other lt (w.first.below other lt
-              (earlier_still way c other (length (offered (place_of way c other) h.events)) (length (packets_in (files other)))
-              place.input (length (offered plp h.events)) (offered_few way c events s.stands place ran h files places are other lt)
+              (earlier_still way c other (length (offered (place_of way c other) h.events))
+              (length (packets_in (files other)))
+              place.input (length (offered plp h.events)) (offered_few way c events s.stands place ran
+              h files places are other lt)
               (subst (λ (n : ℕ). IsBefore way c other (length (packets_in (files other))) place.input n) slot before))),
         );
         begins = gave_front way c events s.stands place ran h files places are grow;
@@ -162,7 +177,8 @@ module _ (way : Sharing) (c : Config) (s : Seen) (t : Status) (place : Place) (r
       }
 
   too_long : UnitsLaw → FrontsGrow → (input : ℕ) → slice_index places input ≡ longest_file
-      → Needs (step_by (s.wants place.input) place.input place.phase) input (slice_index places input - length (run.fed input events))
+      → Needs (step_by (s.wants place.input) place.input place.phase) input
+      (slice_index places input - length (run.fed input events))
       → StopsReading way c files input places (run.gave events)
   too_long units grow input long wants =
       let n = needs_at (s.wants place.input) place.input place.phase input _ wants in
@@ -171,7 +187,8 @@ module _ (way : Sharing) (c : Config) (s : Seen) (t : Status) (place : Place) (r
       (λ most near.
       let w = waits way c s t place ran ready events n.0 h in
       let size = offered_length _ _ _ _ _ (w.none place.input) (h.inputs.each place.input w.first.inside) in
-      stops_here units grow n.0 (no_multiple (length (run.fed place.input events)) (length (offered (place_of way c place.input) h.events))
+      stops_here units grow n.0 (no_multiple (length (run.fed place.input events))
+      (length (offered (place_of way c place.input) h.events))
       (slice_index places place.input) size most near)) long n.2
 
   unread : UnitsLaw → FrontsGrow → (input : ℕ)
@@ -180,7 +197,8 @@ module _ (way : Sharing) (c : Config) (s : Seen) (t : Status) (place : Place) (r
       → StopsReading way c files input places (run.gave events)
   unread units grow input wants =
       let n = falls_short_at (s.wants place.input) place.input place.phase input _ wants in
-      subst (λ (k : ℕ). slice_index places k - length (run.fed k events) < SIZE → StopsReading way c files k places (run.gave events)) n.1
+      subst (λ (k : ℕ). slice_index places k - length (run.fed k events) < SIZE
+      → StopsReading way c files k places (run.gave events)) n.1
       (λ near. stops_here units grow n.0 (omega (arith, near))) n.2
 
   -- What is known while units are given: the complete units of some frames were given, of which none met a bad packet.
@@ -188,8 +206,10 @@ module _ (way : Sharing) (c : Config) (s : Seen) (t : Status) (place : Place) (r
     given_all : HasGiven way c h.events frame
     none : MeetsNone way c files frame
 
-  known : (p : Phase) → place.phase ≡ p → step_by (s.wants place.input) place.input p ≡ Give → IsKnown (frame_read p ran.frames)
-  known phase.Wants e gives = absurd (let z : step_by (s.wants place.input) place.input phase.Wants ≡ Give = gives in cc)
+  known : (p : Phase) → place.phase ≡ p → step_by (s.wants place.input) place.input p ≡ Give
+      → IsKnown (frame_read p ran.frames)
+  known phase.Wants e gives = absurd (let z : step_by (s.wants place.input) place.input phase.Wants ≡ Give =
+      gives in cc)
   known phase.Begins e gives =
       let b = ready_for way c s t place ran ready events e h in
       let f = h.frames in
@@ -197,7 +217,8 @@ module _ (way : Sharing) (c : Config) (s : Seen) (t : Status) (place : Place) (r
         given_all = record {
           begun_all = omega (arith, f);
           units = λ inputs k. let w = b.complete inputs k in let q =
-              ap (λ (j : ℕ). length (complete_units c.pid (front_packets c (streams_by way c inputs) j))) f in omega (arith, w, q);
+              ap (λ (j : ℕ). length (complete_units c.pid (front_packets c (streams_by way c inputs) j)))
+              f in omega (arith, w, q);
         };
         none = λ input lt. none_here way c events s.stands place ran h files places are input lt (b.all input lt);
       }
@@ -221,15 +242,18 @@ module _ (way : Sharing) (c : Config) (s : Seen) (t : Status) (place : Place) (r
   known (phase.Stopped why) e gives = absurd (let z : End ≡ Give = gives in cc)
 
   stops_writing : UnitsLaw → WaitsThreeFrames → step_by (s.wants place.input) place.input place.phase ≡ Give
-      → (bytes front more : List ℕ) → bytes ≡ run.gave events ++ front → more ≢ [] → joined (units_of way c files) ≡ bytes ++ more
+      → (bytes front more : List ℕ) → bytes ≡ run.gave events ++ front → more ≢ []
+      → joined (units_of way c files) ≡ bytes ++ more
       → StopsWriting way c files places bytes
   stops_writing units three gives bytes front more is some begins =
       let frame : ℕ = frame_read place.phase ran.frames in
       let k = known place.phase refl gives in
       let g = gave_since way c events s.stands place ran h files places are units frame k.given_all in
-      let all : bytes ≡ joined (complete_units c.pid (front_packets c (streams_by way c (inputs_of files)) frame)) ++ (g.0 ++ front) =
+      let all : bytes ≡ joined (complete_units c.pid (front_packets c (streams_by way c (inputs_of files)) frame))
+      ++ (g.0 ++ front) =
       is ∙ ap (λ (l : List ℕ). l ++ front) g.1
-      ∙ append_assoc (joined (complete_units c.pid (front_packets c (streams_by way c (inputs_of files)) frame))) g.0 front in
+      ∙ append_assoc (joined (complete_units c.pid (front_packets c (streams_by way c (inputs_of files)) frame)))
+      g.0 front in
       let few = h.time.few (inputs_of files) (continue_files way c events s.stands place ran h files places are) in
       let frames = h.frames in
       let within : frame ≤ frames_of way c files = omega (arith, few, frames, read_few place.phase ran.frames) in
@@ -244,9 +268,11 @@ module _ (way : Sharing) (c : Config) (s : Seen) (t : Status) (place : Place) (r
 
 -- ---- a machine, by what is seen of its gateway, where it is and what it counted
 
-module _ (way : Sharing) (M : Type 0) (config_of : M → Config) (seen_of : M → Seen) (status_of : M → Status) (at : M → Place)
+module _ (way : Sharing) (M : Type 0) (config_of : M → Config) (seen_of : M → Seen) (status_of : M → Status) (at : M
+    → Place)
     (ran_of : M → Ran) (ready : (m : M) → IsReady way (config_of m) (seen_of m) (status_of m) (at m) (ran_of m))
-    (units : UnitsLaw) (grow : FrontsGrow) (three : WaitsThreeFrames) (c : Config) (inputs : ℕ) (count : inputs ≡ input_count way c) where
+    (units : UnitsLaw) (grow : FrontsGrow) (three : WaitsThreeFrames) (c : Config) (inputs : ℕ)
+    (count : inputs ≡ input_count way c) where
   abbrev Came : List run.Event → M → Type 0
   Came events m = Becomes way c (config_of m) (seen_of m) (at m) (ran_of m) events
 
@@ -266,7 +292,8 @@ module _ (way : Sharing) (M : Type 0) (config_of : M → Config) (seen_of : M �
       → AreFed (input_count way c) files places events
   fed_at files places events are = subst (λ (n : ℕ). AreFed n files places events) count are
 
-  further_at : (m : M) (places : List ℕ) → config_of m ≡ c → length places ≡ inputs → AreWithin inputs places (reach_of m)
+  further_at : (m : M) (places : List ℕ) → config_of m ≡ c → length places ≡ inputs
+      → AreWithin inputs places (reach_of m)
       → ReadsNoFurther way c places (frame_read (at m).phase (ran_of m).frames)
   further_at m places same all within input lt =
       subst (λ (k : Config). slice_index places input ≤ reach_by way k (at m).phase (ran_of m).frames input) same
@@ -280,19 +307,24 @@ module _ (way : Sharing) (M : Type 0) (config_of : M → Config) (seen_of : M �
         (at now).phase refl end (all ∙ count);
     too_long = λ files places events now input all are within came lt most wants.
         too_long way c (seen_of now) (status_of now) (at now) (ran_of now) (ready_at now came.0) files places events
-        (fed_at files places events are) (further_at now places came.0 all within) (holds_at now events came) units grow input most
+        (fed_at files places events are) (further_at now places came.0 all within) (holds_at now events came)
+        units grow input most
         wants;
     unread = λ files places events now input all are within came lt wants.
         unread way c (seen_of now) (status_of now) (at now) (ran_of now) (ready_at now came.0) files places events
-        (fed_at files places events are) (further_at now places came.0 all within) (holds_at now events came) units grow input wants;
+        (fed_at files places events are) (further_at now places came.0 all within) (holds_at now events came)
+        units grow input wants;
     unwritten = λ files places events now bytes all are g.
         let fed = fed_at files places events are in
         let f = gave_front way c (events ++ g.late) (seen_of now).stands (at now) (ran_of now)
         (holds_at now (events ++ g.late) g.came_late) files places
         (fed_since (input_count way c) files places events g.late g.only fed) grow in
-        stops_writing way c (seen_of g.mid) (status_of g.mid) (at g.mid) (ran_of g.mid) (ready_at g.mid g.came.0) files places events fed
-        (further_at g.mid places g.came.0 all g.within) (holds_at g.mid events g.came) units three g.gives bytes g.front (g.more ++ f.0)
+        stops_writing way c (seen_of g.mid) (status_of g.mid) (at g.mid) (ran_of g.mid) (ready_at g.mid g.came.0)
+        files places events fed
+        (further_at g.mid places g.came.0 all g.within) (holds_at g.mid events g.came) units three g.gives
+        bytes g.front (g.more ++ f.0)
         g.is
-        (λ z. g.some (nil_from_length g.more (let n = ap length z in let l = length-append g.more f.0 in omega (arith, n, l))))
+        (λ z. g.some (nil_from_length g.more (let n = ap length z in let l = length-append g.more f.0 in
+        omega (arith, n, l))))
         (f.1 ∙ ap (λ (l : List ℕ). l ++ f.0) g.parts ∙ append_assoc bytes g.more f.0);
   }

@@ -9,7 +9,8 @@ use Rattle.gateway_run.specs.Seen.{Seen}
 -- This is the first input from one on of which packets are wanted, or there is none below a count.
 abbrev pub IsFirst : Gateway → ℕ → ℕ → Option ℕ → Type 0
 IsFirst g from count None = (k : ℕ) → from ≤ k → k < count → wants_of g k ≡ 0
-IsFirst g from count (Some plp) = (plp < count) × (0 < wants_of g plp) × ((k : ℕ) → from ≤ k → k < plp → wants_of g k ≡ 0)
+IsFirst g from count (Some plp) = (plp < count) × (0 < wants_of g plp) × ((k : ℕ) → from ≤ k → k < plp
+    → wants_of g k ≡ 0)
 
 pub IsFirst-prop : (g : Gateway) (from count : ℕ) (asked : Option ℕ) → IsProp (IsFirst g from count asked)
 IsFirst-prop g from count None = Prim.hlevel logic.props

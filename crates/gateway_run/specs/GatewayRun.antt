@@ -1,5 +1,6 @@
 -- What a run of a gateway over files does, by the bytes of its files and by how common PLPs are used.
-use Rattle.std.specs.Prelude.{◌≡◌, ◌≢◌, ℕ, ◌+◌, ◌-◌, ◌*◌, ◌/◌, ◌<◌, ◌≤◌, List, ◌++◌, length, take, [], slice_index, Ok, Err}
+use Rattle.std.specs.Prelude.{◌≡◌, ◌≢◌, ℕ, ◌+◌, ◌-◌, ◌*◌, ◌/◌, ◌<◌, ◌≤◌, List, ◌++◌, length, take, [], slice_index, Ok}
+use Rattle.std.specs.Prelude.{Err}
 use Rattle.plp_config.specs.SlotTime.{slots_by}
 use Rattle.plp_config.specs.declared.config.Config.{Config}
 use Rattle.plp_config.specs.declared.moment.TheConstants.{MOST_FRAMES}
@@ -48,7 +49,8 @@ pub record MeetsBad (w : Sharing) (c : Config) (files : ℕ → List ℕ) (frame
   pub number : packet ≡ length (packets_in (files input))
   pub wants : WantsBad w c files frame input
   pub before : MeetsNone w c files (frame - 1)
-  pub below : (other : ℕ) → other < input_count w c → IsBefore w c other (length (packets_in (files other))) input packet
+  pub below : (other : ℕ) → other < input_count w c → IsBefore w c other (length (packets_in (files other)))
+      input packet
       → ¬ (WantsBad w c files frame other)
 
 -- No input was read further than a frame wants.
@@ -65,8 +67,8 @@ abbrev pub CompleteBefore : Sharing → Config → (ℕ → List ℕ) → ℕ �
 CompleteBefore w c files frame bytes =
     bytes ≡ joined (complete_units c.pid (front_packets c (streams_by w c (inputs_of files)) frame))
 
--- A run to its end: all inputs were read to their ends and have no bad packet, the output is all units of all their packets, and
--- the numbers told are those of the frames and the units.
+-- A run to its end: all inputs were read to their ends and have no bad packet, the output is all units of all their
+-- packets, and the numbers told are those of the frames and the units.
 pub record RunsAll (w : Sharing) (c : Config) (files : ℕ → List ℕ) (ran : Ran) (places bytes : List ℕ) : Type 0 where
   pub ends : AreWhole files places
   pub whole : (input : ℕ) → input < input_count w c → ¬ (HasBad (files input))
@@ -76,7 +78,8 @@ pub record RunsAll (w : Sharing) (c : Config) (files : ℕ → List ℕ) (ran : 
   pub output : bytes ≡ joined (units_of w c files)
 
 -- A bad packet was met. The output is the complete units of the frames before the one that met it.
-pub record StopsAtBad (w : Sharing) (c : Config) (files : ℕ → List ℕ) (input packet : ℕ) (places bytes : List ℕ) : Type 0 where
+pub record StopsAtBad (w : Sharing) (c : Config) (files : ℕ → List ℕ) (input packet : ℕ) (places bytes : List ℕ) :
+    Type 0 where
   pub frame : ℕ
   pub early : frame ≤ MOST_FRAMES
   pub no_further : ReadsNoFurther w c places frame
@@ -99,14 +102,15 @@ pub record StopsAtLate (w : Sharing) (c : Config) (files : ℕ → List ℕ) (pl
   pub begins : BeginsUnits w c files bytes
   pub output : CompleteBefore w c files MOST_FRAMES bytes
 
--- Behind the packets of a file, up to its first bad one, fewer bytes were read than a packet has: so no bad packet was read
--- whole.
+-- Behind the packets of a file, up to its first bad one, fewer bytes were read than a packet has: so no bad packet was
+-- read whole.
 abbrev pub ReadsNoBad : List ℕ → ℕ → Type 0
 ReadsNoBad file place = place < SIZE * (length (packets_in file) + 1)
 
--- This input, of which a frame wants more than was read, gives no more: it could not be read on, or is too long. No bad packet of
--- it was read whole, and none was met before. The output is the complete units of the frames before this one.
-pub record StopsReading (w : Sharing) (c : Config) (files : ℕ → List ℕ) (input : ℕ) (places bytes : List ℕ) : Type 0 where
+-- This input, of which a frame wants more than was read, gives no more: it could not be read on, or is too long. No bad
+-- packet of it was read whole, and none was met before. The output is the complete units of the frames before this one.
+pub record StopsReading (w : Sharing) (c : Config) (files : ℕ → List ℕ) (input : ℕ) (places bytes : List ℕ) :
+    Type 0 where
   pub frame : ℕ
   pub early : frame ≤ MOST_FRAMES
   pub wants : slice_index places input < SIZE * slots_by c (place_of w c input) (frame * c.ticks)
@@ -122,10 +126,11 @@ pub record BeginsSome (w : Sharing) (c : Config) (files : ℕ → List ℕ) (fra
   pub some : more ≢ []
   pub begins : joined (units_of w c files) ≡ bytes ++ more
   pub since : List ℕ
-  pub complete : bytes ≡ joined (complete_units c.pid (front_packets c (streams_by w c (inputs_of files)) frame)) ++ since
+  pub complete : bytes ≡ joined (complete_units c.pid (front_packets c (streams_by w c (inputs_of files)) frame))
+      ++ since
 
--- These bytes hold the first byte of a frame: so many whole units of them carry more bytes than the packets of the frames before
--- have.
+-- These bytes hold the first byte of a frame: so many whole units of them carry more bytes than the packets of the
+-- frames before have.
 pub record HoldsFirst (w : Sharing) (c : Config) (files : ℕ → List ℕ) (bytes : List ℕ) (frame : ℕ) : Type 0 where
   pub units : ℕ
   pub rest : List ℕ
@@ -135,7 +140,8 @@ pub record HoldsFirst (w : Sharing) (c : Config) (files : ℕ → List ℕ) (byt
 
 -- Of no input was more read than the frame two behind one wants whose first byte these bytes lack.
 abbrev pub ReadsAhead : Sharing → Config → (ℕ → List ℕ) → List ℕ → List ℕ → Type 0
-ReadsAhead w c files places bytes = (frame : ℕ) → ¬ (HoldsFirst w c files bytes frame) → ReadsNoFurther w c places (frame + 2)
+ReadsAhead w c files places bytes = (frame : ℕ) → ¬ (HoldsFirst w c files bytes frame)
+    → ReadsNoFurther w c places (frame + 2)
 
 -- The output could not be written on, when inputs were read for a frame, and no bad packet was met.
 pub record StopsWriting (w : Sharing) (c : Config) (files : ℕ → List ℕ) (places bytes : List ℕ) : Type 0 where
@@ -150,7 +156,8 @@ pub record StopsWriting (w : Sharing) (c : Config) (files : ℕ → List ℕ) (p
 abbrev pub gateway_work : Sharing → Config → Work Ran GatewayStop
 gateway_work w c files (Ok ran) places bytes = RunsAll w c files ran places bytes
 gateway_work w c files (Err (Refused (Bad input packet))) places bytes = StopsAtBad w c files input packet places bytes
-gateway_work w c files (Err (Refused TooManyFrames)) places bytes = HasTooManyFrames w c files × StopsAtLate w c files places bytes
+gateway_work w c files (Err (Refused TooManyFrames)) places bytes = HasTooManyFrames w c files
+    × StopsAtLate w c files places bytes
 gateway_work w c files (Err (Files (TooLong input))) places bytes = StopsReading w c files input places bytes
 gateway_work w c files (Err (Files (ReadFault input))) places bytes = StopsReading w c files input places bytes
 gateway_work w c files (Err (Files WriteFault)) places bytes = StopsWriting w c files places bytes

@@ -1,5 +1,6 @@
 -- What a gateway between files holds. No public clause cites this module.
-use Rattle.std.specs.Prelude.{◌≡◌, ◌≢◌, ◌⊎◌, ℕ, ◌-◌, ◌*◌, ◌<◌, ◌≤◌, Bool, true, false, List, [], ◌++◌, length, slice_index}
+use Rattle.std.specs.Prelude.{◌≡◌, ◌≢◌, ◌⊎◌, ℕ, ◌-◌, ◌*◌, ◌<◌, ◌≤◌, Bool, true, false, List, [], ◌++◌, length}
+use Rattle.std.specs.Prelude.{slice_index}
 use Rattle.std.specs.List.{AllByRecursion}
 use Rattle.plp_config.specs.Capacity.{IsPlan}
 use Rattle.plp_config.specs.RunLength.{frame_count}
@@ -28,24 +29,30 @@ abbrev pub ArePackets : List (List ℕ) → Type 0
 ArePackets packets = AllByRecursion (λ p. (length p ≡ SIZE) × (slice_index p 0 ≡ SYNC)) packets
 
 -- What an input was fed: packets, which were offered, and a tail that is none.
-pub record IsOffered (bytes : List ℕ) (ended : Bool) (packets : List (List ℕ)) (over : Bool) (tail : List ℕ) : Type 0 where
+pub record IsOffered (bytes : List ℕ) (ended : Bool) (packets : List (List ℕ)) (over : Bool) (tail : List ℕ) :
+    Type 0 where
   pub parts : bytes ≡ joined packets ++ tail
   pub each : ArePackets packets
   pub end : tail ≡ [] → ended ≡ over
 
 -- So it is for each input, and one that ended has no tail.
-pub record AreOffered (w : Sharing) (c : Config) (done : List run.Event) (events : List Event) (tails : ℕ → List ℕ) : Type 0 where
-  pub each : (input : ℕ) → input < input_count w c → IsOffered (run.fed input done) (run.has_ended input done) (offered (place_of w c input) events)
+pub record AreOffered (w : Sharing) (c : Config) (done : List run.Event) (events : List Event) (tails : ℕ
+    → List ℕ) : Type 0 where
+  pub each : (input : ℕ) → input < input_count w c → IsOffered (run.fed input done) (run.has_ended input done)
+      (offered (place_of w c input) events)
       (has_ended (place_of w c input) events) (tails input)
   pub whole : (input : ℕ) → has_ended (place_of w c input) events ≡ true → tails input ≡ []
 
 -- No more packets were offered than the next frame wants, all that earlier frames wanted, and no more frames begun than
 -- there are.
 pub record IsInTime (w : Sharing) (c : Config) (events : List Event) : Type 0 where
-  pub within : (input : ℕ) → input < input_count w c → length (offered (place_of w c input) events) ≤ slots_by c (place_of w c input) (begun events * c.ticks)
-  pub there : (input : ℕ) → input < input_count w c → has_ended (place_of w c input) events ≡ false → slots_by c (place_of w c input) ((begun events - 1) * c.ticks)
+  pub within : (input : ℕ) → input < input_count w c → length (offered (place_of w c input) events) ≤ slots_by
+      c (place_of w c input) (begun events * c.ticks)
+  pub there : (input : ℕ) → input < input_count w c → has_ended (place_of w c input) events ≡ false
+      → slots_by c (place_of w c input) ((begun events - 1) * c.ticks)
       ≤ length (offered (place_of w c input) events)
-  pub few : (inputs : ℕ → List (List ℕ)) → Continue w c events inputs → begun events ≤ frame_count c (λ input. length (streams_by w c inputs input))
+  pub few : (inputs : ℕ → List (List ℕ)) → Continue w c events inputs
+      → begun events ≤ frame_count c (λ input. length (streams_by w c inputs input))
   pub last : finished events ≡ true → IsLastBy w c events
 
 -- Units were given, the first ones whatever packets follow.
@@ -55,7 +62,8 @@ pub record Sends (w : Sharing) (c : Config) (done : List run.Event) (events : Li
   pub count : given events ≡ length units
   pub front : (inputs : ℕ → List (List ℕ)) → Continue w c events inputs → (more : List (List ℕ))
       → (finished events ≡ true → more ≡ [])
-      → (rest : List (List ℕ)) × (pipe c.pid (front_packets c (streams_by w c inputs) (begun events) ++ more) ≡ units ++ rest)
+      → (rest : List (List ℕ)) × (pipe c.pid (front_packets c (streams_by w c inputs) (begun events) ++ more) ≡ units
+      ++ rest)
 
 -- all complete units of the frames begun were given
 abbrev pub AreComplete : Sharing → Config → List Event → Type 0
@@ -75,10 +83,12 @@ AreAll w c events = (inputs : ℕ → List (List ℕ)) → Continue w c events i
 
 -- All that the next frame wants of an input was offered, unless it ended.
 abbrev pub HasAll : Sharing → Config → List Event → ℕ → Type 0
-HasAll w c events input = has_ended (place_of w c input) events ≡ false → slots_by c (place_of w c input) (begun events * c.ticks) ≤ length (offered (place_of w c input) events)
+HasAll w c events input = has_ended (place_of w c input) events ≡ false
+    → slots_by c (place_of w c input) (begun events * c.ticks) ≤ length (offered (place_of w c input) events)
 
 -- The next packet of an input is bad, one that the next frame wants, and nothing is wanted that is looked at before.
-pub record MetBad (w : Sharing) (c : Config) (events : List Event) (tails : ℕ → List ℕ) (input packet : ℕ) : Type 0 where
+pub record MetBad (w : Sharing) (c : Config) (events : List Event) (tails : ℕ → List ℕ) (input packet : ℕ) :
+    Type 0 where
   pub place : input < input_count w c
   pub number : packet ≡ length (offered (place_of w c input) events)
   pub is_open : has_ended (place_of w c input) events ≡ false
@@ -116,7 +126,8 @@ IsIn w c events tails Done = NoTails tails × (finished events ≡ true) × AreA
 IsIn w c events tails (Stopped why) = StopsFor w c events tails why
 
 -- What was done to it as a machine, and what was done to the gateway.
-pub record Holds (w : Sharing) (c : Config) (done : List run.Event) (g : List Event → Type 0) (place : Place) (ran : Ran) : Type 0 where
+pub record Holds (w : Sharing) (c : Config) (done : List run.Event) (g : List Event → Type 0) (place : Place)
+    (ran : Ran) : Type 0 where
   pub plan : IsPlan c
   pub events : List Event
   pub stands : g events

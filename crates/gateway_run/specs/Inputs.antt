@@ -1,4 +1,5 @@
--- The inputs of a run: which continue what came of them, in which order they are looked at, and when the last frame was begun.
+-- The inputs of a run: which continue what came of them, in which order they are looked at, and when the last frame was
+-- begun.
 use Rattle.std.specs.Prelude.{◌≡◌, ◌<◌, ℕ, true, List, length}
 use Rattle.plp_config.specs.RunLength.{frame_count}
 use Rattle.plp_config.specs.declared.config.Config.{Config}
@@ -10,10 +11,11 @@ use Rattle.gateway_core.specs.Order.{IsEarlier}
 
 -- Inputs continue what events tell of the PLP of each.
 abbrev pub Continue : Sharing → Config → List Event → (ℕ → List (List ℕ)) → Type 0
-Continue w c events inputs = (input : ℕ) → input < input_count w c → Continues (told (place_of w c input) events) (inputs input)
+Continue w c events inputs = (input : ℕ) → input < input_count w c → Continues (told (place_of w c input) events)
+    (inputs input)
 
--- A slot of an input is looked at before one of another: input by input; or, if common PLPs carry what is shared, group by group,
--- slot by slot and input by input.
+-- A slot of an input is looked at before one of another: input by input; or, if common PLPs carry what is shared, group
+-- by group, slot by slot and input by input.
 abbrev pub IsBefore : Sharing → Config → ℕ → ℕ → ℕ → ℕ → Type 0
 IsBefore Apart c input slot other late = input < other
 IsBefore Joint c input slot other late = IsEarlier c (place_of Joint c input) slot (place_of Joint c other) late

@@ -13,14 +13,16 @@ use Rattle.gateway_run.specs.declared.stop.GatewayStop.TheVariants.{Bad, TooMany
 
 -- How a run over files must end of which none is too long, if nothing outside fails.
 abbrev pub MustRun : Sharing → Config → (ℕ → List ℕ) → Result Ran GatewayStop → Type 0
-MustRun w c files (Ok ran) = ((input : ℕ) → input < input_count w c → ¬ (HasBad (files input))) × (ran.frames ≡ frames_of w c files)
+MustRun w c files (Ok ran) = ((input : ℕ) → input < input_count w c → ¬ (HasBad (files input)))
+    × (ran.frames ≡ frames_of w c files)
     × (ran.units ≡ length (units_of w c files)) × (frames_of w c files ≤ MOST_FRAMES)
 MustRun w c files (Err (Bad input packet)) = (frame : ℕ) × MeetsBad w c files frame input packet × (frame ≤ MOST_FRAMES)
 MustRun w c files (Err TooManyFrames) = HasTooManyFrames w c files
 
 -- Files decide how a run over them must end.
 abbrev pub OneRun : Type 0
-OneRun = (w : Sharing) (c : Config) (files : ℕ → List ℕ) (result other : Result Ran GatewayStop) → MustRun w c files result
+OneRun = (w : Sharing) (c : Config) (files : ℕ → List ℕ) (result other : Result Ran GatewayStop)
+    → MustRun w c files result
     → MustRun w c files other → result ≡ other
 
 -- A run of a plan over files has an ending.

@@ -26,7 +26,11 @@ IsGiving (Stopped why) = ⊥
 
 -- where it stops at the packet of an input that is bad, the first one that a frame still wants of its PLP
 abbrev pub bad_by : Config → ℕ → ℕ → ℕ → ℕ → Place
-bad_by c plp input frames wants = record { input = 0; phase = Stopped (Bad input (slots_by c plp (frames * c.ticks) - wants)) }
+bad_by c plp input frames wants = record {
+  input = 0;
+  phase = Stopped
+      (Bad input (slots_by c plp (frames * c.ticks) - wants));
+}
 
 -- how much may still be given, in frames to begin and in bytes
 abbrev pub to_give : ℕ → ℕ → ℕ

@@ -31,9 +31,11 @@ pub record WantsFirst (w : Sharing) (c : Config) (events : List Event) (input wa
   pub inside : input < input_count w c
   pub is_open : has_ended (place_of w c input) events ≡ false
   pub less : length (offered (place_of w c input) events) < slots_by c (place_of w c input) (begun events * c.ticks)
-  pub wants_are : wants ≡ slots_by c (place_of w c input) (begun events * c.ticks) - length (offered (place_of w c input) events)
+  pub wants_are : wants ≡ slots_by c (place_of w c input) (begun events * c.ticks) - length
+      (offered (place_of w c input) events)
   pub below : (other : ℕ) → other < input_count w c
-      → IsBefore w c other (length (offered (place_of w c other) events)) input (length (offered (place_of w c input) events))
+      → IsBefore w c other (length (offered (place_of w c other) events)) input
+      (length (offered (place_of w c input) events))
       → HasAll w c events other
 
 -- It wants no more.

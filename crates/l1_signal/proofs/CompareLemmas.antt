@@ -1,5 +1,6 @@
 -- Bits are a spelling of a configurable part exactly if what is read of them is that part, and nothing is left.
-use Rattle.std.proofs.Common.{◌≡◌, ◌≢◌, ℕ, suc, ◌+◌, ◌-◌, ◌≤◌, ◌<◌, Bool, List, [], ◌∷◌, ◌++◌, length, take, drop, get_or}
+use Rattle.std.proofs.Common.{◌≡◌, ◌≢◌, ℕ, suc, ◌+◌, ◌-◌, ◌≤◌, ◌<◌, Bool, List, [], ◌∷◌, ◌++◌, length, take, drop}
+use Rattle.std.proofs.Common.{get_or}
 use Rattle.std.proofs.Common.{replicate, Ok, Err, refl, ap, sym, subst, ◌∙◌, arith, append-nil, rules}
 use Rattle.std.specs.Prelude.{slice_index, Result, OnOk, IfErr, IsTrue, ◌↔◌, true, false}
 use Rattle.std.specs.Result.{is_err}
@@ -11,7 +12,8 @@ use Rattle.l1_signal.specs.declared.conf.L1Conf.{L1Conf}
 use Rattle.l1_signal.specs.declared.conf_plp.ConfPlp.{ConfPlp}
 use Rattle.l1_signal.specs.Comparing.{front_told, front_of, front_read, back_read}
 use Rattle.l1_signal.specs.Fields.{Reading, after, behind, values_of, each_read}
-use Rattle.l1_signal.specs.L1Configurable.{conf_first_rows, conf_more_rows, conf_plp_rows, conf_back_rows, conf_first, conf_more}
+use Rattle.l1_signal.specs.L1Configurable.{conf_first_rows, conf_more_rows, conf_plp_rows, conf_back_rows, conf_first}
+use Rattle.l1_signal.specs.L1Configurable.{conf_more}
 use Rattle.l1_signal.specs.L1Configurable.{conf_back, info_size, conf_plp_read, ConfSpells}
 use Rattle.l1_signal.proofs.ReadLemmas.{went, was_behind, next_read}
 use Rattle.l1_signal.proofs.RowLemmas.{spelled_values, each_back, stopped_each}
@@ -62,7 +64,8 @@ pub other_plps : (conf : L1Conf) (bits b : List Bool) (front : List ℕ) → fro
     ConfSpells conf bits → ⊥
 other_plps conf bits b front read none s =
     let t = told conf bits s in
-    none t.c (ap (each_read (replicate (length conf.plps) conf_plp_read)) (sym (front_rest conf bits b front s read)) ∙ t.plps)
+    none t.c (ap (each_read (replicate (length conf.plps) conf_plp_read)) (sym (front_rest conf bits b front s read))
+    ∙ t.plps)
 
 pub plps_rest : (conf : L1Conf) (bits b c : List Bool) (front : List ℕ) (s : ConfSpells conf bits)
     → front_read bits ≡ Ok (front, b) → each_read (replicate (length conf.plps) conf_plp_read) b ≡ Ok (conf.plps, c) →
@@ -79,7 +82,8 @@ pub no_back : (conf : L1Conf) (bits b c : List Bool) (front : List ℕ) (e : L1F
     back_read c ≡ Err e → ConfSpells conf bits → ⊥
 no_back conf bits b c front e read plps back s = let t = plps_rest conf bits b c front s read plps in absurd (cc)
 
-pub other_back : (conf : L1Conf) (bits b c rest : List Bool) (front : List ℕ) (back : ℕ) → front_read bits ≡ Ok (front, b)
+pub other_back : (conf : L1Conf) (bits b c rest : List Bool) (front : List ℕ) (back : ℕ)
+    → front_read bits ≡ Ok (front, b)
     → each_read (replicate (length conf.plps) conf_plp_read) b ≡ Ok (conf.plps, c) →
     back_read c ≡ Ok (back, rest) → back ≢ conf.fef_length_msb → ConfSpells conf bits → ⊥
 other_back conf bits b c rest front back read plps end ne s =
@@ -87,7 +91,8 @@ other_back conf bits b c rest front back read plps end ne s =
     let same : (back, rest) ≡ (conf.fef_length_msb, []) = cc in
     ne (ap (λ (x : ℕ × List Bool). x.0) same)
 
-pub more_left : (conf : L1Conf) (bits b c rest : List Bool) (front : List ℕ) (back : ℕ) → front_read bits ≡ Ok (front, b)
+pub more_left : (conf : L1Conf) (bits b c rest : List Bool) (front : List ℕ) (back : ℕ)
+    → front_read bits ≡ Ok (front, b)
     → each_read (replicate (length conf.plps) conf_plp_read) b ≡ Ok (conf.plps, c) →
     back_read c ≡ Ok (back, rest) → 1 ≤ length rest → ConfSpells conf bits → ⊥
 more_left conf bits b c rest front back read plps end left s =
@@ -102,17 +107,27 @@ nothing_left (b ∷ rest) less = absurd (omega (arith, less))
 
 conf_is : (conf : L1Conf) (a b c d e f : ℕ) → a ≡ conf.sub_slices_per_frame → b ≡ conf.num_plp → c ≡ conf.num_aux
     → d ≡ conf.rf_idx → e ≡ conf.frequency → f ≡ conf.fef_length_msb →
-    record { sub_slices_per_frame = a; num_plp = b; num_aux = c; rf_idx = d; frequency = e; plps = conf.plps; fef_length_msb = f }
+    record {
+      sub_slices_per_frame = a;
+      num_plp = b;
+      num_aux = c;
+      rf_idx = d;
+      frequency = e;
+      plps = conf.plps;
+      fef_length_msb = f;
+    }
     ≡ conf
 conf_is conf a b c d e f p q r s t u = rw (p, q, r, s, t, u) refl
 
-pub is_spelled : (conf : L1Conf) (bits b c rest : List Bool) (front : List ℕ) (back : ℕ) → conf.num_plp ≡ length conf.plps
+pub is_spelled : (conf : L1Conf) (bits b c rest : List Bool) (front : List ℕ) (back : ℕ)
+    → conf.num_plp ≡ length conf.plps
     → front_read bits ≡ Ok (front, b) → front ≡ front_told conf →
     each_read (replicate (length conf.plps) conf_plp_read) b ≡ Ok (conf.plps, c) → back_read c ≡ Ok (back, rest)
     → back ≡ conf.fef_length_msb → length rest < 1 → ConfSpells conf bits
 unfolding front_read back_read
 is_spelled conf bits b c rest front back count read is plps end same none =
-    let f = went (values_of conf_first bits) (λ first b. after (values_of conf_more b) (λ more c. Ok (front_of first more, c)))
+    let f = went (values_of conf_first bits) (λ first b. after (values_of conf_more b)
+    (λ more c. Ok (front_of first more, c)))
     (front, b) read in
     let m = went (values_of conf_more f.rest) (λ more c. Ok (front_of f.first more, c)) (front, b) f.more in
     let k = went (values_of conf_back c) (λ back rest. Ok (slice_index back 0, rest)) (back, rest) end in
@@ -147,15 +162,18 @@ is_spelled conf bits b c rest front back count read is plps end same none =
     subst (ConfSpells conf) (sym (s.whole ∙ append-nil s.front)) s.spells
 
 -- ---- the PLPs, one after another
-pub same_plp : (plps : List ConfPlp) (i : ℕ) (d x : ConfPlp) (bits rest : List Bool) → i < length plps → conf_plp_read bits
+pub same_plp : (plps : List ConfPlp) (i : ℕ) (d x : ConfPlp) (bits rest : List Bool) → i < length plps
+    → conf_plp_read bits
     ≡ Ok (x, rest) → x ≡ get_or plps i d →
     behind (take i plps) (each_read (replicate (length plps - i) conf_plp_read) bits)
     ≡ behind (take (i + 1) plps) (each_read (replicate (length plps - (i + 1)) conf_plp_read) rest)
 same_plp plps i d x bits rest lt read same =
     let k : length plps - i ≡ suc (length plps - (i + 1)) = omega arith in
-    next_read (replicate (length plps - i) conf_plp_read) (replicate (length plps - (i + 1)) conf_plp_read) conf_plp_read
+    next_read (replicate (length plps - i) conf_plp_read) (replicate (length plps - (i + 1)) conf_plp_read)
+    conf_plp_read
     (take i plps) bits rest x (ap (λ (m : ℕ). replicate m conf_plp_read) k) read
-    ∙ ap (λ (y : ConfPlp). behind (take i plps ++ y ∷ []) (each_read (replicate (length plps - (i + 1)) conf_plp_read) rest)) same
+    ∙ ap (λ (y : ConfPlp). behind (take i plps ++ y ∷ []) (each_read (replicate (length plps - (i + 1)) conf_plp_read)
+    rest)) same
     ∙ ap (λ (l : List ConfPlp). behind l (each_read (replicate (length plps - (i + 1)) conf_plp_read) rest))
     (sym (take_more plps i d lt))
 
@@ -175,14 +193,18 @@ first_is reads bits rest more x d xs e read =
     let t : (w.first, w.rest) ≡ (x, more) = cc in
     ap (λ (l : List ConfPlp). get_or l 0 d) b.all ∙ ap (λ (p : ConfPlp × List Bool). p.0) t
 
-pub other_plp : (plps : List ConfPlp) (i : ℕ) (d x : ConfPlp) (all : Reading (List ConfPlp)) (bits more rest : List Bool)
+pub other_plp : (plps : List ConfPlp) (i : ℕ) (d x : ConfPlp) (all : Reading (List ConfPlp))
+    (bits more rest : List Bool)
     → all ≡ behind (take i plps) (each_read (replicate (length plps - i) conf_plp_read) bits) →
     i < length plps → conf_plp_read bits ≡ Ok (x, more) → x ≢ get_or plps i d → all ≡ Ok (plps, rest) → ⊥
 other_plp plps i d x all bits more rest is lt read ne ok =
     let k : length plps - i ≡ suc (length plps - (i + 1)) = omega arith in
-    let b = was_behind (take i plps) (each_read (replicate (length plps - i) conf_plp_read) bits) plps rest (sym is ∙ ok) in
-    let left : drop i plps ≡ b.more = ap (drop i) b.all ∙ drop_at (take i plps) b.more i (length-take-le i plps (omega arith)) in
-    let here : get_or b.more 0 d ≡ get_or plps i d = ap (λ (l : List ConfPlp). get_or l 0 d) (sym left ∙ drop_more plps i d lt) in
+    let b = was_behind (take i plps) (each_read (replicate (length plps - i) conf_plp_read) bits) plps rest (sym is
+    ∙ ok) in
+    let left : drop i plps ≡ b.more = ap (drop i) b.all ∙ drop_at (take i plps) b.more i
+    (length-take-le i plps (omega arith)) in
+    let here : get_or b.more 0 d ≡ get_or plps i d = ap (λ (l : List ConfPlp). get_or l 0 d) (sym left
+    ∙ drop_more plps i d lt) in
     let first = first_is (replicate (length plps - (i + 1)) conf_plp_read) bits rest more x d b.more
     (ap (λ (m : ℕ). each_read (replicate m conf_plp_read) bits) (sym k) ∙ b.read) read in
     ne (sym first ∙ here)
@@ -204,9 +226,14 @@ pub refuted : {P : Type 0} → (P → ⊥) → IsTrue false ↔ P
 refuted none = (λ t. absurd (not_true t), λ p. absurd (none p))
 
 -- the last test: nothing is left
-pub ends : {T P : Type 0} (r : Result T Short) (b : Bool) (left new : List Bool) → b ≡ is_err r → OnOk r (Takes left new 1)
+pub ends : {T P : Type 0} (r : Result T Short) (b : Bool) (left new : List Bool) → b ≡ is_err r
+    → OnOk r (Takes left new 1)
     → IfErr r (λ e. (e.left ≡ length left) × (e.left < 1)) →
     (length left < 1 → P) → (1 ≤ length left → P → ⊥) → IsTrue b ↔ P
-ends (Ok x) b left new is takes short none some = (λ t. absurd (not_true (subst IsTrue is t)), λ p. absurd (some takes.inside p))
+ends (Ok x) b left new is takes short none some = (
+  λ t. absurd (not_true (subst IsTrue is t)),
+  λ p. absurd
+      (some takes.inside p),
+)
 ends (Err e) b left new is takes short none some =
     (λ t. none (omega (arith, short.0, short.1)), λ p. subst IsTrue (sym is) is_true)

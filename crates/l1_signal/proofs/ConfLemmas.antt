@@ -1,5 +1,6 @@
 -- The configurable part: its reading step by step, and its laws.
-use Rattle.std.proofs.Common.{◌≡◌, ◌≢◌, ℕ, ◌+◌, ◌*◌, ◌==◌, Bool, true, false, List, [], ◌∷◌, ◌++◌, length, get_or, replicate, Ok}
+use Rattle.std.proofs.Common.{◌≡◌, ◌≢◌, ℕ, ◌+◌, ◌*◌, ◌==◌, Bool, true, false, List, [], ◌∷◌, ◌++◌, length, get_or}
+use Rattle.std.proofs.Common.{replicate, Ok}
 use Rattle.std.proofs.Common.{Err, refl, ap, sym, subst, ◌∙◌, arith, append_assoc, length-append}
 use Rattle.std.specs.Prelude.{slice_index}
 use Rattle.std.specs.List.{flat_map}
@@ -10,13 +11,16 @@ use Rattle.l1_signal.specs.declared.fault.L1Fault.TheVariants.{Size}
 use Rattle.l1_signal.specs.declared.conf.L1Conf.{L1Conf}
 use Rattle.l1_signal.specs.declared.conf_plp.ConfPlp.{ConfPlp}
 use Rattle.l1_signal.specs.Fields.{values, Reading, after, values_of, each_read, Spells, row_bits, EachSpells}
-use Rattle.l1_signal.specs.L1Configurable.{conf_first_rows, conf_more_rows, conf_plp_rows, conf_back_rows, conf_first, conf_more}
-use Rattle.l1_signal.specs.L1Configurable.{conf_back, conf_plp_at, conf_at, info_size, conf_plp_read, conf_end, conf_plps}
+use Rattle.l1_signal.specs.L1Configurable.{conf_first_rows, conf_more_rows, conf_plp_rows, conf_back_rows, conf_first}
+use Rattle.l1_signal.specs.L1Configurable.{conf_more}
+use Rattle.l1_signal.specs.L1Configurable.{conf_back, conf_plp_at, conf_at, info_size, conf_plp_read, conf_end}
+use Rattle.l1_signal.specs.L1Configurable.{conf_plps}
 use Rattle.l1_signal.specs.L1Configurable.{conf_sized, conf_read, ConfSpells, conf_bits, ConfFits}
 use Rattle.l1_signal.specs.Laws.{ConfReadBack, ConfIsSpelled, ConfReadSpelled}
 use Rattle.l1_signal.proofs.ReadLemmas.{went, fits_len}
 use Rattle.l1_signal.proofs.RowLemmas.{length-spells, length-each, Front, was_spelled, spelled_values, spelled_back}
-use Rattle.l1_signal.proofs.RowLemmas.{values_spelled, read_fits, spells_fits, each_back, each_spelled, each_fits, written_spells}
+use Rattle.l1_signal.proofs.RowLemmas.{values_spelled, read_fits, spells_fits, each_back, each_spelled, each_fits}
+use Rattle.l1_signal.proofs.RowLemmas.{written_spells}
 use Rattle.l1_signal.proofs.RowLemmas.{written_each}
 
 -- ---- one PLP
@@ -31,7 +35,8 @@ plp_back plp bits rest s = spelled_back conf_plp_rows conf_plp_at (λ x ignored.
 pub plp_front : (all : List Bool) (plp : ConfPlp) (rest : List Bool) → conf_plp_read all ≡ Ok (plp, rest)
     → Front conf_plp_rows plp all rest
 unfolding conf_plp_read
-plp_front all plp rest e = was_spelled conf_plp_rows conf_plp_at (λ vs. slice_index vs 17 ∷ []) plp_listed all plp rest e
+plp_front all plp rest e = was_spelled conf_plp_rows conf_plp_at (λ vs. slice_index vs 17 ∷ []) plp_listed
+    all plp rest e
 
 -- ---- the steps of the reading
 pub first_refused : (told : ℕ) (a : List Bool) (fault : L1Fault) → values_of conf_first a ≡ Err fault
@@ -52,19 +57,22 @@ size_done : (told : ℕ) (a b : List Bool) (first : List ℕ) → values_of conf
     → told ≡ info_size (slice_index first 1) → conf_read told a ≡ after (values_of conf_more b) (conf_plps first)
 size_done told a b first f e = first_done told a b first f ∙ rw (eq-eqb told (info_size (slice_index first 1)) e) refl
 
-pub more_refused : (told : ℕ) (a b : List Bool) (first : List ℕ) (fault : L1Fault) → values_of conf_first a ≡ Ok (first, b)
+pub more_refused : (told : ℕ) (a b : List Bool) (first : List ℕ) (fault : L1Fault)
+    → values_of conf_first a ≡ Ok (first, b)
     → told ≡ info_size (slice_index first 1) → values_of conf_more b ≡ Err fault → conf_read told a ≡ Err fault
 more_refused told a b first fault f e m = size_done told a b first f e ∙ rw m refl
 
 more_done : (told : ℕ) (a b c : List Bool) (first more : List ℕ) → values_of conf_first a ≡ Ok (first, b)
-    → told ≡ info_size (slice_index first 1) → values_of conf_more b ≡ Ok (more, c) → conf_read told a ≡ conf_plps first more c
+    → told ≡ info_size (slice_index first 1) → values_of conf_more b ≡ Ok (more, c)
+    → conf_read told a ≡ conf_plps first more c
 more_done told a b c first more f e m = size_done told a b first f e ∙ rw m refl
 
 pub plps_refused : (told count : ℕ) (a b c : List Bool) (first more : List ℕ) (fault : L1Fault) → values_of conf_first a
     ≡ Ok (first, b) → told ≡ info_size (slice_index first 1) → values_of conf_more b ≡ Ok (more, c) →
     count ≡ slice_index first 1 → each_read (replicate count conf_plp_read) c ≡ Err fault → conf_read told a ≡ Err fault
 plps_refused told count a b c first more fault f e m is p =
-    more_done told a b c first more f e m ∙ ap (λ (n : ℕ). after (each_read (replicate n conf_plp_read) c) (conf_end first more))
+    more_done told a b c first more f e m ∙ ap (λ (n : ℕ). after (each_read (replicate n conf_plp_read) c)
+    (conf_end first more))
     (sym is)
     ∙ ap (λ (r : Reading (List ConfPlp)). after r (conf_end first more)) p
 
@@ -73,7 +81,8 @@ plps_done : (told count : ℕ) (a b c d : List Bool) (first more : List ℕ) (pl
     count ≡ slice_index first 1 → each_read (replicate count conf_plp_read) c ≡ Ok (plps, d)
     → conf_read told a ≡ conf_end first more plps d
 plps_done told count a b c d first more plps f e m is p =
-    more_done told a b c first more f e m ∙ ap (λ (n : ℕ). after (each_read (replicate n conf_plp_read) c) (conf_end first more))
+    more_done told a b c first more f e m ∙ ap (λ (n : ℕ). after (each_read (replicate n conf_plp_read) c)
+    (conf_end first more))
     (sym is)
     ∙ ap (λ (r : Reading (List ConfPlp)). after r (conf_end first more)) p
 
@@ -81,7 +90,8 @@ pub back_refused : (told count : ℕ) (a b c d : List Bool) (first more : List �
     → values_of conf_first a ≡ Ok (first, b) → told ≡ info_size (slice_index first 1) →
     values_of conf_more b ≡ Ok (more, c) → count ≡ slice_index first 1 → each_read (replicate count conf_plp_read) c
     ≡ Ok (plps, d) → values_of conf_back d ≡ Err fault → conf_read told a ≡ Err fault
-back_refused told count a b c d first more plps fault f e m is p l = plps_done told count a b c d first more plps f e m is p
+back_refused told count a b c d first more plps fault f e m is p l = plps_done told count a b c d first
+    more plps f e m is p
     ∙ rw l refl
 
 pub conf_done : (told count : ℕ) (a b c d rest : List Bool) (first more : List ℕ) (plps : List ConfPlp) (back : List ℕ)
@@ -98,7 +108,8 @@ four_parts f m p b rest = simp append_assoc
 
 pub conf_read_back : ConfReadBack
 conf_read_back conf front rest s =
-    let all : front ++ rest ≡ s.first ++ (s.more ++ (s.plps ++ (s.back ++ rest))) = ap (λ (l : List Bool). l ++ rest) s.whole
+    let all : front ++ rest ≡ s.first ++ (s.more ++ (s.plps ++ (s.back ++ rest))) = ap (λ (l : List Bool). l ++ rest)
+    s.whole
     ∙ four_parts s.first s.more s.plps s.back rest in
     let told = info_size (length conf.plps) in
     ap (conf_read told) all
@@ -116,7 +127,8 @@ conf_read_back conf front rest s =
 two_listed : (vs : List ℕ) → length vs ≡ 2 → vs ≡ slice_index vs 0 ∷ slice_index vs 1 ∷ []
 two_listed vs e = fill_by_all (λ (k : ℕ). get_or vs k 0) vs 2 0 e (λ k lt. refl)
 
-four_listed : (vs : List ℕ) → length vs ≡ 4 → vs ≡ slice_index vs 0 ∷ slice_index vs 1 ∷ slice_index vs 2 ∷ slice_index vs 3 ∷ []
+four_listed : (vs : List ℕ) → length vs ≡ 4 → vs ≡ slice_index vs 0 ∷ slice_index vs 1 ∷ slice_index
+    vs 2 ∷ slice_index vs 3 ∷ []
 four_listed vs e = fill_by_all (λ (k : ℕ). get_or vs k 0) vs 4 0 e (λ k lt. refl)
 
 -- the parts that were read
@@ -182,7 +194,8 @@ spelled_at told all conf rest r =
     let first_len = fits_len conf_first r.first (read_fits conf_first all r.first r.b r.first_read) in
     let more_len = fits_len conf_more r.more (read_fits conf_more r.b r.more r.c r.more_read) in
     let back_len = fits_len conf_back r.back (read_fits conf_back r.d r.back rest r.back_read) in
-    let zero_is : slice_index r.first 0 ≡ conf.sub_slices_per_frame = ap (λ (x : L1Conf). x.sub_slices_per_frame) r.at in
+    let zero_is : slice_index r.first 0 ≡ conf.sub_slices_per_frame = ap (λ (x : L1Conf). x.sub_slices_per_frame)
+    r.at in
     let one_is : slice_index r.first 1 ≡ conf.num_plp = ap (λ (x : L1Conf). x.num_plp) r.at in
     let aux_is : slice_index r.more 0 ≡ conf.num_aux = ap (λ (x : L1Conf). x.num_aux) r.at in
     let rf_is : slice_index r.more 2 ≡ conf.rf_idx = ap (λ (x : L1Conf). x.rf_idx) r.at in
@@ -228,9 +241,11 @@ spelled_fits conf bits s = record {
   count = s.count;
 }
 
-pub read_conf_fits : (told : ℕ) (all : List Bool) (conf : L1Conf) (rest : List Bool) → conf_read told all ≡ Ok (conf, rest)
+pub read_conf_fits : (told : ℕ) (all : List Bool) (conf : L1Conf) (rest : List Bool)
+    → conf_read told all ≡ Ok (conf, rest)
     → ConfFits conf
-read_conf_fits told all conf rest e = let s = conf_was_spelled told all conf rest e in spelled_fits conf s.front s.spells
+read_conf_fits told all conf rest e = let s = conf_was_spelled told all conf rest e in spelled_fits conf
+    s.front s.spells
 
 pub conf_written : (conf : L1Conf) → ConfFits conf → ConfSpells conf (conf_bits conf)
 unfolding conf_bits

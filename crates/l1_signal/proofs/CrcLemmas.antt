@@ -1,5 +1,6 @@
 -- CRC_32 behind what it is counted of.
-use Rattle.std.proofs.Common.{◌≡◌, ℕ, ◌<◌, ◌≤◌, ◌^◌, ◌==◌, Bool, true, false, List, [], ◌++◌, length, take, drop, Ok, Err, refl}
+use Rattle.std.proofs.Common.{◌≡◌, ℕ, ◌<◌, ◌≤◌, ◌^◌, ◌==◌, Bool, true, false, List, [], ◌++◌, length, take, drop, Ok}
+use Rattle.std.proofs.Common.{Err, refl}
 use Rattle.std.proofs.Common.{ap, sym, ◌∙◌, arith, length-append, subst}
 use Rattle.std.specs.Prelude.{nat_lt, Result, OnOk, IfErr, IsOk, ◌≢◌, Some, None}
 use Rattle.std.proofs.lemmas.Bool.{lt-ltb, le-ltb, ltb-false, eq-eqb, ne_eqb, eqb-true}
@@ -25,7 +26,8 @@ pub crc_differs : (counted : ℕ) (bits : List Bool) (read : ℕ) → 32 ≤ len
 unfolding crc_read
 crc_differs counted bits read long e ne = rw (le-ltb (length bits) 32 long, ← e, ne_eqb read counted ne) refl
 
-pub crc_done : (counted : ℕ) (bits : List Bool) (read : ℕ) → 32 ≤ length bits → read ≡ number_of (take 32 bits) → read ≡ counted
+pub crc_done : (counted : ℕ) (bits : List Bool) (read : ℕ) → 32 ≤ length bits → read ≡ number_of (take 32 bits)
+    → read ≡ counted
     → crc_read counted bits ≡ Ok (counted, drop 32 bits)
 unfolding crc_read
 crc_done counted bits read long e same = rw (le-ltb (length bits) 32 long, ← e, eq-eqb read counted same) refl
@@ -40,7 +42,8 @@ crc_back counted rest fits =
     ∙ ap (λ (l : List Bool). Ok (counted, l)) (drop-field 32 counted rest)
 
 -- what is read behind it was spelled there
-crc_tested : (counted : ℕ) (bits : List Bool) (cut same : Bool) (crc : ℕ) (rest : List Bool) → nat_lt (length bits) 32 ≡ cut
+crc_tested : (counted : ℕ) (bits : List Bool) (cut same : Bool) (crc : ℕ) (rest : List Bool)
+    → nat_lt (length bits) 32 ≡ cut
     → (number_of (take 32 bits) == counted) ≡ same → crc_read counted bits ≡ Ok (crc, rest) →
     bits ≡ field 32 counted ++ rest
 unfolding crc_read
@@ -61,7 +64,8 @@ crc_spelled counted bits crc rest e = crc_tested counted bits _ _ crc rest refl 
 
 -- a sink that counts takes all bits
 never_stops : (n : ℕ) (t : State) (bits : List Bool) (e : SinkFault)
-    → IsCause (wrapped (record { written = []; room = Some n; grows = false; below = [] })) (length bits) e → length bits ≤ n → ⊥
+    → IsCause (wrapped (record { written = []; room = Some n; grows = false; below = [] })) (length bits) e
+    → length bits ≤ n → ⊥
 never_stops n t bits (Full need room) cause few = omega (arith, cause)
 never_stops n t bits OutOfMemory cause few = absurd (let h : Some n ≡ None = cause.0 in cc)
 
@@ -78,7 +82,8 @@ counted_all rightly n s t bits (Err e) is few ok err =
 
 -- so it does not stop
 pub takes_all : {T : Type 0} → StopsRightly → (n : ℕ) (s t : State) (bits : List Bool) (r : Result T SinkFault)
-    → s ≡ wrapped (record { written = []; room = Some n; grows = false; below = [] }) → length bits ≤ n → IfErr r (Stops s t bits)
+    → s ≡ wrapped (record { written = []; room = Some n; grows = false; below = [] }) → length bits ≤ n
+    → IfErr r (Stops s t bits)
     → IsOk r
 takes_all rightly n s t bits (Ok x) is few err = refl
 takes_all rightly n s t bits (Err e) is few err =

@@ -224,7 +224,8 @@ plp_numbers_fit plp r n = (
   ),
 )
 
-pub conf_numbers_fit : (sub_slices frequency : ℕ) (plps : List ConfPlp) → sub_slices ≤ 6480 → frequency < 2 ^ 32 → 1 ≤ length plps
+pub conf_numbers_fit : (sub_slices frequency : ℕ) (plps : List ConfPlp) → sub_slices ≤ 6480 → frequency < 2 ^ 32
+    → 1 ≤ length plps
     → length plps ≤ 255 → All (RowsFit conf_plp_rows) plps →
     ConfFits (conf_with sub_slices frequency plps)
 unfolding RowsFit Fits

@@ -19,11 +19,13 @@ use Rattle.l1_signal.specs.L1Of.{conf_plp_of, conf_of, dyn_plp_of, dyn_of, post_
 use Rattle.l1_signal.specs.Laws.{PostLength, ConfPartLength, EndsInItsCrc}
 use Rattle.l1_signal.proofs.RowLemmas.{total, length-row_bits}
 
-length-each_bits : {A : Type 0} (rows : List (Row A)) (xs : List A) → length (flat_map (row_bits rows) xs) ≡ total (fields rows)
+length-each_bits : {A : Type 0} (rows : List (Row A)) (xs : List A)
+    → length (flat_map (row_bits rows) xs) ≡ total (fields rows)
     * length xs
 length-each_bits rows [] = omega arith
 length-each_bits rows (x ∷ xs) =
-    let step : total (fields rows) * length (x ∷ xs) ≡ total (fields rows) + total (fields rows) * length xs = omega arith in
+    let step : total (fields rows) * length (x ∷ xs) ≡ total (fields rows) + total (fields rows) * length
+    xs = omega arith in
     omega (
       arith,
       length-append (row_bits rows x) (flat_map (row_bits rows) xs),

@@ -1,5 +1,6 @@
 -- L1-pre: its reading step by step, and its laws.
-use Rattle.std.proofs.Common.{◌≡◌, ℕ, Bool, true, false, List, [], ◌∷◌, ◌++◌, length, take, get_or, Ok, Err, refl, ap, sym, ◌∙◌}
+use Rattle.std.proofs.Common.{◌≡◌, ℕ, Bool, true, false, List, [], ◌∷◌, ◌++◌, length, take, get_or, Ok, Err, refl, ap}
+use Rattle.std.proofs.Common.{sym, ◌∙◌}
 use Rattle.std.proofs.Common.{append_assoc}
 use Rattle.std.specs.Prelude.{slice_index}
 use Rattle.std.proofs.lemmas.List.{take_at}
@@ -38,19 +39,23 @@ pub pre_refused : (with_crc : Bool) (bits : List Bool) (fault : L1Fault) → val
 unfolding pre_reading pre_read
 pre_refused with_crc bits fault e = rw e refl
 
-pub pre_done : (with_crc : Bool) (vs : List ℕ) (bits rest : List Bool) (pre : L1Pre) → with_crc ≡ false → values_of pre_table bits
+pub pre_done : (with_crc : Bool) (vs : List ℕ) (bits rest : List Bool) (pre : L1Pre) → with_crc ≡ false
+    → values_of pre_table bits
     ≡ Ok (vs, rest) → pre ≡ pre_at vs → pre_reading with_crc bits ≡ Ok (pre, rest)
 unfolding pre_reading
 pre_done with_crc vs bits rest pre without e is = rw (without, pre_at_done vs bits rest e, is) refl
 
-pub pre_crc_refused : (with_crc : Bool) (vs : List ℕ) (bits rest : List Bool) (counted : ℕ) (fault : L1Fault) → with_crc ≡ true
+pub pre_crc_refused : (with_crc : Bool) (vs : List ℕ) (bits rest : List Bool) (counted : ℕ) (fault : L1Fault)
+    → with_crc ≡ true
     → values_of pre_table bits ≡ Ok (vs, rest) →
-    counted ≡ crc32_of (spelling pre_table vs) → crc_read counted rest ≡ Err fault → pre_reading with_crc bits ≡ Err fault
+    counted ≡ crc32_of (spelling pre_table vs) → crc_read counted rest ≡ Err fault
+    → pre_reading with_crc bits ≡ Err fault
 unfolding pre_reading
 pre_crc_refused with_crc vs bits rest counted fault with e crc refused =
     rw (with, pre_at_done vs bits rest e, front_is vs bits rest e, ← crc, refused) refl
 
-pub pre_crc_done : (with_crc : Bool) (vs : List ℕ) (bits rest more : List Bool) (pre : L1Pre) (counted : ℕ) → with_crc ≡ true
+pub pre_crc_done : (with_crc : Bool) (vs : List ℕ) (bits rest more : List Bool) (pre : L1Pre) (counted : ℕ)
+    → with_crc ≡ true
     → values_of pre_table bits ≡ Ok (vs, rest) →
     pre ≡ pre_at vs → counted ≡ crc32_of (spelling pre_table vs) → crc_read counted rest ≡ Ok (counted, more)
     → pre_reading with_crc bits ≡ Ok (pre, more)
@@ -58,12 +63,14 @@ unfolding pre_reading
 pre_crc_done with_crc vs bits rest more pre counted with e is crc read =
     rw (with, pre_at_done vs bits rest e, front_is vs bits rest e, is, ← crc, read) refl
 
-pre_front : (bits : List Bool) (pre : L1Pre) (rest : List Bool) → pre_read bits ≡ Ok (pre, rest) → Front pre_rows pre bits rest
+pre_front : (bits : List Bool) (pre : L1Pre) (rest : List Bool) → pre_read bits ≡ Ok (pre, rest)
+    → Front pre_rows pre bits rest
 unfolding pre_read
 pre_front bits pre rest e = was_spelled pre_rows pre_at (λ vs. slice_index vs 26 ∷ []) pre_listed bits pre rest e
 
 -- what was read can be written
-pub pre_fits : (vs : List ℕ) (bits rest : List Bool) (pre : L1Pre) → values_of pre_table bits ≡ Ok (vs, rest) → pre ≡ pre_at vs
+pub pre_fits : (vs : List ℕ) (bits rest : List Bool) (pre : L1Pre) → values_of pre_table bits ≡ Ok (vs, rest)
+    → pre ≡ pre_at vs
     → PreFits pre
 unfolding PreFits
 pre_fits vs bits rest pre e is = let f = pre_front bits pre rest (rw is (pre_at_done vs bits rest e)) in
@@ -76,7 +83,8 @@ pre_read_back crc false pre front rest s = rw (spelled_back pre_rows pre_at (λ 
 pre_read_back crc true pre front rest s =
     let counted = crc32_of front in
     let size : length front ≡ 168 = length-spells pre_rows pre front s in
-    let cut : take 168 (front ++ (field 32 counted ++ rest)) ≡ front = take_at front (field 32 counted ++ rest) 168 size in
+    let cut : take 168 (front ++ (field 32 counted ++ rest)) ≡ front = take_at front (field 32 counted ++ rest)
+    168 size in
     rw (
       append_assoc front (field 32 counted) rest,
       spelled_back pre_rows pre_at (λ x ignored. refl) pre front
@@ -106,6 +114,13 @@ pre_was_spelled true bits pre rest e =
     let f = pre_front bits pre w.rest (w.read ∙ ap (λ (x : L1Pre). Ok (x, w.rest)) first) in
     let size : length f.bits ≡ 168 = length-spells pre_rows pre f.bits f.spells in
     let cut : take 168 bits ≡ f.bits = ap (take 168) f.whole ∙ take_at f.bits w.rest 168 size in
-    let crc : w.rest ≡ field 32 (crc32_of f.bits) ++ rest = crc_spelled (crc32_of (take 168 bits)) w.rest v.first v.rest v.read
-    ∙ ap (λ (l : List Bool). field 32 (crc32_of l) ++ v.rest) cut ∙ ap (λ (l : List Bool). field 32 (crc32_of f.bits) ++ l) end in
-    record { front = f.bits; spells = f.spells; whole = joined bits f.bits w.rest (field 32 (crc32_of f.bits)) rest f.whole crc }
+    let crc : w.rest ≡ field 32 (crc32_of f.bits) ++ rest = crc_spelled (crc32_of (take 168 bits)) w.rest
+    v.first v.rest v.read
+    ∙ ap (λ (l : List Bool). field 32 (crc32_of l) ++ v.rest) cut
+    ∙ ap (λ (l : List Bool). field 32 (crc32_of f.bits) ++ l) end in
+    record {
+      front = f.bits;
+      spells = f.spells;
+      whole = joined bits f.bits w.rest (field 32 (crc32_of f.bits))
+          rest f.whole crc;
+    }

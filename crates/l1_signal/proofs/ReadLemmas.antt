@@ -1,9 +1,11 @@
 -- What is read is spelled so, and what is spelled so is read.
-use Rattle.std.proofs.Common.{◌≡◌, ℕ, suc, ◌+◌, ◌<◌, ◌≤◌, ◌^◌, Bool, true, false, List, [], ◌∷◌, ◌++◌, length, take, drop, map}
+use Rattle.std.proofs.Common.{◌≡◌, ℕ, suc, ◌+◌, ◌<◌, ◌≤◌, ◌^◌, Bool, true, false, List, [], ◌∷◌, ◌++◌, length, take}
+use Rattle.std.proofs.Common.{drop, map}
 use Rattle.std.proofs.Common.{get_or, set, Ok, Err, refl, ap, sym, subst, ◌∙◌, arith, rules, append_assoc, append-nil}
 use Rattle.std.proofs.Common.{length-append}
 use Rattle.std.specs.Prelude.{nat_lt}
-use Rattle.std.proofs.lemmas.List.{take-append-drop, get_or-drop, drop-drop, drop_more, drop_all, take_all, take_more_set}
+use Rattle.std.proofs.lemmas.List.{take-append-drop, get_or-drop, drop-drop, drop_more, drop_all, take_all}
+use Rattle.std.proofs.lemmas.List.{take_more_set}
 use Rattle.std.proofs.lemmas.List.{length-take-le}
 use Rattle.std.proofs.lemmas.Bool.{lt-ltb, le-ltb, ltb-false}
 use Rattle.terms.specs.Bits.{field, number_of}
@@ -11,7 +13,8 @@ use Rattle.terms.proofs.BitLemmas.{length-field, number_of-field, field-number, 
 use Rattle.l1_signal.specs.declared.fault.L1Fault.{L1Fault}
 use Rattle.l1_signal.specs.declared.fault.L1Fault.TheVariants.{Short, Unsupported}
 use Rattle.l1_signal.specs.declared.fields.Field.{Field}
-use Rattle.l1_signal.specs.Fields.{Row, Told, Ignored, fields, values, meets, Reading, after, behind, each_read, field_read}
+use Rattle.l1_signal.specs.Fields.{Row, Told, Ignored, fields, values, meets, Reading, after, behind, each_read}
+use Rattle.l1_signal.specs.Fields.{field_read}
 use Rattle.l1_signal.specs.Fields.{values_of, spelling, Fits, HasGiven}
 use Rattle.l1_signal.specs.Places.{AreSmall}
 
@@ -23,12 +26,14 @@ field_short f bits left e less =
     let cut : nat_lt (length bits) f.width ≡ true = lt-ltb (length bits) f.width (omega (arith, e)) in
     rw (cut, e) refl
 
-pub field_refused : (f : Field) (bits : List Bool) (value : ℕ) → f.width ≤ length bits → value ≡ number_of (take f.width bits)
+pub field_refused : (f : Field) (bits : List Bool) (value : ℕ) → f.width ≤ length bits
+    → value ≡ number_of (take f.width bits)
     → meets f.demand value ≡ false → field_read f bits ≡ Err (Unsupported f.number)
 unfolding field_read
 field_refused f bits value long e refused = rw (le-ltb (length bits) f.width long, ← e, refused) refl
 
-pub field_done : (f : Field) (bits : List Bool) (value : ℕ) → f.width ≤ length bits → value ≡ number_of (take f.width bits)
+pub field_done : (f : Field) (bits : List Bool) (value : ℕ) → f.width ≤ length bits
+    → value ≡ number_of (take f.width bits)
     → meets f.demand value ≡ true → field_read f bits ≡ Ok (value, drop f.width bits)
 unfolding field_read
 field_done f bits value long e met = rw (le-ltb (length bits) f.width long, ← e, met) refl
@@ -39,7 +44,8 @@ pub record IsField (f : Field) (bits : List Bool) (value : ℕ) (rest : List Boo
   pub met : meets f.demand value ≡ true
   pub spelled : bits ≡ field f.width value ++ rest
 
-tested : (f : Field) (bits : List Bool) (cut met : Bool) (value : ℕ) (rest : List Bool) → nat_lt (length bits) f.width ≡ cut
+tested : (f : Field) (bits : List Bool) (cut met : Bool) (value : ℕ) (rest : List Bool)
+    → nat_lt (length bits) f.width ≡ cut
     → meets f.demand (number_of (take f.width bits)) ≡ met →
     field_read f bits ≡ Ok (value, rest) → IsField f bits value rest
 unfolding field_read
@@ -51,7 +57,8 @@ tested f bits false true value rest c m e =
     let v : number_of (take f.width bits) ≡ value = ap (λ (x : ℕ × List Bool). x.0) t in
     let r : drop f.width bits ≡ rest = ap (λ (x : ℕ × List Bool). x.1) t in
     let size = length-take-le f.width bits (ltb-false (length bits) f.width c) in
-    let below : number_of (take f.width bits) < 2 ^ f.width = subst (λ (k : ℕ). number_of (take f.width bits) < 2 ^ k) size
+    let below : number_of (take f.width bits) < 2 ^ f.width = subst (λ (k : ℕ). number_of (take f.width bits) < 2 ^ k)
+    size
     (number_of-lt (take f.width bits)) in
     record {
       fits = rw (← v) below;
@@ -113,19 +120,23 @@ pub next_read : {A : Type 0} (reads more : List (List Bool → Reading A)) (read
 unfolding each_read
 next_read reads more read front bits rest x is e = rw (is, e) (behind_more front x (each_read more rest))
 
-pub stopped_read : {A : Type 0} (reads more : List (List Bool → Reading A)) (read : List Bool → Reading A) (front : List A)
+pub stopped_read : {A : Type 0} (reads more : List (List Bool → Reading A)) (read : List Bool → Reading A)
+    (front : List A)
     (bits : List Bool) (fault : L1Fault) → reads ≡ read ∷ more → read bits ≡ Err fault →
     behind front (each_read reads bits) ≡ Err fault
 unfolding each_read
 stopped_read reads more read front bits fault is e = rw (is, e) refl
 
-pub all_read : {A : Type 0} (reads : List (List Bool → Reading A)) (i : ℕ) (out : List A) (bits : List Bool) → reads ≡ []
+pub all_read : {A : Type 0} (reads : List (List Bool → Reading A)) (i : ℕ) (out : List A) (bits : List Bool)
+    → reads ≡ []
     → length out ≤ i → behind (take i out) (each_read reads bits) ≡ Ok (out, bits)
 unfolding each_read
-all_read reads i out bits is le = rw is (ap (λ (l : List _). Ok (l, bits)) (append-nil (take i out) ∙ take_all i out le))
+all_read reads i out bits is le = rw is (ap (λ (l : List _). Ok (l, bits)) (append-nil (take i out)
+    ∙ take_all i out le))
 
 -- ---- the fields of a table
-pub values_back : (fs : List Field) (vs : List ℕ) (rest : List Bool) → Fits fs vs → values_of fs (spelling fs vs ++ rest)
+pub values_back : (fs : List Field) (vs : List ℕ) (rest : List Bool) → Fits fs vs
+    → values_of fs (spelling fs vs ++ rest)
     ≡ Ok (vs, rest)
 unfolding values_of each_read Fits spelling
 values_back [] [] rest h = refl
@@ -133,7 +144,8 @@ values_back [] (v ∷ vs) rest h = absurd h
 values_back (f ∷ fs) [] rest h = absurd h
 values_back (f ∷ fs) (v ∷ vs) rest h =
     ap (values_of (f ∷ fs)) (append_assoc (field f.width v) (spelling fs vs) rest)
-    ∙ ap (λ (r : Reading ℕ). after r (λ x l. behind (x ∷ []) (values_of fs l))) (field_back f v (spelling fs vs ++ rest) h.0 h.1)
+    ∙ ap (λ (r : Reading ℕ). after r (λ x l. behind (x ∷ []) (values_of fs l)))
+    (field_back f v (spelling fs vs ++ rest) h.0 h.1)
     ∙ ap (behind (v ∷ [])) (values_back fs vs rest h.2)
 
 pub record Spelled (fs : List Field) (bits : List Bool) (vs : List ℕ) (rest : List Bool) : Type 0 where
@@ -201,27 +213,33 @@ pub given_on : {a b c : List Bool} → HasGiven a b → HasGiven b c → HasGive
 given_on {a} {b} {c} p q = (p.0 ++ q.0, p.1 ∙ ap (λ (l : List Bool). p.0 ++ l) q.1 ∙ sym (append_assoc p.0 q.0 c))
 
 -- ---- the fields of a table, one at a time
-fields_from : (fs : List Field) (i : ℕ) (d : Field) → i < length fs → map field_read (drop i fs) ≡ field_read (get_or fs i d)
+fields_from : (fs : List Field) (i : ℕ) (d : Field) → i < length fs
+    → map field_read (drop i fs) ≡ field_read (get_or fs i d)
     ∷ map field_read (drop (i + 1) fs)
 fields_from fs i d lt = ap (map field_read) (drop_more fs i d lt)
 
-pub next_field : (fs : List Field) (i : ℕ) (d : Field) (out : List ℕ) (bits rest : List Bool) (value : ℕ) → i < length fs
+pub next_field : (fs : List Field) (i : ℕ) (d : Field) (out : List ℕ) (bits rest : List Bool) (value : ℕ)
+    → i < length fs
     → i < length out → field_read (get_or fs i d) bits ≡ Ok (value, rest) →
-    behind (take i out) (values_of (drop i fs) bits) ≡ behind (take (i + 1) (set out i value)) (values_of (drop (i + 1) fs) rest)
+    behind (take i out) (values_of (drop i fs) bits) ≡ behind (take (i + 1) (set out i value))
+    (values_of (drop (i + 1) fs) rest)
 unfolding values_of
 next_field fs i d out bits rest value lt inside e =
     next_read (map field_read (drop i fs)) (map field_read (drop (i + 1) fs)) (field_read (get_or fs i d))
     (take i out) bits rest value (fields_from fs i d lt) e
     ∙ ap (λ (l : List ℕ). behind l (values_of (drop (i + 1) fs) rest)) (sym (take_more_set out i value inside))
 
-pub stopped_field : (fs : List Field) (i : ℕ) (d : Field) (front : List ℕ) (bits : List Bool) (fault : L1Fault) → i < length fs
+pub stopped_field : (fs : List Field) (i : ℕ) (d : Field) (front : List ℕ) (bits : List Bool) (fault : L1Fault)
+    → i < length fs
     → field_read (get_or fs i d) bits ≡ Err fault →
     behind front (values_of (drop i fs) bits) ≡ Err fault
 unfolding values_of
-stopped_field fs i d front bits fault lt e = stopped_read (map field_read (drop i fs)) (map field_read (drop (i + 1) fs))
+stopped_field fs i d front bits fault lt e = stopped_read (map field_read (drop i fs))
+    (map field_read (drop (i + 1) fs))
     (field_read (get_or fs i d)) front bits fault (fields_from fs i d lt) e
 
 pub all_fields : (fs : List Field) (i : ℕ) (out : List ℕ) (bits : List Bool) → length fs ≤ i → length out ≤ i
     → behind (take i out) (values_of (drop i fs) bits) ≡ Ok (out, bits)
 unfolding values_of
-all_fields fs i out bits le same = all_read (map field_read (drop i fs)) i out bits (ap (map field_read) (drop_all i fs le)) same
+all_fields fs i out bits le same = all_read (map field_read (drop i fs)) i out bits
+    (ap (map field_read) (drop_all i fs le)) same

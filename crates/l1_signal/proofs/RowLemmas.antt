@@ -1,5 +1,6 @@
 -- What the rows of a table tell, read and spelled.
-use Rattle.std.proofs.Common.{◌≡◌, ℕ, zero, suc, ◌+◌, ◌-◌, ◌*◌, ◌<◌, ◌≤◌, Bool, List, [], ◌∷◌, ◌++◌, length, take, drop, set}
+use Rattle.std.proofs.Common.{◌≡◌, ℕ, zero, suc, ◌+◌, ◌-◌, ◌*◌, ◌<◌, ◌≤◌, Bool, List, [], ◌∷◌, ◌++◌, length, take, drop}
+use Rattle.std.proofs.Common.{set}
 use Rattle.std.proofs.Common.{replicate, Ok, Err, refl, ap, sym, subst, ◌∙◌, arith, append_assoc, length-append}
 use Rattle.std.specs.Prelude.{slice_index}
 use Rattle.std.specs.List.{All, flat_map}
@@ -8,9 +9,11 @@ use Rattle.terms.specs.Bits.{field}
 use Rattle.terms.proofs.BitLemmas.{length-field}
 use Rattle.l1_signal.specs.declared.fault.L1Fault.{L1Fault}
 use Rattle.l1_signal.specs.declared.fields.Field.{Field}
-use Rattle.l1_signal.specs.Fields.{Row, Told, Ignored, fields, values, Reading, after, behind, made, each_read, values_of}
+use Rattle.l1_signal.specs.Fields.{Row, Told, Ignored, fields, values, Reading, after, behind, made, each_read}
+use Rattle.l1_signal.specs.Fields.{values_of}
 use Rattle.l1_signal.specs.Fields.{spelling, Fits, Spells, row_bits, RowsFit, EachSpells}
-use Rattle.l1_signal.proofs.ReadLemmas.{went, was_behind, next_read, stopped_read, all_read, values_back, was_read, fits_len}
+use Rattle.l1_signal.proofs.ReadLemmas.{went, was_behind, next_read, stopped_read, all_read, values_back, was_read}
+use Rattle.l1_signal.proofs.ReadLemmas.{fits_len}
 use Rattle.l1_signal.proofs.ReadLemmas.{cleared}
 
 -- the bits of a table
@@ -71,7 +74,8 @@ spelled_values rows x bits rest s = ap (λ (l : List Bool). values_of (fields ro
 
 pub spelled_back : {A : Type 0} (rows : List (Row A)) (at : List ℕ → A)
     → ((x : A) (ignored : List ℕ) → at (values rows x ignored) ≡ x) →
-    (x : A) (bits rest : List Bool) → Spells rows x bits → made at (values_of (fields rows) (bits ++ rest)) ≡ Ok (x, rest)
+    (x : A) (bits rest : List Bool) → Spells rows x bits → made at (values_of (fields rows) (bits ++ rest)) ≡ Ok
+    (x, rest)
 spelled_back rows at again x bits rest s = ap (made at) (spelled_values rows x bits rest s)
     ∙ ap (λ (y : _). Ok (y, rest)) (again x s.ignored)
 
@@ -94,7 +98,8 @@ values_spelled rows x ignored all vs rest e is =
 
 pub was_spelled : {A : Type 0} (rows : List (Row A)) (at : List ℕ → A) (ignored : List ℕ → List ℕ)
     → ((vs : List ℕ) → length vs ≡ length (fields rows) → vs ≡ values rows (at vs) (ignored vs)) →
-    (all : List Bool) (x : A) (rest : List Bool) → made at (values_of (fields rows) all) ≡ Ok (x, rest) → Front rows x all rest
+    (all : List Bool) (x : A) (rest : List Bool) → made at (values_of (fields rows) all) ≡ Ok (x, rest)
+    → Front rows x all rest
 was_spelled rows at ignored listed all x rest e =
     let w = went (values_of (fields rows) all) (λ vs more. Ok (at vs, more)) (x, rest) e in
     let s = was_read (fields rows) all w.first w.rest w.read in
@@ -111,7 +116,8 @@ pub read_fits : (fs : List Field) (all : List Bool) (vs : List ℕ) (rest : List
 read_fits fs all vs rest e = (was_read fs all vs rest e).fits
 
 -- ---- several with such rows
-pub next_each : {A : Type 0} (n i : ℕ) (read : List Bool → Reading A) (d : A) (out : List A) (bits rest : List Bool) (x : A)
+pub next_each : {A : Type 0} (n i : ℕ) (read : List Bool → Reading A) (d : A) (out : List A) (bits rest : List Bool)
+    (x : A)
     → i < n → i < length out → read bits ≡ Ok (x, rest) →
     behind (take i out) (each_read (replicate (n - i) read) bits) ≡ behind (take (i + 1) (set out i x))
     (each_read (replicate (n - (i + 1)) read) rest)
@@ -121,7 +127,8 @@ next_each n i read d out bits rest x lt inside e =
     (ap (λ (m : ℕ). replicate m read) k) e
     ∙ ap (λ (l : List _). behind l (each_read (replicate (n - (i + 1)) read) rest)) (sym (take_more_set out i x inside))
 
-pub stopped_each : {A : Type 0} (n i : ℕ) (read : List Bool → Reading A) (front : List A) (bits : List Bool) (fault : L1Fault)
+pub stopped_each : {A : Type 0} (n i : ℕ) (read : List Bool → Reading A) (front : List A) (bits : List Bool)
+    (fault : L1Fault)
     → i < n → read bits ≡ Err fault →
     behind front (each_read (replicate (n - i) read) bits) ≡ Err fault
 stopped_each n i read front bits fault lt e =
@@ -129,7 +136,8 @@ stopped_each n i read front bits fault lt e =
     stopped_read (replicate (n - i) read) (replicate (n - (i + 1)) read) read front bits fault
     (ap (λ (m : ℕ). replicate m read) k) e
 
-pub all_each : {A : Type 0} (n i : ℕ) (read : List Bool → Reading A) (out : List A) (bits : List Bool) → n ≤ i → length out ≤ i
+pub all_each : {A : Type 0} (n i : ℕ) (read : List Bool → Reading A) (out : List A) (bits : List Bool)
+    → n ≤ i → length out ≤ i
     → behind (take i out) (each_read (replicate (n - i) read) bits) ≡ Ok (out, bits)
 all_each n i read out bits le same =
     let k : n - i ≡ 0 = omega arith in
@@ -137,7 +145,8 @@ all_each n i read out bits le same =
 
 pub each_back : {A : Type 0} (rows : List (Row A)) (read : List Bool → Reading A)
     → ((x : A) (bits rest : List Bool) → Spells rows x bits → read (bits ++ rest) ≡ Ok (x, rest)) →
-    (xs : List A) (bits rest : List Bool) → EachSpells rows xs bits → each_read (replicate (length xs) read) (bits ++ rest)
+    (xs : List A) (bits rest : List Bool) → EachSpells rows xs bits
+    → each_read (replicate (length xs) read) (bits ++ rest)
     ≡ Ok (xs, rest)
 unfolding each_read
 each_back rows read back [] bits rest s = ap (λ (l : List Bool). Ok ([], l ++ rest)) s
@@ -220,5 +229,6 @@ length-each rows (x ∷ xs) bits s =
     let one = length-spells rows x s.0 s.2 in
     let more = length-each rows xs s.1 s.3 in
     let all = ap length s.4 ∙ length-append s.0 s.1 in
-    let step : total (fields rows) * suc (length xs) ≡ total (fields rows) + total (fields rows) * length xs = omega arith in
+    let step : total (fields rows) * suc (length xs) ≡ total (fields rows) + total (fields rows) * length
+    xs = omega arith in
     omega (arith, one, more, all, step)

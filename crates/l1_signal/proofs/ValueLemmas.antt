@@ -1,7 +1,6 @@
 -- The values of a frame, PLP by PLP.
-use Rattle.std.proofs.Common.{◌≡◌, ℕ, ◌+◌, ◌%◌, ◌^◌, ◌<◌, List, length, map, get_or, set, refl, sym, ◌∙◌, arith}
+use Rattle.std.proofs.Common.{◌≡◌, ℕ, ◌+◌, ◌%◌, ◌^◌, ◌<◌, List, length, map, get_or, refl, sym, ◌∙◌, arith}
 use Rattle.std.proofs.lemmas.List.{ext_get_or, get_or-map, length-map}
-use Rattle.std.proofs.lemmas.List.Edits.{fill_by_more}
 use Rattle.std.proofs.lemmas.List.FromFn.{get_or-map-range_with_len, length-map-range_with_len}
 use Rattle.plp_config.specs.Plps.{plp_at}
 use Rattle.plp_config.specs.declared.config.Config.{Config}
@@ -28,7 +27,15 @@ pub dyn_numbers_fit : (c : Config) (frame : ℕ) (shape : FrameShape)
     → DynFits (dyn_of c frame shape)
 unfolding dyn_of RowsFit Fits
 dyn_numbers_fit c frame shape ids idx s = record {
-  front = (idx, refl, (s.interval, refl, (s.type2_start, refl, (pow_pos 8, refl, (pow_pos 3, refl, (pow_pos 8, refl, tt))))));
+  front = (
+    idx,
+    refl,
+    (
+      s.interval,
+      refl,
+      (s.type2_start, refl, (pow_pos 8, refl, (pow_pos 3, refl, (pow_pos 8, refl, tt)))),
+    ),
+  );
   plps = λ k d lt.
       let size = length-map-range_with_len (dyn_plp_of c shape) 0 (length c.plps) in
       let inside : k < length c.plps = omega (arith, lt, size) in
@@ -37,7 +44,8 @@ dyn_numbers_fit c frame shape ids idx s = record {
       ((ids k inside, refl, (s.starts k, refl, (s.counts k, refl, (pow_pos 8, refl, tt)))));
 }
 
-joined : (shape : FrameShape) (counts starts : List ℕ) (interval start : ℕ) → shape.counts ≡ counts → shape.starts ≡ starts
+joined : (shape : FrameShape) (counts starts : List ℕ) (interval start : ℕ) → shape.counts ≡ counts
+    → shape.starts ≡ starts
     → shape.interval ≡ interval → shape.type2_start ≡ start →
     shape ≡ record { counts = counts; starts = starts; interval = interval; type2_start = start }
 joined shape counts starts interval start p q r t = rw (← p, ← q, ← r, ← t) refl

@@ -9,7 +9,8 @@ abbrev pub front_told : L1Conf → List ℕ
 front_told conf = conf.sub_slices_per_frame ∷ conf.num_plp ∷ conf.num_aux ∷ conf.rf_idx ∷ conf.frequency ∷ []
 
 abbrev pub front_of : List ℕ → List ℕ → List ℕ
-front_of first more = slice_index first 0 ∷ slice_index first 1 ∷ slice_index more 0 ∷ slice_index more 2 ∷ slice_index more 3
+front_of first more = slice_index first 0 ∷ slice_index first 1 ∷ slice_index more 0 ∷ slice_index more
+    2 ∷ slice_index more 3
     ∷ []
 
 unfoldable pub front_read : List Bool → Reading (List ℕ)

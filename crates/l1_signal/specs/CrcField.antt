@@ -1,5 +1,6 @@
 -- CRC_32 behind what it is counted of.
-use Rattle.std.specs.Prelude.{◌≡◌, ◌≢◌, ◌≤◌, ◌<◌, ℕ, ◌-◌, ◌==◌, Bool, nat_lt, List, length, take, drop, if◌then◌else◌, Ok, Err}
+use Rattle.std.specs.Prelude.{◌≡◌, ◌≢◌, ◌≤◌, ◌<◌, ℕ, ◌-◌, ◌==◌, Bool, nat_lt, List, length, take, drop, if◌then◌else◌}
+use Rattle.std.specs.Prelude.{Ok, Err}
 use Rattle.terms.specs.Bits.{number_of, number_at}
 use Rattle.bit_slice.specs.Crc.{crc32_of}
 use Rattle.l1_signal.specs.declared.fault.L1Fault.{L1Fault}
@@ -27,6 +28,7 @@ EndsInCrc post = (32 ≤ length post) × (told_crc post ≡ crc32_of (post_front
 -- why it does not
 abbrev pub RefusesPost : List Bool → L1Fault → Type 0
 RefusesPost post (Short left) = (length post < 32) × (left ≡ length post)
-RefusesPost post (Crc read counted) = (32 ≤ length post) × (read ≡ told_crc post) × (counted ≡ crc32_of (post_front post))
+RefusesPost post (Crc read counted) = (32 ≤ length post) × (read ≡ told_crc post)
+    × (counted ≡ crc32_of (post_front post))
     × (read ≢ counted)
 RefusesPost post _ = ⊥

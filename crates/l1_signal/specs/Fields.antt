@@ -1,5 +1,6 @@
 -- Fields one behind another, by a table: how they are read and spelled (EN 302 755, clause 7.2).
-use Rattle.std.specs.Prelude.{◌≡◌, ◌<◌, ℕ, ◌%◌, ◌^◌, ◌==◌, Bool, true, nat_lt, nat_le, List, [], ◌∷◌, ◌++◌, length, take, drop}
+use Rattle.std.specs.Prelude.{◌≡◌, ◌<◌, ℕ, ◌%◌, ◌^◌, ◌==◌, Bool, true, nat_lt, nat_le, List, [], ◌∷◌, ◌++◌, length}
+use Rattle.std.specs.Prelude.{take, drop}
 use Rattle.std.specs.Prelude.{map, slice_index, if◌then◌else◌, Result, Ok, Err}
 use Rattle.terms.specs.Bits.{field, number_of}
 use Rattle.l1_signal.specs.declared.fault.L1Fault.{L1Fault}
@@ -16,8 +17,8 @@ meets (AtMost most) value = nat_le value most
 meets Positive value = nat_le 1 value
 meets Even value = value % 2 == 0
 
--- A row of a table, by its number and its width in bits. It tells a field of what the table spells, and has the values that
--- are read; or it is ignored, and has any value.
+-- A row of a table, by its number and its width in bits. It tells a field of what the table spells, and has the values
+-- that are read; or it is ignored, and has any value.
 pub data Row (A : Type 0) : Type 0 where
   Told : ℕ → ℕ → Demand → (A → ℕ) → Row A
   Ignored : ℕ → ℕ → Row A

@@ -1,5 +1,6 @@
 -- The configurable part of L1-post (EN 302 755, clause 7.2.3.1).
-use Rattle.std.specs.Prelude.{◌≡◌, ℕ, ◌+◌, ◌*◌, ◌==◌, Bool, List, [], ◌∷◌, ◌++◌, length, replicate, slice_index, if◌then◌else◌}
+use Rattle.std.specs.Prelude.{◌≡◌, ℕ, ◌+◌, ◌*◌, ◌==◌, Bool, List, [], ◌∷◌, ◌++◌, length, replicate, slice_index}
+use Rattle.std.specs.Prelude.{if◌then◌else◌}
 use Rattle.std.specs.Prelude.{Ok, Err}
 use Rattle.std.specs.List.{All, flat_map}
 use Rattle.l1_signal.specs.declared.lengths.TheConstants.{INFO_BITS, PLP_BITS}
@@ -8,7 +9,8 @@ use Rattle.l1_signal.specs.declared.fields.Demand.TheVariants.{Any, Only, AtMost
 use Rattle.l1_signal.specs.declared.fields.Field.{Field}
 use Rattle.l1_signal.specs.declared.conf.L1Conf.{L1Conf}
 use Rattle.l1_signal.specs.declared.conf_plp.ConfPlp.{ConfPlp}
-use Rattle.l1_signal.specs.Fields.{Row, Told, Ignored, fields, Reading, after, made, values_of, each_read, Spells, row_bits}
+use Rattle.l1_signal.specs.Fields.{Row, Told, Ignored, fields, Reading, after, made, values_of, each_read, Spells}
+use Rattle.l1_signal.specs.Fields.{row_bits}
 use Rattle.l1_signal.specs.Fields.{RowsFit, EachSpells}
 
 -- the rows before those of the PLPs: number, width in bits, which values are read, and what is told. They are cut where
@@ -147,7 +149,8 @@ pub record ConfSpells (conf : L1Conf) (bits : List Bool) : Type 0 where
 
 -- what is written
 unfoldable pub conf_bits : L1Conf → List Bool
-conf_bits conf = row_bits conf_first_rows conf ++ row_bits conf_more_rows conf ++ flat_map (row_bits conf_plp_rows) conf.plps
+conf_bits conf = row_bits conf_first_rows conf ++ row_bits conf_more_rows conf ++ flat_map (row_bits conf_plp_rows)
+    conf.plps
     ++ row_bits conf_back_rows conf
 
 -- Each field fits its width, none is refused, and NUM_PLP is the number of the PLPs.

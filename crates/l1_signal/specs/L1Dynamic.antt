@@ -5,7 +5,8 @@ use Rattle.l1_signal.specs.declared.fields.Demand.TheVariants.{Any}
 use Rattle.l1_signal.specs.declared.fields.Field.{Field}
 use Rattle.l1_signal.specs.declared.dyn_plp.DynPlp.{DynPlp}
 use Rattle.l1_signal.specs.declared.dynamic.L1Dyn.{L1Dyn}
-use Rattle.l1_signal.specs.Fields.{Row, Told, Ignored, fields, Reading, after, made, values_of, each_read, Spells, row_bits}
+use Rattle.l1_signal.specs.Fields.{Row, Told, Ignored, fields, Reading, after, made, values_of, each_read, Spells}
+use Rattle.l1_signal.specs.Fields.{row_bits}
 use Rattle.l1_signal.specs.Fields.{RowsFit, EachSpells}
 
 -- the rows before those of the PLPs: number, width in bits, which values are read, and what is told

@@ -51,14 +51,16 @@ pre_of c = record {
   t2_base_lite = 0;
 }
 
--- TIME_IL_TYPE: 1 if several frames carry an interleaving frame; and TIME_IL_LENGTH: their number, else that of the TI-blocks
+-- TIME_IL_TYPE: 1 if several frames carry an interleaving frame; and TIME_IL_LENGTH: their number, else that of the
+-- TI-blocks
 abbrev pub il_type_of : Plp → ℕ
 il_type_of plp = flag_of (nat_lt 1 plp.spread)
 
 abbrev pub il_length_of : Plp → ℕ
 il_length_of plp = if nat_lt 1 plp.spread then plp.spread else plp.interleave
 
--- the rows of one PLP in the configurable part: it carries a transport stream, payload type 3, in high-efficiency mode, mode 2
+-- the rows of one PLP in the configurable part: it carries a transport stream, payload type 3, in high-efficiency mode,
+-- mode 2
 unfoldable pub conf_plp_of : Plp → ConfPlp
 conf_plp_of plp = record {
   plp_id = plp.id;

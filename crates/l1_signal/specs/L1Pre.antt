@@ -5,7 +5,8 @@ use Rattle.l1_signal.specs.declared.lengths.TheConstants.{PRE_BITS}
 use Rattle.l1_signal.specs.declared.fields.Demand.TheVariants.{Any, Only, Even}
 use Rattle.l1_signal.specs.declared.fields.Field.{Field}
 use Rattle.l1_signal.specs.declared.pre.L1Pre.{L1Pre}
-use Rattle.l1_signal.specs.Fields.{Row, Told, Ignored, fields, Reading, after, made, values_of, Spells, row_bits, RowsFit}
+use Rattle.l1_signal.specs.Fields.{Row, Told, Ignored, fields, Reading, after, made, values_of, Spells, row_bits}
+use Rattle.l1_signal.specs.Fields.{RowsFit}
 use Rattle.l1_signal.specs.CrcField.{crc_read}
 
 -- the rows: number, width in bits, which values are read, and what is told

@@ -17,10 +17,12 @@ use Rattle.l1_signal.specs.L1Of.{conf_of, conf_plp_of, post_bits}
 use Rattle.l1_signal.specs.Lengths.{conf_len, dyn_len, post_len}
 use Rattle.l1_signal.specs.declared.lengths.TheConstants.{PRE_BITS}
 use Rattle.l1_signal.specs.declared.conf.L1Conf.{L1Conf}
-use Rattle.l1_signal.specs.L1Configurable.{conf_first_rows, conf_more_rows, conf_plp_rows, conf_back_rows, info_size, conf_read}
+use Rattle.l1_signal.specs.L1Configurable.{conf_first_rows, conf_more_rows, conf_plp_rows, conf_back_rows, info_size}
+use Rattle.l1_signal.specs.L1Configurable.{conf_read}
 use Rattle.l1_signal.specs.L1Configurable.{conf_bits, ConfSpells, ConfFits}
 use Rattle.l1_signal.specs.declared.dynamic.L1Dyn.{L1Dyn}
-use Rattle.l1_signal.specs.L1Dynamic.{dyn_front_rows, dyn_plp_rows, dyn_back_rows, dyn_read, dyn_bits, DynSpells, DynFits}
+use Rattle.l1_signal.specs.L1Dynamic.{dyn_front_rows, dyn_plp_rows, dyn_back_rows, dyn_read, dyn_bits, DynSpells}
+use Rattle.l1_signal.specs.L1Dynamic.{DynFits}
 use Rattle.l1_signal.specs.L1Pre.{pre_table, pre_reading, pre_bits, PreSpells, PreFits}
 
 -- L1-pre with CRC_32 behind it, or without
@@ -66,7 +68,8 @@ pub record ConfIsSpelled (told : ℕ) (bits : List Bool) (conf : L1Conf) (rest :
   pub whole : bits ≡ front ++ rest
 
 abbrev pub ConfReadSpelled : Type 0
-ConfReadSpelled = (told : ℕ) (bits : List Bool) (conf : L1Conf) (rest : List Bool) → conf_read told bits ≡ Ok (conf, rest)
+ConfReadSpelled = (told : ℕ) (bits : List Bool) (conf : L1Conf) (rest : List Bool)
+    → conf_read told bits ≡ Ok (conf, rest)
     → ConfIsSpelled told bits conf rest
 
 abbrev pub ConfWritten : Type 0
@@ -87,7 +90,8 @@ pub record DynIsSpelled (plps : ℕ) (bits : List Bool) (dynamic : L1Dyn) (rest 
   pub whole : bits ≡ front ++ rest
 
 abbrev pub DynReadSpelled : Type 0
-DynReadSpelled = (plps : ℕ) (bits : List Bool) (dynamic : L1Dyn) (rest : List Bool) → dyn_read plps bits ≡ Ok (dynamic, rest)
+DynReadSpelled = (plps : ℕ) (bits : List Bool) (dynamic : L1Dyn) (rest : List Bool)
+    → dyn_read plps bits ≡ Ok (dynamic, rest)
     → DynIsSpelled plps bits dynamic rest
 
 abbrev pub DynWritten : Type 0
@@ -119,7 +123,8 @@ pub record TablesAreRows : Type 0 where
   pub dyn_plp : DYN_PLP ≡ fields dyn_plp_rows
   pub dyn_back : DYN_BACK ≡ fields dyn_back_rows
 
--- if the interleaving frames of a PLP are carried by one frame each, TIME_IL_TYPE is 0, and TIME_IL_LENGTH its number of TI-blocks
+-- if the interleaving frames of a PLP are carried by one frame each, TIME_IL_TYPE is 0, and TIME_IL_LENGTH its number
+-- of TI-blocks
 abbrev pub ConfAlone : Type 0
 ConfAlone = (plp : Plp) → plp.spread ≡ 1
     → ((conf_plp_of plp).time_il_type ≡ 0) × ((conf_plp_of plp).time_il_length ≡ plp.interleave)

@@ -1,5 +1,6 @@
 // Whether bits are a known configurable part.
-ghost use Rattle.std.specs.Prelude.{◌≡◌, ◌≢◌, ◌↔◌, true, false, List, Bool, IsTrue, Ok, Err, IfOk, IfErr, length, replicate};
+ghost use Rattle.std.specs.Prelude.{◌≡◌, ◌≢◌, ◌↔◌, true, false, List, Bool, IsTrue, Ok, Err, IfOk, IfErr, length};
+ghost use Rattle.std.specs.Prelude.{replicate};
 ghost use Rattle.l1_signal.specs.Comparing.{front_told, front_read, back_read};
 ghost use Rattle.l1_signal.specs.Fields.{each_read};
 ghost use Rattle.l1_signal.specs.L1Configurable.{conf_plp_read, ConfSpells};
@@ -67,7 +68,8 @@ fn has_plps<'a, R: BitSource<'a>>(source: &mut R, plps: &[ConfPlp]) -> bool
     true
 }
 
-/// Whether the bits, all of them, are a spelling of that configurable part. RESERVED bits and AUX_CONFIG_RFU decide nothing.
+/// Whether the bits, all of them, are a spelling of that configurable part. RESERVED bits and AUX_CONFIG_RFU decide
+/// nothing.
 pub fn is_conf(bits: BitSlice<'_>, conf: &L1Conf) -> bool
     ensures { IsTrue result ↔ ConfSpells conf.now bits.entry }
 {

@@ -2,7 +2,8 @@
 ghost use Rattle.std.specs.Prelude.{◌≡◌, ◌⊎◌, ℕ, Ok, Err, OnOk, IfOk, IfErr, [], slice_index};
 ghost use Rattle.bit_slice.specs.Sink.{Puts, Stops};
 ghost use Rattle.l1_signal.specs.Fields.{values, HasGiven};
-ghost use Rattle.l1_signal.specs.L1Configurable.{conf_first_rows, conf_more_rows, conf_back_rows, conf_first, conf_more};
+ghost use Rattle.l1_signal.specs.L1Configurable.{conf_first_rows, conf_more_rows, conf_back_rows, conf_first};
+ghost use Rattle.l1_signal.specs.L1Configurable.{conf_more};
 ghost use Rattle.l1_signal.specs.L1Configurable.{conf_back, conf_at, conf_read, conf_bits, ConfFits};
 ghost use Rattle.l1_signal.specs.Places.{AreSmall};
 ghost use Rattle.l1_signal.specs.declared.fault.L1Fault.TheVariants.{OutOfMemory};
@@ -103,15 +104,17 @@ fn back_values(conf: &L1Conf) -> [u64; 2]
     [u64::from(conf.fef_length_msb), 0]
 }
 
-/// Reads the configurable part, up to the first refusal in the order of the fields. L1_POST_INFO_SIZE of L1-pre is looked at as
-/// soon as NUM_PLP is read.
+/// Reads the configurable part, up to the first refusal in the order of the fields. L1_POST_INFO_SIZE of L1-pre is
+/// looked at as soon as NUM_PLP is read.
 pub fn read_conf<'a, R: BitSource<'a>>(
     alloc: Global,
     source: &mut R,
     pre: &L1Pre,
 ) -> Result<L1Conf, L1Fault>
-    ensures ok { IfOk result (λ conf. conf_read pre.now.l1_post_info_size (R.left source.old) ≡ Ok (conf, R.left source.new)) }
-    ensures fault { IfErr result (λ e. (e ≡ OutOfMemory) ⊎ (conf_read pre.now.l1_post_info_size (R.left source.old) ≡ Err e)) }
+    ensures ok { IfOk result (λ conf. conf_read pre.now.l1_post_info_size (R.left source.old) ≡ Ok
+        (conf, R.left source.new)) }
+    ensures fault { IfErr result (λ e. (e ≡ OutOfMemory)
+        ⊎ (conf_read pre.now.l1_post_info_size (R.left source.old) ≡ Err e)) }
     ensures fits { IfOk result ConfFits }
     ensures given { HasGiven (R.left source.old) (R.left source.new) }
 {
@@ -136,7 +139,8 @@ pub fn read_conf<'a, R: BitSource<'a>>(
     Ok(conf_at(&first, &more, plps, &back))
 }
 
-/// Appends the configurable part, [`crate::conf_len`] bits. After a fault a part of it, from its start, stands in the sink.
+/// Appends the configurable part, [`crate::conf_len`] bits. After a fault a part of it, from its start, stands in the
+/// sink.
 pub fn write_conf<S: BitSink>(sink: &mut S, conf: &L1Conf) -> Result<(), SinkFault>
     requires { ConfFits conf.now }
     ensures ok { OnOk result (Puts (S.state sink.old) (S.state sink.new) (conf_bits conf.now)) }

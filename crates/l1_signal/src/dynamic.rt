@@ -87,8 +87,8 @@ fn front_values(dynamic: &L1Dyn) -> [u64; 6]
     ]
 }
 
-/// Reads the dynamic part, with as many PLPs as `out` has, up to the first refusal in the order of the fields. After a fault
-/// `out` has any values.
+/// Reads the dynamic part, with as many PLPs as `out` has, up to the first refusal in the order of the fields. After a
+/// fault `out` has any values.
 pub fn read_dyn<'a, R: BitSource<'a>>(source: &mut R, out: &mut L1Dyn) -> Result<(), L1Fault>
     ensures ok { OnOk result (dyn_read (length out.old.plps) (R.left source.old) ≡ Ok (out.new, R.left source.new)) }
     ensures fault { IfErr result (λ e. dyn_read (length out.old.plps) (R.left source.old) ≡ Err e) }

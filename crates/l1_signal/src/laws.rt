@@ -1,6 +1,7 @@
 // Laws of the definitions. Their functions do nothing.
 ghost use Rattle.l1_signal.specs.Laws.{PreReadBack, PreReadSpelled, PreWritten, PreLength, PreBitsLength, ConfReadBack};
-ghost use Rattle.l1_signal.specs.Laws.{ConfReadSpelled, ConfWritten, ConfLength, DynReadBack, DynReadSpelled, DynWritten};
+ghost use Rattle.l1_signal.specs.Laws.{ConfReadSpelled, ConfWritten, ConfLength, DynReadBack, DynReadSpelled};
+ghost use Rattle.l1_signal.specs.Laws.{DynWritten};
 ghost use Rattle.l1_signal.specs.Laws.{DynLength, PostLength, ConfPartLength, EndsInItsCrc, TablesAreRows};
 ghost use Rattle.l1_signal.specs.Laws.{ConfAlone};
 

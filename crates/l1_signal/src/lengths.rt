@@ -25,7 +25,8 @@ pub const DYN_BITS: usize = 79;
 /// Bits of one PLP in it.
 pub const DYN_PLP_BITS: usize = 48;
 
-/// Bits of L1-post, both parts and CRC_32, besides those of its PLPs. [`post_len`] says that they are those of the parts.
+/// Bits of L1-post, both parts and CRC_32, besides those of its PLPs. [`post_len`] says that they are those of the
+/// parts.
 pub const POST_BITS: usize = L1_POST_BITS as usize;
 
 /// Bits of one PLP in both parts.

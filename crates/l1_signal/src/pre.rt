@@ -195,7 +195,8 @@ pub fn read_pre<'a, R: BitSource<'a>>(source: &mut R, with_crc: bool) -> Result<
     Ok(pre)
 }
 
-/// Appends L1-pre without CRC_32, [`crate::PRE_BITS`] bits. After a fault a part of it, from its start, stands in the sink.
+/// Appends L1-pre without CRC_32, [`crate::PRE_BITS`] bits. After a fault a part of it, from its start, stands in the
+/// sink.
 pub fn write_pre<S: BitSink>(sink: &mut S, pre: &L1Pre) -> Result<(), SinkFault>
     requires { PreFits pre.now }
     ensures ok { OnOk result (Puts (S.state sink.old) (S.state sink.new) (pre_bits pre.now)) }

@@ -1,5 +1,6 @@
 // The rows of a part of L1-post, one for each PLP.
-ghost use Rattle.std.specs.Prelude.{◌≡◌, ◌↔◌, ◌≤◌, ◌<◌, ℕ, List, Bool, Ok, Err, IfOk, IfErr, OnOk, OnErr, length, replicate};
+ghost use Rattle.std.specs.Prelude.{◌≡◌, ◌↔◌, ◌≤◌, ◌<◌, ℕ, List, Bool, Ok, Err, IfOk, IfErr, OnOk, OnErr, length};
+ghost use Rattle.std.specs.Prelude.{replicate};
 ghost use Rattle.std.specs.List.{All, flat_map};
 ghost use Rattle.bit_slice.specs.Sink.{Puts, Stops};
 ghost use Rattle.l1_signal.specs.Fields.{Reading, each_read, HasGiven};
@@ -49,7 +50,8 @@ impl<T> Model for PlpRows<T> {
 }
 
 impl<T: Copy + Drop> PlpRows<T> {
-    ghost use Rattle.std.specs.Prelude.{◌≡◌, ◌↔◌, ◌<◌, ◌≤◌, ◌++◌, ◌∷◌, [], IsTrue, length, replicate, Ok, Err, IfOk, IfErr, OnOk};
+    ghost use Rattle.std.specs.Prelude.{◌≡◌, ◌↔◌, ◌<◌, ◌≤◌, ◌++◌, ◌∷◌, [], IsTrue, length, replicate, Ok, Err, IfOk};
+    ghost use Rattle.std.specs.Prelude.{IfErr, OnOk};
     ghost use Rattle.std.specs.Prelude.{IsNone, slice_get, slice_set, slice_index_or};
     ghost use Rattle.std.specs.Option.{option_copied};
 

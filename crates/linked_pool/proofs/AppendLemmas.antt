@@ -1,8 +1,10 @@
 -- A block at the end of a list.
-use Rattle.std.proofs.Common.{◌≡◌, ◌≢◌, ℕ, zero, suc, ◌+◌, ◌-◌, ◌<◌, ◌≤◌, eqb, ltb, List, [], ◌∷◌, ◌++◌, length, take, drop}
+use Rattle.std.proofs.Common.{◌≡◌, ◌≢◌, ℕ, zero, suc, ◌+◌, ◌-◌, ◌<◌, ◌≤◌, eqb, ltb, List, [], ◌∷◌, ◌++◌, length, take}
+use Rattle.std.proofs.Common.{drop}
 use Rattle.std.proofs.Common.{get_or, set, refl, ap, sym, ◌∙◌, subst, arith, length-append, length-set, length-drop}
 use Rattle.std.proofs.lemmas.Bool.{eqb-true, eqb-false, ltb-true, ltb-false}
-use Rattle.std.proofs.lemmas.List.{get_or-set_same, get_or-set_other, take-append-drop, length-take-le, nil_from_length, take_all}
+use Rattle.std.proofs.lemmas.List.{get_or-set_same, get_or-set_other, take-append-drop, length-take-le, nil_from_length}
+use Rattle.std.proofs.lemmas.List.{take_all}
 use Rattle.std.proofs.lemmas.List.{get_or_append_left, take-append-le, drop-append-le}
 use Rattle.linked_pool.specs.Chains.{count, moved}
 use Rattle.linked_pool.specs.Pool.{State, chunks_for, list_at, appended}
@@ -12,7 +14,8 @@ use Rattle.linked_pool.proofs.WalkLemmas.{count-append, count_one, occurs-at, oc
 use Rattle.linked_pool.proofs.BlockLemmas.{first_in, all-moved, lists-set, rest_at, list_inside, list_is}
 
 pub joined_kept : (chunks chunks' : List (List ℕ)) (chain : List ℕ)
-    → ((c : ℕ) → 0 < count c chain → get_or chunks' c [] ≡ get_or chunks c []) → joined chunks' chain ≡ joined chunks chain
+    → ((c : ℕ) → 0 < count c chain → get_or chunks' c [] ≡ get_or chunks c [])
+    → joined chunks' chain ≡ joined chunks chain
 joined_kept chunks chunks' [] h = refl
 joined_kept chunks chunks' (x ∷ chain) h =
     let here = h x (let e = count_one x chain in omega (arith, e)) in
@@ -35,11 +38,13 @@ blocks_kept chunks chunks' lens lens' (suc n) chain h g u =
     let front : joined chunks' (take k chain) ≡ joined chunks (take k chain) =
     joined_kept chunks chunks' (take k chain) (λ c s. h c (let e = count_parts c k chain in omega (arith, e, s))) in
     let tail =
-    blocks_kept chunks chunks' lens lens' n (drop k chain) (λ c s. h c (let e = count_parts c k chain in omega (arith, e, s)))
+    blocks_kept chunks chunks' lens lens' n (drop k chain)
+    (λ c s. h c (let e = count_parts c k chain in omega (arith, e, s)))
     (λ c s. g c (let e = count_parts c k chain in omega (arith, e, s))) rest in
     (rw (head, front, tail.0) refl, rw (head, tail.1) refl)
 
-pub blocks_append : (chunks : List (List ℕ)) (lens : List ℕ) (n : ℕ) (chain more : List ℕ) → uses lens n chain ≡ length chain →
+pub blocks_append : (chunks : List (List ℕ)) (lens : List ℕ) (n : ℕ) (chain more : List ℕ)
+    → uses lens n chain ≡ length chain →
     (blocks_of chunks lens (n + 1) (chain ++ more) ≡ blocks_of chunks lens n chain ++ blocks_of chunks lens 1 more)
     × (uses lens (n + 1) (chain ++ more) ≡ uses lens n chain + uses lens 1 more)
 blocks_append chunks lens zero chain more u =
@@ -88,9 +93,11 @@ pub record Written (chains chunks chunks' : List (List ℕ)) (lens lens' : List 
   pub lens_is : lens' ≡ set lens (get_or (get_or chains 0 []) 0 0) (length block)
 
 pub append_law : (view : State) (chains chunks chunks' chains' : List (List ℕ)) (lens lens' counts : List ℕ) (i k n : ℕ)
-    (block : List ℕ) → view ≡ view_of chains chunks lens counts → IsPool chains chunks lens counts → i < length view.lists →
+    (block : List ℕ) → view ≡ view_of chains chunks lens counts → IsPool chains chunks lens counts
+    → i < length view.lists →
     Written chains chunks chunks' lens lens' k block → n ≡ get_or counts i 0 + 1 → chains' ≡ moved chains 0 (i + 1) k →
-    IsPool chains' chunks' lens' (set counts i n) × (view_of chains' chunks' lens' (set counts i n) ≡ appended view i block)
+    IsPool chains' chunks' lens' (set counts i n)
+    × (view_of chains' chunks' lens' (set counts i n) ≡ appended view i block)
 append_law view chains chunks chunks' chains' lens lens' counts i k n block e p h w more moves =
     let inside = list_inside view chains chunks lens counts i e p h in
     let lists = p.lists in
@@ -107,7 +114,8 @@ append_law view chains chunks chunks' chains' lens lens' counts i k n block e p 
     let long_a : length a ≡ k = length-take-le k free w.enough in
     let head_a : get_or a 0 0 ≡ first = (let t = get_or_append_left a (drop k free) 0 0 (omega (arith, long_a, some)) in
     sym t ∙ ap (λ (xs : List ℕ). get_or xs 0 0) (take-append-drop k free)) in
-    let first_a : 0 < count first a = subst (λ (x : ℕ). 0 < count x a) head_a (first_in a (omega (arith, long_a, some))) in
+    let first_a : 0 < count first a = subst (λ (x : ℕ). 0 < count x a) head_a
+    (first_in a (omega (arith, long_a, some))) in
     let apart : (j x : ℕ) → j < length counts → 0 < count x (get_or chains (j + 1) []) → count x a ≡ 0 =
     λ j x lt there.
     let hj : j + 1 < length chains = omega (arith, lists, lt) in
@@ -116,18 +124,22 @@ append_law view chains chunks chunks' chains' lens lens' counts i k n block e p 
     let one = p.apart x in
     let parts = count_parts x k free in
     omega (arith, two, one, parts, there) in
-    let kept : (j x : ℕ) → j < length counts → 0 < count x (get_or chains (j + 1) []) → get_or chunks' x [] ≡ get_or chunks x [] =
+    let kept : (j x : ℕ) → j < length counts → 0 < count x (get_or chains (j + 1) [])
+    → get_or chunks' x [] ≡ get_or chunks x [] =
     λ j x lt there. w.kept x (apart j x lt there) in
-    let lens_kept : (j x : ℕ) → j < length counts → 0 < count x (get_or chains (j + 1) []) → get_or lens' x 0 ≡ get_or lens x 0 =
+    let lens_kept : (j x : ℕ) → j < length counts → 0 < count x (get_or chains (j + 1) [])
+    → get_or lens' x 0 ≡ get_or lens x 0 =
     λ j x lt there.
     let none = apart j x lt there in
     let nx : x ≢ first = (λ z. let s : 0 < count x a = subst (λ (y : ℕ). 0 < count y a) (sym z) first_a in
     omega (arith, none, s)) in
     rw w.lens_is (get_or-set_other lens first x (length block) 0 nx) in
     let both : (j : ℕ) → j < length counts
-    → (blocks_of chunks' lens' (get_or counts j 0) (get_or chains (j + 1) []) ≡ blocks_of chunks lens (get_or counts j 0)
+    → (blocks_of chunks' lens' (get_or counts j 0) (get_or chains (j + 1) []) ≡ blocks_of chunks lens
+    (get_or counts j 0)
     (get_or chains (j + 1) []))
-    × (uses lens' (get_or counts j 0) (get_or chains (j + 1) []) ≡ uses lens (get_or counts j 0) (get_or chains (j + 1) [])) =
+    × (uses lens' (get_or counts j 0) (get_or chains (j + 1) []) ≡ uses lens (get_or counts j 0)
+    (get_or chains (j + 1) [])) =
     λ j lt. blocks_kept chunks chunks' lens lens' (get_or counts j 0) (get_or chains (j + 1) []) (λ x t. kept j x lt t)
     (λ x t. lens_kept j x lt t) (p.used j lt) in
     let used_kept : (j : ℕ) → j < length counts → uses lens' (get_or counts j 0) (get_or chains (j + 1) [])
@@ -141,7 +153,8 @@ append_law view chains chunks chunks' chains' lens lens' counts i k n block e p 
     let need_a : front_chunks lens' a ≡ k = ap chunks_for len_a ∙ sym size in
     let whole_a : take (chunks_for (length block)) a ≡ a = ap (λ (m : ℕ). take m a) (sym size)
     ∙ take_all k a (omega (arith, long_a)) in
-    let block_a : blocks_of chunks' lens' 1 a ≡ block ∷ [] = rw (len_a, whole_a) (ap (λ (b : List ℕ). b ∷ []) w.bytes) in
+    let block_a : blocks_of chunks' lens' 1 a ≡ block ∷ [] = rw (len_a, whole_a)
+    (ap (λ (b : List ℕ). b ∷ []) w.bytes) in
     let uses_a : uses lens' 1 a ≡ k = ap (λ (m : ℕ). m + 0) need_a ∙ omega arith in
     let joined_list = blocks_append chunks' lens' (get_or counts i 0) c a (used_kept i inside) in
     let n' : get_or counts i 0 + 1 ≡ n = sym more in
@@ -161,11 +174,14 @@ append_law view chains chunks chunks' chains' lens lens' counts i k n block e p 
     let y : get_or counts' i 0 ≡ get_or counts i 0 + 1 = get_or-set_same counts i n 0 inside ∙ more in
     let sum : uses lens' (get_or counts i 0 + 1) (c ++ a) ≡ length (c ++ a) =
     joined_list.1 ∙ (let l = length-append c a in let u = used_kept i inside in omega (arith, l, u, uses_a, long_a)) in
-    let here : uses lens' (get_or counts' i 0) (get_or next (i + 1) []) ≡ length (get_or next (i + 1) []) = rw (x, y) sum in
-    subst (λ (m : ℕ). uses lens' (get_or counts' m 0) (get_or next (m + 1) []) ≡ length (get_or next (m + 1) [])) same here)
+    let here : uses lens' (get_or counts' i 0) (get_or next (i + 1) []) ≡ length (get_or next (i + 1) []) =
+    rw (x, y) sum in
+    subst (λ (m : ℕ). uses lens' (get_or counts' m 0) (get_or next (m + 1) []) ≡ length (get_or next (m + 1) []))
+    same here)
     (λ z. let other : j ≢ i = eqb-false j i z in
     let nx : j + 1 ≢ i + 1 = (λ v. other (omega (arith, v))) in
-    let x : get_or next (j + 1) [] ≡ get_or chains (j + 1) [] = get_or-set_other first_set (i + 1) (j + 1) (c ++ a) [] nx
+    let x : get_or next (j + 1) [] ≡ get_or chains (j + 1) [] = get_or-set_other first_set (i + 1) (j + 1)
+    (c ++ a) [] nx
     ∙ get_or-set_other chains 0 (j + 1) (drop k free) [] (nz j) in
     let y : get_or counts' j 0 ≡ get_or counts j 0 = get_or-set_other counts i j n 0 other in
     rw (x, y) (used_kept j lt)) in

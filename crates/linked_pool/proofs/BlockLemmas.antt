@@ -1,8 +1,10 @@
 -- Blocks along chains.
-use Rattle.std.proofs.Common.{◌≡◌, ◌≢◌, ℕ, zero, suc, ◌+◌, ◌-◌, ◌*◌, ◌<◌, ◌≤◌, eqb, ltb, List, [], ◌∷◌, ◌++◌, length, take, drop}
+use Rattle.std.proofs.Common.{◌≡◌, ◌≢◌, ℕ, zero, suc, ◌+◌, ◌-◌, ◌*◌, ◌<◌, ◌≤◌, eqb, ltb, List, [], ◌∷◌, ◌++◌, length}
+use Rattle.std.proofs.Common.{take, drop}
 use Rattle.std.proofs.Common.{get_or, set, refl, ap, sym, ◌∙◌, subst, arith, length-append, length-set, length-drop}
 use Rattle.std.proofs.lemmas.Bool.{eqb-true, eqb-false, ltb-true, ltb-false}
-use Rattle.std.proofs.lemmas.List.{get_or-set_same, get_or-set_other, take-append-drop, length-take-le, set-get_or, take_all}
+use Rattle.std.proofs.lemmas.List.{get_or-set_same, get_or-set_other, take-append-drop, length-take-le, set-get_or}
+use Rattle.std.proofs.lemmas.List.{take_all}
 use Rattle.std.proofs.lemmas.List.{nil_from_length, drop_all, get_or_past}
 use Rattle.std.proofs.lemmas.List.Sums.{sum_by-cons}
 use Rattle.linked_pool.specs.Chains.{count, moved}
@@ -22,7 +24,8 @@ all-at [] i h = absurd (omega arith)
 all-at (c ∷ cs) zero h = omega arith
 all-at (c ∷ cs) (suc i) h = let m = all-at cs i (omega arith) in omega (arith, m)
 
-pub all-moved : (cs : List (List ℕ)) (a b n : ℕ) → a < length cs → b < length cs → a ≢ b → all_of (moved cs a b n) ≡ all_of cs
+pub all-moved : (cs : List (List ℕ)) (a b n : ℕ) → a < length cs → b < length cs → a ≢ b
+    → all_of (moved cs a b n) ≡ all_of cs
 all-moved cs a b n ha hb ne =
     let c : List ℕ = get_or cs a [] in
     let d : List ℕ = get_or cs b [] in
@@ -30,7 +33,8 @@ all-moved cs a b n ha hb ne =
     let long : b < length (set cs a (drop n c)) = rw (length-set cs a (drop n c)) hb in
     let second = all-set (set cs a (drop n c)) b (d ++ take n c) long in
     let kept : get_or (set cs a (drop n c)) b [] ≡ d = get_or-set_other cs a b (drop n c) [] (λ e. ne (sym e)) in
-    let third : all_of (moved cs a b n) + length d ≡ all_of (set cs a (drop n c)) + length (d ++ take n c) = rw kept at second in
+    let third : all_of (moved cs a b n) + length d ≡ all_of (set cs a (drop n c)) + length (d ++ take n c) =
+    rw kept at second in
     let joined = length-append d (take n c) in
     let parts : length (take n c) + length (drop n c) ≡ length c = sym (length-append (take n c) (drop n c))
     ∙ ap length (take-append-drop n c) in
@@ -70,7 +74,8 @@ length-joined chunks (c ∷ chain) w =
     ∙ omega (arith, w.at c here, length-joined chunks chain (whole_tail chunks c chain w))
 
 -- a block is as long as it says
-pub length-block : (chunks : List (List ℕ)) (lens chain : List ℕ) → Whole chunks chain → front_chunks lens chain ≤ length chain →
+pub length-block : (chunks : List (List ℕ)) (lens chain : List ℕ) → Whole chunks chain
+    → front_chunks lens chain ≤ length chain →
     length (take (get_or lens (get_or chain 0 0) 0) (joined chunks (take (front_chunks lens chain) chain)))
     ≡ get_or lens (get_or chain 0 0) 0
 length-block chunks lens chain w h =
@@ -83,7 +88,8 @@ pub chunks_of-cons : (block : List ℕ) (blocks : List (List ℕ)) → chunks_of
     + chunks_of blocks
 chunks_of-cons block blocks = sum_by-cons (λ (b : List ℕ). chunks_for (length b)) block blocks
 
-pub used_chunks-cons : (blocks : List (List ℕ)) (lists : List (List (List ℕ))) → used_chunks (blocks ∷ lists) ≡ chunks_of blocks
+pub used_chunks-cons : (blocks : List (List ℕ)) (lists : List (List (List ℕ)))
+    → used_chunks (blocks ∷ lists) ≡ chunks_of blocks
     + used_chunks lists
 used_chunks-cons blocks lists = sum_by-cons chunks_of blocks lists
 
@@ -97,7 +103,8 @@ chunks_of-blocks_of chunks lens (suc n) chain w e =
     let rest : uses lens n (drop k chain) ≡ length (drop k chain) = omega (arith, e, length-drop k chain) in
     let tail = chunks_of-blocks_of chunks lens n (drop k chain) (whole_drop chunks k chain w) rest in
     let block = length-block chunks lens chain w fits in
-    rw (chunks_of-cons _ (blocks_of chunks lens n (drop k chain)), block, tail) (omega (arith, fits, length-drop k chain))
+    rw (chunks_of-cons _ (blocks_of chunks lens n (drop k chain)), block, tail)
+    (omega (arith, fits, length-drop k chain))
 
 pub lists-set : (chunks : List (List ℕ)) (lens counts : List ℕ) (chains : List (List ℕ)) (i n : ℕ) (c : List ℕ)
     → length chains ≡ length counts →
@@ -106,7 +113,8 @@ pub lists-set : (chunks : List (List ℕ)) (lens counts : List ℕ) (chains : Li
 lists-set chunks lens [] chains i n c e = refl
 lists-set chunks lens (m ∷ counts) [] i n c e = absurd (omega arith)
 lists-set chunks lens (m ∷ counts) (d ∷ chains) zero n c e = refl
-lists-set chunks lens (m ∷ counts) (d ∷ chains) (suc i) n c e = ap (λ (xs : List (List (List ℕ))). blocks_of chunks lens m d ∷ xs)
+lists-set chunks lens (m ∷ counts) (d ∷ chains) (suc i) n c e = ap (λ (xs : List (List (List ℕ))). blocks_of
+    chunks lens m d ∷ xs)
     (lists-set chunks lens counts chains i n c (omega (arith, e)))
 
 pub get_or-lists_of : (chunks : List (List ℕ)) (lens counts : List ℕ) (chains : List (List ℕ)) (i : ℕ)
@@ -115,14 +123,17 @@ pub get_or-lists_of : (chunks : List (List ℕ)) (lens counts : List ℕ) (chain
 get_or-lists_of chunks lens [] chains i e h = absurd (omega arith)
 get_or-lists_of chunks lens (m ∷ counts) [] i e h = absurd (omega arith)
 get_or-lists_of chunks lens (m ∷ counts) (d ∷ chains) zero e h = refl
-get_or-lists_of chunks lens (m ∷ counts) (d ∷ chains) (suc i) e h = get_or-lists_of chunks lens counts chains i (omega (arith, e))
+get_or-lists_of chunks lens (m ∷ counts) (d ∷ chains) (suc i) e h = get_or-lists_of chunks lens counts
+    chains i (omega (arith, e))
     (omega arith)
 
-pub length-lists_of : (chunks : List (List ℕ)) (lens counts : List ℕ) (chains : List (List ℕ)) → length chains ≡ length counts
+pub length-lists_of : (chunks : List (List ℕ)) (lens counts : List ℕ) (chains : List (List ℕ))
+    → length chains ≡ length counts
     → length (lists_of chunks lens counts chains) ≡ length counts
 length-lists_of chunks lens [] chains e = refl
 length-lists_of chunks lens (m ∷ counts) [] e = absurd (omega arith)
-length-lists_of chunks lens (m ∷ counts) (d ∷ chains) e = ap suc (length-lists_of chunks lens counts chains (omega (arith, e)))
+length-lists_of chunks lens (m ∷ counts) (d ∷ chains) e = ap suc (length-lists_of chunks lens counts
+    chains (omega (arith, e)))
 
 -- the chains of the lists stand behind the free chain
 pub rest_at : (cs : List (List ℕ)) (i : ℕ) → get_or (drop 1 cs) i [] ≡ get_or cs (i + 1) []
@@ -147,7 +158,8 @@ whole_at chains chunks lens counts i p h =
 pub record Shrunk (chains chunks : List (List ℕ)) (lens counts : List ℕ) (i k m : ℕ) : Type 0 where
   pub pool : IsPool (moved chains (i + 1) 0 k) chunks lens (set counts i m)
   pub lists : lists_of chunks lens (set counts i m) (drop 1 (moved chains (i + 1) 0 k))
-      ≡ set (lists_of chunks lens counts (drop 1 chains)) i (blocks_of chunks lens m (drop k (get_or chains (i + 1) [])))
+      ≡ set (lists_of chunks lens counts (drop 1 chains)) i
+      (blocks_of chunks lens m (drop k (get_or chains (i + 1) [])))
   pub spare : length (get_or (moved chains (i + 1) 0 k) 0 []) ≡ length (get_or chains 0 []) + k
 
 -- the first chunks of a list's chain become free
@@ -174,17 +186,21 @@ shrunk chains chunks lens counts i k m p h le u =
     ≡ length (get_or chains' (j + 1) []) =
     λ j lt0. let lt : j < length counts = rw (length-set counts i m) at lt0 in
     let nz : j + 1 ≢ 0 = (λ e. omega (arith, e)) in
-    let a : get_or chains' (j + 1) [] ≡ get_or first (j + 1) [] = get_or-set_other first 0 (j + 1) (free ++ take k c) [] nz in
+    let a : get_or chains' (j + 1) [] ≡ get_or first (j + 1) [] = get_or-set_other first 0 (j + 1) (free ++ take k c)
+    [] nz in
     rw a
     (bool_cases (eqb j i)
     (λ e. let same : i ≡ j = sym (eqb-true j i e) in
     let x : get_or first (i + 1) [] ≡ drop k c = get_or-set_same chains (i + 1) (drop k c) [] hi in
     let y : get_or counts' i 0 ≡ m = get_or-set_same counts i m 0 h in
-    let here : uses lens (get_or counts' i 0) (get_or first (i + 1) []) ≡ length (get_or first (i + 1) []) = rw (x, y) u in
-    subst (λ (z : ℕ). uses lens (get_or counts' z 0) (get_or first (z + 1) []) ≡ length (get_or first (z + 1) [])) same here)
+    let here : uses lens (get_or counts' i 0) (get_or first (i + 1) []) ≡ length (get_or first (i + 1) []) =
+    rw (x, y) u in
+    subst (λ (z : ℕ). uses lens (get_or counts' z 0) (get_or first (z + 1) []) ≡ length (get_or first (z + 1) []))
+    same here)
     (λ e. let other : j ≢ i = eqb-false j i e in
     let nx : j + 1 ≢ i + 1 = (λ z. other (omega (arith, z))) in
-    let x : get_or first (j + 1) [] ≡ get_or chains (j + 1) [] = get_or-set_other chains (i + 1) (j + 1) (drop k c) [] nx in
+    let x : get_or first (j + 1) [] ≡ get_or chains (j + 1) [] = get_or-set_other chains (i + 1) (j + 1)
+    (drop k c) [] nx in
     let y : get_or counts' j 0 ≡ get_or counts j 0 = get_or-set_other counts i j m 0 other in
     rw (x, y) (p.used j lt))) in
     record {
@@ -200,7 +216,8 @@ shrunk chains chunks lens counts i k m p h le u =
       };
       lists = ap (lists_of chunks lens counts') (rest_set chains i (drop k c) (free ++ take k c))
           ∙ lists-set chunks lens counts (drop 1 chains) i m (drop k c) rests;
-      spare = ap length at_zero ∙ length-append free (take k c) ∙ ap (λ (n : ℕ). length free + n) (length-take-le k c le);
+      spare = ap length at_zero ∙ length-append free (take k c) ∙ ap (λ (n : ℕ). length free + n)
+          (length-take-le k c le);
     }
 
 -- a list is emptied
@@ -214,7 +231,8 @@ clear_shrinks chains chunks lens counts i p h =
 
 -- a list's place, and its chain's
 pub list_inside : (view : State) (chains chunks : List (List ℕ)) (lens counts : List ℕ) (i : ℕ)
-    → view ≡ view_of chains chunks lens counts → IsPool chains chunks lens counts → i < length view.lists → i < length counts
+    → view ≡ view_of chains chunks lens counts → IsPool chains chunks lens counts → i < length view.lists
+    → i < length counts
 list_inside view chains chunks lens counts i e p h =
     let a : i < length (lists_of chunks lens counts (drop 1 chains)) = rw e at h in
     let lists = p.lists in
@@ -230,17 +248,20 @@ list_is view chains chunks lens counts i e p h =
     ap (λ (v : State). list_at v i) e ∙ get_or-lists_of chunks lens counts (drop 1 chains) i rests h
     ∙ ap (blocks_of chunks lens (get_or counts i 0)) (rest_at chains i)
 
-pub length-blocks_of : (chunks : List (List ℕ)) (lens : List ℕ) (n : ℕ) (chain : List ℕ) → length (blocks_of chunks lens n chain)
+pub length-blocks_of : (chunks : List (List ℕ)) (lens : List ℕ) (n : ℕ) (chain : List ℕ)
+    → length (blocks_of chunks lens n chain)
     ≡ n
 length-blocks_of chunks lens zero chain = refl
-length-blocks_of chunks lens (suc n) chain = ap suc (length-blocks_of chunks lens n (drop (front_chunks lens chain) chain))
+length-blocks_of chunks lens (suc n) chain = ap suc (length-blocks_of chunks lens n
+    (drop (front_chunks lens chain) chain))
 
 pub count_is : (view : State) (chains chunks : List (List ℕ)) (lens counts : List ℕ) (i : ℕ)
     → view ≡ view_of chains chunks lens counts → IsPool chains chunks lens counts → i < length view.lists →
     get_or counts i 0 ≡ length (list_at view i)
 count_is view chains chunks lens counts i e p h =
     let inside = list_inside view chains chunks lens counts i e p h in
-    sym (ap length (list_is view chains chunks lens counts i e p inside) ∙ length-blocks_of chunks lens (get_or counts i 0)
+    sym (ap length (list_is view chains chunks lens counts i e p inside)
+    ∙ length-blocks_of chunks lens (get_or counts i 0)
     (get_or chains (i + 1) []))
 
 -- the view after the first chunks of a list became free
@@ -265,7 +286,8 @@ without_is view chains chunks chains' lens counts counts' i k m n e p h s ce ne 
 -- the first of some blocks
 pub record Front (chains chunks : List (List ℕ)) (lens counts : List ℕ) (i : ℕ) : Type 0 where
   pub fits : front_chunks lens (get_or chains (i + 1) []) ≤ length (get_or chains (i + 1) [])
-  pub rest : uses lens (get_or counts i 0 - 1) (drop (front_chunks lens (get_or chains (i + 1) [])) (get_or chains (i + 1) []))
+  pub rest : uses lens (get_or counts i 0 - 1) (drop (front_chunks lens (get_or chains (i + 1) []))
+      (get_or chains (i + 1) []))
       ≡ length (drop (front_chunks lens (get_or chains (i + 1) [])) (get_or chains (i + 1) []))
   pub blocks : blocks_of chunks lens (get_or counts i 0 - 1)
       (drop (front_chunks lens (get_or chains (i + 1) [])) (get_or chains (i + 1) []))
@@ -273,8 +295,10 @@ pub record Front (chains chunks : List (List ℕ)) (lens counts : List ℕ) (i :
   pub size : front_chunks lens (get_or chains (i + 1) [])
       ≡ chunks_of (take 1 (blocks_of chunks lens (get_or counts i 0) (get_or chains (i + 1) [])))
 
-front_of : (chunks : List (List ℕ)) (lens : List ℕ) (n : ℕ) (c : List ℕ) → Whole chunks c → 0 < n → uses lens n c ≡ length c →
-    (front_chunks lens c ≤ length c) × (uses lens (n - 1) (drop (front_chunks lens c) c) ≡ length (drop (front_chunks lens c) c))
+front_of : (chunks : List (List ℕ)) (lens : List ℕ) (n : ℕ) (c : List ℕ) → Whole chunks c → 0 < n
+    → uses lens n c ≡ length c →
+    (front_chunks lens c ≤ length c) × (uses lens (n - 1) (drop (front_chunks lens c) c) ≡ length
+    (drop (front_chunks lens c) c))
     × (blocks_of chunks lens (n - 1) (drop (front_chunks lens c) c) ≡ drop 1 (blocks_of chunks lens n c))
     × (front_chunks lens c ≡ chunks_of (take 1 (blocks_of chunks lens n c)))
 front_of chunks lens zero c w h u = absurd (omega arith)
@@ -286,12 +310,14 @@ front_of chunks lens (suc m) c w h u =
     let block = length-block chunks lens c w fits in
     (fits, rw less (omega (arith, u, gone)), rw less refl, sym (ap (λ (l : ℕ). 0 + chunks_for l) block ∙ omega arith))
 
-pub front : (chains chunks : List (List ℕ)) (lens counts : List ℕ) (i : ℕ) → IsPool chains chunks lens counts → i < length counts
+pub front : (chains chunks : List (List ℕ)) (lens counts : List ℕ) (i : ℕ) → IsPool chains chunks lens counts
+    → i < length counts
     → 0 < get_or counts i 0 → Front chains chunks lens counts i
 front chains chunks lens counts i p h some =
     let lists = p.lists in
     let hi : i + 1 < length chains = omega (arith, lists, h) in
-    let x = front_of chunks lens (get_or counts i 0) (get_or chains (i + 1) []) (whole_at chains chunks lens counts (i + 1) p hi)
+    let x = front_of chunks lens (get_or counts i 0) (get_or chains (i + 1) [])
+    (whole_at chains chunks lens counts (i + 1) p hi)
     some (p.used i h) in
     record { fits = x.0; rest = x.1; blocks = x.2; size = x.3 }
 
@@ -300,7 +326,8 @@ pub pop_shrinks : (chains chunks : List (List ℕ)) (lens counts : List ℕ) (i 
     Shrunk chains chunks lens counts i (front_chunks lens (get_or chains (i + 1) [])) (get_or counts i 0 - 1)
 pop_shrinks chains chunks lens counts i p h some =
     let f = front chains chunks lens counts i p h some in
-    shrunk chains chunks lens counts i (front_chunks lens (get_or chains (i + 1) [])) (get_or counts i 0 - 1) p h f.fits f.rest
+    shrunk chains chunks lens counts i (front_chunks lens (get_or chains (i + 1) [])) (get_or counts i 0 - 1)
+    p h f.fits f.rest
 
 -- a list without blocks
 pub empty_without : (view : State) (i : ℕ) → length (list_at view i) ≡ 0 → view ≡ popped view i
@@ -334,7 +361,8 @@ clear_law view chains chunks chains' lens counts i k e p h size moves =
     let is = list_is view chains chunks lens counts i e p inside in
     let none : [] ≡ drop (length bs) bs = sym (drop_all (length bs) bs (omega arith)) in
     let all : length c ≡ chunks_of (take (length bs) bs) =
-    sym (ap chunks_of (take_all (length bs) bs (omega arith) ∙ is) ∙ chunks_of-blocks_of chunks lens (get_or counts i 0) c
+    sym (ap chunks_of (take_all (length bs) bs (omega arith) ∙ is) ∙ chunks_of-blocks_of chunks lens
+    (get_or counts i 0) c
     (whole_at chains chunks lens counts (i + 1) p hi) (p.used i inside)) in (
       rw moves' s.pool,
       without_is view chains chunks chains' lens counts (set counts i 0) i (length c) 0
@@ -380,7 +408,8 @@ chunk_inside chains chunks lens counts i p h some =
     let here = first_in c has in
     let m = occurs-at (get_or c 0 0) chains (i + 1) hi in
     let same = p.lens_too in
-    bool_cases (ltb (get_or c 0 0) (length chunks)) (λ e. let lt = ltb-true (get_or c 0 0) (length chunks) e in rw same lt)
+    bool_cases (ltb (get_or c 0 0) (length chunks)) (λ e. let lt = ltb-true (get_or c 0 0) (length chunks)
+    e in rw same lt)
     (λ e. let none = p.within (get_or c 0 0) (ltb-false (get_or c 0 0) (length chunks) e) in
     absurd (omega (arith, m, none, here)))
 
@@ -418,7 +447,8 @@ all_parts : (cs : List (List ℕ)) → 0 < length cs → length (get_or cs 0 [])
 all_parts [] h = absurd (omega arith)
 all_parts (c ∷ cs) h = refl
 
-pub whole_law : (view : State) (chains chunks : List (List ℕ)) (lens counts : List ℕ) → view ≡ view_of chains chunks lens counts
+pub whole_law : (view : State) (chains chunks : List (List ℕ)) (lens counts : List ℕ)
+    → view ≡ view_of chains chunks lens counts
     → IsPool chains chunks lens counts → IsWhole view
 whole_law view chains chunks lens counts e p =
     let lists = p.lists in

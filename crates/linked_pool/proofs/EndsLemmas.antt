@@ -1,5 +1,6 @@
 -- The last chunk of each block.
-use Rattle.std.proofs.Common.{◌≡◌, ◌≢◌, ℕ, zero, suc, ◌+◌, ◌-◌, ◌<◌, ◌≤◌, eqb, ltb, List, [], ◌++◌, length, take, drop, get_or}
+use Rattle.std.proofs.Common.{◌≡◌, ◌≢◌, ℕ, zero, suc, ◌+◌, ◌-◌, ◌<◌, ◌≤◌, eqb, ltb, List, [], ◌++◌, length, take, drop}
+use Rattle.std.proofs.Common.{get_or}
 use Rattle.std.proofs.Common.{set, replicate, refl, ap, sym, ◌∙◌, subst, arith, length-append, length-set, length-drop}
 use Rattle.std.proofs.lemmas.Bool.{eqb-true, eqb-false, ltb-true, ltb-false}
 use Rattle.std.proofs.lemmas.List.{get_or-set_same, get_or-set_other, take-append-drop, length-take-le, nil_from_length}
@@ -37,7 +38,8 @@ ends_kept lens lens' lasts lasts' (suc n) chain g h u e =
     (λ c s. h c (let p = parts c in omega (arith, p, s))) rest e.1 in
     rw head (end ∙ e.0, tail)
 
-pub ends_append : (lens lasts : List ℕ) (n : ℕ) (chain more : List ℕ) → uses lens n chain ≡ length chain → Ends lens lasts n chain
+pub ends_append : (lens lasts : List ℕ) (n : ℕ) (chain more : List ℕ) → uses lens n chain ≡ length chain
+    → Ends lens lasts n chain
     → Ends lens lasts 1 more → Ends lens lasts (n + 1) (chain ++ more)
 ends_append lens lasts zero chain more u e m =
     let none : chain ≡ [] = nil_from_length chain (sym u) in
@@ -59,7 +61,8 @@ ends_append lens lasts (suc n) chain more u e m =
 -- the first chunks of a list's chain become free
 pub ends_shrunk : (chains : List (List ℕ)) (lens lasts counts : List ℕ) (i k m : ℕ) → AreEnds chains lens lasts counts
     → i + 1 < length chains → i < length counts
-    → Ends lens lasts m (drop k (get_or chains (i + 1) [])) → AreEnds (moved chains (i + 1) 0 k) lens lasts (set counts i m)
+    → Ends lens lasts m (drop k (get_or chains (i + 1) [])) → AreEnds (moved chains (i + 1) 0 k) lens
+    lasts (set counts i m)
 ends_shrunk chains lens lasts counts i k m all hi h e =
     let c : List ℕ = get_or chains (i + 1) [] in
     let free : List ℕ = get_or chains 0 [] in
@@ -80,7 +83,8 @@ ends_shrunk chains lens lasts counts i k m all hi h e =
           subst (λ (v : ℕ). Ends lens lasts (get_or (set counts i m) v 0) (get_or first (v + 1) [])) same here)
           (λ z. let other : j ≢ i = eqb-false j i z in
           let nx : j + 1 ≢ i + 1 = (λ v. other (omega (arith, v))) in
-          let x : get_or first (j + 1) [] ≡ get_or chains (j + 1) [] = get_or-set_other chains (i + 1) (j + 1) (drop k c) [] nx in
+          let x : get_or first (j + 1) [] ≡ get_or chains (j + 1) [] = get_or-set_other chains (i + 1)
+          (j + 1) (drop k c) [] nx in
           let y : get_or (set counts i m) j 0 ≡ get_or counts j 0 = get_or-set_other counts i j m 0 other in
           rw (x, y) (all.each j lt)));
     }
@@ -105,7 +109,8 @@ ends_cleared chains chunks chains' lens lasts counts i k p all h moves =
 -- a block at the end of a list
 pub ends_appended : (chains chunks chains' : List (List ℕ)) (lens lasts counts : List ℕ) (i k n first last len : ℕ)
     → IsPool chains chunks lens counts → AreEnds chains lens lasts counts → i < length counts
-    → k ≡ chunks_for len → k ≤ length (get_or chains 0 []) → first ≡ get_or (get_or chains 0 []) 0 0 → n ≡ get_or counts i 0 + 1
+    → k ≡ chunks_for len → k ≤ length (get_or chains 0 []) → first ≡ get_or (get_or chains 0 []) 0 0
+    → n ≡ get_or counts i 0 + 1
     → chains' ≡ moved chains 0 (i + 1) k
     → last ≡ get_or (get_or chains' (i + 1) []) (length (get_or chains' (i + 1) []) - 1) 0
     → AreEnds chains' (set lens first len) (set lasts first last) (set counts i n)
@@ -122,7 +127,8 @@ ends_appended chains chunks chains' lens lasts counts i k n first last len p all
     let long_a : length a ≡ k = length-take-le k free enough in
     let head_a : get_or a 0 0 ≡ first = (let t = get_or_append_left a (drop k free) 0 0 (omega (arith, long_a, some)) in
     sym t ∙ ap (λ (xs : List ℕ). get_or xs 0 0) (take-append-drop k free) ∙ sym at) in
-    let first_a : 0 < count first a = subst (λ (x : ℕ). 0 < count x a) head_a (in_chain a 0 (omega (arith, long_a, some))) in
+    let first_a : 0 < count first a = subst (λ (x : ℕ). 0 < count x a) head_a
+    (in_chain a 0 (omega (arith, long_a, some))) in
     let parts : (x : ℕ) → count x a + count x (drop k free) ≡ count x free = λ x. sym (count-append x a (drop k free))
     ∙ ap (count x) (take-append-drop k free) in
     let apart : (j x : ℕ) → j < length counts → 0 < count x (get_or chains (j + 1) []) → x ≢ first =
@@ -171,13 +177,15 @@ ends_appended chains chunks chains' lens lasts counts i k n first last len p all
           let y : get_or (set counts i n) i 0 ≡ get_or counts i 0 + 1 = get_or-set_same counts i n 0 h ∙ more in
           let here : Ends lens' lasts' (get_or (set counts i n) i 0) (get_or (moved chains 0 (i + 1) k) (i + 1) []) =
           rw (next, y) joined in
-          subst (λ (v : ℕ). Ends lens' lasts' (get_or (set counts i n) v 0) (get_or (moved chains 0 (i + 1) k) (v + 1) [])) same
+          subst (λ (v : ℕ). Ends lens' lasts' (get_or (set counts i n) v 0)
+          (get_or (moved chains 0 (i + 1) k) (v + 1) [])) same
           here)
           (λ z. let other : j ≢ i = eqb-false j i z in
           let nx : j + 1 ≢ i + 1 = (λ v. other (omega (arith, v))) in
           let nz : j + 1 ≢ 0 = (λ v. omega (arith, v)) in
           let x : get_or (moved chains 0 (i + 1) k) (j + 1) [] ≡ get_or chains (j + 1) [] =
-          get_or-set_other first_set (i + 1) (j + 1) (c ++ a) [] nx ∙ get_or-set_other chains 0 (j + 1) (drop k free) [] nz in
+          get_or-set_other first_set (i + 1) (j + 1) (c ++ a) [] nx ∙ get_or-set_other chains 0 (j + 1)
+          (drop k free) [] nz in
           let y : get_or (set counts i n) j 0 ≡ get_or counts j 0 = get_or-set_other counts i j n 0 other in
           rw (x, y) (kept j lt));
     })
@@ -189,7 +197,8 @@ ends_blank chains lens lasts counts n lists a b c =
     rw (a, b, c) (record { lasts_too = refl; each = λ i lt. rw (zero_at lists i) tt })
 
 -- the chain that grew
-pub moved_place : (chains chains' : List (List ℕ)) (i k : ℕ) → chains' ≡ moved chains 0 (i + 1) k → i + 1 < length chains → 0 < k
+pub moved_place : (chains chains' : List (List ℕ)) (i k : ℕ) → chains' ≡ moved chains 0 (i + 1) k
+    → i + 1 < length chains → 0 < k
     → k ≤ length (get_or chains 0 [])
     → (i + 1 < length chains') × (0 < length (get_or chains' (i + 1) []))
 moved_place chains chains' i k moves hi some enough =

@@ -1,7 +1,10 @@
 -- One more chunk has a piece of the block.
-use Rattle.std.proofs.Common.{◌≡◌, ◌≢◌, ℕ, zero, suc, ◌+◌, ◌-◌, ◌*◌, ◌/◌, ◌%◌, ◌<◌, ◌≤◌, min, Bool, List, [], ◌∷◌, ◌++◌, length, take, drop}
-use Rattle.std.proofs.Common.{get_or, set, refl, ap, sym, ◌∙◌, subst, arith, length-append, length-set, append_assoc, length-drop}
-use Rattle.std.proofs.lemmas.List.{get_or-set_same, get_or-set_other, take-append-drop, length-take, length-take-le, take_all}
+use Rattle.std.proofs.Common.{◌≡◌, ◌≢◌, ℕ, zero, suc, ◌+◌, ◌-◌, ◌*◌, ◌/◌, ◌%◌, ◌<◌, ◌≤◌, min, Bool, List, [], ◌∷◌, ◌++◌}
+use Rattle.std.proofs.Common.{length, take, drop}
+use Rattle.std.proofs.Common.{get_or, set, refl, ap, sym, ◌∙◌, subst, arith, length-append, length-set, append_assoc}
+use Rattle.std.proofs.Common.{length-drop}
+use Rattle.std.proofs.lemmas.List.{get_or-set_same, get_or-set_other, take-append-drop, length-take, length-take-le}
+use Rattle.std.proofs.lemmas.List.{take_all}
 use Rattle.std.proofs.lemmas.List.{take_at, take_more, drop_at, take_min, take-append-le}
 use Rattle.terms.specs.Bits.{bytes_of, bytes_for, byte_at, number_of, part}
 use Rattle.terms.proofs.BitLemmas.{part-part, get_or-part, length-part, byte_at-whole, bytes_of_fields, length-bytes_of}
@@ -23,7 +26,8 @@ take_add (suc n) (suc m) [] = let e : suc n + suc m ≡ suc (n + suc m) = omega 
 take_add (suc n) m (x ∷ xs) = let e : suc n + m ≡ suc (n + m) = omega arith in
     rw e (ap (λ (ys : List ℕ). x ∷ ys) (take_add n m xs))
 
-joined-append : (chunks : List (List ℕ)) (xs ys : List ℕ) → joined chunks (xs ++ ys) ≡ joined chunks xs ++ joined chunks ys
+joined-append : (chunks : List (List ℕ)) (xs ys : List ℕ) → joined chunks (xs ++ ys) ≡ joined chunks xs
+    ++ joined chunks ys
 joined-append chunks [] ys = refl
 joined-append chunks (x ∷ xs) ys =
     rw (joined-append chunks xs ys) (sym (append_assoc (get_or chunks x []) (joined chunks xs) (joined chunks ys)))
@@ -46,7 +50,8 @@ in_chain (x ∷ chain) zero h = let e = count_one x chain in omega (arith, e)
 in_chain (x ∷ chain) (suc i) h = let k = in_chain chain i (omega arith) in omega (arith, k)
 
 whole_set : (new : List (List ℕ)) (x : ℕ) (v : List ℕ) (c : ℕ) → x < length new → length v ≡ 256
-    → ((c : ℕ) → c < length new → length (get_or new c []) ≡ 256) → c < length new → length (get_or (set new x v) c []) ≡ 256
+    → ((c : ℕ) → c < length new → length (get_or new c []) ≡ 256) → c < length new
+    → length (get_or (set new x v) c []) ≡ 256
 whole_set new x v c inside size w lt =
     bool_cases (eqb c x)
     (λ e. let same : x ≡ c = sym (eqb-true c x e) in
@@ -67,7 +72,10 @@ fills_more chain block i old new piece rest h apart there fits is size f =
     let more : take (i + 1) chain ≡ take i chain ++ x ∷ [] = take_more chain i 0 h in
     let parts : (c : ℕ) → count c (take i chain) + count c (drop i chain) ≡ count c chain =
     λ c. sym (count-append c (take i chain) (drop i chain)) ∙ ap (count c) (take-append-drop i chain) in
-    let whole : Whole new (take i chain) = record { at = λ c s. f.whole c (there c (let e = parts c in omega (arith, e, s))) } in
+    let whole : Whole new (take i chain) = record {
+      at = λ c s. f.whole c
+          (there c (let e = parts c in omega (arith, e, s)));
+    } in
     let front : joined new' (take i chain) ≡ joined new (take i chain) =
     joined_kept new new' (take i chain)
     (λ c s. get_or-set_other new x c v [] (λ z. let t : 0 < count x (take i chain) =
@@ -82,7 +90,8 @@ fills_more chain block i old new piece rest h apart there fits is size f =
     let all : joined new' (take (i + 1) chain) ≡ done ++ (v ++ []) = ap (joined new') more
     ∙ joined-append new' (take i chain) (x ∷ []) ∙ rw (front, back, exact) refl in
     let e : 256 * (i + 1) ≡ 256 * i + 256 = omega arith in
-    let goal : take (256 * (i + 1)) block ≡ done ++ piece = ap (λ (n : ℕ). take n block) e ∙ take_add (256 * i) 256 block
+    let goal : take (256 * (i + 1)) block ≡ done ++ piece = ap (λ (n : ℕ). take n block) e
+    ∙ take_add (256 * i) 256 block
     ∙ ap (λ (ys : List ℕ). done ++ ys) (sym is) in
     let split : done ++ (v ++ []) ≡ (done ++ piece) ++ (rest ++ []) =
     ap (λ (ys : List ℕ). done ++ ys) (append_assoc piece rest []) ∙ sym (append_assoc done piece (rest ++ [])) in
@@ -95,7 +104,8 @@ fills_more chain block i old new piece rest h apart there fits is size f =
           subst (λ (y : ℕ). count y (take (i + 1) chain) ≡ 0) z none in let sum' =
           ap (count x) more ∙ count-append x (take i chain) (x ∷ []) in omega (arith, t, sum', one)) in
           get_or-set_other new x c v [] nx ∙ f.kept c (omega (arith, none, sum));
-      whole = λ c lt0. let lt : c < length new = rw (length-set new x v) at lt0 in whole_set new x v c inside size f.whole lt;
+      whole = λ c lt0. let lt : c < length new = rw (length-set new x v) at lt0 in whole_set new x v
+          c inside size f.whole lt;
     }
 
 pub piece_law : (block : List ℕ) (i end : ℕ) → 256 * i ≤ length block → end ≡ min (length block) (256 * i + 256)
@@ -115,7 +125,8 @@ bytes_of-part bits from count inside =
     let all = length-bytes_of bits in
     let size = length-part (bytes_of bits) from count (omega (arith, all, inside)) in
     let long = length-part bits (8 * from) (8 * count) (omega (arith, inside)) in
-    sym (bytes_of_fields (part bits (8 * from) (8 * count)) (take count (drop from (bytes_of bits))) (omega (arith, size, long))
+    sym (bytes_of_fields (part bits (8 * from) (8 * count)) (take count (drop from (bytes_of bits)))
+    (omega (arith, size, long))
     (λ k lt.
     let there : k < count = omega (arith, lt, size) in
     let e : 8 * (from + k) ≡ 8 * from + 8 * k = omega arith in
@@ -128,7 +139,8 @@ bytes_of-part bits from count inside =
 
 -- so are the bits of a piece
 pub piece_of_bits : (bits : List Bool) (i end : ℕ) → length bits % 8 ≡ 0 → 256 * i ≤ length (bytes_of bits)
-    → end ≡ min (length bits) (2048 * i + 2048) → bytes_of (part bits (2048 * i) (end - 2048 * i)) ≡ piece_of (bytes_of bits) i
+    → end ≡ min (length bits) (2048 * i + 2048) → bytes_of (part bits (2048 * i) (end - 2048 * i)) ≡ piece_of
+    (bytes_of bits) i
 piece_of_bits bits i end whole there e =
     let all = length-bytes_of bits in
     let count : ℕ = (end - 2048 * i) / 8 in
@@ -144,7 +156,8 @@ piece_of_bits bits i end whole there e =
 pub length-piece : (block : List ℕ) (i : ℕ) → length (piece_of block i) ≤ 256
 length-piece block i = let e = length-take 256 (drop (256 * i) block) in omega (arith, e)
 
-pub there_in : (cs : List (List ℕ)) (i n : ℕ) → ((c : ℕ) → 0 < occurs c cs → c < n) → 0 < length cs → i < length (get_or cs 0 [])
+pub there_in : (cs : List (List ℕ)) (i n : ℕ) → ((c : ℕ) → 0 < occurs c cs → c < n) → 0 < length cs
+    → i < length (get_or cs 0 [])
     → get_or (get_or cs 0 []) i 0 < n
 there_in cs i n there some h =
     let x : ℕ = get_or (get_or cs 0 []) i 0 in
@@ -155,12 +168,14 @@ there_in cs i n there some h =
 -- the step of the loop
 pub fills_step : (cs : List (List ℕ)) (block : List ℕ) (i chunk : ℕ) (old new : List (List ℕ)) (piece was put : List ℕ)
     → ((c : ℕ) → 0 < occurs c cs → c < length new) → ((c : ℕ) → occurs c cs ≤ 1) → 0 < length cs →
-    i < length (get_or cs 0 []) → 256 * i ≤ length block → chunk ≡ get_or (get_or cs 0 []) i 0 → piece ≡ piece_of block i
+    i < length (get_or cs 0 []) → 256 * i ≤ length block → chunk ≡ get_or (get_or cs 0 []) i 0
+    → piece ≡ piece_of block i
     → was ≡ get_or new chunk [] → put ≡ piece ++ drop (length piece) was →
     Fills (get_or cs 0 []) block i old new → Fills (get_or cs 0 []) block (i + 1) old (set new chunk put)
 fills_step cs block i chunk old new piece was put there apart some h fits at is same e f =
     let chain : List ℕ = get_or cs 0 [] in
-    let one : (c : ℕ) → count c chain ≤ 1 = λ c. (let m = occurs-at c cs 0 some in let a = apart c in omega (arith, m, a)) in
+    let one : (c : ℕ) → count c chain ≤ 1 = λ c. (let m = occurs-at c cs 0 some in let a = apart c in
+    omega (arith, m, a)) in
     let in_new : (c : ℕ) → 0 < count c chain → c < length new =
     λ c s. there c (let m = occurs-at c cs 0 some in omega (arith, m, s)) in
     let inside : chunk < length new = rw at (in_new (get_or chain i 0) (in_chain chain i h)) in
@@ -171,22 +186,35 @@ fills_step cs block i chunk old new piece was put there apart some h fits at is 
     rw (e, at) (fills_more chain block i old new piece (drop (length piece) was) h one in_new fits is size f)
 
 -- the code's append
-pub append_done : (view : State) (chains chunks chunks' chunks'' chains' : List (List ℕ)) (lens counts : List ℕ) (i k n first len : ℕ)
-    (block : List ℕ) → view ≡ view_of chains chunks lens counts → IsPool chains chunks lens counts → i < length view.lists →
-    len ≡ length block → k ≡ chunks_for len → k ≤ length (get_or chains 0 []) → length chunks' ≡ length chunks → chunks'' ≡ chunks'
+pub append_done : (view : State) (chains chunks chunks' chunks'' chains' : List (List ℕ)) (lens counts : List ℕ)
+    (i k n first len : ℕ)
+    (block : List ℕ) → view ≡ view_of chains chunks lens counts → IsPool chains chunks lens counts
+    → i < length view.lists →
+    len ≡ length block → k ≡ chunks_for len → k ≤ length (get_or chains 0 []) → length chunks' ≡ length chunks
+    → chunks'' ≡ chunks'
     → Fills (get_or chains 0 []) block k chunks chunks' →
     first ≡ get_or (get_or chains 0 []) 0 0 → n ≡ get_or counts i 0 + 1 → chains' ≡ moved chains 0 (i + 1) k →
     IsPool chains' chunks'' (set lens first len) (set counts i n)
     × (view_of chains' chunks'' (set lens first len) (set counts i n) ≡ appended view i block)
-append_done view chains chunks chunks' chunks'' chains' lens counts i k n first len block e p h is few enough same copied f at more
+append_done view chains chunks chunks' chunks'' chains' lens counts i k n first len block e p h is few
+    enough same copied f at more
     moves =
     let size : k ≡ chunks_for (length block) = few ∙ ap chunks_for is in
     let whole : take (256 * k) block ≡ block = take_all (256 * k) block (omega (arith, size)) in
     let bytes : take (length block) (joined chunks' (take k (get_or chains 0 []))) ≡ block = rw whole at f.bytes in
     rw (copied, at, is)
-    (append_law view chains chunks chunks' chains' lens (set lens (get_or (get_or chains 0 []) 0 0) (length block)) counts i k
+    (append_law view chains chunks chunks' chains' lens (set lens (get_or (get_or chains 0 []) 0 0) (length block))
+    counts i k
     n block e p h
-    (record { size = size; enough = enough; same = same; kept = f.kept; bytes = bytes; whole = f.whole; lens_is = refl }) more
+    (record {
+      size = size;
+      enough = enough;
+      same = same;
+      kept = f.kept;
+      bytes = bytes;
+      whole = f.whole;
+      lens_is = refl;
+    }) more
     moves)
 
 pub first_free : (chains chunks : List (List ℕ)) (lens counts : List ℕ) (first : ℕ) → IsPool chains chunks lens counts
@@ -212,7 +240,8 @@ length-ref chains chunks i offset first len r =
     sym (length-take-le len (joined chunks (take (chunks_for len) chain)) (omega (arith, part, size)))
 
 -- the bytes from an offset on
-pub joined_take : (chunks : List (List ℕ)) (chain : List ℕ) (k n : ℕ) → Whole chunks chain → k ≤ length chain → n ≤ 256 * k
+pub joined_take : (chunks : List (List ℕ)) (chain : List ℕ) (k n : ℕ) → Whole chunks chain → k ≤ length chain
+    → n ≤ 256 * k
     → take n (joined chunks (take k chain)) ≡ take n (joined chunks chain)
 joined_take chunks chain k n w le few =
     let whole = length-joined chunks (take k chain) (whole_take chunks k chain w) in
@@ -223,7 +252,8 @@ joined_take chunks chain k n w le few =
     sym (ap (take n) split ∙ take-append-le n (joined chunks (take k chain)) (joined chunks (drop k chain)) long)
 
 pub pieces_is : (chains chunks : List (List ℕ)) (i offset first len : ℕ) → IsRef chains chunks i offset first len →
-    IsRest chains chunks i offset first len × (rest_bytes chains chunks i offset len ≡ ref_bytes chains chunks i offset len)
+    IsRest chains chunks i offset first len × (rest_bytes chains chunks i offset len ≡ ref_bytes chains
+    chunks i offset len)
 pieces_is chains chunks i offset first len r =
     let chain : List ℕ = drop offset (get_or chains i []) in
     let all : Whole chunks (get_or chains i []) =
@@ -238,7 +268,8 @@ pieces_is chains chunks i offset first len r =
         whole = r.whole;
         few = r.few;
       },
-      sym (joined_take chunks chain (chunks_for len) len (whole_drop chunks offset (get_or chains i []) all) r.enough fits),
+      sym (joined_take chunks chain (chunks_for len) len (whole_drop chunks offset (get_or chains i []) all)
+          r.enough fits),
     )
 
 -- What lending a piece does.
@@ -255,11 +286,14 @@ split_first chunks x rest left count size is =
     let sum : left ≡ count + (left - count) = omega (arith, is) in
     let first : take count (joined chunks (x ∷ rest)) ≡ take count (get_or chunks x []) =
     take-append-le count (get_or chunks x []) (joined chunks rest) (omega (arith, is, size)) in
-    let second : take (left - count) (drop count (joined chunks (x ∷ rest))) ≡ take (left - count) (joined chunks rest) =
+    let second : take (left - count) (drop count (joined chunks (x ∷ rest))) ≡ take (left - count)
+    (joined chunks rest) =
     bool_cases (ltb left 256)
     (λ e. let lt = ltb-true left 256 e in let none : left - count ≡ 0 = omega (arith, lt, is) in rw none refl)
-    (λ e. let ge = ltb-false left 256 e in let all : count ≡ length (get_or chunks x []) = omega (arith, ge, is, size) in
-    ap (take (left - count)) (rw all (drop_at (get_or chunks x []) (joined chunks rest) (length (get_or chunks x [])) refl))) in
+    (λ e. let ge = ltb-false left 256 e in let all : count ≡ length (get_or chunks x []) = omega
+    (arith, ge, is, size) in
+    ap (take (left - count)) (rw all (drop_at (get_or chunks x []) (joined chunks rest) (length (get_or chunks x []))
+    refl))) in
     ap (λ (n : ℕ). take n (joined chunks (x ∷ rest))) sum ∙ take_add count (left - count) (joined chunks (x ∷ rest))
     ∙ rw (first, second) refl
 
@@ -270,7 +304,8 @@ drop_first (x ∷ chain) zero h = refl
 drop_first (x ∷ chain) (suc offset) h = let e : suc offset + 1 ≡ suc (offset + 1) = omega arith in
     rw e (drop_first chain offset (omega arith))
 
-pub lends : (chains chunks : List (List ℕ)) (i offset chunk left count : ℕ) → IsRest chains chunks i offset chunk left → 0 < left
+pub lends : (chains chunks : List (List ℕ)) (i offset chunk left count : ℕ) → IsRest chains chunks i offset chunk left
+    → 0 < left
     → count ≡ min left 256 →
     Lends chains chunks i offset chunk left (take count (get_or chunks chunk [])) count
 lends chains chunks i offset chunk left count r some is =

@@ -1,5 +1,6 @@
 -- The blocks of a frame have their chunks.
-use Rattle.std.proofs.Common.{◌≡◌, ℕ, zero, suc, ◌+◌, ◌*◌, ◌/◌, ◌<◌, ◌≤◌, List, [], ◌∷◌, ◌++◌, length, get_or, set, arith}
+use Rattle.std.proofs.Common.{◌≡◌, ℕ, zero, suc, ◌+◌, ◌*◌, ◌/◌, ◌<◌, ◌≤◌, List, [], ◌∷◌, ◌++◌, length, get_or, set}
+use Rattle.std.proofs.Common.{arith}
 use Rattle.std.specs.Prelude.{All}
 use Rattle.std.specs.List.{sum_by}
 use Rattle.std.proofs.lemmas.Nat.{le-div}
@@ -17,7 +18,8 @@ use Rattle.linked_pool.specs.Laws.{PlanFits, NextFits}
 use Rattle.linked_pool.proofs.BlockLemmas.{chunks_of-cons, used_chunks-cons}
 
 -- the chunks of so many short blocks
-chunks_within : (n : ℕ) (bs : List (List ℕ)) → All (λ (x : List ℕ). length x ≤ n) bs → chunks_of bs ≤ length bs * chunks_for n
+chunks_within : (n : ℕ) (bs : List (List ℕ)) → All (λ (x : List ℕ). length x ≤ n) bs
+    → chunks_of bs ≤ length bs * chunks_for n
 chunks_within n [] h = omega arith
 chunks_within n (b ∷ bs) h =
     let here : length b ≤ n = h 0 [] (omega arith) in
@@ -51,7 +53,8 @@ cells_within blocks cells =
     omega (arith, h)
 
 -- 2,025 cells for each of them are no more than the cells of the blocks
-sum_within : (plps : List Plp) → 2025 * sum_of plps ≤ sum_by (λ plp. plp.blocks * cells_per_block plp.fec plp.modulation) plps
+sum_within : (plps : List Plp) → 2025 * sum_of plps ≤ sum_by (λ plp. plp.blocks * cells_per_block plp.fec
+    plp.modulation) plps
 sum_within [] = omega arith
 sum_within (p ∷ plps) =
     let here = cells_within p.blocks (cells_per_block p.fec p.modulation) in
@@ -73,7 +76,8 @@ chunks_of_list fields chunks c plp blocks h =
     let most = chunks_within (block_bytes c plp) blocks h.short in
     let one = chunks_of_block fields chunks c plp in
     let n : ℕ = cells_per_block (plp_at c.plps plp).fec (plp_at c.plps plp).modulation / 2025 in
-    let few : length blocks * chunks_for (block_bytes c plp) ≤ (plp_at c.plps plp).blocks * chunks_for (block_bytes c plp) =
+    let few : length blocks * chunks_for (block_bytes c plp) ≤ (plp_at c.plps plp).blocks * chunks_for
+    (block_bytes c plp) =
     mul-le-mul_right (chunks_for (block_bytes c plp)) h.few in
     let each : (plp_at c.plps plp).blocks * chunks_for (block_bytes c plp) ≤ (plp_at c.plps plp).blocks * (7 * n) =
     mul-le-mul_left (plp_at c.plps plp).blocks one in

@@ -1,13 +1,17 @@
 -- What a move of chunks does to the chains.
-use Rattle.std.proofs.Common.{◌≡◌, ◌≢◌, ℕ, suc, ◌+◌, ◌-◌, ◌<◌, ◌≤◌, eqb, List, [], ◌++◌, length, take, drop, get_or, set, refl}
+use Rattle.std.proofs.Common.{◌≡◌, ◌≢◌, ℕ, suc, ◌+◌, ◌-◌, ◌<◌, ◌≤◌, eqb, List, [], ◌++◌, length, take, drop, get_or}
+use Rattle.std.proofs.Common.{set, refl}
 use Rattle.std.proofs.Common.{ap, sym, ◌∙◌, subst, arith, length-set}
 use Rattle.std.proofs.lemmas.Bool.{eqb-true, eqb-false}
 use Rattle.std.proofs.lemmas.List.{get_or-set_same, get_or-set_other, take_at, drop_at}
 use Rattle.linked_pool.specs.Chains.{walk, last_on, chains_of, count, occurs, total, IsSound, moved, Moves}
 use Rattle.terms.proofs.CaseLemmas.{bool_cases}
-use Rattle.linked_pool.proofs.WalkLemmas.{length-walk, walk_split, last_on_more, last_on_split, count-append, count_one, walk-set}
-use Rattle.linked_pool.proofs.WalkLemmas.{walk-set_all, last_on-set, passed, get_or-chains_of, length-chains_of, chains-set}
-use Rattle.linked_pool.proofs.WalkLemmas.{occurs-at, occurs-two, total-set, occurs-moved, count_prefix, count_suffix, chains_kept}
+use Rattle.linked_pool.proofs.WalkLemmas.{length-walk, walk_split, last_on_more, last_on_split, count-append, count_one}
+use Rattle.linked_pool.proofs.WalkLemmas.{walk-set}
+use Rattle.linked_pool.proofs.WalkLemmas.{walk-set_all, last_on-set, passed, get_or-chains_of, length-chains_of}
+use Rattle.linked_pool.proofs.WalkLemmas.{chains-set}
+use Rattle.linked_pool.proofs.WalkLemmas.{occurs-at, occurs-two, total-set, occurs-moved, count_prefix, count_suffix}
+use Rattle.linked_pool.proofs.WalkLemmas.{chains_kept}
 
 -- the chain of a list
 pub chain_at : (next heads tails sizes : List ℕ) (i : ℕ) → IsSound next heads tails sizes → i < length sizes →
@@ -23,7 +27,8 @@ count_at next heads tails sizes x i s h =
 
 pub count_two : (next heads tails sizes : List ℕ) (x i j : ℕ) → IsSound next heads tails sizes → i < length sizes
     → j < length sizes → i ≢ j →
-    count x (walk next (get_or sizes i 0) (get_or heads i 0)) + count x (walk next (get_or sizes j 0) (get_or heads j 0))
+    count x (walk next (get_or sizes i 0) (get_or heads i 0)) + count x (walk next (get_or sizes j 0)
+    (get_or heads j 0))
     ≤ occurs x (chains_of next heads sizes)
 count_two next heads tails sizes x i j s h k ne =
     let e = length-chains_of next heads sizes s.heads_too in
@@ -39,14 +44,16 @@ in_range next heads tails sizes i n s h k =
     let some = passed next (get_or sizes i 0) n (get_or heads i 0) k in
     let most = count_at next heads tails sizes x i s h in
     bool_cases (eqb (length next - x) 0)
-    (λ e. let out : length next ≤ x = (let z = eqb-true (length next - x) 0 e in omega (arith, z)) in let none = s.within x out in
+    (λ e. let out : length next ≤ x = (let z = eqb-true (length next - x) 0 e in omega (arith, z)) in
+    let none = s.within x out in
     absurd (omega (arith, some, most, none)))
     (λ e. let z = eqb-false (length next - x) 0 e in omega (arith, z))
 
 -- a chain's last chunk is passed by no walk before its end
 pub end_inner : (next heads tails sizes : List ℕ) (b i : ℕ) → IsSound next heads tails sizes → b < length sizes
     → 0 < get_or sizes b 0 → i < length sizes →
-    count (last_on next (get_or sizes b 0 - 1) (get_or heads b 0)) (walk next (get_or sizes i 0 - 1) (get_or heads i 0)) ≡ 0
+    count (last_on next (get_or sizes b 0 - 1) (get_or heads b 0)) (walk next (get_or sizes i 0 - 1) (get_or heads i 0))
+    ≡ 0
 end_inner next heads tails sizes b i s hb some hi =
     let sb = get_or sizes b 0 in
     let h = get_or heads b 0 in
@@ -86,8 +93,10 @@ pub record Linked (next heads sizes next' : List ℕ) (a b k first rest last fro
   pub len : length next' ≡ length next
   pub kept : chains_of next' heads sizes ≡ chains_of next heads sizes
   pub behind : walk next' (get_or sizes a 0 - k) rest ≡ walk next (get_or sizes a 0 - k) rest
-  pub joined : walk next' (get_or sizes b 0 + k) front ≡ walk next (get_or sizes b 0) (get_or heads b 0) ++ walk next k first
-  pub ends : (i : ℕ) → i < length sizes → i ≢ b → 0 < get_or sizes i 0 → last_on next' (get_or sizes i 0 - 1) (get_or heads i 0)
+  pub joined : walk next' (get_or sizes b 0 + k) front ≡ walk next (get_or sizes b 0) (get_or heads b 0)
+      ++ walk next k first
+  pub ends : (i : ℕ) → i < length sizes → i ≢ b → 0 < get_or sizes i 0
+      → last_on next' (get_or sizes i 0 - 1) (get_or heads i 0)
       ≡ last_on next (get_or sizes i 0 - 1) (get_or heads i 0)
   pub joined_end : last_on next' (get_or sizes b 0 + k - 1) front ≡ last
   pub behind_end : 0 < get_or sizes a 0 - k → last_on next' (get_or sizes a 0 - k - 1) rest
@@ -110,7 +119,8 @@ linked_chains next heads tails sizes next' a b k rest last front s ha hb enough 
     let split : ca ≡ walk next k (get_or heads a 0) ++ walk next (sa - k) rest =
     rw r (ap (λ (n : ℕ). walk next n (get_or heads a 0)) (sym whole) ∙ walk_split next k (sa - k) (get_or heads a 0)) in
     let len = length-walk next k (get_or heads a 0) in
-    let front_part : take k ca ≡ walk next k (get_or heads a 0) = ap (take k) split ∙ take_at (walk next k (get_or heads a 0))
+    let front_part : take k ca ≡ walk next k (get_or heads a 0) = ap (take k) split
+    ∙ take_at (walk next k (get_or heads a 0))
     (walk next (sa - k) rest) k len in
     let back_part : drop k ca ≡ walk next (sa - k) rest = ap (drop k) split ∙ drop_at (walk next k (get_or heads a 0))
     (walk next (sa - k) rest) k len in
@@ -143,7 +153,8 @@ linked_empty next heads tails sizes a b k rest last none some e =
     }
 
 -- else its last chunk names the first of them
-pub linked_full : (next heads tails sizes : List ℕ) (a b k rest last t : ℕ) → IsSound next heads tails sizes → a < length sizes
+pub linked_full : (next heads tails sizes : List ℕ) (a b k rest last t : ℕ) → IsSound next heads tails sizes
+    → a < length sizes
     → b < length sizes → a ≢ b →
     0 < get_or sizes b 0 → 0 < k → k ≤ get_or sizes a 0 → rest ≡ last_on next k (get_or heads a 0)
     → last ≡ last_on next (k - 1) (get_or heads a 0) →
@@ -205,7 +216,8 @@ linked_sound next heads tails sizes next' a b k rest last front s ha hb ne some 
     let back : b ≢ a = λ e. ne (sym e) in
     let other : get_or sizes1 b 0 ≡ sb = get_or-set_other sizes a b (sa - k) 0 back in
     let sum1 = total-set sizes a (sa - k) ha in
-    let sum2 : total (new_sizes sizes a b k) + sb ≡ total sizes1 + (sb + k) = rw other at (total-set sizes1 b (sb + k) hb1) in
+    let sum2 : total (new_sizes sizes a b k) + sb ≡ total sizes1 + (sb + k) = rw other at
+    (total-set sizes1 b (sb + k) hb1) in
     let cs = length-chains_of next heads sizes s.heads_too in
     let occ : (x : ℕ) → occurs x (chains_of next' (new_heads heads a b rest front) (new_sizes sizes a b k))
     ≡ occurs x (chains_of next heads sizes) =
@@ -228,7 +240,8 @@ linked_sound next heads tails sizes next' a b k rest last front s ha hb ne some 
     (get_or (new_heads heads a b rest front) j 0)) same here)
     (λ e. let nb : i ≢ b = eqb-false i b e in
     let size : get_or (new_sizes sizes a b k) i 0 ≡ get_or sizes1 i 0 = get_or-set_other sizes1 b i (sb + k) 0 nb in
-    let head : get_or (new_heads heads a b rest front) i 0 ≡ get_or heads1 i 0 = get_or-set_other heads1 b i front 0 nb in
+    let head : get_or (new_heads heads a b rest front) i 0 ≡ get_or heads1 i 0 = get_or-set_other heads1
+    b i front 0 nb in
     let tail : get_or (set tails b last) i 0 ≡ get_or tails i 0 = get_or-set_other tails b i last 0 nb in
     let p1 : 0 < get_or sizes1 i 0 = rw size at p in
     rw (tail, size, head)
@@ -260,12 +273,15 @@ linked_sound next heads tails sizes next' a b k rest last front s ha hb ne some 
       last = last_law;
     }
 
-pub moves : (next heads tails sizes next' : List ℕ) (a b k rest last front less more : ℕ) → IsSound next heads tails sizes
+pub moves : (next heads tails sizes next' : List ℕ) (a b k rest last front less more : ℕ)
+    → IsSound next heads tails sizes
     → a < length sizes → b < length sizes → a ≢ b → 0 < k → k ≤ get_or sizes a 0 →
     rest ≡ get_or next last 0 → last ≡ last_on next (k - 1) (get_or heads a 0) → less ≡ get_or sizes a 0 - k
     → more ≡ get_or sizes b 0 + k →
-    (rest ≡ last_on next k (get_or heads a 0) → Linked next heads sizes next' a b k (get_or heads a 0) rest last front) →
-    Moves next heads sizes next' (set (set heads a rest) b front) (set tails b last) (set (set sizes a less) b more) a b k
+    (rest ≡ last_on next k (get_or heads a 0) → Linked next heads sizes next' a b k (get_or heads a 0) rest last front)
+    →
+    Moves next heads sizes next' (set (set heads a rest) b front) (set tails b last) (set (set sizes a less) b more)
+    a b k
 moves next heads tails sizes next' a b k rest last front less more s ha hb ne some enough is e le mo l =
     let n : suc (k - 1) ≡ k = omega arith in
     let r : rest ≡ last_on next k (get_or heads a 0) =

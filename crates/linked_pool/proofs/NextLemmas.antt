@@ -6,7 +6,8 @@ use Rattle.std.proofs.lemmas.Bool.{ltb-true, ltb-false}
 use Rattle.std.proofs.lemmas.List.{drop-drop, get_or-drop, drop_all}
 use Rattle.linked_pool.specs.Chains.{occurs}
 use Rattle.linked_pool.specs.Pool.{State, chunks_for, list_at}
-use Rattle.linked_pool.specs.Blocks.{joined, blocks_of, uses, front_chunks, IsPool, view_of, IsRef, ref_bytes, Ends, AreEnds}
+use Rattle.linked_pool.specs.Blocks.{joined, blocks_of, uses, front_chunks, IsPool, view_of, IsRef, ref_bytes, Ends}
+use Rattle.linked_pool.specs.Blocks.{AreEnds}
 use Rattle.linked_pool.specs.Blocks.{walk_blocks, IsWalk}
 use Rattle.terms.proofs.CaseLemmas.{bool_cases}
 use Rattle.linked_pool.proofs.WalkLemmas.{occurs-at}
@@ -22,15 +23,18 @@ filled lens (suc n) chain some u = omega (arith, u)
 pub from_none : (xs : List (List ℕ)) (p : ℕ) → drop p xs ≡ [] → length xs ≤ p
 from_none xs p e = let gone = length-drop p xs in let none = ap length e in omega (arith, gone, none)
 
-pub from_some : (xs rest : List (List ℕ)) (x : List ℕ) (p : ℕ) → drop p xs ≡ x ∷ rest → (p < length xs) × (x ≡ get_or xs p [])
+pub from_some : (xs rest : List (List ℕ)) (x : List ℕ) (p : ℕ) → drop p xs ≡ x ∷ rest → (p < length xs)
+    × (x ≡ get_or xs p [])
 from_some xs rest x p e =
     let gone = length-drop p xs in
     let some = ap length e in
-    let at : get_or (drop p xs) 0 [] ≡ get_or xs p [] = get_or-drop p xs 0 [] ∙ ap (λ (v : ℕ). get_or xs v []) (omega arith) in
+    let at : get_or (drop p xs) 0 [] ≡ get_or xs p [] = get_or-drop p xs 0 []
+    ∙ ap (λ (v : ℕ). get_or xs v []) (omega arith) in
     (omega (arith, gone, some), ap (λ (ys : List (List ℕ)). get_or ys 0 []) (sym e) ∙ at)
 
 -- what a call of `next` leaves
-pub next_leaves : (block : Option (List ℕ)) (old new xs : List (List ℕ)) (p : ℕ) → IfNone block ((old ≡ []) × (new ≡ []))
+pub next_leaves : (block : Option (List ℕ)) (old new xs : List (List ℕ)) (p : ℕ)
+    → IfNone block ((old ≡ []) × (new ≡ []))
     → IfSome block (λ b. old ≡ b ∷ new) → old ≡ drop p xs → new ≡ drop (p + 1) xs
 next_leaves None old new xs p n s e =
     let past = from_none xs p (sym e ∙ n.0) in
@@ -51,7 +55,8 @@ pub walk_begins : (view : State) (chains chunks : List (List ℕ)) (lens lasts c
     → view ≡ view_of chains chunks lens counts → IsPool chains chunks lens counts → AreEnds chains lens lasts counts
     → i < length view.lists → left ≡ get_or counts i 0
     → (0 < length (get_or chains (i + 1) []) → chunk ≡ get_or (get_or chains (i + 1) []) 0 0) →
-    IsWalk chains chunks lens lasts (i + 1) 0 chunk left × (walk_blocks chains chunks lens (i + 1) 0 left ≡ list_at view i)
+    IsWalk chains chunks lens lasts (i + 1) 0 chunk left
+    × (walk_blocks chains chunks lens (i + 1) 0 left ≡ list_at view i)
 walk_begins view chains chunks lens lasts counts i chunk left e pool ends h size at =
     let inside = list_inside view chains chunks lens counts i e pool h in
     let lists = pool.lists in
@@ -68,7 +73,8 @@ walk_begins view chains chunks lens lasts counts i chunk left e pool ends h size
         there = λ x s. bool_cases (ltb x (length chunks)) (λ z. ltb-true x (length chunks) z)
             (λ z. let none = pool.within x (ltb-false x (length chunks) z) in absurd (omega (arith, none, s)));
         whole = pool.size;
-        few = (let m = all-at chains (i + 1) (omega (arith, lists, inside)) in omega (arith, m, pool.all, pool.few_chunks));
+        few = (let m = all-at chains (i + 1) (omega (arith, lists, inside)) in omega
+            (arith, m, pool.all, pool.few_chunks));
       },
       rw size (sym (list_is view chains chunks lens counts i e pool inside)),
     )
@@ -105,11 +111,13 @@ steps chains chunks lens lasts i offset chunk (suc m) len w some size =
     let rest : drop n d ≡ drop (offset + n) c = drop-drop n offset c in
     let inside : offset < length c = omega (arith, used, gone) in
     let has : 0 < occurs (get_or c offset 0) chains =
-    (let a = in_chain c offset inside in let m = occurs-at (get_or c offset 0) chains i w.inside in omega (arith, a, m)) in
+    (let a = in_chain c offset inside in let m = occurs-at (get_or c offset 0) chains i w.inside in omega
+    (arith, a, m)) in
     let there : chunk < length chunks = rw at (w.there (get_or c offset 0) has) in
     let in_lens : chunk < length lens = rw w.lens_too there in
     let left : uses lens m (drop n d) ≡ length (drop n d) = omega (arith, used, length-drop n d) in
-    let ends : (get_or lasts (get_or d 0 0) 0 ≡ get_or d (n - 1) 0) × Ends lens lasts m (drop n d) = rw (← size_is) w.ends in
+    let ends : (get_or lasts (get_or d 0 0) 0 ≡ get_or d (n - 1) 0) × Ends lens lasts m (drop n d) =
+    rw (← size_is) w.ends in
     record {
       in_lens = in_lens;
       in_lasts = rw w.lasts_too in_lens;
@@ -123,7 +131,8 @@ steps chains chunks lens lasts i offset chunk (suc m) len w some size =
         few = w.few;
       };
       blocks = rw less
-          (ap (λ (l : ℕ). take l (joined chunks (take (chunks_for l) d)) ∷ blocks_of chunks lens m (drop (chunks_for l) d)) len_is
+          (ap (λ (l : ℕ). take l (joined chunks (take (chunks_for l) d)) ∷ blocks_of chunks lens m
+          (drop (chunks_for l) d)) len_is
           ∙ ap (λ (xs : List ℕ). ref_bytes chains chunks i offset len ∷ blocks_of chunks lens m xs) rest);
       used = rw (less, ← rest) left;
       ends = rw (less, ← rest) ends.1;

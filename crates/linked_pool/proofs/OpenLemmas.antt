@@ -1,5 +1,6 @@
 -- The chains at the start.
-use Rattle.std.proofs.Common.{◌≡◌, ℕ, zero, suc, ◌+◌, ◌-◌, ◌^◌, ◌<◌, ◌≤◌, false, eqb, List, [], ◌∷◌, ◌++◌, length, get_or, set}
+use Rattle.std.proofs.Common.{◌≡◌, ℕ, zero, suc, ◌+◌, ◌-◌, ◌^◌, ◌<◌, ◌≤◌, false, eqb, List, [], ◌∷◌, ◌++◌, length}
+use Rattle.std.proofs.Common.{get_or, set}
 use Rattle.std.proofs.Common.{replicate, refl, ap, sym, ◌∙◌, subst, arith, length-set}
 use Rattle.std.proofs.lemmas.List.{get_or-replicate, length-replicate}
 use Rattle.std.proofs.lemmas.Bool.{eqb-true, ne_eqb}
@@ -51,7 +52,8 @@ pub once : (x n s : ℕ) → count x (rising n s) ≤ 1
 once x zero s = omega arith
 once x (suc n) s =
     bool_cases (eqb x s)
-    (λ e. let same = eqb-true x s e in let none = below_none x n (s + 1) (omega (arith, same)) in rw e (omega (arith, none)))
+    (λ e. let same = eqb-true x s e in let none = below_none x n (s + 1) (omega (arith, same)) in rw
+    e (omega (arith, none)))
     (λ e. let k = once x n (s + 1) in rw e (omega (arith, k)))
 
 chains-zeros : (next : List ℕ) (n : ℕ) → chains_of next (replicate n 0) (replicate n 0) ≡ replicate n []
@@ -84,7 +86,8 @@ ends_of : (n lists : ℕ) (tails : List ℕ) → (0 < n → get_or tails 0 0 ≡
 ends_of n lists tails last zero h some = last some ∙ sym (last_on-rising n (n - 1) 0 (omega arith) ∙ omega arith)
 ends_of n lists tails last (suc i) h some = let z = zero_at lists i in absurd (omega (arith, z, some))
 
-pub opened_sound : (n lists : ℕ) (tails : List ℕ) → n < 2 ^ 32 → length tails ≡ lists + 1 → (0 < n → get_or tails 0 0 ≡ n - 1)
+pub opened_sound : (n lists : ℕ) (tails : List ℕ) → n < 2 ^ 32 → length tails ≡ lists + 1
+    → (0 < n → get_or tails 0 0 ≡ n - 1)
     → IsSound (rising n 1) (replicate (lists + 1) 0) tails (set (replicate (lists + 1) 0) 0 n)
 opened_sound n lists tails few long last =
     let e : lists + 1 ≡ suc lists = omega arith in
@@ -94,7 +97,8 @@ opened_sound n lists tails few long last =
     let occ : (x : ℕ) → occurs x (chains_of (rising n 1) (replicate (lists + 1) 0) (set (replicate (lists + 1) 0) 0 n))
     ≡ count x (rising n 0) + 0 =
     λ x. ap (occurs x) cs ∙ ap (λ (m : ℕ). count x (rising n 0) + m) (occurs-zeros x lists) in
-    let ends : (i : ℕ) → i < length (set (replicate (lists + 1) 0) 0 n) → 0 < get_or (set (replicate (lists + 1) 0) 0 n) i 0
+    let ends : (i : ℕ) → i < length (set (replicate (lists + 1) 0) 0 n)
+    → 0 < get_or (set (replicate (lists + 1) 0) 0 n) i 0
     → get_or tails i 0 ≡ last_on (rising n 1) (get_or (set (replicate (lists + 1) 0) 0 n) i 0 - 1)
     (get_or (replicate (lists + 1) 0) i 0) =
     rw e (ends_of n lists tails last) in
@@ -110,7 +114,8 @@ opened_sound n lists tails few long last =
     }
 
 pub opened_both : (n lists : ℕ) (next heads tails sizes : List ℕ) → n < 2 ^ 32 → next ≡ rising n 1
-    → heads ≡ replicate (lists + 1) 0 → tails ≡ set (replicate (lists + 1) 0) 0 (n - 1) → sizes ≡ replicate (lists + 1) 0 →
+    → heads ≡ replicate (lists + 1) 0 → tails ≡ set (replicate (lists + 1) 0) 0 (n - 1)
+    → sizes ≡ replicate (lists + 1) 0 →
     IsSound next heads tails (set sizes 0 n) × (chains_of next heads (set sizes 0 n) ≡ opened n lists)
 opened_both n lists next heads tails sizes few a b c d =
     let e : suc lists ≡ lists + 1 = omega arith in
@@ -136,7 +141,8 @@ blank_at (suc n) zero = refl
 blank_at (suc n) (suc i) = blank_at n i
 
 -- a pool at the start
-pub blank_pool : (n lists : ℕ) (chains chunks : List (List ℕ)) (lens counts : List ℕ) → n < 2 ^ 32 → chains ≡ opened n lists
+pub blank_pool : (n lists : ℕ) (chains chunks : List (List ℕ)) (lens counts : List ℕ) → n < 2 ^ 32
+    → chains ≡ opened n lists
     → chunks ≡ replicate n (replicate 256 0) → lens ≡ replicate n 0 → counts ≡ replicate lists 0 →
     IsPool chains chunks lens counts × ((view_of chains chunks lens counts).lists ≡ replicate lists [])
     × ((view_of chains chunks lens counts).spare ≡ n) × ((view_of chains chunks lens counts).opened ≡ n)
@@ -147,7 +153,8 @@ blank_pool n lists chains chunks lens counts hn a b c d =
     let occ : (x : ℕ) → occurs x (opened n lists) ≡ count x (rising n 0) + 0 =
     λ x. ap (λ (m : ℕ). count x (rising n 0) + m) (occurs-zeros x lists) in
     let pool : IsPool (opened n lists) (replicate n bytes) (replicate n 0) (replicate lists 0) = record {
-      lists = ap (λ (m : ℕ). suc m) (length-replicate lists []) ∙ (let e = length-replicate {A = ℕ} lists 0 in omega (arith, e));
+      lists = ap (λ (m : ℕ). suc m) (length-replicate lists [])
+          ∙ (let e = length-replicate {A = ℕ} lists 0 in omega (arith, e));
       lens_too = length-replicate {A = ℕ} n 0 ∙ sym long;
       few_chunks = omega (arith, long, hn);
       apart = λ x. (let z = occ x in let o = once x n 0 in omega (arith, z, o));

@@ -9,14 +9,17 @@ abbrev view : Inside → State
 view p = view_of p.chains p.chunks.items p.lens.items p.counts.items
 
 abbrev Holds : Inside → Type 0
-Holds p = IsPool p.chains p.chunks.items p.lens.items p.counts.items × AreEnds p.chains p.lens.items p.lasts.items p.counts.items
+Holds p = IsPool p.chains p.chunks.items p.lens.items p.counts.items × AreEnds p.chains p.lens.items
+    p.lasts.items p.counts.items
 
 -- a list has its count
-pub has_list : (p : Inside) (s : State) (list : ℕ) → view p ≡ s → Holds p → list < length s.lists → list < length p.counts.items
+pub has_list : (p : Inside) (s : State) (list : ℕ) → view p ≡ s → Holds p → list < length s.lists
+    → list < length p.counts.items
 has_list p s list e h lt = list_inside s p.chains p.chunks.items p.lens.items p.counts.items list (sym e) h.0 lt
 
 -- which is that of its blocks
-pub count_in : (p : Inside) (s : State) (list : ℕ) → view p ≡ s → Holds p → list < length s.lists → get_or p.counts.items list 0
+pub count_in : (p : Inside) (s : State) (list : ℕ) → view p ≡ s → Holds p → list < length s.lists
+    → get_or p.counts.items list 0
     ≡ length (list_at s list)
 count_in p s list e h lt = count_is s p.chains p.chunks.items p.lens.items p.counts.items list (sym e) h.0 lt
 

@@ -42,7 +42,8 @@ count_one x ys = rw (eqb_same x) refl
 pub not_first : (x y : ℕ) (ys : List ℕ) → count x (y ∷ ys) ≡ 0 → (y ≢ x) × (count x ys ≡ 0)
 not_first x y ys h = bool_cases (eqb x y)
     (λ e. let k : cond true 1 0 + count x ys ≡ 0 = rw e at h in absurd (omega (arith, k)))
-    (λ e. let k : cond false 1 0 + count x ys ≡ 0 = rw e at h in let n = eqb_other x y e in (λ s. n (sym s), omega (arith, k)))
+    (λ e. let k : cond false 1 0 + count x ys ≡ 0 = rw e at h in let n = eqb_other x y e in
+    (λ s. n (sym s), omega (arith, k)))
 
 -- a write to a chunk that isn't passed
 pub walk-set : (next : List ℕ) (t v n first : ℕ) → count t (walk next n first) ≡ 0 → walk (set next t v) (suc n) first
@@ -83,7 +84,8 @@ get_or-chains_of next [] [] i e h = absurd (omega arith)
 get_or-chains_of next [] (s ∷ sizes) i e h = absurd (omega arith)
 get_or-chains_of next (x ∷ heads) [] i e h = absurd (omega arith)
 get_or-chains_of next (x ∷ heads) (s ∷ sizes) zero e h = refl
-get_or-chains_of next (x ∷ heads) (s ∷ sizes) (suc i) e h = get_or-chains_of next heads sizes i (omega (arith, e)) (omega arith)
+get_or-chains_of next (x ∷ heads) (s ∷ sizes) (suc i) e h = get_or-chains_of next heads sizes i (omega (arith, e))
+    (omega arith)
 
 pub length-chains_of : (next heads sizes : List ℕ) → length heads ≡ length sizes → length (chains_of next heads sizes)
     ≡ length sizes
@@ -114,7 +116,8 @@ occurs-two x [] i j h k n = absurd (omega arith)
 occurs-two x (c ∷ cs) zero zero h k n = absurd (n refl)
 occurs-two x (c ∷ cs) zero (suc j) h k n = let m = occurs-at x cs j (omega arith) in omega (arith, m)
 occurs-two x (c ∷ cs) (suc i) zero h k n = let m = occurs-at x cs i (omega arith) in omega (arith, m)
-occurs-two x (c ∷ cs) (suc i) (suc j) h k n = let m = occurs-two x cs i j (omega arith) (omega arith) (λ e. n (ap suc e)) in
+occurs-two x (c ∷ cs) (suc i) (suc j) h k n = let m = occurs-two x cs i j (omega arith) (omega arith)
+    (λ e. n (ap suc e)) in
     omega (arith, m)
 
 pub occurs-set : (x : ℕ) (cs : List (List ℕ)) (i : ℕ) (c : List ℕ) → i < length cs
@@ -133,7 +136,8 @@ total-at [] i h = absurd (omega arith)
 total-at (m ∷ ns) zero h = omega arith
 total-at (m ∷ ns) (suc i) h = let k = total-at ns i (omega arith) in omega (arith, k)
 
-pub total-two : (ns : List ℕ) (i j : ℕ) → i < length ns → j < length ns → i ≢ j → get_or ns i 0 + get_or ns j 0 ≤ total ns
+pub total-two : (ns : List ℕ) (i j : ℕ) → i < length ns → j < length ns → i ≢ j
+    → get_or ns i 0 + get_or ns j 0 ≤ total ns
 total-two [] i j h k n = absurd (omega arith)
 total-two (m ∷ ns) zero zero h k n = absurd (n refl)
 total-two (m ∷ ns) zero (suc j) h k n = let x = total-at ns j (omega arith) in omega (arith, x)
@@ -142,7 +146,8 @@ total-two (m ∷ ns) (suc i) (suc j) h k n = let x = total-two ns i j (omega ari
     omega (arith, x)
 
 -- a move changes no chunk's occurrences
-pub occurs-moved : (x : ℕ) (cs : List (List ℕ)) (a b n : ℕ) → a < length cs → b < length cs → a ≢ b → occurs x (moved cs a b n)
+pub occurs-moved : (x : ℕ) (cs : List (List ℕ)) (a b n : ℕ) → a < length cs → b < length cs → a ≢ b
+    → occurs x (moved cs a b n)
     ≡ occurs x cs
 occurs-moved x cs a b n ha hb ne =
     let c : List ℕ = get_or cs a [] in
@@ -158,7 +163,8 @@ occurs-moved x cs a b n ha hb ne =
     ∙ ap (count x) (take-append-drop n c) in
     omega (arith, first, third, joined, parts)
 
-pub count_prefix : (x : ℕ) (next : List ℕ) (m n first : ℕ) → m ≤ n → count x (walk next m first) ≤ count x (walk next n first)
+pub count_prefix : (x : ℕ) (next : List ℕ) (m n first : ℕ) → m ≤ n → count x (walk next m first) ≤ count
+    x (walk next n first)
 count_prefix x next m n first h =
     let e : m + (n - m) ≡ n = omega arith in
     let split = walk_split next m (n - m) first in
@@ -180,7 +186,8 @@ pub chains_kept : (next : List ℕ) (t v : ℕ) (heads sizes : List ℕ) → len
 chains_kept next t v [] sizes e h = refl
 chains_kept next t v (x ∷ heads) [] e h = refl
 chains_kept next t v (x ∷ heads) (zero ∷ sizes) e h =
-    ap (λ (cs : List (List ℕ)). [] ∷ cs) (chains_kept next t v heads sizes (omega (arith, e)) (λ i lt. h (suc i) (omega arith)))
+    ap (λ (cs : List (List ℕ)). [] ∷ cs) (chains_kept next t v heads sizes (omega (arith, e))
+    (λ i lt. h (suc i) (omega arith)))
 chains_kept next t v (x ∷ heads) (suc s ∷ sizes) e h =
     let less : suc s - 1 ≡ s = omega arith in
     let here : count t (walk next s x) ≡ 0 = rw less at (h 0 (omega arith)) in

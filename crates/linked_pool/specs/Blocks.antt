@@ -1,5 +1,6 @@
 -- How the blocks of a pool lie in its chunks. No public clause cites this module.
-use Rattle.std.specs.Prelude.{◌≡◌, ℕ, zero, suc, ◌+◌, ◌-◌, ◌*◌, ◌^◌, ◌<◌, ◌≤◌, List, [], ◌∷◌, length, take, drop, get_or}
+use Rattle.std.specs.Prelude.{◌≡◌, ℕ, zero, suc, ◌+◌, ◌-◌, ◌*◌, ◌^◌, ◌<◌, ◌≤◌, List, [], ◌∷◌, length, take, drop}
+use Rattle.std.specs.Prelude.{get_or}
 use Rattle.std.specs.Prelude.{set, flat_map}
 use Rattle.linked_pool.specs.Chains.{occurs, count}
 use Rattle.linked_pool.specs.Pool.{State, chunk_len, chunks_for, chunks_of, list_at}
@@ -75,7 +76,8 @@ pub record Fills (chain : List ℕ) (block : List ℕ) (n : ℕ) (old new : List
 
 -- the bytes of a block that stands at an offset of a chain
 abbrev pub ref_bytes : List (List ℕ) → List (List ℕ) → ℕ → ℕ → ℕ → List ℕ
-ref_bytes chains chunks i offset len = take len (joined chunks (take (chunks_for len) (drop offset (get_or chains i []))))
+ref_bytes chains chunks i offset len = take len
+    (joined chunks (take (chunks_for len) (drop offset (get_or chains i []))))
 
 pub record IsRef (chains chunks : List (List ℕ)) (i offset first len : ℕ) : Type 0 where
   pub inside : i < length chains

@@ -15,13 +15,14 @@ pub record ListsFit (c : Config) (lists : List (List (List ℕ))) : Type 0 where
   pub count : length lists ≡ length c.plps
   pub each : (plp : ℕ) → plp < length c.plps → ListFits c plp (slice_index_or lists plp [])
 
--- the cells of as many frames as the greatest spread, which the blocks of all interleaving frames under way fill at most
+-- the cells of as many frames as the greatest spread, which the blocks of all interleaving frames under way fill at
+-- most
 abbrev pub spread_cells : Config → ℕ
 spread_cells c = spread_max c.plps * c.cells
 
--- The two pools differ in what is rounded down. A gateway's lists hold blocks of whole cells, so 7 chunks for each full 2,025
--- cells, the fewest that a block has, are enough (`PlanFits`). A modulator's are those that test a of a group asks for, which
--- rounds the chunks and not the cells: the same, or up to 6 more.
+-- The two pools differ in what is rounded down. A gateway's lists hold blocks of whole cells, so 7 chunks for each full
+-- 2,025 cells, the fewest that a block has, are enough (`PlanFits`). A modulator's are those that test a of a group
+-- asks for, which rounds the chunks and not the cells: the same, or up to 6 more.
 abbrev pub frame_chunks : Config → ℕ
 frame_chunks c = CHUNKS_OF_CELLS * (spread_cells c / FEWEST_CELLS)
 

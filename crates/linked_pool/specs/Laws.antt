@@ -10,14 +10,17 @@ use Rattle.linked_pool.specs.declared.chunk.TheConstants.{CHUNKS_OF_CELLS, FEWES
 
 -- The blocks of such lists fill no more chunks than a gateway's pool has.
 abbrev pub PlanFits : Type 0
-PlanFits = (c : Config) (lists : List (List (List ℕ))) → IsPlan c → ListsFit c lists → used_chunks lists ≤ frame_chunks c
+PlanFits = (c : Config) (lists : List (List (List ℕ))) → IsPlan c → ListsFit c lists
+    → used_chunks lists ≤ frame_chunks c
 
 -- So a pool of as many has room for a block with which its lists are still such lists.
 abbrev pub NextFits : Type 0
-NextFits = (c : Config) (pool : State) (list : ℕ) (block : List ℕ) → IsPlan c → IsWhole pool → frame_chunks c ≤ pool.opened
+NextFits = (c : Config) (pool : State) (list : ℕ) (block : List ℕ) → IsPlan c → IsWhole pool
+    → frame_chunks c ≤ pool.opened
     → list < length pool.lists → ListsFit c (appended pool list block).lists → chunks_for (length block) ≤ pool.spare
 
 -- If each interleaving frame is carried by one frame, the chunks are those of the cells of a frame.
 abbrev pub PoolAlone : Type 0
 PoolAlone = (c : Config) → AllRules c → FramesStandAlone c
-    → (frame_chunks c ≡ CHUNKS_OF_CELLS * (c.cells / FEWEST_CELLS)) × (group_chunks c ≡ CHUNKS_OF_CELLS * c.cells / FEWEST_CELLS)
+    → (frame_chunks c ≡ CHUNKS_OF_CELLS * (c.cells / FEWEST_CELLS))
+    × (group_chunks c ≡ CHUNKS_OF_CELLS * c.cells / FEWEST_CELLS)

@@ -1,5 +1,6 @@
 -- What a contract sees of a pool.
-use Rattle.std.specs.Prelude.{◌≡◌, ◌≢◌, ℕ, ◌+◌, ◌-◌, max, List, [], ◌∷◌, ◌++◌, length, take, drop, replicate, sum_by, slice_set}
+use Rattle.std.specs.Prelude.{◌≡◌, ◌≢◌, ℕ, ◌+◌, ◌-◌, max, List, [], ◌∷◌, ◌++◌, length, take, drop, replicate, sum_by}
+use Rattle.std.specs.Prelude.{slice_set}
 use Rattle.std.specs.Prelude.{slice_index_or, refl}
 use Rattle.std.specs.Int.{div_ceil}
 use Rattle.std.specs.Coded.{Coded, code_by, coded×, coded_ℕ, coded_list}
@@ -12,7 +13,8 @@ pub record State : Type 0 where
 
 abbrev pub state_code : Coded State
 state_code =
-    code_by (List (List (List ℕ)) × (ℕ × ℕ)) (coded× (coded_list (coded_list (coded_list coded_ℕ))) (coded× coded_ℕ coded_ℕ))
+    code_by (List (List (List ℕ)) × (ℕ × ℕ)) (coded× (coded_list (coded_list (coded_list coded_ℕ)))
+    (coded× coded_ℕ coded_ℕ))
     (λ s. (s.lists, (s.spare, s.opened))) (λ p. record { lists = p.0; spare = p.1.0; opened = p.1.1 }) (λ _. refl)
 
 -- the bytes of a chunk

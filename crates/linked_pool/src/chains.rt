@@ -1,5 +1,6 @@
 // Chunks in chains, linked by index. Every chunk is in one chain.
-ghost use Rattle.std.specs.Prelude.{ℕ, List, [], ◌≡◌, ◌≢◌, ◌<◌, ◌≤◌, ◌*◌, ◌+◌, ◌-◌, ◌^◌, length, IfOk, replicate, slice_index};
+ghost use Rattle.std.specs.Prelude.{ℕ, List, [], ◌≡◌, ◌≢◌, ◌<◌, ◌≤◌, ◌*◌, ◌+◌, ◌-◌, ◌^◌, length, IfOk, replicate};
+ghost use Rattle.std.specs.Prelude.{slice_index};
 ghost use Rattle.std.specs.Prelude.{slice_index_or};
 ghost use Rattle.linked_pool.specs.Chains.{moved, last_on, rising, opened, IsSound, Moves};
 
@@ -153,7 +154,8 @@ impl Chains {
     /// The first chunk of a chain, if it has one.
     pub fn first_if_any(&self, place: usize) -> u32
         requires { place < length self.now }
-        ensures { 0 < length (slice_index_or self.now place []) → result ≡ slice_index (slice_index_or self.now place []) 0 }
+        ensures { 0 < length (slice_index_or self.now place [])
+            → result ≡ slice_index (slice_index_or self.now place []) 0 }
     {
         let heads = self.heads.as_slice();
         read(heads, place)
@@ -163,7 +165,8 @@ impl Chains {
     pub fn last(&self, place: usize) -> u32
         requires place { place < length self.now }
         requires some { 0 < length (slice_index_or self.now place []) }
-        ensures { result ≡ slice_index (slice_index_or self.now place []) (length (slice_index_or self.now place []) - 1) }
+        ensures { result ≡ slice_index (slice_index_or self.now place []) (length (slice_index_or self.now place [])
+            - 1) }
     {
         let tails = self.tails.as_slice();
         read(tails, place)
@@ -172,7 +175,8 @@ impl Chains {
     /// The chunk behind a chunk of a chain.
     pub fn after(&self, chunk: u32) -> u32
         ensures { (i k : ℕ) → i < length self.now → k + 1 < length (slice_index_or self.now i [])
-            → slice_index (slice_index_or self.now i []) k ≡ chunk → result ≡ slice_index (slice_index_or self.now i []) (k + 1) }
+            → slice_index (slice_index_or self.now i []) k ≡ chunk → result ≡ slice_index (slice_index_or self.now i [])
+            (k + 1) }
     {
         let next = self.next.as_slice();
         if chunk as usize >= next.len() {

@@ -5,7 +5,8 @@ use plp_config::{alone_law as tests_alone_law, block_law, spread_law};
 
 /// The blocks of the interleaving frames under way have their chunks.
 pub fn plan_fits_law()
-    // lists that hold no more than these fill 7 chunks at most for every 2,025 cells of as many frames as the greatest spread
+    // lists that hold no more than these fill 7 chunks at most for every 2,025 cells of as many frames as the greatest
+    // spread
     ensures all { PlanFits }
     // so a pool of as many chunks has room for each next block
     ensures next { NextFits }

@@ -1,8 +1,10 @@
 // The pool.
-ghost use Rattle.std.specs.Prelude.{ℕ, [], ◌≡◌, ◌≢◌, ◌<◌, ◌≤◌, ◌↔◌, ◌*◌, ◌%◌, IsTrue, IsErr, IsNone, length, IfOk, IfErr, OnOk, OnErr};
+ghost use Rattle.std.specs.Prelude.{ℕ, [], ◌≡◌, ◌≢◌, ◌<◌, ◌≤◌, ◌↔◌, ◌*◌, ◌%◌, IsTrue, IsErr, IsNone, length, IfOk};
+ghost use Rattle.std.specs.Prelude.{IfErr, OnOk, OnErr};
 ghost use Rattle.std.specs.Prelude.{IfSome, slice_index_or, drop};
 ghost use Rattle.terms.specs.Bits.{bytes_of};
-ghost use Rattle.linked_pool.specs.Pool.{chunks_for as chunks_for_len, list_at, empty, appended, popped, cleared, IsWhole};
+ghost use Rattle.linked_pool.specs.Pool.{chunks_for as chunks_for_len, list_at, empty, appended, popped, cleared};
+ghost use Rattle.linked_pool.specs.Pool.{IsWhole};
 
 use crate::block::BlockRef;
 use crate::blocks::Blocks;
@@ -152,7 +154,8 @@ impl Pool {
         requires bytes { length block.now % 8 ≡ 0 }
         ensures ok { OnOk result (self.new ≡ appended self.old list (bytes_of block.now)) }
         ensures full { IsErr result ↔ (self.old.spare < chunks_for_len (length (bytes_of block.now))) }
-        ensures told { IfErr result (λ e. (e.need ≡ chunks_for_len (length (bytes_of block.now))) × (e.spare ≡ self.old.spare)) }
+        ensures told { IfErr result (λ e. (e.need ≡ chunks_for_len (length (bytes_of block.now)))
+            × (e.spare ≡ self.old.spare)) }
         ensures err { OnErr result (self.new ≡ self.old) }
         ensures count { length self.new.lists ≡ length self.old.lists }
         ensures whole { IsWhole self.new }

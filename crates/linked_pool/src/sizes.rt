@@ -21,8 +21,8 @@ pub fn frame_chunks(plan: &Plan) -> u32
     CHUNKS_OF_CELLS * (spread_cells(plan) / u64::from(FEWEST_CELLS)) as u32
 }
 
-/// The chunks of a modulator's pool, which the blocks of a group may need at most: those of a gateway's pool, or up to 6
-/// more, since the cells are not rounded down to 2,025.
+/// The chunks of a modulator's pool, which the blocks of a group may need at most: those of a gateway's pool, or up to
+/// 6 more, since the cells are not rounded down to 2,025.
 pub fn group_chunks(plan: &Plan) -> u32
     ensures value { result ≡ group_chunks plan.now }
     ensures least { frame_chunks plan.now ≤ result }

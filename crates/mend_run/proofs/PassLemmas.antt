@@ -1,16 +1,18 @@
 -- What is next in feeds is passed, and the packets of a frame that are next in them.
 use Rattle.std.proofs.Common.{◌≡◌, ℕ, zero, suc, ◌+◌, ◌-◌, ◌<◌, ◌≤◌, ◌==◌, Bool, true, false, cond, List, [], ◌∷◌, ◌++◌}
-use Rattle.std.proofs.Common.{length, Option, Some, None, refl, ap, ap₂, sym, subst, ◌∙◌, arith, append_assoc, append-nil}
+use Rattle.std.proofs.Common.{length, Option, Some, None, refl, ap, ap₂, sym, subst, ◌∙◌, arith, append_assoc}
+use Rattle.std.proofs.Common.{append-nil}
 use Rattle.std.specs.Prelude.{slice_get}
 use Rattle.std.specs.List.{flat_map, range_with_len}
 use Rattle.std.proofs.lemmas.Bool.{true≢false, cond-true, cond-false, eq-eqb, eqb-true, eqb-false}
+use Rattle.std.proofs.lemmas.Option.{same_Some}
 use Rattle.terms.proofs.CaseLemmas.{bool_cases}
-use Rattle.terms.proofs.OptionLemmas.{some_injective, none_some}
+use Rattle.terms.proofs.OptionLemmas.{none_some}
 use Rattle.plp_config.specs.declared.config.Config.{Config}
 use Rattle.frame_groups.specs.Groups.{Group}
 use Rattle.frame_groups.specs.Modulated.{Rules}
 use Rattle.feed_events.specs.FeedEvents.{FeedEvent}
-use Rattle.feed_events.specs.StandsFor.{head_of, left_of, fed_of, has_ended, is_known, shown, CanBecome}
+use Rattle.feed_events.specs.StandsFor.{head_of, left_of, has_ended, is_known, shown, CanBecome}
 use Rattle.feed_events.specs.declared.course.Head.{Head}
 use Rattle.feed_events.specs.declared.course.Head.TheVariants as head
 use Rattle.mended_frames.specs.Heads.{AllPass, Passes, PassesIf, Begins, is_passed, number_at}
@@ -28,17 +30,20 @@ use Rattle.mend_run.proofs.RowLemmas.{get_too, get_at, known_at}
 -- ---- something is passed
 
 -- a silence is passed only if it is to be
-silent_only : (number : Option ℕ) (silent : Bool) (h : Head) → is_passed number silent h ≡ true → number_at h ≡ None → silent ≡ true
+silent_only : (number : Option ℕ) (silent : Bool) (h : Head) → is_passed number silent h ≡ true → number_at h ≡ None
+    → silent ≡ true
 silent_only number silent head.Unknown p e = absurd (true≢false (sym p))
 silent_only number silent (head.Frame n) p e = none_some n (sym e)
 silent_only number silent head.Silent p e = p
 silent_only number silent head.Over p e = absurd (true≢false (sym p))
 
-network_same : (f g : Feed) → marked.ghosts.rules f.frames.group ≡ marked.ghosts.rules g.frames.group → (pooled_of f).network ≡ (pooled_of g).network
+network_same : (f g : Feed) → marked.ghosts.rules f.frames.group ≡ marked.ghosts.rules g.frames.group
+    → (pooled_of f).network ≡ (pooled_of g).network
 network_same f g e = ap (λ (r : Rules). r.network) e
 
 -- one feed
-module _ (c : Config) (number : Option ℕ) (silent : Bool) (bytes : List ℕ) (ended : Bool) (gone : List FeedEvent) (f g : Feed)
+module _ (c : Config) (number : Option ℕ) (silent : Bool) (bytes : List ℕ) (ended : Bool) (gone : List FeedEvent)
+    (f g : Feed)
     (h : FeedHas c f bytes ended gone) (shows : Shows g) (p : PassesIf (is_passed number silent (head_of f)) f g) where
   abbrev passed_by : Bool → List FeedEvent
   passed_by t = cond t (shown f h.stands.group) []
@@ -57,7 +62,8 @@ module _ (c : Config) (number : Option ℕ) (silent : Bool) (bytes : List ℕ) (
     shows = shows;
   }
   has_passed false q =
-      subst (λ (z : Feed). FeedHas c z bytes ended (gone ++ [])) (sym q) (subst (FeedHas c f bytes ended) (sym (append-nil gone)) h)
+      subst (λ (z : Feed). FeedHas c z bytes ended (gone ++ [])) (sym q) (subst (FeedHas c f bytes ended)
+      (sym (append-nil gone)) h)
 
   pub has : FeedHas c g bytes ended (gone ++ passed)
   has = has_passed (is_passed number silent (head_of f)) p
@@ -97,10 +103,12 @@ module _ (c : Config) (number : Option ℕ) (silent : Bool) (bytes : List ℕ) (
       ∙ behind_kept number silent (head_of f) y known off
       (begins c f bytes ended gone x y h
       (subst (λ (z : Feed). Goes c z bytes gone x y) (passes_if false off)
-      (subst (λ (l : List FeedEvent). Goes c g bytes l x y) (ap (λ (l : List FeedEvent). gone ++ l) start ∙ append-nil gone) go))))
+      (subst (λ (l : List FeedEvent). Goes c g bytes l x y) (ap (λ (l : List FeedEvent). gone ++ l) start
+      ∙ append-nil gone) go))))
 
 -- so many feeds
-module _ (c : Config) (k : ℕ) (number : Option ℕ) (silent : Bool) (old new : List Feed) (done : List Event) (gone : ℕ → List FeedEvent)
+module _ (c : Config) (k : ℕ) (number : Option ℕ) (silent : Bool) (old new : List Feed) (done : List Event) (gone : ℕ
+    → List FeedEvent)
     (h : HaveCome c k old done gone) (shows : (i : ℕ) (f : Feed) → slice_get new i ≡ Some f → Shows f)
     (p : AllPass {o = marked.ghosts} number silent old new) (known : AllKnown old) where
   abbrev bytes : ℕ → List ℕ
@@ -125,21 +133,25 @@ module _ (c : Config) (k : ℕ) (number : Option ℕ) (silent : Bool) (old new :
       none_some q.0 (sym e ∙ q.1)
   come_at i g is (Some f) e =
       let q = p.each i f e in
-      subst (λ (z : Feed). FeedHas c z (bytes i) (ended i) (gone i ++ past_at i (Some f) e)) (some_injective q.0 g (sym q.1 ∙ is))
+      subst (λ (z : Feed). FeedHas c z (bytes i) (ended i) (gone i ++ past_at i (Some f) e))
+      (same_Some q.0 g (sym q.1 ∙ is))
       (has c number silent (bytes i) (ended i) (gone i) f q.0 (h.each i f e) (shows i q.0 q.1) q.2)
 
   abbrev before_at : (ℕ → Coming) → ℕ → Coming
   before_at ys i = record { events = past_at i (slice_get old i) refl ++ (ys i).events; over = (ys i).over }
 
-  goes_at : (xs ys : ℕ → Coming) (i : ℕ) (f : Feed) → slice_get old i ≡ Some f → (o : Option Feed) (e : slice_get old i ≡ o)
+  goes_at : (xs ys : ℕ → Coming) (i : ℕ) (f : Feed) → slice_get old i ≡ Some f
+      → (o : Option Feed) (e : slice_get old i ≡ o)
       → ((g : Feed) → slice_get new i ≡ Some g → Goes c g (bytes i) (gone i ++ past_at i o e) (xs i) (ys i))
       → Goes c f (bytes i) (gone i) (xs i) (record { events = past_at i o e ++ (ys i).events; over = (ys i).over })
   goes_at xs ys i f there None e go = none_some f (sym e ∙ there)
   goes_at xs ys i f there (Some d) e go =
       let q = p.each i d e in
-      subst (λ (z : Feed). Goes c z (bytes i) (gone i) (xs i) (record { events = past_at i (Some d) e ++ (ys i).events; over = (ys i).over }))
-      (some_injective d f (sym e ∙ there))
-      (goes c number silent (bytes i) (ended i) (gone i) d q.0 (h.each i d e) (shows i q.0 q.1) q.2 (xs i) (ys i) (go q.0 q.1))
+      subst (λ (z : Feed). Goes c z (bytes i) (gone i) (xs i)
+      (record { events = past_at i (Some d) e ++ (ys i).events; over = (ys i).over }))
+      (same_Some d f (sym e ∙ there))
+      (goes c number silent (bytes i) (ended i) (gone i) d q.0 (h.each i d e) (shows i q.0 q.1) q.2 (xs i)
+      (ys i) (go q.0 q.1))
 
   same_at : (xs ys : ℕ → Coming) (i : ℕ) → i < k → (o : Option Feed) (e : slice_get old i ≡ o)
       → ((g : Feed) → slice_get new i ≡ Some g → Goes c g (bytes i) (gone i ++ past_at i o e) (xs i) (ys i))
@@ -160,7 +172,8 @@ module _ (c : Config) (k : ℕ) (number : Option ℕ) (silent : Bool) (old new :
     back = λ xs ys all. (
       before_at ys,
       λ i f there. goes_at xs ys i f there (slice_get old i) refl (λ g is. all i g is),
-      λ i l. ap (λ (es : List FeedEvent). as_coming es (ys i).over) (same_at xs ys i l (slice_get old i) refl (λ g is. all i g is)),
+      λ i l. ap (λ (es : List FeedEvent). as_coming es (ys i).over) (same_at xs ys i l (slice_get old i)
+          refl (λ g is. all i g is)),
     );
   }
     where
@@ -170,30 +183,33 @@ module _ (c : Config) (k : ℕ) (number : Option ℕ) (silent : Bool) (old new :
 -- ---- fewer are left
 
 left_less : (old new : List Feed) → length new ≡ length old
-    → ((i : ℕ) (f : Feed) → slice_get old i ≡ Some f → (g : Feed) × (slice_get new i ≡ Some g) × (left_of g ≤ left_of f))
+    → ((i : ℕ) (f : Feed) → slice_get old i ≡ Some f → (g : Feed) × (slice_get new i ≡ Some g)
+    × (left_of g ≤ left_of f))
     → left_in new ≤ left_in old
 left_less [] [] len each = omega arith
 left_less [] (g ∷ new) len each = absurd (omega (arith, len))
 left_less (f ∷ old) [] len each = absurd (omega (arith, len))
 left_less (f ∷ old) (g ∷ new) len each =
     let q = each 0 f refl in
-    let here = subst (λ (z : Feed). left_of z ≤ left_of f) (some_injective q.0 g (sym q.1)) q.2 in
+    let here = subst (λ (z : Feed). left_of z ≤ left_of f) (same_Some q.0 g (sym q.1)) q.2 in
     let rest = left_less old new (omega (arith, len)) (λ i e is. each (suc i) e is) in
     omega (arith, here, rest)
 
 left_fewer : (old new : List Feed) → length new ≡ length old
-    → ((i : ℕ) (f : Feed) → slice_get old i ≡ Some f → (g : Feed) × (slice_get new i ≡ Some g) × (left_of g ≤ left_of f))
-    → (i : ℕ) (f g : Feed) → slice_get old i ≡ Some f → slice_get new i ≡ Some g → left_of g < left_of f → left_in new < left_in old
+    → ((i : ℕ) (f : Feed) → slice_get old i ≡ Some f → (g : Feed) × (slice_get new i ≡ Some g)
+    × (left_of g ≤ left_of f))
+    → (i : ℕ) (f g : Feed) → slice_get old i ≡ Some f → slice_get new i ≡ Some g → left_of g < left_of f
+    → left_in new < left_in old
 left_fewer [] new len each i f g is there less = none_some f is
 left_fewer (e ∷ old) [] len each i f g is there less = none_some g there
 left_fewer (e ∷ old) (d ∷ new) len each zero f g is there less =
-    let here = subst (λ (z : Feed). left_of d < left_of z) (sym (some_injective e f is))
-    (subst (λ (z : Feed). left_of z < left_of f) (sym (some_injective d g there)) less) in
+    let here = subst (λ (z : Feed). left_of d < left_of z) (sym (same_Some e f is))
+    (subst (λ (z : Feed). left_of z < left_of f) (sym (same_Some d g there)) less) in
     let rest = left_less old new (omega (arith, len)) (λ i e is. each (suc i) e is) in
     omega (arith, here, rest)
 left_fewer (e ∷ old) (d ∷ new) len each (suc i) f g is there less =
     let q = each 0 e refl in
-    let here = subst (λ (z : Feed). left_of z ≤ left_of e) (some_injective q.0 d (sym q.1)) q.2 in
+    let here = subst (λ (z : Feed). left_of z ≤ left_of e) (same_Some q.0 d (sym q.1)) q.2 in
     let rest = left_fewer old new (omega (arith, len)) (λ i e is. each (suc i) e is) i f g is there less in
     omega (arith, here, rest)
 
@@ -201,44 +217,37 @@ passes_less : (t : Bool) (f g : Feed) → PassesIf t f g → left_of g ≤ left_
 passes_less true f g q = (let l = q.left in omega (arith, l))
 passes_less false f g q = (let e = ap left_of q in omega (arith, e))
 
-pub left_passed : (number : Option ℕ) (silent : Bool) (old new : List Feed) → AllPass {o = marked.ghosts} number silent old new
+pub left_passed : (number : Option ℕ) (silent : Bool) (old new : List Feed)
+    → AllPass {o = marked.ghosts} number silent old new
     → OnePasses number silent old → left_in new < left_in old
 left_passed number silent old new p one =
     let f = get_at old one.input one.inside in
     let q = p.each one.input f.0 f.1 in
-    let on : is_passed number silent (head_of f.0) ≡ true = sym (ap (is_passed number silent) (known_at old one.input f.0 f.1)) ∙ one.passed in
+    let on : is_passed number silent (head_of f.0) ≡ true = sym (ap (is_passed number silent)
+    (known_at old one.input f.0 f.1)) ∙ one.passed in
     let passes : Passes f.0 q.0 = subst (λ (t : Bool). PassesIf t f.0 q.0) on q.2 in
     left_fewer old new p.len
     (λ i e is. let r = p.each i e is in (r.0, r.1, passes_less (is_passed number silent (head_of e)) e r.0 r.2))
     one.input f.0 q.0 f.1 q.1 passes.left
 
-fed_if : (t : Bool) (f g : Feed) → PassesIf t f g → fed_of f ≤ fed_of g
-fed_if true f g q = (let e = q.fed in omega (arith, e))
-fed_if false f g q = (let e = ap fed_of q in omega (arith, e))
-
-pub fed_passed : (number : Option ℕ) (silent : Bool) (old new : List Feed) → AllPass {o = marked.ghosts} number silent old new
-    → (i : ℕ) (f h : Feed) → slice_get old i ≡ Some f → slice_get new i ≡ Some h → fed_of f ≤ fed_of h
-fed_passed number silent old new p i f h is there =
-    let q = p.each i f is in
-    subst (λ (z : Feed). fed_of f ≤ fed_of z) (some_injective q.0 h (sym q.1 ∙ there))
-    (fed_if (is_passed number silent (head_of f)) f q.0 q.2)
-
 of_if : (t : Bool) (f g : Feed) → PassesIf t f g → (pooled_of g).network ≡ (pooled_of f).network
 of_if true f g q = network_same g f q.rules
 of_if false f g q = ap (λ (z : Feed). (pooled_of z).network) q
 
-pub of_passed : (number : Option ℕ) (silent : Bool) (old new : List Feed) → AllPass {o = marked.ghosts} number silent old new
+pub of_passed : (number : Option ℕ) (silent : Bool) (old new : List Feed)
+    → AllPass {o = marked.ghosts} number silent old new
     → (c : Config) → AreOf c old → AreOf c new
 of_passed number silent old new p c are i h there =
     let f = get_too old new i h p.len there in
     let q = p.each i f.0 f.1 in
-    subst (λ (z : Feed). (pooled_of z).network ≡ c) (some_injective q.0 h (sym q.1 ∙ there))
+    subst (λ (z : Feed). (pooled_of z).network ≡ c) (same_Some q.0 h (sym q.1 ∙ there))
     (of_if (is_passed number silent (head_of f.0)) f.0 q.0 q.2 ∙ are i f.0 f.1)
 
 -- ---- the packets of a frame that are next
 
 -- The groups that are next, however the feeds go on.
-pub record NextGroups (c : Config) (n : ℕ) (feeds : List Feed) (a : ℕ) (done : List Event) (gone : ℕ → List FeedEvent) : Type 0 where
+pub record NextGroups (c : Config) (n : ℕ) (feeds : List Feed) (a : ℕ) (done : List Event) (gone : ℕ
+    → List FeedEvent) : Type 0 where
   pub groups : List Group
   pub have : HaveGroups n feeds groups
   pub are : (xs ys : ℕ → Coming)
@@ -251,7 +260,8 @@ at_head n (head.Frame m) e = ap head.Frame (eqb-true m n e)
 at_head n head.Silent e = absurd (true≢false (sym e))
 at_head n head.Over e = absurd (true≢false (sym e))
 
-not_at : (n : ℕ) (h : Head) (y : Coming) → is_known h ≡ true → is_at n h ≡ false → Begins h y → group_next n y.events ≡ []
+not_at : (n : ℕ) (h : Head) (y : Coming) → is_known h ≡ true → is_at n h ≡ false → Begins h y
+    → group_next n y.events ≡ []
 not_at n head.Unknown y known e b = absurd (true≢false (sym known))
 not_at n (head.Frame m) y known e b =
     ap (group_next n) b.2 ∙ cond-false (n == m) (b.0 ∷ []) [] (apart n m e)
@@ -261,7 +271,8 @@ not_at n (head.Frame m) y known e b =
 not_at n head.Silent y known e b = ap (group_next n) b.1
 not_at n head.Over y known e b = ap (group_next n) b.0
 
-from_first : (a k : ℕ) (f : ℕ → List Group) → flat_map f (range_with_len a (suc k)) ≡ f a ++ flat_map f (range_with_len (suc a) k)
+from_first : (a k : ℕ) (f : ℕ → List Group) → flat_map f (range_with_len a (suc k)) ≡ f a ++ flat_map
+    f (range_with_len (suc a) k)
 from_first a k f = ap (λ (b : ℕ). f a ++ flat_map f (range_with_len b k)) (let e : a + 1 ≡ suc a = omega arith in e)
 
 module _ (c : Config) (n : ℕ) (done : List Event) (gone : ℕ → List FeedEvent) where
@@ -274,7 +285,8 @@ module _ (c : Config) (n : ℕ) (done : List Event) (gone : ℕ → List FeedEve
 
   behind_here : (f g : Feed) (feeds : List Feed) (a i : ℕ) → suc a ≤ i → slice_get feeds (i - suc a) ≡ Some g
       → slice_get (f ∷ feeds) (i - a) ≡ Some g
-  behind_here f g feeds a i l is = ap (slice_get (f ∷ feeds)) (let e : i - a ≡ suc (i - suc a) = omega (arith, l) in e) ∙ is
+  behind_here f g feeds a i l is = ap (slice_get (f ∷ feeds)) (let e : i - a ≡ suc (i - suc a) = omega (arith, l) in e)
+      ∙ is
 
   first_too : (f : Feed) (feeds : List Feed) (a : ℕ) → Feeds (f ∷ feeds) a → NextGroups c n feeds (suc a) done gone
       → (t : Bool) → is_at n (head_of f) ≡ t → NextGroups c n (f ∷ feeds) a done gone
@@ -287,7 +299,8 @@ module _ (c : Config) (n : ℕ) (done : List Event) (gone : ℕ → List FeedEve
         have = subst (λ (b : Bool). HasIf b f (HaveGroups n feeds) (x.0 ∷ rest.groups)) (sym e) (record {
           group = x.0;
           own = h.0.stands.held.own;
-          holds = subst (λ (o : Option Group). HoldsMarked f.frames.group h.0.stands.held.own o) x.1 h.0.stands.held.holds;
+          holds = subst (λ (o : Option Group). HoldsMarked f.frames.group h.0.stands.held.own o) x.1
+              h.0.stands.held.holds;
           more = rest.groups;
           are = refl;
           others = rest.have;
@@ -321,7 +334,8 @@ module _ (c : Config) (n : ℕ) (done : List Event) (gone : ℕ → List FeedEve
       (groups_from feeds (suc a) (λ i g l is. all i g (omega (arith, l)) (behind_here f g feeds a i l is)))
       (is_at n (head_of f)) refl
 
-  pub next_groups : (k : ℕ) (feeds : List Feed) → HaveCome c k feeds done gone → AllKnown feeds → NextGroups c n feeds 0 done gone
+  pub next_groups : (k : ℕ) (feeds : List Feed) → HaveCome c k feeds done gone → AllKnown feeds
+      → NextGroups c n feeds 0 done gone
   next_groups k feeds h known =
       groups_from feeds 0 (λ i f l is.
       let e : slice_get feeds i ≡ Some f = ap (slice_get feeds) (let z : i ≡ i - 0 = omega arith in z) ∙ is in

@@ -1,12 +1,13 @@
 -- Feeds in a row.
-use Rattle.std.proofs.Common.{◌≡◌, ◌≢◌, ◌⊎◌, inl, inr, ⊎_elim, ℕ, zero, suc, ◌+◌, ◌<◌, ◌≤◌, ◌==◌, Bool, true, false, cond, List, [], ◌∷◌, ◌++◌}
+use Rattle.std.proofs.Common.{◌≡◌, ◌≢◌, ◌⊎◌, inl, inr, ⊎_elim, ℕ, zero, suc, ◌+◌, ◌<◌, ◌≤◌, ◌==◌, Bool, true, false}
+use Rattle.std.proofs.Common.{cond, List, [], ◌∷◌, ◌++◌}
 use Rattle.std.proofs.Common.{length, Option, Some, None, refl, ap, sym, subst, ◌∙◌, arith, length-append}
 use Rattle.std.specs.Prelude.{slice_get, slice_set, option_map, IfSome, IfNone}
 use Rattle.std.specs.Option.{option_map_or}
 use Rattle.std.proofs.lemmas.Bool.{true≢false, cases_lt, eqb-true, eqb-false}
-use Rattle.std.proofs.lemmas.Option.{slice_get_within, slice_get_past}
+use Rattle.std.proofs.lemmas.Option.{slice_get_within, slice_get_past, same_Some}
 use Rattle.terms.proofs.CaseLemmas.{bool_cases}
-use Rattle.terms.proofs.OptionLemmas.{some_injective, none_some}
+use Rattle.terms.proofs.OptionLemmas.{none_some}
 use Rattle.plp_config.specs.declared.config.Config.{Config}
 use Rattle.feed_events.specs.FeedEvents.{FeedEvent}
 use Rattle.feed_events.specs.StandsFor.{head_of, fed_of, is_known}
@@ -16,14 +17,15 @@ use Rattle.mended_frames.specs.Heads.{head_at}
 use Rattle.mended_frames.specs.Picks.{Coming}
 use Rattle.mended_frames.proofs.RowLemmas.{set_here, set_there, set_len}
 use Rattle.mended_frames.specs.StandsFor.{Feed, pooled_of, AreOf}
-use Rattle.file_run.specs.Events.{Event, Fed, Ended, fed}
+use Rattle.file_run.specs.Events.{Event, fed}
 use Rattle.file_run.specs.Events as events
-use Rattle.mend_run.specs.Row.{Goes, FeedHas, HaveCome, AllGo, GoOn, AllKnown, first_waiting}
+use Rattle.mend_run.specs.Row.{Goes, FeedHas, HaveCome, AllGo, LastCame, GoOn, AllKnown, first_waiting}
 
 -- ---- places
 
 -- two rows of one length have something at the same places
-pub get_too : {X Y : Type 0} (xs : List X) (ys : List Y) (i : ℕ) (y : Y) → length ys ≡ length xs → slice_get ys i ≡ Some y
+pub get_too : {X Y : Type 0} (xs : List X) (ys : List Y) (i : ℕ) (y : Y) → length ys ≡ length xs
+    → slice_get ys i ≡ Some y
     → (x : X) × (slice_get xs i ≡ Some x)
 get_too [] ys i y len e = absurd (let l = slice_get_within ys i y e in omega (arith, l, len))
 get_too (x ∷ xs) [] i y len e = none_some y e
@@ -38,7 +40,7 @@ get_at (x ∷ xs) (suc i) l = get_at xs i (omega (arith, l))
 -- what is there behind one more
 pub get_pushed : {X : Type 0} (xs : List X) (x : X) (i : ℕ) (y : X) → slice_get (xs ++ x ∷ []) i ≡ Some y
     → (slice_get xs i ≡ Some y) ⊎ (x ≡ y)
-get_pushed [] x zero y e = inr (some_injective x y e)
+get_pushed [] x zero y e = inr (same_Some x y e)
 get_pushed [] x (suc i) y e = none_some y e
 get_pushed (z ∷ xs) x zero y e = inl e
 get_pushed (z ∷ xs) x (suc i) y e = get_pushed xs x i y e
@@ -51,7 +53,7 @@ get_set xs i j x y e = bool_cases (i == j)
     let len = slice_get_within (slice_set xs i x) j y e in
     inl (
       sym at,
-      some_injective x y (sym (set_here xs i x (omega (arith, len, at, set_len xs i x)))
+      same_Some x y (sym (set_here xs i x (omega (arith, len, at, set_len xs i x)))
           ∙ ap (slice_get (slice_set xs i x)) at ∙ e),
     ))
     (λ other. let apart : i ≢ j = eqb-false i j other in
@@ -77,15 +79,17 @@ unknown_is (head.Frame n) e = absurd (true≢false e)
 unknown_is head.Silent e = absurd (true≢false e)
 unknown_is head.Over e = absurd (true≢false e)
 
-first_here : (f : Feed) (feeds : List Feed) (i : ℕ) → is_known (head_of f) ≡ false → Some 0 ≡ Some i → IsFirst (f ∷ feeds) i
+first_here : (f : Feed) (feeds : List Feed) (i : ℕ) → is_known (head_of f) ≡ false → Some 0 ≡ Some i
+    → IsFirst (f ∷ feeds) i
 first_here f feeds i unknown e =
-    subst (IsFirst (f ∷ feeds)) (some_injective 0 i e) (record {
+    subst (IsFirst (f ∷ feeds)) (same_Some 0 i e) (record {
       there = unknown_is (head_of f) unknown;
       inside = omega arith;
       before = λ j l. absurd (omega (arith, l));
     })
 
-known_before : (f : Feed) (feeds : List Feed) → is_known (head_of f) ≡ true → (j : ℕ) → IsFirst feeds j → (m : ℕ) → m < suc j
+known_before : (f : Feed) (feeds : List Feed) → is_known (head_of f) ≡ true → (j : ℕ) → IsFirst feeds j
+    → (m : ℕ) → m < suc j
     → is_known (head_at (f ∷ feeds) m) ≡ true
 known_before f feeds known j rest zero l = known
 known_before f feeds known j rest (suc m) l = rest.before m (omega (arith, l))
@@ -95,7 +99,7 @@ first_behind : (f : Feed) (feeds : List Feed) (i : ℕ) → is_known (head_of f)
 first_behind f feeds i known None rest e = none_some i e
 first_behind f feeds i known (Some j) rest e =
     let r = rest j refl in
-    subst (IsFirst (f ∷ feeds)) (some_injective (suc j) i e) (record {
+    subst (IsFirst (f ∷ feeds)) (same_Some (suc j) i e) (record {
       there = r.there;
       inside = (let l = r.inside in omega (arith, l));
       before = known_before f feeds known j r;
@@ -144,8 +148,10 @@ waiting_none : (feeds : List Feed) (o : Option ℕ) → AllKnown feeds → first
 waiting_none feeds None known e = refl
 waiting_none feeds (Some j) known e = absurd (not_known (head_at feeds j) (known j) (first_some feeds j e).there)
 
-pub waiting_is : (feeds : List Feed) (o : Option ℕ) → IfSome o (λ i. (i < length feeds) × (head_at feeds i ≡ head.Unknown))
-    → IfSome o (λ i. (j : ℕ) → j < i → is_known (head_at feeds j) ≡ true) → IfNone o ((i : ℕ) → is_known (head_at feeds i) ≡ true)
+pub waiting_is : (feeds : List Feed) (o : Option ℕ) → IfSome o (λ i. (i < length feeds)
+    × (head_at feeds i ≡ head.Unknown))
+    → IfSome o (λ i. (j : ℕ) → j < i → is_known (head_at feeds j) ≡ true)
+    → IfNone o ((i : ℕ) → is_known (head_at feeds i) ≡ true)
     → o ≡ first_waiting feeds
 waiting_is feeds None some first none = waiting_none feeds (first_waiting feeds) none refl
 waiting_is feeds (Some i) some first none = waiting_some feeds i (first_waiting feeds) some.1 first refl
@@ -153,20 +159,25 @@ waiting_is feeds (Some i) some first none = waiting_some feeds i (first_waiting 
 -- ---- a feed took bytes, or its input ended
 
 -- one feed was changed, whose input has more; the others were not
-module _ (c : Config) (k : ℕ) (old : List Feed) (input : ℕ) (f g : Feed) (before done : List Event) (gone : ℕ → List FeedEvent)
+module _ (c : Config) (k : ℕ) (old : List Feed) (input : ℕ) (f g : Feed) (before done : List Event) (gone : ℕ
+    → List FeedEvent)
     (is : slice_get old input ≡ Some f)
     (others : (i : ℕ) → i ≢ input → (fed i done ≡ fed i before) × (events.has_ended i done ≡ events.has_ended i before))
     (has : FeedHas c f (fed input before) (events.has_ended input before) (gone input)
     → FeedHas c g (fed input done) (events.has_ended input done) (gone input))
-    (back : (x y : Coming) → Goes c g (fed input done) (gone input) x y → Goes c f (fed input before) (gone input) x y) where
+    (back : (x y : Coming) → Goes c g (fed input done) (gone input) x y
+    → Goes c f (fed input before) (gone input) x y)
+    (last : HaveCome c k old before gone → LastCame c k before done gone) where
   abbrev new : List Feed
   new = slice_set old input g
 
-  come_at : (h : HaveCome c k old before gone) (i : ℕ) (e : Feed) → ((i ≡ input) × (g ≡ e)) ⊎ ((i ≢ input) × (slice_get old i ≡ Some e))
+  come_at : (h : HaveCome c k old before gone) (i : ℕ) (e : Feed) → ((i ≡ input) × (g ≡ e))
+      ⊎ ((i ≢ input) × (slice_get old i ≡ Some e))
       → FeedHas c e (fed i done) (events.has_ended i done) (gone i)
   come_at h i e (inl a) =
       subst (λ (j : ℕ). FeedHas c e (fed j done) (events.has_ended j done) (gone j)) (sym a.0)
-      (subst (λ (z : Feed). FeedHas c z (fed input done) (events.has_ended input done) (gone input)) a.1 (has (h.each input f is)))
+      (subst (λ (z : Feed). FeedHas c z (fed input done) (events.has_ended input done) (gone input))
+      a.1 (has (h.each input f is)))
   come_at h i e (inr a) =
       let o = others i a.0 in
       subst (λ (l : List ℕ). FeedHas c e l (events.has_ended i done) (gone i)) (sym o.0)
@@ -177,7 +188,7 @@ module _ (c : Config) (k : ℕ) (old : List Feed) (input : ℕ) (f g : Feed) (be
   goes_at xs ys all i e there = bool_cases (i == input)
       (λ same. let at : i ≡ input = eqb-true i input same in
       let inside = slice_get_within old i e there in
-      let one : f ≡ e = some_injective f e (sym is ∙ ap (slice_get old) (sym at) ∙ there) in
+      let one : f ≡ e = same_Some f e (sym is ∙ ap (slice_get old) (sym at) ∙ there) in
       subst (λ (j : ℕ). Goes c e (fed j before) (gone j) (xs j) (ys j)) (sym at)
       (subst (λ (z : Feed). Goes c z (fed input before) (gone input) (xs input) (ys input)) one
       (back (xs input) (ys input) (all input g (set_here old input g (omega (arith, inside, at)))))))
@@ -193,20 +204,19 @@ module _ (c : Config) (k : ℕ) (old : List Feed) (input : ℕ) (f g : Feed) (be
       each = λ i e there. come_at h i e (get_set old input i g e there);
     };
     back = goes_at;
+    last = last h;
   }
-
-pub len_set : (feeds : List Feed) (input : ℕ) (g : Feed) → length (slice_set feeds input g) ≡ length feeds
-len_set feeds input g = set_len feeds input g
 
 -- how many bytes were fed of each is no less
 pub fed_set : (feeds : List Feed) (input : ℕ) (f g : Feed) → slice_get feeds input ≡ Some f → fed_of f ≤ fed_of g
-    → (i : ℕ) (e h : Feed) → slice_get feeds i ≡ Some e → slice_get (slice_set feeds input g) i ≡ Some h → fed_of e ≤ fed_of h
+    → (i : ℕ) (e h : Feed) → slice_get feeds i ≡ Some e → slice_get (slice_set feeds input g) i ≡ Some h
+    → fed_of e ≤ fed_of h
 fed_set feeds input f g is more i e h old new = ⊎_elim
     (λ (a : (i ≡ input) × (g ≡ h)).
-    let one : f ≡ e = some_injective f e (sym is ∙ ap (slice_get feeds) (sym a.0) ∙ old) in
+    let one : f ≡ e = same_Some f e (sym is ∙ ap (slice_get feeds) (sym a.0) ∙ old) in
     subst (λ (z : Feed). fed_of z ≤ fed_of h) one (subst (λ (z : Feed). fed_of f ≤ fed_of z) a.1 more))
     (λ (a : (i ≢ input) × (slice_get feeds i ≡ Some h)).
-    subst (λ (z : Feed). fed_of z ≤ fed_of h) (some_injective h e (sym a.1 ∙ old)) (omega arith))
+    subst (λ (z : Feed). fed_of z ≤ fed_of h) (same_Some h e (sym a.1 ∙ old)) (omega arith))
     (get_set feeds input i g h new)
 
 pub of_set : (feeds : List Feed) (input : ℕ) (f g : Feed) → slice_get feeds input ≡ Some f
@@ -217,7 +227,8 @@ of_set feeds input f g is same c are i h there = ⊎_elim
     (get_set feeds input i g h there)
 
 -- one more, of which nothing came
-pub come_pushed : (c : Config) (k : ℕ) (feeds : List Feed) (f : Feed) → HaveCome c k feeds [] (λ i. []) → FeedHas c f [] false []
+pub come_pushed : (c : Config) (k : ℕ) (feeds : List Feed) (f : Feed) → HaveCome c k feeds [] (λ i. [])
+    → FeedHas c f [] false []
     → HaveCome c (k + 1) (feeds ++ f ∷ []) [] (λ i. [])
 come_pushed c k feeds f h has = record {
   count = (let l = length-append feeds (f ∷ []) in let n = h.count in omega (arith, l, n));
@@ -225,6 +236,7 @@ come_pushed c k feeds f h has = record {
       (λ (a : f ≡ g). subst (λ (z : Feed). FeedHas c z [] false []) a has) (get_pushed feeds f i g is);
 }
 
-pub of_pushed : (c : Config) (feeds : List Feed) (f : Feed) → AreOf c feeds → FeedHas c f [] false [] → AreOf c (feeds ++ f ∷ [])
+pub of_pushed : (c : Config) (feeds : List Feed) (f : Feed) → AreOf c feeds → FeedHas c f [] false []
+    → AreOf c (feeds ++ f ∷ [])
 of_pushed c feeds f are has i g is = ⊎_elim (λ (a : slice_get feeds i ≡ Some g). are i g a)
     (λ (a : f ≡ g). subst (λ (z : Feed). (pooled_of z).network ≡ c) a has.network) (get_pushed feeds f i g is)

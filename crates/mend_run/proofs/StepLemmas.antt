@@ -1,9 +1,11 @@
 -- The steps of a run: which frames come next.
-use Rattle.std.proofs.Common.{◌≡◌, ◌≢◌, ◌⊎◌, inl, inr, ℕ, zero, suc, ◌-◌, ◌<◌, ◌≤◌, Bool, true, false, List, [], ◌∷◌, ◌++◌, length}
+use Rattle.std.proofs.Common.{◌≡◌, ◌≢◌, ◌⊎◌, inl, inr, ℕ, zero, suc, ◌-◌, ◌<◌, ◌≤◌, Bool, true, false, List, [], ◌∷◌}
+use Rattle.std.proofs.Common.{◌++◌, length}
 use Rattle.std.proofs.Common.{Option, Some, None, refl, ap, sym, subst, ◌∙◌, ⊎_elim, arith}
-use Rattle.std.specs.Prelude.{nat_lt, slice_get, option_to_list, min}
+use Rattle.std.specs.Prelude.{nat_lt, slice_get, option_to_list}
 use Rattle.std.proofs.lemmas.Bool.{true≢false, cond-true, cond-false, cases_lt, eq-eqb, lt-ltb, le-ltb}
-use Rattle.terms.proofs.OptionLemmas.{some_injective, none_some}
+use Rattle.std.proofs.lemmas.Option.{same_Some}
+use Rattle.terms.proofs.OptionLemmas.{none_some}
 use Rattle.plp_config.specs.declared.config.Config.{Config}
 use Rattle.plp_config.specs.declared.moment.TheConstants.{MOST_FRAMES}
 use Rattle.frame_groups.specs.Modulated.{Numbered}
@@ -13,12 +15,12 @@ use Rattle.feed_events.specs.StandsFor.{is_known}
 use Rattle.feed_events.specs.declared.course.Head.{Head}
 use Rattle.feed_events.specs.declared.course.Head.TheVariants as head
 use Rattle.mended_frames.specs.Heads.{Begins, head_at, least_head, number_at, is_passed}
-use Rattle.mended_frames.specs.Picks.{Coming, picked_of, one_waits, least_next, lesser, pick_next, picks_from, all_behind, events_in, groups_next}
+use Rattle.mended_frames.specs.Picks.{Coming, picked_of, one_waits, least_next, pick_next, picks_from, all_behind}
+use Rattle.mended_frames.specs.Picks.{events_in, groups_next}
 use Rattle.mended_frames.proofs.HeadLemmas.{least_known, none_waits, events_some, events_none}
 use Rattle.mended_frames.proofs.PickLemmas.{picks_on, picks_over, lesser_is, lesser_none}
 use Rattle.mended_frames.specs.Mended.{Made, taking, made_of, past_with, low_of}
 use Rattle.mended_frames.specs.StandsFor.{Feed, picked_as}
-use Rattle.mended_frames.specs.declared.mender.Source.{Source}
 use Rattle.ts_packet.specs.declared.sizes.TheConstants.{SIZE}
 use Rattle.file_run.specs.Events.{Event, fed}
 use Rattle.file_run.specs.FileRun.{read_ahead}
@@ -42,7 +44,7 @@ pub record IsNextAt (feeds : List Feed) (k n : ℕ) : Type 0 where
 
 number_is : (h : Head) (n : ℕ) → number_at h ≡ Some n → h ≡ head.Frame n
 number_is head.Unknown n e = none_some n e
-number_is (head.Frame m) n e = ap head.Frame (some_injective m n e)
+number_is (head.Frame m) n e = ap head.Frame (same_Some m n e)
 number_is head.Silent n e = none_some n e
 number_is head.Over n e = none_some n e
 
@@ -53,7 +55,12 @@ least_at feeds (suc k) n e = ⊎_elim
     let x = least_at feeds k n a in
     let l = x.inside in
     record { input = x.input; inside = omega (arith, l); is = x.is })
-    (λ (a : number_at (head_at feeds k) ≡ Some n). record { input = k; inside = omega arith; is = number_is (head_at feeds k) n a })
+    (λ (a : number_at (head_at feeds k) ≡ Some n). record {
+      input = k;
+      inside = omega arith;
+      is = number_is
+          (head_at feeds k) n a;
+    })
     (lesser_is (least_head k (head_at feeds)) (number_at (head_at feeds k)) n e)
 
 pub early_at : (feeds : List Feed) (n : ℕ) → IsNextAt feeds (length feeds) n → n < MOST_FRAMES
@@ -61,19 +68,22 @@ early_at feeds n x =
     let f = get_at feeds x.input x.inside in
     f.0.frames.early n (sym (known_at feeds x.input f.0 f.1) ∙ x.is)
 
-pub passes_at : (feeds : List Feed) (n : ℕ) (silent : Bool) → IsNextAt feeds (length feeds) n → OnePasses (Some n) silent feeds
+pub passes_at : (feeds : List Feed) (n : ℕ) (silent : Bool) → IsNextAt feeds (length feeds) n
+    → OnePasses (Some n) silent feeds
 passes_at feeds n silent x = record {
   input = x.input;
   inside = x.inside;
   passed = ap (is_passed (Some n) silent) x.is ∙ eq-eqb n n refl;
 }
 
-none_at : (feeds : List Feed) (k : ℕ) → least_head k (head_at feeds) ≡ None → (i : ℕ) → i < k → number_at (head_at feeds i) ≡ None
+none_at : (feeds : List Feed) (k : ℕ) → least_head k (head_at feeds) ≡ None → (i : ℕ) → i < k
+    → number_at (head_at feeds i) ≡ None
 none_at feeds zero e i l = absurd (omega (arith, l))
 none_at feeds (suc k) e i l =
     let n = lesser_none (least_head k (head_at feeds)) (number_at (head_at feeds k)) e in
     ⊎_elim (λ (a : i < k). none_at feeds k n.0 i a)
-    (λ (a : k ≤ i). ap (λ (j : ℕ). number_at (head_at feeds j)) (let z : i ≡ k = omega (arith, a, l) in z) ∙ n.1) (cases_lt i k)
+    (λ (a : k ≤ i). ap (λ (j : ℕ). number_at (head_at feeds j)) (let z : i ≡ k = omega (arith, a, l) in z)
+    ∙ n.1) (cases_lt i k)
 
 over_is : (h : Head) → is_known h ≡ true → number_at h ≡ None → h ≢ head.Silent → h ≡ head.Over
 over_is head.Unknown known none silent = absurd (true≢false (sym known))
@@ -86,7 +96,8 @@ pub all_over : (feeds : List Feed) (k : ℕ) → AllKnown feeds → least_head k
 all_over feeds k known none silent i l = over_is (head_at feeds i) (known i) (none_at feeds k none i l) (silent i)
 
 -- a step that passes something leaves less
-pub step_left : (m n : MendMachine) → m.phase ≡ phase.Looks → n.phase ≡ phase.Looks → left_in n.feeds.items < left_in m.feeds.items
+pub step_left : (m n : MendMachine) → m.phase ≡ phase.Looks → n.phase ≡ phase.Looks
+    → left_in n.feeds.items < left_in m.feeds.items
     → left_of n < left_of m
 step_left m n was is less =
     let a : left_of m ≡ _ = ap (λ (p : Phase). left_at p m) was in
@@ -94,15 +105,11 @@ step_left m n was is less =
     omega (arith, less, a, b)
 
 -- if it gives, but nothing of feeds or a frame, it gives the rest
-pub rests_at : (m : MendMachine) → step_of m ≡ Give → (m.phase ≡ phase.Looks → ⊥)
-    → ((n : ℕ) (from : Source) → m.phase ≡ phase.Sends n from → ⊥) → m.phase ≡ phase.Rests
-rests_at m h looks sends = go m.phase refl h
-  where
-    go : (p : Phase) → m.phase ≡ p → step_in p m.feeds.items ≡ Give → m.phase ≡ phase.Rests
-    go phase.Looks is h = absurd (looks is)
-    go (phase.Sends n from) is h = absurd (sends n from is)
-    go phase.Rests is h = is
-    go phase.Done is h = absurd (let z : End ≡ Give = h in cc)
+pub rests_at : (m : MendMachine) → step_of m ≡ Give → (m.phase ≡ phase.Rests) ⊎ (m.phase ≡ phase.Done)
+    → m.phase ≡ phase.Rests
+rests_at m gives (inl rests) = rests
+rests_at m gives (inr done) =
+    absurd (let z : End ≡ Give = sym (ap (λ (p : Phase). step_in p m.feeds.items) done) ∙ gives in cc)
 
 -- where no bytes are wanted it is known what is next in each
 pub gives_known : (feeds : List Feed) → wants (first_waiting feeds) ≡ Give → AllKnown feeds
@@ -113,13 +120,15 @@ gives_known feeds e = first_none feeds (none_wanted (first_waiting feeds) e)
     none_wanted (Some w) e = absurd (let z : Read w SIZE read_ahead ≡ Give = e in cc)
 
 -- where all have ended it is known what is next
-pub all_known : (feeds : List Feed) (k : ℕ) → ((i : ℕ) → i < k → head_at feeds i ≡ head.Over) → length feeds ≡ k → AllKnown feeds
+pub all_known : (feeds : List Feed) (k : ℕ) → ((i : ℕ) → i < k → head_at feeds i ≡ head.Over) → length feeds ≡ k
+    → AllKnown feeds
 all_known feeds k over count i = ⊎_elim (λ (a : i < k). ap is_known (over i a))
     (λ (a : k ≤ i). ap is_known (past_over feeds i (omega (arith, a, count)))) (cases_lt i k)
 
 -- ---- what is made next
 
-module _ (c : Config) (k : ℕ) (feeds : List Feed) (done : List Event) (gone : ℕ → List FeedEvent) (h : HaveCome c k feeds done gone)
+module _ (c : Config) (k : ℕ) (feeds : List Feed) (done : List Event) (gone : ℕ → List FeedEvent)
+    (h : HaveCome c k feeds done gone)
     (known : AllKnown feeds) (past : List Numbered) (xs ys : ℕ → Coming) (all : AllGo c feeds done gone xs ys) where
   all_begin : (i : ℕ) → i < k → Begins (head_at feeds i) (ys i)
   all_begin i l =
@@ -165,7 +174,8 @@ module _ (c : Config) (k : ℕ) (feeds : List Feed) (done : List Event) (gone : 
   frame_next n e low o made =
       next_is (Some n) e (frame_some n e)
       ∙ cond-false (nat_lt n (low_of past)) _ _ (le-ltb n (low_of past) low)
-      ∙ ap (λ (z : Option Made). option_to_list z ++ picks_from (taking c) k (past_with past z) (all_behind (Some n) true ys)) made
+      ∙ ap (λ (z : Option Made). option_to_list z ++ picks_from (taking c) k (past_with past z)
+      (all_behind (Some n) true ys)) made
 
   -- silences are passed over
   pub silent_next : (i : ℕ) → i < k → head_at feeds i ≡ head.Silent → least_head k (head_at feeds) ≡ None

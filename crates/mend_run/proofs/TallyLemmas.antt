@@ -1,5 +1,6 @@
 -- What is counted.
-use Rattle.std.proofs.Common.{◌≡◌, ◌≢◌, ℕ, suc, ◌+◌, ◌-◌, ◌/◌, ◌%◌, ◌^◌, ◌<◌, ◌==◌, Bool, true, false, cond, List, [], ◌∷◌, ◌++◌, length}
+use Rattle.std.proofs.Common.{◌≡◌, ◌≢◌, ℕ, suc, ◌+◌, ◌-◌, ◌/◌, ◌%◌, ◌^◌, ◌<◌, ◌==◌, Bool, true, false, cond, List, []}
+use Rattle.std.proofs.Common.{◌∷◌, ◌++◌, length}
 use Rattle.std.proofs.Common.{refl, ap, ap₂, sym, ◌∙◌, arith, length-append}
 use Rattle.std.specs.List.{filter}
 use Rattle.std.proofs.lemmas.Bool.{true≢false, eqb-true}
@@ -13,14 +14,22 @@ use Rattle.mend_run.specs.declared.stop.Ran.{Ran}
 use Rattle.mend_run.specs.declared.tally.Tally.{Tally}
 
 abbrev tally : ℕ → ℕ → ℕ → ℕ → ℕ → Tally
-tally first behind frames woven units = record { first = first; behind = behind; frames = frames; woven = woven; units = units }
+tally first behind frames woven units = record {
+  first = first;
+  behind = behind;
+  frames = frames;
+  woven =
+      woven;
+  units = units;
+}
 
 same_tally : (a b c d e f g h i j : ℕ) → a ≡ f → b ≡ g → c ≡ h → d ≡ i → e ≡ j → tally a b c d e ≡ tally f g h i j
 same_tally a b c d e f g h i j p q r s t =
     ap (λ (x : ℕ). tally x b c d e) p ∙ ap (λ (x : ℕ). tally f x c d e) q ∙ ap (λ (x : ℕ). tally f g x d e) r
     ∙ ap (λ (x : ℕ). tally f g h x e) s ∙ ap (tally f g h i) t
 
-first_push : (made : List Made) (x : Made) → cond (told (length made) == 0) x.number (first_of made) ≡ first_of (made ++ x ∷ [])
+first_push : (made : List Made) (x : Made) → cond (told (length made) == 0) x.number (first_of made) ≡ first_of
+    (made ++ x ∷ [])
 first_push [] x = refl
 first_push (y ∷ made) x =
     ap (λ (b : Bool). cond b x.number y.number) (not_zero (length made))
@@ -37,9 +46,6 @@ behind_push : (made : List Made) (x : Made) → x.number + 1 ≡ behind_of (made
 behind_push [] x = refl
 behind_push (y ∷ made) x = ap (λ (n : ℕ). n + 1) (sym (last_push y.number made x))
 
-told_more : (n m : ℕ) → told (told n + m) ≡ told (n + m)
-told_more n m = omega arith
-
 woven_push : (made : List Made) (x : Made) (t : Bool) → x.is_woven ≡ t
     → cond t (told (told (length (filter is_woven made)) + 1)) (told (length (filter is_woven made)))
     ≡ told (length (filter is_woven (made ++ x ∷ [])))
@@ -50,7 +56,8 @@ woven_push made x t e =
     count : List Made
     count = filter is_woven made
 
-    by : (t : Bool) → cond t (told (told (length count) + 1)) (told (length count)) ≡ told (length (count ++ cond t (x ∷ []) []))
+    by : (t : Bool) → cond t (told (told (length count) + 1)) (told (length count)) ≡ told
+        (length (count ++ cond t (x ∷ []) []))
     by true = let l = length-append count (x ∷ []) in omega (arith, l)
     by false = let l = length-append count [] in omega (arith, l)
 
@@ -59,10 +66,12 @@ pub tally_frame : (made : List Made) (x : Made) (bytes : List ℕ)
     → with_frame (tally_of made bytes) x.number x.is_woven ≡ tally_of (made ++ x ∷ []) bytes
 tally_frame made x bytes =
     same_tally (cond (told (length made) == 0) x.number (first_of made)) (x.number + 1) (told (told (length made) + 1))
-    (cond x.is_woven (told (told (length (filter is_woven made)) + 1)) (told (length (filter is_woven made)))) (told (length bytes / SIZE))
+    (cond x.is_woven (told (told (length (filter is_woven made)) + 1)) (told (length (filter is_woven made))))
+    (told (length bytes / SIZE))
     (first_of (made ++ x ∷ [])) (behind_of (made ++ x ∷ [])) (told (length (made ++ x ∷ [])))
     (told (length (filter is_woven (made ++ x ∷ [])))) (told (length bytes / SIZE))
-    (first_push made x) (behind_push made x) (let l = length-append made (x ∷ []) in omega (arith, l)) (woven_push made x x.is_woven refl) refl
+    (first_push made x) (behind_push made x) (let l = length-append made (x ∷ []) in omega (arith, l))
+    (woven_push made x x.is_woven refl) refl
 
 -- whole units more
 pub tally_units : (made : List Made) (bytes more : List ℕ) (len : ℕ) → length more ≡ len → len % SIZE ≡ 0

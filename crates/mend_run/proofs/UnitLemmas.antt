@@ -1,6 +1,7 @@
 -- Units that went out, and all units.
 use Rattle.std.proofs.Common.{◌≡◌, ℕ, zero, suc, ◌+◌, ◌*◌, ◌/◌, ◌%◌, ◌^◌, ◌<◌, true, List, [], ◌∷◌, ◌++◌, length, drop}
-use Rattle.std.proofs.Common.{Option, Some, None, refl, ap, ap₂, sym, ◌∙◌, arith, append_assoc, append-nil, length-append}
+use Rattle.std.proofs.Common.{Option, Some, None, refl, ap, ap₂, sym, ◌∙◌, arith, append_assoc, append-nil}
+use Rattle.std.proofs.Common.{length-append}
 use Rattle.plp_config.specs.declared.config.Config.{Config}
 use Rattle.ts_packet.specs.TsFile.{joined}
 use Rattle.ts_packet.specs.declared.sizes.TheConstants.{SIZE}
@@ -31,7 +32,8 @@ units_long reads pid (suc steps) counter (x ∷ xs) p n =
       arith,
       rest,
       one,
-      length-append (piped.unit pid counter (x ∷ xs)) (joined (units_in pid steps ((counter + 1) % 16) (drop (part (x ∷ xs)).size (x ∷ xs)))),
+      length-append (piped.unit pid counter (x ∷ xs))
+          (joined (units_in pid steps ((counter + 1) % 16) (drop (part (x ∷ xs)).size (x ∷ xs)))),
     )
 
 pub count_is : UnitReads → (pid : ℕ) (packets : List (List ℕ)) → pid < 2 ^ 13
@@ -44,7 +46,8 @@ count_is reads pid packets p =
 -- ---- more frames
 
 behind_append : (c : Config) (last : Option ℕ) (frames more : List SentFrame)
-    → spaced_behind c last (frames ++ more) ≡ spaced_behind c last frames ++ spaced_behind c (last_behind last frames) more
+    → spaced_behind c last (frames ++ more) ≡ spaced_behind c last frames ++ spaced_behind c (last_behind last frames)
+    more
 behind_append c last [] more = refl
 behind_append c last (x ∷ frames) more =
     let first = spacers c last x.number in
@@ -64,14 +67,16 @@ idle_later : (c : Config) (s : Sender) (x : Content) → is_idle s → later_in 
 idle_later c s x idle = ap (λ (a : Stage). later_in c a s x) idle
 
 -- what went out is a front of all units, whatever frames follow
-pub sent_front : (c : Config) (s : Sender) (x : Content) (frames more : List SentFrame) (gave : List ℕ) → SenderStandsFor c s x frames gave
+pub sent_front : (c : Config) (s : Sender) (x : Content) (frames more : List SentFrame) (gave : List ℕ)
+    → SenderStandsFor c s x frames gave
     → (has_finished s ≡ true → is_idle s) → (has_finished s ≡ true → more ≡ [])
     → (tail : List ℕ) × (joined (pipe c.pid (packets_from c 0 (spaced c (frames ++ more)))) ≡ gave ++ tail)
 sent_front c s x frames more gave h idle none =
     let later : List (ℕ × Body) = later_in c s.stage s x ++ spaced_behind c (last_behind None frames) more in
     let rest : List (List ℕ) = packets_from c (0 + length h.all) later in
     let total : spaced c (frames ++ more) ≡ h.all ++ later =
-    spaced_append c frames more ∙ ap (λ (l : List (ℕ × Body)). l ++ spaced_behind c (last_behind None frames) more) h.total
+    spaced_append c frames more ∙ ap (λ (l : List (ℕ × Body)). l ++ spaced_behind c (last_behind None frames) more)
+    h.total
     ∙ append_assoc h.all (later_in c s.stage s x) (spaced_behind c (last_behind None frames) more) in
     let packets : packets_from c 0 (spaced c (frames ++ more)) ≡ packets_from c 0 h.all ++ rest =
     ap (packets_from c 0) total ∙ packets_append c 0 h.all later in

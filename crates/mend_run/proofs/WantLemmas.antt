@@ -1,5 +1,6 @@
 -- What several feeds want.
-use Rattle.std.proofs.Common.{◌≡◌, ℕ, ◌+◌, ◌^◌, ◌<◌, ◌≤◌, false, List, length, Option, Some, None, refl, ap, sym, subst, ◌∙◌, arith}
+use Rattle.std.proofs.Common.{◌≡◌, ℕ, ◌+◌, ◌^◌, ◌<◌, ◌≤◌, false, List, length, Option, Some, None, refl, ap, sym, subst}
+use Rattle.std.proofs.Common.{◌∙◌, arith}
 use Rattle.std.specs.Option.{option_map_or}
 use Rattle.std.specs.Prelude.{slice_get}
 use Rattle.plp_config.specs.declared.config.Config.{Config}
@@ -28,11 +29,13 @@ pub record IsAsked (Asks : Step → ℕ → ℕ → Type 0) (p : Phase) (feeds :
   pub first : first_waiting feeds ≡ Some feed
   pub asks : Asks (Read feed SIZE read_ahead) input count
 
-pub asked : (Asks : Step → ℕ → ℕ → Type 0) → ((i n : ℕ) → Asks Give i n → ⊥) → ((i n : ℕ) → Asks End i n → ⊥) → (p : Phase)
+pub asked : (Asks : Step → ℕ → ℕ → Type 0) → ((i n : ℕ) → Asks Give i n → ⊥) → ((i n : ℕ) → Asks End i n → ⊥)
+    → (p : Phase)
     (feeds : List Feed) (input count : ℕ) → Asks (step_in p feeds) input count → IsAsked Asks p feeds input count
 asked Asks give end phase.Looks feeds input count h = go (first_waiting feeds) refl h
   where
-    go : (o : Option ℕ) → first_waiting feeds ≡ o → Asks (wants o) input count → IsAsked Asks phase.Looks feeds input count
+    go : (o : Option ℕ) → first_waiting feeds ≡ o → Asks (wants o) input count
+        → IsAsked Asks phase.Looks feeds input count
     go None e h = absurd (give input count h)
     go (Some w) e h = record { feed = w; looks = refl; waits = first_some feeds w e; first = e; asks = h }
 asked Asks give end (phase.Sends n from) feeds input count h = absurd (give input count h)
@@ -53,14 +56,18 @@ reach_more old new len more i = go (slice_get old i) refl
 -- the same of a row by another name
 pub reach_by : (old mid new now : List Feed) → mid ≡ old → now ≡ new → length new ≡ length mid
     → ((i : ℕ) (f h : Feed) → slice_get mid i ≡ Some f → slice_get new i ≡ Some h → fed_of f ≤ fed_of h)
-    → (i : ℕ) → option_map_or fed_of (slice_get old i) 0 + read_ahead ≤ option_map_or fed_of (slice_get now i) 0 + read_ahead
+    → (i : ℕ) → option_map_or fed_of (slice_get old i) 0 + read_ahead ≤ option_map_or fed_of (slice_get now i)
+    0 + read_ahead
 reach_by old mid new now was is len more i =
-    let r = subst (λ (l : List Feed). option_map_or fed_of (slice_get l i) 0 ≤ option_map_or fed_of (slice_get now i) 0) was
-    (subst (λ (l : List Feed). option_map_or fed_of (slice_get mid i) 0 ≤ option_map_or fed_of (slice_get l i) 0) (sym is)
+    let r = subst (λ (l : List Feed). option_map_or fed_of (slice_get l i) 0 ≤ option_map_or fed_of (slice_get now i) 0)
+    was
+    (subst (λ (l : List Feed). option_map_or fed_of (slice_get mid i) 0 ≤ option_map_or fed_of (slice_get l i) 0)
+    (sym is)
     (reach_more mid new len more i)) in
     omega (arith, r)
 
-module _ (c : Config) (k : ℕ) (m : MendMachine) (done : List Event) (gone : ℕ → List FeedEvent) (h : HaveCome c k m.feeds.items done gone)
+module _ (c : Config) (k : ℕ) (m : MendMachine) (done : List Event) (gone : ℕ → List FeedEvent)
+    (h : HaveCome c k m.feeds.items done gone)
   where
     wanted_of : (o : Option ℕ) → first_waiting m.feeds.items ≡ o → IsWanted k done (reach_of m) (wants o)
     wanted_of None e = tt
@@ -72,7 +79,8 @@ module _ (c : Config) (k : ℕ) (m : MendMachine) (done : List Event) (gone : �
         let has = h.each w f.0 f.1 in
         let going : has_ended f.0 ≡ false = (f.0.settled (sym (known_at m.feeds.items w f.0 f.1) ∙ first.there)).2 in
         let fed_is = fed_all f.0 (fed w done) (gone w) has.stands going in
-        let reach : reach_of m w ≡ fed_of f.0 + read_ahead = ap (λ (o : Option Feed). option_map_or fed_of o 0 + read_ahead) f.1 in
+        let reach : reach_of m w ≡ fed_of f.0 + read_ahead = ap (λ (o : Option Feed). option_map_or fed_of
+        o 0 + read_ahead) f.1 in
         record {
           place = omega (arith, inside, count);
           is_open = sym has.end ∙ going;
@@ -85,7 +93,8 @@ module _ (c : Config) (k : ℕ) (m : MendMachine) (done : List Event) (gone : �
     pub wanted : IsWanted k done (reach_of m) (wants (first_waiting m.feeds.items))
     wanted = wanted_of (first_waiting m.feeds.items) refl
 
-    pub room_of : (input count : ℕ) (f : Feed) → slice_get m.feeds.items input ≡ Some f → length (fed input done) + count ≤ 2 ^ 40
+    pub room_of : (input count : ℕ) (f : Feed) → slice_get m.feeds.items input ≡ Some f
+        → length (fed input done) + count ≤ 2 ^ 40
         → fed_of f + count < 2 ^ 60
     room_of input count f is few =
         let most = fed_most f (fed input done) (gone input) (h.each input f is).stands in

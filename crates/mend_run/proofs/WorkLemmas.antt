@@ -1,19 +1,21 @@
 -- What a run does by its files.
-use Rattle.std.proofs.Common.{◌≡◌, ℕ, ◌-◌, ◌/◌, ◌^◌, ◌<◌, ◌≤◌, ◌==◌, Bool, true, false, List, [], ◌++◌, length, take, take_at}
+use Rattle.std.proofs.Common.{◌≡◌, ◌≢◌, ℕ, zero, suc, ◌+◌, ◌-◌, ◌/◌, ◌^◌, ◌<◌, ◌≤◌, ◌==◌, Bool, true, false, cond}
+use Rattle.std.proofs.Common.{List, [], ◌∷◌, ◌++◌, length, take, take_at, append_assoc, length-append}
 use Rattle.std.proofs.Common.{Option, Some, None, refl, ap, ap₂, sym, subst, ◌∙◌, arith, append-nil}
-use Rattle.std.specs.Prelude.{Err, slice_get, slice_index}
+use Rattle.std.specs.Prelude.{Err, not, slice_get, slice_index}
 use Rattle.std.specs.Option.{option_map_or}
-use Rattle.std.proofs.lemmas.Bool.{true≢false}
-use Rattle.std.proofs.lemmas.List.{map-append}
-use Rattle.std.proofs.lemmas.Option.{slice_get_within}
+use Rattle.std.proofs.lemmas.Bool.{true≢false, eq-eqb, eqb-true}
+use Rattle.std.proofs.lemmas.List.{map-append, take_all}
+use Rattle.std.proofs.lemmas.Option.{slice_get_within, same_Some}
 use Rattle.terms.proofs.CaseLemmas.{bool_cases}
-use Rattle.terms.proofs.OptionLemmas.{some_injective, none_some}
+use Rattle.terms.proofs.OptionLemmas.{none_some}
 use Rattle.plp_config.specs.declared.config.Config.{Config}
 use Rattle.ts_packet.specs.TsFile.{joined}
 use Rattle.ts_packet.specs.declared.sizes.TheConstants.{SIZE}
 use Rattle.t2mi_stream.specs.Complete.{complete_units}
 use Rattle.t2mi_stream.specs.Laws.{UnitReads}
 use Rattle.t2mi_stream.specs.Pipe.{pipe, units_in}
+use Rattle.frame_groups.specs.Laws.{IsPrefix}
 use Rattle.frame_groups.specs.Modulated.{Numbered}
 use Rattle.frame_groups.specs.Tests.{rules}
 use Rattle.feed_events.specs.Arrivals.{Arrival}
@@ -44,8 +46,9 @@ use Rattle.file_run.proofs.WorkLemmas.{are_whole}
 use Rattle.mend_run.specs.AsMachine.{Becomes, step_in, step_of, reach_of, ending_of}
 use Rattle.mend_run.specs.Counted.{counted}
 use Rattle.mend_run.specs.MendRun.{MendsAll, HasNone, AreTaken, HasWritten, HasSome, mend_work}
+use Rattle.mend_run.specs.MendRun.{taken_but, ended_but, complete_by}
 use Rattle.mend_run.specs.Row.{Goes, FeedHas, AllGo, AreSame, first_waiting, wants}
-use Rattle.mend_run.specs.Shown.{Place, Looks, Passes, Sends, Rests, Done, Splits, ShownAt}
+use Rattle.mend_run.specs.Shown.{Place, Looks, Passes, Sends, Rests, Done, Splits, HasDue, ShownAt, known_by}
 use Rattle.mend_run.specs.Shown.{place_of, ran_of}
 use Rattle.mend_run.specs.declared.machine.MendMachine.{MendMachine}
 use Rattle.mend_run.specs.declared.phase.Phase.{Phase}
@@ -53,18 +56,16 @@ use Rattle.mend_run.specs.declared.phase.Phase.TheVariants as phase
 use Rattle.mend_run.specs.declared.tally.Tally.{Tally}
 use Rattle.mend_run.proofs.FeedLemmas.{fed_most, CanGo, some_way, behind_front}
 use Rattle.mend_run.proofs.RowLemmas.{get_at, known_at, IsFirst, first_some}
-use Rattle.mend_run.proofs.ShownLemmas.{at_place}
+use Rattle.mend_run.proofs.ShownLemmas.{at_place, coming}
 use Rattle.mend_run.proofs.TallyLemmas.{ran_is, none_told, some_told}
 use Rattle.mend_run.proofs.WantLemmas.{asked}
 use Rattle.mend_run.proofs.UnitLemmas.{count_is, sent_front, sent_all}
 
 -- ---- how a feed goes on
 
-abbrev coming : List FeedEvent → Bool → Coming
-coming es over = record { events = es; over = over }
-
 -- what comes behind the events that were passed, if it goes on so
-pub record Way (c : Config) (f : Feed) (bytes : List ℕ) (gone : List FeedEvent) (over : Bool) (all : List ℕ) : Type 0 where
+pub record Way (c : Config) (f : Feed) (bytes : List ℕ) (gone : List FeedEvent) (over : Bool) (all : List ℕ) :
+    Type 0 where
   pub rest : Coming
   pub goes : Goes c f bytes gone (coming (feed_events (rules c) over all) over) rest
 
@@ -74,21 +75,26 @@ way_on : (c : Config) (f : Feed) (bytes : List ℕ) (ended : Bool) (gone : List 
 way_on c f bytes ended gone h over all later can =
     let s = h.stands in
     let r = rules (pooled_of f).network in
-    let more : List FeedEvent = course_events r f.frames.course s.group over (arrivals_left r.network.pid s.events f.idle ++ later) in
+    let more : List FeedEvent = course_events r f.frames.course s.group over
+    (arrivals_left r.network.pid s.events f.idle ++ later) in
     let is : feed_events (rules c) over all ≡ gone ++ more =
     sym (ap (λ (k : Config). feed_events (rules k) over all) h.network)
-    ∙ s.all over all later (subst (λ (k : Config). CanBecome (has_ended f) k.pid bytes over all later) (sym h.network) can) in
+    ∙ s.all over all later (subst (λ (k : Config). CanBecome (has_ended f) k.pid bytes over all later)
+    (sym h.network) can) in
     record {
       rest = coming more over;
       goes = record { all = all; later = later; can = can; is = refl; parts = is; over = refl };
     }
 
 -- nothing is known of one that shows nothing
-nothing_next : (c : Config) (f : Feed) (bytes : List ℕ) (ended : Bool) (gone : List FeedEvent) (h : FeedHas c f bytes ended gone)
-    → head_of f ≡ head.Unknown → (y : Coming) → Goes c f bytes gone (coming (feed_events (rules c) false bytes) false) y → y.events ≡ []
+nothing_next : (c : Config) (f : Feed) (bytes : List ℕ) (ended : Bool) (gone : List FeedEvent)
+    (h : FeedHas c f bytes ended gone)
+    → head_of f ≡ head.Unknown → (y : Coming) → Goes c f bytes gone (coming (feed_events (rules c) false bytes) false) y
+    → y.events ≡ []
 nothing_next c f bytes ended gone h e y go =
     behind_front gone y.events []
-    (sym go.parts ∙ sym (ap (λ (k : Config). feed_events (rules k) false bytes) h.network) ∙ h.shows.unknown e bytes gone h.stands
+    (sym go.parts ∙ sym (ap (λ (k : Config). feed_events (rules k) false bytes) h.network)
+    ∙ h.shows.unknown e bytes gone h.stands
     ∙ sym (append-nil gone))
 
 nothing_piped : (c : Config) → joined (pipe c.pid (packets_of c [])) ≡ []
@@ -126,9 +132,44 @@ sends_at (phase.Sends m other) n from e =
 sends_at phase.Rests n from e = absurd (let z : Rests ≡ Sends n from = e in cc)
 sends_at phase.Done n from e = absurd (let z : Done ≡ Sends n from = e in cc)
 
+-- ---- so many bytes of one input, and all bytes of the others
+
+made_by : (c : Config) (k : ℕ) (files : ℕ → List ℕ) (w : ℕ) (known : List ℕ) → take (length known) (files w) ≡ known
+    → made_of_known c k files (taken_but files w (length known)) (ended_but w)
+    ≡ mended c k (known_by c w known (all_of c files))
+made_by c k files w known front =
+    mended_same c k (known_of c files (taken_but files w (length known)) (ended_but w))
+    (known_by c w known (all_of c files))
+    (λ i l. at i (i == w) refl)
+  where
+    at : (i : ℕ) (b : Bool) → (i == w) ≡ b
+        → coming (feed_events (rules c) (not b) (take (cond b (length known) (length (files i))) (files i))) (not b)
+        ≡ cond b (coming (feed_events (rules c) false known) false) (all_of c files i)
+    at i true e =
+        ap (λ (l : List ℕ). coming (feed_events (rules c) false l) false)
+        (ap (λ (j : ℕ). take (length known) (files j)) (eqb-true i w e) ∙ front)
+    at i false e =
+        ap (λ (l : List ℕ). coming (feed_events (rules c) true l) true)
+        (take_all (length (files i)) (files i) (omega arith))
+
+-- without inputs there are no units
+no_units : (c : Config) (files : ℕ → List ℕ) → joined (units_of c 0 files) ≡ []
+unfolding mended spaced units_in
+no_units c files = refl
+
+some_inputs : (c : Config) (k : ℕ) (files : ℕ → List ℕ) (bytes more tail : List ℕ)
+    → joined (units_of c k files) ≡ (bytes ++ more) ++ tail
+    → more ≢ [] → 0 < k
+some_inputs c zero files bytes [] tail is some = absurd (some refl)
+some_inputs c zero files bytes (x ∷ more) tail is some =
+    absurd (let e = ap length (sym (no_units c files) ∙ is) in
+    omega (arith, e, length-append (bytes ++ x ∷ more) tail, length-append bytes (x ∷ more)))
+some_inputs c (suc k) files bytes more tail is some = omega arith
+
 -- ---- what was done to a machine by some files
 
-module _ (reads : UnitReads) (c : Config) (k : ℕ) (now : MendMachine) (files : ℕ → List ℕ) (places : List ℕ) (done : List Event)
+module _ (reads : UnitReads) (c : Config) (k : ℕ) (now : MendMachine) (files : ℕ → List ℕ) (places : List ℕ)
+    (done : List Event)
     (all : length places ≡ k) (are : AreFed k files places done) where
   abbrev taken : ℕ → ℕ
   taken = λ i. length (fed i done)
@@ -147,7 +188,8 @@ module _ (reads : UnitReads) (c : Config) (k : ℕ) (now : MendMachine) (files :
         omega (arith, l, count)
 
     -- the whole file
-    whole_can : (i : ℕ) (f : Feed) → slice_get now.feeds.items i ≡ Some f → CanGo (has_ended f) c.pid (fed i done) true (files i)
+    whole_can : (i : ℕ) (f : Feed) → slice_get now.feeds.items i ≡ Some f
+        → CanGo (has_ended f) c.pid (fed i done) true (files i)
     whole_can i f is = by (has_ended f) (s.come.each i f is).end
       where
         a : IsFed (files i) (slice_index places i) (fed i done) (events.has_ended i done)
@@ -164,26 +206,32 @@ module _ (reads : UnitReads) (c : Config) (k : ℕ) (now : MendMachine) (files :
           );
         }
 
-    whole_way : (i : ℕ) (f : Feed) → slice_get now.feeds.items i ≡ Some f → Way c f (fed i done) (s.gone i) true (files i)
+    whole_way : (i : ℕ) (f : Feed) → slice_get now.feeds.items i ≡ Some f
+        → Way c f (fed i done) (s.gone i) true (files i)
     whole_way i f is =
         let can = whole_can i f is in
-        way_on c f (fed i done) (events.has_ended i done) (s.gone i) (s.come.each i f is) true (files i) can.later can.can
+        way_on c f (fed i done) (events.has_ended i done) (s.gone i) (s.come.each i f is) true (files i)
+        can.later can.can
 
     abbrev rest_at : (i : ℕ) (o : Option Feed) → slice_get now.feeds.items i ≡ o → Coming
     rest_at i None e = coming [] true
     rest_at i (Some f) e = (whole_way i f e).rest
 
-    goes_at : (i : ℕ) (f : Feed) → slice_get now.feeds.items i ≡ Some f → (o : Option Feed) (e : slice_get now.feeds.items i ≡ o)
+    goes_at : (i : ℕ) (f : Feed) → slice_get now.feeds.items i ≡ Some f
+        → (o : Option Feed) (e : slice_get now.feeds.items i ≡ o)
         → Goes c f (fed i done) (s.gone i) (all_of c files i) (rest_at i o e)
     goes_at i f is None e = none_some f (sym e ∙ is)
     goes_at i f is (Some g) e =
-        subst (λ (z : Feed). Goes c z (fed i done) (s.gone i) (all_of c files i) (rest_at i (Some g) e)) (some_injective g f (sym e ∙ is))
+        subst (λ (z : Feed). Goes c z (fed i done) (s.gone i) (all_of c files i) (rest_at i (Some g) e))
+        (same_Some g f (sym e ∙ is))
         (whole_way i g e).goes
+
+    all_goes : AllGo c now.feeds.items done s.gone (all_of c files) (λ i. rest_at i (slice_get now.feeds.items i) refl)
+    all_goes i f is = goes_at i f is (slice_get now.feeds.items i) refl
 
     -- the frames that were made are the first of all
     all_splits : Splits c k p s.past s.made (all_of c files) (λ i. rest_at i (slice_get now.feeds.items i) refl)
-    all_splits = s.splits (all_of c files) (λ i. rest_at i (slice_get now.feeds.items i) refl)
-        (λ i f is. goes_at i f is (slice_get now.feeds.items i) refl)
+    all_splits = s.splits (all_of c files) (λ i. rest_at i (slice_get now.feeds.items i) refl) all_goes
 
     made_front : (more : List Made) × (made_of_all c k files ≡ s.made ++ more)
     made_front = by p s.made s.past all_splits
@@ -197,13 +245,54 @@ module _ (reads : UnitReads) (c : Config) (k : ℕ) (now : MendMachine) (files :
         by Rests made past h = ([], h ∙ sym (append-nil made))
         by Done made past h = ([], h ∙ sym (append-nil made))
 
-  -- what is known of the files by what was fed
-  known_same : (i : ℕ) → i < k → feed_events (rules c) (ended i) (take (taken i) (files i)) ≡ feed_events (rules c) (ended i) (fed i done)
-  known_same i l =
-      let a = are i l in
-      ap (feed_events (rules c) (ended i)) (ap (take (taken i)) a.parts ∙ take_at (fed i done) a.more (taken i) refl)
+    -- how far each was read
+    fed_at : (i : ℕ) → i < k → option_map_or fed_of (slice_get now.feeds.items i) 0 ≤ taken i
+    fed_at i l =
+        let f = feed_in i l in
+        subst (λ (o : Option Feed). option_map_or fed_of o 0 ≤ taken i) (sym f.1)
+        (fed_most f.0 (fed i done) (s.gone i) (s.come.each i f.0 f.1).stands)
 
-  are_taken : AreWithin k places (reach_of now) → ((i : ℕ) → i < k → option_map_or fed_of (slice_get now.feeds.items i) 0 ≤ taken i)
+    -- what held all up, and how much went out
+    module _ (d : HasDue c k now.feeds.items done s.gone) where
+      due_within : length d.known ≤ slice_index places d.input
+      due_within =
+          let a = (are d.input d.inside).ahead in
+          let e = ap length d.parts in
+          omega (arith, a, e, length-append d.known d.last)
+
+      due_near : AreWithin k places (reach_of now) → slice_index places d.input ≤ length d.known + 1 + read_ahead
+      due_near within =
+          let a = within d.input d.inside in
+          let m = fed_at d.input d.inside in
+          let e = ap length d.parts in
+          let few = d.few in
+          omega (arith, a, m, e, few, length-append d.known d.last)
+
+      due_front : take (length d.known) (files d.input) ≡ d.known
+      due_front =
+          let a = are d.input d.inside in
+          ap (take (length d.known)) (a.parts ∙ ap (λ (l : List ℕ). l ++ a.more) d.parts
+          ∙ append_assoc d.known d.last a.more)
+          ∙ take_at d.known (d.last ++ a.more) (length d.known) refl
+
+      due_since : IsPrefix (complete_by c k files d.input (length d.known)) (gave done)
+      due_since =
+          subst (λ (m : List Made). IsPrefix (joined (complete_units c.pid (packets_of c m))) (gave done))
+          (sym (made_by c k files d.input d.known due_front ∙ d.is (all_of c files) _ all_goes))
+          d.went
+
+  front_at : (i : ℕ) → i < k → take (taken i) (files i) ≡ fed i done
+  front_at i l =
+      let a = are i l in
+      ap (take (taken i)) a.parts ∙ take_at (fed i done) a.more (taken i) refl
+
+  -- what is known of the files by what was fed
+  known_same : (i : ℕ) → i < k → feed_events (rules c) (ended i) (take (taken i) (files i)) ≡ feed_events
+      (rules c) (ended i) (fed i done)
+  known_same i l = ap (feed_events (rules c) (ended i)) (front_at i l)
+
+  are_taken : AreWithin k places (reach_of now)
+      → ((i : ℕ) → i < k → option_map_or fed_of (slice_get now.feeds.items i) 0 ≤ taken i)
       → AreTaken k files places taken ended
   are_taken within most = record {
     within = λ i l. (are i l).ahead;
@@ -214,7 +303,8 @@ module _ (reads : UnitReads) (c : Config) (k : ℕ) (now : MendMachine) (files :
   }
 
   module _ (s : ShownAt c k done now Looks) (w : ℕ) (first : first_waiting now.feeds.items ≡ Some w) where
-    known_way : (i : ℕ) (f : Feed) → slice_get now.feeds.items i ≡ Some f → Way c f (fed i done) (s.gone i) (ended i) (fed i done)
+    known_way : (i : ℕ) (f : Feed) → slice_get now.feeds.items i ≡ Some f
+        → Way c f (fed i done) (s.gone i) (ended i) (fed i done)
     known_way i f is =
         let h = s.come.each i f is in
         subst (λ (b : Bool). Way c f (fed i done) (s.gone i) b (fed i done)) h.end
@@ -225,12 +315,15 @@ module _ (reads : UnitReads) (c : Config) (k : ℕ) (now : MendMachine) (files :
     known_rest i None e = coming [] true
     known_rest i (Some f) e = (known_way i f e).rest
 
-    known_goes : (i : ℕ) (f : Feed) → slice_get now.feeds.items i ≡ Some f → (o : Option Feed) (e : slice_get now.feeds.items i ≡ o)
-        → Goes c f (fed i done) (s.gone i) (coming (feed_events (rules c) (ended i) (fed i done)) (ended i)) (known_rest i o e)
+    known_goes : (i : ℕ) (f : Feed) → slice_get now.feeds.items i ≡ Some f
+        → (o : Option Feed) (e : slice_get now.feeds.items i ≡ o)
+        → Goes c f (fed i done) (s.gone i) (coming (feed_events (rules c) (ended i) (fed i done)) (ended i))
+        (known_rest i o e)
     known_goes i f is None e = none_some f (sym e ∙ is)
     known_goes i f is (Some g) e =
-        subst (λ (z : Feed). Goes c z (fed i done) (s.gone i) (coming (feed_events (rules c) (ended i) (fed i done)) (ended i))
-        (known_rest i (Some g) e)) (some_injective g f (sym e ∙ is)) (known_way i g e).goes
+        subst (λ (z : Feed). Goes c z (fed i done) (s.gone i) (coming (feed_events (rules c) (ended i) (fed i done))
+        (ended i))
+        (known_rest i (Some g) e)) (same_Some g f (sym e ∙ is)) (known_way i g e).goes
 
     abbrev xs : ℕ → Coming
     xs = λ i. coming (feed_events (rules c) (ended i) (fed i done)) (ended i)
@@ -260,7 +353,8 @@ module _ (reads : UnitReads) (c : Config) (k : ℕ) (now : MendMachine) (files :
     nothing_w : (ys w).events ≡ []
     nothing_w =
         nothing_next c feed_w.0 (fed w done) (ended w) (s.gone w) (s.come.each w feed_w.0 feed_w.1) unknown_w (ys w)
-        (subst (λ (b : Bool). Goes c feed_w.0 (fed w done) (s.gone w) (coming (feed_events (rules c) b (fed w done)) b) (ys w)) going
+        (subst (λ (b : Bool). Goes c feed_w.0 (fed w done) (s.gone w) (coming (feed_events (rules c) b (fed w done)) b)
+        (ys w)) going
         (known_all w feed_w.0 feed_w.1))
 
     over_w : (ys w).over ≡ false
@@ -269,27 +363,65 @@ module _ (reads : UnitReads) (c : Config) (k : ℕ) (now : MendMachine) (files :
     made_known : mended c k xs ≡ s.made
     made_known =
         s.splits xs ys known_all
-        ∙ ap (λ (l : List Made). s.made ++ l) (picks_wait (taking c) k s.past ys (it_waits k ys w within_w nothing_w over_w))
+        ∙ ap (λ (l : List Made). s.made ++ l) (picks_wait (taking c) k s.past ys
+        (it_waits k ys w within_w nothing_w over_w))
         ∙ append-nil s.made
 
     same_known : made_of_known c k files taken ended ≡ mended c k xs
     same_known = mended_same c k (known_of c files taken ended) xs
         (λ i l. ap (λ (es : List FeedEvent). coming es (ended i)) (known_same i l))
 
-    fed_at : (i : ℕ) → i < k → option_map_or fed_of (slice_get now.feeds.items i) 0 ≤ taken i
-    fed_at i l =
-        let f = feed_in Looks s i l in
-        subst (λ (o : Option Feed). option_map_or fed_of o 0 ≤ taken i) (sym f.1)
-        (fed_most f.0 (fed i done) (s.gone i) (s.come.each i f.0 f.1).stands)
-
     abbrev written : AreWithin k places (reach_of now) → HasWritten c k files places (gave done)
     written = λ within. record {
       taken = taken;
       ended = ended;
-      are_taken = are_taken within fed_at;
+      are_taken = are_taken within (fed_at Looks s);
       is = s.is_at.caught
           ∙ ap (λ (m : List Made). joined (complete_units c.pid (packets_of c m))) (sym (same_known ∙ made_known));
     }
+
+    -- ---- the feed that waits, and all bytes of the others
+
+    -- what is known then, and what of that comes behind the events that were passed
+    abbrev but : ℕ → Coming
+    but = known_by c w (fed w done) (all_of c files)
+
+    abbrev zs : ℕ → Coming
+    zs = λ i. cond (i == w) (ys i) (rest_at Looks s i (slice_get now.feeds.items i) refl)
+
+    xs_w : xs w ≡ coming (feed_events (rules c) false (fed w done)) false
+    xs_w = ap (λ (b : Bool). coming (feed_events (rules c) b (fed w done)) b) going
+
+    but_goes : AllGo c now.feeds.items done s.gone but zs
+    but_goes i f is = by (i == w) refl
+      where
+        by : (b : Bool) → (i == w) ≡ b
+            → Goes c f (fed i done) (s.gone i)
+            (cond b (coming (feed_events (rules c) false (fed w done)) false) (all_of c files i))
+            (cond b (ys i) (rest_at Looks s i (slice_get now.feeds.items i) refl))
+        by true e = subst (λ (x : Coming). Goes c f (fed i done) (s.gone i) x (ys i)) (ap xs (eqb-true i w e) ∙ xs_w)
+            (known_all i f is)
+        by false e = all_goes Looks s i f is
+
+    -- of the feed that waits nothing more is known than before
+    zs_w : zs w ≡ ys w
+    zs_w = ap (λ (b : Bool). cond b (ys w) (rest_at Looks s w (slice_get now.feeds.items w) refl)) (eq-eqb w w refl)
+
+    -- so no other frame is made, whatever the others have
+    made_but : mended c k but ≡ s.made
+    made_but =
+        s.splits but zs but_goes
+        ∙ ap (λ (l : List Made). s.made ++ l)
+        (picks_wait (taking c) k s.past zs
+        (it_waits k zs w within_w (ap (λ (x : Coming). x.events) zs_w ∙ nothing_w)
+        (ap (λ (x : Coming). x.over) zs_w ∙ over_w)))
+        ∙ append-nil s.made
+
+    waits_out : gave done ≡ complete_by c k files w (taken w)
+    waits_out =
+        s.is_at.caught
+        ∙ ap (λ (m : List Made). joined (complete_units c.pid (packets_of c m)))
+        (sym (made_by c k files w (fed w done) (front_at w within_w) ∙ made_but))
 
   -- ---- all was given
 
@@ -304,7 +436,8 @@ module _ (reads : UnitReads) (c : Config) (k : ℕ) (now : MendMachine) (files :
     mends_all small some =
         let frames = ap (λ (t : Tally). t.frames == 0) s.tally in
         let units : length (gave done) / SIZE ≡ length (units_of c k files) =
-        ap (λ (l : List ℕ). length l / SIZE) units_all ∙ count_is reads c.pid (packets_of c (made_of_all c k files)) small in
+        ap (λ (l : List ℕ). length l / SIZE) units_all ∙ count_is reads c.pid (packets_of c (made_of_all c k files))
+        small in
         record {
           some = λ none. some_told s.made (sym frames ∙ some) (sym made_all ∙ none);
           output = units_all;
@@ -331,11 +464,13 @@ module _ (reads : UnitReads) (c : Config) (k : ℕ) (now : MendMachine) (files :
   Front = (tail : List ℕ) × (joined (units_of c k files) ≡ gave done ++ tail)
 
   as_front : (made more : List Made) → made_of_all c k files ≡ made ++ more → (tail : List ℕ)
-      × (joined (pipe c.pid (packets_from c 0 (spaced c (frames_of c made ++ frames_of c more)))) ≡ gave done ++ tail) → Front
+      × (joined (pipe c.pid (packets_from c 0 (spaced c (frames_of c made ++ frames_of c more)))) ≡ gave done ++ tail)
+      → Front
   as_front made more is p = (
     p.0,
     ap (λ (m : List Made). joined (pipe c.pid (packets_of c m))) is
-        ∙ ap (λ (f : List SentFrame). joined (pipe c.pid (packets_from c 0 (spaced c f)))) (map-append (frame_of c) made more) ∙ p.1,
+        ∙ ap (λ (f : List SentFrame). joined (pipe c.pid (packets_from c 0 (spaced c f))))
+        (map-append (frame_of c) made more) ∙ p.1,
   )
 
   gave_front : (p : Place) → ShownAt c k done now p → place_of now.phase ≡ p → Front
@@ -343,19 +478,24 @@ module _ (reads : UnitReads) (c : Config) (k : ℕ) (now : MendMachine) (files :
       let m = made_front Looks s in
       let open_yet = (now.looks (looks_at now.phase at)).1 in
       as_front s.made m.0 m.1
-      (sent_front c now.sender s.is_at.content (frames_of c s.made) (frames_of c m.0) (gave done) s.is_at.stands now.sender.«open»
+      (sent_front c now.sender s.is_at.content (frames_of c s.made) (frames_of c m.0) (gave done) s.is_at.stands
+      now.sender.«open»
       (λ on. absurd (true≢false (sym on ∙ open_yet))))
   gave_front (Passes number silent) s at = absurd (not_passes now.phase number silent at)
   gave_front (Sends n from) s at =
       let m = made_front (Sends n from) s in
       as_front s.made m.0 m.1
-      (sent_front c now.sender (lent_content from now.mender now.feeds.items) (frames_of c s.made) (frames_of c m.0) (gave done)
-      s.is_at.stands now.sender.«open» (λ on. absurd (now.busy n from (sends_at now.phase n from at) (now.sender.«open» on))))
+      (sent_front c now.sender (lent_content from now.mender now.feeds.items) (frames_of c s.made) (frames_of c m.0)
+      (gave done)
+      s.is_at.stands now.sender.«open» (λ on. absurd (now.busy n from (sends_at now.phase n from at)
+      (now.sender.«open» on))))
   gave_front Rests s at =
       as_front s.made [] (all_splits Rests s ∙ sym (append-nil s.made))
-      (sent_front c now.sender s.is_at.content (frames_of c s.made) [] (gave done) s.is_at.stands now.sender.«open» (λ on. refl))
+      (sent_front c now.sender s.is_at.content (frames_of c s.made) [] (gave done) s.is_at.stands now.sender.«open»
+      (λ on. refl))
   gave_front Done s at =
-      as_front s.made [] (all_splits Done s ∙ sym (append-nil s.made)) (sent_all c (frames_of c s.made) [] (gave done) refl s.is_at.1)
+      as_front s.made [] (all_splits Done s ∙ sym (append-nil s.made)) (sent_all c (frames_of c s.made)
+      [] (gave done) refl s.is_at.1)
 
 -- ---- the work
 
@@ -396,7 +536,11 @@ module _ (reads : UnitReads) (start now : MendMachine) (files : ℕ → List ℕ
       let few = w.asks.1 in
       record {
         written = written reads c k now files places done all are d w.feed w.first within;
+        going = subst (λ (i : ℕ). events.has_ended i done ≡ false) w.asks.0
+            (going reads c k now files places done all are d w.feed w.first);
         near = omega (arith, few, most);
+        waits = subst (λ (i : ℕ). gave done ≡ complete_by c k files i (length (fed i done))) w.asks.0
+            (waits_out reads c k now files places done all are d w.feed w.first);
       }
 
   unread : AreWithin k places (reach_of now) → (input : ℕ) → input < k
@@ -408,22 +552,41 @@ module _ (reads : UnitReads) (start now : MendMachine) (files : ℕ → List ℕ
       let few = w.asks.1 in
       record {
         written = written reads c k now files places done all are d w.feed w.first within;
-        going = subst (λ (i : ℕ). events.has_ended i done ≡ false) w.asks.0 (going reads c k now files places done all are d w.feed w.first);
+        going = subst (λ (i : ℕ). events.has_ended i done ≡ false) w.asks.0
+            (going reads c k now files places done all are d w.feed w.first);
         near = omega (arith, few);
+        waits = subst (λ (i : ℕ). gave done ≡ complete_by c k files i (length (fed i done))) w.asks.0
+            (waits_out reads c k now files places done all are d w.feed w.first);
       }
 
-unwritten : UnitReads → (start now : MendMachine) (files : ℕ → List ℕ) (places : List ℕ) (done : List Event) (bytes : List ℕ)
+unwritten : UnitReads → (start now : MendMachine) (files : ℕ → List ℕ) (places : List ℕ) (done : List Event)
+    (bytes : List ℕ)
     → length places ≡ length start.feeds.items → AreFed (length start.feeds.items) files places done
     → GaveSome reach_of step_of (Becomes start) (length start.feeds.items) places done now bytes
-    → HasSome start.plan.now (length start.feeds.items) files bytes
+    → HasSome start.plan.now (length start.feeds.items) files places bytes
 unwritten reads start now files places done bytes all are g =
+    let c = start.plan.now in
     let k = length start.feeds.items in
-    let p = gave_front reads start.plan.now k now files places (done ++ g.late) all (fed_since k files places done g.late g.only are)
+    let p = gave_front reads c k now files places (done ++ g.late) all (fed_since k files places done g.late g.only are)
     (place_of now.phase) g.came_late refl in
+    let begins = p.1 ∙ ap (λ (l : List ℕ). l ++ p.0) g.parts in
+    let m = g.mid in
+    let d = g.came.due (some_inputs c k files bytes g.more p.0 begins g.some) in
+    let since = due_since reads c k m files places done all are (place_of m.phase) g.came d in
     record {
       more = g.more;
       some = g.some;
-      begins = (p.0, p.1 ∙ ap (λ (l : List ℕ). l ++ p.0) g.parts);
+      begins = (p.0, begins);
+      last = d.input;
+      inside = d.inside;
+      taken = length d.known;
+      within = due_within reads c k m files places done all are (place_of m.phase) g.came d;
+      near = due_near reads c k m files places done all are (place_of m.phase) g.came d g.within;
+      since = (
+        since.0 ++ g.front,
+        g.is ∙ ap (λ (l : List ℕ). l ++ g.front) since.1
+            ∙ append_assoc (complete_by c k files d.input (length d.known)) since.0 g.front,
+      );
     }
 
 pub mend_does : UnitReads → (start : MendMachine) → DoesWork (mend_work start.plan.now (length start.feeds.items))

@@ -21,7 +21,8 @@ abbrev pub span : List Made → ℕ
 span [] = 0
 span (x ∷ made) = last_from x.number made + 1 - x.number
 
--- how many frames were sent, how many of them were woven, how many between the first and the last were not, and so many units
+-- how many frames were sent, how many of them were woven, how many between the first and the last were not, and so many
+-- units
 abbrev pub counted : List Made → ℕ → Ran
 counted made units = record {
   frames = told (length made);

@@ -1,5 +1,6 @@
 -- What a run does that makes one stream of several files.
-use Rattle.std.specs.Prelude.{◌≡◌, ◌≢◌, ℕ, ◌+◌, ◌<◌, ◌≤◌, Bool, true, false, List, [], ◌++◌, length, slice_index, Ok, Err}
+use Rattle.std.specs.Prelude.{◌≡◌, ◌≢◌, ℕ, ◌+◌, ◌<◌, ◌≤◌, ◌==◌, Bool, true, false, not, List, [], ◌++◌, length}
+use Rattle.std.specs.Prelude.{slice_index, Ok, Err, if◌then◌else◌}
 use Rattle.plp_config.specs.declared.config.Config.{Config}
 use Rattle.ts_packet.specs.TsFile.{joined}
 use Rattle.ts_packet.specs.declared.sizes.TheConstants.{SIZE}
@@ -28,7 +29,8 @@ pub record HasNone (c : Config) (k : ℕ) (files : ℕ → List ℕ) (bytes : Li
   pub none : made_of_all c k files ≡ []
   pub empty : bytes ≡ []
 
--- So many bytes of each file were taken, no fewer than were read but for what is read ahead; a file that ended was taken whole.
+-- So many bytes of each file were taken, no fewer than were read but for what is read ahead; a file that ended was
+-- taken whole.
 pub record AreTaken (k : ℕ) (files : ℕ → List ℕ) (places : List ℕ) (taken : ℕ → ℕ) (ended : ℕ → Bool) : Type 0 where
   pub within : (input : ℕ) → input < k → taken input ≤ slice_index places input
   pub ahead : (input : ℕ) → input < k → slice_index places input ≤ taken input + read_ahead
@@ -41,27 +43,55 @@ pub record HasWritten (c : Config) (k : ℕ) (files : ℕ → List ℕ) (places 
   pub are_taken : AreTaken k files places taken ended
   pub is : bytes ≡ joined (complete_units c.pid (packets_of c (made_of_known c k files taken ended)))
 
--- An input cannot be read on: of what was read of it all whole units were taken.
+-- how many bytes of each file are known, if so many of one input are, and all of the others
+abbrev pub taken_but : (ℕ → List ℕ) → ℕ → ℕ → ℕ → ℕ
+taken_but files input taken i = if i == input then taken else length (files i)
+
+-- All inputs but one have ended.
+abbrev pub ended_but : ℕ → ℕ → Bool
+ended_but input i = not (i == input)
+
+-- the complete units of the frames that are made of so many bytes of one input and all bytes of the others
+abbrev pub complete_by : Config → ℕ → (ℕ → List ℕ) → ℕ → ℕ → List ℕ
+complete_by c k files input taken =
+    let made = made_of_known c k files (taken_but files input taken) (ended_but input) in
+    joined (complete_units c.pid (packets_of c made))
+
+-- An input cannot be read on: of what was read of it all whole units were taken, and without more of it no other frame
+-- can be made, however much the others have.
 pub record HasRead (c : Config) (k input : ℕ) (files : ℕ → List ℕ) (places bytes : List ℕ) : Type 0 where
   pub written : HasWritten c k files places bytes
   pub going : written.ended input ≡ false
   pub near : slice_index places input < written.taken input + SIZE
+  pub waits : bytes ≡ complete_by c k files input (written.taken input)
 
--- All but one unit of a file that is too long were taken, at least: no step wants more than one.
+-- A file is too long: all but one unit of it were taken, at least, since no step wants more than one; and without more
+-- of it no other frame can be made, however much the others have.
 pub record HasNearly (c : Config) (k input : ℕ) (files : ℕ → List ℕ) (places bytes : List ℕ) : Type 0 where
   pub written : HasWritten c k files places bytes
+  pub going : written.ended input ≡ false
   pub near : longest_file ≤ written.taken input + SIZE
+  pub waits : bytes ≡ complete_by c k files input (written.taken input)
 
--- These bytes are the first of all units, but not all.
-pub record HasSome (c : Config) (k : ℕ) (files : ℕ → List ℕ) (bytes : List ℕ) : Type 0 where
+-- These bytes are the first of all units, but not all. One of the inputs held the run up last: they have the complete
+-- units of all frames that are made of so many bytes of it and all bytes of the others. Of that input no more was read,
+-- but for one byte and what is read ahead.
+pub record HasSome (c : Config) (k : ℕ) (files : ℕ → List ℕ) (places bytes : List ℕ) : Type 0 where
   pub more : List ℕ
   pub some : more ≢ []
   pub begins : IsPrefix (bytes ++ more) (joined (units_of c k files))
+  pub last : ℕ
+  pub inside : last < k
+  pub taken : ℕ
+  pub within : taken ≤ slice_index places last
+  pub near : slice_index places last ≤ taken + 1 + read_ahead
+  pub since : IsPrefix (complete_by c k files last taken) bytes
 
+-- what a run did by its files, for each answer; want of memory is told before an input is opened, and never here
 abbrev pub mend_work : Config → ℕ → Work Ran MendStop
 mend_work c k files (Ok ran) places bytes = AreWhole files places × MendsAll c k files ran bytes
 mend_work c k files (Err (Refused NoFrame)) places bytes = AreWhole files places × HasNone c k files bytes
 mend_work c k files (Err (Files (TooLong input))) places bytes = HasNearly c k input files places bytes
 mend_work c k files (Err (Files (ReadFault input))) places bytes = HasRead c k input files places bytes
-mend_work c k files (Err (Files WriteFault)) places bytes = HasSome c k files bytes
+mend_work c k files (Err (Files WriteFault)) places bytes = HasSome c k files places bytes
 mend_work c k files (Err OutOfMemory) places bytes = ⊥

@@ -1,6 +1,6 @@
 -- Feeds of a network in a row, and how they can go on. No public clause cites this module.
-use Rattle.std.specs.Prelude.{◌≡◌, ℕ, suc, ◌+◌, ◌<◌, Bool, true, false, List, [], ◌∷◌, ◌++◌, length, slice_get, Option, Some, None}
-use Rattle.std.specs.Prelude.{option_map, if◌then◌else◌}
+use Rattle.std.specs.Prelude.{◌≡◌, ℕ, suc, ◌+◌, ◌<◌, ◌≤◌, Bool, true, false, List, [], ◌∷◌, ◌++◌, length, slice_get}
+use Rattle.std.specs.Prelude.{Option, Some, None, option_map, if◌then◌else◌}
 use Rattle.plp_config.specs.declared.config.Config.{Config}
 use Rattle.ts_packet.specs.declared.sizes.TheConstants.{SIZE}
 use Rattle.frame_groups.specs.Modulated.{Rules}
@@ -37,7 +37,8 @@ left_in (f ∷ feeds) = left_of f + left_in feeds
 abbrev pub rules_of : Feed → Rules
 rules_of f = rules (pooled_of f).network
 
--- How a feed can go on behind bytes: all that is known of it then, and what of that comes behind the events that were passed.
+-- How a feed can go on behind bytes: all that is known of it then, and what of that comes behind the events that were
+-- passed.
 pub record Goes (c : Config) (f : Feed) (bytes : List ℕ) (gone : List FeedEvent) (x y : Coming) : Type 0 where
   pub all : List ℕ
   pub later : List Arrival
@@ -51,7 +52,8 @@ pub record Shows (f : Feed) : Type 0 where
   pub next : (bytes : List ℕ) (gone : List FeedEvent) (h : EventFeedStandsFor marked.ghosts f bytes gone) (ended : Bool)
       (all : List ℕ) (later : List Arrival) → CanBecome (has_ended f) (rules_of f).network.pid bytes ended all later
       → IsNext (head_of f) h.group ended gone (feed_events (rules_of f) ended all)
-  pub unknown : head_of f ≡ head.Unknown → (bytes : List ℕ) (gone : List FeedEvent) → EventFeedStandsFor marked.ghosts f bytes gone
+  pub unknown : head_of f ≡ head.Unknown → (bytes : List ℕ) (gone : List FeedEvent)
+      → EventFeedStandsFor marked.ghosts f bytes gone
       → feed_events (rules_of f) false bytes ≡ gone
 
 -- A feed of a network was fed with bytes, perhaps to their end, and these events were passed.
@@ -62,18 +64,35 @@ pub record FeedHas (c : Config) (f : Feed) (bytes : List ℕ) (ended : Bool) (go
   pub shows : Shows f
 
 -- So it is of so many feeds, each with the input at its place.
-pub record HaveCome (c : Config) (k : ℕ) (feeds : List Feed) (done : List Event) (gone : ℕ → List FeedEvent) : Type 0 where
+pub record HaveCome (c : Config) (k : ℕ) (feeds : List Feed) (done : List Event) (gone : ℕ → List FeedEvent) :
+    Type 0 where
   pub count : length feeds ≡ k
-  pub each : (i : ℕ) (f : Feed) → slice_get feeds i ≡ Some f → FeedHas c f (fed i done) (events.has_ended i done) (gone i)
+  pub each : (i : ℕ) (f : Feed) → slice_get feeds i ≡ Some f → FeedHas c f (fed i done) (events.has_ended i done)
+      (gone i)
 
 -- They can go on so.
 abbrev pub AllGo : Config → List Feed → List Event → (ℕ → List FeedEvent) → (ℕ → Coming) → (ℕ → Coming) → Type 0
-AllGo c feeds done gone xs ys = (i : ℕ) (f : Feed) → slice_get feeds i ≡ Some f → Goes c f (fed i done) (gone i) (xs i) (ys i)
+AllGo c feeds done gone xs ys = (i : ℕ) (f : Feed) → slice_get feeds i ≡ Some f
+    → Goes c f (fed i done) (gone i) (xs i) (ys i)
+
+-- Bytes of an input came, or its end. Nothing was known of it but the events that were passed, by all of its bytes but
+-- the last one at most.
+pub record LastCame (c : Config) (k : ℕ) (before done : List Event) (gone : ℕ → List FeedEvent) : Type 0 where
+  pub input : ℕ
+  pub inside : input < k
+  pub going : events.has_ended input before ≡ false
+  pub part : List ℕ
+  pub last : List ℕ
+  pub parts : fed input done ≡ (fed input before ++ part) ++ last
+  pub few : length last ≤ 1
+  pub none : feed_events (rules c) false (fed input before ++ part) ≡ gone input
 
 -- Something was done to them: they stand for it, and as they can go on now they could before.
-pub record GoOn (c : Config) (k : ℕ) (old new : List Feed) (before done : List Event) (gone : ℕ → List FeedEvent) : Type 0 where
+pub record GoOn (c : Config) (k : ℕ) (old new : List Feed) (before done : List Event) (gone : ℕ
+    → List FeedEvent) : Type 0 where
   pub come : HaveCome c k new done gone
   pub back : (xs ys : ℕ → Coming) → AllGo c new done gone xs ys → AllGo c old before gone xs ys
+  pub last : LastCame c k before done gone
 
 -- The same feeds have these events next.
 abbrev pub AreSame : ℕ → (ℕ → Coming) → (ℕ → Coming) → Type 0

@@ -1,17 +1,22 @@
--- What was done to several feeds and the sender of the frames that are made of them. No public clause cites this module.
-use Rattle.std.specs.Prelude.{◌≡◌, ℕ, ◌+◌, ◌-◌, ◌/◌, ◌<◌, ◌==◌, Bool, true, List, [], ◌∷◌, ◌++◌, length, Option, Some}
-use Rattle.std.specs.Prelude.{if◌then◌else◌}
+-- What was done to several feeds and the sender of the frames that are made of them. No public clause cites this
+-- module.
+use Rattle.std.specs.Prelude.{◌≡◌, ℕ, ◌+◌, ◌-◌, ◌/◌, ◌<◌, ◌≤◌, ◌==◌, Bool, true, false, List, [], ◌∷◌, ◌++◌, length}
+use Rattle.std.specs.Prelude.{Option, Some, if◌then◌else◌}
 use Rattle.std.specs.List.{filter}
 use Rattle.plp_config.specs.declared.config.Config.{Config}
+use Rattle.ts_packet.specs.TsFile.{joined}
 use Rattle.ts_packet.specs.declared.sizes.TheConstants.{SIZE}
+use Rattle.t2mi_stream.specs.Complete.{complete_units}
+use Rattle.frame_groups.specs.Laws.{IsPrefix}
 use Rattle.frame_groups.specs.Modulated.{Numbered}
-use Rattle.feed_events.specs.FeedEvents.{FeedEvent}
+use Rattle.frame_groups.specs.Tests.{rules}
+use Rattle.feed_events.specs.FeedEvents.{FeedEvent, feed_events}
 use Rattle.mended_frames.specs.Picks.{Coming, all_behind, picks_from}
 use Rattle.spaced_frames.specs.StandsFor.{SenderStandsFor, Content, Caught, IsAll}
-use Rattle.mended_frames.specs.Mended.{Made, mended, taking, low_of, frames_of}
-use Rattle.mended_frames.specs.StandsFor.{MenderStandsFor, lent_content}
+use Rattle.mended_frames.specs.Mended.{Made, mended, taking, low_of, frames_of, packets_of}
+use Rattle.mended_frames.specs.StandsFor.{Feed, MenderStandsFor, lent_content}
 use Rattle.mended_frames.specs.declared.mender.Source.{Source}
-use Rattle.file_run.specs.Events.{Event, gave}
+use Rattle.file_run.specs.Events.{Event, fed, gave}
 use Rattle.file_run.specs.Events as events
 use Rattle.mend_run.specs.Counted.{told, is_woven, last_from}
 use Rattle.mend_run.specs.Row.{HaveCome, AllGo, AllKnown, OnePasses}
@@ -76,13 +81,15 @@ place_of (phase.Sends n from) = Sends n from
 place_of phase.Rests = Rests
 place_of phase.Done = Done
 
--- However the feeds go on, the frames that were made are the first, and the others are made of what comes behind the events that were
--- passed: once the frame under way was given, what is next of it is passed too. Behind the end there are no others.
+-- However the feeds go on, the frames that were made are the first, and the others are made of what comes behind the
+-- events that were passed: once the frame under way was given, what is next of it is passed too. Behind the end there
+-- are no others.
 abbrev pub Splits : Config → ℕ → Place → List Numbered → List Made → (ℕ → Coming) → (ℕ → Coming) → Type 0
 Splits c k Looks past made xs ys = mended c k xs ≡ made ++ picks_from (taking c) k past ys
 Splits c k (Passes number silent) past made xs ys =
     mended c k xs ≡ made ++ picks_from (taking c) k past (all_behind number silent ys)
-Splits c k (Sends n from) past made xs ys = mended c k xs ≡ made ++ picks_from (taking c) k past (all_behind (Some n) true ys)
+Splits c k (Sends n from) past made xs ys = mended c k xs ≡ made ++ picks_from (taking c) k past
+    (all_behind (Some n) true ys)
 Splits c k Rests past made xs ys = mended c k xs ≡ made
 Splits c k Done past made xs ys = mended c k xs ≡ made
 
@@ -93,10 +100,30 @@ pub record HasSent (c : Config) (m : MendMachine) (made : List Made) (bytes : Li
   pub caught : Caught c (frames_of c made) bytes
 
 -- Units of the last one are to go out, and then what is next of it is passed.
-pub record IsSending (c : Config) (m : MendMachine) (n : ℕ) (from : Source) (made : List Made) (bytes : List ℕ) : Type 0 where
+pub record IsSending (c : Config) (m : MendMachine) (n : ℕ) (from : Source) (made : List Made) (bytes : List ℕ) :
+    Type 0 where
   pub stands : SenderStandsFor c m.sender (lent_content from m.mender m.feeds.items) (frames_of c made) bytes
   pub known : AllKnown m.feeds.items
   pub passes : OnePasses (Some n) true m.feeds.items
+
+-- what is known of feeds, of one by these bytes alone
+abbrev pub known_by : Config → ℕ → List ℕ → (ℕ → Coming) → ℕ → Coming
+known_by c input bytes xs i =
+    if i == input then record { events = feed_events (rules c) false bytes; over = false } else xs i
+
+-- One of the inputs held all up, until its last byte came: however the others go on, without that no other frames are
+-- made than these, and all complete units of these went out.
+pub record HasDue (c : Config) (k : ℕ) (feeds : List Feed) (done : List Event) (gone : ℕ → List FeedEvent) :
+    Type 0 where
+  pub input : ℕ
+  pub inside : input < k
+  pub known : List ℕ
+  pub last : List ℕ
+  pub parts : fed input done ≡ known ++ last
+  pub few : length last ≤ 1
+  pub made : List Made
+  pub went : IsPrefix (joined (complete_units c.pid (packets_of c made))) (gave done)
+  pub is : (xs ys : ℕ → Coming) → AllGo c feeds done gone xs ys → mended c k (known_by c input known xs) ≡ made
 
 -- Each input has ended.
 abbrev pub AllEnded : ℕ → List Event → Type 0
@@ -127,6 +154,7 @@ pub record ShownAt (c : Config) (k : ℕ) (done : List Event) (m : MendMachine) 
   pub tally : m.tally ≡ tally_of made (gave done)
   pub splits : (xs ys : ℕ → Coming) → AllGo c m.feeds.items done gone xs ys → Splits c k place past made xs ys
   pub is_at : IsAt c k place m made done
+  pub due : 0 < k → HasDue c k m.feeds.items done gone
 
 abbrev pub Shown : Config → ℕ → List Event → MendMachine → Type 0
 Shown c k done m = ShownAt c k done m (place_of m.phase)

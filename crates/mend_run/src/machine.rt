@@ -14,15 +14,15 @@ use crate::stop::{MendStop, Ran};
 use crate::tally::Tally;
 use bit_slice::OutOfMemory;
 use feed_events::EventFeed;
-use file_run::{Ending, Machine, Step, events_law};
+use file_run::{Ending, FeedCounts, Machine, Step, events_law};
 use frame_weave::MarkedGroup;
 use mended_frames::Mender;
 use plp_config::Plan;
 use spaced_frames::Sender;
 use std::alloc::Global;
 
-/// Feeds of a network that are fed with the bytes of several inputs, and a sender that gives the bytes of the units of the frames that
-/// are made of them.
+/// Feeds of a network that are fed with the bytes of several inputs, and a sender that gives the bytes of the units of
+/// the frames that are made of them.
 #[derive(Drop)]
 pub struct MendMachine<'p> {
     pub(crate) plan: &'p Plan,
@@ -31,6 +31,8 @@ pub struct MendMachine<'p> {
     pub(crate) sender: Sender<'p>,
     pub(crate) phase: Phase,
     pub(crate) tally: Tally,
+    // For people: no definition reads it.
+    pub(crate) counts: FeedCounts,
     ghost pid: { plan.now.pid < 2 ^ 13 },
     ghost of: { AreOf plan.now feeds.items },
     ghost mends: { mender.plan.now ≡ plan.now },
@@ -86,7 +88,7 @@ impl<'p> Machine for MendMachine<'p> {
                 0
             }
             Phase::Sends { number, from } => self.give_units(number, from, out),
-            _ => self.give_rest(out.first_chunk_mut().unwrap()),
+            Phase::Rests | Phase::Done => self.give_rest(out.first_chunk_mut().unwrap()),
         }
     }
 }
@@ -126,6 +128,12 @@ impl<'p> MendMachine<'p> {
             sender: Sender::new(plan),
             phase: Phase::Looks,
             tally: Tally::NONE,
+            counts: FeedCounts::NONE,
         })
+    }
+
+    /// Which feeds had the frames whole.
+    pub(crate) fn counts(&self) -> &FeedCounts {
+        &self.counts
     }
 }

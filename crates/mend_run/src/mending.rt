@@ -2,6 +2,7 @@
 ghost use Rattle.std.specs.Prelude.{◌≡◌, ◌<◌};
 ghost use Rattle.mended_frames.specs.StandsFor.{is_woven_by};
 
+use crate::feed_counts::count_frame;
 use crate::machine::MendMachine;
 use crate::phase::Phase;
 use crate::row::pass_next;
@@ -20,7 +21,7 @@ fn is_woven(from: Source) -> bool
 }
 
 impl<'p> MendMachine<'p> {
-    ghost use Rattle.std.specs.Prelude.{◌≡◌, ◌≢◌, ◌<◌, ◌≤◌, ◌+◌, ◌*◌, ◌++◌, ◌∷◌, ℕ, List, [], Some, true, false, length, take, slice_get};
+    ghost use Rattle.std.specs.Prelude.{◌≡◌, ◌<◌, ◌≤◌, ◌+◌, ◌++◌, ◌∷◌, ℕ, List, [], Some, true, false, length, take};
     ghost use Rattle.plp_config.specs.declared.config.Config.{Config};
     ghost use Rattle.plp_config.specs.declared.moment.TheConstants.{MOST_FRAMES};
     ghost use Rattle.ts_packet.specs.declared.sizes.TheConstants.{SIZE};
@@ -35,9 +36,9 @@ impl<'p> MendMachine<'p> {
     ghost use Rattle.open_group.specs.declared.group.PooledGroup.{PooledGroup};
     ghost use Rattle.mended_frames.specs.Mended.{content_in};
     ghost use Rattle.mended_frames.specs.StandsFor.{CanLend, is_woven_by, lent_by, lent_content};
-    ghost use Rattle.spaced_frames.specs.StandsFor.{SenderStandsFor, Content, sent_as, is_idle, has_finished, most_left};
+    ghost use Rattle.spaced_frames.specs.StandsFor.{SenderStandsFor, Content, sent_as, is_idle, has_finished};
+    ghost use Rattle.spaced_frames.specs.StandsFor.{left_of as sender_left, most_left};
     ghost use Rattle.spaced_frames.specs.Spaced.{SentFrame};
-    ghost use Rattle.spaced_frames.specs.StandsFor.{left_of as sender_left};
     ghost use Rattle.mend_run.specs.AsMachine.{step_of, left_of, reach_of};
     ghost use Rattle.mend_run.specs.Row.{AllKnown, OnePasses, left_in};
     ghost use Rattle.mend_run.specs.Shown.{Shown, HasShown, Passes, ShownAt, with_frame};
@@ -48,7 +49,8 @@ impl<'p> MendMachine<'p> {
         requires looks { self.old.phase ≡ phase.Looks }
         ensures shown { (c : Config) (k : ℕ) (done : List Event) → ShownAt c k done self.old (Passes number silent)
             → Shown c k done self.new }
-        ensures left { OnePasses number silent self.old.feeds.items → left_in self.new.feeds.items < left_in self.old.feeds.items }
+        ensures left { OnePasses number silent self.old.feeds.items
+            → left_in self.new.feeds.items < left_in self.old.feeds.items }
         ensures phase { self.new.phase ≡ phase.Looks }
         ensures reach { (input : ℕ) → reach_of self.old input ≤ reach_of self.new input }
     {
@@ -63,15 +65,19 @@ impl<'p> MendMachine<'p> {
         requires open { has_finished self.old.sender ≡ false }
         ensures sends { (x : Content) (frames : List SentFrame) (bytes : List ℕ)
             → SenderStandsFor self.old.plan.now self.old.sender x frames bytes
-            → SenderStandsFor self.old.plan.now self.new.sender (lent_content from self.old.mender self.old.feeds.items)
-            (frames ++ sent_as self.old.plan.now number (lent_content from self.old.mender self.old.feeds.items) ∷ []) bytes }
-        ensures content { (lent : PooledGroup) (own : List Numbered) (g : Group) → lent_by from self.old.mender self.old.feeds.items ≡ Some lent
-            → Holds lent own (Some g)
+            → SenderStandsFor self.old.plan.now self.new.sender
+            (lent_content from self.old.mender self.old.feeds.items)
+            (frames ++ sent_as self.old.plan.now number (lent_content from self.old.mender self.old.feeds.items) ∷ [])
+            bytes }
+        ensures content { (lent : PooledGroup) (own : List Numbered) (g : Group)
+            → lent_by from self.old.mender self.old.feeds.items ≡ Some lent → Holds lent own (Some g)
             → lent_content from self.old.mender self.old.feeds.items ≡ content_in self.old.plan.now g.packets }
-        ensures left { sender_left self.old.plan.now self.new.sender (lent_content from self.old.mender self.old.feeds.items) < most_left }
+        ensures left { sender_left self.old.plan.now self.new.sender
+            (lent_content from self.old.mender self.old.feeds.items) < most_left }
         ensures phase { self.new.phase ≡ phase.Sends number from }
         ensures tally { self.new.tally ≡ with_frame self.old.tally number (is_woven_by from) }
-        ensures same { (self.new.plan.now ≡ self.old.plan.now) × (self.new.feeds ≡ self.old.feeds) × (self.new.mender ≡ self.old.mender) }
+        ensures same { (self.new.plan.now ≡ self.old.plan.now) × (self.new.feeds ≡ self.old.feeds)
+            × (self.new.mender ≡ self.old.mender) }
     {
         let frame = self.mender.frame(&self.feeds, from);
         self.sender.begin(number, &frame);
@@ -83,12 +89,14 @@ impl<'p> MendMachine<'p> {
     fn make(&mut self, number: u64)
         requires looks { self.old.phase ≡ phase.Looks }
         requires early { number < MOST_FRAMES }
-        ensures shown { (c : Config) (k : ℕ) (done : List Event) → Shown c k done self.old → AllKnown self.old.feeds.items
+        ensures shown { (c : Config) (k : ℕ) (done : List Event) → Shown c k done self.old
+            → AllKnown self.old.feeds.items
             → least_head (length self.old.feeds.items) (head_at self.old.feeds.items) ≡ Some number
             → self.old.tally.behind ≤ number → Shown c k done self.new }
         ensures left { OnePasses (Some number) true self.old.feeds.items → left_of self.new < left_of self.old }
         ensures reach { (input : ℕ) → reach_of self.old input ≤ reach_of self.new input }
     {
+        count_frame(&mut self.counts, &self.mender, &self.feeds, number);
         match self.mender.make(&self.feeds, number) {
             Some(from) => self.begin(number, from),
             None => self.pass(Some(number), true),
@@ -107,8 +115,8 @@ impl<'p> MendMachine<'p> {
         self.phase = Phase::Rests;
     }
 
-    /// Goes on behind what is next in the feeds: the least number is that of the next frame. Where no feed has packets next, silences
-    /// are passed over; and if there is none, all feeds have come to their ends.
+    /// Goes on behind what is next in the feeds: the least number is that of the next frame. Where no feed has packets
+    /// next, silences are passed over; and if there is none, all feeds have come to their ends.
     pub(crate) fn go_on(&mut self)
         requires looks { self.old.phase ≡ phase.Looks }
         requires gives { step_of self.old ≡ Give }

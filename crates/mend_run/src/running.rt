@@ -12,9 +12,14 @@ use ports::{Desk, Word};
 use std::alloc::Global;
 use t2mi_stream::unit_reads_law;
 
-/// Makes one stream of what several inputs have of a network: opens the inputs, of which two may be one file, creates the output,
-/// and writes the units of each frame as soon as it is made, before it reads on. It reads an input until it is known what is next
-/// in it, and 65,536 bytes ahead at most. All memory is taken before the first input is opened.
+/// Makes one stream of what several inputs have of a network: opens the inputs, of which two may be one file, creates
+/// the output, and writes the units of each frame as soon as it is made, before it reads on. It reads an input until it
+/// is known what is next in it, and 65,536 bytes ahead at most. All memory is taken before the first input is opened.
+/// Behind the end the desk takes note of the frames that each input had whole.
+///
+/// # Errors
+/// [`MendStop::NoFrame`] if the inputs were read to their ends and no frame is made of them; `Files` if a file could
+/// not be opened, read or written, or is too long; `OutOfMemory`, and then no input was opened.
 pub fn run<D: Desk>(
     alloc: Global,
     plan: &Plan,
@@ -23,9 +28,12 @@ pub fn run<D: Desk>(
     desk: &mut D,
 ) -> Result<Ran, RunStop<MendStop>>
     requires apart { AreApart out.now ins.now }
-    ensures ends { Ends (mend_work plan.now (length ins.now)) (D.state desk.old) (D.state desk.new) (Into out.now) ins.now result }
+    ensures ends { Ends (mend_work plan.now (length ins.now)) (D.state desk.old) (D.state desk.new) (Into out.now)
+        ins.now result }
 {
     unit_reads_law();
     let mut machine = MendMachine::open(alloc, plan, ins.len())?;
-    run_one(alloc, &mut machine, Output::File(out), ins, desk)
+    let end = run_one(alloc, &mut machine, Output::File(out), ins, desk);
+    machine.counts().note(desk, ins.len());
+    end
 }

@@ -4,14 +4,18 @@ ghost use Rattle.mend_run.specs.Shown.{with_frame, with_units, ran_of};
 
 use crate::stop::Ran;
 
-// The number of the first frame, and the number behind that of the last one; how many frames, and how many of them were woven; and
-// how many units. The counts stand still at the greatest number.
+/// What was sent. The counts stand still at the greatest number.
 #[derive(Clone, Copy, Debug, PartialEq, Eq)]
 pub(crate) struct Tally {
+    /// The number of the first frame, or 0 if there is none.
     pub first: u64,
+    /// The number behind that of the last frame, or 0 if there is none.
     pub behind: u64,
+    /// How many frames.
     pub frames: u64,
+    /// How many of them were woven.
     pub woven: u64,
+    /// How many units.
     pub units: u64,
 }
 

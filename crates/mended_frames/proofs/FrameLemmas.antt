@@ -19,7 +19,8 @@ by_places : {X : Type 0} (d : X) (f : ℕ → X) (xs : List X) (a : ℕ)
 by_places d f [] a e = refl
 by_places d f (x ∷ xs) a e =
     ap₂ (λ y ys. y ∷ ys) (e 0 (omega arith) ∙ ap f (omega arith))
-    (subst (λ (k : ℕ). xs ≡ map f (range_with_len k (length xs))) (omega arith) (by_places d f xs (suc a) (λ i l. e (suc i) (omega (arith, l)) ∙ ap f (omega arith))))
+    (subst (λ (k : ℕ). xs ≡ map f (range_with_len k (length xs))) (omega arith)
+    (by_places d f xs (suc a) (λ i l. e (suc i) (omega (arith, l)) ∙ ap f (omega arith))))
 
 pub lists_are : (c : Config) (packets : List Packet) (lists : List (List (List ℕ))) → length lists ≡ length c.plps
     → AreBlocks c packets lists → lists ≡ map (λ plp. map held_bytes (right_blocks c plp packets)) (places c)
@@ -32,7 +33,8 @@ abbrev pub content : List Bool → List Bool → List Bool → List (List (List 
 content x y z l = record { pre = x; conf = y; dynamic = z; lists = l }
 
 -- contents are the same whose parts are
-pub content_as : (pre conf dynamic p k d : List Bool) (lists l : List (List (List ℕ))) → pre ≡ p → conf ≡ k → dynamic ≡ d → lists ≡ l
+pub content_as : (pre conf dynamic p k d : List Bool) (lists l : List (List (List ℕ))) → pre ≡ p → conf ≡ k
+    → dynamic ≡ d → lists ≡ l
     → content pre conf dynamic lists ≡ content p k d l
 content_as pre conf dynamic p k d lists l is_pre is_conf is_dynamic are =
     ap (λ (x : List Bool). content x conf dynamic lists) is_pre

@@ -1,11 +1,9 @@
 -- What feeds show, and what is known of them.
-use Rattle.std.proofs.Common.{◌≡◌, ◌≢◌, ℕ, zero, suc, ◌+◌, ◌<◌, ◌≤◌, ◌==◌, ◌||◌, Bool, true, false, cond, List, [], ◌∷◌}
+use Rattle.std.proofs.Common.{◌≡◌, ◌≢◌, ℕ, zero, suc, ◌<◌, ◌≤◌, ◌||◌, Bool, true, false, List, [], ◌∷◌}
 use Rattle.std.proofs.Common.{◌++◌, length, Option, Some, None, refl, ap, ap₂, sym, subst, ◌∙◌, ⊎_elim, arith}
-use Rattle.std.specs.Prelude.{not, nat_lt}
 use Rattle.std.proofs.lemmas.Bool.{true≢false, cond-true, cond-false, cases_lt, or_left, or_right}
 use Rattle.terms.proofs.OptionLemmas.{none_some}
 use Rattle.frame_groups.specs.Groups.{Group}
-use Rattle.frame_groups.specs.Modulated.{Numbered}
 use Rattle.feed_events.specs.FeedEvents.{FeedEvent}
 use Rattle.feed_events.specs.FeedEvents.FeedEvent.{Has, Silent}
 use Rattle.feed_events.specs.StandsFor.{is_known}
@@ -13,7 +11,8 @@ use Rattle.feed_events.specs.Under.{head_events}
 use Rattle.feed_events.specs.declared.course.Head.{Head}
 use Rattle.feed_events.specs.declared.course.Head.TheVariants as head
 use Rattle.mended_frames.specs.Heads.{number_at, least_head, is_passed, Begins}
-use Rattle.mended_frames.specs.Picks.{Coming, waits_by, one_waits, number_next, lesser, least_next, is_number, behind, events_in}
+use Rattle.mended_frames.specs.Picks.{Coming, waits_by, one_waits, number_next, lesser, least_next, is_number, behind}
+use Rattle.mended_frames.specs.Picks.{events_in}
 
 -- So it is of so many feeds.
 abbrev pub AllBegin : ℕ → (ℕ → Head) → (ℕ → Coming) → Type 0
@@ -45,7 +44,8 @@ none_waits (suc k) heads feeds known b =
     (one_begins (heads k) (feeds k) (known k (omega arith)) (b k (omega arith))).1
 
 -- a feed waits of which nothing more is known
-pub it_waits : (k : ℕ) (feeds : ℕ → Coming) (i : ℕ) → i < k → (feeds i).events ≡ [] → (feeds i).over ≡ false → one_waits k feeds ≡ true
+pub it_waits : (k : ℕ) (feeds : ℕ → Coming) (i : ℕ) → i < k → (feeds i).events ≡ [] → (feeds i).over ≡ false
+    → one_waits k feeds ≡ true
 it_waits zero feeds i l e o = absurd (omega (arith, l))
 it_waits (suc k) feeds i l e o = ⊎_elim
     (λ (a : i < k). or_left (one_waits k feeds) (waits_by (feeds k).events (feeds k).over) (it_waits k feeds i a e o))
@@ -57,7 +57,8 @@ it_waits (suc k) feeds i l e o = ⊎_elim
 
 -- what is passed is what was shown
 pub behind_shown : (number : Option ℕ) (silent : Bool) (h : Head) (g : Option Group) (more : List FeedEvent)
-    → is_passed number silent h ≡ true → (number_at h ≡ None → silent ≡ true) → (some : (n : ℕ) → h ≡ head.Frame n → (x : Group) × (g ≡ Some x))
+    → is_passed number silent h ≡ true → (number_at h ≡ None → silent ≡ true)
+    → (some : (n : ℕ) → h ≡ head.Frame n → (x : Group) × (g ≡ Some x))
     → behind number silent (head_events h g ++ more) ≡ more
 behind_shown number silent head.Unknown g more p s some = absurd (true≢false (sym p))
 behind_shown number silent (head.Frame n) None more p s some = absurd (no_group (some n refl).1)
@@ -70,7 +71,8 @@ behind_shown number silent head.Silent g more p s some = cond-true silent more (
 behind_shown number silent head.Over g more p s some = absurd (true≢false (sym p))
 
 -- and what is not passed stays
-pub behind_kept : (number : Option ℕ) (silent : Bool) (h : Head) (x : Coming) → is_known h ≡ true → is_passed number silent h ≡ false
+pub behind_kept : (number : Option ℕ) (silent : Bool) (h : Head) (x : Coming) → is_known h ≡ true
+    → is_passed number silent h ≡ false
     → Begins h x → behind number silent x.events ≡ x.events
 behind_kept number silent head.Unknown x known p b = absurd (true≢false (sym known))
 behind_kept number silent (head.Frame n) x known p b =
@@ -105,5 +107,6 @@ pub events_none : (k : ℕ) (heads : ℕ → Head) (feeds : ℕ → Coming) → 
 events_none zero heads feeds b over = refl
 events_none (suc k) heads feeds b over =
     let x = events_none k heads feeds (λ j m. b j (omega (arith, m))) (λ j m. over j (omega (arith, m))) in
-    let y = ap (λ (l : List FeedEvent). length l) (subst (λ (h : Head). Begins h (feeds k)) (over k (omega arith)) (b k (omega arith))).0 in
+    let y = ap (λ (l : List FeedEvent). length l) (subst (λ (h : Head). Begins h (feeds k)) (over k (omega arith))
+    (b k (omega arith))).0 in
     omega (arith, x, y)

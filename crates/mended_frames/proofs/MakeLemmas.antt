@@ -23,7 +23,8 @@ one_is P (Some h) g e = go (P h) e
     go true e = e
     go false e = none_some g e
 
-pub one_told : (P : Group → Bool) (o : Option Group) (r : Bool) → is_some o ≡ true → ((g : Group) → o ≡ Some g → r ≡ P g)
+pub one_told : (P : Group → Bool) (o : Option Group) (r : Bool) → is_some o ≡ true
+    → ((g : Group) → o ≡ Some g → r ≡ P g)
     → r ≡ is_some (find P (option_to_list o))
 one_told P None r e told = absurd (true≢false (sym e))
 one_told P (Some h) r e told = told h refl ∙ go (P h)
@@ -43,11 +44,14 @@ none_of (Some g) e = absurd (true≢false e)
 abbrev Sum : Config → List Numbered → ℕ → List Group → Option Group → Option Group → Option Made
 Sum c past n gs a b = option_or (option_map (made_as n false) a) (option_map (made_as n true) b)
 
-pub made_own : (c : Config) (past : List Numbered) (n : ℕ) (gs : List Group) (g : Group) → find (passes c past n) gs ≡ Some g
+pub made_own : (c : Config) (past : List Numbered) (n : ℕ) (gs : List Group) (g : Group)
+    → find (passes c past n) gs ≡ Some g
     → made_of c past (picked_as n gs) ≡ Some (made_as n false g)
 made_own c past n gs g e = ap (λ (a : Option Group). Sum c past n gs a (woven_of c past (picked_as n gs))) e
 
-pub made_woven : (c : Config) (past : List Numbered) (n : ℕ) (gs : List Group) (o : Option Group) → find (passes c past n) gs ≡ None
+pub made_woven : (c : Config) (past : List Numbered) (n : ℕ) (gs : List Group) (o : Option Group)
+    → find (passes c past n) gs ≡ None
     → woven_of c past (picked_as n gs) ≡ o → made_of c past (picked_as n gs) ≡ option_map (made_as n true) o
 made_woven c past n gs o none e =
-    ap (λ (a : Option Group). Sum c past n gs a (woven_of c past (picked_as n gs))) none ∙ ap (option_map (made_as n true)) e
+    ap (λ (a : Option Group). Sum c past n gs a (woven_of c past (picked_as n gs))) none
+    ∙ ap (option_map (made_as n true)) e

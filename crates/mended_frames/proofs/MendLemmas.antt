@@ -1,11 +1,13 @@
 -- Frames that are made.
-use Rattle.std.proofs.Common.{◌≡◌, ◌<◌, ◌≤◌, ℕ, zero, suc, ◌+◌, ◌%◌, ◌==◌, Bool, true, false, cond, List, [], ◌∷◌, ◌++◌, length, Option, Some, None}
+use Rattle.std.proofs.Common.{◌≡◌, ◌<◌, ◌≤◌, ℕ, zero, suc, ◌+◌, ◌%◌, ◌==◌, Bool, true, false, cond, List, [], ◌∷◌, ◌++◌}
+use Rattle.std.proofs.Common.{length, Option, Some, None}
 use Rattle.std.proofs.Common.{refl, ap, sym, subst, ◌∙◌, arith}
 use Rattle.std.specs.Prelude.{not, nat_lt, is_some, find, option_map, option_to_list}
 use Rattle.std.specs.List.{AllByRecursion}
 use Rattle.std.specs.Option.{option_or}
 use Rattle.std.proofs.lemmas.Bool.{true≢false, ltb-false}
-use Rattle.terms.proofs.OptionLemmas.{some_injective, none_some}
+use Rattle.std.proofs.lemmas.Option.{same_Some}
+use Rattle.terms.proofs.OptionLemmas.{none_some}
 use Rattle.plp_config.specs.declared.config.Config.{Config}
 use Rattle.t2mi_packet.specs.declared.packet.Body.{Body}
 use Rattle.t2mi_packet.specs.declared.packet.Body.TheVariants.{Timestamp}
@@ -14,17 +16,19 @@ use Rattle.frame_groups.specs.Groups.{Group}
 use Rattle.frame_groups.specs.Modulated.{Numbered}
 use Rattle.frame_groups.specs.declared.cause.MuteCause.{MuteCause}
 use Rattle.frame_groups.specs.Tests.{group_fault}
-use Rattle.mended_frames.specs.Picks.{Coming, Picked, one_waits, least_next, all_behind, picked_of, pick_next, picked_from, events_in}
+use Rattle.mended_frames.specs.Picks.{Coming, Picked, one_waits, least_next, all_behind, picked_of, pick_next}
+use Rattle.mended_frames.specs.Picks.{picked_from, events_in}
 use Rattle.spaced_frames.specs.Laws.{Rise, RiseFrom}
 use Rattle.spaced_frames.proofs.NearLemmas.{spaced_near}
 use Rattle.mended_frames.specs.Feeds.{all_of, made_of_all}
 use Rattle.mended_frames.specs.Laws.{PassBehind, MadePass, MadeRise, MadeAreNear}
-use Rattle.mended_frames.specs.Mended.{Made, passes, made_as, own_of, woven_of, made_of, with_made, past_with, low_of, taking, mended}
+use Rattle.mended_frames.specs.Mended.{Made, passes, made_as, own_of, woven_of, made_of, with_made, past_with, low_of}
+use Rattle.mended_frames.specs.Mended.{taking, mended}
 use Rattle.mended_frames.specs.Mended.{frames_of}
 
 -- ---- they pass
 
-no_fault : (o : Option MuteCause) → not (is_some o) ≡ true → o ≡ None
+pub no_fault : (o : Option MuteCause) → not (is_some o) ≡ true → o ≡ None
 no_fault None e = refl
 no_fault (Some cause) e = absurd (true≢false (sym e))
 
@@ -32,8 +36,9 @@ found : {X : Type 0} (test : X → Bool) (xs : List X) (x : X) → find test xs 
 found test [] x e = none_some x e
 found test (y ∷ xs) x e = go (test y) refl e (λ r. found test xs x r)
   where
-    go : (t : Bool) → test y ≡ t → cond t (Some y) (find test xs) ≡ Some x → (find test xs ≡ Some x → test x ≡ true) → test x ≡ true
-    go true is e rest = subst (λ (z : _). test z ≡ true) (some_injective y x e) is
+    go : (t : Bool) → test y ≡ t → cond t (Some y) (find test xs) ≡ Some x → (find test xs ≡ Some x → test x ≡ true)
+        → test x ≡ true
+    go true is e rest = subst (λ (z : _). test z ≡ true) (same_Some y x e) is
     go false is e rest = rest e
 
 -- what is made has the number that was picked, and passes
@@ -49,7 +54,7 @@ by_one c past p is_woven gs x e = go (find (passes c past p.number) gs) refl e
         → IsMade c past p x
     go None is e = none_some x e
     go (Some g) is e =
-        let same = some_injective (made_as p.number is_woven g) x e in
+        let same = same_Some (made_as p.number is_woven g) x e in
         record {
           number = sym (ap (λ (y : Made). y.number) same);
           pass =
@@ -95,11 +100,13 @@ pass_from : (c : Config) (steps k : ℕ) (past : List Numbered) (feeds : ℕ →
 pass_from c zero k past feeds = tt
 pass_from c (suc steps) k past feeds = go (one_waits k feeds) (λ past feeds. pass_from c steps k past feeds)
   where
-    go : (t : Bool) → ((past : List Numbered) (feeds : ℕ → Coming) → PassBehind c past (picked_from (taking c) steps k past feeds))
+    go : (t : Bool) → ((past : List Numbered) (feeds : ℕ → Coming)
+        → PassBehind c past (picked_from (taking c) steps k past feeds))
         → PassBehind c past (cond t [] (pick_next (taking c) (least_next k feeds) k past feeds
         (λ past feeds. picked_from (taking c) steps k past feeds)))
     go true h = tt
-    go false h = next_pass c (least_next k feeds) k past feeds (λ past feeds. picked_from (taking c) steps k past feeds) h
+    go false h = next_pass c (least_next k feeds) k past feeds (λ past feeds. picked_from (taking c) steps k past feeds)
+        h
 
 pub made_pass : MadePass
 unfolding mended
@@ -108,7 +115,7 @@ made_pass c k streams = pass_from c (events_in k (all_of c streams)) k [] (all_o
 -- ---- their numbers rise
 
 -- Their numbers are not below one, and rise.
-abbrev RiseOn : ℕ → List Made → Type 0
+abbrev pub RiseOn : ℕ → List Made → Type 0
 RiseOn low [] = Unit {0}
 RiseOn low (x ∷ made) = (low ≤ x.number) × RiseOn (x.number + 1) made
 
@@ -137,11 +144,13 @@ rise_from : (c : Config) (steps k : ℕ) (past : List Numbered) (feeds : ℕ →
 rise_from c zero k past feeds = tt
 rise_from c (suc steps) k past feeds = go (one_waits k feeds) (λ past feeds. rise_from c steps k past feeds)
   where
-    go : (t : Bool) → ((past : List Numbered) (feeds : ℕ → Coming) → RiseOn (low_of past) (picked_from (taking c) steps k past feeds))
+    go : (t : Bool) → ((past : List Numbered) (feeds : ℕ → Coming)
+        → RiseOn (low_of past) (picked_from (taking c) steps k past feeds))
         → RiseOn (low_of past) (cond t [] (pick_next (taking c) (least_next k feeds) k past feeds
         (λ past feeds. picked_from (taking c) steps k past feeds)))
     go true h = tt
-    go false h = next_rise c (least_next k feeds) k past feeds (λ past feeds. picked_from (taking c) steps k past feeds) h
+    go false h = next_rise c (least_next k feeds) k past feeds (λ past feeds. picked_from (taking c) steps k past feeds)
+        h
 
 frames_rise : (c : Config) (m : ℕ) (made : List Made) → RiseOn (m + 1) made → RiseFrom m (frames_of c made)
 frames_rise c m [] h = tt

@@ -8,7 +8,8 @@ use Rattle.mended_frames.specs.Mended.{passes}
 use Rattle.mended_frames.specs.StandsFor.{Feed, pooled_of}
 
 -- The feed at a place has the first group that passes.
-pub record Chooses (c : Config) (before : List Numbered) (n : ℕ) (feeds : List Feed) (gs : List Group) (i : ℕ) : Type 0 where
+pub record Chooses (c : Config) (before : List Numbered) (n : ℕ) (feeds : List Feed) (gs : List Group)
+    (i : ℕ) : Type 0 where
   pub feed : Feed
   pub is : slice_get feeds i ≡ Some feed
   pub group : Group

@@ -1,5 +1,6 @@
 -- Which frame is next, by what the feeds show.
-use Rattle.std.specs.Prelude.{◌≡◌, ℕ, zero, suc, ◌<◌, Bool, true, false, List, [], ◌∷◌, ◌++◌, length, slice_get, Option, Some, None}
+use Rattle.std.specs.Prelude.{◌≡◌, ℕ, zero, suc, ◌<◌, Bool, true, false, List, [], ◌∷◌, ◌++◌, length, slice_get, Option}
+use Rattle.std.specs.Prelude.{Some, None}
 use Rattle.std.specs.Option.{option_map_or}
 use Rattle.frame_groups.specs.Groups.{Group}
 use Rattle.feed_events.specs.FeedEvents.{FeedEvent}
@@ -57,7 +58,8 @@ PassesIf true old new = Passes old new
 PassesIf false old new = new ≡ old
 
 -- So it is of each.
-pub record AllPass {G : Type 0} {o : OpenGroup.Ghosts G} (number : Option ℕ) (silent : Bool) (old new : List (EventFeed G o))
+pub record AllPass {G : Type 0} {o : OpenGroup.Ghosts G} (number : Option ℕ) (silent : Bool)
+    (old new : List (EventFeed G o))
     : Type 0 where
   pub len : length new ≡ length old
   pub each : (i : ℕ) (f : EventFeed G o) → slice_get old i ≡ Some f

@@ -20,7 +20,8 @@ MadePass = (c : Config) (k : ℕ) (streams : ℕ → List ℕ) → PassBehind c 
 abbrev pub MadeRise : Type 0
 MadeRise = (c : Config) (k : ℕ) (streams : ℕ → List ℕ) → Rise (frames_of c (made_of_all c k streams))
 
--- Of their packets, with those of superframes of a timestamp alone, none is more than 14 superframes behind the one before.
+-- Of their packets, with those of superframes of a timestamp alone, none is more than 14 superframes behind the one
+-- before.
 abbrev pub MadeAreNear : Type 0
 MadeAreNear = (c : Config) (k : ℕ) (streams : ℕ → List ℕ) → 0 < c.frames
     → AreNear c (spaced c (frames_of c (made_of_all c k streams)))

@@ -40,7 +40,8 @@ woven_of c past p = find (passes c past p.number) (option_to_list (woven c p.num
 
 abbrev pub made_of : Config → List Numbered → Picked → Option Made
 made_of c past p =
-    option_or (option_map (made_as p.number false) (own_of c past p)) (option_map (made_as p.number true) (woven_of c past p))
+    option_or (option_map (made_as p.number false) (own_of c past p)) (option_map (made_as p.number true)
+    (woven_of c past p))
 
 -- the frames that were made, the last one in front
 abbrev pub with_made : List Numbered → Made → List Numbered
@@ -66,7 +67,8 @@ taking c = record {
 unfoldable pub mended : Config → ℕ → (ℕ → Coming) → List Made
 mended c k feeds = picks_from (taking c) k [] feeds
 
--- what is sent of a frame: the L1 signalling that all frames share, and of its packets the dynamic part and the blocks of the right length
+-- what is sent of a frame: the L1 signalling that all frames share, and of its packets the dynamic part and the blocks
+-- of the right length
 abbrev pub content_in : Config → List Packet → Content
 content_in c packets = record {
   pre = pre_part c;

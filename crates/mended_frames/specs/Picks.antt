@@ -1,9 +1,9 @@
 -- Which frames come next of several feeds, by their events.
-use Rattle.std.specs.Prelude.{ℕ, zero, suc, ◌+◌, ◌==◌, ◌||◌, not, min, nat_lt, Bool, true, false, List, [], ◌∷◌, ◌++◌, length, Option, Some, None}
+use Rattle.std.specs.Prelude.{ℕ, zero, suc, ◌+◌, ◌==◌, ◌||◌, not, min, nat_lt, Bool, true, false, List, [], ◌∷◌, ◌++◌}
+use Rattle.std.specs.Prelude.{length, Option, Some, None}
 use Rattle.std.specs.Prelude.{if◌then◌else◌}
 use Rattle.std.specs.List.{flat_map, range_with_len}
 use Rattle.frame_groups.specs.Groups.{Group}
-use Rattle.frame_groups.specs.Modulated.{Numbered}
 use Rattle.feed_events.specs.FeedEvents.{FeedEvent}
 use Rattle.feed_events.specs.FeedEvents.FeedEvent.{Has, Silent}
 
@@ -65,8 +65,8 @@ pub record Picked : Type 0 where
   pub number : ℕ
   pub groups : List Group
 
--- what is done with the frames that are picked, one after another: from which number on they are, what is made of one, and what is
--- known then
+-- what is done with the frames that are picked, one after another: from which number on they are, what is made of one,
+-- and what is known then
 pub record Taking (S X : Type 0) : Type 0 where
   pub low : S → ℕ
   pub made : S → Picked → List X
@@ -75,9 +75,10 @@ pub record Taking (S X : Type 0) : Type 0 where
 abbrev pub picked_of : ℕ → ℕ → (ℕ → Coming) → Picked
 picked_of n k feeds = record { number = n; groups = groups_next n k feeds }
 
--- The least number is next; one that is too low is passed over. A silence gives its feed up for one frame, so a feed that is given up
--- holds no other up. Where no feed has packets next, silences are passed over.
-abbrev pub pick_next : {S X : Type 0} → Taking S X → Option ℕ → ℕ → S → (ℕ → Coming) → (S → (ℕ → Coming) → List X) → List X
+-- The least number is next; one that is too low is passed over. A silence gives its feed up for one frame, so a feed
+-- that is given up holds no other up. Where no feed has packets next, silences are passed over.
+abbrev pub pick_next : {S X : Type 0} → Taking S X → Option ℕ → ℕ → S → (ℕ → Coming) → (S → (ℕ → Coming) → List X)
+    → List X
 pick_next t None k s feeds rest = rest s (all_behind None true feeds)
 pick_next t (Some n) k s feeds rest =
     if nat_lt n (t.low s) then rest s (all_behind (Some n) false feeds)

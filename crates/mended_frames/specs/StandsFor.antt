@@ -1,5 +1,6 @@
 -- What a mender of frames stands for.
-use Rattle.std.specs.Prelude.{◌≡◌, ℕ, ◌==◌, Bool, true, false, option_map, List, [], ◌∷◌, slice_get, Option, Some, ◌<◌, length}
+use Rattle.std.specs.Prelude.{◌≡◌, ℕ, ◌==◌, Bool, true, false, option_map, List, [], ◌∷◌, slice_get, Option, Some, ◌<◌}
+use Rattle.std.specs.Prelude.{length}
 use Rattle.std.specs.Option.{option_map_or}
 use Rattle.plp_config.specs.declared.config.Config.{Config}
 use Rattle.frame_groups.specs.Groups.{Group}
@@ -75,7 +76,12 @@ abbrev pub nothing : Content
 nothing = record { pre = []; conf = []; dynamic = []; lists = [] }
 
 abbrev pub held_content : Mender → PooledGroup → Content
-held_content m g = record { pre = m.signalling.pre; conf = m.signalling.conf; dynamic = dynamic_of g; lists = lists_of g }
+held_content m g = record {
+  pre = m.signalling.pre;
+  conf = m.signalling.conf;
+  dynamic = dynamic_of g;
+  lists = lists_of g;
+}
 
 abbrev pub lent_content : Source → Mender → List Feed → Content
 lent_content from m feeds = option_map_or (held_content m) (lent_by from m feeds) nothing

@@ -1,5 +1,6 @@
 // The groups of feeds.
-ghost use Rattle.std.specs.Prelude.{◌≡◌, ◌<◌, ◌^◌, ◌&&◌, ◌++◌, ◌∷◌, ℕ, List, [], Some, None, true, false, find, length, IfSome, IfNone, slice_get};
+ghost use Rattle.std.specs.Prelude.{◌≡◌, ◌<◌, ◌^◌, ◌&&◌, ◌++◌, ◌∷◌, ℕ, List, [], Some, None, true, false, find, length};
+ghost use Rattle.std.specs.Prelude.{IfSome, IfNone, slice_get};
 ghost use Rattle.frame_groups.specs.Groups.{Group};
 ghost use Rattle.frame_groups.specs.Modulated.{Numbered};
 ghost use Rattle.frame_groups.specs.Sequenced.{IsAbove};
@@ -27,8 +28,8 @@ pub(crate) fn is_at(number: u64, head: Head) -> bool
     }
 }
 
-// Whether packets of a frame are next in a feed, and are that frame by themselves, behind the frames that were made.
-fn is_whole(feed: &EventFeed<MarkedGroup<'_>>, past: &HeldPast, number: u64) -> bool
+/// Whether packets of a frame are next in a feed, and are that frame by themselves, behind the frames that were made.
+pub(crate) fn is_whole(feed: &EventFeed<MarkedGroup<'_>>, past: &HeldPast, number: u64) -> bool
     requires small { number < 2 ^ 32 }
     requires sized { AreSized (pooled_of feed.now).network past.now }
     ensures value { (own before : List Numbered) (h : Group) → HoldsMarked (group_of feed.now) own (Some h)

@@ -1,5 +1,5 @@
-//! Which frames come next of several feeds of a network, the frames that are made of what these have, and what holds of them
-//! whatever the feeds are.
+//! Which frames come next of several feeds of a network, the frames that are made of what these have, and what holds of
+//! them whatever the feeds are.
 #![tactic(auto)]
 
 mod groups;

@@ -3,7 +3,7 @@ ghost use Rattle.std.specs.Prelude.{◌≡◌};
 ghost use Rattle.open_group.specs.HoldsPast.{AreSized};
 ghost use Rattle.frame_writer.specs.Signalling.{pre_part, conf_part};
 
-use crate::groups::{look_all, place_all, whole_feed};
+use crate::groups::{is_whole, look_all, place_all, whole_feed};
 use bit_slice::OutOfMemory;
 use feed_events::EventFeed;
 use frame_weave::{MarkedGroup, Weaver};
@@ -21,8 +21,8 @@ pub enum Source {
     Woven,
 }
 
-/// Makes frames of what several feeds have of them, one behind another: what weaves a frame, and what is held of the frames
-/// that were made. All memory is taken in `open`.
+/// Makes frames of what several feeds have of them, one behind another: what weaves a frame, and what is held of the
+/// frames that were made. All memory is taken in `open`.
 #[derive(Drop)]
 pub struct Mender<'p> {
     plan: &'p Plan,
@@ -36,10 +36,13 @@ pub struct Mender<'p> {
 }
 
 impl<'p> Mender<'p> {
-    ghost use Rattle.std.specs.Prelude.{◌≡◌, ◌<◌, ◌^◌, ◌∷◌, ℕ, List, [], Some, None, true, IfOk, IfSome, IfNone, is_some};
+    ghost use Rattle.std.specs.Prelude.{◌≡◌, ◌<◌, ◌^◌, ◌&&◌, ◌∷◌, ℕ, List, [], Some, None, true, is_some};
+    ghost use Rattle.std.specs.Prelude.{IfOk, IfSome, IfNone};
     ghost use Rattle.frame_groups.specs.Groups.{Group};
     ghost use Rattle.frame_groups.specs.Modulated.{Numbered};
     ghost use Rattle.frame_groups.specs.Sequenced.{IsAbove};
+    ghost use Rattle.feed_events.specs.StandsFor.{head_of, group_of};
+    ghost use Rattle.frame_weave.specs.Holds.{HoldsMarked};
     ghost use Rattle.frame_weave.specs.Weaves.{IsOwn};
     ghost use Rattle.frame_weave.specs.Woven.{woven};
     ghost use Rattle.open_group.specs.FrameBytes.{is_frame};
@@ -49,7 +52,8 @@ impl<'p> Mender<'p> {
     ghost use Rattle.frame_writer.specs.Left.{CanBeSent};
     ghost use Rattle.spaced_frames.specs.StandsFor.{content_of};
     ghost use Rattle.mended_frames.specs.Mended.{content_in, made_of, woven_of, passes};
-    ghost use Rattle.mended_frames.specs.StandsFor.{AreOf, HaveGroups, MenderStandsFor, Makes, CanLend, IsNextIn, lent_by, lent_content, picked_as, pooled_of};
+    ghost use Rattle.mended_frames.specs.StandsFor.{AreOf, HaveGroups, MenderStandsFor, Makes, CanLend, IsNextIn};
+    ghost use Rattle.mended_frames.specs.StandsFor.{is_at, lent_by, lent_content, picked_as, pooled_of};
 
     /// Takes the memory for a plan. No frame was made.
     pub fn open(alloc: Global, plan: &'p Plan) -> Result<Mender<'p>, OutOfMemory>
@@ -100,7 +104,8 @@ impl<'p> Mender<'p> {
         requires small { number < 2 ^ 32 }
         requires of { AreOf self.old.plan.now feeds.now }
         ensures told { (gs : List Group) (past : List Numbered) → MenderStandsFor self.old past → IsAbove past number
-            → HaveGroups number feeds.now gs → result ≡ is_some (woven_of self.old.plan.now past (picked_as number gs)) }
+            → HaveGroups number feeds.now gs
+            → result ≡ is_some (woven_of self.old.plan.now past (picked_as number gs)) }
         ensures group { (gs : List Group) (past : List Numbered) (g : Group) → MenderStandsFor self.old past
             → IsAbove past number → HaveGroups number feeds.now gs
             → woven_of self.old.plan.now past (picked_as number gs) ≡ Some g
@@ -137,6 +142,19 @@ impl<'p> Mender<'p> {
         ensures same { (self.new.plan.now ≡ self.old.plan.now) × (self.new.weaver ≡ self.old.weaver) }
     {
         self.weaver.group().note_in(&mut self.past, number);
+    }
+
+    /// Whether packets of a frame, above those that were made, are next in a feed and are that frame by themselves. The
+    /// first such feed lends the frame that [`Mender::make`] makes.
+    pub fn is_whole(&self, feed: &EventFeed<MarkedGroup<'p>>, number: u64) -> bool
+        requires small { number < 2 ^ 32 }
+        requires network { (pooled_of feed.now).network ≡ self.now.plan.now }
+        ensures value { (past own : List Numbered) (h : Group) → MenderStandsFor self.now past → IsAbove past number
+            → HoldsMarked (group_of feed.now) own (Some h)
+            → result ≡ (is_at number (head_of feed.now) && passes self.now.plan.now past number h) }
+        ensures there { result ≡ true → is_at number (head_of feed.now) ≡ true }
+    {
+        is_whole(feed, &self.past, number)
     }
 
     /// Makes a frame, above those that were made, of what the feeds have of it: who lends it, if it is made.
@@ -182,7 +200,8 @@ impl<'p> Mender<'p> {
         }
     }
 
-    /// The frame that one lends now: the one that was made last, until its feed goes on or [`Mender::make`] is called again.
+    /// The frame that one lends now: the one that was made last, until its feed goes on or [`Mender::make`] is called
+    /// again.
     pub fn frame<'g>(
         &'g self,
         feeds: &'g [EventFeed<MarkedGroup<'p>>],

@@ -1,5 +1,6 @@
 -- What one of the feeds stands for, and which number comes next of it.
-use Rattle.std.proofs.Common.{◌≡◌, ℕ, ◌+◌, ◌≤◌, ◌==◌, ◌&&◌, not, Bool, true, false, List, [], ◌∷◌, ◌++◌, Option, Some, None}
+use Rattle.std.proofs.Common.{◌≡◌, ℕ, ◌+◌, ◌≤◌, ◌==◌, ◌&&◌, not, Bool, true, false, List, [], ◌∷◌, ◌++◌, Option, Some}
+use Rattle.std.proofs.Common.{None}
 use Rattle.std.proofs.Common.{is_some, refl, ap, sym, subst, ◌∙◌, arith, append_assoc}
 use Rattle.std.specs.Prelude.{IsSome}
 use Rattle.std.specs.List.{AllByRecursion}
@@ -52,9 +53,11 @@ there_at n None e = absurd (true≢false (sym e))
 there_at n (Some w) e = (and_parts (w.frame == n) (not (is_some w.mute)) e).0
 
 -- it was left behind, unless its frame is sent
-took_by : (held : Bool) (at : Bool) (c : Config) (f g : FrameFeed) (bytes : List ℕ) (ended : Bool) (given : List FrameRecord)
+took_by : (held : Bool) (at : Bool) (c : Config) (f g : FrameFeed) (bytes : List ℕ) (ended : Bool)
+    (given : List FrameRecord)
     → (held ≡ true → (at ≡ true) × IsSome (waiting_of f)) → feed.config_of g ≡ feed.config_of f
-    → ((at && not held) ≡ false → g ≡ f) → Takes (at && not held) f g bytes ended given → IsFedWith c f bytes ended given
+    → ((at && not held) ≡ false → g ≡ f) → Takes (at && not held) f g bytes ended given
+    → IsFedWith c f bytes ended given
     → TookFor held at c f g bytes ended given
 took_by false at c f g bytes ended given there config stays takes h =
     let t = subst (λ (b : Bool). Takes b f g bytes ended given) (both_on at) takes in
@@ -65,12 +68,14 @@ took_by true at c f g bytes ended given there config stays takes h =
     first (waiting_of f) refl here.1 d.later d.all d.first
   where
     first : (o : Option Waiting) → waiting_of f ≡ o → IsSome (waiting_of f) → (later : List FrameRecord)
-        → records_due c ended bytes ≡ given ++ later → IsFirst (waiting_of f) later → TookFor true at c f g bytes ended given
+        → records_due c ended bytes ≡ given ++ later → IsFirst (waiting_of f) later
+        → TookFor true at c f g bytes ended given
     first None none some later all is = absurd (true≢false (sym (subst IsSome none some)))
     first (Some w) waits some [] all is = absurd (subst (λ (o : Option Waiting). IsFirst o []) waits is)
     first (Some w) waits some (x ∷ later) all is =
         let one : IsFirst (waiting_of f) (x ∷ []) =
-        subst (λ (o : Option Waiting). IsFirst o (x ∷ [])) (sym waits) (subst (λ (o : Option Waiting). IsFirst o (x ∷ later)) waits is) in
+        subst (λ (o : Option Waiting). IsFirst o (x ∷ [])) (sym waits)
+        (subst (λ (o : Option Waiting). IsFirst o (x ∷ later)) waits is) in
         let only : IsOnly (waiting_of f) (x ∷ []) = record { one = x; only = refl; first = one } in
         let was : IsHeld c f bytes ended (given ++ x ∷ []) = record {
           before = given;
@@ -91,7 +96,8 @@ waits_there : (n : ℕ) (o : Option Waiting) → is_there n (seen_of o) ≡ true
 waits_there n None e = absurd (true≢false (sym e))
 waits_there n (Some w) e = refl
 
-pub took_of : (c : Config) (from : Feed) (source : Option Feed) (n : ℕ) (f g : FrameFeed) (bytes : List ℕ) (ended : Bool)
+pub took_of : (c : Config) (from : Feed) (source : Option Feed) (n : ℕ) (f g : FrameFeed) (bytes : List ℕ)
+    (ended : Bool)
     (given : List FrameRecord) → (is_from from source ≡ true → is_there n (seen_of (waiting_of f)) ≡ true)
     → feed.config_of g ≡ feed.config_of f
     → (leaves from (is_at n (seen_of (waiting_of f))) source ≡ false → g ≡ f)
@@ -112,10 +118,12 @@ pub took_past : DueFollow → (c : Config) (n : ℕ) (held : Bool) (f g : FrameF
 took_past follow c n held f g bytes ended given busy least end here stays t =
     go held here t.stands
   where
-    go : (k : Bool) → (k ≡ true → is_at n (seen_of (waiting_of f)) ≡ true) → OfFeed k c g bytes ended (given ++ t.records)
+    go : (k : Bool) → (k ≡ true → is_at n (seen_of (waiting_of f)) ≡ true)
+        → OfFeed k c g bytes ended (given ++ t.records)
         → IsPast k (n + 1) g (given ++ t.records)
     go true on h =
-        let taken = (above_taken (waiting_of f) n t.records t.are).1 (let e = ap one_if (on refl) in omega (arith, e)) in
+        let taken = (above_taken (waiting_of f) n t.records t.are).1 (let e = ap one_if (on refl) in
+        omega (arith, e)) in
         omega (arith, taken, above_append given t.records)
     go false on h =
         took_behind follow c n f g bytes ended given busy least end stays
@@ -124,17 +132,23 @@ took_past follow c n held f g bytes ended given busy least end here stays t =
 -- ---- the record of a frame that is picked
 
 -- it is due behind those before
-pub due_held : (c : Config) (f : FrameFeed) (bytes : List ℕ) (ended : Bool) (given records : List FrameRecord) (x : FrameRecord)
-    → records ≡ x ∷ [] → (h : IsHeld c f bytes ended (given ++ records)) → records_due c ended bytes ≡ given ++ x ∷ h.later
+pub due_held : (c : Config) (f : FrameFeed) (bytes : List ℕ) (ended : Bool) (given records : List FrameRecord)
+    (x : FrameRecord)
+    → records ≡ x ∷ [] → (h : IsHeld c f bytes ended (given ++ records)) → records_due c ended bytes ≡ given
+    ++ x ∷ h.later
 due_held c f bytes ended given records x only h =
-    h.due ∙ sym (append_assoc h.before (h.one ∷ []) h.later) ∙ ap (λ (l : List FrameRecord). l ++ h.later) (sym h.given_is)
+    h.due ∙ sym (append_assoc h.before (h.one ∷ []) h.later) ∙ ap (λ (l : List FrameRecord). l ++ h.later)
+    (sym h.given_is)
     ∙ ap (λ (l : List FrameRecord). (given ++ l) ++ h.later) only ∙ append_assoc given (x ∷ []) h.later
 
 -- and formed for its number
-pub formed_due : FramesAreFormed → (c : Config) (bytes : List ℕ) (ended : Bool) (given : List FrameRecord) (from : Feed) (n : ℕ)
-    (records : List FrameRecord) (o : Option Picked) (later : List FrameRecord) → IsPlan c → (p : PickIs c n from records o)
+pub formed_due : FramesAreFormed → (c : Config) (bytes : List ℕ) (ended : Bool) (given : List FrameRecord)
+    (from : Feed) (n : ℕ)
+    (records : List FrameRecord) (o : Option Picked) (later : List FrameRecord) → IsPlan c
+    → (p : PickIs c n from records o)
     → records_due c ended bytes ≡ given ++ p.one ∷ later → IsFormed c n (content_view c n p.one.content)
 formed_due law c bytes ended given from n records o later plan p due =
     subst (λ (k : ℕ). IsFormed c k (content_view c k p.one.content)) p.number
-    (one_of (IsFormedRecord c) given p.one later (subst (AllByRecursion (IsFormedRecord c)) due (law c ended bytes plan))
+    (one_of (IsFormedRecord c) given p.one later (subst (AllByRecursion (IsFormedRecord c)) due
+    (law c ended bytes plan))
     p.group p.whole)

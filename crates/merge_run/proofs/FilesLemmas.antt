@@ -33,7 +33,8 @@ use Rattle.merge_run.specs.declared.machine.MergeMachine.{MergeMachine}
 use Rattle.merge_run.specs.declared.phase.Phase.{Phase}
 use Rattle.merge_run.specs.declared.phase.Phase.TheVariants as phase
 use Rattle.feed_merge.specs.Fed.{AreEarly, end_by, ReadsAhead, IsBehind, NoneComes}
-use Rattle.feed_merge.proofs.BothLemmas.{none_given, split_a, split_b, ends_before, reads_ahead, all_a, all_b, early_all, none_all, some_all}
+use Rattle.feed_merge.proofs.BothLemmas.{none_given, split_a, split_b, ends_before, reads_ahead, all_a, all_b}
+use Rattle.feed_merge.proofs.BothLemmas.{early_all, none_all, some_all}
 use Rattle.feed_merge.proofs.BothLemmas.{ends_next, late_a, late_b, late_is}
 use Rattle.feed_merge.proofs.NumberLemmas.{below_of}
 use Rattle.feed_merge.proofs.StepLemmas.{Wants, IsLate}
@@ -51,7 +52,8 @@ nothing_sent k = refl
 
 -- ---- what is known of two files by what was fed of them
 
-module _ (front : DueFront) (follow : DueFollow) (law : CompleteLaw) (c : Config) (m : MergeMachine) (events : List Event)
+module _ (front : DueFront) (follow : DueFollow) (law : CompleteLaw) (c : Config) (m : MergeMachine)
+    (events : List Event)
     (s : Shown c events m) (files : ℕ → List ℕ) (places : List ℕ) (are : AreFed 2 files places events) where
   abbrev ga : List FrameRecord
   ga = s.given_a
@@ -69,7 +71,8 @@ module _ (front : DueFront) (follow : DueFollow) (law : CompleteLaw) (c : Config
   held_b = is_held m.phase m.source B
 
   -- the frames that were picked are those below a number that is behind both
-  picked_is : (n : ℕ) → m.next ≤ n → IsPast held_a n m.a ga → IsPast held_b n m.b gb → picked_below c files n ≡ picks c ga gb
+  picked_is : (n : ℕ) → m.next ≤ n → IsPast held_a n m.a ga → IsPast held_b n m.b gb
+      → picked_below c files n ≡ picks c ga gb
   picked_is n le x y =
       let p = split_a front follow c events held_a held_b m.next m.a m.b ga gb s.both files places are n x in
       let q = split_b front follow c events held_a held_b m.next m.a m.b ga gb s.both files places are n y in
@@ -113,7 +116,8 @@ module _ (front : DueFront) (follow : DueFollow) (law : CompleteLaw) (c : Config
       let picked : picked_of c files ≡ picks c ga gb = ap₂ (λ (ra rb : List FrameRecord). picks c ra rb) all.0 all.1 in
       let units = units_all i.none_a i.none_b in
       record {
-        some = some_all front follow c events held_a held_b m.next m.a m.b ga gb s.both files places are i.none_a i.none_b some;
+        some = some_all front follow c events held_a held_b m.next m.a m.b ga gb s.both files places
+            are i.none_a i.none_b some;
         early = early i.none_a i.none_b;
         output = gave_all c m.merger _ frames m.ran.units (gave events) i.all s.sends ∙ ap joined (sym units);
         ran_is = s.ran_is ∙ ap₂ counted (sym picked) (sym i.all ∙ ap length (sym units));
@@ -126,20 +130,23 @@ module _ (front : DueFront) (follow : DueFollow) (law : CompleteLaw) (c : Config
       let none : picks c ga gb ≡ [] =
       ap₂ (λ (ra rb : List FrameRecord). picks c ra rb) given.0 given.1 ∙ picks_nothing c in
       record {
-        none = none_all front follow c events held_a held_b m.next m.a m.b ga gb s.both files places are i.none_a i.none_b first;
+        none = none_all front follow c events held_a held_b m.next m.a m.b ga gb s.both files places
+            are i.none_a i.none_b first;
         empty = gave_all c m.merger _ frames m.ran.units (gave events) i.all s.sends
             ∙ ap (λ (ps : List Picked). joined (pipe c.pid (packets_of c ps))) none ∙ nothing_sent c;
       }
 
   -- ---- a late record waits
 
-  pub has_late : m.phase ≡ phase.Reads → IsLate (waiting_of m.a) (feed.has_ended m.a) (waiting_of m.b) (feed.has_ended m.b)
+  pub has_late : m.phase ≡ phase.Reads → IsLate (waiting_of m.a) (feed.has_ended m.a) (waiting_of m.b)
+      (feed.has_ended m.b)
       → HasLate c files (gave events)
   has_late reads l =
       let r = reading c m events s reads in
       record {
         late = late_is front follow c events m.next m.a m.b ga gb r files places are l;
-        is = complete_below MOST_FRAMES s.both.early (late_a front follow c events m.next m.a m.b ga gb r files places are l)
+        is = complete_below MOST_FRAMES s.both.early (late_a front follow c events m.next m.a m.b ga
+            gb r files places are l)
             (late_b front follow c events m.next m.a m.b ga gb r files places are l) reads;
       }
 
@@ -193,10 +200,13 @@ module _ (front : DueFront) (follow : DueFollow) (law : CompleteLaw) (c : Config
           let l = law c.pid (remade_packets c frames) q.0 in
           let count = s.sends.count_is in
           let few = s.sends.whole off in
-          let f = shorter_front s.sends.units (complete_units c.pid (remade_packets c frames)) p.0 l.rest (sym p.1 ∙ l.units)
+          let f = shorter_front s.sends.units (complete_units c.pid (remade_packets c frames)) p.0 l.rest (sym p.1
+          ∙ l.units)
           (omega (arith, count, few)) in
-          let all : s.sends.units ++ (f.0 ++ l.others) ≡ complete_units c.pid (packets_of c (picked_below c files MOST_FRAMES)) =
-          sym (append_assoc s.sends.units f.0 l.others) ∙ ap (λ (x : List (List ℕ)). x ++ l.others) (sym f.1) ∙ sym l.complete
+          let all : s.sends.units ++ (f.0 ++ l.others) ≡ complete_units c.pid
+          (packets_of c (picked_below c files MOST_FRAMES)) =
+          sym (append_assoc s.sends.units f.0 l.others) ∙ ap (λ (x : List (List ℕ)). x ++ l.others) (sym f.1)
+          ∙ sym l.complete
           ∙ ap (complete_units c.pid) (sym packets) in
           (joined (f.0 ++ l.others), inr (gave_more (f.0 ++ l.others) ∙ ap joined all))
 
@@ -205,14 +215,17 @@ module _ (front : DueFront) (follow : DueFollow) (law : CompleteLaw) (c : Config
   -- the frames below a number are those of the records that were given
   picked_low : picked_below c files s.live.low ≡ picks_below c ga gb s.live.low
   picked_low =
-      let p = split_a front follow c events held_a held_b m.next m.a m.b ga gb s.both files places are m.next s.both.behind_a in
-      let q = split_b front follow c events held_a held_b m.next m.a m.b ga gb s.both files places are m.next s.both.behind_b in
+      let p = split_a front follow c events held_a held_b m.next m.a m.b ga gb s.both files places are
+      m.next s.both.behind_a in
+      let q = split_b front follow c events held_a held_b m.next m.a m.b ga gb s.both files places are
+      m.next s.both.behind_b in
       ap₂ (λ (ra rb : List FrameRecord). picks_below c ra rb s.live.low) p.all q.all
       ∙ below_split c ga p.after gb q.after m.next s.live.low s.live.within p.from q.from
 
   -- the complete units of the frames below a lower number were given
   given_since : (end : ℕ) → end ≤ s.live.low
-      → (end ≤ MOST_FRAMES) × IsPrefix (joined (complete_units c.pid (packets_of c (picked_below c files end)))) (gave events)
+      → (end ≤ MOST_FRAMES) × IsPrefix (joined (complete_units c.pid (packets_of c (picked_below c files end))))
+      (gave events)
   given_since end le =
       let low : ℕ = s.live.low in
       let within = s.live.within in
@@ -225,7 +238,8 @@ module _ (front : DueFront) (follow : DueFollow) (law : CompleteLaw) (c : Config
       let top : low + (m.next - low) ≡ m.next = omega (arith, within) in
       let v = picks_front c ga gb low (m.next - low) in
       let all_is : picks c ga gb ≡ picks_below c ga gb low ++ v.0 =
-      all_below c ga gb m.next (below_of m.next ga (omega (arith, next_is))) (below_of m.next gb (omega (arith, next_is)))
+      all_below c ga gb m.next (below_of m.next ga (omega (arith, next_is)))
+      (below_of m.next gb (omega (arith, next_is)))
       ∙ ap (picks_below c ga gb) (sym top) ∙ v.1 in
       let few : List (List ℕ) = packets_of c (picked_below c files end) in
       let more = packets_more c (frames_of (picked_below c files end)) (frames_of u.0) in
@@ -249,23 +263,27 @@ module _ (front : DueFront) (follow : DueFollow) (law : CompleteLaw) (c : Config
       → (end_by c (files input) taken ≤ MOST_FRAMES) × IsPrefix (complete_by c files input taken) (gave events)
   since input taken lt less =
       given_since (end_by c (files input) taken)
-      (ends_before front follow c events held_a held_b m.next m.a m.b ga gb s.both files places are s.live.low s.live.due_a s.live.due_b
+      (ends_before front follow c events held_a held_b m.next m.a m.b ga gb s.both files places are s.live.low
+      s.live.due_a s.live.due_b
       input taken lt less)
 
   -- no input was read further than by what is read ahead
   pub ahead : (n : ℕ) → m.next ≤ n → AreWithin 2 places (reach_of m) → ReadsAhead c n files places
   ahead n le near =
       let low = s.live.within in
-      reads_ahead front follow c events held_a held_b m.next m.a m.b ga gb s.both files places are s.live.low n s.live.due_a s.live.due_b
+      reads_ahead front follow c events held_a held_b m.next m.a m.b ga gb s.both files places are s.live.low
+      n s.live.due_a s.live.due_b
       (omega (arith, low, le)) near
 
   -- so it is when an input is to be read on
-  pub has_read : (input taken : ℕ) → Wants (waiting_of m.a) (feed.has_ended m.a) (waiting_of m.b) (feed.has_ended m.b) input
+  pub has_read : (input taken : ℕ) → Wants (waiting_of m.a) (feed.has_ended m.a) (waiting_of m.b) (feed.has_ended m.b)
+      input
       → m.phase ≡ phase.Reads → taken ≡ length (fed input events) → AreWithin 2 places (reach_of m)
       → HasRead c input taken files places (gave events)
   has_read input taken wants reads is near =
       let same = ap (end_by c (files input)) is
-      ∙ ends_next front follow c events m.next m.a m.b ga gb (reading c m events s reads) files places are input wants in
+      ∙ ends_next front follow c events m.next m.a m.b ga gb (reading c m events s reads) files places
+      are input wants in
       record {
         written = has_written input taken reads same;
         ahead = ahead (end_by c (files input) taken) (omega (arith, same)) near;

@@ -38,8 +38,10 @@ pushed c frames f bodies is =
     ∙ ap (λ (l : List (ℕ × Body)). remade_bodies c frames ++ l) (append-nil (frame_pairs c f)))
 
 -- what a feed shows of the record that waits is what its packets carry
-pub sent : DuePass → ShownIsSent → (c : Config) (ended : Bool) (bytes : List ℕ) (given : List FrameRecord) (x : FrameRecord)
-    (later : List FrameRecord) (g : Group) (f : PoolFrame) (feed : FrameFeed) → IsPlan c → records_due c ended bytes ≡ given ++ x ∷ later
+pub sent : DuePass → ShownIsSent → (c : Config) (ended : Bool) (bytes : List ℕ) (given : List FrameRecord)
+    (x : FrameRecord)
+    (later : List FrameRecord) (g : Group) (f : PoolFrame) (feed : FrameFeed) → IsPlan c
+    → records_due c ended bytes ≡ given ++ x ∷ later
     → x.content ≡ Whole g → Shows c g.packets (dynamic_of feed) (lists_of feed) → config_of feed ≡ c → IsFrameOf feed f
     → bodies_of c x.number f ≡ view_bodies c x.number (frame_by c x).view
 sent pass law c ended bytes given x later g f feed plan all content shows network is =

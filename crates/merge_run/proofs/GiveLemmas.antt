@@ -1,5 +1,6 @@
 -- Units are given.
-use Rattle.std.proofs.Common.{◌≡◌, ◌≢◌, ℕ, ◌+◌, ◌*◌, ◌/◌, ◌^◌, ◌<◌, ◌≤◌, true, false, Bool, List, [], ◌∷◌, ◌++◌, length, drop}
+use Rattle.std.proofs.Common.{◌≡◌, ◌≢◌, ℕ, ◌+◌, ◌*◌, ◌/◌, ◌^◌, ◌<◌, ◌≤◌, true, false, Bool, List, [], ◌∷◌, ◌++◌, length}
+use Rattle.std.proofs.Common.{drop}
 use Rattle.std.proofs.Common.{take, Some}
 use Rattle.std.proofs.Common.{refl, ap, sym, subst, ◌∙◌, arith, append-nil}
 use Rattle.std.specs.Prelude.{slice_get}
@@ -58,24 +59,30 @@ module _ (c : Config) (m : MergeMachine) (events : List Event) (s : Shown c even
   giving gives = subst (IsIn c m frames) gives s.is_in
 
   pub giving_sends : m.phase ≡ Gives → Sends c m.merger (left_for m.merger (feed_of m)) frames m.ran.units (gave events)
-  giving_sends gives = subst (λ (p : Phase). Sends c m.merger (left_at p m.merger (feed_of m)) frames m.ran.units (gave events)) gives s.sends
+  giving_sends gives = subst (λ (p : Phase). Sends c m.merger (left_at p m.merger (feed_of m)) frames
+      m.ran.units (gave events)) gives s.sends
 
   pub resting : m.phase ≡ Rests → IsResting m.merger m.a m.b
   resting rests = subst (IsIn c m frames) rests s.is_in
 
   pub resting_sends : m.phase ≡ Rests → Sends c m.merger [] frames m.ran.units (gave events)
-  resting_sends rests = subst (λ (p : Phase). Sends c m.merger (left_at p m.merger (feed_of m)) frames m.ran.units (gave events)) rests s.sends
+  resting_sends rests = subst (λ (p : Phase). Sends c m.merger (left_at p m.merger (feed_of m)) frames
+      m.ran.units (gave events)) rests s.sends
 
-  pub units_in : (p : Phase) → m.phase ≡ p → m.ran.units + more_units p m.merger (feed_of m) ≤ m.next * frame_bytes + 184
-  units_in p is = subst (λ (q : Phase). m.ran.units + more_units q m.merger (feed_of m) ≤ m.next * frame_bytes + 184) is s.counts.units
+  pub units_in : (p : Phase) → m.phase ≡ p → m.ran.units + more_units p m.merger (feed_of m) ≤ m.next
+      * frame_bytes + 184
+  units_in p is = subst (λ (q : Phase). m.ran.units + more_units q m.merger (feed_of m) ≤ m.next * frame_bytes + 184)
+      is s.counts.units
 
   -- the feed is of the network
   pub feed_network : feed.config_of (feed_of m) ≡ c
   feed_network = go m.source
     where
       go : (from : Feed) → feed.config_of (feed_in from m.a m.b) ≡ c
-      go A = held.network_of c m.a (fed 0 events) (has_ended 0 events) s.given_a (is_held m.phase m.source A) s.both.of_a
-      go B = held.network_of c m.b (fed 1 events) (has_ended 1 events) s.given_b (is_held m.phase m.source B) s.both.of_b
+      go A = held.network_of c m.a (fed 0 events) (has_ended 0 events) s.given_a (is_held m.phase m.source A)
+          s.both.of_a
+      go B = held.network_of c m.b (fed 1 events) (has_ended 1 events) s.given_b (is_held m.phase m.source B)
+          s.both.of_b
 
   pub same_network : feed.config_of (feed_of m) ≡ merger.config_of m.merger
   same_network = feed_network ∙ sym s.sends.network
@@ -101,10 +108,12 @@ module _ (c : Config) (m : MergeMachine) (events : List Event) (s : Shown c even
       go B on = refl
 
   pub whole_first : is_same m.source A ≡ true → is_whole (waiting_of m.a) ≡ true
-  whole_first on = subst (λ (f : FrameFeed). is_whole (waiting_of f) ≡ true) (of_first on) (giving c m events s gives).whole
+  whole_first on = subst (λ (f : FrameFeed). is_whole (waiting_of f) ≡ true) (of_first on)
+      (giving c m events s gives).whole
 
   pub whole_second : is_same m.source B ≡ true → is_whole (waiting_of m.b) ≡ true
-  whole_second on = subst (λ (f : FrameFeed). is_whole (waiting_of f) ≡ true) (of_second on) (giving c m events s gives).whole
+  whole_second on = subst (λ (f : FrameFeed). is_whole (waiting_of f) ≡ true) (of_second on)
+      (giving c m events s gives).whole
 
   pub early_first : is_same m.source A ≡ true → (w : Waiting) → waiting_of m.a ≡ Some w → w.frame < MOST_FRAMES
   early_first on w is = (giving c m events s gives).early w (ap waiting_of (of_first on) ∙ is)
@@ -130,8 +139,10 @@ pub record Skips (m : MergeMachine) (a b : FrameFeed) : Type 0 where
   pub took_a : SkipsIf (is_same m.source A) m.a a
   pub took_b : SkipsIf (is_same m.source B) m.b b
 
-module _ (tell : EventsTell) (c : Config) (m : MergeMachine) (g : Merger) (events : List Event) (s : Shown c events m) (gives : m.phase ≡ Gives)
-    (frame : PoolFrame) (is : IsFrameOf (feed_of m) frame) (full : Bool) (bytes : List ℕ) (n : GivesUnits m.merger g frame full bytes) where
+module _ (tell : EventsTell) (c : Config) (m : MergeMachine) (g : Merger) (events : List Event) (s : Shown c events m)
+    (gives : m.phase ≡ Gives)
+    (frame : PoolFrame) (is : IsFrameOf (feed_of m) frame) (full : Bool) (bytes : List ℕ)
+    (n : GivesUnits m.merger g frame full bytes) where
   abbrev fs : List NumberedView
   fs = frames c m events s
 
@@ -152,16 +163,20 @@ module _ (tell : EventsTell) (c : Config) (m : MergeMachine) (g : Merger) (event
   now = left_is g (feed_of m) frame is (same_network c m events s ∙ sym n.network)
 
   stands : MergerStandsFor m.merger (merger.left_in m.merger frame) (remade_bodies c fs) m.ran.units
-  stands = subst (λ (l : List Body). MergerStandsFor m.merger l (remade_bodies c fs) m.ran.units) (sym was) sending.stands
+  stands = subst (λ (l : List Body). MergerStandsFor m.merger l (remade_bodies c fs) m.ran.units) (sym was)
+      sending.stands
 
-  sent : (left : List Body) → merger.left_in g frame ≡ left → Sends c g left fs (m.ran.units + length n.units) (gave more)
+  sent : (left : List Body) → merger.left_in g frame ≡ left → Sends c g left fs (m.ran.units + length n.units)
+      (gave more)
   unfolding remade_packets
   sent left e =
       sends_units c m.merger g (left_for m.merger (feed_of m)) left fs m.ran.units n.units (gave events) (gave more)
       ((tell.given bytes events).gave ∙ ap (λ (l : List ℕ). gave events ++ l) n.bytes_are) n.network n.finished
-      (λ rest over. subst (λ (k : Config). IsPrefix n.units (drop m.ran.units (pipe k.pid (packets_from k 0 (remade_bodies c fs) ++ rest))))
+      (λ rest over. subst (λ (k : Config). IsPrefix n.units
+      (drop m.ran.units (pipe k.pid (packets_from k 0 (remade_bodies c fs) ++ rest))))
       sending.network (n.next (remade_bodies c fs) m.ran.units stands rest over))
-      (λ off some. subst (λ (k : Config). m.ran.units + length n.units ≤ length (complete_units k.pid (packets_from k 0 (remade_bodies c fs))))
+      (λ off some. subst (λ (k : Config). m.ran.units + length n.units ≤ length
+      (complete_units k.pid (packets_from k 0 (remade_bodies c fs))))
       sending.network (n.complete off some (remade_bodies c fs) m.ran.units stands))
       (subst (λ (l : List Body). MergerStandsFor g l (remade_bodies c fs) (m.ran.units + length n.units)) e
       (n.stands (remade_bodies c fs) m.ran.units stands)) sending
@@ -173,21 +188,25 @@ module _ (tell : EventsTell) (c : Config) (m : MergeMachine) (g : Merger) (event
     plan = s.plan;
     given_a = s.given_a;
     given_b = s.given_b;
-    both = gave_both tell c events bytes (is_held m.phase m.source A) (is_held m.phase m.source B) m.next m.a m.b s.given_a s.given_b s.both;
-    sends = subst (λ (p : Phase). Sends c g (left_at p g (feed_of m)) fs (m.ran.units + length n.units) (gave more)) (sym gives)
+    both = gave_both tell c events bytes (is_held m.phase m.source A) (is_held m.phase m.source B) m.next
+        m.a m.b s.given_a s.given_b s.both;
+    sends = subst (λ (p : Phase). Sends c g (left_at p g (feed_of m)) fs (m.ran.units + length n.units) (gave more))
+        (sym gives)
         (sent (left_for g (feed_of m)) now);
     ran_is = ap (λ (r : Ran). record r { units = m.ran.units + length n.units }) s.ran_is;
     counts = record {
       frames = s.counts.frames;
       parts = s.counts.parts;
-      units = subst (λ (p : Phase). m.ran.units + length n.units + more_units p g (feed_of m) ≤ m.next * frame_bytes + 184) (sym gives) (
+      units = subst (λ (p : Phase). m.ran.units + length n.units + more_units p g (feed_of m) ≤ m.next
+          * frame_bytes + 184) (sym gives) (
           let all = units_in c m events s Gives gives in
           let less = n.less in
           let before = ap (bytes_left m.merger) was in
           let behind = ap (bytes_left g) now in
           omega (arith, all, less, before, behind));
     };
-    live = live_given tell c events bytes s.given_a s.given_b m.next m.ran.units (m.ran.units + length n.units) (omega arith) s.live;
+    live = live_given tell c events bytes s.given_a s.given_b m.next m.ran.units (m.ran.units + length n.units)
+        (omega arith) s.live;
     is_in = subst (IsIn c (with_units m g (length n.units)) fs) (sym gives)
         (record { is_open = n.finished ∙ i.is_open; whole = i.whole; early = i.early });
   }
@@ -214,24 +233,31 @@ module _ (tell : EventsTell) (c : Config) (m : MergeMachine) (g : Merger) (event
   -- else no more is complete, and the record is left behind whose frame was sent
   module _ (follow : DueFollow) (a b : FrameFeed) (t : Skips m a b) where
     of_a : IsFedWith c a (fed 0 events) (has_ended 0 events) s.given_a
-    of_a = held.left_of (is_same m.source A) c m.a a (fed 0 events) (has_ended 0 events) s.given_a t.took_a.same.network t.took_a.stays
+    of_a = held.left_of (is_same m.source A) c m.a a (fed 0 events) (has_ended 0 events) s.given_a t.took_a.same.network
+        t.took_a.stays
         (t.took_a.takes (fed 0 events) (has_ended 0 events))
-        (subst (λ (p : Phase). OfFeed (is_held p m.source A) c m.a (fed 0 events) (has_ended 0 events) s.given_a) gives s.both.of_a)
+        (subst (λ (p : Phase). OfFeed (is_held p m.source A) c m.a (fed 0 events) (has_ended 0 events) s.given_a)
+        gives s.both.of_a)
 
     of_b : IsFedWith c b (fed 1 events) (has_ended 1 events) s.given_b
-    of_b = held.left_of (is_same m.source B) c m.b b (fed 1 events) (has_ended 1 events) s.given_b t.took_b.same.network t.took_b.stays
+    of_b = held.left_of (is_same m.source B) c m.b b (fed 1 events) (has_ended 1 events) s.given_b t.took_b.same.network
+        t.took_b.stays
         (t.took_b.takes (fed 1 events) (has_ended 1 events))
-        (subst (λ (p : Phase). OfFeed (is_held p m.source B) c m.b (fed 1 events) (has_ended 1 events) s.given_b) gives s.both.of_b)
+        (subst (λ (p : Phase). OfFeed (is_held p m.source B) c m.b (fed 1 events) (has_ended 1 events) s.given_b)
+        gives s.both.of_b)
 
     past_a : IsBehind m.next a s.given_a
-    past_a = held.left_past follow (is_same m.source A) c m.next m.a a (fed 0 events) (has_ended 0 events) s.given_a t.took_a.stays
+    past_a = held.left_past follow (is_same m.source A) c m.next m.a a (fed 0 events) (has_ended 0 events)
+        s.given_a t.took_a.stays
         (subst (λ (p : Phase). IsPast (is_held p m.source A) m.next m.a s.given_a) gives s.both.behind_a) of_a
 
     past_b : IsBehind m.next b s.given_b
-    past_b = held.left_past follow (is_same m.source B) c m.next m.b b (fed 1 events) (has_ended 1 events) s.given_b t.took_b.stays
+    past_b = held.left_past follow (is_same m.source B) c m.next m.b b (fed 1 events) (has_ended 1 events)
+        s.given_b t.took_b.stays
         (subst (λ (p : Phase). IsPast (is_held p m.source B) m.next m.b s.given_b) gives s.both.behind_b) of_b
 
-    pub shown_behind : full ≡ false → Shown c more (record (with_units m g (length n.units)) { a = a; b = b; phase = Reads })
+    pub shown_behind : full ≡ false
+        → Shown c more (record (with_units m g (length n.units)) { a = a; b = b; phase = Reads })
     unfolding remade_packets
     shown_behind off = record {
       config = s.config;
@@ -257,11 +283,13 @@ module _ (tell : EventsTell) (c : Config) (m : MergeMachine) (g : Merger) (event
             let before = ap (bytes_left m.merger) was in
             omega (arith, all, less, before));
       };
-      live = live_given tell c events bytes s.given_a s.given_b m.next m.ran.units (m.ran.units + length n.units) (omega arith) s.live;
+      live = live_given tell c events bytes s.given_a s.given_b m.next m.ran.units (m.ran.units + length n.units)
+          (omega arith) s.live;
       is_in = record {
         is_open = n.finished ∙ i.is_open;
         idle = n.idle off;
-        complete = subst (λ (k : Config). m.ran.units + length n.units ≡ length (complete_units k.pid (packets_from k 0 (remade_bodies c fs))))
+        complete = subst (λ (k : Config). m.ran.units + length n.units ≡ length
+            (complete_units k.pid (packets_from k 0 (remade_bodies c fs))))
             sending.network (n.all off i.is_open (remade_bodies c fs) m.ran.units stands);
       };
     }
@@ -280,8 +308,10 @@ left_behind m a b f g gives t =
 
 -- ---- behind the end
 
-module _ (tell : EventsTell) (c : Config) (m : MergeMachine) (g : Merger) (events : List Event) (unit : List ℕ) (s : Shown c events m)
-    (rests : m.phase ≡ Rests) (config : merger.config_of g ≡ merger.config_of m.merger) (finished : has_finished g ≡ true)
+module _ (tell : EventsTell) (c : Config) (m : MergeMachine) (g : Merger) (events : List Event) (unit : List ℕ)
+    (s : Shown c events m)
+    (rests : m.phase ≡ Rests) (config : merger.config_of g ≡ merger.config_of m.merger)
+    (finished : has_finished g ≡ true)
     (all_fed : is_fed g ≡ true) where
   abbrev j : IsResting m.merger m.a m.b
   j = resting c m events s rests
@@ -290,8 +320,10 @@ module _ (tell : EventsTell) (c : Config) (m : MergeMachine) (g : Merger) (event
   ending = resting_sends c m events s rests
 
   pub shown_rest : ((all : List (ℕ × Body)) (given : ℕ) → MergerStandsFor m.merger [] all given
-      → slice_get (pipe (merger.config_of m.merger).pid (packets_from (merger.config_of m.merger) 0 all)) given ≡ Some unit)
-      → ((all : List (ℕ × Body)) (given : ℕ) → MergerStandsFor m.merger [] all given → MergerStandsFor g [] all (given + 1))
+      → slice_get (pipe (merger.config_of m.merger).pid (packets_from (merger.config_of m.merger) 0 all))
+      given ≡ Some unit)
+      → ((all : List (ℕ × Body)) (given : ℕ) → MergerStandsFor m.merger [] all given
+      → MergerStandsFor g [] all (given + 1))
       → bytes_left g [] < bytes_left m.merger []
       → Shown c (events ++ Gave unit ∷ []) (record m { merger = g; ran = record m.ran { units = m.ran.units + 1 } })
   unfolding remade_packets
@@ -303,16 +335,20 @@ module _ (tell : EventsTell) (c : Config) (m : MergeMachine) (g : Merger) (event
         plan = s.plan;
         given_a = s.given_a;
         given_b = s.given_b;
-        both = gave_both tell c events unit (is_held m.phase m.source A) (is_held m.phase m.source B) m.next m.a m.b s.given_a s.given_b
+        both = gave_both tell c events unit (is_held m.phase m.source A) (is_held m.phase m.source B)
+            m.next m.a m.b s.given_a s.given_b
             s.both;
-        sends = subst (λ (p : Phase). Sends c g (left_at p g (feed_of m)) fs (m.ran.units + 1) (gave (events ++ Gave unit ∷ []))) (sym rests)
+        sends = subst (λ (p : Phase). Sends c g (left_at p g (feed_of m)) fs (m.ran.units + 1)
+            (gave (events ++ Gave unit ∷ []))) (sym rests)
             (sends_units c m.merger g [] [] fs m.ran.units (unit ∷ []) (gave events) (gave (events ++ Gave unit ∷ []))
             ((tell.given unit events).gave ∙ ap (λ (l : List ℕ). gave events ++ l) (sym (append-nil unit))) config over
             (λ more none. subst (λ (l : List (List ℕ)). IsPrefix (unit ∷ []) (drop m.ran.units (pipe c.pid l)))
-            (sym (ap (λ (l : List (List ℕ)). remade_packets c fs ++ l) (none j.over) ∙ append-nil (remade_packets c fs))) (
+            (sym (ap (λ (l : List (List ℕ)). remade_packets c fs ++ l) (none j.over)
+            ∙ append-nil (remade_packets c fs))) (
               drop (m.ran.units + 1) (pipe c.pid (remade_packets c fs)),
               drop_some (pipe c.pid (remade_packets c fs)) m.ran.units unit
-                  (subst (λ (k : Config). slice_get (pipe k.pid (packets_from k 0 (remade_bodies c fs))) m.ran.units ≡ Some unit) ending.network
+                  (subst (λ (k : Config). slice_get (pipe k.pid (packets_from k 0 (remade_bodies c fs)))
+                  m.ran.units ≡ Some unit) ending.network
                   (next (remade_bodies c fs) m.ran.units ending.stands)),
             ))
             (λ off. absurd (true≢false (sym j.over ∙ off)))
@@ -321,10 +357,12 @@ module _ (tell : EventsTell) (c : Config) (m : MergeMachine) (g : Merger) (event
         counts = record {
           frames = s.counts.frames;
           parts = s.counts.parts;
-          units = subst (λ (p : Phase). m.ran.units + 1 + more_units p g (feed_of m) ≤ m.next * frame_bytes + 184) (sym rests)
+          units = subst (λ (p : Phase). m.ran.units + 1 + more_units p g (feed_of m) ≤ m.next * frame_bytes + 184)
+              (sym rests)
               (let all = units_in c m events s Rests rests in omega (arith, all, less));
         };
-        live = live_given tell c events unit s.given_a s.given_b m.next m.ran.units (m.ran.units + 1) (omega arith) s.live;
+        live = live_given tell c events unit s.given_a s.given_b m.next m.ran.units (m.ran.units + 1)
+            (omega arith) s.live;
         is_in = subst (IsIn c (record m { merger = g; ran = record m.ran { units = m.ran.units + 1 } }) fs) (sym rests)
             (record { over = finished; all_fed = all_fed; none_a = j.none_a; none_b = j.none_b });
       }
@@ -344,7 +382,8 @@ module _ (tell : EventsTell) (c : Config) (m : MergeMachine) (g : Merger) (event
         given_a = s.given_a;
         given_b = s.given_b;
         both = gave_both tell c events [] false false m.next m.a m.b s.given_a s.given_b
-            (subst (λ (p : Phase). AreFedWith c events (is_held p m.source A) (is_held p m.source B) m.next m.a m.b s.given_a s.given_b)
+            (subst (λ (p : Phase). AreFedWith c events (is_held p m.source A) (is_held p m.source B)
+            m.next m.a m.b s.given_a s.given_b)
             rests s.both);
         sends = subst (Sends c g [] fs m.ran.units) (sym (tell.given [] events).gave)
             (sends_none c m.merger g [] [] fs m.ran.units (gave events) config over
@@ -357,7 +396,8 @@ module _ (tell : EventsTell) (c : Config) (m : MergeMachine) (g : Merger) (event
         };
         live = live_given tell c events [] s.given_a s.given_b m.next m.ran.units m.ran.units (omega arith) s.live;
         is_in = record {
-          all = subst (λ (k : Config). length (pipe k.pid (packets_from k 0 (remade_bodies c fs))) ≡ m.ran.units) ending.network
+          all = subst (λ (k : Config). length (pipe k.pid (packets_from k 0 (remade_bodies c fs))) ≡ m.ran.units)
+              ending.network
               (none (remade_bodies c fs) m.ran.units ending.stands);
           none_a = j.none_a;
           none_b = j.none_b;
@@ -372,7 +412,8 @@ left_rest m g rests less =
     let is = ap (λ (p : Phase). left_in p records g (feed_of m)) rests in
     omega (arith, was, is, less)
 
-pub left_done : (m : MergeMachine) (g : Merger) → m.phase ≡ Rests → left_of (record m { merger = g; phase = Done }) < left_of m
+pub left_done : (m : MergeMachine) (g : Merger) → m.phase ≡ Rests
+    → left_of (record m { merger = g; phase = Done }) < left_of m
 left_done m g rests =
     let was = ap (λ (p : Phase). left_in p (feed.left_of m.a + feed.left_of m.b) m.merger (feed_of m)) rests in
     omega (arith, was)

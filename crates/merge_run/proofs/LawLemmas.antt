@@ -33,7 +33,8 @@ one_run c files (Err TooManyFrames) (Err TooManyFrames) a b = refl
 pub run_ends : RunEnds
 run_ends c files = go (records_of c (files 0)) (records_of c (files 1)) refl refl
   where
-    done : (records_of c (files 0) ≢ []) ⊎ (records_of c (files 1) ≢ []) → (result : Result Ran MergeStop) × MustRun c files result
+    done : (records_of c (files 0) ≢ []) ⊎ (records_of c (files 1) ≢ []) → (result : Result Ran MergeStop)
+        × MustRun c files result
     done some =
         elim (early_or_late (records_of c (files 0))) [
           | inr late ↦ (Err TooManyFrames, inl late)

@@ -1,4 +1,5 @@
--- Of what is read of the inputs no more waits than was looked at last: all complete units that follow of less were given.
+-- Of what is read of the inputs no more waits than was looked at last: all complete units that follow of less were
+-- given.
 use Rattle.std.proofs.Common.{◌≡◌, ℕ, ◌≤◌, max, Bool, List, [], ◌∷◌, ◌++◌, length, sym, subst, arith}
 use Rattle.plp_config.specs.declared.config.Config.{Config}
 use Rattle.frame_groups.specs.Modulated.{FrameRecord}
@@ -18,9 +19,11 @@ use Rattle.feed_merge.proofs.NumberLemmas.{AllFrom, below_of}
 use Rattle.merge_run.proofs.SplitLemmas.{picks_split}
 
 -- all complete units of the frames that were picked were given
-pub live_all : (c : Config) (f g : FrameFeed) (fed_a fed_b : List ℕ) (ended_a ended_b : Bool) (ga gb : List FrameRecord) (next count : ℕ)
+pub live_all : (c : Config) (f g : FrameFeed) (fed_a fed_b : List ℕ) (ended_a ended_b : Bool) (ga gb : List FrameRecord)
+    (next count : ℕ)
     → IsFedWith c f fed_a ended_a ga → IsFedWith c g fed_b ended_b gb → next ≡ max (above_all ga) (above_all gb)
-    → length (complete_units c.pid (remade_packets c (frames_of (picks c ga gb)))) ≤ count → IsLive c fed_a fed_b ga gb next count
+    → length (complete_units c.pid (remade_packets c (frames_of (picks c ga gb)))) ≤ count
+    → IsLive c fed_a fed_b ga gb next count
 live_all c f g fed_a fed_b ended_a ended_b ga gb next count x y is all =
     let a : above_all ga ≤ next = omega (arith, is) in
     let b : above_all gb ≤ next = omega (arith, is) in
@@ -39,9 +42,12 @@ from_of n low (x ∷ []) le h = (omega (arith, le, h), tt)
 from_of n low (x ∷ y ∷ xs) le h = absurd h
 
 -- the records of a number were taken, that is no lower than that behind those before
-pub live_taken : (c : Config) (f g : FrameFeed) (fed_a fed_b : List ℕ) (ended_a ended_b : Bool) (ga gb xs ys : List FrameRecord)
-    (low n next count : ℕ) → IsFedWith c f fed_a ended_a ga → IsFedWith c g fed_b ended_b gb → low ≡ max (above_all ga) (above_all gb)
-    → low ≤ n → n ≤ next → AreOf n xs → AreOf n ys → length (complete_units c.pid (remade_packets c (frames_of (picks c ga gb)))) ≤ count
+pub live_taken : (c : Config) (f g : FrameFeed) (fed_a fed_b : List ℕ) (ended_a ended_b : Bool)
+    (ga gb xs ys : List FrameRecord)
+    (low n next count : ℕ) → IsFedWith c f fed_a ended_a ga → IsFedWith c g fed_b ended_b gb
+    → low ≡ max (above_all ga) (above_all gb)
+    → low ≤ n → n ≤ next → AreOf n xs → AreOf n ys
+    → length (complete_units c.pid (remade_packets c (frames_of (picks c ga gb)))) ≤ count
     → IsLive c fed_a fed_b (ga ++ xs) (gb ++ ys) next count
 live_taken c f g fed_a fed_b ended_a ended_b ga gb xs ys low n next count x y is le more p q all =
     let a : above_all ga ≤ low = omega (arith, is) in
@@ -56,7 +62,8 @@ live_taken c f g fed_a fed_b ended_a ended_b ga gb xs ys low n next count x y is
     }
 
 -- the same was fed, and no fewer units were given
-pub live_same : (c : Config) (a b x y : List ℕ) (ga gb : List FrameRecord) (next count more : ℕ) → a ≡ x → b ≡ y → count ≤ more
+pub live_same : (c : Config) (a b x y : List ℕ) (ga gb : List FrameRecord) (next count more : ℕ) → a ≡ x
+    → b ≡ y → count ≤ more
     → IsLive c a b ga gb next count → IsLive c x y ga gb next more
 live_same c a b x y ga gb next count more p q le l =
     let most = l.done in
@@ -68,7 +75,8 @@ live_same c a b x y ga gb next count more p q le l =
       done = omega (arith, most, le);
     }
 
-pub live_given : EventsTell → (c : Config) (events : List Event) (piece : List ℕ) (ga gb : List FrameRecord) (next count more : ℕ)
+pub live_given : EventsTell → (c : Config) (events : List Event) (piece : List ℕ) (ga gb : List FrameRecord)
+    (next count more : ℕ)
     → count ≤ more → IsLive c (fed 0 events) (fed 1 events) ga gb next count
     → IsLive c (fed 0 (events ++ Gave piece ∷ [])) (fed 1 (events ++ Gave piece ∷ [])) ga gb next more
 live_given tell c events piece ga gb next count more le l =

@@ -35,21 +35,25 @@ frames_append (p ∷ ps) qs = ap (λ (l : List NumberedView). p.frame ∷ l) (fr
 
 -- ---- a frame is begun
 
-pub sends_begun : (c : Config) (g h : Merger) (left : List Body) (frames : List NumberedView) (f : NumberedView) (count : ℕ)
-    (gave : List ℕ) → config_of h ≡ config_of g → has_finished g ≡ false → BeginsAs g h left f → Sends c g [] frames count gave
+pub sends_begun : (c : Config) (g h : Merger) (left : List Body) (frames : List NumberedView) (f : NumberedView)
+    (count : ℕ)
+    (gave : List ℕ) → config_of h ≡ config_of g → has_finished g ≡ false → BeginsAs g h left f
+    → Sends c g [] frames count gave
     → Sends c h left (frames ++ f ∷ []) count gave
 sends_begun c g h left frames f count gave config going b s =
     let more = packets_more c frames (f ∷ []) in
     record {
       network = config ∙ s.network;
       stands = subst (λ (k : Config). MergerStandsFor h left (remade_bodies k (frames ++ f ∷ [])) count) s.network
-          (b.stands frames count (subst (λ (k : Config). MergerStandsFor g [] (remade_bodies k frames) count) (sym s.network) s.stands));
+          (b.stands frames count (subst (λ (k : Config). MergerStandsFor g [] (remade_bodies k frames) count)
+          (sym s.network) s.stands));
       units = s.units;
       gave_is = s.gave_is;
       count_is = s.count_is;
       front = λ later _.
           subst (λ (l : List (List ℕ)). IsPrefix s.units (pipe c.pid l))
-          (sym (append_assoc (remade_packets c frames) more.0 later) ∙ ap (λ (l : List (List ℕ)). l ++ later) (sym more.1))
+          (sym (append_assoc (remade_packets c frames) more.0 later) ∙ ap (λ (l : List (List ℕ)). l ++ later)
+          (sym more.1))
           (s.front (more.0 ++ later) (λ over. absurd (true≢false (sym over ∙ going))));
       whole = λ _.
           let l = complete_law c.pid (remade_packets c frames) more.0 in
@@ -62,11 +66,13 @@ sends_begun c g h left frames f count gave config going b s =
 -- ---- units are given
 
 -- the next of all
-pub sends_units : (c : Config) (g h : Merger) (was left : List Body) (frames : List NumberedView) (count : ℕ) (units : List (List ℕ))
+pub sends_units : (c : Config) (g h : Merger) (was left : List Body) (frames : List NumberedView) (count : ℕ)
+    (units : List (List ℕ))
     (gave now : List ℕ) → now ≡ gave ++ joined units → config_of h ≡ config_of g → has_finished h ≡ has_finished g
     → ((more : List (List ℕ)) → (has_finished g ≡ true → more ≡ [])
     → IsPrefix units (drop count (pipe c.pid (remade_packets c frames ++ more))))
-    → (has_finished g ≡ false → units ≢ [] → count + length units ≤ length (complete_units c.pid (remade_packets c frames)))
+    → (has_finished g ≡ false → units ≢ []
+    → count + length units ≤ length (complete_units c.pid (remade_packets c frames)))
     → MergerStandsFor h left (remade_bodies c frames) (count + length units) → Sends c g was frames count gave
     → Sends c h left frames (count + length units) now
 sends_units c g h was left frames count units gave now is config finished next complete stands s = record {
@@ -78,13 +84,16 @@ sends_units c g h was left frames count units gave now is config finished next c
   front = λ more over.
       let going : has_finished g ≡ true → more ≡ [] = λ on. over (finished ∙ on) in
       front_then s.units units (pipe c.pid (remade_packets c frames ++ more)) (s.front more going)
-      (subst (λ (k : ℕ). IsPrefix units (drop k (pipe c.pid (remade_packets c frames ++ more)))) s.count_is (next more going));
+      (subst (λ (k : ℕ). IsPrefix units (drop k (pipe c.pid (remade_packets c frames ++ more)))) s.count_is
+      (next more going));
   whole = λ off. more_within count _ units (s.whole (sym finished ∙ off)) (complete (sym finished ∙ off));
 }
 
 -- none is given
-pub sends_none : (c : Config) (g h : Merger) (was left : List Body) (frames : List NumberedView) (count : ℕ) (gave : List ℕ)
-    → config_of h ≡ config_of g → has_finished h ≡ has_finished g → MergerStandsFor h left (remade_bodies c frames) count
+pub sends_none : (c : Config) (g h : Merger) (was left : List Body) (frames : List NumberedView) (count : ℕ)
+    (gave : List ℕ)
+    → config_of h ≡ config_of g → has_finished h ≡ has_finished g → MergerStandsFor h left (remade_bodies c frames)
+    count
     → Sends c g was frames count gave → Sends c h left frames count (gave ++ [])
 sends_none c g h was left frames count gave config finished stands s = record {
   network = config ∙ s.network;
@@ -112,13 +121,16 @@ sends_over c g h left frames count gave config going stands s = record {
 
 -- ---- what was given
 
-pub gave_complete : CompleteLaw → (c : Config) (g : Merger) (left : List Body) (frames : List NumberedView) (count : ℕ) (gave : List ℕ)
-    → has_finished g ≡ false → count ≡ length (complete_units c.pid (remade_packets c frames)) → Sends c g left frames count gave
+pub gave_complete : CompleteLaw → (c : Config) (g : Merger) (left : List Body) (frames : List NumberedView)
+    (count : ℕ) (gave : List ℕ)
+    → has_finished g ≡ false → count ≡ length (complete_units c.pid (remade_packets c frames))
+    → Sends c g left frames count gave
     → gave ≡ joined (complete_units c.pid (remade_packets c frames))
 gave_complete law c g left frames count gave going all s =
     let p = s.front [] (λ _. refl) in
     let q = law c.pid (remade_packets c frames) [] in
-    s.gave_is ∙ ap joined (same_front s.units (complete_units c.pid (remade_packets c frames)) p.0 q.rest (sym p.1 ∙ q.units)
+    s.gave_is ∙ ap joined (same_front s.units (complete_units c.pid (remade_packets c frames)) p.0 q.rest (sym p.1
+    ∙ q.units)
     (sym s.count_is ∙ all))
 
 pub gave_all : (c : Config) (g : Merger) (left : List Body) (frames : List NumberedView) (count : ℕ) (gave : List ℕ)
@@ -133,20 +145,26 @@ gave_all c g left frames count gave all s =
 
 -- ---- numbers
 
-pub counted_push : (ps : List Picked) (p : Picked) (units : ℕ) → counted (ps ++ p ∷ []) units ≡ added (counted ps units) p.feed
+pub counted_push : (ps : List Picked) (p : Picked) (units : ℕ) → counted (ps ++ p ∷ []) units ≡ added
+    (counted ps units) p.feed
 counted_push ps p units = go p.feed refl
   where
     frames : length (ps ++ p ∷ []) ≡ length ps + 1
     frames = length-append ps (p ∷ [])
 
-    first : length (filter from_first (ps ++ p ∷ [])) ≡ length (filter from_first ps) + length (filter from_first (p ∷ []))
-    first = ap length (filter-append from_first ps (p ∷ [])) ∙ length-append (filter from_first ps) (filter from_first (p ∷ []))
+    first : length (filter from_first (ps ++ p ∷ [])) ≡ length (filter from_first ps) + length
+        (filter from_first (p ∷ []))
+    first = ap length (filter-append from_first ps (p ∷ [])) ∙ length-append (filter from_first ps)
+        (filter from_first (p ∷ []))
 
-    second : length (filter from_second (ps ++ p ∷ [])) ≡ length (filter from_second ps) + length (filter from_second (p ∷ []))
-    second = ap length (filter-append from_second ps (p ∷ [])) ∙ length-append (filter from_second ps) (filter from_second (p ∷ []))
+    second : length (filter from_second (ps ++ p ∷ [])) ≡ length (filter from_second ps) + length
+        (filter from_second (p ∷ []))
+    second = ap length (filter-append from_second ps (p ∷ [])) ∙ length-append (filter from_second ps)
+        (filter from_second (p ∷ []))
 
     made : (a b c d e f : ℕ) → a ≡ d → b ≡ e → c ≡ f
-        → record { frames = a; a = b; b = c; units = units } ≡ (let r : Ran = record { frames = d; a = e; b = f; units = units } in r)
+        → record { frames = a; a = b; b = c; units = units } ≡ (let r : Ran =
+        record { frames = d; a = e; b = f; units = units } in r)
     made a b c d e f p q r = rw (p, q, r) refl
 
     one_first : (p : Picked) → p.feed ≡ A → length (filter from_first (p ∷ [])) ≡ 1

@@ -1,5 +1,5 @@
--- The records of a file, by a number: those that were given are below it, and the others are not. The frames that are picked of those
--- below are the picked ones below.
+-- The records of a file, by a number: those that were given are below it, and the others are not. The frames that are
+-- picked of those below are the picked ones below.
 use Rattle.std.proofs.Common.{◌≡◌, ℕ, ◌+◌, ◌<◌, ◌≤◌, List, [], ◌∷◌, ◌++◌}
 use Rattle.std.proofs.Common.{Option, None, find, refl, ap, ap₂, sym, ◌∙◌, arith}
 use Rattle.std.specs.Prelude.{option_map, option_to_list}
@@ -30,8 +30,16 @@ none_above n m (x ∷ records) h l =
 from_front : (c : Config) (from : Feed) (n m : ℕ) (records more : List FrameRecord) → AllFrom n more → m < n
     → frame_from c from m (records ++ more) ≡ frame_from c from m records
 from_front c from n m records more h l =
-    ap (option_map (λ (x : FrameRecord). record { feed = from; frame = record { number = m; view = content_view c m x.content } }))
-    (find-append (test m) records more ∙ ap (option_or (find (test m) records)) (none_above n m more h l) ∙ or_none (find (test m) records))
+    ap (option_map (λ (x : FrameRecord). record {
+      feed = from;
+      frame = record {
+        number = m;
+        view = content_view
+            c m x.content;
+      };
+    }))
+    (find-append (test m) records more ∙ ap (option_or (find (test m) records)) (none_above n m more h l)
+    ∙ or_none (find (test m) records))
 
 -- the picked frames below a greater number are those below a number, and more
 pub picks_front : (c : Config) (ra rb : List FrameRecord) (n more : ℕ)
@@ -46,10 +54,12 @@ pub below_split : (c : Config) (ga la gb lb : List FrameRecord) (n low : ℕ) �
     → picks_below c (ga ++ la) (gb ++ lb) low ≡ picks_below c ga gb low
 below_split c ga la gb lb n low le x y =
     flat_same (pick c (ga ++ la) (gb ++ lb)) (pick c ga gb) 0 low
-    (λ k from lt. ap₂ (λ (p q : Option Picked). option_to_list (option_or p q)) (from_front c A n k ga la x (omega (arith, lt, le)))
+    (λ k from lt. ap₂ (λ (p q : Option Picked). option_to_list (option_or p q))
+    (from_front c A n k ga la x (omega (arith, lt, le)))
     (from_front c B n k gb lb y (omega (arith, lt, le))))
 
-pub picks_split : (c : Config) (ga la gb lb : List FrameRecord) (n : ℕ) → above_all ga ≤ n → above_all gb ≤ n → AllFrom n la
+pub picks_split : (c : Config) (ga la gb lb : List FrameRecord) (n : ℕ) → above_all ga ≤ n → above_all gb ≤ n
+    → AllFrom n la
     → AllFrom n lb → picks_below c (ga ++ la) (gb ++ lb) n ≡ picks c ga gb
 picks_split c ga la gb lb n a b x y =
     below_split c ga la gb lb n n (omega arith) x y ∙ sym (all_below c ga gb n (below_of n ga a) (below_of n gb b))

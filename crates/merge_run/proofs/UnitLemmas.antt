@@ -29,7 +29,8 @@ left_is g f frame is network =
     (ap (blocks_left c (n % c.frames) g.place.plp g.place.place) is.lists)
 
 -- a frame of a network is one of the same network
-pub sent_in : {A : Type 0} (c k : Config) (frame : PoolFrame) → ∥ A ∥₁ → (A → c ≡ k) → CanBeSent c frame → CanBeSent k frame
+pub sent_in : {A : Type 0} (c k : Config) (frame : PoolFrame) → ∥ A ∥₁ → (A → c ≡ k) → CanBeSent c frame
+    → CanBeSent k frame
 sent_in c k frame came same can = record {
   pre = can.pre;
   conf = can.conf;

@@ -43,11 +43,13 @@ module _ (front : DueFront) (follow : DueFollow) (law : CompleteLaw) (start now 
   whole done =
       let i : IsDone k (frames_of (picks k s.given_a s.given_b)) now.ran.units now.a now.b =
       subst (IsIn k now (frames_of (picks k s.given_a s.given_b))) done s.is_in in
-      whole_all front follow k events (is_held now.phase now.source A) (is_held now.phase now.source B) now.next now.a now.b s.given_a
+      whole_all front follow k events (is_held now.phase now.source A) (is_held now.phase now.source B)
+      now.next now.a now.b s.given_a
       s.given_b s.both files places are i.none_a i.none_b all
 
   ends_in : (p : Phase) → now.phase ≡ p
-      → step_in p (step_for now.a now.b) ≡ End → IsRightAtEnd (merge_work k) files places (gave events) (ending_in p now.next now.ran)
+      → step_in p (step_for now.a now.b) ≡ End → IsRightAtEnd (merge_work k) files places (gave events)
+      (ending_in p now.next now.ran)
   ends_in phase.Reads is end = (
     has_late front follow law k now events s files places are is (is_late _ _ _ _ end),
     ahead front follow law k now events s files places are MOST_FRAMES s.both.early within,
@@ -71,7 +73,8 @@ module _ (front : DueFront) (follow : DueFollow) (law : CompleteLaw) (start now 
         taken = length (fed input events);
         near = omega (arith, few, most);
         within = omega (arith, most_fed, most);
-        has = has_read front follow law k now events s files places are input (length (fed input events)) n.0 w.0 refl within;
+        has = has_read front follow law k now events s files places are input (length (fed input events))
+            n.0 w.0 refl within;
       }
 
   unread : (input : ℕ) → input < 2
@@ -85,7 +88,8 @@ module _ (front : DueFront) (follow : DueFollow) (law : CompleteLaw) (start now 
       has_read front follow law k now events s files places are input (slice_index places input) n.0 w.0
       (omega (arith, most_fed, none)) within
 
-unwritten : DueFront → DueFollow → CompleteLaw → (start now : MergeMachine) (files : ℕ → List ℕ) (places : List ℕ) (events : List Event)
+unwritten : DueFront → DueFollow → CompleteLaw → (start now : MergeMachine) (files : ℕ → List ℕ) (places : List ℕ)
+    (events : List Event)
     (bytes : List ℕ) → AreFed 2 files places events
     → GaveSome reach_of step_of (Becomes start) 2 places events now bytes
     → HasSome start.plan.now places files bytes
@@ -100,7 +104,8 @@ unwritten front follow law start now files places events bytes are g =
       since = λ input taken lt less.
           let within = g.within input lt in
           let m = g.mid in
-          let count = fed_count k events (is_held m.phase m.source A) (is_held m.phase m.source B) m.next m.a m.b g.came.given_a g.came.given_b
+          let count = fed_count k events (is_held m.phase m.source A) (is_held m.phase m.source B) m.next
+          m.a m.b g.came.given_a g.came.given_b
           g.came.both input lt in
           let d = since front follow law k g.mid events g.came files places are input taken lt
           (omega (arith, less, within, count)) in (
@@ -122,5 +127,6 @@ merge_does front follow law start = record {
       too_long front follow law start now files places events all are within came input lt most wants;
   unread = λ files places events now input all are within came lt wants.
       unread front follow law start now files places events all are within came input lt wants;
-  unwritten = λ files places events now bytes all are g. unwritten front follow law start now files places events bytes are g;
+  unwritten = λ files places events now bytes all are g. unwritten front follow law start now files places
+      events bytes are g;
 }

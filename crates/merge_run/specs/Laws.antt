@@ -12,14 +12,16 @@ use Rattle.merge_run.specs.declared.stop.MergeStop.TheVariants.{NoSuperframe, To
 -- How a run must end over two files that are not too long, if nothing outside fails.
 abbrev pub MustRun : Config → (ℕ → List ℕ) → Result Ran MergeStop → Type 0
 MustRun c files (Ok ran) =
-    ((records_of c (files 0) ≢ []) ⊎ (records_of c (files 1) ≢ [])) × ((input : ℕ) → input < 2 → AreEarly (records_of c (files input)))
+    ((records_of c (files 0) ≢ []) ⊎ (records_of c (files 1) ≢ [])) × ((input : ℕ) → input < 2
+    → AreEarly (records_of c (files input)))
     × (ran ≡ counted (picked_of c files) (length (units_of c files)))
 MustRun c files (Err NoSuperframe) = (input : ℕ) → input < 2 → records_of c (files input) ≡ []
 MustRun c files (Err TooManyFrames) = (¬ (AreEarly (records_of c (files 0)))) ⊎ (¬ (AreEarly (records_of c (files 1))))
 
 -- Two files decide how a run over them must end.
 abbrev pub OneRun : Type 0
-OneRun = (c : Config) (files : ℕ → List ℕ) (result other : Result Ran MergeStop) → MustRun c files result → MustRun c files other
+OneRun = (c : Config) (files : ℕ → List ℕ) (result other : Result Ran MergeStop) → MustRun c files result
+    → MustRun c files other
     → result ≡ other
 
 -- A run over two files has an ending.

@@ -51,29 +51,33 @@ pub record HasNone (c : Config) (files : ℕ → List ℕ) (bytes : List ℕ) : 
 abbrev pub AreCompleteBelow : Config → (ℕ → List ℕ) → ℕ → List ℕ → Type 0
 AreCompleteBelow c files end bytes = bytes ≡ joined (complete_units c.pid (packets_of c (picked_below c files end)))
 
--- A file has a record whose number none may have, and the output is the complete units of the frames that are picked before it.
+-- A file has a record whose number none may have, and the output is the complete units of the frames that are picked
+-- before it.
 pub record HasLate (c : Config) (files : ℕ → List ℕ) (bytes : List ℕ) : Type 0 where
   pub late : (¬ (AreEarly (records_of c (files 0)))) ⊎ (¬ (AreEarly (records_of c (files 1))))
   pub is : AreCompleteBelow c files MOST_FRAMES bytes
 
--- By so many bytes of an input no record is due whose number none may have. The output is the complete units of the frames that are
--- picked of those up to the last of these records: it decides how far the other input counts.
+-- By so many bytes of an input no record is due whose number none may have. The output is the complete units of the
+-- frames that are picked of those up to the last of these records: it decides how far the other input counts.
 pub record HasWritten (c : Config) (input taken : ℕ) (files : ℕ → List ℕ) (bytes : List ℕ) : Type 0 where
   pub early : end_by c (files input) taken ≤ MOST_FRAMES
   pub is : AreCompleteBelow c files (end_by c (files input) taken) bytes
 
--- the complete units of the frames that are picked below the number behind those of all records that are due by so many bytes
+-- the complete units of the frames that are picked below the number behind those of all records that are due by so many
+-- bytes
 abbrev pub complete_by : Config → (ℕ → List ℕ) → ℕ → ℕ → List ℕ
-complete_by c files input taken = joined (complete_units c.pid (packets_of c (picked_below c files (end_by c (files input) taken))))
+complete_by c files input taken = joined
+    (complete_units c.pid (packets_of c (picked_below c files (end_by c (files input) taken))))
 
--- what may be written: all units, if no record has a number that none may have, and else the complete units of the frames before it
+-- what may be written: all units, if no record has a number that none may have, and else the complete units of the
+-- frames before it
 abbrev pub MayWrite : Config → (ℕ → List ℕ) → List ℕ → Type 0
 MayWrite c files bytes =
     (((input : ℕ) → input < 2 → AreEarly (records_of c (files input))) × (bytes ≡ joined (units_of c files)))
     ⊎ AreCompleteBelow c files MOST_FRAMES bytes
 
--- These bytes are the first of what may be written, but not all; and they have all complete units that follow of fewer bytes of an
--- input than were read by more than are read ahead.
+-- These bytes are the first of what may be written, but not all; and they have all complete units that follow of fewer
+-- bytes of an input than were read by more than are read ahead.
 pub record HasSome (c : Config) (places : List ℕ) (files : ℕ → List ℕ) (bytes : List ℕ) : Type 0 where
   pub more : List ℕ
   pub some : more ≢ []
@@ -81,8 +85,8 @@ pub record HasSome (c : Config) (places : List ℕ) (files : ℕ → List ℕ) (
   pub since : (input taken : ℕ) → input < 2 → taken + read_ahead < slice_index places input
       → (end_by c (files input) taken ≤ MOST_FRAMES) × IsPrefix (complete_by c files input taken) bytes
 
--- An input cannot be read on behind so many bytes: what follows of them is written, and neither input was read further than by what
--- is read ahead.
+-- An input cannot be read on behind so many bytes: what follows of them is written, and neither input was read further
+-- than by what is read ahead.
 pub record HasRead (c : Config) (input taken : ℕ) (files : ℕ → List ℕ) (places bytes : List ℕ) : Type 0 where
   pub written : HasWritten c input taken files bytes
   pub ahead : ReadsAhead c (end_by c (files input) taken) files places
@@ -97,8 +101,10 @@ pub record HasNearly (c : Config) (input : ℕ) (files : ℕ → List ℕ) (plac
 abbrev pub merge_work : Config → Work Ran MergeStop
 merge_work c files (Ok ran) places bytes = AreWhole files places × MergesAll c files ran bytes
 merge_work c files (Err (Refused NoSuperframe)) places bytes = AreWhole files places × HasNone c files bytes
-merge_work c files (Err (Refused TooManyFrames)) places bytes = HasLate c files bytes × ReadsAhead c MOST_FRAMES files places
+merge_work c files (Err (Refused TooManyFrames)) places bytes = HasLate c files bytes
+    × ReadsAhead c MOST_FRAMES files places
 merge_work c files (Err (Files (TooLong input))) places bytes = HasNearly c input files places bytes
-merge_work c files (Err (Files (ReadFault input))) places bytes = HasRead c input (slice_index places input) files places bytes
+merge_work c files (Err (Files (ReadFault input))) places bytes = HasRead c input (slice_index places input)
+    files places bytes
 merge_work c files (Err (Files WriteFault)) places bytes = HasSome c places files bytes
 merge_work c files (Err OutOfMemory) places bytes = ⊥

@@ -29,9 +29,10 @@ use Rattle.merge_run.specs.declared.machine.MergeMachine.{MergeMachine}
 use Rattle.merge_run.specs.declared.phase.Phase.{Phase}
 use Rattle.merge_run.specs.declared.phase.Phase.TheVariants.{Reads, Gives, Rests, Done}
 
--- Of these frames units were given, the first ones whatever packets follow, and before the end only complete ones. Of the last one
--- these bodies are left.
-pub record Sends (c : Config) (g : Merger) (left : List Body) (frames : List NumberedView) (count : ℕ) (gave : List ℕ) : Type 0 where
+-- Of these frames units were given, the first ones whatever packets follow, and before the end only complete ones. Of
+-- the last one these bodies are left.
+pub record Sends (c : Config) (g : Merger) (left : List Body) (frames : List NumberedView) (count : ℕ)
+    (gave : List ℕ) : Type 0 where
   pub network : merger.config_of g ≡ c
   pub stands : MergerStandsFor g left (remade_bodies c frames) count
   pub units : List (List ℕ)
@@ -107,8 +108,10 @@ pub record CountsFrames (m : MergeMachine) : Type 0 where
   pub parts : m.ran.a + m.ran.b ≡ m.ran.frames
   pub units : m.ran.units + more_units m.phase m.merger (feed_of m) ≤ m.next * frame_bytes + 184
 
--- By fewer bytes of either input than were fed of it no record is due of some number or a higher one, and the complete units of the frames were given that are picked below it.
-pub record IsLive (c : Config) (fed_a fed_b : List ℕ) (given_a given_b : List FrameRecord) (next count : ℕ) : Type 0 where
+-- By fewer bytes of either input than were fed of it no record is due of some number or a higher one, and the complete
+-- units of the frames were given that are picked below it.
+pub record IsLive (c : Config) (fed_a fed_b : List ℕ) (given_a given_b : List FrameRecord) (next count : ℕ) :
+    Type 0 where
   pub low : ℕ
   pub within : low ≤ next
   pub due_a : IsDueBelow c low fed_a
@@ -121,8 +124,10 @@ pub record Shown (c : Config) (events : List Event) (m : MergeMachine) : Type 0 
   pub plan : IsPlan c
   pub given_a : List FrameRecord
   pub given_b : List FrameRecord
-  pub both : AreFedWith c events (is_held m.phase m.source A) (is_held m.phase m.source B) m.next m.a m.b given_a given_b
-  pub sends : Sends c m.merger (left_at m.phase m.merger (feed_of m)) (frames_of (picks c given_a given_b)) m.ran.units (gave events)
+  pub both : AreFedWith c events (is_held m.phase m.source A) (is_held m.phase m.source B) m.next m.a
+      m.b given_a given_b
+  pub sends : Sends c m.merger (left_at m.phase m.merger (feed_of m)) (frames_of (picks c given_a given_b))
+      m.ran.units (gave events)
   pub ran_is : m.ran ≡ counted (picks c given_a given_b) m.ran.units
   pub counts : CountsFrames m
   pub live : IsLive c (fed 0 events) (fed 1 events) given_a given_b m.next m.ran.units

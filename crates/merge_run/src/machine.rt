@@ -3,12 +3,12 @@ use crate::phase::Phase;
 use crate::stop::{MergeStop, Ran};
 use bit_slice::OutOfMemory;
 use feed_merge::{Feed, FrameFeed, Merger, end_one, feed_one, next_step};
-use file_run::{Ending, Machine, Step, events_law};
+use file_run::{Ending, FeedCounts, Machine, Step, events_law};
 use plp_config::Plan;
 use std::alloc::Global;
 
-/// A merger that is fed with the bytes of two inputs and gives the bytes of its units: two feeds of a network, and the merger of
-/// their frames.
+/// A merger that is fed with the bytes of two inputs and gives the bytes of its units: two feeds of a network, and the
+/// merger of their frames.
 #[derive(Drop)]
 pub struct MergeMachine<'p> {
     pub plan: &'p Plan,
@@ -21,6 +21,8 @@ pub struct MergeMachine<'p> {
     pub next: u64,
     pub phase: Phase,
     pub ran: Ran,
+    // For people: no definition reads it.
+    pub counts: FeedCounts,
 }
 
 impl<'p> Machine for MergeMachine<'p> {
@@ -114,6 +116,7 @@ impl<'p> MergeMachine<'p> {
                 b: 0,
                 units: 0,
             },
+            counts: FeedCounts::NONE,
         })
     }
 }

@@ -15,7 +15,7 @@ ghost use Rattle.merge_run.specs.declared.phase.Phase.TheVariants as phase;
 use crate::machine::MergeMachine;
 use crate::phase::Phase;
 use crate::sending::{begin_frame, give_frame};
-use crate::taking::{is_picked, pick_next, skip_others, skip_source, source_of};
+use crate::taking::{is_picked, is_whole_in, pick_next, skip_others, skip_source, source_of};
 use feed_merge::{grow_law, least_number};
 use file_run::events_law;
 use modulator::due_records_law;
@@ -82,7 +82,11 @@ impl<'p> MergeMachine<'p> {
         ensures fed { (fed_of self.new.a ≡ fed_of self.old.a) × (fed_of self.new.b ≡ fed_of self.old.b) }
     {
         match least_number(&self.a, &self.b) {
-            Some(number) => self.begin(number),
+            Some(number) => {
+                let has = [is_whole_in(&self.a, number), is_whole_in(&self.b, number)];
+                self.counts.add(number, &has);
+                self.begin(number);
+            }
             None => self.finish(),
         }
     }

@@ -13,9 +13,10 @@ use ports::{Desk, Word};
 use std::alloc::Global;
 use t2mi_stream::complete_law;
 
-/// Runs the merger of a plan: opens both inputs, which may be one file, creates the output, and writes the units of each frame as
-/// soon as both feeds have told of it, before it reads on. It reads 65,536 bytes of each ahead at most. All memory is taken before
-/// the first input is opened.
+/// Runs the merger of a plan: opens both inputs, which may be one file, creates the output, and writes the units of
+/// each frame as soon as both feeds have told of it, before it reads on. It reads 65,536 bytes of each ahead at most.
+/// All memory is taken before the first input is opened. Behind the end the desk takes note of the frames that each
+/// input had whole.
 pub fn run<D: Desk>(
     alloc: Global,
     plan: &Plan,
@@ -26,10 +27,13 @@ pub fn run<D: Desk>(
 ) -> Result<Ran, RunStop<MergeStop>>
     requires apart_a { a.now ≢ out.now }
     requires apart_b { b.now ≢ out.now }
-    ensures ends { Ends (merge_work plan.now) (D.state desk.old) (D.state desk.new) (Into out.now) (names_of a.now b.now) result }
+    ensures ends { Ends (merge_work plan.now) (D.state desk.old) (D.state desk.new) (Into out.now)
+        (names_of a.now b.now) result }
 {
     due_records_law();
     complete_law();
     let mut machine = MergeMachine::open(alloc, plan)?;
-    run_over_two(alloc, &mut machine, a, b, Output::File(out), desk)
+    let ended = run_over_two(alloc, &mut machine, a, b, Output::File(out), desk);
+    machine.counts.note(desk, 2);
+    ended
 }

@@ -37,6 +37,14 @@ pub fn is_picked(source: Option<Feed>) -> bool
     source.is_some()
 }
 
+/// Whether a feed has the frame of a number whole, for people.
+pub fn is_whole_in(feed: &FrameFeed<'_>, number: u64) -> bool {
+    match feed.waiting() {
+        Some(record) => record.frame == number && record.mute.is_none(),
+        None => false,
+    }
+}
+
 // Whether two are the same feed.
 fn is_same(source: Feed, feed: Feed) -> bool
     ensures { result ≡ is_same source feed }

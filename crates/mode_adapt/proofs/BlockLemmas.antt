@@ -1,5 +1,6 @@
 -- A block that is written and put.
-use Rattle.std.proofs.Common.{◌≡◌, ℕ, ◌+◌, ◌-◌, ◌*◌, ◌<◌, ◌≤◌, Bool, false, List, [], ◌∷◌, ◌++◌, length, map, take, min, ap, ap₂}
+use Rattle.std.proofs.Common.{◌≡◌, ℕ, ◌+◌, ◌-◌, ◌*◌, ◌<◌, ◌≤◌, Bool, false, List, [], ◌∷◌, ◌++◌, length, map, take, min}
+use Rattle.std.proofs.Common.{ap, ap₂}
 use Rattle.std.proofs.Common.{sym, subst, ◌∙◌, arith, append_assoc, append-nil, length-append, inl, inr}
 use Rattle.std.specs.Prelude.{replicate}
 use Rattle.std.specs.Int.{div_ceil}
@@ -20,15 +21,18 @@ use Rattle.mode_adapt.proofs.FirstLemmas.{number_le}
 use Rattle.mode_adapt.proofs.OfferLemmas.{few}
 
 -- the first bytes of a data field, and zeros
-filled : (items : List ℕ) (size count : ℕ) → count ≡ min size (length items) → take size (items ++ replicate (size - length items) 0)
+filled : (items : List ℕ) (size count : ℕ) → count ≡ min size (length items)
+    → take size (items ++ replicate (size - length items) 0)
     ≡ take count items ++ replicate (size - count) 0
 filled items size count e = elim (cases_lt (length items) size) [
   | inl less ↦
       let all : count ≡ length items = omega (arith, e, less) in
       let whole : length (items ++ replicate (size - length items) 0) ≡ size =
-      length-append items (replicate (size - length items) 0) ∙ omega (arith, length-replicate {A = ℕ} (size - length items) 0, less) in
+      length-append items (replicate (size - length items) 0)
+      ∙ omega (arith, length-replicate {A = ℕ} (size - length items) 0, less) in
       take_all size (items ++ replicate (size - length items) 0) (omega (arith, whole))
-      ∙ ap₂ (λ (xs : List ℕ) (n : ℕ). xs ++ replicate (size - n) 0) (sym (take_all count items (omega (arith, all)))) (sym all)
+      ∙ ap₂ (λ (xs : List ℕ) (n : ℕ). xs ++ replicate (size - n) 0) (sym (take_all count items (omega (arith, all))))
+      (sym all)
   | inr full ↦
       let all : count ≡ size = omega (arith, e, full) in
       let none : size - count ≡ 0 = omega (arith, all) in
@@ -39,7 +43,8 @@ filled items size count e = elim (cases_lt (length items) size) [
 ]
 
 -- the block of what waits, by its parts
-pub written : (chain : Chain) (count : ℕ) (header block : List ℕ) → length header ≡ 10 → count ≡ min chain.settings.field_bytes
+pub written : (chain : Chain) (count : ℕ) (header block : List ℕ) → length header ≡ 10
+    → count ≡ min chain.settings.field_bytes
     (length chain.pending.items)
     → bits_of header ≡ header_bits (header_by chain.settings chain.sent count (first_in chain count))
     → block ≡ block_of header chain.pending.items chain.settings.field_bytes
@@ -57,10 +62,19 @@ written chain count header block ten first e is =
       ap bits_of parts ∙ bits_of-append header (body ++ replicate (size - count) 0)
           ∙ ap₂ (λ (front back : List Bool). front ++ back) e
           (bits_of-append body (replicate (size - count) 0) ∙ ap (λ (back : List Bool). bits_of body ++ back) zeros)
-          ∙ sym (append_assoc (header_bits (header_by chain.settings chain.sent count (first_in chain count))) (bits_of body)
+          ∙ sym (append_assoc (header_bits (header_by chain.settings chain.sent count (first_in chain count)))
+          (bits_of body)
           (replicate (8 * (size + 10) - 80 - length (bits_of body)) false)),
       ap length parts ∙ length-append header (body ++ replicate (size - count) 0)
-          ∙ omega (arith, ten, length-append body (replicate (size - count) 0), few, length-replicate {A = ℕ} (size - count) 0, first),
+          ∙ omega (
+            arith,
+            ten,
+            length-append body (replicate (size - count) 0),
+            few,
+            length-replicate
+                {A = ℕ} (size - count) 0,
+            first,
+          ),
     )
 
 -- the user packets that begin in what waits, after bytes were sent
@@ -88,7 +102,8 @@ puts chain new count pool after list block inside e a s =
 
 pub lacks : (chain : Chain) (pool after : State) (want have : ℕ) → chain.made < chain.settings.blocks
     → want ≡ chunks_for (10 + chain.settings.field_bytes) → have ≡ pool.spare
-    → pool.spare < chunks_for (10 + chain.settings.field_bytes) → after ≡ pool → IsWhole after → Lacks chain pool want have
+    → pool.spare < chunks_for (10 + chain.settings.field_bytes) → after ≡ pool → IsWhole after
+    → Lacks chain pool want have
 lacks chain pool after want have room wanted spare less same whole =
     let turn : 10 + chain.settings.field_bytes ≡ chain.settings.field_bytes + 10 = omega arith in
     record {

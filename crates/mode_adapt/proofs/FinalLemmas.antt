@@ -21,7 +21,8 @@ use Rattle.plp_config.specs.declared.config.Config.{Config}
 use Rattle.null_delete.specs.Deletion.{kept_slots, packet_at}
 use Rattle.null_delete.specs.Laws.{DecidedByThePast}
 use Rattle.mode_adapt.specs.declared.chain.Chain.{Chain}
-use Rattle.mode_adapt.specs.Blocks.{rates_of, plp_keeps, plp_string, first_up, with_place, up_with, data_field, block_bits}
+use Rattle.mode_adapt.specs.Blocks.{rates_of, plp_keeps, plp_string, first_up, with_place, up_with, data_field}
+use Rattle.mode_adapt.specs.Blocks.{block_bits}
 use Rattle.mode_adapt.specs.Events.{Event, Offered, Cut, offered, cuts}
 use Rattle.mode_adapt.specs.Laws.{WithinLaw, BacklogLaw}
 use Rattle.mode_adapt.specs.Pieces.{piece_of}
@@ -73,7 +74,8 @@ made_is fields chain c plp ps m h p =
     let sum : length (plp_string c plp (packet_at ps) (length ps)) - before c plp ps m ≡ chain.made * b + w =
     omega (arith, h.sent, h.rest.behind, waits chain c plp ps h.rest) in
     let n = made_count chain.made (plp_at c.plps plp).blocks b w (omega (arith, few, blocks))
-    (λ lt. let s = p (omega (arith, lt, blocks)) in omega (arith, s, field)) (let f = (fields c plp).0 in omega (arith, f)) in
+    (λ lt. let s = p (omega (arith, lt, blocks)) in omega (arith, s, field))
+    (let f = (fields c plp).0 in omega (arith, f)) in
     n ∙ ap (λ (v : ℕ). min (plp_at c.plps plp).blocks (v / b)) (sym sum)
 
 pub early_is : FieldRange → (chain : Chain) (c : Config) (plp : ℕ) (events : List Event)
@@ -81,7 +83,8 @@ pub early_is : FieldRange → (chain : Chain) (c : Config) (plp : ℕ) (events :
     → early_blocks c plp events ≡ full_blocks c plp (packet_at (offered events)) (length (offered events))
     (before c plp (offered events) (cuts events)) chain.made
 early_is fields chain c plp events h p =
-    ap (full_blocks c plp (packet_at (offered events)) (length (offered events)) (before c plp (offered events) (cuts events)))
+    ap (full_blocks c plp (packet_at (offered events)) (length (offered events))
+    (before c plp (offered events) (cuts events)))
     (sym (made_is fields chain c plp (offered events) (cuts events) h p))
 
 pub early_offered : FieldRange → (chain : Chain) (c : Config) (plp : ℕ) (events : List Event) (x : List ℕ)
@@ -160,7 +163,8 @@ up_more : (len : ℕ) (slots more : List ℕ) (i y : ℕ) → (len * i < y → i
 up_more len slots more i y within =
     let back : i - 0 ≡ i = omega arith in
     elim (cases_Bool (nat_lt (len * i) y)) [
-      | inl e ↦ rw e (ap (option_map (λ k. (len * i, k))) (rw back (got_left slots more i (within (ltb-true (len * i) y e)))))
+      | inl e ↦ rw e (ap (option_map (λ k. (len * i, k)))
+          (rw back (got_left slots more i (within (ltb-true (len * i) y e)))))
       | inr e ↦ rw e refl
     ]
 
@@ -205,12 +209,15 @@ range_same f g (suc n) h =
     ∙ sym (map-range_with_len_more g 0 n n (omega arith)))
 
 pub place_within : (x i b made s : ℕ) → i < made → x + made * b ≤ s → x + i * b + b ≤ s
-place_within x i b made s lt le = let h : (i + 1) * b ≤ made * b = mul-le-mul_right b (omega arith) in omega (arith, h, le)
+place_within x i b made s lt le = let h : (i + 1) * b ≤ made * b = mul-le-mul_right b (omega arith) in
+    omega (arith, h, le)
 
 -- the blocks that were put stay what they are
-pub has_added : DecidedByThePast → SlotLength → UserPacketRange → (chain new : Chain) (c : Config) (plp : ℕ) (ps : List (List ℕ))
+pub has_added : DecidedByThePast → SlotLength → UserPacketRange → (chain new : Chain) (c : Config) (plp : ℕ)
+    (ps : List (List ℕ))
     (m : ℕ) (x : List ℕ) (b : Bool) (blocks : List (List Bool)) → Holds chain c plp ps m
-    → plp_keeps c plp (packet_at (ps ++ x ∷ [])) (length ps) ≡ b → Adds chain new c plp ps x b → Has chain c plp ps m blocks
+    → plp_keeps c plp (packet_at (ps ++ x ∷ [])) (length ps) ≡ b → Adds chain new c plp ps x b
+    → Has chain c plp ps m blocks
     → Has new c plp (ps ++ x ∷ []) m blocks
 has_added past lengths ups chain new c plp ps m x b blocks h on a has =
     let at : ℕ → List ℕ = packet_at ps in
@@ -226,9 +233,11 @@ has_added past lengths ups chain new c plp ps m x b blocks h on a has =
     let inside : before c plp ps m + chain.made * field_bytes c plp ≤ length (plp_string c plp at (length ps)) =
     omega (arith, h.sent, h.rest.behind) in
     has
-    ∙ range_same _ _ chain.made (λ i lt. block_later past c plp at to (length ps) (before c plp ps m + i * field_bytes c plp)
+    ∙ range_same _ _ chain.made (λ i lt. block_later past c plp at to (length ps)
+    (before c plp ps m + i * field_bytes c plp)
     (before c plp ps m + i * field_bytes c plp + field_bytes c plp) b one h.whole same on (omega arith)
-    (place_within (before c plp ps m) i (field_bytes c plp) chain.made (length (plp_string c plp at (length ps))) lt inside))
+    (place_within (before c plp ps m) i (field_bytes c plp) chain.made (length (plp_string c plp at (length ps)))
+    lt inside))
     ∙ ap (λ (v : ℕ). full_blocks c plp to v (before c plp ps m) chain.made) (sym len)
     ∙ ap (λ (v : ℕ). full_blocks c plp to (length (ps ++ x ∷ [])) v chain.made) (sym start)
     ∙ ap (full_blocks c plp to (length (ps ++ x ∷ [])) (before c plp (ps ++ x ∷ []) m)) (sym a.made)
@@ -236,7 +245,8 @@ has_added past lengths ups chain new c plp ps m x b blocks h on a has =
 -- the block of the first bytes
 pub piece_is : FieldRange → UserPacketRange → (chain : Chain) (c : Config) (plp : ℕ) (ps : List (List ℕ)) (m count : ℕ)
     → Holds chain c plp ps m
-    → piece_of chain count ≡ block_bits c plp (packet_at ps) (length ps) (before c plp ps m + chain.made * field_bytes c plp)
+    → piece_of chain count ≡ block_bits c plp (packet_at ps) (length ps) (before c plp ps m + chain.made
+    * field_bytes c plp)
     (before c plp ps m + chain.made * field_bytes c plp + count)
 piece_is fields ups chain c plp ps m count h =
     let up = ups c plp in
@@ -249,7 +259,8 @@ pub has_put : FieldRange → UserPacketRange → (chain new : Chain) (c : Config
     → Puts chain new chain.settings.field_bytes was is → Has chain c plp ps m (map bits_of was)
     → Has new c plp ps m (map bits_of is)
 has_put fields ups chain new c plp ps m was is h k has =
-    let f : ℕ → List Bool = λ (i : ℕ). block_bits c plp (packet_at ps) (length ps) (before c plp ps m + i * field_bytes c plp)
+    let f : ℕ → List Bool = λ (i : ℕ). block_bits c plp (packet_at ps) (length ps)
+    (before c plp ps m + i * field_bytes c plp)
     (before c plp ps m + i * field_bytes c plp + field_bytes c plp) in
     k.list
     ∙ ap (λ (l : List (List Bool)). l ++ piece_of chain chain.settings.field_bytes ∷ []) has
@@ -261,7 +272,8 @@ has_put fields ups chain new c plp ps m was is h k has =
     ∙ ap (λ (n : ℕ). map f (range_with_len 0 n)) (sym k.sends.made)
 
 -- a chain that put a full block
-pub put_holds : UserPacketRange → (chain new : Chain) (c : Config) (plp : ℕ) (ps : List (List ℕ)) (m : ℕ) (was is : List (List ℕ))
+pub put_holds : UserPacketRange → (chain new : Chain) (c : Config) (plp : ℕ) (ps : List (List ℕ)) (m : ℕ)
+    (was is : List (List ℕ))
     → Holds chain c plp ps m → IsFull chain
     → Puts chain new chain.settings.field_bytes was is → Holds new c plp ps m
 put_holds ups chain new c plp ps m was is h full k =

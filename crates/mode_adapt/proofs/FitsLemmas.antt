@@ -1,5 +1,6 @@
 -- Lists of blocks of a chain hold no more than a frame.
-use Rattle.std.proofs.Common.{◌≡◌, ℕ, zero, suc, ◌-◌, ◌*◌, ◌<◌, ◌≤◌, Bool, List, [], ◌∷◌, length, map, get_or, drop, ap, sym, ◌∙◌}
+use Rattle.std.proofs.Common.{◌≡◌, ℕ, zero, suc, ◌-◌, ◌*◌, ◌<◌, ◌≤◌, Bool, List, [], ◌∷◌, length, map, get_or, drop, ap}
+use Rattle.std.proofs.Common.{sym, ◌∙◌}
 use Rattle.std.proofs.Common.{arith}
 use Rattle.std.specs.Prelude.{All}
 use Rattle.std.specs.List.{range_with_len}
@@ -21,7 +22,8 @@ use Rattle.mode_adapt.specs.StandsFor.{full_fields}
 use Rattle.mode_adapt.proofs.CutLemmas.{count_law}
 
 -- blocks of a PLP have as many bits as it says
-pub length-block : BitCounts → FieldRange → (c : Config) (plp : ℕ) (at : ℕ → List ℕ) (n x y : ℕ) → y - x ≤ field_bytes c plp
+pub length-block : BitCounts → FieldRange → (c : Config) (plp : ℕ) (at : ℕ → List ℕ) (n x y : ℕ)
+    → y - x ≤ field_bytes c plp
     → length (block_bits c plp at n x y) ≡ 8 * block_bytes c plp
 length-block counts law c plp at n x y short =
     let body : List ℕ = data_field c plp at n x y in
@@ -30,7 +32,8 @@ length-block counts law c plp at n x y short =
     let more = law c plp in
     counts.frame _ (bits_of body) (8 * block_bytes c plp) (omega (arith, bits, few, short, more.2, more.0))
 
-all_cons : (n : ℕ) (b : List ℕ) (bs : List (List ℕ)) → length b ≤ n → All (λ (x : List ℕ). length x ≤ n) bs → (k : ℕ) (d : List ℕ)
+all_cons : (n : ℕ) (b : List ℕ) (bs : List (List ℕ)) → length b ≤ n → All (λ (x : List ℕ). length x ≤ n) bs
+    → (k : ℕ) (d : List ℕ)
     → k < length (b ∷ bs) → length (get_or (b ∷ bs) k d) ≤ n
 all_cons n b bs p h zero d lt = p
 all_cons n b bs p h (suc k) d lt = h k d (omega arith)
@@ -46,7 +49,8 @@ all_short n f (b ∷ bs) (i ∷ ns) e each =
     let tail : map bits_of bs ≡ map f ns = ap (drop 1) e in
     all_cons n b bs (omega (arith, size, length-bits_of b, each i)) (all_short n f bs ns tail each)
 
-list_fits : (c : Config) (plp : ℕ) (f : ℕ → List Bool) (ns : List ℕ) (list : List (List ℕ)) → map bits_of list ≡ map f ns
+list_fits : (c : Config) (plp : ℕ) (f : ℕ → List Bool) (ns : List ℕ) (list : List (List ℕ))
+    → map bits_of list ≡ map f ns
     → ((i : ℕ) → length (f i) ≡ 8 * block_bytes c plp)
     → length ns ≤ (plp_at c.plps plp).blocks → ListFits c plp list
 list_fits c plp f ns list e each few =
@@ -67,8 +71,10 @@ pub blocks_fit : BitCounts → FieldRange → SlotLength → BlocksFit
 blocks_fit counts fields lengths c plp at m list is inside e =
     let range = fields c plp in
     let slot = lengths c plp is.rules inside in
-    let few = count_law (rates_of c plp (epoch_ticks c plp)) (plp_keeps c plp at) (field_bytes c plp) (plp_at c.plps plp).blocks m
+    let few = count_law (rates_of c plp (epoch_ticks c plp)) (plp_keeps c plp at) (field_bytes c plp)
+    (plp_at c.plps plp).blocks m
     (omega (arith, slot.0, slot.2)) (omega (arith, range.0)) (capacity_is c plp) in
-    list_fits c plp _ (block_places (field_bytes c plp) (sent_before (rates_of c plp (epoch_ticks c plp)) (plp_keeps c plp at) m)
+    list_fits c plp _ (block_places (field_bytes c plp) (sent_before (rates_of c plp (epoch_ticks c plp))
+    (plp_keeps c plp at) m)
     (sent (rates_of c plp (epoch_ticks c plp)) (plp_keeps c plp at) m)) list e
     (λ from. length-block counts fields c plp at _ from _ (omega arith)) few

@@ -1,5 +1,6 @@
 -- One packet more.
-use Rattle.std.proofs.Common.{◌≡◌, ℕ, ◌+◌, ◌*◌, ◌<◌, ◌≤◌, Bool, true, false, cond, List, [], ◌∷◌, ◌++◌, Some, None, length, take}
+use Rattle.std.proofs.Common.{◌≡◌, ℕ, ◌+◌, ◌*◌, ◌<◌, ◌≤◌, Bool, true, false, cond, List, [], ◌∷◌, ◌++◌, Some, None}
+use Rattle.std.proofs.Common.{length, take}
 use Rattle.std.proofs.Common.{drop, refl, ap, sym, ◌∙◌, arith, length-append, length-drop, append-nil, inl, inr}
 use Rattle.std.specs.Int.{div_ceil}
 use Rattle.std.proofs.lemmas.Grind.{div_ceil_times}
@@ -46,25 +47,35 @@ pub user_long : (c : Config) (plp : ℕ) (at : ℕ → List ℕ) → ((j : ℕ) 
     → length (user_packet (plp_at c.plps plp).delete at k) ≡ up_bytes c plp
 unfolding up_bytes
 user_long c plp at whole k =
-    elim (plp_at c.plps plp).delete as (λ d. length (drop 1 (at k) ++ cond d (dnp (keeps_of d at) k ∷ []) []) ≡ cond d 188 187) [
-      | true ↦ omega (arith, length-append (drop 1 (at k)) (dnp (keeps_of true at) k ∷ []), length-drop 1 (at k), whole k)
+    elim (plp_at c.plps plp).delete as (λ d. length (drop 1 (at k) ++ cond d (dnp (keeps_of d at) k ∷ []) []) ≡ cond
+    d 188 187) [
+      | true ↦ omega (
+        arith,
+        length-append (drop 1 (at k)) (dnp (keeps_of true at) k ∷ []),
+        length-drop
+            1 (at k),
+        whole k,
+      )
       | false ↦ omega (arith, length-append (drop 1 (at k)) [], length-drop 1 (at k), whole k)
     ]
 
 pub length-up : (c : Config) (plp : ℕ) (at : ℕ → List ℕ) (n : ℕ) → ((j : ℕ) → length (at j) ≡ 188)
     → length (plp_string c plp at n) ≡ up_place (up_bytes c plp) (plp_keeps c plp at) n
-length-up c plp at n whole = length-string (user_packet (plp_at c.plps plp).delete at) (up_bytes c plp) (plp_keeps c plp at) n
+length-up c plp at n whole = length-string (user_packet (plp_at c.plps plp).delete at) (up_bytes c plp)
+    (plp_keeps c plp at) n
     (user_long c plp at whole)
 
 -- the strings after one packet more
 pub up_push : DecidedByThePast → (d : Bool) (at to : ℕ → List ℕ) (n : ℕ) (b : Bool) → Same to at n → keeps_of d to n ≡ b
     → up_string d to (n + 1) ≡ up_string d at n ++ cond b (user_packet d to n) []
 up_push past d at to n b h e =
-    string_more (user_packet d to) (keeps_of d to) n ∙ ap (λ (l : List ℕ). l ++ cond (keeps_of d to n) (user_packet d to n) [])
+    string_more (user_packet d to) (keeps_of d to) n
+    ∙ ap (λ (l : List ℕ). l ++ cond (keeps_of d to n) (user_packet d to n) [])
     (up_same past d to at n h)
     ∙ ap (λ (c : Bool). up_string d at n ++ cond c (user_packet d to n) []) e
 
-pub slots_push : DecidedByThePast → (d : Bool) (at to : ℕ → List ℕ) (n : ℕ) (b : Bool) → Same to at n → keeps_of d to n ≡ b
+pub slots_push : DecidedByThePast → (d : Bool) (at to : ℕ → List ℕ) (n : ℕ) (b : Bool) → Same to at n
+    → keeps_of d to n ≡ b
     → kept_slots (keeps_of d to) (n + 1) ≡ kept_slots (keeps_of d at) n ++ cond b (n ∷ []) []
 slots_push past d at to n b h e =
     kept_more (keeps_of d to) n ∙ ap (λ (l : List ℕ). l ++ cond (keeps_of d to n) (n ∷ []) [])
@@ -125,10 +136,12 @@ rest_added past chain new c plp ps x b one whole keeps h a =
           rw len (omega (arith, e, h.behind, a.sent));
     }
 
-pub added : DecidedByThePast → SlotLength → (chain new : Chain) (c : Config) (plp : ℕ) (ps : List (List ℕ)) (m : ℕ) (x : List ℕ)
+pub added : DecidedByThePast → SlotLength → (chain new : Chain) (c : Config) (plp : ℕ) (ps : List (List ℕ))
+    (m : ℕ) (x : List ℕ)
     (b : Bool) → 1 ≤ up_bytes c plp
     → Holds chain c plp ps m → length x ≡ 188 → length ps < slots_by c plp (m * epoch_ticks c plp)
-    → plp_keeps c plp (packet_at (ps ++ x ∷ [])) (length ps) ≡ b → Adds chain new c plp ps x b → Holds new c plp (ps ++ x ∷ []) m
+    → plp_keeps c plp (packet_at (ps ++ x ∷ [])) (length ps) ≡ b → Adds chain new c plp ps x b
+    → Holds new c plp (ps ++ x ∷ []) m
 added past lengths chain new c plp ps m x b one h long room keeps a =
     let same = at_before ps x in
     let len : length (ps ++ x ∷ []) ≡ length ps + 1 = length-append ps (x ∷ []) in
@@ -145,7 +158,8 @@ added past lengths chain new c plp ps m x b one h long room keeps a =
           (sym (before_same (rates_of c plp (epoch_ticks c plp)) (plp_keeps c plp (packet_at (ps ++ x ∷ [])))
           (plp_keeps c plp (packet_at ps)) m (length ps) pos h.from
           (keeps_same past (plp_at c.plps plp).delete _ _ (length ps) same)))
-          ∙ ap (λ (v : ℕ). sent_before (rates_of c plp (epoch_ticks c plp)) (plp_keeps c plp (packet_at (ps ++ x ∷ []))) m + v
+          ∙ ap (λ (v : ℕ). sent_before (rates_of c plp (epoch_ticks c plp)) (plp_keeps c plp (packet_at (ps ++ x ∷ [])))
+          m + v
           * field_bytes c plp) (sym a.made);
       few = rw (a.made, a.settings) h.few;
       rest = rest_added past chain new c plp ps x b one h.whole keeps h.rest a;
@@ -166,9 +180,11 @@ pub is_answer : (b : Bool) (d v : ℕ) → Some v ≡ cond b (Some d) None → I
 is_answer true d v e = record { kept = refl; dnp = cc }
 is_answer false d v e = cc
 
-pub skipped : (chain new : Chain) (c : Config) (plp : ℕ) (ps : List (List ℕ)) (x : List ℕ) → new.settings ≡ chain.settings
+pub skipped : (chain new : Chain) (c : Config) (plp : ℕ) (ps : List (List ℕ)) (x : List ℕ)
+    → new.settings ≡ chain.settings
     → new.slot ≡ chain.slot + 1
-    → DeleterStandsFor new.deleter (plp_at c.plps plp).delete (ps ++ x ∷ []) → new.sent ≡ chain.sent → new.made ≡ chain.made
+    → DeleterStandsFor new.deleter (plp_at c.plps plp).delete (ps ++ x ∷ []) → new.sent ≡ chain.sent
+    → new.made ≡ chain.made
     → new.pending.items ≡ chain.pending.items → new.slots.items ≡ chain.slots.items → Adds chain new c plp ps x false
 skipped chain new c plp ps x e0 e1 e2 e3 em e4 e5 =
     record {
@@ -182,11 +198,13 @@ skipped chain new c plp ps x e0 e1 e2 e3 em e4 e5 =
     }
 
 -- the bytes of a user packet
-kept_bytes : (c : Config) (plp : ℕ) (x : List ℕ) (g : ℕ) → length x ≡ 188 → take (up_bytes c plp) (drop 1 x ++ g ∷ []) ≡ drop 1 x
+kept_bytes : (c : Config) (plp : ℕ) (x : List ℕ) (g : ℕ) → length x ≡ 188
+    → take (up_bytes c plp) (drop 1 x ++ g ∷ []) ≡ drop 1 x
     ++ cond (plp_at c.plps plp).delete (g ∷ []) []
 unfolding up_bytes
 kept_bytes c plp x g e =
-    elim (plp_at c.plps plp).delete as (λ d. take (cond d 188 187) (drop 1 x ++ g ∷ []) ≡ drop 1 x ++ cond d (g ∷ []) []) [
+    elim (plp_at c.plps plp).delete as (λ d. take (cond d 188 187) (drop 1 x ++ g ∷ []) ≡ drop 1 x
+    ++ cond d (g ∷ []) []) [
       | true ↦ take_all 188 (drop 1 x ++ g ∷ []) (omega (arith, length-append (drop 1 x) (g ∷ []), length-drop 1 x))
       | false ↦ take_at (drop 1 x) (g ∷ []) 187 (omega (arith, length-drop 1 x)) ∙ sym (append-nil (drop 1 x))
     ]
@@ -213,7 +231,9 @@ kept_on chain mid new c plp ps m x g h long e0 e1 e2 em e3 e4 stands is k =
           (ap (λ (v : ℕ). take v (drop 1 x ++ g ∷ [])) up
           ∙ kept_bytes c plp x g long
           ∙ ap (λ (v : ℕ). drop 1 x ++ cond d (v ∷ []) []) is
-          ∙ ap (λ (l : List ℕ). drop 1 l ++ cond d (dnp (plp_keeps c plp (packet_at (ps ++ x ∷ []))) (length ps) ∷ []) [])
+          ∙ ap (λ (l : List ℕ). drop 1 l ++ cond d (dnp (plp_keeps c plp (packet_at (ps ++ x ∷ []))) (length ps) ∷ [])
+          [])
           (sym (at_last ps x)));
-      slots = k.slots ∙ ap (λ (l : List ℕ). l ++ mid.slot ∷ []) e4 ∙ ap (λ (v : ℕ). chain.slots.items ++ v ∷ []) (e1 ∙ h.slot);
+      slots = k.slots ∙ ap (λ (l : List ℕ). l ++ mid.slot ∷ []) e4 ∙ ap (λ (v : ℕ). chain.slots.items ++ v ∷ []) (e1
+          ∙ h.slot);
     }

@@ -16,15 +16,16 @@ use Rattle.mode_adapt.specs.declared.chain.Chain.{Chain}
 pub record HasTaken (chain : Chain) (packet : List ℕ) (was is : List (List ℕ)) (c : Config) (plp : ℕ)
     (events : List Event) : Type 0 where
   pub stands : ChainStandsFor chain c plp (events ++ Offered packet ∷ [])
-  pub blocks : map bits_of was ≡ early_blocks c plp events → map bits_of is ≡ early_blocks c plp (events ++ Offered packet ∷ [])
+  pub blocks : map bits_of was ≡ early_blocks c plp events → map bits_of is ≡ early_blocks c plp
+      (events ++ Offered packet ∷ [])
   pub kept : kept_of chain < field_bytes c plp
 
 abbrev pub Takes : Chain → Chain → List ℕ → State → State → ℕ → Type 0
 Takes old new packet was is list = (c : Config) (plp : ℕ) (events : List Event) → ChainStandsFor old c plp events
     → HasRoom c plp events → HasTaken new packet (list_at was list) (list_at is list) c plp events
 
--- After the end of an interleaving frame: the list has its blocks, so many, those of the next come into an empty one, and
--- less than one user packet waits.
+-- After the end of an interleaving frame: the list has its blocks, so many, those of the next come into an empty one,
+-- and less than one user packet waits.
 pub record HasEnded (chain : Chain) (count : ℕ) (was is : List (List ℕ)) (c : Config) (plp : ℕ)
     (events : List Event) : Type 0 where
   pub stands : ChainStandsFor chain c plp (events ++ Cut ∷ [])
@@ -45,7 +46,8 @@ pub record IsReady (chain : Chain) (pool : State) (list : ℕ) (c : Config) (plp
   pub place : HasPlace c plp pool list
 
 -- A block of the PLP was to be put, which fills so many chunks, and the pool was not ready for it.
-pub record LacksFor (chain : Chain) (pool : State) (list chunks : ℕ) (c : Config) (plp : ℕ) (events : List Event) : Type 0 where
+pub record LacksFor (chain : Chain) (pool : State) (list chunks : ℕ) (c : Config) (plp : ℕ) (events : List Event) :
+    Type 0 where
   pub need : chunks ≡ chunks_for (block_bytes c plp)
   pub never : ¬ (IsReady chain pool list c plp events)
 
@@ -55,7 +57,8 @@ LacksPlace chain pool list chunks = (c : Config) (plp : ℕ) (events : List Even
 
 -- So, if the pool is ready, each call does its work.
 abbrev pub TakesIfReady : Chain → Chain → List ℕ → State → State → ℕ → Type 0
-TakesIfReady old new packet was is list = (c : Config) (plp : ℕ) (events : List Event) → IsReady old was list c plp events
+TakesIfReady old new packet was is list = (c : Config) (plp : ℕ) (events : List Event)
+    → IsReady old was list c plp events
     → HasRoom c plp events → HasTaken new packet (list_at was list) (list_at is list) c plp events
 
 abbrev pub EndsIfReady : Chain → Chain → State → State → ℕ → ℕ → Type 0

@@ -15,7 +15,14 @@ use Rattle.mode_adapt.specs.declared.chain.Chain.{Chain}
 
 -- a header by settings
 abbrev pub header_by : Settings → ℕ → ℕ → Option (ℕ × ℕ) → Header
-header_by s x len None = record { matype1 = s.matype1; matype2 = s.matype2; issy = LONG_ISCR; dfl = 8 * len; syncd = NO_START }
+header_by s x len None = record {
+  matype1 = s.matype1;
+  matype2 = s.matype2;
+  issy = LONG_ISCR;
+  dfl = 8
+      * len;
+  syncd = NO_START;
+}
 header_by s x len (Some up) = record {
   matype1 = s.matype1;
   matype2 = s.matype2;
@@ -31,5 +38,6 @@ first_in c count = up_with c.settings.up_bytes c.slots.items (div_ceil c.sent c.
 
 -- the block of these bytes
 abbrev pub piece_of : Chain → ℕ → List Bool
-piece_of c count = frame_bits (header_by c.settings c.sent count (first_in c count)) (bits_of (take count c.pending.items))
+piece_of c count = frame_bits (header_by c.settings c.sent count (first_in c count))
+    (bits_of (take count c.pending.items))
     (8 * (c.settings.field_bytes + HEADER_BYTES))

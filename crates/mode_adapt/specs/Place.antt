@@ -6,8 +6,8 @@ use Rattle.linked_pool.specs.Fits.{ListFits, frame_chunks}
 use Rattle.plp_config.specs.declared.config.Config.{Config}
 use Rattle.plp_config.specs.declared.plp.TheConstants.{MOST_BLOCK_BYTES}
 
--- A pool of as many chunks as a gateway's has a list for each PLP, that of one PLP at its place, and in each other list no more
--- than an interleaving frame.
+-- A pool of as many chunks as a gateway's has a list for each PLP, that of one PLP at its place, and in each other list
+-- no more than an interleaving frame.
 pub record HasPlace (c : Config) (plp : ℕ) (pool : State) (list : ℕ) : Type 0 where
   pub enough : frame_chunks c ≤ pool.opened
   pub lists : length pool.lists ≡ length c.plps

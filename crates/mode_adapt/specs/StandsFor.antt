@@ -14,8 +14,8 @@ use Rattle.mode_adapt.specs.Queue.{sent_before}
 use Rattle.mode_adapt.specs.Settings.{AreSettings}
 use Rattle.mode_adapt.specs.Events.{Event, offered, cuts}
 
--- It has sent its bytes before place `sent` of the string of the packets, and holds the rest with the slots of the user packets
--- that begin there.
+-- It has sent its bytes before place `sent` of the string of the packets, and holds the rest with the slots of the user
+-- packets that begin there.
 pub record HoldsRest (chain : Chain) (c : Config) (plp : ℕ) (packets : List (List ℕ)) : Type 0 where
   pub pending : chain.pending.items ≡ drop chain.sent (plp_string c plp (packet_at packets) (length packets))
   pub slots : chain.slots.items ≡ drop (div_ceil chain.sent (up_bytes c plp))
@@ -31,7 +31,8 @@ pub record Holds (chain : Chain) (c : Config) (plp : ℕ) (packets : List (List 
   pub slot : chain.slot ≡ length packets
   pub deleter : DeleterStandsFor chain.deleter (plp_at c.plps plp).delete packets
   pub whole : (k : ℕ) → length (packet_at packets k) ≡ 188
-  pub sent : chain.sent ≡ sent_before (rates_of c plp (epoch_ticks c plp)) (plp_keeps c plp (packet_at packets)) m + chain.made
+  pub sent : chain.sent ≡ sent_before (rates_of c plp (epoch_ticks c plp)) (plp_keeps c plp (packet_at packets))
+      m + chain.made
       * field_bytes c plp
   pub few : chain.made ≤ chain.settings.blocks
   pub rest : HoldsRest chain c plp packets

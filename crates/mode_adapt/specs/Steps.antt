@@ -25,7 +25,8 @@ pub record Sends (old new : Chain) (count : ℕ) : Type 0 where
   pub made : new.made ≡ old.made + 1
   pub sent : new.sent ≡ old.sent + count
   pub pending : new.pending.items ≡ drop count old.pending.items
-  pub slots : new.slots.items ≡ drop (div_ceil (old.sent + count) old.settings.up_bytes - div_ceil old.sent old.settings.up_bytes)
+  pub slots : new.slots.items ≡ drop (div_ceil (old.sent + count) old.settings.up_bytes - div_ceil old.sent
+      old.settings.up_bytes)
       old.slots.items
 
 -- There is room for a user packet.

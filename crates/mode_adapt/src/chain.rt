@@ -1,5 +1,6 @@
 // The chain of one PLP.
-ghost use Rattle.std.specs.Prelude.{◌≡◌, ◌<◌, ◌≤◌, ◌+◌, ◌-◌, ◌*◌, ◌^◌, ◌++◌, ◌∷◌, [], List, ℕ, map, length, take, drop, min};
+ghost use Rattle.std.specs.Prelude.{◌≡◌, ◌<◌, ◌≤◌, ◌+◌, ◌-◌, ◌*◌, ◌^◌, ◌++◌, ◌∷◌, [], List, ℕ, map, length, take, drop};
+ghost use Rattle.std.specs.Prelude.{min};
 ghost use Rattle.std.specs.Prelude.{vec_len, vec_capacity, IfOk, IfErr, OnOk, OnErr, IfSome};
 ghost use Rattle.std.specs.Int.{div_ceil};
 ghost use Rattle.terms.specs.Bits.{bits_of};
@@ -24,11 +25,12 @@ use plp_config::{MOST_FIELD_BYTES, Plan, block_law, length_law};
 use std::alloc::Global;
 use ts_packet::{SIZE, TsPacket};
 
-// User packets that stand whole in a data field and a packet behind it, at most: each has all bytes of a packet but one, or more.
+// User packets that stand whole in a data field and a packet behind it, at most: each has all bytes of a packet but
+// one, or more.
 const MOST_SLOTS: usize = (MOST_FIELD_BYTES as usize + SIZE) / (SIZE - 1);
 
-/// Makes the blocks of one PLP from its packets, interleaving frame by interleaving frame (EN 302 755, clause 5.1): offer the
-/// packet of each slot, in order, and cut where an interleaving frame begins.
+/// Makes the blocks of one PLP from its packets, interleaving frame by interleaving frame (EN 302 755, clause 5.1):
+/// offer the packet of each slot, in order, and cut where an interleaving frame begins.
 #[derive(Drop)]
 pub struct Chain {
     settings: Settings,
@@ -47,7 +49,8 @@ pub struct Chain {
     ghost small: { slot ≤ 2 ^ 54 },
     ghost few: { made ≤ settings.blocks },
     ghost short: { length pending.items ≤ settings.field_bytes + SIZE },
-    ghost starts: { sent + length pending.items ≡ settings.up_bytes * (div_ceil sent settings.up_bytes + vec_len slots) },
+    ghost starts: { sent + length pending.items ≡ settings.up_bytes * (div_ceil sent settings.up_bytes + vec_len
+        slots) },
     ghost bytes: { settings.field_bytes + SIZE ≤ pending.room },
     ghost places: { MOST_SLOTS ≤ vec_capacity slots },
 }
@@ -57,9 +60,11 @@ impl Chain {
     ghost use Rattle.linked_pool.specs.Pool.{list_at, Others, IsWhole};
     ghost use Rattle.mode_adapt.specs.Calls.{Takes, Ends, LacksPlace};
     ghost use Rattle.mode_adapt.specs.Events.{Event, Cut, IsDue, offered, cuts};
-    ghost use Rattle.mode_adapt.specs.StandsFor.{ChainStandsFor, IsPartial, slot_of, most_blocks, kept_of, waiting, early_blocks};
+    ghost use Rattle.mode_adapt.specs.StandsFor.{ChainStandsFor, IsPartial, slot_of, most_blocks, kept_of, waiting};
+    ghost use Rattle.mode_adapt.specs.StandsFor.{early_blocks};
     ghost use Rattle.mode_adapt.specs.Place.{AreShort};
-    ghost use Rattle.mode_adapt.specs.Steps.{Keeps, Sends, HasSpace, Puts, Stays, IsFull, IsOver, IsLeft, Skips, Resets};
+    ghost use Rattle.mode_adapt.specs.Steps.{Keeps, Sends, HasSpace, Puts, Stays, IsFull, IsOver, IsLeft, Skips};
+    ghost use Rattle.mode_adapt.specs.Steps.{Resets};
     ghost use Rattle.mode_adapt.specs.Steps.{Lacks};
     ghost use Rattle.mode_adapt.specs.Pieces.{first_in, header_by};
     ghost use Rattle.mode_adapt.specs.Blocks.{rates_of, plp_keeps};
@@ -90,9 +95,9 @@ impl Chain {
         })
     }
 
-    /// Takes the packet of the next slot, one that is over by the tick at which the next interleaving frame begins. A block
-    /// whose data field is full goes to the end of the list, which holds what the chain put there since its last cut. After
-    /// `PoolFull` the chain is used no more.
+    /// Takes the packet of the next slot, one that is over by the tick at which the next interleaving frame begins. A
+    /// block whose data field is full goes to the end of the list, which holds what the chain put there since its last
+    /// cut. After `PoolFull` the chain is used no more.
     pub fn offer(&mut self, packet: &TsPacket, pool: &mut Pool, list: u32) -> Result<(), PoolFull>
         requires slot { slot_of self.old < 2 ^ 54 }
         requires list { list < length pool.old.lists }
@@ -168,7 +173,8 @@ impl Chain {
     fn put_full(&mut self, pool: &mut Pool, list: u32) -> Result<(), PoolFull>
         requires list { list < length pool.old.lists }
         ensures none { OnOk result (IsPartial self.old → (self.new ≡ self.old) × (pool.new ≡ pool.old)) }
-        ensures some { OnOk result (IsFull self.old → Puts self.old self.new self.old.settings.field_bytes (list_at pool.old list)
+        ensures some { OnOk result (IsFull self.old → Puts self.old self.new self.old.settings.field_bytes
+            (list_at pool.old list)
             (list_at pool.new list)) }
         ensures short { AreShort (list_at pool.old list) → AreShort (list_at pool.new list) }
         ensures others { Others pool.old pool.new list }
@@ -195,7 +201,8 @@ impl Chain {
         requires made { self.old.made < self.old.settings.blocks }
         requires list { list < length pool.old.lists }
         ensures puts { OnOk result (Puts self.old self.new
-            (min self.old.settings.field_bytes (length self.old.pending.items)) (list_at pool.old list) (list_at pool.new list)) }
+            (min self.old.settings.field_bytes (length self.old.pending.items)) (list_at pool.old list)
+            (list_at pool.new list)) }
         ensures short { AreShort (list_at pool.old list) → AreShort (list_at pool.new list) }
         ensures others { Others pool.old pool.new list }
         ensures full { IfErr result (λ e. Lacks self.old pool.old e.need e.spare) }
@@ -221,7 +228,8 @@ impl Chain {
     fn header(&self, count: usize) -> [u8; HEADER_BYTES]
         requires inside { count ≤ length self.now.pending.items }
         requires short { count ≤ self.now.settings.field_bytes }
-        ensures { bits_of result ≡ header_bits (header_by self.now.settings self.now.sent count (first_in self.now count)) }
+        ensures { bits_of result ≡ header_bits (header_by self.now.settings self.now.sent count
+            (first_in self.now count)) }
     {
         let up = self.first_up(count);
         header_bytes(&self.settings.header(self.sent, count, up))
@@ -242,10 +250,10 @@ impl Chain {
         Some((place, *slot))
     }
 
-    /// Ends the next interleaving frame: the list then holds exactly its blocks, at most `blocks` of the PLP, and the answer is
-    /// their number. The first cut ends interleaving frame 0, which has none. All slots that are over by the tick at which it
-    /// begins were offered, and the list holds what the chain put there since its last cut. After `PoolFull` the chain is used
-    /// no more.
+    /// Ends the next interleaving frame: the list then holds exactly its blocks, at most `blocks` of the PLP, and the
+    /// answer is their number. The first cut ends interleaving frame 0, which has none. All slots that are over by the
+    /// tick at which it begins were offered, and the list holds what the chain put there since its last cut. After
+    /// `PoolFull` the chain is used no more.
     pub fn cut(&mut self, pool: &mut Pool, list: u32) -> Result<u32, PoolFull>
         requires { list < length pool.old.lists }
         ensures ends { IfOk result (λ count. Ends self.old self.new pool.old pool.new list count) }
@@ -294,7 +302,8 @@ impl Chain {
         requires { list < length pool.old.lists }
         ensures none { OnOk result (IsOver self.old → (self.new ≡ self.old) × (pool.new ≡ pool.old)) }
         ensures some { OnOk result (IsLeft self.old → Puts self.old self.new
-            (min self.old.settings.field_bytes (length self.old.pending.items)) (list_at pool.old list) (list_at pool.new list)) }
+            (min self.old.settings.field_bytes (length self.old.pending.items)) (list_at pool.old list)
+            (list_at pool.new list)) }
         ensures short { AreShort (list_at pool.old list) → AreShort (list_at pool.new list) }
         ensures others { Others pool.old pool.new list }
         ensures full { IfErr result (λ e. Lacks self.old pool.old e.need e.spare) }
@@ -337,7 +346,8 @@ impl Chain {
         // After the cut of interleaving frame n: what has arrived by then and is not sent, less than one user packet.
         ensures after_cut { (c : Config) (plp : ℕ) (events : List Event)
             → ChainStandsFor self.now c plp (events ++ Cut ∷ []) → IsDue c plp events
-            → result ≡ arrived (rates_of c plp (epoch_ticks c plp)) (plp_keeps c plp (packet_at (offered events))) (cuts events)
+            → result ≡ arrived (rates_of c plp (epoch_ticks c plp)) (plp_keeps c plp (packet_at (offered events)))
+            (cuts events)
             - sent (rates_of c plp (epoch_ticks c plp)) (plp_keeps c plp (packet_at (offered events))) (cuts events) }
         ensures few { (c : Config) (plp : ℕ) (events : List Event)
             → ChainStandsFor self.now c plp (events ++ Cut ∷ []) → IsDue c plp events → result < up_bytes c plp }

@@ -1,5 +1,6 @@
 // Laws of the definitions. Their functions do nothing.
-ghost use Rattle.mode_adapt.specs.Laws.{WithinLaw, BacklogLaw, SentLaw, SentWithin, BeginLaw, EndLaw, PlaceLaw, FirstLaw};
+ghost use Rattle.mode_adapt.specs.Laws.{WithinLaw, BacklogLaw, SentLaw, SentWithin, BeginLaw, EndLaw, PlaceLaw};
+ghost use Rattle.mode_adapt.specs.Laws.{FirstLaw};
 ghost use Rattle.mode_adapt.specs.Laws.{JoinLaw, CountLaw, BlocksLaw, EarlyFits, BlocksFit, AloneBlocks};
 
 use bb_frame::bit_counts_law;

@@ -22,7 +22,11 @@ impl Model for Waiting {
 
     ghost Value = { Held };
 
-    ghost view = { λ w. record { items = drop HEADER_BYTES w.bytes.items; room = vec_capacity w.bytes - HEADER_BYTES } };
+    ghost view = { λ w. record {
+      items = drop HEADER_BYTES w.bytes.items;
+      room = vec_capacity w.bytes
+          - HEADER_BYTES;
+    } };
 
     ghost invariant = { λ w. (HEADER_BYTES ≤ vec_len w.bytes) × (HEADER_BYTES ≤ vec_capacity w.bytes) };
 }
@@ -50,7 +54,8 @@ fn pad(bytes: &mut Vec<u8>, end: usize)
 fn lay(bytes: &mut Vec<u8>, header: &[u8; HEADER_BYTES], end: usize)
     requires front { HEADER_BYTES ≤ vec_len bytes.old }
     requires room { end ≤ vec_capacity bytes.old }
-    ensures items { bytes.new.items ≡ header.now ++ drop HEADER_BYTES bytes.old.items ++ replicate (end - vec_len bytes.old) 0 }
+    ensures items { bytes.new.items ≡ header.now ++ drop HEADER_BYTES bytes.old.items ++ replicate
+        (end - vec_len bytes.old) 0 }
     ensures capacity { vec_capacity bytes.old ≤ vec_capacity bytes.new }
 {
     put_header(bytes, header);
@@ -58,7 +63,8 @@ fn lay(bytes: &mut Vec<u8>, header: &[u8; HEADER_BYTES], end: usize)
 }
 
 impl Waiting {
-    ghost use Rattle.std.specs.Prelude.{◌≡◌, ◌+◌, ◌^◌, ◌<◌, ◌≤◌, ◌++◌, ◌↔◌, [], length, drop, IfOk, IfErr, OnOk, OnErr, IsErr};
+    ghost use Rattle.std.specs.Prelude.{◌≡◌, ◌+◌, ◌^◌, ◌<◌, ◌≤◌, ◌++◌, ◌↔◌, [], length, drop, IfOk, IfErr, OnOk, OnErr};
+    ghost use Rattle.std.specs.Prelude.{IsErr};
     ghost use Rattle.linked_pool.specs.Pool.{appended, chunks_for, IsWhole};
     ghost use Rattle.mode_adapt.specs.Waiting.{block_of};
 
@@ -100,8 +106,8 @@ impl Waiting {
         self.bytes.truncate(rest);
     }
 
-    /// Appends the block of a header and the first bytes to a list of a pool: those of a data field of so many bytes, with zeros
-    /// behind if fewer wait.
+    /// Appends the block of a header and the first bytes to a list of a pool: those of a data field of so many bytes,
+    /// with zeros behind if fewer wait.
     pub fn put_block(
         &mut self,
         header: &[u8; HEADER_BYTES],
@@ -115,7 +121,8 @@ impl Waiting {
         ensures room { self.old.room ≤ self.new.room }
         ensures ok { OnOk result (pool.new ≡ appended pool.old list (block_of header.now self.old.items field_bytes)) }
         ensures full { IsErr result ↔ (pool.old.spare < chunks_for (HEADER_BYTES + field_bytes)) }
-        ensures told { IfErr result (λ e. (e.need ≡ chunks_for (HEADER_BYTES + field_bytes)) × (e.spare ≡ pool.old.spare)) }
+        ensures told { IfErr result (λ e. (e.need ≡ chunks_for (HEADER_BYTES + field_bytes))
+            × (e.spare ≡ pool.old.spare)) }
         ensures err { OnErr result (pool.new ≡ pool.old) }
         ensures count { length pool.new.lists ≡ length pool.old.lists }
         ensures whole { IsWhole pool.new }

@@ -1,6 +1,8 @@
 -- Records are counted as they are given.
-use Rattle.std.proofs.Common.{◌≡◌, ◌≢◌, ◌⊎◌, ℕ, suc, ◌+◌, ◌^◌, ◌<◌, ◌≤◌, ◌==◌, Bool, true, false, cond, ◌&&◌, List, [], ◌∷◌, ◌++◌}
-use Rattle.std.proofs.Common.{length, refl, ap, sym, subst, ◌∙◌, inl, inr, arith, length-append, append_assoc, append-nil}
+use Rattle.std.proofs.Common.{◌≡◌, ◌≢◌, ◌⊎◌, ℕ, suc, ◌+◌, ◌^◌, ◌<◌, ◌≤◌, ◌==◌, Bool, true, false, cond, ◌&&◌, List, []}
+use Rattle.std.proofs.Common.{◌∷◌, ◌++◌}
+use Rattle.std.proofs.Common.{length, refl, ap, sym, subst, ◌∙◌, inl, inr, arith, length-append, append_assoc}
+use Rattle.std.proofs.Common.{append-nil}
 use Rattle.std.specs.Prelude.{nat_lt, is_some, flat_map, Option}
 use Rattle.std.specs.List.{filter}
 use Rattle.std.proofs.lemmas.Bool.{lt-ltb, ltb-true, ltb-false, ne_eqb}
@@ -24,7 +26,8 @@ use Rattle.modulate_run.specs.AsMachine.{IsNext, IsAll}
 use Rattle.modulate_run.specs.Counted.{is_muted, first_number, counted}
 use Rattle.modulate_run.specs.ModulateRun.{AreEarly}
 use Rattle.modulate_run.specs.declared.stop.Ran.{Ran}
-use Rattle.modulate_run.proofs.PlaceLemmas.{place, AllSome, place_within, place_end, place_all, place_of, none_left, same_cut, same_front}
+use Rattle.modulate_run.proofs.PlaceLemmas.{place, AllSome, place_within, place_end, place_all, place_of, none_left}
+use Rattle.modulate_run.proofs.PlaceLemmas.{same_cut, same_front}
 
 -- a record has its head at least
 pub some_bytes : (c : Config) → AllSome (spelled c)
@@ -69,11 +72,13 @@ same_ran : (a b c d e f : ℕ) → a ≡ b → c ≡ d → e ≡ f → ◌≡◌
     (record { first = b; records = d; muted = f })
 same_ran a b c d e f p q r = rw (p, q, r) refl
 
-pub added_one : (before : List FrameRecord) (next : FrameRecord) (w : Waiting) → next.number ≡ w.frame → mute_of next.content
+pub added_one : (before : List FrameRecord) (next : FrameRecord) (w : Waiting) → next.number ≡ w.frame
+    → mute_of next.content
     ≡ w.mute → length before < 2 ^ 31 → added (counted before) w ≡ counted (before ++ next ∷ [])
 added_one before next w number mute small =
     let size : length (before ++ next ∷ []) ≡ length before + 1 = length-append before (next ∷ []) in
-    same_ran _ _ _ _ _ _ (first_push before next w number) (held_small (length before + 1) (omega (arith, small)) ∙ sym size)
+    same_ran _ _ _ _ _ _ (first_push before next w number) (held_small (length before + 1) (omega (arith, small))
+    ∙ sym size)
     (muted_push before next w.mute mute small)
 
 pub early_one : (before : List FrameRecord) (next : FrameRecord) → AreEarly before → next.number < MOST_FRAMES
@@ -98,7 +103,8 @@ part_less c ended bytes taken w a = ap length a.cut ∙ length-append a.part a.r
 same_rest : (c : Config) (ended : Bool) (bytes taken : List ℕ) (v w : Waiting) (a : WaitsAs c ended bytes taken v)
     (b : WaitsAs c ended bytes taken w) → length b.rest ≡ length a.rest
 same_rest c ended bytes taken v w a b =
-    let size : length b.before ≡ length a.before = sym (place_of c ended bytes taken w b) ∙ place_of c ended bytes taken v a in
+    let size : length b.before ≡ length a.before = sym (place_of c ended bytes taken w b)
+    ∙ place_of c ended bytes taken v a in
     let s = same_cut a.before b.before a.next b.next a.after b.after size (sym a.all ∙ b.all) in
     let p = taken_len c ended bytes taken v a in
     let q = taken_len c ended bytes taken w b in
@@ -116,7 +122,8 @@ pub rest_of : (c : Config) (ended : Bool) (bytes taken : List ℕ) (w : Waiting)
 rest_of c ended bytes taken w a number count t = let s = same_rest c ended bytes taken w t.waiting a t.waits in let l =
     t.within in omega (arith, s, l)
 
-before_few : DueFollow → (c : Config) (ended : Bool) (bytes taken : List ℕ) (w : Waiting) (a : WaitsAs c ended bytes taken w)
+before_few : DueFollow → (c : Config) (ended : Bool) (bytes taken : List ℕ) (w : Waiting)
+    (a : WaitsAs c ended bytes taken w)
     → w.frame < MOST_FRAMES → length a.before < 2 ^ 31
 before_few follow c ended bytes taken w a small =
     let f = follow c ended bytes in
@@ -149,7 +156,8 @@ moved c ended bytes taken piece w a few =
     let all : length piece ≡ length a.rest = omega (arith, l, few) in
     let end : length a.part + length piece ≡ length (spelled c a.next) = omega (arith, all, p) in
     inr (
-      here ∙ ap (λ (k : ℕ). place (spelled c) (a.before ++ a.next ∷ a.after) (length (flat_map (spelled c) a.before) + k)) end
+      here ∙ ap (λ (k : ℕ). place (spelled c) (a.before ++ a.next ∷ a.after)
+          (length (flat_map (spelled c) a.before) + k)) end
           ∙ place_end (spelled c) a.before a.next a.after (some_bytes c),
       all,
     ))
@@ -165,7 +173,8 @@ frames_differ follow c ended bytes taken taken' w w' a b =
     let q = b.number in
     omega (arith, m, n, p, q)
 
-given_one : (c : Config) (before : List FrameRecord) (next : FrameRecord) (all : List FrameRecord) → all ≡ before ++ next ∷ []
+given_one : (c : Config) (before : List FrameRecord) (next : FrameRecord) (all : List FrameRecord)
+    → all ≡ before ++ next ∷ []
     → length (flat_map (spelled c) all) ≡ length (flat_map (spelled c) before) + length (spelled c next)
 given_one c before next all e =
     ap (λ (xs : List FrameRecord). length (flat_map (spelled c) xs)) e
@@ -181,7 +190,8 @@ pub still_next : DueFollow → (c : Config) (ended : Bool) (bytes taken piece : 
 still_next follow c ended bytes taken piece w w' ran n small a few same =
     let differ = frames_differ follow c ended bytes taken (taken ++ piece) w w' n.waits a in
     let size : length a.before ≡ length n.waits.before = omega (arith, differ, same) in
-    let cut = same_cut n.waits.before a.before n.waits.next a.next n.waits.after a.after size (sym n.waits.all ∙ a.all) in
+    let cut = same_cut n.waits.before a.before n.waits.next a.next n.waits.after a.after size (sym n.waits.all
+    ∙ a.all) in
     record {
       waits = a;
       ran_is = n.ran_is ∙ ap counted (sym cut.same_before);
@@ -214,7 +224,8 @@ then_next follow c ended bytes taken piece w w' ran n small a few other =
         same_front (v.before ++ v.next ∷ []) v.after a.before (a.next ∷ a.after) size
         (append_assoc v.before (v.next ∷ []) v.after ∙ sym v.all ∙ a.all) in
         let number : v.next.number < MOST_FRAMES = let m = v.number in omega (arith, m, small) in
-        let given : length (flat_map (spelled c) a.before) ≡ length (flat_map (spelled c) v.before) + length (spelled c v.next) =
+        let given : length (flat_map (spelled c) a.before) ≡ length (flat_map (spelled c) v.before) + length
+        (spelled c v.next) =
         given_one c v.before v.next a.before before in
         let t = taken_len c ended bytes taken w v in
         let u = taken_len c ended bytes (taken ++ piece) w' a in
@@ -244,7 +255,8 @@ then_all follow c ended bytes taken piece w ran n small all few =
     let size = ap length (sym all ∙ parts) in
     let sum = length-append (flat_map (spelled c) v.before) (flat_map (spelled c) (v.next ∷ v.after)) in
     let more = length-append (spelled c v.next) (flat_map (spelled c) v.after) in
-    let none : v.after ≡ [] = none_left (spelled c) v.after (some_bytes c) (omega (arith, t, p, both, size, sum, more, few)) in
+    let none : v.after ≡ [] = none_left (spelled c) v.after (some_bytes c)
+    (omega (arith, t, p, both, size, sum, more, few)) in
     let is : records_due c ended bytes ≡ v.before ++ v.next ∷ [] =
     v.all ∙ ap (λ (xs : List FrameRecord). v.before ++ v.next ∷ xs) none in
     let number : v.next.number < MOST_FRAMES = let m = v.number in omega (arith, m, small) in
@@ -308,7 +320,8 @@ first_next c ended bytes w a =
           nil_from_length a.part (omega (arith, t));
     }
 
-pub first_all : (c : Config) (ended : Bool) (bytes : List ℕ) → bytes_due c ended bytes ≡ [] → IsAll c ended bytes [] (counted [])
+pub first_all : (c : Config) (ended : Bool) (bytes : List ℕ) → bytes_due c ended bytes ≡ []
+    → IsAll c ended bytes [] (counted [])
 first_all c ended bytes all =
     let none : records_due c ended bytes ≡ [] = none_left (spelled c) (records_due c ended bytes) (some_bytes c)
     (ap length all) in

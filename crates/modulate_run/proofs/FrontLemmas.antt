@@ -14,7 +14,8 @@ abbrev pub AreGiven : Config → List ℕ → List ℕ → Type 0
 AreGiven c bytes taken = (k : ℕ) → k < length bytes → IsPrefix (bytes_due c false (take k bytes)) taken
 
 pub given_fed : (c : Config) (bytes piece taken : List ℕ) (count : ℕ) → AreGiven c bytes taken
-    → ((k : ℕ) → k < count → bytes_due c false (bytes ++ take k piece) ≡ taken) → AreGiven c (bytes ++ take count piece) taken
+    → ((k : ℕ) → k < count → bytes_due c false (bytes ++ take k piece) ≡ taken)
+    → AreGiven c (bytes ++ take count piece) taken
 given_fed c bytes piece taken count was first k less =
     bool_cases (nat_lt k (length bytes))
     (λ early.

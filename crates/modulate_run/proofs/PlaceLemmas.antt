@@ -1,5 +1,6 @@
 -- In which element of a list a byte stands, if each has bytes.
-use Rattle.std.proofs.Common.{◌≡◌, ℕ, suc, ◌+◌, ◌-◌, ◌<◌, ◌≤◌, Bool, List, [], ◌∷◌, ◌++◌, length, refl, ap, sym, ◌∙◌, arith}
+use Rattle.std.proofs.Common.{◌≡◌, ℕ, suc, ◌+◌, ◌-◌, ◌<◌, ◌≤◌, Bool, List, [], ◌∷◌, ◌++◌, length, refl, ap, sym, ◌∙◌}
+use Rattle.std.proofs.Common.{arith}
 use Rattle.std.proofs.Common.{length-append, lt-ltb, le-ltb}
 use Rattle.std.specs.Prelude.{nat_lt, if◌then◌else◌, flat_map}
 use Rattle.plp_config.specs.declared.config.Config.{Config}
@@ -21,7 +22,8 @@ place_zero f [] some = refl
 place_zero f (x ∷ xs) some = rw (lt-ltb 0 (length (f x)) (some x)) refl
 
 -- behind a front of the list
-pub place_front : {X : Type 0} (f : X → List ℕ) (xs ys : List X) (n : ℕ) → place f (xs ++ ys) (length (flat_map f xs) + n)
+pub place_front : {X : Type 0} (f : X → List ℕ) (xs ys : List X) (n : ℕ)
+    → place f (xs ++ ys) (length (flat_map f xs) + n)
     ≡ length xs + place f ys n
 place_front f [] ys n = let e : 0 + n ≡ n = omega arith in let z : 0 + place f ys n ≡ place f ys n = omega arith in
     ap (place f ys) e ∙ sym z
@@ -34,7 +36,8 @@ place_front f (x ∷ xs) ys n =
     rw (le-ltb (length (flat_map f (x ∷ xs)) + n) (length (f x)) past) (omega (arith, rest))
 
 -- within the element that comes next
-pub place_within : {X : Type 0} (f : X → List ℕ) (before : List X) (next : X) (after : List X) (n : ℕ) → n < length (f next)
+pub place_within : {X : Type 0} (f : X → List ℕ) (before : List X) (next : X) (after : List X) (n : ℕ)
+    → n < length (f next)
     → place f (before ++ next ∷ after) (length (flat_map f before) + n) ≡ length before
 place_within f before next after n less =
     let here : place f (next ∷ after) n ≡ 0 = rw (lt-ltb n (length (f next)) less) refl in
@@ -46,7 +49,8 @@ pub place_end : {X : Type 0} (f : X → List ℕ) (before : List X) (next : X) (
 place_end f before next after some =
     let none : length (f next) - length (f next) ≡ 0 = omega arith in
     let here : place f (next ∷ after) (length (f next)) ≡ 1 =
-    rw (le-ltb (length (f next)) (length (f next)) (omega arith)) (ap suc (ap (place f after) none ∙ place_zero f after some)) in
+    rw (le-ltb (length (f next)) (length (f next)) (omega arith)) (ap suc (ap (place f after) none
+    ∙ place_zero f after some)) in
     place_front f before (next ∷ after) (length (f next)) ∙ ap (λ (k : ℕ). length before + k) here
 
 -- at the end of all
@@ -54,7 +58,8 @@ pub place_all : {X : Type 0} (f : X → List ℕ) (xs ys : List X) → AllSome f
     ≡ length xs
 place_all f xs ys some =
     let e : length (flat_map f xs) ≡ length (flat_map f xs) + 0 = omega arith in
-    ap (place f (xs ++ ys)) e ∙ place_front f xs ys 0 ∙ ap (λ (k : ℕ). length xs + k) (place_zero f ys some) ∙ omega arith
+    ap (place f (xs ++ ys)) e ∙ place_front f xs ys 0 ∙ ap (λ (k : ℕ). length xs + k) (place_zero f ys some)
+    ∙ omega arith
 
 -- nothing has no bytes but no element
 pub none_left : {X : Type 0} (f : X → List ℕ) (xs : List X) → AllSome f → length (flat_map f xs) ≡ 0 → xs ≡ []
@@ -67,7 +72,8 @@ pub record SameCut {X : Type 0} (before before' : List X) (next next' : X) (afte
   pub same_next : next' ≡ next
   pub same_after : after' ≡ after
 
-pub same_cut : {X : Type 0} (before before' : List X) (next next' : X) (after after' : List X) → length before' ≡ length before
+pub same_cut : {X : Type 0} (before before' : List X) (next next' : X) (after after' : List X)
+    → length before' ≡ length before
     → before ++ next ∷ after ≡ before' ++ next' ∷ after' → SameCut before before' next next' after after'
 same_cut [] [] next next' after after' n e = record { same_before = refl; same_next = cc; same_after = cc }
 same_cut [] (y ∷ before') next next' after after' n e = absurd (omega (arith, n))
@@ -89,7 +95,8 @@ same_front (x ∷ xs) ys (x' ∷ xs') ys' n e =
     rw (first, same_front xs ys xs' ys' (omega (arith, n)) rest) refl
 
 -- the bytes that were taken end in the record that waits, or with it
-pub place_of : (c : Config) (finished : Bool) (bytes taken : List ℕ) (w : Waiting) (a : WaitsAs c finished bytes taken w)
+pub place_of : (c : Config) (finished : Bool) (bytes taken : List ℕ) (w : Waiting)
+    (a : WaitsAs c finished bytes taken w)
     → place (spelled c) (records_due c finished bytes) (length taken) ≡ length a.before
 place_of c finished bytes taken w a =
     let size : length taken ≡ length (flat_map (spelled c) a.before) + length a.part =

@@ -1,5 +1,6 @@
 -- What a machine does by its file.
-use Rattle.std.proofs.Common.{◌≡◌, ◌≢◌, ℕ, ◌+◌, ◌-◌, ◌<◌, ◌≤◌, ◌==◌, Bool, true, false, cond, List, [], ◌∷◌, ◌++◌, length, take}
+use Rattle.std.proofs.Common.{◌≡◌, ◌≢◌, ℕ, ◌+◌, ◌-◌, ◌<◌, ◌≤◌, ◌==◌, Bool, true, false, cond, List, [], ◌∷◌, ◌++◌}
+use Rattle.std.proofs.Common.{length, take}
 use Rattle.std.proofs.Common.{Option, Some, None, refl, ap, sym, subst, ◌∙◌, arith, append_assoc, append-nil, eqb-true}
 use Rattle.std.specs.Prelude.{Err, nat_lt, slice_index, flat_map}
 use Rattle.std.proofs.lemmas.Bool.{eqb-false, ltb-false, ltb-true}
@@ -46,7 +47,8 @@ record GivesEarly (c : Config) (ended : Bool) (bytes taken : List ℕ) : Type 0 
   rest : List ℕ
   is : flat_map (spelled c) given ≡ taken ++ rest
 
-gives_late : (c : Config) (ended : Bool) (bytes taken : List ℕ) (w : Waiting) (ran : Ran) → IsNext c ended bytes taken w ran
+gives_late : (c : Config) (ended : Bool) (bytes taken : List ℕ) (w : Waiting) (ran : Ran)
+    → IsNext c ended bytes taken w ran
     → w.frame ≡ MOST_FRAMES → GivesEarly c ended bytes taken
 gives_late c ended bytes taken w ran n late =
     let a = n.waits in
@@ -56,11 +58,13 @@ gives_late c ended bytes taken w ran n late =
       all = a.all;
       early = n.early;
       rest = [];
-      is = sym (append-nil _) ∙ ap (λ (l : List ℕ). flat_map (spelled c) a.before ++ l) (sym (n.late late)) ∙ sym a.taken_is
+      is = sym (append-nil _) ∙ ap (λ (l : List ℕ). flat_map (spelled c) a.before ++ l) (sym (n.late late))
+          ∙ sym a.taken_is
           ∙ sym (append-nil taken);
     }
 
-gives_next : (c : Config) (ended : Bool) (bytes taken : List ℕ) (w : Waiting) (ran : Ran) → IsNext c ended bytes taken w ran
+gives_next : (c : Config) (ended : Bool) (bytes taken : List ℕ) (w : Waiting) (ran : Ran)
+    → IsNext c ended bytes taken w ran
     → w.frame < MOST_FRAMES → GivesEarly c ended bytes taken
 gives_next c ended bytes taken w ran n small =
     let a = n.waits in
@@ -72,12 +76,14 @@ gives_next c ended bytes taken w ran n small =
       early = early_one a.before a.next n.early (let m = a.number in omega (arith, m, small));
       rest = a.rest;
       is = flat_map-append (spelled c) a.before (a.next ∷ [])
-          ∙ ap (λ (l : List ℕ). first ++ l) (append-nil (spelled c a.next) ∙ a.cut) ∙ sym (append_assoc first a.part a.rest)
+          ∙ ap (λ (l : List ℕ). first ++ l) (append-nil (spelled c a.next) ∙ a.cut)
+          ∙ sym (append_assoc first a.part a.rest)
           ∙ ap (λ (l : List ℕ). l ++ a.rest) (sym a.taken_is);
     }
 
 gives_early : (c : Config) (ended : Bool) (bytes taken : List ℕ) (o : Option Waiting) (ran : Ran)
-    → Behind c ended bytes taken o ran → ((w : Waiting) → o ≡ Some w → w.frame ≤ MOST_FRAMES) → GivesEarly c ended bytes taken
+    → Behind c ended bytes taken o ran → ((w : Waiting) → o ≡ Some w → w.frame ≤ MOST_FRAMES)
+    → GivesEarly c ended bytes taken
 gives_early c ended bytes taken None ran b few =
     record {
       given = records_due c ended bytes;
@@ -104,7 +110,8 @@ no_needs : (b : Bool) (input count : ℕ) → Needs (cond b Give End) input coun
 no_needs true input count h = h
 no_needs false input count h = h
 
-wanted : (o : Option Waiting) (e : Bool) (input count : ℕ) → Needs (step_of o e) input count → (o ≡ None) × (e ≡ false) × (0 ≡ input)
+wanted : (o : Option Waiting) (e : Bool) (input count : ℕ) → Needs (step_of o e) input count → (o ≡ None)
+    × (e ≡ false) × (0 ≡ input)
     × (count ≤ 1)
 wanted (Some w) e input count h = absurd (no_needs (nat_lt w.frame MOST_FRAMES) input count h)
 wanted None true input count h = absurd h
@@ -167,14 +174,16 @@ module _ (law : DueFront) (start now : ModulatorMachine) (files : ℕ → List �
   ends_in None false is ended end = absurd (let z : Read 0 1 read_ahead ≡ End = end in cc)
   ends_in None true is ended end =
       let a = all_of true is ended in
-      let whole : got ≡ files 0 = (whole_file (files 0) place got (has_ended 0 events) first (sym came.1.end ∙ ended)).0 in
+      let whole : got ≡ files 0 = (whole_file (files 0) place got (has_ended 0 events) first (sym came.1.end
+      ∙ ended)).0 in
       let ends : AreWhole files places = are_whole 1 files places events all are
       (λ input lt. let zero : 0 ≡ input = omega (arith, lt) in
       subst (λ (k : ℕ). has_ended k events ≡ true) zero (sym came.1.end ∙ ended)) in
       let records : records_of c got ≡ records_of c (files 0) = ap (records_of c) whole in
       bool_cases (now.ran.records == 0)
       (λ zero.
-      let few : length (records_of c got) ≡ 0 = sym (ap (λ (x : Ran). x.records) a.ran_is) ∙ eqb-true now.ran.records 0 zero in
+      let few : length (records_of c got) ≡ 0 = sym (ap (λ (x : Ran). x.records) a.ran_is)
+      ∙ eqb-true now.ran.records 0 zero in
       let empty : records_of c got ≡ [] = nil_from_length _ few in
       rw zero (ends, record { none = sym records ∙ empty; empty = sym a.all ∙ ap (flat_map (spelled c)) empty }))
       (λ some. rw some (
@@ -190,7 +199,8 @@ module _ (law : DueFront) (start now : ModulatorMachine) (files : ℕ → List �
   has_written : now.waiting ≡ None → now.ended ≡ false → HasWritten c (length got) (files 0) (gave events)
   has_written none going =
       let a = all_of false none going in
-      let is : take (length got) (files 0) ≡ got = ap (take (length got)) first.parts ∙ take_at got first.more (length got) refl in
+      let is : take (length got) (files 0) ≡ got = ap (take (length got)) first.parts
+      ∙ take_at got first.more (length got) refl in
       record {
         early = subst (λ (l : List ℕ). AreEarly (records_due c false l)) (sym is) a.early;
         is = sym a.all ∙ ap (bytes_due c false) (sym is);
@@ -211,7 +221,8 @@ module _ (law : DueFront) (start now : ModulatorMachine) (files : ℕ → List �
         has = has_written w.0 w.1;
       }
 
-  unread : (input : ℕ) → FallsShort (step_of now.waiting now.ended) input (slice_index places input - length (fed input events))
+  unread : (input : ℕ) → FallsShort (step_of now.waiting now.ended) input (slice_index places input -
+      length (fed input events))
       → modulate_work c files (Err (Files (ReadFault input))) places (gave events)
   unread input wants =
       let w = falls_short now.waiting now.ended input _ wants in
@@ -255,15 +266,18 @@ abbrev reach_of : ModulatorMachine → ℕ → ℕ
 reach_of m input = fed_of m.modulator + read_ahead
 
 abbrev Wrote : ModulatorMachine → List ℕ → List Event → ModulatorMachine → List ℕ → Type 0
-Wrote start places events now bytes = GaveSome reach_of (λ m. step_of m.waiting m.ended) (Becomes start) 1 places events now bytes
+Wrote start places events now bytes = GaveSome reach_of (λ m. step_of m.waiting m.ended) (Becomes start)
+    1 places events now bytes
 
-unwritten : DueFront → (start now : ModulatorMachine) (files : ℕ → List ℕ) (places : List ℕ) (events : List Event) (bytes : List ℕ)
+unwritten : DueFront → (start now : ModulatorMachine) (files : ℕ → List ℕ) (places : List ℕ) (events : List Event)
+    (bytes : List ℕ)
     → length places ≡ 1 → AreFed 1 files places events → Wrote start places events now bytes
     → HasSome (config_of start.modulator) (slice_index places 0) (files 0) bytes
 unwritten law start now files places events bytes all are g =
     let s = config_of start.modulator in
     subst (λ (k : Config). HasSome k (slice_index places 0) (files 0) bytes) g.came_late.0
-    (gives_some law start now files places (events ++ g.late) all (fed_since 1 files places events g.late g.only are) g.came_late
+    (gives_some law start now files places (events ++ g.late) all (fed_since 1 files places events g.late g.only are)
+    g.came_late
     bytes g.more g.some g.parts (λ taken less.
     let within = g.within 0 (omega arith) in
     let count = g.came.1.count in
@@ -272,11 +286,13 @@ unwritten law start now files places events bytes all are g =
     let due = subst (λ (k : Config). IsPrefix (bytes_due k false (take taken (files 0))) (gave events)) same p in
     (due.0 ++ g.front, g.is ∙ ap (λ (l : List ℕ). l ++ g.front) due.1 ∙ append_assoc _ due.0 g.front)))
 
-pub modulate_does : DueFront → (start : ModulatorMachine) → DoesWork (modulate_work (config_of start.modulator)) 1 reach_of
+pub modulate_does : DueFront → (start : ModulatorMachine) → DoesWork (modulate_work (config_of start.modulator))
+    1 reach_of
     (λ m. step_of m.waiting m.ended) (Becomes start) (λ m. ending_of m.waiting m.ran)
 modulate_does law start = record {
   ends = λ files places events now all are within came end.
-      subst (λ (k : Config). IsRightAtEnd (modulate_work k) files places (gave events) (ending_of now.waiting now.ran)) came.0
+      subst (λ (k : Config). IsRightAtEnd (modulate_work k) files places (gave events) (ending_of now.waiting now.ran))
+      came.0
       (ends_in law start now files places events all are came now.waiting now.ended refl refl end);
   too_long = λ files places events now input all are within came lt most wants.
       subst (λ (k : Config). modulate_work k files (Err (Files (TooLong input))) places (gave events)) came.0

@@ -1,5 +1,6 @@
 -- The modulator as a machine between files. Of public clauses none cites this module.
-use Rattle.std.specs.Prelude.{◌≡◌, ℕ, ◌<◌, ◌==◌, nat_lt, Bool, true, false, List, [], length, take, Option, Some, None, Result}
+use Rattle.std.specs.Prelude.{◌≡◌, ℕ, ◌<◌, ◌==◌, nat_lt, Bool, true, false, List, [], length, take, Option, Some, None}
+use Rattle.std.specs.Prelude.{Result}
 use Rattle.std.specs.Prelude.{Ok, Err, if◌then◌else◌}
 use Rattle.plp_config.specs.declared.config.Config.{Config}
 use Rattle.plp_config.specs.declared.moment.TheConstants.{MOST_FRAMES}
@@ -23,7 +24,8 @@ step_of (Some w) ended = if nat_lt w.frame MOST_FRAMES then Give else End
 step_of None true = End
 step_of None false = Read 0 1 read_ahead
 
--- Behind the records that were counted, which are early, the one that waits comes next; or none does, and all were given.
+-- Behind the records that were counted, which are early, the one that waits comes next; or none does, and all were
+-- given.
 pub record IsNext (c : Config) (ended : Bool) (bytes taken : List ℕ) (w : Waiting) (ran : Ran) : Type 0 where
   pub waits : WaitsAs c ended bytes taken w
   pub ran_is : ran ≡ counted waits.before

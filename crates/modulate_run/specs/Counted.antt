@@ -14,4 +14,9 @@ first_number [] = 0
 first_number (x ∷ xs) = x.number
 
 abbrev pub counted : List FrameRecord → Ran
-counted records = record { first = first_number records; records = length records; muted = length (filter is_muted records) }
+counted records = record {
+  first = first_number records;
+  records = length records;
+  muted = length
+      (filter is_muted records);
+}

@@ -16,7 +16,8 @@ MustRun c file (Err TooManyFrames) = ¬ (AreEarly (records_of c file))
 
 -- A file decides how a run over it must end.
 abbrev pub OneRun : Type 0
-OneRun = (c : Config) (file : List ℕ) (result other : Result Ran ModulateStop) → MustRun c file result → MustRun c file other
+OneRun = (c : Config) (file : List ℕ) (result other : Result Ran ModulateStop) → MustRun c file result
+    → MustRun c file other
     → result ≡ other
 
 -- A run over a file has an ending.

@@ -26,7 +26,8 @@ output_of c bytes = bytes_due c true bytes
 abbrev pub AreEarly : List FrameRecord → Type 0
 AreEarly records = list_all (λ x. nat_lt x.number MOST_FRAMES) records ≡ true
 
--- By so many bytes of a file no record is due whose number none may have, and the bytes of those that are due were written.
+-- By so many bytes of a file no record is due whose number none may have, and the bytes of those that are due were
+-- written.
 pub record HasWritten (c : Config) (taken : ℕ) (file bytes : List ℕ) : Type 0 where
   pub early : AreEarly (records_due c false (take taken file))
   pub is : bytes ≡ bytes_due c false (take taken file)
@@ -41,8 +42,8 @@ pub record HasEarly (c : Config) (file bytes : List ℕ) : Type 0 where
   pub number : next.number ≡ MOST_FRAMES
   pub is : bytes ≡ flat_map (spelled c) before
 
--- Of some first records, each of a frame whose number one may have, some bytes were written, but not all; and all that is due by
--- fewer bytes than were read by more than are read ahead.
+-- Of some first records, each of a frame whose number one may have, some bytes were written, but not all; and all that
+-- is due by fewer bytes than were read by more than are read ahead.
 pub record HasSome (c : Config) (place : ℕ) (file bytes : List ℕ) : Type 0 where
   pub given : List FrameRecord
   pub later : List FrameRecord
@@ -53,7 +54,8 @@ pub record HasSome (c : Config) (place : ℕ) (file bytes : List ℕ) : Type 0 w
   pub begins : flat_map (spelled c) given ≡ bytes ++ more
   pub since : (taken : ℕ) → taken + read_ahead < place → IsPrefix (bytes_due c false (take taken file)) bytes
 
--- There are records, each of a frame whose number one may have, the output has their bytes, and these are their numbers.
+-- There are records, each of a frame whose number one may have, the output has their bytes, and these are their
+-- numbers.
 pub record HasAll (c : Config) (file : List ℕ) (ran : Ran) (bytes : List ℕ) : Type 0 where
   pub some : records_of c file ≢ []
   pub early : AreEarly (records_of c file)

@@ -10,8 +10,8 @@ use plp_config::Plan;
 use ports::Desk;
 use std::alloc::Global;
 
-/// Runs the modulator of a plan: opens the input, creates the output, and writes each record as soon as it is due, before it
-/// reads on. It reads 65,536 bytes ahead at most. All memory is taken before the input is opened.
+/// Runs the modulator of a plan: opens the input, creates the output, and writes each record as soon as it is due,
+/// before it reads on. It reads 65,536 bytes ahead at most. All memory is taken before the input is opened.
 /// Behind the end the desk takes note of the causes for which frames are muted.
 pub fn run<D: Desk>(
     alloc: Global,
@@ -21,7 +21,8 @@ pub fn run<D: Desk>(
     desk: &mut D,
 ) -> Result<Ran, RunStop<ModulateStop>>
     requires apart { input.now ≢ out.now }
-    ensures ends { Ends (modulate_work plan.now) (D.state desk.old) (D.state desk.new) (Into out.now) (input.now ∷ []) result }
+    ensures ends { Ends (modulate_work plan.now) (D.state desk.old) (D.state desk.new) (Into out.now)
+        (input.now ∷ []) result }
 {
     let mut machine = ModulatorMachine::open(alloc, plan)?;
     let ended = run_work_over(alloc, &mut machine, input, Output::File(out), desk);

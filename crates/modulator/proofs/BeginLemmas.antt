@@ -1,9 +1,11 @@
 -- The record that waits is begun.
-use Rattle.std.proofs.Common.{◌≡◌, ℕ, ◌≤◌, ◌==◌, ◌&&◌, Bool, true, false, cond, List, [], Option, Some, None, refl, ap, sym}
+use Rattle.std.proofs.Common.{◌≡◌, ℕ, ◌≤◌, ◌==◌, ◌&&◌, Bool, true, false, cond, List, [], Option, Some, None, refl, ap}
+use Rattle.std.proofs.Common.{sym}
 use Rattle.std.proofs.Common.{subst, ◌∙◌, arith, append-nil}
 use Rattle.std.specs.Prelude.{is_some, nat_lt, flat_map}
 use Rattle.std.proofs.lemmas.Bool.{ltb-true, eqb-true}
-use Rattle.terms.proofs.OptionLemmas.{some_injective, none_some}
+use Rattle.std.proofs.lemmas.Option.{same_Some}
+use Rattle.terms.proofs.OptionLemmas.{none_some}
 use Rattle.t2mi_packet.specs.declared.packet.Packet.{Packet}
 use Rattle.frame_groups.specs.Groups.{Group}
 use Rattle.frame_groups.specs.Modulated.{Numbered, Rules, FrameRecord}
@@ -48,20 +50,21 @@ own_by (Some n) next closing fault w e = go closing (nat_lt next n) (next == n) 
         (cond (c && u) (Some (record { frame = n; mute = fault })) None) ≡ Some w
         → WaitsFor (record { number = Some n; next = next; closing = c; fault = fault }) w
     go c true u k l e =
-        let same : record { frame = next; mute = Some Gap } ≡ w = some_injective _ w e in
+        let same : record { frame = next; mute = Some Gap } ≡ w = same_Some _ w e in
         let less = ltb-true next n k in
         record {
-          below = λ m is. let f = ap (λ (w : Waiting). w.frame) same in let i = some_injective n m is in
+          below = λ m is. let f = ap (λ (w : Waiting). w.frame) same in let i = same_Some n m is in
               omega (arith, less, f, i);
           some = refl;
           frame = sym (ap (λ (w : Waiting). w.frame) same);
           own = λ none. none_some Gap (sym none ∙ sym (ap (λ (w : Waiting). w.mute) same));
         }
     go true false true k l e =
-        let same : record { frame = n; mute = fault } ≡ w = some_injective _ w e in
+        let same : record { frame = n; mute = fault } ≡ w = same_Some _ w e in
         let here = eqb-true next n l in
         record {
-          below = λ m is. let f = ap (λ (w : Waiting). w.frame) same in let i = some_injective n m is in omega (arith, f, i);
+          below = λ m is. let f = ap (λ (w : Waiting). w.frame) same in let i = same_Some n m is in
+              omega (arith, f, i);
           some = refl;
           frame = sym (here ∙ ap (λ (w : Waiting). w.frame) same);
           own = λ none. record {
@@ -78,13 +81,15 @@ pub waits_for : (at : Progress) (w : Waiting) → waiting_of at ≡ Some w → W
 waits_for at w e = own_by at.number at.next at.closing at.fault w e
 
 -- the own record of a group is not muted only if the group passes
-pub passes : (r : Rules) (past : List Numbered) (g : Option Group) (at : Progress) (ps : List Packet) (given : List FrameRecord)
+pub passes : (r : Rules) (past : List Numbered) (g : Option Group) (at : Progress) (ps : List Packet)
+    (given : List FrameRecord)
     (h : Group) (w : Waiting)
     → Sequenced r past g at.number at.next at.closing at.fault ps given → g ≡ Some h → IsOwn at w → w.mute ≡ None
     → r.fault past h w.frame ≡ None
 passes r past None at ps given h w s e own none = none_some h e
 passes r past (Some k) at ps given h w (closed, a, f) e own none =
-    subst (λ (k : Group). r.fault past k w.frame ≡ None) (some_injective k h e) (sym (f.fault_is own.closing w.frame own.number)
+    subst (λ (k : Group). r.fault past k w.frame ≡ None) (same_Some k h e)
+    (sym (f.fault_is own.closing w.frame own.number)
     ∙ own.fault ∙ none)
 
 -- what is begun of the record that waits
@@ -112,7 +117,8 @@ begun_gives old new bytes given taken same on begun h e =
                 let l : h.keeps.group ≡ Some o = sym m.same ∙ k in
                 ap (λ (c : Config). spelled c (record_of o w)) net
                 ∙ sym (begun w h.keeps.past o j (subst (Holds old.sequence.group h.keeps.past) l h.keeps.holds)
-                (λ none. passes (rules old.sequence.group.network) h.keeps.past h.keeps.group old.sequence.progress _ given o w
+                (λ none. passes (rules old.sequence.group.network) h.keeps.past h.keeps.group old.sequence.progress
+                _ given o w
                 h.keeps.sequenced l ((waits_for old.sequence.progress w j).own none) none));
             idle = λ _. refl;
           };

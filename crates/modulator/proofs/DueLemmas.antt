@@ -1,5 +1,6 @@
 -- Laws of the records that are due.
-use Rattle.std.proofs.Common.{◌≡◌, ℕ, ◌+◌, ◌-◌, Bool, true, false, List, [], ◌∷◌, ◌++◌, map, Option, Some, None, refl, ap, sym}
+use Rattle.std.proofs.Common.{◌≡◌, ℕ, ◌+◌, ◌-◌, Bool, true, false, List, [], ◌∷◌, ◌++◌, map, Option, Some, None, refl}
+use Rattle.std.proofs.Common.{ap, sym}
 use Rattle.std.proofs.Common.{subst, ◌∙◌, append_assoc}
 use Rattle.std.specs.List.{AllByRecursion, range_with_len}
 use Rattle.std.proofs.lemmas.Bool.{true≢false}
@@ -13,7 +14,8 @@ use Rattle.plp_config.specs.declared.config.Config.{Config}
 use Rattle.frame_groups.specs.Due.{due}
 use Rattle.frame_groups.specs.Groups.{Group, groups}
 use Rattle.frame_groups.specs.Laws.{AreFrom, without_last, ModulatedFront, NumbersFollow}
-use Rattle.frame_groups.specs.Modulated.{FrameRecord, Content, content_of, gap_record, group_record, gaps_behind, own_record}
+use Rattle.frame_groups.specs.Modulated.{FrameRecord, Content, content_of, gap_record, group_record, gaps_behind}
+use Rattle.frame_groups.specs.Modulated.{own_record}
 use Rattle.frame_groups.specs.Modulated.{Numbered, number_behind, past_behind, past_after, records_with, records_from}
 use Rattle.frame_groups.specs.Modulated.{modulated}
 use Rattle.frame_groups.specs.Modulated.Content.{Whole, Muted}
@@ -31,7 +33,8 @@ use Rattle.modulator.proofs.StandsLemmas.{due_front}
 pub due_fronts : AcceptedFront → ModulatedFront → DueFront
 due_fronts accepted front c finished bytes more =
     let a = accepted c.pid bytes more in
-    let parted : packets_of (accepted_of c.pid (bytes ++ more)) ≡ packets_of (accepted_of c.pid bytes) ++ packets_of a.0 =
+    let parted : packets_of (accepted_of c.pid (bytes ++ more)) ≡ packets_of (accepted_of c.pid bytes)
+    ++ packets_of a.0 =
     ap packets_of a.1 ∙ map-append (λ (a : AcceptedPacket). packet_of a.bytes) (accepted_of c.pid bytes) a.0 in
     let d = due_front front (rules c) finished (packets_of (accepted_of c.pid bytes)) (packets_of a.0) in
     (d.0, ap (due (rules c) finished) parted ∙ d.1)
@@ -109,7 +112,8 @@ module _ (c : Config) (gs : List Group) where
       (past_after_push (rules c) [] before g)
       (all_right (before ++ g ∷ []) after (is ∙ sym (append_assoc before (g ∷ []) after))))
 
-  without_right : (xs : List FrameRecord) → AllByRecursion (IsRight c gs) xs → AllByRecursion (IsRight c gs) (without_last xs)
+  without_right : (xs : List FrameRecord) → AllByRecursion (IsRight c gs) xs
+      → AllByRecursion (IsRight c gs) (without_last xs)
   without_right [] h = tt
   without_right (x ∷ []) h = tt
   without_right (x ∷ y ∷ xs) h = (h.0, without_right (y ∷ xs) h.1)
@@ -122,7 +126,8 @@ module _ (c : Config) (gs : List Group) where
     right_spelled law plan ids xs h.1,
   )
 
-modulated_right : (c : Config) (ps : List Packet) → AllByRecursion (IsRight c (groups c.frames ps)) (modulated (rules c) ps)
+modulated_right : (c : Config) (ps : List Packet) → AllByRecursion (IsRight c (groups c.frames ps))
+    (modulated (rules c) ps)
 unfolding modulated
 modulated_right c ps = all_right c (groups c.frames ps) [] (groups c.frames ps) refl
 

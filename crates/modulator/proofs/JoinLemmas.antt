@@ -1,5 +1,6 @@
 -- Whether a group that is closed was the join: then records are due, and else none.
-use Rattle.std.proofs.Common.{◌≡◌, ℕ, ◌-◌, ◌≤◌, ◌<◌, ◌==◌, Bool, true, false, List, [], ◌∷◌, ◌++◌, length, Option, Some, None}
+use Rattle.std.proofs.Common.{◌≡◌, ℕ, ◌-◌, ◌≤◌, ◌<◌, ◌==◌, Bool, true, false, List, [], ◌∷◌, ◌++◌, length, Option, Some}
+use Rattle.std.proofs.Common.{None}
 use Rattle.std.proofs.Common.{refl, ap, sym, subst, ◌∙◌, arith, append-nil, length-append}
 use Rattle.std.specs.Prelude.{is_some, nat_lt, map}
 use Rattle.std.specs.List.{range_with_len}
@@ -8,7 +9,8 @@ use Rattle.terms.proofs.OptionLemmas.{none_some, neither}
 use Rattle.t2mi_packet.specs.declared.packet.Packet.{Packet}
 use Rattle.t2mi_stream.specs.UnpiperStandsFor.{is_ready}
 use Rattle.frame_groups.specs.Groups.{Group}
-use Rattle.frame_groups.specs.Modulated.{Numbered, Rules, FrameRecord, gap_record, group_record, number_behind, gaps_behind}
+use Rattle.frame_groups.specs.Modulated.{Numbered, Rules, FrameRecord, gap_record, group_record, number_behind}
+use Rattle.frame_groups.specs.Modulated.{gaps_behind}
 use Rattle.frame_groups.specs.Modulated.{own_record, past_with, past_after, records_with, records_from}
 use Rattle.frame_groups.specs.Laws.{ModulatedFront}
 use Rattle.frame_groups.specs.Due.{RecordsAreDue}
@@ -20,7 +22,8 @@ use Rattle.frame_groups.specs.Tests.{rules}
 use Rattle.modulator.specs.Modulating.{StandsAt, IsSettled, has_record}
 use Rattle.modulator.specs.StandsFor.{records_due}
 use Rattle.modulator.specs.declared.modulating.Modulating.{Modulating}
-use Rattle.modulator.proofs.StandsLemmas.{IsIdle, all_given, comes_next}
+use Rattle.t2mi_stream.proofs.NextLemmas.{IsIdle}
+use Rattle.modulator.proofs.StandsLemmas.{all_given, comes_next}
 use Rattle.modulator.proofs.TookLemmas.{now_of}
 
 none_from : {X : Type 0} (o : Option X) → is_some o ≡ false → o ≡ None
@@ -40,7 +43,8 @@ some_behind r (g ∷ gs) b past e = go (some_behind r gs b past) (number_behind 
     go more (Some n) e = omega arith
 
 -- a group with a number adds a record
-some_with : (r : Rules) (others : List FrameRecord) (past : List Numbered) (h : Group) (n : ℕ) → Some n ≡ number_behind r past h
+some_with : (r : Rules) (others : List FrameRecord) (past : List Numbered) (h : Group) (n : ℕ)
+    → Some n ≡ number_behind r past h
     → 0 < length (others ++ records_with r past h)
 some_with r others past h n e =
     subst (λ (o : Option ℕ). 0 < length (others ++ (gaps_behind past o ++ own_record r past h o))) e
@@ -51,7 +55,8 @@ some_with r others past h n e =
     ))
 
 -- the number of a group under way is known behind the join alone
-some_before : (r : Rules) (closed : List Group) (past : List Numbered) (h : Group) (n : ℕ) → past ≡ past_after r [] closed
+some_before : (r : Rules) (closed : List Group) (past : List Numbered) (h : Group) (n : ℕ)
+    → past ≡ past_after r [] closed
     → Some n ≡ known_number r past h → 0 < length (records_from r [] closed)
 some_before r closed [] h n is e = none_some n (sym e)
 some_before r closed (b ∷ past) h n is e = some_behind r closed b past (sym is)
@@ -59,7 +64,8 @@ some_before r closed (b ∷ past) h n is e = some_behind r closed b past (sym is
 -- a closed group with a number whose record does not wait: it was given
 given_own : (r : Rules) (closed : List Group) (past : List Numbered) (h : Group) (n next : ℕ) (fault : Option MuteCause)
     (given : List FrameRecord)
-    → Follows r closed past h (Some n) next true fault given → waits_by (Some n) next true fault ≡ false → 0 < length given
+    → Follows r closed past h (Some n) next true fault given → waits_by (Some n) next true fault ≡ false
+    → 0 < length given
 given_own r closed past h n next fault given f w =
     let t = neither (nat_lt next n) (next == n) _ _ w in
     let low : n ≤ next = ltb-false next n t.0 in
@@ -69,9 +75,11 @@ given_own r closed past h n next fault given f w =
     (some_with r (records_from r [] closed) past h n f.number_is)
 
 -- a group under way with a number, no gap before it: those before were given
-given_others : (r : Rules) (closed : List Group) (past : List Numbered) (h : Group) (n next : ℕ) (fault : Option MuteCause)
+given_others : (r : Rules) (closed : List Group) (past : List Numbered) (h : Group) (n next : ℕ)
+    (fault : Option MuteCause)
     (given : List FrameRecord)
-    → Follows r closed past h (Some n) next false fault given → waits_by (Some n) next false fault ≡ false → 0 < length given
+    → Follows r closed past h (Some n) next false fault given → waits_by (Some n) next false fault ≡ false
+    → 0 < length given
 given_others r closed past h n next fault given f w =
     let t = neither (nat_lt next n) false _ (record { frame = n; mute = fault }) w in
     let low : n ≤ next = ltb-false next n t.0 in
@@ -87,9 +95,11 @@ given_others r closed past h n next fault given f w =
 given_some : (r : Rules) (past : List Numbered) (g : Option Group) (number : Option ℕ) (next : ℕ) (closing : Bool)
     (fault : Option MuteCause)
     (ps : List Packet) (given : List FrameRecord)
-    → Sequenced r past g number next closing fault ps given → is_some number ≡ true → waits_by number next closing fault ≡ false
+    → Sequenced r past g number next closing fault ps given → is_some number ≡ true
+    → waits_by number next closing fault ≡ false
     → 0 < length given
-given_some r past None number next closing fault ps given (a, o, b, c, d) some w = absurd (true≢false (sym some ∙ ap is_some b))
+given_some r past None number next closing fault ps given (a, o, b, c, d) some w = absurd
+    (true≢false (sym some ∙ ap is_some b))
 given_some r past (Some h) None next closing fault ps given q some w = absurd (true≢false (sym some))
 given_some r past (Some h) (Some n) next true fault ps given (closed, a, f) some w =
     given_own r closed past h n next fault given f w
@@ -118,14 +128,16 @@ module _ (laws : RecordsAreDue) (front : ModulatedFront) (m : Modulating) (bytes
       go : (t : Bool) → has_record m ≡ t → 0 < length (records_due m.sequence.group.network m.finished bytes)
       go true w =
           let now =
-          now_of (rules m.sequence.group.network) h.keeps.past h.keeps.group m.sequence.progress _ given h.keeps.sequenced w in
+          now_of (rules m.sequence.group.network) h.keeps.past h.keeps.group m.sequence.progress _ given
+          h.keeps.sequenced w in
           let next = comes_next laws front m bytes given now.waiting now.group none now.is h now.has in
           subst (λ (l : List FrameRecord). 0 < length l) (sym next.1)
           (omega (arith, length-append given (record_of now.group now.waiting ∷ next.0)))
       go false w =
           let at = m.sequence.progress in
           subst (λ (l : List FrameRecord). 0 < length l) (sym (idle w))
-          (given_some (rules m.sequence.group.network) h.keeps.past h.keeps.group at.number at.next at.closing at.fault _ given
+          (given_some (rules m.sequence.group.network) h.keeps.past h.keeps.group at.number at.next at.closing
+          at.fault _ given
           h.keeps.sequenced some w)
 
   -- it was not: none are
@@ -134,5 +146,6 @@ module _ (laws : RecordsAreDue) (front : ModulatedFront) (m : Modulating) (bytes
   joined_none not_some =
       let at = m.sequence.progress in
       idle (ap (λ (o : Option ℕ). waits_by o at.next at.closing at.fault) (none_from at.number not_some))
-      ∙ given_none (rules m.sequence.group.network) h.keeps.past h.keeps.group at.number at.next at.closing at.fault _ given
+      ∙ given_none (rules m.sequence.group.network) h.keeps.past h.keeps.group at.number at.next at.closing
+      at.fault _ given
       h.keeps.sequenced not_some

@@ -1,5 +1,6 @@
 -- How much can be taken before bytes are wanted.
-use Rattle.std.proofs.Common.{◌≡◌, ℕ, suc, ◌+◌, ◌*◌, ◌≤◌, ◌<◌, Bool, true, false, cond, Option, Some, None, refl, ap, sym, arith}
+use Rattle.std.proofs.Common.{◌≡◌, ℕ, suc, ◌+◌, ◌*◌, ◌≤◌, ◌<◌, Bool, true, false, cond, Option, Some, None, refl, ap}
+use Rattle.std.proofs.Common.{sym, arith}
 use Rattle.std.proofs.Common.{◌∙◌, ◌++◌, List, length, take, length-append}
 use Rattle.std.proofs.lemmas.List.{length-take-le}
 use Rattle.std.proofs.Math.Nat.{mul-le-mul_right, suc-mul}
@@ -39,7 +40,8 @@ made_up a b k new old less few =
 pub ahead_by_step : (u v : Unpiper) (at to : Progress) → steps_left v < steps_left u → IsWithin most_number to
     → ahead_by v to ≤ ahead_by u at
 unfolding ahead_by
-ahead_by_step u v at to less near = made_up (steps_left v) (steps_left u) most_records (records_left to) (records_left at) less
+ahead_by_step u v at to less near = made_up (steps_left v) (steps_left u) most_records (records_left to)
+    (records_left at) less
     (few_left to near)
 
 -- the unit is as it was, and of the group no more records are left
@@ -66,7 +68,8 @@ part_taken true a j k new old now same less = let e = ap (λ (i : ℕ). a * i) s
 part_taken false a j k new old now same less = absurd (true≢false (sym now))
 
 -- the record was taken whole, and the next one that waits is begun
-pub whole_taken : (now next : Bool) (a b j k new old : ℕ) → now ≡ true → j ≡ k → a < b → (next ≡ true → new ≤ k) → 0 < old
+pub whole_taken : (now next : Bool) (a b j k new old : ℕ) → now ≡ true → j ≡ k → a < b → (next ≡ true → new ≤ k)
+    → 0 < old
     → a * j + cond next new 0 < b * k + cond now old 0
 whole_taken true true a b j k new old now same less few some =
     let e = ap (λ (i : ℕ). a * i) same in

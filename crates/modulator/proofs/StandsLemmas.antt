@@ -1,12 +1,14 @@
 -- Bytes in, records out.
-use Rattle.std.proofs.Common.{◌≡◌, ℕ, zero, suc, ◌+◌, ◌-◌, ◌≤◌, ◌<◌, Bool, true, false, List, [], ◌∷◌, ◌++◌, length, take, drop}
+use Rattle.std.proofs.Common.{◌≡◌, ℕ, zero, suc, ◌+◌, ◌-◌, ◌≤◌, ◌<◌, Bool, true, false, List, [], ◌∷◌, ◌++◌, length}
+use Rattle.std.proofs.Common.{take, drop}
 use Rattle.std.proofs.Common.{Option, Some, None, refl, ap, ap₂, sym, subst, ◌∙◌, ⊎_elim, inl, inr, arith, append_assoc}
 use Rattle.std.proofs.Common.{append-nil, length-append}
 use Rattle.std.specs.Prelude.{is_some, option_map, slice_get, IfSome, IfNone}
 use Rattle.std.proofs.Math.Seq.{take-add}
 use Rattle.std.proofs.lemmas.Bool.{true≢false, false_from_ne_true, cases_lt}
 use Rattle.std.proofs.lemmas.List.{map-append, nil_from_length, take_rest, take_all, take-append-le, take-append-drop}
-use Rattle.terms.proofs.OptionLemmas.{some_injective, none_some}
+use Rattle.std.proofs.lemmas.Option.{slice_get_past, same_Some}
+use Rattle.terms.proofs.OptionLemmas.{none_some}
 use Rattle.t2mi_packet.specs.declared.packet.Packet.{Packet}
 use Rattle.frame_groups.specs.Groups.{Group, is_counted}
 use Rattle.frame_groups.specs.Grouping.{key_of}
@@ -16,7 +18,7 @@ use Rattle.frame_groups.specs.Laws.{without_last, ModulatedFront}
 use Rattle.frame_groups.specs.Due.{due, ComesNext, DueLaw, RecordsAreDue}
 use Rattle.frame_groups.specs.Records.{record_of}
 use Rattle.frame_groups.specs.Sequenced.{Keeps, Sequenced, Ends, record_now}
-use Rattle.frame_groups.specs.Waits.{waits, waiting_of}
+use Rattle.frame_groups.specs.Waits.{waiting_of}
 use Rattle.frame_groups.specs.declared.waiting.Waiting.{Waiting}
 use Rattle.t2mi_stream.specs.Accepted.{AcceptedPacket}
 use Rattle.t2mi_stream.specs.Events.{UnpiperEvent, fed, released}
@@ -25,38 +27,32 @@ use Rattle.t2mi_stream.specs.Laws.{EventsPush, AcceptedFront}
 use Rattle.t2mi_stream.specs.Units.{accepted_of}
 use Rattle.t2mi_stream.specs.UnpiperStandsFor.{UnpiperStandsFor, is_ready, next_packet, AllReleased}
 use Rattle.t2mi_stream.specs.declared.unpiper.Unpiper.{Unpiper}
+use Rattle.t2mi_stream.proofs.NextLemmas.{has_bytes, IsIdle}
 use Rattle.frame_groups.specs.Tests.{rules}
 use Rattle.open_group.specs.Holds.{Holds}
 use Rattle.open_group.specs.declared.group.PooledGroup.{PooledGroup}
 use Rattle.plp_config.specs.declared.config.Config.{Config}
-use Rattle.modulator.specs.Modulating.{packet_of, packets_of, worked, IsAhead, StandsAt, IsSettled, has_record, Course, course_of}
+use Rattle.modulator.specs.Modulating.{packet_of, packets_of, worked, IsAhead, StandsAt, IsSettled, has_record, Course}
+use Rattle.modulator.specs.Modulating.{course_of}
 use Rattle.modulator.specs.Modulating.{HoldsOn}
 use Rattle.modulator.specs.StandsFor.{records_due}
 use Rattle.modulator.specs.declared.modulating.Modulating.{Modulating}
 
 -- one element more
-take_next : {X : Type 0} (xs : List X) (i : ℕ) (a : X) → slice_get xs i ≡ Some a → (take (suc i) xs ≡ take i xs ++ a ∷ [])
+take_next : {X : Type 0} (xs : List X) (i : ℕ) (a : X) → slice_get xs i ≡ Some a
+    → (take (suc i) xs ≡ take i xs ++ a ∷ [])
     × (suc i ≤ length xs)
 take_next [] i a e = none_some a e
-take_next (x ∷ xs) zero a e = (ap (λ y. y ∷ []) (some_injective x a e), omega arith)
+take_next (x ∷ xs) zero a e = (ap (λ y. y ∷ []) (same_Some x a e), omega arith)
 take_next (x ∷ xs) (suc i) a e = let r = take_next xs i a e in (ap (λ l. x ∷ l) r.0, omega (arith, r.1))
-
--- the packet that waits, by its bytes
-pub record HasBytes (o : Option AcceptedPacket) (seen : List ℕ) : Type 0 where
-  pub packet : AcceptedPacket
-  pub is : o ≡ Some packet
-  pub bytes : packet.bytes ≡ seen
-
-has_bytes : (o : Option AcceptedPacket) (seen : List ℕ) → option_map (λ a. a.bytes) o ≡ Some seen → HasBytes o seen
-has_bytes None seen e = none_some seen e
-has_bytes (Some a) seen e = record { packet = a; is = refl; bytes = some_injective a.bytes seen e }
 
 ends_kept : (r : Rules) (key : Option Key) (p : Packet) → Ends r key p → is_counted r.frames p ≡ true
 ends_kept r None p e = absurd e
 ends_kept r (Some k) p e = e.0
 
 -- the records of what is kept
-the_law : (laws : RecordsAreDue) (m : Modulating) (bytes : List ℕ) (given : List FrameRecord) (h : StandsAt m bytes given)
+the_law : (laws : RecordsAreDue) (m : Modulating) (bytes : List ℕ) (given : List FrameRecord)
+    (h : StandsAt m bytes given)
     → DueLaw (rules m.sequence.group.network) h.keeps.past h.keeps.group m.sequence.progress
     (worked m.sequence.group.network.pid h.events) given
 the_law laws m bytes given h = laws (rules m.sequence.group.network) h.keeps.past h.keeps.group m.sequence.progress
@@ -95,7 +91,8 @@ pub record Moved (m : Modulating) (bytes : List ℕ) (given : List FrameRecord) 
   pub stands : StandsAt m bytes given
   pub same : stands.keeps.group ≡ group
 
-pub moved : (old new : Modulating) (bytes : List ℕ) (given : List FrameRecord) → course_of new ≡ course_of old → HoldsOn old new
+pub moved : (old new : Modulating) (bytes : List ℕ) (given : List FrameRecord) → course_of new ≡ course_of old
+    → HoldsOn old new
     → (h : StandsAt old bytes given) → Moved new bytes given h.keeps.group
 moved old new bytes given same on h =
     subst
@@ -125,7 +122,8 @@ moved old new bytes given same on h =
     h.stands h.few h.keeps.sequenced h.ahead
 
 -- a packet was worked off
-worked_more : (push : EventsPush) (pid : ℕ) (events : List UnpiperEvent) (a : AcceptedPacket) → next_packet pid events ≡ Some a
+worked_more : (push : EventsPush) (pid : ℕ) (events : List UnpiperEvent) (a : AcceptedPacket)
+    → next_packet pid events ≡ Some a
     → (worked pid (events ++ Released ∷ []) ≡ worked pid events ++ packet_of a.bytes ∷ [])
     × (released (events ++ Released ∷ []) ≤ length (accepted_of pid (fed (events ++ Released ∷ []))))
 worked_more push pid events a e =
@@ -133,7 +131,8 @@ worked_more push pid events a e =
     let n : released (events ++ Released ∷ []) ≡ suc (released events) = p.released_more ∙ omega arith in
     let t = take_next (accepted_of pid (fed events)) (released events) a e in (
       ap₂ (λ (k : ℕ) (l : List ℕ). packets_of (take k (accepted_of pid l))) n p.fed_same ∙ ap packets_of t.0
-          ∙ map-append (λ (a : AcceptedPacket). packet_of a.bytes) (take (released events) (accepted_of pid (fed events)))
+          ∙ map-append (λ (a : AcceptedPacket). packet_of a.bytes)
+          (take (released events) (accepted_of pid (fed events)))
           (a ∷ []),
       subst (λ (l : List ℕ). released (events ++ Released ∷ []) ≤ length (accepted_of pid l)) (sym p.fed_same)
           (omega (arith, n, t.1)),
@@ -160,44 +159,37 @@ stepped push old new bytes given seen same ready told goes work still h =
     let net = old.sequence.group.network in
     let b = has_bytes (next_packet net.pid h.events) seen (told net.pid h.events h.stands) in
     let w = worked_more push net.pid h.events b.packet b.is in
-    let ends : old.sequence.progress.closing ≡ true → Ends (rules net) old.sequence.group.key (packet_of seen) = λ c. ⊎_elim
+    let ends : old.sequence.progress.closing ≡ true → Ends (rules net) old.sequence.group.key (packet_of seen) =
+    λ c. ⊎_elim
     (λ (x : (a : AcceptedPacket) × (next_packet net.pid h.events ≡ Some a)
     × Ends (rules net) old.sequence.group.key (packet_of a.bytes)).
     subst (λ (l : List ℕ). Ends (rules net) old.sequence.group.key (packet_of l))
-    (ap (λ (a : AcceptedPacket). a.bytes) (some_injective x.0 b.packet (sym x.1 ∙ b.is)) ∙ b.bytes) x.2)
+    (ap (λ (a : AcceptedPacket). a.bytes) (same_Some x.0 b.packet (sym x.1 ∙ b.is)) ∙ b.bytes) x.2)
     (λ (x : (old.finished ≡ true) × (is_ready old.unpiper ≡ false)). absurd (true≢false (sym ready ∙ x.1)))
     (h.ahead c) in
     stands_by new net bytes given (h.events ++ Released ∷ []) same (goes net.pid h.events h.stands)
     ((push h.events).fed_same ∙ h.fed_is) w.1
-    (subst (λ (ps : List Packet). Keeps (Holds new.sequence.group) (rules new.sequence.group.network) new.sequence.progress ps
+    (subst (λ (ps : List Packet). Keeps (Holds new.sequence.group) (rules new.sequence.group.network)
+    new.sequence.progress ps
     given)
     (ap (λ (l : List ℕ). worked net.pid h.events ++ packet_of l ∷ []) (sym b.bytes) ∙ sym w.0)
     (work (worked net.pid h.events) given h.keeps ends))
     (λ c. let o = still c in
     absurd (true≢false (sym (ends_kept (rules net) old.sequence.group.key (packet_of seen) (ends o.0)) ∙ o.1)))
 
--- past all elements there is none
-get_past : {X : Type 0} (xs : List X) (n : ℕ) → length xs ≡ n → slice_get xs n ≡ None
-get_past [] zero e = refl
-get_past [] (suc n) e = refl
-get_past (x ∷ xs) zero e = absurd (omega (arith, e))
-get_past (x ∷ xs) (suc n) e = get_past xs n (omega (arith, e))
-
 -- if no packet waits and more bytes may come, the group is not closed
-not_closing : (m : Modulating) (bytes : List ℕ) (given : List FrameRecord) (h : StandsAt m bytes given) → m.finished ≡ false
+not_closing : (m : Modulating) (bytes : List ℕ) (given : List FrameRecord) (h : StandsAt m bytes given)
+    → m.finished ≡ false
     → AllReleased m.sequence.group.network.pid h.events → m.sequence.progress.closing ≡ true → ⊥
 not_closing m bytes given h more all c =
     let net = m.sequence.group.network in
     ⊎_elim
     (λ (x : (a : AcceptedPacket) × (next_packet net.pid h.events ≡ Some a)
     × Ends (rules net) m.sequence.group.key (packet_of a.bytes)).
-    none_some x.0 (sym (get_past (accepted_of net.pid (fed h.events)) (released h.events) all) ∙ x.1))
+    none_some x.0 (sym (slice_get_past (accepted_of net.pid (fed h.events)) (released h.events) (omega (arith, all)))
+    ∙ x.1))
     (λ (x : (m.finished ≡ true) × (is_ready m.unpiper ≡ false)). absurd (true≢false (sym x.0 ∙ more)))
     (h.ahead c)
-
--- all that an unpiper accepted was given up
-abbrev pub IsIdle : Unpiper → Type 0
-IsIdle u = (pid : ℕ) (events : List UnpiperEvent) → UnpiperStandsFor u pid events → AllReleased pid events
 
 -- bytes were fed
 pub fed_more : (front : AcceptedFront) (push : EventsPush) (old : Modulating) (u : Unpiper) (bytes piece : List ℕ)
@@ -211,7 +203,8 @@ fed_more front push old u bytes piece given none more goes h =
     let p = push h.events in
     let all = none pid h.events h.stands in
     let f = front pid (fed h.events) piece in
-    let k : released (h.events ++ Fed piece ∷ []) ≡ length (accepted_of pid (fed h.events)) = p.released_same piece ∙ sym all in
+    let k : released (h.events ++ Fed piece ∷ []) ≡ length (accepted_of pid (fed h.events)) = p.released_same piece
+    ∙ sym all in
     let whole : accepted_of pid (fed (h.events ++ Fed piece ∷ [])) ≡ accepted_of pid (fed h.events) ++ f.0 =
     ap (accepted_of pid) (p.fed_more piece) ∙ f.1 in
     let few : length (accepted_of pid (fed h.events)) ≤ length (accepted_of pid (fed h.events)) = omega arith in
@@ -265,7 +258,8 @@ none_of (Some h) key e none = absurd (true≢false (ap is_some e ∙ none))
 -- all packets were worked off, if none waits
 all_worked : (pid : ℕ) (events : List UnpiperEvent) → AllReleased pid events
     → worked pid events ≡ packets_of (accepted_of pid (fed events))
-all_worked pid events all = ap packets_of (take_all (released events) (accepted_of pid (fed events)) (omega (arith, all)))
+all_worked pid events all = ap packets_of (take_all (released events) (accepted_of pid (fed events))
+    (omega (arith, all)))
 
 prefix_without : {X : Type 0} (xs : List X) → (more : List X) × (xs ≡ without_last xs ++ more)
 prefix_without [] = ([], refl)
@@ -278,8 +272,11 @@ pub due_front : (front : ModulatedFront) (r : Rules) (finished : Bool) (ps qs : 
 due_front front r false ps qs = front r ps qs
 due_front front r true ps qs =
     let a = front r ps qs in
-    let b = prefix_without (modulated r (ps ++ qs)) in
-    (a.0 ++ b.0, b.1 ∙ ap (λ (l : List FrameRecord). l ++ b.0) a.1 ∙ append_assoc (without_last (modulated r ps)) a.0 b.0)
+    let b = prefix_without (modulated r (ps ++ qs)) in (
+      a.0 ++ b.0,
+      b.1 ∙ ap (λ (l : List FrameRecord). l ++ b.0) a.1 ∙ append_assoc (without_last (modulated r ps))
+          a.0 b.0,
+    )
 
 -- a record that comes next in a front comes next in the whole
 next_in : (front all given more : List FrameRecord) (x : FrameRecord) → ComesNext front given x → all ≡ front ++ more
@@ -324,7 +321,8 @@ all_given laws m bytes given none settled w h = go m.finished m.sequence.progres
         absurd (not_closing m bytes given h e (none m.sequence.group.network.pid h.events h.stands) k)
 
 -- the record that waits comes next of all that are due
-pub comes_next : (laws : RecordsAreDue) (front : ModulatedFront) (m : Modulating) (bytes : List ℕ) (given : List FrameRecord)
+pub comes_next : (laws : RecordsAreDue) (front : ModulatedFront) (m : Modulating) (bytes : List ℕ)
+    (given : List FrameRecord)
     (w : Waiting) (group : Group)
     → (is_ready m.unpiper ≡ false → IsIdle m.unpiper) → waiting_of m.sequence.progress ≡ Some w
     → (h : StandsAt m bytes given) → h.keeps.group ≡ Some group
@@ -341,7 +339,7 @@ comes_next laws front m bytes given w group none is h gs = go m.sequence.progres
     it : (x : FrameRecord)
         → record_now (rules m.sequence.group.network) h.keeps.past h.keeps.group m.sequence.progress.number
         m.sequence.progress.next ≡ Some x → x ≡ record_of group w
-    it x e = some_injective x (record_of group w) (sym e ∙ law.told group gs w is)
+    it x e = same_Some x (record_of group w) (sym e ∙ law.told group gs w is)
 
     fed_packets_of : packets_of (accepted_of m.sequence.group.network.pid bytes)
         ≡ packets_of (accepted_of m.sequence.group.network.pid (fed h.events))
@@ -364,7 +362,8 @@ comes_next laws front m bytes given w group none is h gs = go m.sequence.progres
         let r = rules m.sequence.group.network in
         let n = law.under_way c waits_now in
         subst (ComesNext (records_due m.sequence.group.network m.finished bytes) given) (it n.0 n.1)
-        (next_by (worked pid h.events) _ (due r false (worked pid h.events)) [] n.0 (fed_packets_of ∙ rest_of pid h.events)
+        (next_by (worked pid h.events) _ (due r false (worked pid h.events)) [] n.0 (fed_packets_of
+        ∙ rest_of pid h.events)
         (sym (append-nil (due r false (worked pid h.events)))) n.2)
     go true c =
         let pid = m.sequence.group.network.pid in
@@ -377,17 +376,21 @@ comes_next laws front m bytes given w group none is h gs = go m.sequence.progres
         let t = take_next (accepted_of pid (fed h.events)) (released h.events) x.0 x.1 in
         let e : packets_of (accepted_of pid bytes) ≡ (worked pid h.events ++ packet_of x.0.bytes ∷ [])
         ++ packets_of (drop (suc (released h.events)) (accepted_of pid (fed h.events))) =
-        fed_packets_of ∙ ap packets_of (sym (take-append-drop (suc (released h.events)) (accepted_of pid (fed h.events)))
+        fed_packets_of ∙ ap packets_of
+        (sym (take-append-drop (suc (released h.events)) (accepted_of pid (fed h.events)))
         ∙ ap (λ (l : List AcceptedPacket). l ++ drop (suc (released h.events)) (accepted_of pid (fed h.events))) t.0)
-        ∙ map-append (λ (a : AcceptedPacket). packet_of a.bytes) (take (released h.events) (accepted_of pid (fed h.events)) ++ x.0
+        ∙ map-append (λ (a : AcceptedPacket). packet_of a.bytes)
+        (take (released h.events) (accepted_of pid (fed h.events)) ++ x.0
         ∷ []) (drop (suc (released h.events)) (accepted_of pid (fed h.events)))
         ∙ ap (λ (l : List Packet). l ++ packets_of (drop (suc (released h.events)) (accepted_of pid (fed h.events))))
-        (map-append (λ (a : AcceptedPacket). packet_of a.bytes) (take (released h.events) (accepted_of pid (fed h.events)))
+        (map-append (λ (a : AcceptedPacket). packet_of a.bytes)
+        (take (released h.events) (accepted_of pid (fed h.events)))
         (x.0 ∷ [])) in
         let d = law.closed c (packet_of x.0.bytes)
         (subst (λ (o : Option Key). Ends r o (packet_of x.0.bytes))
         (sym (has_key m.sequence.group h.keeps.past h.keeps.group h.keeps.holds)) x.2) in
-        next_by (worked pid h.events ++ packet_of x.0.bytes ∷ []) _ (due r true (worked pid h.events)) d.0 n.0 e d.1 n.2)
+        next_by (worked pid h.events ++ packet_of x.0.bytes ∷ []) _ (due r true (worked pid h.events))
+        d.0 n.0 e d.1 n.2)
         (λ (x : (m.finished ≡ true) × (is_ready m.unpiper ≡ false)).
         let all = fed_packets_of ∙ sym (all_worked pid h.events (none x.1 pid h.events h.stands)) in
         let e : records_due m.sequence.group.network m.finished bytes ≡ due r true (worked pid h.events) =
@@ -396,13 +399,15 @@ comes_next laws front m bytes given w group none is h gs = go m.sequence.progres
         (h.ahead c))
 
 -- a record was given
-pub record_gave : (laws : RecordsAreDue) (old new : Modulating) (bytes : List ℕ) (given : List FrameRecord) (w : Waiting)
+pub record_gave : (laws : RecordsAreDue) (old new : Modulating) (bytes : List ℕ) (given : List FrameRecord)
+    (w : Waiting)
     (group : Group)
     → waiting_of old.sequence.progress ≡ Some w → new.unpiper ≡ old.unpiper → new.finished ≡ old.finished
     → new.sequence.group ≡ old.sequence.group → new.sequence.progress.closing ≡ old.sequence.progress.closing
     → ((ps : List Packet) (given : List FrameRecord) (x : FrameRecord)
     (k : Keeps (Holds old.sequence.group) (rules old.sequence.group.network) old.sequence.progress ps given)
-    → record_now (rules old.sequence.group.network) k.past k.group old.sequence.progress.number old.sequence.progress.next
+    → record_now (rules old.sequence.group.network) k.past k.group old.sequence.progress.number
+    old.sequence.progress.next
     ≡ Some x
     → Keeps (Holds new.sequence.group) (rules new.sequence.group.network) new.sequence.progress ps (given ++ x ∷ []))
     → (h : StandsAt old bytes given) → h.keeps.group ≡ Some group
@@ -414,8 +419,14 @@ record_gave laws old new bytes given w group is unpiper finished same closing ga
     (ap (λ (g : PooledGroup). g.network) same)
     (subst (λ (u : Unpiper). UnpiperStandsFor u net.pid h.events) (sym unpiper) h.stands) h.fed_is h.few
     (gave (worked net.pid h.events) given (record_of group w) h.keeps (law.told group gs w is))
-    (λ c. subst (λ (g : PooledGroup). IsAhead (record (course_of new) { network = net; key = g.key }) h.events) (sym same)
-    (subst (λ (u : Unpiper). IsAhead (record (course_of new) { unpiper = u; network = net; key = old.sequence.group.key })
+    (λ c. subst (λ (g : PooledGroup). IsAhead (record (course_of new) { network = net; key = g.key }) h.events)
+    (sym same)
+    (subst (λ (u : Unpiper). IsAhead (record (course_of new) {
+      unpiper = u;
+      network = net;
+      key =
+          old.sequence.group.key;
+    })
     h.events) (sym unpiper)
     (subst (λ (f : Bool). IsAhead (record (course_of new) {
       unpiper = old.unpiper;
@@ -459,7 +470,8 @@ piece_on bytes piece count more = append_assoc bytes (take count piece) (take mo
     ∙ ap (λ (l : List ℕ). bytes ++ l) (sym (take-add count more piece))
 
 -- bytes with which no packet was accepted: still all that is due was given
-pub fed_idle : (laws : RecordsAreDue) (front : AcceptedFront) (push : EventsPush) (m : Modulating) (bytes piece : List ℕ)
+pub fed_idle : (laws : RecordsAreDue) (front : AcceptedFront) (push : EventsPush) (m : Modulating)
+    (bytes piece : List ℕ)
     (given : List FrameRecord) → IsIdle m.unpiper → m.finished ≡ false
     → ((pid : ℕ) (events : List UnpiperEvent) → UnpiperStandsFor m.unpiper pid events
     → AllReleased pid (events ++ Fed piece ∷ []))
@@ -474,14 +486,17 @@ fed_idle laws front push m bytes piece given none more still w h =
     let f = front pid (fed h.events) piece in
     let n = length-append (accepted_of pid (fed h.events)) f.0 in
     let e : length (accepted_of pid (fed h.events) ++ f.0) ≡ length (accepted_of pid (fed h.events)) =
-    ap length (sym f.1) ∙ ap (λ (l : List ℕ). length (accepted_of pid l)) (sym (p.fed_more piece)) ∙ a ∙ p.released_same piece
+    ap length (sym f.1) ∙ ap (λ (l : List ℕ). length (accepted_of pid l)) (sym (p.fed_more piece)) ∙ a
+    ∙ p.released_same piece
     ∙ sym all in
     let z : f.0 ≡ [] = nil_from_length f.0 (omega (arith, n, e)) in
     let same : accepted_of pid (bytes ++ piece) ≡ accepted_of pid (fed h.events) =
     ap (λ (l : List ℕ). accepted_of pid (l ++ piece)) (sym h.fed_is) ∙ f.1
-    ∙ ap (λ (l : List AcceptedPacket). accepted_of pid (fed h.events) ++ l) z ∙ append-nil (accepted_of pid (fed h.events)) in
+    ∙ ap (λ (l : List AcceptedPacket). accepted_of pid (fed h.events) ++ l) z
+    ∙ append-nil (accepted_of pid (fed h.events)) in
     let law = the_law laws m bytes given h in
-    ap (λ (l : List AcceptedPacket). due r false (packets_of l)) same ∙ ap (due r false) (sym (all_worked pid h.events all))
+    ap (λ (l : List AcceptedPacket). due r false (packets_of l)) same
+    ∙ ap (due r false) (sym (all_worked pid h.events all))
     ∙ ap (λ (t : Bool). due r t (worked pid h.events))
     (sym (false_from_ne_true m.sequence.progress.closing (λ c. not_closing m bytes given h more all c))) ∙ law.idle w
 
@@ -490,7 +505,8 @@ pub front_on : (c d : Config) (bytes piece : List ℕ) (given : List FrameRecord
     → count ≤ length piece
     → ((k : ℕ) → k < count → records_due c false (bytes ++ take k piece) ≡ given)
     → ((j : ℕ) → j < more
-    → records_due d false ((bytes ++ take count piece) ++ take j (take (length piece - count) (drop count piece))) ≡ given)
+    → records_due d false ((bytes ++ take count piece) ++ take j (take (length piece - count) (drop count piece)))
+    ≡ given)
     → k < count + more → records_due c false (bytes ++ take k piece) ≡ given
 front_on c d bytes piece given count more k same inside before here l = ⊎_elim
     (λ (a : k < count). before k a)
@@ -506,7 +522,7 @@ front_on c d bytes piece given count more k same inside before here l = ⊎_elim
 
 pub some_at : {X : Type 0} (o : Option X) (x : X) (P : X → Type 0) → IfSome o P → o ≡ Some x → P x
 some_at None x P h e = none_some x e
-some_at (Some y) x P h e = subst P (some_injective y x e) h
+some_at (Some y) x P h e = subst P (same_Some y x e) h
 
 pub none_is : {X : Type 0} (o : Option X) (P : Type 0) → IfNone o P → o ≡ None → P
 none_is None P h e = h

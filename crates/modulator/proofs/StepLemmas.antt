@@ -1,5 +1,5 @@
 -- How many steps are left in a unit.
-use Rattle.std.proofs.Common.{◌≡◌, ◌⊎◌, ℕ, ◌+◌, ◌-◌, ◌≤◌, ◌<◌, Bool, true, false, cond, ap, ⊎_elim, arith}
+use Rattle.std.proofs.Common.{◌≡◌, ◌⊎◌, ℕ, ◌+◌, ◌≤◌, ◌<◌, Bool, true, false, cond, ap, ⊎_elim, arith}
 use Rattle.ts_packet.specs.declared.sizes.TheConstants.{SIZE}
 use Rattle.t2mi_stream.specs.UnpiperStandsFor.{is_ready, unit_place, steps_left}
 use Rattle.t2mi_stream.specs.declared.unpiper.Unpiper.{Unpiper}
@@ -28,5 +28,6 @@ fewer u v ready less inside =
     less
 
 -- the number of a group that began as a packet was given up
-pub risen : (u v : Unpiper) (n : ℕ) → steps_left v < steps_left u → n ≤ near_number u + greatest_step → n ≤ near_number v
+pub risen : (u v : Unpiper) (n : ℕ) → steps_left v < steps_left u → n ≤ near_number u + greatest_step
+    → n ≤ near_number v
 risen u v n less h = let top = most u in omega (arith, less, top, h)

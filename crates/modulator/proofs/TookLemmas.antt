@@ -1,5 +1,6 @@
 -- Bytes of records that were taken.
-use Rattle.std.proofs.Common.{◌≡◌, ◌<◌, ◌≤◌, ℕ, Bool, true, false, List, [], ◌∷◌, ◌++◌, Option, Some, None, refl, ap, sym}
+use Rattle.std.proofs.Common.{◌≡◌, ◌<◌, ◌≤◌, ℕ, Bool, true, false, List, [], ◌∷◌, ◌++◌, Option, Some, None, refl, ap}
+use Rattle.std.proofs.Common.{sym}
 use Rattle.std.proofs.Common.{length, take}
 use Rattle.std.proofs.Common.{◌∙◌, arith, append_assoc, append-nil}
 use Rattle.std.specs.Prelude.{is_some, flat_map, IfSome, IfNone}
@@ -42,7 +43,8 @@ pub some_of : {X : Type 0} (o : Option X) → is_some o ≡ true → (x : X) × 
 some_of None e = absurd (true≢false (sym e))
 some_of (Some x) e = (x, refl)
 
-pub now_of : (r : Rules) (past : List Numbered) (g : Option Group) (at : Progress) (ps : List Packet) (given : List FrameRecord)
+pub now_of : (r : Rules) (past : List Numbered) (g : Option Group) (at : Progress) (ps : List Packet)
+    (given : List FrameRecord)
     → Sequenced r past g at.number at.next at.closing at.fault ps given → waits at ≡ true → IsNow g at
 now_of r past None at ps given (a, o, b, c, d) w =
     absurd (true≢false (sym w ∙ ap (λ (o : Option ℕ). waits_by o at.next at.closing at.fault) b))
@@ -50,7 +52,8 @@ now_of r past (Some h) at ps given q w =
     let s = some_of (waiting_of at) w in
     record { waiting = s.0; is = s.1; group = h; has = refl }
 
--- A record that waits, and of which some bytes are left, is the next of those that are due behind those that were taken whole.
+-- A record that waits, and of which some bytes are left, is the next of those that are due behind those that were taken
+-- whole.
 abbrev pub waits_as : (m : Modulating) (bytes taken : List ℕ) (h : Gives m bytes taken) (w : Waiting)
     → waiting_of m.sequence.progress ≡ Some w → (group : Group) → h.stands.keeps.group ≡ Some group
     → 0 < length (bytes_left m.sequence.group)
@@ -115,7 +118,8 @@ module _ (m : Modulating) (bytes taken : List ℕ) (h : Gives m bytes taken) (w 
         rest ++ flat_map spell n.0,
         ap (flat_map spell) n.1 ∙ flat_map-append spell h.given (record_of now.group now.waiting ∷ n.0)
             ∙ ap (λ (l : List ℕ). flat_map spell h.given ++ (l ++ flat_map spell n.0)) all
-            ∙ ap (λ (l : List ℕ). flat_map spell h.given ++ l) (append_assoc h.took.part (more ++ rest) (flat_map spell n.0)
+            ∙ ap (λ (l : List ℕ). flat_map spell h.given ++ l) (append_assoc h.took.part (more ++ rest)
+            (flat_map spell n.0)
             ∙ ap (λ (l : List ℕ). h.took.part ++ l) (append_assoc more rest (flat_map spell n.0)))
             ∙ sym (append_assoc (flat_map spell h.given) h.took.part (more ++ (rest ++ flat_map spell n.0)))
             ∙ sym (append_assoc (flat_map spell h.given ++ h.took.part) more (rest ++ flat_map spell n.0))
@@ -162,19 +166,23 @@ took_more old new more bytes taken same on cut w h =
 
 -- the record that waits was taken whole, and the next one is begun
 pub took_whole : (old mid next new : Modulating) (more bytes taken : List ℕ)
-    → ((bytes : List ℕ) (given : List FrameRecord) (w : Waiting) (group : Group) → waiting_of mid.sequence.progress ≡ Some w
-    → (h : StandsAt mid bytes given) → h.keeps.group ≡ Some group → StandsAt next bytes (given ++ record_of group w ∷ []))
+    → ((bytes : List ℕ) (given : List FrameRecord) (w : Waiting) (group : Group)
+    → waiting_of mid.sequence.progress ≡ Some w
+    → (h : StandsAt mid bytes given) → h.keeps.group ≡ Some group
+    → StandsAt next bytes (given ++ record_of group w ∷ []))
     → ((bytes : List ℕ) (given : List FrameRecord) (taken : List ℕ) → StandsAt next bytes given
     → taken ≡ flat_map (spelled next.sequence.group.network) given → Gives new bytes taken)
     → course_of mid ≡ course_of old → HoldsOn old mid → next.sequence.group.network ≡ mid.sequence.group.network
-    → bytes_left old.sequence.group ≡ more → has_record old ≡ true → Gives old bytes taken → Gives new bytes (taken ++ more)
+    → bytes_left old.sequence.group ≡ more → has_record old ≡ true → Gives old bytes taken
+    → Gives new bytes (taken ++ more)
 took_whole old mid next new more bytes taken gave begun same on kept cut w h =
     let n = now old bytes taken h w in
     let m = moved old mid bytes h.given same on h.stands in
     let given = h.given ++ record_of n.group n.waiting ∷ [] in
     let net : next.sequence.group.network ≡ old.sequence.group.network = kept ∙ ap (λ (k : Course). k.network) same in
     begun bytes given (taken ++ more)
-    (gave bytes h.given n.waiting n.group (ap (λ (k : Course). waiting_of k.progress) same ∙ n.is) m.stands (m.same ∙ n.has))
+    (gave bytes h.given n.waiting n.group (ap (λ (k : Course). waiting_of k.progress) same ∙ n.is) m.stands (m.same
+    ∙ n.has))
     (whole_given old bytes taken h w more cut ∙ ap (λ (c : Config). flat_map (spelled c) given) (sym net))
 
 -- no record waits, so what was given was taken whole
@@ -185,8 +193,10 @@ given_whole m bytes taken h w =
     h.took.taken_is ∙ ap (λ (l : List ℕ). given ++ l) (h.took.idle w) ∙ append-nil given
 
 -- and all that is due was taken
-pub all_taken : (m : Modulating) (ended : Bool) (bytes front taken : List ℕ) (h : Gives m bytes taken) → has_record m ≡ false
-    → records_due m.sequence.group.network ended front ≡ h.given → bytes_due m.sequence.group.network ended front ≡ taken
+pub all_taken : (m : Modulating) (ended : Bool) (bytes front taken : List ℕ) (h : Gives m bytes taken)
+    → has_record m ≡ false
+    → records_due m.sequence.group.network ended front ≡ h.given → bytes_due m.sequence.group.network
+    ended front ≡ taken
 all_taken m ended bytes front taken h w e =
     ap (flat_map (spelled m.sequence.group.network)) e ∙ sym (given_whole m bytes taken h w)
 
@@ -213,7 +223,12 @@ opened m more shut w stands k = record {
         keeps = k;
         ahead = λ c. absurd (true≢false (sym c ∙ shut));
       };
-  took = record { part = []; taken_is = refl; rest = λ v i h g. absurd (true≢false (sym (ap is_some i) ∙ w)); idle = λ _. refl };
+  took = record {
+    part = [];
+    taken_is = refl;
+    rest = λ v i h g. absurd (true≢false (sym (ap is_some i) ∙ w));
+    idle = λ _. refl;
+  };
 }
 
 -- no more bytes come, and the record that waits still does

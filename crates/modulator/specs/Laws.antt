@@ -1,15 +1,14 @@
 -- Laws of the records that are due.
-use Rattle.std.specs.Prelude.{◌≡◌, ◌≢◌, ℕ, ◌<◌, ◌^◌, Bool, false, List, [], ◌∷◌, ◌++◌, None, flat_map}
+use Rattle.std.specs.Prelude.{◌≡◌, ℕ, ◌<◌, ◌^◌, Bool, false, List, [], ◌∷◌, ◌++◌, None}
 use Rattle.std.specs.List.{AllByRecursion}
 use Rattle.plp_config.specs.Capacity.{IsPlan}
 use Rattle.plp_config.specs.declared.config.Config.{Config}
 use Rattle.frame_groups.specs.Laws.{AreFrom, IsPrefix}
 use Rattle.frame_groups.specs.Modulated.{FrameRecord, past_after}
-use Rattle.frame_groups.specs.declared.waiting.Waiting.{Waiting}
 use Rattle.record_laws.specs.Frames.{HasByteIds}
 use Rattle.site_frame.specs.Whole.{Spells}
 use Rattle.open_group.specs.Written.{content_view, spelled}
-use Rattle.modulator.specs.StandsFor.{WaitsAs, records_due, bytes_due}
+use Rattle.modulator.specs.StandsFor.{records_due}
 use Rattle.frame_groups.specs.Groups.{Group, groups}
 use Rattle.frame_groups.specs.Modulated.Content.{Whole}
 use Rattle.frame_groups.specs.Tests.{group_fault, rules}

@@ -1,5 +1,6 @@
 -- What bytes in, records out, stands for.
-use Rattle.std.specs.Prelude.{◌≡◌, ◌⊎◌, ℕ, ◌+◌, ◌-◌, ◌*◌, ◌≤◌, Bool, true, false, is_some, List, map, length, take, Option, Some}
+use Rattle.std.specs.Prelude.{◌≡◌, ◌⊎◌, ℕ, ◌+◌, ◌-◌, ◌*◌, ◌≤◌, Bool, true, false, is_some, List, map, length, take}
+use Rattle.std.specs.Prelude.{Option, Some}
 use Rattle.plp_config.specs.declared.config.Config.{Config}
 use Rattle.plp_config.specs.declared.moment.TheConstants.{MOST_FRAMES}
 use Rattle.t2mi_packet.specs.Reading.{packet_at}
@@ -60,12 +61,14 @@ course_of m = record {
 
 -- The group under way still stands for what it stood for.
 abbrev pub HoldsOn : Modulating → Modulating → Type 0
-HoldsOn old new = (past : List Numbered) (g : Option Group) → Holds old.sequence.group past g → Holds new.sequence.group past g
+HoldsOn old new = (past : List Numbered) (g : Option Group) → Holds old.sequence.group past g
+    → Holds new.sequence.group past g
 
 -- The packet that waits closed the group; or none waits, at the end.
 abbrev pub IsAhead : Course → List UnpiperEvent → Type 0
 IsAhead k events =
-    ((a : AcceptedPacket) × (next_packet k.network.pid events ≡ Some a) × Ends (rules k.network) k.key (packet_of a.bytes))
+    ((a : AcceptedPacket) × (next_packet k.network.pid events ≡ Some a)
+    × Ends (rules k.network) k.key (packet_of a.bytes))
     ⊎ ((k.finished ≡ true) × (is_ready k.unpiper ≡ false))
 
 -- Bytes were fed, and records were given.
@@ -86,7 +89,8 @@ has_record m = waits m.sequence.progress
 abbrev pub most_steps : ℕ
 most_steps = 2 * SIZE + 1
 
--- the greatest number of a frame that the packets of the unit in hand can have told: a superframe more for each step that is over
+-- the greatest number of a frame that the packets of the unit in hand can have told: a superframe more for each step
+-- that is over
 abbrev pub near_number : Unpiper → ℕ
 near_number u = MOST_FRAMES + greatest_step * (most_steps + 1 - steps_left u)
 
@@ -103,8 +107,8 @@ pub record Settled (k : Course) : Type 0 where
 abbrev pub IsSettled : Modulating → Type 0
 IsSettled m = Settled (course_of m)
 
--- the most records that can be given before more bytes come: those that are left of the group under way, and those of a group for
--- each step that is left in the unit
+-- the most records that can be given before more bytes come: those that are left of the group under way, and those of a
+-- group for each step that is left in the unit
 unfoldable pub ahead_by : Unpiper → Progress → ℕ
 ahead_by u at = steps_left u * most_records + records_left at
 

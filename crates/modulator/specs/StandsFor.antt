@@ -1,5 +1,6 @@
 -- What a `Modulator` stands for.
-use Rattle.std.specs.Prelude.{◌≡◌, ℕ, ◌+◌, ◌*◌, ◌<◌, ◌≤◌, ◌==◌, Bool, true, false, List, ◌++◌, ◌∷◌, length, Option, Some, None, flat_map}
+use Rattle.std.specs.Prelude.{◌≡◌, ℕ, ◌+◌, ◌*◌, ◌<◌, ◌≤◌, ◌==◌, Bool, true, false, List, ◌++◌, ◌∷◌, length, Option}
+use Rattle.std.specs.Prelude.{Some, None, flat_map}
 use Rattle.std.specs.Prelude.{if◌then◌else◌}
 use Rattle.plp_config.specs.declared.config.Config.{Config}
 use Rattle.t2mi_stream.specs.Units.{accepted_of}
@@ -67,7 +68,8 @@ abbrev pub mute_of : Content → Option MuteCause
 mute_of (Whole g) = None
 mute_of (Muted cause) = Some cause
 
--- A record waits: it is the next of those that are due behind those that were taken whole, and some of its bytes are left.
+-- A record waits: it is the next of those that are due behind those that were taken whole, and some of its bytes are
+-- left.
 pub record WaitsAs (c : Config) (finished : Bool) (bytes taken : List ℕ) (w : Waiting) : Type 0 where
   pub before : List FrameRecord
   pub next : FrameRecord

@@ -5,8 +5,8 @@ use frame_groups::{front_law, numbers_law};
 use open_group::record_law;
 use t2mi_stream::accepted_front_law;
 
-/// The records that are due are a front of those that are due by more bytes, have one number after another, pass the tests if
-/// they are not muted, and are spelled by their bytes.
+/// The records that are due are a front of those that are due by more bytes, have one number after another, pass the
+/// tests if they are not muted, and are spelled by their bytes.
 pub fn due_records_law()
     ensures front { DueFront }
     ensures follow { DueFollow }

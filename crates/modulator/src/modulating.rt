@@ -13,7 +13,8 @@ pub struct Modulating<'p> {
 }
 
 impl<'p> Modulating<'p> {
-    ghost use Rattle.std.specs.Prelude.{◌≡◌, ◌<◌, ◌≤◌, ◌+◌, ◌⊎◌, ◌↔◌, ◌^◌, ◌++◌, ◌∷◌, ℕ, List, [], Some, IfSome, IfNone, length};
+    ghost use Rattle.std.specs.Prelude.{◌≡◌, ◌<◌, ◌≤◌, ◌+◌, ◌⊎◌, ◌↔◌, ◌^◌, ◌++◌, ◌∷◌, ℕ, List, [], Some, IfSome};
+    ghost use Rattle.std.specs.Prelude.{IfNone, length};
     ghost use Rattle.std.specs.Prelude.{take, true, false};
     ghost use Rattle.plp_config.specs.declared.moment.TheConstants.{MOST_FRAMES};
     ghost use Rattle.frame_groups.specs.Groups.{Group};
@@ -35,7 +36,8 @@ impl<'p> Modulating<'p> {
         ensures stands { (bytes : List ℕ) (given : List FrameRecord) → StandsAt self.old bytes given
             → StandsAt self.new (bytes ++ take result piece.now) given }
         // It does not go past the byte with which a record waits.
-        ensures first { (k : ℕ) → k < result → (bytes : List ℕ) (given : List FrameRecord) → StandsAt self.old bytes given
+        ensures first { (k : ℕ) → k < result → (bytes : List ℕ) (given : List FrameRecord)
+            → StandsAt self.old bytes given
             → records_due self.old.sequence.group.network false (bytes ++ take k piece.now) ≡ given }
         ensures inside { result ≤ length piece.now }
         ensures none { (result ≡ 0) ↔ ((has_record self.old ≡ true) ⊎ (length piece.now ≡ 0)) }
@@ -62,7 +64,8 @@ impl<'p> Modulating<'p> {
         ensures is { result ≡ waiting_of self.now.sequence.progress }
         ensures some { IfSome result (λ w. (bytes : List ℕ) (given : List FrameRecord) (group : Group)
             → (h : StandsAt self.now bytes given) → h.keeps.group ≡ Some group
-            → ComesNext (records_due self.now.sequence.group.network self.now.finished bytes) given (record_of group w)) }
+            → ComesNext (records_due self.now.sequence.group.network self.now.finished bytes) given
+            (record_of group w)) }
         ensures none { IfNone result ((bytes : List ℕ) (given : List FrameRecord) → StandsAt self.now bytes given
             → records_due self.now.sequence.group.network self.now.finished bytes ≡ given) }
     {

@@ -11,8 +11,8 @@ use plp_config::Plan;
 use std::alloc::Global;
 use t2mi_stream::Unpiper;
 
-/// Makes the records of T2 frames from a T2-MI stream, however it is cut and damaged: feed it, and take the bytes of the record
-/// that waits, until none does. All its memory is taken in `open`.
+/// Makes the records of T2 frames from a T2-MI stream, however it is cut and damaged: feed it, and take the bytes of
+/// the record that waits, until none does. All its memory is taken in `open`.
 #[derive(Drop)]
 pub struct Modulator<'p> {
     inner: Modulating<'p>,
@@ -22,11 +22,13 @@ pub struct Modulator<'p> {
 }
 
 impl<'p> Modulator<'p> {
-    ghost use Rattle.std.specs.Prelude.{◌≡◌, ◌<◌, ◌≤◌, ◌+◌, ◌⊎◌, ◌↔◌, ◌^◌, ◌++◌, ℕ, List, [], IfOk, IfSome, IfNone, length, take};
+    ghost use Rattle.std.specs.Prelude.{◌≡◌, ◌<◌, ◌≤◌, ◌+◌, ◌⊎◌, ◌↔◌, ◌^◌, ◌++◌, ℕ, List, [], IfOk, IfSome, IfNone};
+    ghost use Rattle.std.specs.Prelude.{length, take};
     ghost use Rattle.std.specs.Prelude.{drop, true, false};
     ghost use Rattle.frame_groups.specs.Laws.{IsPrefix};
     ghost use Rattle.plp_config.specs.declared.moment.TheConstants.{MOST_FRAMES};
-    ghost use Rattle.modulator.specs.StandsFor.{ModulatorStandsFor, WaitsAs, TakesOf, records_due, bytes_due, config_of};
+    ghost use Rattle.modulator.specs.StandsFor.{ModulatorStandsFor, WaitsAs, TakesOf, records_due, bytes_due};
+    ghost use Rattle.modulator.specs.StandsFor.{config_of};
     ghost use Rattle.modulator.specs.StandsFor.{is_finished, fed_of, next_of, is_waiting, left_of};
 
     /// A modulator of a network, to which nothing was fed.
@@ -48,8 +50,8 @@ impl<'p> Modulator<'p> {
         })
     }
 
-    /// Takes bytes until a record waits or the piece ends, and answers how many. No record with a number of 2^31 or more has
-    /// waited, and with the piece fewer than 2^60 bytes were fed in all.
+    /// Takes bytes until a record waits or the piece ends, and answers how many. No record with a number of 2^31 or
+    /// more has waited, and with the piece fewer than 2^60 bytes were fed in all.
     pub fn feed(&mut self, piece: &[u8]) -> usize
         requires early { next_of self.old ≤ MOST_FRAMES }
         requires open { is_finished self.old ≡ false }
@@ -108,8 +110,8 @@ impl<'p> Modulator<'p> {
         self.inner.waiting()
     }
 
-    /// Whether a group joined: one that is closed, with frame_idx 0, which passes as the frame that its timestamp names. From
-    /// then on records are due, and before none.
+    /// Whether a group joined: one that is closed, with frame_idx 0, which passes as the frame that its timestamp
+    /// names. From then on records are due, and before none.
     pub fn joined(&self) -> bool
         ensures yes { result ≡ true → (bytes taken : List ℕ) → ModulatorStandsFor self.now bytes taken
             → 0 < length (records_due (config_of self.now) (is_finished self.now) bytes) }

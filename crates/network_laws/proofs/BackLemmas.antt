@@ -1,5 +1,6 @@
 -- What comes back of a slot, by whether its packet is shared.
-use Rattle.std.proofs.Common.{◌≡◌, ℕ, ◌+◌, ◌-◌, ◌*◌, ◌/◌, ◌<◌, ◌&&◌, not, Bool, true, false, List, length, map, Some, None, refl, ap, ap₂, sym}
+use Rattle.std.proofs.Common.{◌≡◌, ℕ, ◌+◌, ◌-◌, ◌*◌, ◌/◌, ◌<◌, ◌&&◌, not, Bool, true, false, List, length, map, Some}
+use Rattle.std.proofs.Common.{None, refl, ap, ap₂, sym}
 use Rattle.std.proofs.Common.{subst, ◌∙◌, arith}
 use Rattle.std.specs.Prelude.{is_some, unwrap_or, if◌then◌else◌}
 use Rattle.std.specs.declared.option.Option.{Option}
@@ -46,7 +47,8 @@ some_back : (c : Config) (plp : ℕ) (at : ℕ → List ℕ) (lost : List ℕ) (
     → recovered c plp (epoch_ticks c plp) at lost k
     ≡ (if not (is_touched (rates_of c plp (epoch_ticks c plp)) (plp_keeps c plp at) lost k) then at k else null_packet)
 some_back c plp at lost k off =
-    ap (λ (b : Bool). if b && not (is_touched (rates_of c plp (epoch_ticks c plp)) (plp_keeps c plp at) lost k) then at k else null_packet)
+    ap (λ (b : Bool). if b && not (is_touched (rates_of c plp (epoch_ticks c plp)) (plp_keeps c plp at) lost k)
+    then at k else null_packet)
     (kept (plp_at c.plps plp).delete (λ j. is_null (at j)) k off)
 
 -- of a null packet a null packet
@@ -57,21 +59,25 @@ null_if false p e = null_is_null
 null_back : (c : Config) (plp : ℕ) (at : ℕ → List ℕ) (lost : List ℕ) (k : ℕ) → is_null (at k) ≡ true
     → is_null (recovered c plp (epoch_ticks c plp) at lost k) ≡ true
 null_back c plp at lost k e =
-    null_if (plp_keeps c plp at k && not (is_touched (rates_of c plp (epoch_ticks c plp)) (plp_keeps c plp at) lost k)) (at k) e
+    null_if (plp_keeps c plp at k && not (is_touched (rates_of c plp (epoch_ticks c plp)) (plp_keeps c plp at) lost k))
+    (at k) e
 
 -- ---- two together
 
-own_null : (common own : List ℕ) → is_null own ≡ true → joined_packet common own ≡ (if is_null common then null_packet else common)
+own_null : (common own : List ℕ) → is_null own ≡ true
+    → joined_packet common own ≡ (if is_null common then null_packet else common)
 own_null common own e = rw e (flip (is_null common) common)
   where
     flip : (b : Bool) (p : List ℕ) → (if not b then p else null_packet) ≡ (if b then null_packet else p)
     flip true p = refl
     flip false p = refl
 
-common_null : (common own : List ℕ) → is_null common ≡ true → joined_packet common own ≡ (if is_null own then null_packet else own)
+common_null : (common own : List ℕ) → is_null common ≡ true
+    → joined_packet common own ≡ (if is_null own then null_packet else own)
 common_null common own e = rw e (flip (is_null own) own)
   where
-    flip : (b : Bool) (p : List ℕ) → (if not b then p else (if not true then common else null_packet)) ≡ (if b then null_packet else p)
+    flip : (b : Bool) (p : List ℕ) → (if not b then p else (if not true then common else null_packet))
+        ≡ (if b then null_packet else p)
     flip true p = refl
     flip false p = refl
 
@@ -87,22 +93,28 @@ null_or q e = rw e refl
 -- ---- a slot
 
 -- if it is shared, the common PLP's comes back
-shared_slot : (c : Config) (common plp : ℕ) (at mine : ℕ → List ℕ) (lost gone : List ℕ) (k : ℕ) (p : List ℕ) → at k ≡ p → mine k ≡ null_packet
+shared_slot : (c : Config) (common plp : ℕ) (at mine : ℕ → List ℕ) (lost gone : List ℕ) (k : ℕ) (p : List ℕ)
+    → at k ≡ p → mine k ≡ null_packet
     → is_null p ≡ false
-    → joined_packet (recovered c common (epoch_ticks c common) at lost k) (recovered c plp (epoch_ticks c plp) mine gone k)
-    ≡ (if not (is_touched (rates_of c common (epoch_ticks c common)) (plp_keeps c common at) lost k) then p else null_packet)
+    → joined_packet (recovered c common (epoch_ticks c common) at lost k) (recovered c plp (epoch_ticks c plp)
+    mine gone k)
+    ≡ (if not (is_touched (rates_of c common (epoch_ticks c common)) (plp_keeps c common at) lost k)
+    then p else null_packet)
 shared_slot c common plp at mine lost gone k p here none some =
     let whole : Bool = not (is_touched (rates_of c common (epoch_ticks c common)) (plp_keeps c common at) lost k) in
     let back : recovered c common (epoch_ticks c common) at lost k ≡ (if whole then p else null_packet) =
-    some_back c common at lost k (ap is_null here ∙ some) ∙ ap (λ (q : List ℕ). if whole then q else null_packet) here in
+    some_back c common at lost k (ap is_null here ∙ some) ∙ ap (λ (q : List ℕ). if whole then q else null_packet)
+    here in
     own_null (recovered c common (epoch_ticks c common) at lost k) (recovered c plp (epoch_ticks c plp) mine gone k)
     (null_back c plp mine gone k (ap is_null none ∙ null_is_null))
     ∙ ap (λ (q : List ℕ). if is_null q then null_packet else q) back ∙ whole_or whole p some
 
 -- else its own, if it is not null
-own_slot : (c : Config) (common plp : ℕ) (at mine : ℕ → List ℕ) (lost gone : List ℕ) (k : ℕ) (p : List ℕ) → at k ≡ null_packet → mine k ≡ p
+own_slot : (c : Config) (common plp : ℕ) (at mine : ℕ → List ℕ) (lost gone : List ℕ) (k : ℕ) (p : List ℕ)
+    → at k ≡ null_packet → mine k ≡ p
     → is_null p ≡ false
-    → joined_packet (recovered c common (epoch_ticks c common) at lost k) (recovered c plp (epoch_ticks c plp) mine gone k)
+    → joined_packet (recovered c common (epoch_ticks c common) at lost k) (recovered c plp (epoch_ticks c plp)
+    mine gone k)
     ≡ (if not (is_touched (rates_of c plp (epoch_ticks c plp)) (plp_keeps c plp mine) gone k) then p else null_packet)
 own_slot c common plp at mine lost gone k p none here some =
     let whole : Bool = not (is_touched (rates_of c plp (epoch_ticks c plp)) (plp_keeps c plp mine) gone k) in
@@ -113,8 +125,10 @@ own_slot c common plp at mine lost gone k p none here some =
     ∙ ap (λ (q : List ℕ). if is_null q then null_packet else q) back ∙ whole_or whole p some
 
 -- and nothing of a null packet
-null_slot : (c : Config) (common plp : ℕ) (at mine : ℕ → List ℕ) (lost gone : List ℕ) (k : ℕ) → is_null (at k) ≡ true → is_null (mine k) ≡ true
-    → joined_packet (recovered c common (epoch_ticks c common) at lost k) (recovered c plp (epoch_ticks c plp) mine gone k) ≡ null_packet
+null_slot : (c : Config) (common plp : ℕ) (at mine : ℕ → List ℕ) (lost gone : List ℕ) (k : ℕ) → is_null (at k) ≡ true
+    → is_null (mine k) ≡ true
+    → joined_packet (recovered c common (epoch_ticks c common) at lost k) (recovered c plp (epoch_ticks c plp)
+    mine gone k) ≡ null_packet
 null_slot c common plp at mine lost gone k a b =
     own_null (recovered c common (epoch_ticks c common) at lost k) (recovered c plp (epoch_ticks c plp) mine gone k)
     (null_back c plp mine gone k b)
@@ -134,10 +148,12 @@ bool_true b x y e = rw e refl
 bool_false : (b x y : Bool) → b ≡ false → (if b then x else y) ≡ y
 bool_false b x y e = rw e refl
 
-slot_comes : SplitSlot → (c : Config) (inputs : ℕ → List (List ℕ)) (common plp : ℕ) (muted : ℕ → Bool) (first count k : ℕ)
+slot_comes : SplitSlot → (c : Config) (inputs : ℕ → List (List ℕ)) (common plp : ℕ) (muted : ℕ
+    → Bool) (first count k : ℕ)
     → plp < length c.plps → common_of c plp ≡ Some common
     → joined_packet
-    (recovered c common (epoch_ticks c common) (packet_at (split c inputs common)) (lost_frames c common muted first count) k)
+    (recovered c common (epoch_ticks c common) (packet_at (split c inputs common))
+    (lost_frames c common muted first count) k)
     (recovered c plp (epoch_ticks c plp) (packet_at (split c inputs plp)) (lost_frames c plp muted first count) k)
     ≡ comes_back c inputs common plp muted first count k
 slot_comes law c inputs common plp muted first count k inside is =
@@ -155,30 +171,36 @@ slot_comes law c inputs common plp muted first count k inside is =
     (λ q e. let m = members_have inputs (own_places c (group_of c plp)) plp k q (own_member c plp inside h.own) e in
     (get_or_from_slice_get (inputs plp) k q null_packet m.0, m.1))
   where
-    by_slot : (slot : List (Option (List ℕ))) (p : List ℕ) (lost gone : List ℕ) → packet_at (split c inputs common) k ≡ common_packet slot
+    by_slot : (slot : List (Option (List ℕ))) (p : List ℕ) (lost gone : List ℕ)
+        → packet_at (split c inputs common) k ≡ common_packet slot
         → packet_at (split c inputs plp) k ≡ own_packet slot p → (o : Option (List ℕ)) → shared_packet slot ≡ o
         → ((q : List ℕ) → shared_packet slot ≡ Some q → (p ≡ q) × (is_null q ≡ false))
         → joined_packet (recovered c common (epoch_ticks c common) (packet_at (split c inputs common)) lost k)
         (recovered c plp (epoch_ticks c plp) (packet_at (split c inputs plp)) gone k)
         ≡ (if is_null p then null_packet
-        else if (if is_shared slot then not (is_touched (rates_of c common (epoch_ticks c common)) (plp_keeps c common (packet_at (split c inputs common))) lost k)
-        else not (is_touched (rates_of c plp (epoch_ticks c plp)) (plp_keeps c plp (packet_at (split c inputs plp))) gone k)) then p else null_packet)
+        else if (if is_shared slot then not (is_touched (rates_of c common (epoch_ticks c common))
+        (plp_keeps c common (packet_at (split c inputs common))) lost k)
+        else not (is_touched (rates_of c plp (epoch_ticks c plp)) (plp_keeps c plp (packet_at (split c inputs plp)))
+        gone k)) then p else null_packet)
     by_slot slot p lost gone at mine (Some q) e has =
         let f = has q e in
         let some : is_null p ≡ false = ap is_null f.0 ∙ f.1 in
         let shared : is_shared slot ≡ true = ap is_some e in
         shared_slot c common plp (packet_at (split c inputs common)) (packet_at (split c inputs plp)) lost gone k p
-        (at ∙ ap (λ (o : Option (List ℕ)). unwrap_or o null_packet) e ∙ sym f.0) (mine ∙ if_true (is_shared slot) null_packet p shared) some
+        (at ∙ ap (λ (o : Option (List ℕ)). unwrap_or o null_packet) e ∙ sym f.0) (mine
+        ∙ if_true (is_shared slot) null_packet p shared) some
         ∙ sym (if_false (is_null p) null_packet _ some
         ∙ ap (λ (b : Bool). if b then p else null_packet) (bool_true (is_shared slot) _ _ shared))
     by_slot slot p lost gone at mine None e has =
         let shared : is_shared slot ≡ false = ap is_some e in
-        let none : packet_at (split c inputs common) k ≡ null_packet = at ∙ ap (λ (o : Option (List ℕ)). unwrap_or o null_packet) e in
+        let none : packet_at (split c inputs common) k ≡ null_packet = at
+        ∙ ap (λ (o : Option (List ℕ)). unwrap_or o null_packet) e in
         let here : packet_at (split c inputs plp) k ≡ p = mine ∙ if_false (is_shared slot) null_packet p shared in
         bool_cases (is_null p)
         (λ null. null_slot c common plp (packet_at (split c inputs common)) (packet_at (split c inputs plp)) lost gone k
         (ap is_null none ∙ null_is_null) (ap is_null here ∙ null) ∙ sym (if_true (is_null p) null_packet _ null))
-        (λ some. own_slot c common plp (packet_at (split c inputs common)) (packet_at (split c inputs plp)) lost gone k p none here some
+        (λ some. own_slot c common plp (packet_at (split c inputs common)) (packet_at (split c inputs plp))
+        lost gone k p none here some
         ∙ sym (if_false (is_null p) null_packet _ some
         ∙ ap (λ (b : Bool). if b then p else null_packet) (bool_false (is_shared slot) _ _ shared)))
 
@@ -188,18 +210,22 @@ slot_comes law c inputs common plp muted first count k inside is =
 due_by : Config → SlotTimes → ℕ → ℕ → ℕ → List ℕ
 due_by c t s first count =
     range_with_len ((first - s) * c.ticks * t.den / t.num)
-    (released_count t.num t.den (delay_ticks t.num t.den t.epoch) ((first + count) * c.ticks) - (first - s) * c.ticks * t.den / t.num)
+    (released_count t.num t.den (delay_ticks t.num t.den t.epoch) ((first + count) * c.ticks) - (first - s)
+    * c.ticks * t.den / t.num)
 
-due_is : (c : Config) (plp first count : ℕ) → due_slots c plp first count ≡ due_by c (slot_times c plp) (spread c.plps plp) first count
+due_is : (c : Config) (plp first count : ℕ) → due_slots c plp first count ≡ due_by c (slot_times c plp)
+    (spread c.plps plp) first count
 unfolding due_by
 due_is c plp first count = refl
 
 -- a list made of each number of another, joined with a second one
 joined_made : JoinedSlots → (f g : ℕ → List ℕ) (a n : ℕ)
-    → joined (map f (range_with_len a n)) (map g (range_with_len a n)) ≡ map (λ k. joined_packet (f k) (g k)) (range_with_len a n)
+    → joined (map f (range_with_len a n)) (map g (range_with_len a n)) ≡ map (λ k. joined_packet (f k) (g k))
+    (range_with_len a n)
 unfolding joined
 joined_made slots f g a n =
-    ap (λ (m : ℕ). map (λ k. joined_packet (packet_at (map f (range_with_len a n)) k) (packet_at (map g (range_with_len a n)) k))
+    ap (λ (m : ℕ). map (λ k. joined_packet (packet_at (map f (range_with_len a n)) k)
+    (packet_at (map g (range_with_len a n)) k))
     (range_with_len 0 m)) (length-map-range_with_len g a n)
     ∙ lag (λ k. joined_packet (packet_at (map f (range_with_len a n)) k) (packet_at (map g (range_with_len a n)) k))
     (λ k. joined_packet (f k) (g k)) 0 a n (λ k lt.
@@ -217,16 +243,22 @@ unfolding JoinedBack
 comes_all step law slots recovers c common plp inputs whole first count packets plan types inside is all back =
     let muted : ℕ → Bool = λ m. not (whole m) in
     let h = has_common c plp common is in
-    let b = subst (λ (o : Option ℕ). JoinedBackWith o c plp first (map (record_of c (split c inputs) whole) (range_with_len first count)) packets)
+    let b = subst (λ (o : Option ℕ). JoinedBackWith o c plp first (map (record_of c (split c inputs) whole)
+    (range_with_len first count)) packets)
     is back in
     let s = step c plp common plan.rules inside is in
     let due : due_slots c common first count ≡ due_slots c plp first count =
-    due_is c common first count ∙ ap₂ (λ (t : SlotTimes) (n : ℕ). due_by c t n first count) s.0 s.1 ∙ sym (due_is c plp first count) in
-    let shared : b.shared ≡ map (recovered c common (epoch_ticks c common) (packet_at (split c inputs common)) (lost_frames c common muted first count))
+    due_is c common first count ∙ ap₂ (λ (t : SlotTimes) (n : ℕ). due_by c t n first count) s.0 s.1
+    ∙ sym (due_is c plp first count) in
+    let shared : b.shared ≡ map (recovered c common (epoch_ticks c common) (packet_at (split c inputs common))
+    (lost_frames c common muted first count))
     (due_slots c plp first count) =
-    recovers c common (split c inputs) whole first count b.shared plan types h.inside (split_packets c inputs common all) b.back_shared
-    ∙ ap (map (recovered c common (epoch_ticks c common) (packet_at (split c inputs common)) (lost_frames c common muted first count))) due in
-    let own = recovers c plp (split c inputs) whole first count b.own plan types inside (split_packets c inputs plp all) b.back_own in
+    recovers c common (split c inputs) whole first count b.shared plan types h.inside
+    (split_packets c inputs common all) b.back_shared
+    ∙ ap (map (recovered c common (epoch_ticks c common) (packet_at (split c inputs common))
+    (lost_frames c common muted first count))) due in
+    let own = recovers c plp (split c inputs) whole first count b.own plan types inside (split_packets c inputs plp all)
+    b.back_own in
     b.packets_are ∙ ap₂ joined shared own
     ∙ joined_made slots _ _ _ _
     ∙ map_same _ _ _ _ (λ k from to. slot_comes law c inputs common plp muted first count k inside is)

@@ -1,5 +1,6 @@
 -- Which epochs carry a user packet.
-use Rattle.std.proofs.Common.{◌≡◌, ◌⊎◌, ℕ, zero, suc, ◌+◌, ◌-◌, ◌*◌, ◌<◌, ◌≤◌, ◌&&◌, Bool, true, false, refl, ap, ◌∙◌, subst}
+use Rattle.std.proofs.Common.{◌≡◌, ◌⊎◌, ℕ, zero, suc, ◌+◌, ◌-◌, ◌*◌, ◌<◌, ◌≤◌, ◌&&◌, Bool, true, false, refl, ap, ◌∙◌}
+use Rattle.std.proofs.Common.{subst}
 use Rattle.std.proofs.Common.{arith}
 use Rattle.std.proofs.Common.{inl, inr, add-one}
 use Rattle.std.specs.Prelude.{nat_le, nat_lt}
@@ -20,7 +21,8 @@ before_next r keeps m = ap (sent_before r keeps) (add-one m)
 
 rises_by : SentWithin → (r : Rates) (keeps : ℕ → Bool) → 1 ≤ r.num → (d a : ℕ)
     → sent_before r keeps a ≤ sent_before r keeps (a + d)
-rises_by within r keeps some zero a = let e : a + 0 ≡ a = omega arith in let q = ap (sent_before r keeps) e in omega (arith, q)
+rises_by within r keeps some zero a = let e : a + 0 ≡ a = omega arith in let q = ap (sent_before r keeps)
+    e in omega (arith, q)
 rises_by within r keeps some (suc d) a =
     let e : a + suc d ≡ suc (a + d) = omega arith in
     let q = ap (sent_before r keeps) e in
@@ -54,7 +56,8 @@ pub all_missed : (r : Rates) (keeps : ℕ → Bool) (m place : ℕ) → Misses r
     → list_any (is_carried r keeps m) (range_with_len place r.up_len) ≡ false
 all_missed r keeps m place misses =
     none_any (is_carried r keeps m) (range_with_len place r.up_len)
-    (all_in_range (λ (i : ℕ). is_carried r keeps m i ≡ false) r.up_len place (λ i a b. byte_missed r keeps m place i misses a b))
+    (all_in_range (λ (i : ℕ). is_carried r keeps m i ≡ false) r.up_len place
+    (λ i a b. byte_missed r keeps m place i misses a b))
 
 -- ---- the epoch in whose range a slot is, by the epochs with which it is over
 

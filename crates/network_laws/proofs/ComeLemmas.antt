@@ -1,12 +1,15 @@
 -- What comes of the frames of a run that are sent again.
-use Rattle.std.proofs.Common.{◌≡◌, ◌≢◌, ℕ, zero, suc, ◌+◌, ◌-◌, ◌%◌, ◌<◌, ◌≤◌, ◌==◌, ◌&&◌, Bool, true, false, List, [], ◌∷◌, map, length}
-use Rattle.std.proofs.Common.{find, replicate, Option, Some, None, refl, ap, sym, subst, ◌∙◌, ⊎_elim, inl, inr, arith, eq-eqb}
+use Rattle.std.proofs.Common.{◌≡◌, ◌≢◌, ℕ, zero, suc, ◌+◌, ◌-◌, ◌%◌, ◌<◌, ◌≤◌, ◌==◌, ◌&&◌, Bool, true, false, List, []}
+use Rattle.std.proofs.Common.{◌∷◌, map, length}
+use Rattle.std.proofs.Common.{find, replicate, Option, Some, None, refl, ap, sym, subst, ◌∙◌, ⊎_elim, inl, inr, arith}
+use Rattle.std.proofs.Common.{eq-eqb}
 use Rattle.std.specs.Prelude.{if◌then◌else◌}
 use Rattle.std.specs.List.{filter, list_all, range_with_len, items_where_true, AllByRecursion}
 use Rattle.std.proofs.Math.Nat.{mod-eq_of_lt}
 use Rattle.std.proofs.lemmas.Bool.{cases_eq, cases_Bool, cond_both, cond-true, cond-false, ne_eqb, and_parts, eqb-true}
 use Rattle.std.proofs.lemmas.List.{length-replicate}
-use Rattle.terms.proofs.OptionLemmas.{none_some, some_injective}
+use Rattle.std.proofs.lemmas.Option.{same_Some}
+use Rattle.terms.proofs.OptionLemmas.{none_some}
 use Rattle.plp_config.specs.Capacity.{IsPlan}
 use Rattle.plp_config.specs.Rules.Rule.{SuperframeLength}
 use Rattle.plp_config.specs.declared.config.Config.{Config}
@@ -47,7 +50,8 @@ each_whole c (s ∷ sent) n =
 abbrev past_of : Config → List Sent → ℕ → ℕ → List Numbered
 past_of c sent a k = map (λ b. record { number = b; group = frame_group c.frames sent b }) (range_with_len a k)
 
-at_past : (c : Config) (sent : List Sent) (k a b : ℕ) → a ≤ b → b < a + k → packets_at (past_of c sent a k) b ≡ frame_packets b sent
+at_past : (c : Config) (sent : List Sent) (k a b : ℕ) → a ≤ b → b < a + k
+    → packets_at (past_of c sent a k) b ≡ frame_packets b sent
 at_past c sent zero a b le lt = absurd (omega (arith, le, lt))
 at_past c sent (suc k) a b le lt =
     elim (cases_eq a b) [
@@ -59,9 +63,11 @@ at_past c sent (suc k) a b le lt =
 none_past : (c : Config) (sent : List Sent) (k a b : ℕ) → a + k ≤ b → packets_at (past_of c sent a k) b ≡ []
 none_past c sent zero a b le = refl
 none_past c sent (suc k) a b le =
-    cond-false (a == b) _ _ (ne_eqb a b (λ e. absurd (omega (arith, le, e)))) ∙ none_past c sent k (a + 1) b (omega (arith, le))
+    cond-false (a == b) _ _ (ne_eqb a b (λ e. absurd (omega (arith, le, e))))
+    ∙ none_past c sent k (a + 1) b (omega (arith, le))
 
-module _ (are : SentAreFrames) (meet : TestsMeet) (written : WrittenIsFrame) (c : Config) (inputs : ℕ → List (List ℕ)) (plan : IsPlan c)
+module _ (are : SentAreFrames) (meet : TestsMeet) (written : WrittenIsFrame) (c : Config) (inputs : ℕ
+    → List (List ℕ)) (plan : IsPlan c)
     (types : TypesFit c) where
   some_frames : 0 < c.frames
   some_frames = let r : (2 ≤ c.frames) × (c.frames ≤ 255) = plan.rules SuperframeLength in omega (arith, r.0)
@@ -85,7 +91,8 @@ module _ (are : SentAreFrames) (meet : TestsMeet) (written : WrittenIsFrame) (c 
       record {
         packets = frame_packets n sent;
         past = past;
-        pass = (meet c inputs (n + 1) survival plan types (omega (arith, l)) (length-replicate (length sent) true)).passes 0 n past
+        pass = (meet c inputs (n + 1) survival plan types (omega (arith, l))
+            (length-replicate (length sent) true)).passes 0 n past
             (omega arith) met (each_whole c sent n);
         is = sym (written c inputs (n + 1) n plan types (omega arith));
       }
@@ -101,11 +108,13 @@ all_filter : (P : ℕ → Type 0) (test : ℕ → Bool) (xs : List ℕ) → AllB
 all_filter P test [] h = tt
 all_filter P test (x ∷ xs) h = go (test x) (all_filter P test xs h.1)
   where
-    go : (t : Bool) → AllByRecursion P (filter test xs) → AllByRecursion P (if t then x ∷ filter test xs else filter test xs)
+    go : (t : Bool) → AllByRecursion P (filter test xs)
+        → AllByRecursion P (if t then x ∷ filter test xs else filter test xs)
     go true rest = (h.0, rest)
     go false rest = rest
 
-all_small : (n : ℕ) (xs : List ℕ) → n ≤ MOST_FRAMES → AllByRecursion (λ k. k < n) xs → AllByRecursion (λ k. k < MOST_FRAMES) xs
+all_small : (n : ℕ) (xs : List ℕ) → n ≤ MOST_FRAMES → AllByRecursion (λ k. k < n) xs
+    → AllByRecursion (λ k. k < MOST_FRAMES) xs
 all_small n [] l h = tt
 all_small n (x ∷ xs) l h = (let k = h.0 in omega (arith, k, l), all_small n xs l h.1)
 
@@ -115,7 +124,8 @@ module _ (c : Config) (inputs : ℕ → List (List ℕ)) (whole : ℕ → Bool) 
 
   rise_from : (k a m : ℕ) → m < a → RiseFrom m (frames_in_range a k)
   rise_from zero a m l = tt
-  rise_from (suc k) a m l = go (whole a) (rise_from k (a + 1) a (omega arith)) (rise_from k (a + 1) m (omega (arith, l)))
+  rise_from (suc k) a m l = go (whole a) (rise_from k (a + 1) a (omega arith))
+      (rise_from k (a + 1) m (omega (arith, l)))
     where
       go : (t : Bool) → RiseFrom a (frames_in_range (a + 1) k) → RiseFrom m (frames_in_range (a + 1) k)
           → RiseFrom m (map (run_frame c inputs)
@@ -142,7 +152,7 @@ found : (test : ℕ → Bool) (xs : List ℕ) (x : ℕ) → find test xs ≡ Som
 found test [] x e = none_some x e
 found test (y ∷ xs) x e = ⊎_elim
     (λ (t : test y ≡ true).
-    let same : y ≡ x = some_injective y x (sym (cond-true {A = Option ℕ} (test y) (Some y) (find test xs) t) ∙ e) in
+    let same : y ≡ x = same_Some y x (sym (cond-true {A = Option ℕ} (test y) (Some y) (find test xs) t) ∙ e) in
     subst (λ (z : ℕ). test z ≡ true) same t)
     (λ (t : test y ≡ false).
     found test xs x (sym (cond-false {A = Option ℕ} (test y) (Some y) (find test xs) t) ∙ e))
@@ -158,10 +168,12 @@ module _ (c : Config) (inputs : ℕ → List (List ℕ)) (whole : ℕ → Bool) 
   from_first (suc k) first t =
       let p = and_parts (whole first) (first % c.frames == 0) t in
       ap (λ (b : Bool). first_number (map (run_frame c inputs)
-      (if b then first ∷ filter whole (range_with_len (first + 1) k) else filter whole (range_with_len (first + 1) k))) % c.frames) p.0
+      (if b then first ∷ filter whole (range_with_len (first + 1) k) else filter whole (range_with_len (first + 1) k)))
+      % c.frames) p.0
       ∙ eqb-true (first % c.frames) 0 p.1
 
-  pub begins_well : (end : ℕ) → first_number (map (run_frame c inputs) (filter whole (record_numbers c whole end))) % c.frames ≡ 0
+  pub begins_well : (end : ℕ) → first_number (map (run_frame c inputs) (filter whole (record_numbers c whole end)))
+      % c.frames ≡ 0
   begins_well end = go (find begins (range_with_len 0 end)) refl
     where
       go : (o : Option ℕ) → find begins (range_with_len 0 end) ≡ o
@@ -182,8 +194,10 @@ region_comes_back are meet written arrive back c plp inputs input from fates pla
     let first : Option ℕ = find (λ k. whole k && (k % c.frames == 0)) (range_with_len 0 end) in
     let r : (2 ≤ c.frames) × (c.frames ≤ 255) = plan.rules SuperframeLength in
     let some : 0 < c.frames = omega (arith, r.0) in
-    let below = numbers_below n end first (last_below n s.sent survival None (omega arith) (are c inputs n some).below) in
-    let small = all_filter (λ k. k < MOST_FRAMES) whole (record_numbers c whole end) (all_small n (record_numbers c whole end) l below) in
+    let below = numbers_below n end first (last_below n s.sent survival None (omega arith)
+    (are c inputs n some).below) in
+    let small = all_filter (λ k. k < MOST_FRAMES) whole (record_numbers c whole end)
+    (all_small n (record_numbers c whole end) l below) in
     comes back arrive c plan types.ids (map (run_frame c new) (filter whole (record_numbers c whole end)))
     (all_written are meet written c new plan types (filter whole (record_numbers c whole end)) small)
     (all_rise c new whole end first) spaced (begins_well c new whole some end)

@@ -6,8 +6,9 @@ use Rattle.std.specs.Prelude.{nat_lt, slice_get}
 use Rattle.std.specs.List.{filter, items_where_true, range_with_len, zip, AllByRecursion}
 use Rattle.std.proofs.lemmas.Bool.{cases_Bool, cases_eq, cases_lt, cond-true, cond-false, and_parts, eqb-true}
 use Rattle.std.proofs.lemmas.Bool.{eqb-false, eq-eqb, ne_eqb, ltb-true}
+use Rattle.std.proofs.lemmas.Option.{same_Some}
 use Rattle.terms.proofs.AllLemmas.{all_append}
-use Rattle.terms.proofs.OptionLemmas.{none_some, some_injective}
+use Rattle.terms.proofs.OptionLemmas.{none_some}
 use Rattle.plp_config.specs.Capacity.{IsPlan}
 use Rattle.plp_config.specs.declared.config.Config.{Config}
 use Rattle.plp_config.specs.declared.moment.TheConstants.{MOST_FRAMES}
@@ -22,7 +23,7 @@ use Rattle.frame_groups.specs.TestLaws.{FrameNamed}
 use Rattle.frame_groups.specs.Tests.{named_frame, rules}
 use Rattle.frame_writer.specs.FramePackets.{stamp_of}
 use Rattle.stream_laws.specs.DamageLaws.{GroupsAreFrames}
-use Rattle.stream_laws.specs.SentPackets.{Sent, packets_of, frame_packets, frame_group, Follows, FollowsSome}
+use Rattle.stream_laws.specs.SentPackets.{Sent, packets_of, frame_packets, frame_group}
 use Rattle.stream_laws.specs.SentPackets.{InFrameOrder, AreNear}
 use Rattle.stream_laws.specs.Survivors.{has_packets}
 use Rattle.stream_laws.specs.FrameLaws.{SentAreFrames}
@@ -41,7 +42,7 @@ use Rattle.stream_laws.proofs.GroupLemmas.{order_survivors}
 
 -- ---- what survives of a frame
 
-frame_left : (n : ℕ) (sent : List Sent) (survival : List Bool)
+pub frame_left : (n : ℕ) (sent : List Sent) (survival : List Bool)
     → frame_packets n (items_where_true survival sent)
     ≡ items_where_true (frame_survival n sent survival) (frame_packets n sent)
 frame_left n [] [] = refl
@@ -177,7 +178,7 @@ module _ (frames n : ℕ) where
               other_none m s ss (λ e. omega (arith, e, f, less)) ∙ go s.frame ss o.2 (omega (arith, f, less))
 
 -- It is that of the frame, or none.
-abbrev IsNumber : Option ℕ → ℕ → Type 0
+abbrev pub IsNumber : Option ℕ → ℕ → Type 0
 IsNumber None n = Unit {0}
 IsNumber (Some k) n = k ≡ n
 
@@ -212,9 +213,18 @@ module _ (found : NextIsFound) (named : FrameNamed) (c : Config) (inputs : ℕ �
           (and_parts (nat_lt (m + 1) MOST_FRAMES) (is_same (frame_key c.frames (m + 1)) (frame_key c.frames n)) e).1
       go false e = tt
 
-  number_is : (last : Option ℕ) (n : ℕ) → n < count → ((m : ℕ) → last ≡ Some m → (m < n) × (n < m + 16 * c.frames))
-      → IsNumber (number_of (rules c) last (group_at n)) n
-  number_is last n inside near = go (has_stamp (frame_packets n left)) refl
+  -- a timestamp names it
+  pub stamp_names : (n : ℕ) → n < count → has_stamp (frame_packets n left) ≡ true → named_frame c (group_at n) ≡ Some n
+  stamp_names n inside e =
+      let there = ltb-true 0 (length (stamps_of (frame_packets n left)))
+      (sym (stamp_told (frame_packets n left)) ∙ e) in
+      (named c (group_at n) n plan.rules).1 (record {
+        stamp = stamp_of c n;
+        first = first_stamp (stamps_of (frame_packets n left)) there all_stamps;
+        small = omega (arith, inside, most);
+        emission-is = refl;
+        key = refl;
+      })
     where
       all_stamps : AllByRecursion (λ (s : Stamp). s ≡ stamp_of c n) (stamps_of (frame_packets n left))
       all_stamps = (is_left c inputs n (run_packets c inputs n) (frame_packets n left) (has n inside)
@@ -225,20 +235,13 @@ module _ (found : NextIsFound) (named : FrameNamed) (c : Config) (inputs : ℕ �
       first_stamp [] l h = absurd (omega (arith, l))
       first_stamp (s ∷ stamps) l h = ap (λ (x : Stamp). Some x) h.0
 
+  pub number_is : (last : Option ℕ) (n : ℕ) → n < count → ((m : ℕ) → last ≡ Some m → (m < n) × (n < m + 16 * c.frames))
+      → IsNumber (number_of (rules c) last (group_at n)) n
+  number_is last n inside near = go (has_stamp (frame_packets n left)) refl
+    where
       go : (t : Bool) → has_stamp (frame_packets n left) ≡ t
           → IsNumber (cond t (named_frame c (group_at n)) (number_after c.frames last (frame_key c.frames n))) n
-      go true e =
-          let there = ltb-true 0 (length (stamps_of (frame_packets n left)))
-          (sym (stamp_told (frame_packets n left)) ∙ e) in
-          subst (λ (o : Option ℕ). IsNumber o n)
-          (sym ((named c (group_at n) n plan.rules).1 (record {
-            stamp = stamp_of c n;
-            first = first_stamp (stamps_of (frame_packets n left)) there all_stamps;
-            small = omega (arith, inside, most);
-            emission-is = refl;
-            key = refl;
-          })))
-          refl
+      go true e = subst (λ (o : Option ℕ). IsNumber o n) (sym (stamp_names n inside e)) refl
       go false e = after_is last n near
 
   -- ---- all groups
@@ -253,7 +256,7 @@ module _ (found : NextIsFound) (named : FrameNamed) (c : Config) (inputs : ℕ �
   )
 
   -- the last frame that has a number is before one, and nothing survives of those between
-  abbrev LastBefore : Option ℕ → ℕ → Type 0
+  abbrev pub LastBefore : Option ℕ → ℕ → Type 0
   LastBefore None a = Unit {0}
   LastBefore (Some m) a = (m < a) × (frame_packets m left ≢ []) × ((b : ℕ) → m < b → b < a → frame_packets b left ≡ [])
 
@@ -261,14 +264,15 @@ module _ (found : NextIsFound) (named : FrameNamed) (c : Config) (inputs : ℕ �
   groups_from a j = filter has_packets (map (frame_group c.frames left) (range_with_len a j))
 
   module _ (order : InFrameOrder c.frames None left) (near : AreNear c.frames None left) where
-    last_near : (last : Option ℕ) (a : ℕ) → LastBefore last a → frame_packets a left ≢ [] → (m : ℕ) → last ≡ Some m
+    pub last_near : (last : Option ℕ) (a : ℕ) → LastBefore last a → frame_packets a left ≢ [] → (m : ℕ) → last ≡ Some m
         → (m < a) × (a < m + 16 * c.frames)
     last_near None a h own m e = none_some m e
     last_near (Some k) a h own m e =
-        subst (λ (i : ℕ). (i < a) × (a < i + 16 * c.frames)) (some_injective k m e)
+        subst (λ (i : ℕ). (i < a) × (a < i + 16 * c.frames)) (same_Some k m e)
         (h.0, near_frames c.frames a None k left order near h.0 h.1 own h.2)
 
-    last_skipped : (last : Option ℕ) (a : ℕ) → LastBefore last a → frame_packets a left ≡ [] → LastBefore last (a + 1)
+    pub last_skipped : (last : Option ℕ) (a : ℕ) → LastBefore last a → frame_packets a left ≡ []
+        → LastBefore last (a + 1)
     last_skipped None a h none = tt
     last_skipped (Some m) a h none =
         let l = h.0 in (
@@ -280,7 +284,7 @@ module _ (found : NextIsFound) (named : FrameNamed) (c : Config) (inputs : ℕ �
               (cases_eq b a),
         )
 
-    last_own : (o : Option ℕ) (a : ℕ) → IsNumber o a → frame_packets a left ≢ [] → LastBefore o (a + 1)
+    pub last_own : (o : Option ℕ) (a : ℕ) → IsNumber o a → frame_packets a left ≢ [] → LastBefore o (a + 1)
     last_own None a is own = tt
     last_own (Some k) a is own =
         subst (λ (i : ℕ). LastBefore (Some i) (a + 1)) (sym is)

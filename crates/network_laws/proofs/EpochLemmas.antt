@@ -1,5 +1,6 @@
 -- The blocks of an epoch, one behind another.
-use Rattle.std.proofs.Common.{◌≡◌, ℕ, zero, suc, ◌+◌, ◌-◌, ◌*◌, ◌<◌, ◌≤◌, List, [], ◌++◌, length, map, ap, ◌∙◌, sym, subst, arith}
+use Rattle.std.proofs.Common.{◌≡◌, ℕ, zero, suc, ◌+◌, ◌-◌, ◌*◌, ◌<◌, ◌≤◌, List, [], ◌++◌, length, map, ap, ◌∙◌, sym}
+use Rattle.std.proofs.Common.{subst, arith}
 use Rattle.std.proofs.Common.{add-one, length-append}
 use Rattle.std.specs.Prelude.{min}
 use Rattle.std.specs.Int.{div_ceil}
@@ -15,10 +16,12 @@ use Rattle.mode_adapt.specs.Laws.{WithinLaw}
 use Rattle.network_laws.specs.RecoverLaws.{InterleavingIsEpoch}
 
 -- for whatever can be said of strings by their places and is true of two strings joined
-module _ (P : ℕ → List Item → Type 0) (none : (place : ℕ) → P place []) (join : (place : ℕ) (z y : List Item) → P place z
+module _ (P : ℕ → List Item → Type 0) (none : (place : ℕ) → P place []) (join : (place : ℕ) (z y : List Item)
+    → P place z
     → P (place + length z) y → P place (z ++ y))
     (items : ℕ → List Item) (len x y : ℕ) (pos : 1 ≤ len) (order : x ≤ y)
-    (each : (from : ℕ) → x ≤ from → from < y → (length (items from) ≡ min (from + len) y - from) × P from (items from)) where
+    (each : (from : ℕ) → x ≤ from → from < y → (length (items from) ≡ min (from + len) y - from)
+    × P from (items from)) where
   abbrev count : ℕ
   count = div_ceil (y - x) len
 
@@ -55,10 +58,12 @@ module _ (P : ℕ → List Item → Type 0) (none : (place : ℕ) → P place []
           let at : x + length (first_items j) ≡ place j = let s = p.size in omega (arith, s, b) in
           let step : suc j * len ≡ j * len + len = omega arith in
           record {
-            size = let s = p.size in let t = block.0 in ap length (more j) ∙ length-append (first_items j) (items (place j))
+            size = let s = p.size in let t = block.0 in ap length (more j)
+                ∙ length-append (first_items j) (items (place j))
                 ∙ omega (arith, s, t, b, step);
             holds = subst (P x) (sym (more j))
-                (join x (first_items j) (items (place j)) p.holds (subst (λ (n : ℕ). P n (items (place j))) (sym at) block.1));
+                (join x (first_items j) (items (place j)) p.holds (subst (λ (n : ℕ). P n (items (place j)))
+                (sym at) block.1));
           }
 
   pub whole : (length (flat_map items (block_places len x y)) ≡ y - x) × P x (flat_map items (block_places len x y))

@@ -5,7 +5,8 @@ use Rattle.std.specs.Prelude.{option_map, option_to_list}
 use Rattle.std.specs.List.{flat_map, range_with_len, AllByRecursion}
 use Rattle.std.specs.Option.{option_or}
 use Rattle.std.proofs.lemmas.Bool.{cases_Bool, cond-true, cond-false, and_parts, eqb-true}
-use Rattle.terms.proofs.OptionLemmas.{some_injective, none_some}
+use Rattle.std.proofs.lemmas.Option.{same_Some}
+use Rattle.terms.proofs.OptionLemmas.{none_some}
 use Rattle.plp_config.specs.declared.config.Config.{Config}
 use Rattle.plp_config.specs.declared.moment.TheConstants.{MOST_FRAMES}
 use Rattle.frame_groups.specs.Groups.{Group}
@@ -23,12 +24,14 @@ use Rattle.feed_merge.specs.Picks.{is_frame, Picked, frame_from, frames_of}
 use Rattle.network_laws.specs.Merged.{AreNumbered}
 
 -- what is found passes the test, and has what all have
-found : (P : FrameRecord → Type 0) (test : FrameRecord → Bool) (xs : List FrameRecord) (x : FrameRecord) → AllByRecursion P xs
+found : (P : FrameRecord → Type 0) (test : FrameRecord → Bool) (xs : List FrameRecord) (x : FrameRecord)
+    → AllByRecursion P xs
     → find test xs ≡ Some x → P x × (test x ≡ true)
 found P test [] x h e = none_some x e
 found P test (y ∷ xs) x h e = ⊎_elim
     (λ (t : test y ≡ true).
-    let same : y ≡ x = some_injective y x (sym (cond-true {A = Option FrameRecord} (test y) (Some y) (find test xs) t) ∙ e) in
+    let same : y ≡ x = same_Some y x (sym (cond-true {A = Option FrameRecord} (test y) (Some y) (find test xs) t)
+    ∙ e) in
     subst (λ (z : FrameRecord). P z × (test z ≡ true)) same (h.0, t))
     (λ (t : test y ≡ false).
     found P test xs x h.1 (sym (cond-false {A = Option FrameRecord} (test y) (Some y) (find test xs) t) ∙ e))
@@ -41,7 +44,8 @@ pub record IsPick (c : Config) (n : ℕ) (p : Picked) : Type 0 where
 
 -- one feed
 module _ (c : Config) (gs : List Group) where
-  content_written : (x : FrameRecord) → IsRight c gs x → (content : Content) → x.content ≡ content → is_frame content ≡ true
+  content_written : (x : FrameRecord) → IsRight c gs x → (content : Content) → x.content ≡ content
+      → is_frame content ≡ true
       → IsWritten c x.number (content_view c x.number content)
   content_written x right (Whole g) e t =
       let among = right g e in
@@ -73,11 +77,15 @@ module _ (c : Config) (gs : List Group) where
           record { number = refl; written = (record_written n x a.0 same parts.1, omega (arith, l, same)) }
 
       go : (o : Option FrameRecord) → find (λ x. (x.number == n) && is_frame x.content) xs ≡ o
-          → option_map (λ (x : FrameRecord). record { feed = feed; frame = record { number = n; view = content_view c n x.content } }) o
+          → option_map (λ (x : FrameRecord). record {
+            feed = feed;
+            frame =
+                record { number = n; view = content_view c n x.content };
+          }) o
           ≡ Some p
           → IsPick c n p
       go None is f = none_some p f
-      go (Some x) is f = subst (IsPick c n) (some_injective _ p f) (one x is)
+      go (Some x) is f = subst (IsPick c n) (same_Some _ p f) (one x is)
 
 pub either_pick : (c : Config) (n : ℕ) (a b : Option Picked) (p : Picked) → ((p : Picked) → a ≡ Some p → IsPick c n p)
     → ((p : Picked) → b ≡ Some p → IsPick c n p) → option_or a b ≡ Some p → IsPick c n p
@@ -86,18 +94,22 @@ either_pick c n (Some q) b p f g e = f p e
 
 -- ---- the frames of a range of numbers
 
-one_written : (c : Config) (o : Option Picked) (rest : List Picked) → ((p : Picked) → o ≡ Some p → IsWrittenFrame c p.frame)
-    → AllByRecursion (IsWrittenFrame c) (frames_of rest) → AllByRecursion (IsWrittenFrame c) (frames_of (option_to_list o ++ rest))
+one_written : (c : Config) (o : Option Picked) (rest : List Picked) → ((p : Picked) → o ≡ Some p
+    → IsWrittenFrame c p.frame)
+    → AllByRecursion (IsWrittenFrame c) (frames_of rest) → AllByRecursion (IsWrittenFrame c)
+    (frames_of (option_to_list o ++ rest))
 one_written c None rest f h = h
 one_written c (Some p) rest f h = (f p refl, h)
 
-one_rises : (m a : ℕ) (o : Option Picked) (rest : List Picked) → m < a → ((p : Picked) → o ≡ Some p → p.frame.number ≡ a)
+one_rises : (m a : ℕ) (o : Option Picked) (rest : List Picked) → m < a → ((p : Picked) → o ≡ Some p
+    → p.frame.number ≡ a)
     → ((j : ℕ) → j < a + 1 → RiseFrom j (frames_of rest)) → RiseFrom m (frames_of (option_to_list o ++ rest))
 one_rises m a None rest l f h = h m (omega (arith, l))
 one_rises m a (Some p) rest l f h = let e = f p refl in (omega (arith, l, e), h p.frame.number (omega (arith, e)))
 
 first_rises : (a : ℕ) (o : Option Picked) (rest : List Picked) → ((p : Picked) → o ≡ Some p → p.frame.number ≡ a)
-    → ((j : ℕ) → j < a + 1 → RiseFrom j (frames_of rest)) → Rise (frames_of rest) → Rise (frames_of (option_to_list o ++ rest))
+    → ((j : ℕ) → j < a + 1 → RiseFrom j (frames_of rest)) → Rise (frames_of rest)
+    → Rise (frames_of (option_to_list o ++ rest))
 first_rises a None rest f h r = r
 first_rises a (Some p) rest f h r = let e = f p refl in h p.frame.number (omega (arith, e))
 
@@ -113,10 +125,12 @@ module _ (c : Config) (pick : ℕ → Option Picked) (is : (n : ℕ) (p : Picked
   rises_from : (k a m : ℕ) → m < a → RiseFrom m (frames_of (picked_from a k))
   rises_from zero a m l = tt
   rises_from (suc k) a m l =
-      one_rises m a (pick a) (picked_from (a + 1) k) l (λ p e. (is a p e).number) (λ j below. rises_from k (a + 1) j below)
+      one_rises m a (pick a) (picked_from (a + 1) k) l (λ p e. (is a p e).number)
+      (λ j below. rises_from k (a + 1) j below)
 
   pub all_rise : (k a : ℕ) → Rise (frames_of (picked_from a k))
   all_rise zero a = tt
   all_rise (suc k) a =
-      first_rises a (pick a) (picked_from (a + 1) k) (λ p e. (is a p e).number) (λ j below. rises_from k (a + 1) j below)
+      first_rises a (pick a) (picked_from (a + 1) k) (λ p e. (is a p e).number)
+      (λ j below. rises_from k (a + 1) j below)
       (all_rise k (a + 1))

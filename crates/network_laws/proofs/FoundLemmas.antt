@@ -1,6 +1,8 @@
 -- Lists of user packets, and searches in them.
-use Rattle.std.proofs.Common.{◌≡◌, ◌⊎◌, ℕ, zero, suc, ◌+◌, ◌<◌, ◌≤◌, ◌==◌, ◌||◌, Bool, true, false, List, [], ◌∷◌, ◌++◌, length}
-use Rattle.std.proofs.Common.{map, drop, get_or, Option, Some, None, refl, ap, ap₂, ◌∙◌, sym, subst, arith, inl, inr, cond}
+use Rattle.std.proofs.Common.{◌≡◌, ◌⊎◌, ℕ, zero, suc, ◌+◌, ◌<◌, ◌≤◌, ◌==◌, ◌||◌, Bool, true, false, List, [], ◌∷◌, ◌++◌}
+use Rattle.std.proofs.Common.{length}
+use Rattle.std.proofs.Common.{map, drop, get_or, Option, Some, None, refl, ap, ap₂, ◌∙◌, sym, subst, arith, inl, inr}
+use Rattle.std.proofs.Common.{cond}
 use Rattle.std.specs.List.{AllByRecursion, range_with_len, list_any, find, filter}
 use Rattle.std.proofs.lemmas.List.{take_all, take-append-le}
 use Rattle.std.proofs.lemmas.Bool.{both_ways, cases_eq, eq-eqb, eqb-true, or_parts}
@@ -13,14 +15,20 @@ use Rattle.mode_adapt.specs.UserPackets.{user_packet}
 pub range_all : {X : Type 0} (P : X → Type 0) (f : ℕ → X) (n a : ℕ) → ((k : ℕ) → a ≤ k → k < a + n → P (f k))
     → AllByRecursion P (map f (range_with_len a n))
 range_all P f zero a h = tt
-range_all P f (suc n) a h = (h a (omega arith) (omega arith), range_all P f n (a + 1) (λ k l m. h k (omega arith) (omega arith)))
+range_all P f (suc n) a h = (
+  h a (omega arith) (omega arith),
+  range_all P f n (a + 1)
+      (λ k l m. h k (omega arith) (omega arith)),
+)
 
-pub all_in_range : (P : ℕ → Type 0) (n a : ℕ) → ((k : ℕ) → a ≤ k → k < a + n → P k) → AllByRecursion P (range_with_len a n)
+pub all_in_range : (P : ℕ → Type 0) (n a : ℕ) → ((k : ℕ) → a ≤ k → k < a + n → P k)
+    → AllByRecursion P (range_with_len a n)
 all_in_range P zero a h = tt
 all_in_range P (suc n) a h =
     (h a (omega arith) (omega arith), all_in_range P n (a + 1) (λ k l m. h k (omega arith) (omega arith)))
 
-pub each_in_range : (P : ℕ → Type 0) (n a : ℕ) → AllByRecursion P (range_with_len a n) → (k : ℕ) → a ≤ k → k < a + n → P k
+pub each_in_range : (P : ℕ → Type 0) (n a : ℕ) → AllByRecursion P (range_with_len a n) → (k : ℕ) → a ≤ k
+    → k < a + n → P k
 each_in_range P zero a h k l m = absurd (omega arith)
 each_in_range P (suc n) a h k l m =
     elim (cases_eq k a) [
@@ -33,7 +41,8 @@ pub filter_all : (P : ℕ → Type 0) (p : ℕ → Bool) (xs : List ℕ) → All
 filter_all P p [] h = tt
 filter_all P p (x ∷ xs) h = go (p x) refl (filter_all P p xs h.1)
   where
-    go : (b : Bool) → p x ≡ b → AllByRecursion P (filter p xs) → AllByRecursion P (cond b (x ∷ filter p xs) (filter p xs))
+    go : (b : Bool) → p x ≡ b → AllByRecursion P (filter p xs)
+        → AllByRecursion P (cond b (x ∷ filter p xs) (filter p xs))
     go true e rest = (h.0 e, rest)
     go false e rest = rest
 
@@ -48,11 +57,13 @@ all_filter P p (x ∷ xs) h = go (p x) refl h (λ k. all_filter P p xs k)
     go true e k rest = (λ t. k.0, rest k.1)
     go false e k rest = (λ t. absurd (both_ways _ e t), rest k)
 
-pub none_any : {X : Type 0} (test : X → Bool) (xs : List X) → AllByRecursion (λ x. test x ≡ false) xs → list_any test xs ≡ false
+pub none_any : {X : Type 0} (test : X → Bool) (xs : List X) → AllByRecursion (λ x. test x ≡ false) xs
+    → list_any test xs ≡ false
 none_any test [] h = refl
 none_any test (x ∷ xs) h = ap₂ (λ (a b : Bool). a || b) h.0 (none_any test xs h.1)
 
-pub any_none : {X : Type 0} (test : X → Bool) (xs : List X) → list_any test xs ≡ false → AllByRecursion (λ x. test x ≡ false) xs
+pub any_none : {X : Type 0} (test : X → Bool) (xs : List X) → list_any test xs ≡ false
+    → AllByRecursion (λ x. test x ≡ false) xs
 any_none test [] e = tt
 any_none test (x ∷ xs) e = let p = or_parts (test x) (list_any test xs) e in (p.0, any_none test xs p.1)
 
@@ -119,6 +130,7 @@ behind (x ∷ xs) more l e =
     ap₂ (λ (a : ℕ) (t : List ℕ). a ∷ t) (sym e) (take-append-le 187 xs more (omega (arith, n))
     ∙ take_all 187 xs (omega (arith, n)))
 
-pub packet_back : (deletes : Bool) (packet : ℕ → List ℕ) (k : ℕ) → length (packet k) ≡ 188 → get_or (packet k) 0 0 ≡ 0x47
+pub packet_back : (deletes : Bool) (packet : ℕ → List ℕ) (k : ℕ) → length (packet k) ≡ 188
+    → get_or (packet k) 0 0 ≡ 0x47
     → packet_of (user_packet deletes packet k) ≡ packet k
 packet_back deletes packet k l e = behind (packet k) _ l e

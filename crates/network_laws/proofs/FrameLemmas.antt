@@ -45,7 +45,8 @@ pub record Laws : Type 0 where
   pub fits : ShapeFitsL1
   pub counts : ShapeHasCounts
 
-same_frame : (moment : Moment) (pre p q : List Bool) (x y : List Block) (s t : List (Option Cell)) → p ≡ q → x ≡ y → s ≡ t
+same_frame : (moment : Moment) (pre p q : List Bool) (x y : List Block) (s t : List (Option Cell)) → p ≡ q
+    → x ≡ y → s ≡ t
     → Frame moment pre p x s ≡ Frame moment pre q y t
 same_frame moment pre p q x y s t e f g = rw (e, f, g) refl
 
@@ -70,10 +71,12 @@ module _ (l : Laws) (c : Config) (n : ℕ) (counts : List ℕ) where
 
   dynamic_is : part (post_bits c n (shape_of c counts)) (conf_len (length c.plps)) (dyn_len (length c.plps)) ≡ dynamic
   dynamic_is =
-      ap (λ (bits : List Bool). part bits (conf_len (length c.plps)) (dyn_len (length c.plps))) (sym (post_is c n counts))
+      ap (λ (bits : List Bool). part bits (conf_len (length c.plps)) (dyn_len (length c.plps)))
+      (sym (post_is c n counts))
       ∙ dynamic_there c dynamic l.conf dynamic_long
 
-module _ (l : Laws) (c : Config) (plp : ℕ) (inputs : ℕ → List (List ℕ)) (input : List (List ℕ)) (n : ℕ) (plan : IsPlan c)
+module _ (l : Laws) (c : Config) (plp : ℕ) (inputs : ℕ → List (List ℕ)) (input : List (List ℕ)) (n : ℕ)
+    (plan : IsPlan c)
     (types : TypesFit c) (inside : plp < length c.plps) where
   abbrev new : ℕ → List (List ℕ)
   new = with_input inputs plp input
@@ -86,7 +89,8 @@ module _ (l : Laws) (c : Config) (plp : ℕ) (inputs : ℕ → List (List ℕ)) 
 
   shape_told : option_map told_shape (told_dynamic c post) ≡ Some (frame_shape c inputs n)
   shape_told =
-      ap (λ (bits : List Bool). option_map told_shape (read_whole (dyn_read (length c.plps) bits))) (dynamic_is l c n counts)
+      ap (λ (bits : List Bool). option_map told_shape (read_whole (dyn_read (length c.plps) bits)))
+      (dynamic_is l c n counts)
       ∙ frame_told l.told l.back l.written l.fits c inputs n plan types
 
   counts_are : counts_in c post ≡ counts
@@ -99,7 +103,8 @@ module _ (l : Laws) (c : Config) (plp : ℕ) (inputs : ℕ → List (List ℕ)) 
   swapped_are =
       let e : 0 + plp ≡ plp = omega arith in
       ap (λ (xs : List ℕ). slice_set xs plp (told_count c (λ _. input) n plp)) counts_are
-      ∙ set_map (told_count c inputs n) (told_count c new n) (length c.plps) 0 plp (told_count c (λ _. input) n plp) inside
+      ∙ set_map (told_count c inputs n) (told_count c new n) (length c.plps) 0 plp (told_count c (λ _. input) n plp)
+      inside
       (ap (told_count c new n) e ∙ ap (λ (i : List (List ℕ)). told_count c (λ _. i) n plp) (own_input inputs plp input))
       (λ j differ. ap (λ (i : List (List ℕ)). told_count c (λ _. i) n j)
       (other_input inputs plp input j (λ same. differ (same ∙ sym e))))
@@ -109,7 +114,8 @@ module _ (l : Laws) (c : Config) (plp : ℕ) (inputs : ℕ → List (List ℕ)) 
       ap₂ (λ (x y : List Bool). crc_behind true (x ++ y)) (conf_is l c n counts) (ap (dyn_part c n) swapped_are)
       ∙ post_is c n told_new
 
-  blocks_new : replaced c plp (input_blocks c plp input n) (sent_blocks c (own_blocks c inputs n)) ≡ sent_blocks c (own_blocks c new n)
+  blocks_new : replaced c plp (input_blocks c plp input n) (sent_blocks c (own_blocks c inputs n)) ≡ sent_blocks
+      c (own_blocks c new n)
   blocks_new =
       ap (λ (i : List (List ℕ)). replaced c plp (input_blocks c plp i n) (sent_blocks c (own_blocks c inputs n)))
       (sym (own_input inputs plp input))
@@ -119,8 +125,10 @@ module _ (l : Laws) (c : Config) (plp : ℕ) (inputs : ℕ → List (List ℕ)) 
   frame_new : swapped_view c plp input n (frame_of c inputs n) ≡ frame_of c new n
   frame_new =
       same_frame (emission c n) (l1_pre c) (post_with_counts c n (swapped_counts c plp input n post) post)
-      (post_bits c n (frame_shape c new n)) (replaced c plp (input_blocks c plp input n) (sent_blocks c (own_blocks c inputs n)))
-      (sent_blocks c (own_blocks c new n)) (frame_cells c (shape_of c (swapped_counts c plp input n post)) (n % c.frames))
+      (post_bits c n (frame_shape c new n)) (replaced c plp (input_blocks c plp input n)
+      (sent_blocks c (own_blocks c inputs n)))
+      (sent_blocks c (own_blocks c new n)) (frame_cells c (shape_of c (swapped_counts c plp input n post))
+      (n % c.frames))
       (frame_cells c (frame_shape c new n) (n % c.frames)) post_new blocks_new
       (ap (λ (k : List ℕ). frame_cells c (shape_of c k) (n % c.frames)) swapped_are)
 

@@ -19,10 +19,12 @@ pub record IsSent (r : SlotRule) (c : Config) (plp : ℕ) (kept : List ℕ) (dnp
   pub size : length field ≡ y - x
   pub range : (n : ℕ) → x ≤ r.up_len * n → r.up_len * n < y
       → InRange r.times.num r.times.den r.times.epoch epoch (get_or kept n 0)
-  pub values : (k i : ℕ) → x + i + 1 ≡ r.up_len * suc k → i < length field → r.deletes ≡ true → get_or field i 0 ≡ dnps k
+  pub values : (k i : ℕ) → x + i + 1 ≡ r.up_len * suc k → i < length field → r.deletes ≡ true
+      → get_or field i 0 ≡ dnps k
 
 abbrev pub GatewayBlock : Type 0
-GatewayBlock = (r : SlotRule) (c : Config) (plp : ℕ) (kept : List ℕ) (dnps : ℕ → ℕ) (epoch x y : ℕ) (field : List ℕ) → IsSound r
+GatewayBlock = (r : SlotRule) (c : Config) (plp : ℕ) (kept : List ℕ) (dnps : ℕ → ℕ) (epoch x y : ℕ) (field : List ℕ)
+    → IsSound r
     → IsSent r c plp kept dnps epoch x y field
     → IsBlock r (λ n. get_or kept n 0) dnps epoch x (div_ceil x r.up_len)
     (block_read (header_at c plp x (y - x) (up_with r.up_len kept 0 (div_ceil x r.up_len) y)) field)

@@ -1,5 +1,6 @@
 -- What a gateway's block tells of its bytes.
-use Rattle.std.proofs.Common.{◌≡◌, ℕ, ◌+◌, ◌-◌, ◌*◌, ◌/◌, ◌%◌, ◌^◌, ◌==◌, ◌<◌, ◌≤◌, Bool, true, false, List, length, get_or}
+use Rattle.std.proofs.Common.{◌≡◌, ℕ, ◌+◌, ◌-◌, ◌*◌, ◌/◌, ◌%◌, ◌^◌, ◌==◌, ◌<◌, ◌≤◌, Bool, true, false, List, length}
+use Rattle.std.proofs.Common.{get_or}
 use Rattle.std.proofs.Common.{Option, Some, None, ap, ◌∙◌, arith, inl, inr, cond, eq-eqb}
 use Rattle.std.specs.Prelude.{slice_get, option_map}
 use Rattle.std.specs.Int.{div_ceil}
@@ -42,7 +43,8 @@ timed_mark : (v : ℕ) → v < 2 ^ 22 → first_mark (0x800000 + v) ≡ Timed v
 timed_mark v l =
     let d : (0x800000 + v) / 2 ^ 22 ≡ 2 = omega arith in
     let m : (0x800000 + v) % 2 ^ 22 ≡ v = omega arith in
-    ap (λ (b : Bool). cond {A = Mark} b (Timed ((0x800000 + v) % 2 ^ 22)) Next) (eq-eqb _ _ d) ∙ ap (λ (n : ℕ). Timed n) m
+    ap (λ (b : Bool). cond {A = Mark} b (Timed ((0x800000 + v) % 2 ^ 22)) Next) (eq-eqb _ _ d)
+    ∙ ap (λ (n : ℕ). Timed n) m
 
 module _ (r : SlotRule) (c : Config) (plp : ℕ) (kept : List ℕ) (dnps : ℕ → ℕ) (epoch x y : ℕ) (field : List ℕ)
     (law : IscrFindsSlot) (sound : IsSound r) (is : IsSent r c plp kept dnps epoch x y field) where
@@ -68,7 +70,13 @@ module _ (r : SlotRule) (c : Config) (plp : ℕ) (kept : List ℕ) (dnps : ℕ �
     inside : n < length kept
     inside = elim (cases_lt n (length kept)) [
       | inl lt ↦ lt
-      | inr ge ↦ let w = is.within in absurd (omega (arith, mul-le-mul_left {m = length kept} {n = n} r.up_len ge, w, l))
+      | inr ge ↦ let w = is.within in absurd (omega (
+        arith,
+        mul-le-mul_left {m = length kept} {n = n}
+            r.up_len ge,
+        w,
+        l,
+      ))
     ]
 
     up_is : up_with r.up_len kept 0 n y ≡ Some (r.up_len * n, get_or kept n 0)
@@ -96,7 +104,8 @@ module _ (r : SlotRule) (c : Config) (plp : ℕ) (kept : List ℕ) (dnps : ℕ �
         let d : header.syncd / 8 ≡ r.up_len * n - x = omega (arith, syncd_is) in
         ap (λ (b : Bool). cond b None (Some (header.syncd / 8))) not_none ∙ ap (λ (k : ℕ). Some k) d
 
-    tells : (iscr : ℕ) × (first_mark header.issy ≡ Timed iscr) × (slot_of_iscr r.times epoch iscr ≡ Some (get_or kept n 0))
+    tells : (iscr : ℕ) × (first_mark header.issy ≡ Timed iscr)
+        × (slot_of_iscr r.times epoch iscr ≡ Some (get_or kept n 0))
     tells =
         let v : ℕ = slot_start r.times.num r.times.den (get_or kept n 0) % 2 ^ 22 in (
           v,

@@ -1,7 +1,9 @@
 -- What a PLP is given back of the frames of a run.
-use Rattle.std.proofs.Common.{◌≡◌, ℕ, zero, suc, ◌+◌, ◌-◌, ◌*◌, ◌/◌, ◌<◌, ◌≤◌, ◌%◌, ◌==◌, ◌&&◌, not, Bool, true, false, cond}
+use Rattle.std.proofs.Common.{◌≡◌, ℕ, zero, suc, ◌+◌, ◌-◌, ◌*◌, ◌/◌, ◌<◌, ◌≤◌, ◌%◌, ◌==◌, ◌&&◌, not, Bool, true, false}
+use Rattle.std.proofs.Common.{cond}
 use Rattle.std.proofs.Common.{List, []}
-use Rattle.std.proofs.Common.{◌∷◌, ◌++◌, length, map, replicate, get_or, Option, Some, None, refl, ap, ap₂, ◌∙◌, sym, subst}
+use Rattle.std.proofs.Common.{◌∷◌, ◌++◌, length, map, replicate, get_or, Option, Some, None, refl, ap, ap₂, ◌∙◌, sym}
+use Rattle.std.proofs.Common.{subst}
 use Rattle.std.proofs.Common.{arith, eq-eqb, eqb-true}
 use Rattle.std.specs.Prelude.{find, ◌||◌, nat_le, nat_lt}
 use Rattle.std.specs.List.{AllByRecursion, range_with_len, filter}
@@ -13,7 +15,8 @@ use Rattle.ts_packet.specs.Null.{null_packet, is_null}
 use Rattle.plp_config.specs.Capacity.{IsPlan}
 use Rattle.plp_config.specs.Emission.{emission}
 use Rattle.plp_config.specs.InterleavingFrames.{is_first}
-use Rattle.plp_config.specs.Laws.{SlotLength, SpreadDividesFrames, NoneAtZero, ReleasedFirst, EmissionsDiffer, FrameCountLeast}
+use Rattle.plp_config.specs.Laws.{SlotLength, SpreadDividesFrames, NoneAtZero, ReleasedFirst, EmissionsDiffer}
+use Rattle.plp_config.specs.Laws.{FrameCountLeast}
 use Rattle.plp_config.specs.RunLength.{frame_count}
 use Rattle.plp_config.specs.SlotTime.{num, den, delay, slots_by, released_count, epoch_ticks}
 use Rattle.plp_config.specs.Plps.{plp_at, spread}
@@ -33,7 +36,8 @@ use Rattle.terms.proofs.RangeLemmas.{map_same}
 use Rattle.plp_receiver.specs.Laws.{ReadbackOnce}
 use Rattle.plp_receiver.specs.Epochs.{epochs_in, slot_rule, Readback}
 use Rattle.network_laws.specs.ToldEpochs.{IsPacket, ArePackets, is_lost, ended_epochs}
-use Rattle.network_laws.specs.RecoverLaws.{LostEnded, ReadbackRecovers, RunRecovers, RecordsRecover, IsCanonical, WholeComesBack}
+use Rattle.network_laws.specs.RecoverLaws.{LostEnded, ReadbackRecovers, RunRecovers, RecordsRecover, IsCanonical}
+use Rattle.network_laws.specs.RecoverLaws.{WholeComesBack}
 use Rattle.network_laws.specs.RecoverLaws.{RunComesBack}
 use Rattle.network_laws.proofs.ReadableLemmas as R
 use Rattle.network_laws.proofs.TellLemmas as T
@@ -77,11 +81,13 @@ run_recovers reads stand once recovers c plp inputs whole first count packets pl
       packets_are = refl;
     } in
     once c plp first views packets (readback (slot_rule c plp) first (length views) told) back other
-    ∙ ap (λ (n : ℕ). readback (slot_rule c plp) first n told) (length-map-range_with_len (record_of c inputs whole) first count)
+    ∙ ap (λ (n : ℕ). readback (slot_rule c plp) first n told) (length-map-range_with_len (record_of c inputs whole)
+    first count)
     ∙ recovers c plp at muted first count plan inside each
 
 -- the moment of a record is that of its frame
-moment_is : (c : Config) (inputs : ℕ → List (List ℕ)) (whole : ℕ → Bool) (n : ℕ) → moment_of (record_of c inputs whole n)
+moment_is : (c : Config) (inputs : ℕ → List (List ℕ)) (whole : ℕ → Bool) (n : ℕ)
+    → moment_of (record_of c inputs whole n)
     ≡ emission c n
 moment_is c inputs whole n = go (whole n)
   where
@@ -98,11 +104,22 @@ pub record AreFrom (c : Config) (inputs : ℕ → List (List ℕ)) (whole : ℕ 
 are_from : (c : Config) (inputs : ℕ → List (List ℕ)) (whole : ℕ → Bool) (end : ℕ) → AreFrom c inputs whole end
 are_from c inputs whole end = go (find (λ n. whole n && (n % c.frames == 0)) (range_with_len 0 end)) refl
   where
-    go : (o : Option ℕ) → find (λ n. whole n && (n % c.frames == 0)) (range_with_len 0 end) ≡ o → AreFrom c inputs whole end
+    go : (o : Option ℕ) → find (λ n. whole n && (n % c.frames == 0)) (range_with_len 0 end) ≡ o
+        → AreFrom c inputs whole end
     go None e =
-        record { first = 0; count = 0; are = ap (λ (r : Option ℕ). map (record_of c inputs whole) (numbers_from end r)) e }
+        record {
+          first = 0;
+          count = 0;
+          are = ap (λ (r : Option ℕ). map (record_of c inputs whole) (numbers_from end r))
+              e;
+        }
     go (Some n) e =
-        record { first = n; count = end - n; are = ap (λ (r : Option ℕ). map (record_of c inputs whole) (numbers_from end r)) e }
+        record {
+          first = n;
+          count = end - n;
+          are = ap (λ (r : Option ℕ). map (record_of c inputs whole)
+              (numbers_from end r)) e;
+        }
 
 -- they tell the frame from which on they are
 same_first : EmissionsDiffer → (c : Config) (inputs : ℕ → List (List ℕ)) (whole : ℕ → Bool) (first other count : ℕ)
@@ -119,14 +136,16 @@ same_first differ c inputs whole first other (suc count) views plan grid e =
     ap (λ (l : List RecordView). map moment_of l) (sym e) ∙ grid.moments
     ∙ ap (λ (k : ℕ). map (emission c) (range_with_len first k)) len in
     let head : List Moment → Moment = λ l. get_or l 0 (emission c 0) in
-    let same : other ≡ first = differ c other first plan.rules (sym (moment_is c inputs whole other) ∙ ap head moments) in
+    let same : other ≡ first = differ c other first plan.rules (sym (moment_is c inputs whole other)
+    ∙ ap head moments) in
     ap (λ (k : ℕ). map (record_of c inputs whole) (range_with_len k (suc count))) same
 
 pub records_recover : EmissionsDiffer → RunRecovers → RecordsRecover
 records_recover differ run c plp inputs whole end first packets plan types inside all grid back =
     let from = are_from c inputs whole end in
     let views : List RecordView = map (record_of c inputs whole) (range_with_len first from.count) in
-    let same : records c inputs whole end ≡ views = from.are ∙ same_first differ c inputs whole first from.first from.count
+    let same : records c inputs whole end ≡ views = from.are ∙ same_first differ c inputs whole first
+    from.first from.count
     (records c inputs whole end) plan grid from.are in
     let len : length (records c inputs whole end) ≡ from.count = ap (λ (l : List RecordView). length l) from.are
     ∙ length-map-range_with_len (record_of c inputs whole) from.first from.count in
@@ -149,7 +168,8 @@ there : (c : Config) (plp : ℕ) (muted : ℕ → Bool) (first count m : ℕ)
     → ((n : ℕ) → first ≤ n → n < first + count → muted n ≡ false) → first ≤ m * spread c.plps plp
     → m * spread c.plps plp + spread c.plps plp ≤ first + count → is_there c plp muted first count m ≡ true
 there c plp muted first count m none from below =
-    T.each_passes (λ n. nat_le first n && (nat_lt n (first + count) && not (muted n))) (spread c.plps plp) (m * spread c.plps plp)
+    T.each_passes (λ n. nat_le first n && (nat_lt n (first + count) && not (muted n))) (spread c.plps plp)
+    (m * spread c.plps plp)
     (λ n a b. let low : first ≤ n = omega (arith, from, a) in let high : n < first + count = omega (arith, below, b) in
     ap₂ (λ (s t : Bool). s && (t && not (muted n))) (le-leb first n low) (lt-ltb n (first + count) high)
     ∙ ap not (none n low high))
@@ -170,13 +190,15 @@ all_there c plp muted first count begins none =
     ap not (there c plp muted first count m none (omega (arith, low, place, zero_is)) (omega (arith, high, next, end))))
 
 -- what is not kept is null, and null packets are deleted
-not_kept : (deletes null longest : Bool) → cond deletes (not null || longest) true ≡ false → (deletes ≡ true) × (null ≡ true)
+not_kept : (deletes null longest : Bool) → cond deletes (not null || longest) true ≡ false → (deletes ≡ true)
+    × (null ≡ true)
 not_kept true true longest e = (refl, refl)
 not_kept true false longest e = absurd cc
 not_kept false null longest e = absurd cc
 
 pub whole_comes_back : NoneLost → LostEnded → RunRecovers → WholeComesBack
-whole_comes_back none ended run c plp inputs whole first count packets plan types inside all canonical begins each back =
+whole_comes_back none ended run c plp inputs whole first count packets plan types inside all canonical
+    begins each back =
     let at : ℕ → List ℕ = packet_at (inputs plp) in
     let muted : ℕ → Bool = λ m. not (whole m) in
     let slots : List ℕ = due_slots c plp first count in
@@ -184,9 +206,11 @@ whole_comes_back none ended run c plp inputs whole first count packets plan type
     ∙ ended c plp at muted first count plan inside
     ∙ ap (λ (lost : List ℕ). map (recovered c plp (epoch_ticks c plp) at lost) slots)
     (all_there c plp muted first count begins (λ m from below. ap not (each m from below)))
-    ∙ map_same (recovered c plp (epoch_ticks c plp) at []) at _ _ (λ k from below. none c plp (epoch_ticks c plp) at k (λ e.
+    ∙ map_same (recovered c plp (epoch_ticks c plp) at []) at _ _ (λ k from below. none c plp (epoch_ticks c plp)
+    at k (λ e.
     let lost = not_kept (plp_at c.plps plp).delete (is_null (at k)) _ e in
-    in_each_slot (IsCanonical (plp_at c.plps plp).delete) (λ deletes null. refl) (inputs plp) canonical k lost.0 lost.1))
+    in_each_slot (IsCanonical (plp_at c.plps plp).delete) (λ deletes null. refl) (inputs plp) canonical
+    k lost.0 lost.1))
 
 -- ---- all frames of a run
 
@@ -195,7 +219,8 @@ nulls_behind zero a = refl
 nulls_behind (suc n) a = ap (λ (l : List (List ℕ)). null_packet ∷ l) (nulls_behind n (a + 1))
 
 -- the packets of the slots from one on are those of an input from there on
-moved_slots : (p : List ℕ) (packets : List (List ℕ)) (n a : ℕ) → map (packet_at (p ∷ packets)) (range_with_len (a + 1) n)
+moved_slots : (p : List ℕ) (packets : List (List ℕ)) (n a : ℕ)
+    → map (packet_at (p ∷ packets)) (range_with_len (a + 1) n)
     ≡ map (packet_at packets) (range_with_len a n)
 moved_slots p packets zero a = refl
 moved_slots p packets (suc n) a =
@@ -211,7 +236,8 @@ packets_first (p ∷ packets) n =
     ap (λ (k : ℕ). map (packet_at (p ∷ packets)) (range_with_len 0 k)) s
     ∙ ap (λ (l : List (List ℕ)). p ∷ l) (moved_slots p packets (length packets + n) 0 ∙ packets_first packets n)
 
-module _ (lengths : SlotLength) (zero_law : NoneAtZero) (released : ReleasedFirst) (least : FrameCountLeast) (c : Config)
+module _ (lengths : SlotLength) (zero_law : NoneAtZero) (released : ReleasedFirst) (least : FrameCountLeast)
+    (c : Config)
     (plp : ℕ) (inputs : ℕ → List (List ℕ)) (plan : IsPlan c) (inside : plp < length c.plps) where
   abbrev frames : ℕ
   frames = frame_count c (λ plp. length (inputs plp))

@@ -2,12 +2,13 @@
 use Rattle.std.proofs.Common.{◌≡◌, ℕ, zero, suc, ◌+◌, ◌<◌, ◌≤◌, ◌==◌, Bool, true, false, cond, List, [], ◌∷◌, ◌++◌}
 use Rattle.std.proofs.Common.{length, map}
 use Rattle.std.proofs.Common.{Option, Some, None, refl, ap, ap₂, sym, subst, ◌∙◌, ⊎_elim, arith, append-nil}
-use Rattle.std.specs.Prelude.{not, nat_lt, is_some, find, option_map, option_to_list}
+use Rattle.std.specs.Prelude.{nat_lt, find, option_map, option_to_list}
 use Rattle.std.specs.List.{flat_map, range_with_len, AllByRecursion}
 use Rattle.std.specs.Option.{option_or}
-use Rattle.std.proofs.lemmas.Bool.{cases_Bool, cases_eq, cond-true, cond-false, eq-eqb, ne_eqb, true≢false}
+use Rattle.std.proofs.lemmas.Bool.{cases_Bool, cases_eq, cond-true, cond-false, eq-eqb, ne_eqb}
+use Rattle.std.proofs.lemmas.Option.{same_Some}
 use Rattle.terms.proofs.AllLemmas.{all_append}
-use Rattle.terms.proofs.OptionLemmas.{some_injective, none_some}
+use Rattle.terms.proofs.OptionLemmas.{none_some}
 use Rattle.bb_frame.specs.Laws.{ScramblesBack}
 use Rattle.plp_config.specs.Capacity.{IsPlan}
 use Rattle.plp_config.specs.declared.config.Config.{Config}
@@ -17,7 +18,6 @@ use Rattle.t2mi_packet.specs.declared.packet.Packet.{Packet}
 use Rattle.mode_adapt.specs.Blocks.{own_blocks, told_counts}
 use Rattle.frame_groups.specs.Groups.{Group}
 use Rattle.frame_groups.specs.Modulated.{Numbered}
-use Rattle.frame_groups.specs.declared.cause.MuteCause.{MuteCause}
 use Rattle.frame_groups.specs.Tests.{group_fault, packets_fault, rules}
 use Rattle.frame_writer.specs.Carried.{of_frame}
 use Rattle.frame_writer.specs.FramePackets.{packet_with}
@@ -44,13 +44,14 @@ use Rattle.mended_frames.specs.Picks.{Coming, number_next, least_next, is_number
 use Rattle.mended_frames.specs.Picks.{all_behind}
 use Rattle.mended_frames.specs.Picks.{one_waits, picked_of, pick_next, picked_from, events_in}
 use Rattle.mended_frames.specs.Mended.{Made, passes, made_as, made_of, past_with, low_of, taking, mended}
-use Rattle.network_laws.specs.FeedsOfRun.{run_packets, CameNear, IsNearOfRun, IsRunFrame, MadeAreOfRun, WholeStreamMended}
-use Rattle.network_laws.specs.FeedsOfRun.{DamagedRunsMended, WholeAmongDamaged}
+use Rattle.network_laws.specs.FeedsOfRun.{run_packets, CameNear, IsNearOfRun, IsRunFrame, MadeAreOfRun}
+use Rattle.network_laws.specs.FeedsOfRun.{WholeStreamMended, DamagedRunsMended, WholeAmongDamaged}
 use Rattle.network_laws.proofs.DamagedFeedLemmas.{damaged_events, of_run}
 use Rattle.network_laws.proofs.HonestGroupLemmas.{view_is, whole_has}
 use Rattle.network_laws.proofs.RowGroupLemmas.{row_packets}
 use Rattle.network_laws.proofs.WholeFeedLemmas.{run_has, sent_as_run}
 use Rattle.mended_frames.proofs.PickLemmas.{lesser_is}
+use Rattle.mended_frames.proofs.MendLemmas.{no_fault}
 use Rattle.network_laws.proofs.WovenRunLemmas.{IsNear, woven_has}
 
 -- ---- the packets of a frame among those of a run
@@ -123,7 +124,7 @@ module _ (law : StoodIsPlaced) (framed : PlacedIsOfFrame) (given : Given) (knows
   abbrev NearFeeds : ℕ → (ℕ → Coming) → Type 0
   NearFeeds k feeds = (i : ℕ) → i < k → AllNear (feeds i).events
 
-  behind_near : (number : Option ℕ) (silent : Bool) (events : List FeedEvent) → AllNear events
+  pub behind_near : (number : Option ℕ) (silent : Bool) (events : List FeedEvent) → AllNear events
       → AllNear (behind number silent events)
   behind_near number silent [] h = tt
   behind_near number silent (Has x ∷ events) h = go (is_number number x.number)
@@ -150,7 +151,7 @@ module _ (law : StoodIsPlaced) (framed : PlacedIsOfFrame) (given : Given) (knows
       (cases_eq n x.number)
   groups_near n (Silent ∷ events) h = tt
 
-  all_groups_near : (n k a j : ℕ) (feeds : ℕ → Coming) → NearFeeds k feeds → a + j ≤ k
+  pub all_groups_near : (n k a j : ℕ) (feeds : ℕ → Coming) → NearFeeds k feeds → a + j ≤ k
       → AllByRecursion (NearGroup n) (flat_map (λ i. group_next n (feeds i).events) (range_with_len a j))
   all_groups_near n k a zero feeds h l = tt
   all_groups_near n k a (suc j) feeds h l =
@@ -162,10 +163,10 @@ module _ (law : StoodIsPlaced) (framed : PlacedIsOfFrame) (given : Given) (knows
   next_inside : (events : List FeedEvent) (n : ℕ) → AllNear events → number_next events ≡ Some n
       → n < run_length c inputs
   next_inside [] n h e = none_some n e
-  next_inside (Has x ∷ events) n h e = let l = h.0.0 in let s = some_injective x.number n e in omega (arith, l, s)
+  next_inside (Has x ∷ events) n h e = let l = h.0.0 in let s = same_Some x.number n e in omega (arith, l, s)
   next_inside (Silent ∷ events) n h e = none_some n e
 
-  least_inside : (k j n : ℕ) (feeds : ℕ → Coming) → NearFeeds k feeds → j ≤ k → least_next j feeds ≡ Some n
+  pub least_inside : (k j n : ℕ) (feeds : ℕ → Coming) → NearFeeds k feeds → j ≤ k → least_next j feeds ≡ Some n
       → n < run_length c inputs
   least_inside k zero n feeds h l e = none_some n e
   least_inside k (suc j) n feeds h l e = ⊎_elim
@@ -175,10 +176,6 @@ module _ (law : StoodIsPlaced) (framed : PlacedIsOfFrame) (given : Given) (knows
 
   -- ---- one frame
 
-  no_fault : (o : Option MuteCause) → not (is_some o) ≡ true → o ≡ None
-  no_fault None e = refl
-  no_fault (Some cause) e = absurd (true≢false (sym e))
-
   -- the first that passes is one that does
   found_own : (n : ℕ) (past : List Numbered) (gs : List Group) (g : Group) → n < run_length c inputs
       → AllByRecursion (NearGroup n) gs → find (passes c past n) gs ≡ Some g
@@ -186,7 +183,7 @@ module _ (law : StoodIsPlaced) (framed : PlacedIsOfFrame) (given : Given) (knows
   found_own n past [] g l near e = none_some g e
   found_own n past (h ∷ gs) g l near e = ⊎_elim
       (λ (t : passes c past n h ≡ true).
-      let same = some_injective h g (sym (cond-true (passes c past n h) (Some h) (find (passes c past n) gs) t) ∙ e) in
+      let same = same_Some h g (sym (cond-true (passes c past n h) (Some h) (find (passes c past n) gs) t) ∙ e) in
       let pass = no_fault (group_fault c past h n) t in
       subst (λ (x : Group). HasFrame c inputs n x.packets × (packets_fault c past n x.packets ≡ None)) same (
         whole_has given knows c inputs n plan types (run_packets c inputs n) h.packets
@@ -204,7 +201,7 @@ module _ (law : StoodIsPlaced) (framed : PlacedIsOfFrame) (given : Given) (knows
   found_woven n past None g e = none_some g e
   found_woven n past (Some h) g e = ⊎_elim
       (λ (t : passes c past n h ≡ true).
-      let same = some_injective h g (sym (cond-true (passes c past n h) (Some h) None t) ∙ e) in (
+      let same = same_Some h g (sym (cond-true (passes c past n h) (Some h) None t) ∙ e) in (
         ap (λ (x : Group). Some x) same,
         subst (λ (x : Group). packets_fault c past n x.packets ≡ None) same (no_fault (group_fault c past h n) t),
       ))
@@ -221,33 +218,53 @@ module _ (law : StoodIsPlaced) (framed : PlacedIsOfFrame) (given : Given) (knows
     recorded = view_is given knows c inputs n plan types g.packets has;
   }
 
+  pub near_of : (n q : ℕ) (l : n < run_length c inputs)
+      (is : run_packets c inputs n ≡ row_packets c q n (bodies_at c inputs n)) (gs : List Group)
+      → AllByRecursion (NearGroup n) gs
+      → AllByRecursion (IsNear law framed given knows c inputs n plan types q (run_packets c inputs n) is
+      (run_has given knows carries c inputs plan types n l)) gs
+  near_of n q l is [] h = tt
+  near_of n q l is (g ∷ gs) h = (record { flags = h.0.flags; are = h.0.are; few = h.0.few }, near_of n q l is gs h.1)
+
+  -- What is made of groups of a number has what the run's frame has, and passes.
+  abbrev pub MadeHas : ℕ → List Numbered → Option Made → Type 0
+  MadeHas n past None = Unit {0}
+  MadeHas n past (Some x) = (x.number ≡ n) × HasFrame c inputs n x.group.packets
+      × (packets_fault c past n x.group.packets ≡ None)
+
+  pub made_has : (n : ℕ) (past : List Numbered) (gs : List Group) → n < run_length c inputs
+      → AllByRecursion (NearGroup n) gs → MadeHas n past (made_of c past (record { number = n; groups = gs }))
+  made_has n past gs l near = go (find (passes c past n) gs) refl
+      (find (passes c past n) (option_to_list (woven c n gs))) refl
+    where
+      go : (a : Option Group) → find (passes c past n) gs ≡ a → (b : Option Group)
+          → find (passes c past n) (option_to_list (woven c n gs)) ≡ b
+          → MadeHas n past (option_or (option_map (made_as n false) a) (option_map (made_as n true) b))
+      go (Some g) e b f = let r = found_own n past gs g l near e in (refl, r.0, r.1)
+      go None e (Some g) f =
+          let row = run_row c inputs n l in
+          let w = found_woven n past (woven c n gs) g f in
+          let has = woven_has law framed given knows c inputs n plan types row.0 (run_packets c inputs n) row.1
+          (run_has given knows carries c inputs plan types n l) gs g (near_of n row.0 l row.1 gs near) w.0 in
+          (refl, has, w.1)
+      go None e None f = tt
+
   abbrev AllRun : List Made → Type 0
   AllRun made = AllByRecursion (IsRunFrame c inputs) made
 
   one_made : (n : ℕ) (past : List Numbered) (gs : List Group) (rest : List Made) → n < run_length c inputs
       → AllByRecursion (NearGroup n) gs → AllRun rest
       → AllRun (option_to_list (made_of c past (record { number = n; groups = gs })) ++ rest)
-  one_made n past gs rest l near h = go (find (passes c past n) gs) refl
-      (find (passes c past n) (option_to_list (woven c n gs))) refl
+  one_made n past gs rest l near h =
+      go (made_of c past (record { number = n; groups = gs })) (made_has n past gs l near)
     where
-      near_of : (q : ℕ) (is : run_packets c inputs n ≡ row_packets c q n (bodies_at c inputs n)) (gs : List Group)
-          → AllByRecursion (NearGroup n) gs
-          → AllByRecursion (IsNear law framed given knows c inputs n plan types q (run_packets c inputs n) is
-          (run_has given knows carries c inputs plan types n l)) gs
-      near_of q is [] h = tt
-      near_of q is (g ∷ gs) h = (record { flags = h.0.flags; are = h.0.are; few = h.0.few }, near_of q is gs h.1)
-
-      go : (a : Option Group) → find (passes c past n) gs ≡ a → (b : Option Group)
-          → find (passes c past n) (option_to_list (woven c n gs)) ≡ b
-          → AllRun (option_to_list (option_or (option_map (made_as n false) a) (option_map (made_as n true) b)) ++ rest)
-      go (Some g) e b f = let r = found_own n past gs g l near e in (is_run n past g false l r.0 r.1, h)
-      go None e (Some g) f =
-          let row = run_row c inputs n l in
-          let w = found_woven n past (woven c n gs) g f in
-          let has = woven_has law framed given knows c inputs n plan types row.0 (run_packets c inputs n) row.1
-          (run_has given knows carries c inputs plan types n l) gs g (near_of row.0 row.1 gs near) w.0 in
-          (is_run n past g true l has w.1, h)
-      go None e None f = h
+      go : (o : Option Made) → MadeHas n past o → AllRun (option_to_list o ++ rest)
+      go None has = h
+      go (Some x) has = (
+        subst (λ (i : ℕ). IsRunFrame c inputs (made_as i x.is_woven x.group)) (sym has.0)
+            (is_run n past x.group x.is_woven l has.1 has.2),
+        h,
+      )
 
   -- ---- all of them
 
@@ -301,7 +318,7 @@ made_are_of_run law framed given knows carries scrambles bits post size shown c 
 
 -- ---- damaged streams
 
-some_frames : (c : Config) → IsPlan c → 0 < c.frames
+pub some_frames : (c : Config) → IsPlan c → 0 < c.frames
 some_frames c plan = let r : (2 ≤ c.frames) × (c.frames ≤ 255) = plan.rules SuperframeLength in omega (arith, r.0)
 
 pub damaged_runs_mended : StoodIsPlaced → PlacedIsOfFrame → Given → Knows → FrameCarries → ScramblesBack

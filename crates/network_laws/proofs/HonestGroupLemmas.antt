@@ -5,7 +5,8 @@ use Rattle.std.specs.Prelude.{slice_get, slice_index, nat_lt, unwrap_or, if◌th
 use Rattle.std.specs.List.{filter, filter_map, cons_option, items_where_true, list_all}
 use Rattle.std.specs.Option.{option_map_or, option_and_then, option_or}
 use Rattle.std.proofs.lemmas.Bool.{and_parts, and_from, ltb-true}
-use Rattle.terms.proofs.OptionLemmas.{none_if, some_injective}
+use Rattle.std.proofs.lemmas.Option.{same_Some}
+use Rattle.terms.proofs.OptionLemmas.{none_if}
 use Rattle.terms.proofs.RangeLemmas.{flat_same}
 use Rattle.plp_config.specs.Capacity.{IsPlan}
 use Rattle.plp_config.specs.Emission.{emission}
@@ -37,7 +38,7 @@ use Rattle.stream_laws.proofs.FormedSignalLemmas.{Knows}
 use Rattle.stream_laws.specs.Types.{TypesFit}
 use Rattle.stream_laws.proofs.BlockLemmas.{count_at, own_long}
 use Rattle.stream_laws.proofs.CarriedLemmas.{HasFrame}
-use Rattle.stream_laws.proofs.LossLemmas.{IsLeft, is_left, fewer_flagged, keep_fewer, more_first}
+use Rattle.stream_laws.proofs.LossLemmas.{IsLeft, is_left, fewer_flagged}
 use Rattle.stream_laws.proofs.PassLemmas.{Given, parts_tell}
 use Rattle.stream_laws.proofs.FrameSignalLemmas.{frame_parts}
 use Rattle.stream_laws.proofs.WrittenLemmas.{post_is}
@@ -190,9 +191,9 @@ module _ (given : Given) (knows : Knows) (c : Config) (inputs : ℕ → List (Li
     shape_told : p.l1.shape ≡ frame_shape c inputs n
     shape_told =
         let first : frame_parts c inputs n ≡ p.l1.first =
-        some_injective (frame_parts c inputs n) p.l1.first
+        same_Some (frame_parts c inputs n) p.l1.first
         (sym (ap (λ (l : List L1Parts). slice_get l 0) l1s) ∙ p.l1.is) in
-        some_injective p.l1.shape (frame_shape c inputs n)
+        same_Some p.l1.shape (frame_shape c inputs n)
         (sym p.l1.told ∙ sym (ap (l1_shape c) first) ∙ parts_tell given c inputs n plan types)
 
     blocks : (plp : ℕ) → plp < length c.plps → blocks_of c plp packets ≡ own_blocks c inputs n plp

@@ -28,4 +28,5 @@ set_map f g (suc k) a zero x lt here others =
 set_map f g (suc k) a (suc i) x lt here others =
     let e : a + 1 + i ≡ a + suc i = omega arith in
     ap₂ (λ (n : ℕ) (l : List ℕ). n ∷ l) (sym (others a (λ (same : a ≡ a + suc i). absurd (omega (arith, same)))))
-    (set_map f g k (a + 1) i x (omega (arith, lt)) (ap g e ∙ here) (λ j differ. others j (λ same. differ (same ∙ sym e))))
+    (set_map f g k (a + 1) i x (omega (arith, lt)) (ap g e ∙ here)
+    (λ j differ. others j (λ same. differ (same ∙ sym e))))

@@ -1,17 +1,20 @@
 -- The first frame of a modulator is its join, which begins a superframe.
-use Rattle.std.proofs.Common.{◌≡◌, ◌⊎◌, inl, inr, ℕ, ◌+◌, ◌%◌, ◌<◌, ◌≤◌, ◌==◌, ◌&&◌, Bool, true, false, List, [], ◌∷◌, ◌++◌}
+use Rattle.std.proofs.Common.{◌≡◌, ◌⊎◌, inl, inr, ℕ, ◌+◌, ◌%◌, ◌<◌, ◌≤◌, ◌==◌, ◌&&◌, Bool, true, false, List, [], ◌∷◌}
+use Rattle.std.proofs.Common.{◌++◌}
 use Rattle.std.proofs.Common.{find, Option, Some, None, refl, ap, sym, subst, ◌∙◌, ⊎_elim, arith, cond}
 use Rattle.std.specs.Prelude.{option_map}
 use Rattle.std.specs.List.{AllByRecursion}
 use Rattle.std.specs.Option.{option_or}
 use Rattle.std.proofs.lemmas.Bool.{and_from, cond-true, cond-false, eq-eqb, ne_eqb, eqb-true, and_left, cases_lt}
-use Rattle.terms.proofs.OptionLemmas.{some_injective, none_some}
+use Rattle.std.proofs.lemmas.Option.{same_Some}
+use Rattle.terms.proofs.OptionLemmas.{none_some}
 use Rattle.plp_config.specs.Capacity.{IsPlan}
 use Rattle.plp_config.specs.declared.config.Config.{Config}
 use Rattle.t2mi_stream.specs.Units.{accepted_of}
 use Rattle.frame_groups.specs.Groups.{Group, groups}
 use Rattle.frame_groups.specs.Laws.{AreFrom}
-use Rattle.frame_groups.specs.Modulated.{FrameRecord, content_of, gaps_behind, own_record, join_number, passing, unless_fault}
+use Rattle.frame_groups.specs.Modulated.{FrameRecord, content_of, gaps_behind, own_record, join_number, passing}
+use Rattle.frame_groups.specs.Modulated.{unless_fault}
 use Rattle.frame_groups.specs.Modulated.{past_with, records_from, modulated}
 use Rattle.frame_groups.specs.declared.cause.MuteCause.{MuteCause}
 use Rattle.frame_groups.specs.declared.key.Key.{Key}
@@ -31,10 +34,11 @@ record IsJoin (c : Config) (g : Group) (n : ℕ) : Type 0 where
   named : named_frame c g ≡ Some n
   passes : group_fault c [] g n ≡ None
 
-passing_is : (c : Config) (g : Group) (n m : ℕ) (o : Option MuteCause) → group_fault c [] g m ≡ o → unless_fault m o ≡ Some n
+passing_is : (c : Config) (g : Group) (n m : ℕ) (o : Option MuteCause) → group_fault c [] g m ≡ o
+    → unless_fault m o ≡ Some n
     → named_frame c g ≡ Some m → g.key.frame ≡ 0 → IsJoin c g n
 passing_is c g n m None is e named idx =
-    let same : m ≡ n = some_injective m n e in
+    let same : m ≡ n = same_Some m n e in
     subst (IsJoin c g) same (record { idx = idx; named = named; passes = is })
 passing_is c g n m (Some cause) is e named idx = none_some n e
 
@@ -46,7 +50,8 @@ named_is c g n (Some m) is e idx = passing_is c g n m (group_fault c [] g m) ref
 join_is : (c : Config) (g : Group) (n : ℕ) → join_number (rules c) g ≡ Some n → IsJoin c g n
 join_is c g n e = go (g.key.frame == 0) refl e
   where
-    go : (t : Bool) → (g.key.frame == 0) ≡ t → cond {A = Option ℕ} t (passing (rules c) g (named_frame c g)) None ≡ Some n
+    go : (t : Bool) → (g.key.frame == 0) ≡ t → cond {A = Option ℕ} t (passing (rules c) g (named_frame c g))
+        None ≡ Some n
         → IsJoin c g n
     go true is f = named_is c g n (named_frame c g) refl f (eqb-true g.key.frame 0 is)
     go false is f = none_some n f
@@ -65,7 +70,8 @@ Starts c xs = (xs ≡ []) ⊎ BeginsWell c xs
 whole_content : (g : Group) (o : Option MuteCause) → o ≡ None → is_frame (content_of g o) ≡ true
 whole_content g o e = ap (λ (o : Option MuteCause). is_frame (content_of g o)) e
 
-group_starts : FrameNamed → (c : Config) → IsPlan c → (g : Group) (gs : List Group) (o : Option ℕ) → join_number (rules c) g ≡ o
+group_starts : FrameNamed → (c : Config) → IsPlan c → (g : Group) (gs : List Group) (o : Option ℕ)
+    → join_number (rules c) g ≡ o
     → Starts c (records_from (rules c) [] gs)
     → Starts c ((gaps_behind [] o ++ own_record (rules c) [] g o) ++ records_from (rules c) (past_with [] g o) gs)
 group_starts named c plan g gs None e more = more
@@ -120,8 +126,10 @@ none_found n m (x ∷ xs) l h =
 abbrev picked_as : Config → Feed → ℕ → FrameRecord → Picked
 picked_as c feed n x = record { feed = feed; frame = record { number = n; view = content_view c n x.content } }
 
-feed_begins_with : (c : Config) (feed : Feed) (first : FrameRecord) (rest : List FrameRecord) → is_frame first.content ≡ true
-    → first.number % c.frames ≡ 0 → (n : ℕ) → AreFrom n (first ∷ rest) → BeginsAt c (λ m. frame_from c feed m (first ∷ rest))
+feed_begins_with : (c : Config) (feed : Feed) (first : FrameRecord) (rest : List FrameRecord)
+    → is_frame first.content ≡ true
+    → first.number % c.frames ≡ 0 → (n : ℕ) → AreFrom n (first ∷ rest)
+    → BeginsAt c (λ m. frame_from c feed m (first ∷ rest))
 feed_begins_with c feed first rest whole idx n h =
     let k : ℕ = first.number in
     let same = h.0 in

@@ -1,5 +1,6 @@
 -- Between one kept slot and the next none is kept.
-use Rattle.std.proofs.Common.{◌≡◌, ℕ, zero, suc, ◌+◌, ◌-◌, ◌*◌, ◌<◌, ◌≤◌, Bool, true, false, List, [], ◌∷◌, ◌++◌, length-append}
+use Rattle.std.proofs.Common.{◌≡◌, ℕ, zero, suc, ◌+◌, ◌-◌, ◌*◌, ◌<◌, ◌≤◌, Bool, true, false, List, [], ◌∷◌, ◌++◌}
+use Rattle.std.proofs.Common.{length-append}
 use Rattle.std.proofs.Common.{length, get_or, refl, ap, ◌∙◌, sym, subst, arith, inl, inr, cond}
 use Rattle.std.specs.Prelude.{if◌then◌else◌}
 use Rattle.std.specs.List.{range_with_len, filter, flat_map}
@@ -37,7 +38,8 @@ module _ (keeps : ℕ → Bool) where
       list b = cond b (a ∷ kept (a + 1) len) (kept (a + 1) len)
 
       go : (b : Bool) → keeps a ≡ b → 1 ≤ length (list (keeps a))
-          → (1 ≤ length (kept (a + 1) len) → IsFirst (a + 1) (nth (a + 1) len 0)) → IsFirst a (get_or (list (keeps a)) 0 0)
+          → (1 ≤ length (kept (a + 1) len) → IsFirst (a + 1) (nth (a + 1) len 0))
+          → IsFirst a (get_or (list (keeps a)) 0 0)
       go true e m rest = subst (λ (b : Bool). IsFirst a (get_or (list b) 0 0)) (sym e)
           (record { from = omega arith; none = λ j x y. absurd (omega arith); is = e })
       go false e m rest = subst (λ (b : Bool). IsFirst a (get_or (list b) 0 0)) (sym e)
@@ -137,7 +139,12 @@ module _ (keeps : ℕ → Bool) where
           → HasNumber a (suc len) m (get_or (list true) m 0)
       at_true zero h e more =
           let d : a - a ≡ 0 = omega arith in
-          record { from = omega arith; below = omega arith; count = ap (λ (k : ℕ). length (filter keeps (range_with_len a k))) d }
+          record {
+            from = omega arith;
+            below = omega arith;
+            count = ap
+                (λ (k : ℕ). length (filter keeps (range_with_len a k))) d;
+          }
       at_true (suc m) h e more =
           let f = more m (omega arith) in
           let x = f.from in
@@ -174,18 +181,21 @@ kept_number keeps end n l =
 
 -- The string.
 
-flat_size : (f : ℕ → List ℕ) (len : ℕ) → ((k : ℕ) → length (f k) ≡ len) → (ks : List ℕ) → length (flat_map f ks) ≡ len * length ks
+flat_size : (f : ℕ → List ℕ) (len : ℕ) → ((k : ℕ) → length (f k) ≡ len) → (ks : List ℕ)
+    → length (flat_map f ks) ≡ len * length ks
 flat_size f len each [] = omega arith
 flat_size f len each (k ∷ ks) =
     let s : len * suc (length ks) ≡ len * length ks + len = omega arith in
     length-append (f k) (flat_map f ks) ∙ omega (arith, each k, flat_size f len each ks, s)
 
-flat_byte : (f : ℕ → List ℕ) (len : ℕ) → ((k : ℕ) → length (f k) ≡ len) → (ks : List ℕ) (n j : ℕ) → n < length ks → j < len
+flat_byte : (f : ℕ → List ℕ) (len : ℕ) → ((k : ℕ) → length (f k) ≡ len) → (ks : List ℕ) (n j : ℕ) → n < length ks
+    → j < len
     → get_or (flat_map f ks) (len * n + j) 0 ≡ get_or (f (get_or ks n 0)) j 0
 flat_byte f len each [] n j l m = absurd (omega arith)
 flat_byte f len each (k ∷ ks) zero j l m =
     let s : len * 0 + j ≡ j = omega arith in
-    ap (λ (i : ℕ). get_or (f k ++ flat_map f ks) i 0) s ∙ get_or_append_left (f k) (flat_map f ks) 0 j (omega (arith, each k))
+    ap (λ (i : ℕ). get_or (f k ++ flat_map f ks) i 0) s ∙ get_or_append_left (f k) (flat_map f ks) 0
+    j (omega (arith, each k))
 flat_byte f len each (k ∷ ks) (suc n) j l m =
     let s : len * suc n + j ≡ len + (len * n + j) = omega arith in
     let d : len + (len * n + j) - len ≡ len * n + j = omega arith in

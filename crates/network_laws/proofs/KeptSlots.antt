@@ -20,7 +20,8 @@ abbrev pub KeptNumber : Type 0
 KeptNumber = (keeps : ℕ → Bool) (end n : ℕ) → n < length (kept_slots keeps end) → (kept_slot keeps end n < end)
     × (length (kept_slots keeps (kept_slot keeps end n)) ≡ n)
 
--- If each user packet has so many bytes, the string has so many for each kept slot, and user packet n stands at len * n.
+-- If each user packet has so many bytes, the string has so many for each kept slot, and user packet n stands at len *
+-- n.
 pub record IsEven (deletes : Bool) (at : ℕ → List ℕ) (len end : ℕ) : Type 0 where
   pub size : length (up_string deletes at end) ≡ len * length (kept_slots (keeps_of deletes at) end)
   pub byte : (n j : ℕ) → n < length (kept_slots (keeps_of deletes at) end) → j < len

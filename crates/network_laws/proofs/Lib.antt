@@ -40,4 +40,10 @@ pub mod WholeFeedLemmas
 pub mod RunPlaceLemmas
 pub mod WovenRunLemmas
 pub mod HonestFeedLemmas
+pub mod CameBlockLemmas
+pub mod CameWovenLemmas
+pub mod NextNumberLemmas
+pub mod CameMadeLemmas
 pub mod DamagedFeedLemmas
+pub mod LossyRunLemmas
+pub mod NoneLostLemmas

@@ -1,5 +1,6 @@
 -- Which of the epochs that are not there carry something of a slot that is due, and Readback of those that end.
-use Rattle.std.proofs.Common.{◌≡◌, ◌⊎◌, ℕ, zero, suc, ◌+◌, ◌-◌, ◌*◌, ◌/◌, ◌<◌, ◌≤◌, ◌&&◌, ◌||◌, not, Bool, true, false, List}
+use Rattle.std.proofs.Common.{◌≡◌, ◌⊎◌, ℕ, zero, suc, ◌+◌, ◌-◌, ◌*◌, ◌/◌, ◌<◌, ◌≤◌, ◌&&◌, ◌||◌, not, Bool, true, false}
+use Rattle.std.proofs.Common.{List}
 use Rattle.std.proofs.Common.{length}
 use Rattle.std.proofs.Common.{refl, ap, ◌∙◌, sym, subst, arith, inl, inr, cond}
 use Rattle.std.specs.List.{range_with_len, list_any, filter}
@@ -73,7 +74,8 @@ two_less (suc (suc n)) epoch =
     subst (λ (k : ℕ). (suc (suc n) + 1) * epoch - 3 * epoch ≤ k * epoch) (sym f) (omega (arith, e))
 
 -- three epochs before the end of so many frames two epochs fewer had ended, at most
-late_tick : (end spread ticks : ℕ) → 1 ≤ spread → end * ticks - 3 * (spread * ticks) ≤ (end / spread - 2) * (spread * ticks)
+late_tick : (end spread ticks : ℕ) → 1 ≤ spread → end * ticks - 3 * (spread * ticks) ≤ (end / spread - 2)
+    * (spread * ticks)
 late_tick end spread ticks some =
     let p = placed spread end some in
     let b = p.below in
@@ -121,7 +123,8 @@ module _ (law : S.Sending) (times : Times) (laws : PlanLaws) (c : Config) (plp :
   few : ended ≤ first + count
   few = div-le_self (first + count) (spread c.plps plp)
 
-  -- a slot that is due was not over when all epochs had ended before the first one but one, and was when all but two had
+  -- a slot that is due was not over when all epochs had ended before the first one but one, and was when all but two
+  -- had
   since : (k : ℕ) → first_slot r first ≤ k → slots_by c plp ((begun - 1) * epoch_ticks c plp) ≤ k
   since k from = let o = ended_over times.rises r sound first in omega (arith, o, from)
 
@@ -143,15 +146,18 @@ module _ (law : S.Sending) (times : Times) (laws : PlanLaws) (c : Config) (plp :
         let m : ℕ = p.0 in
         let begins = (law.begins rates keeps m k epoch.within on).begins p.1.inside in
         let ends = law.ends rates keeps m k epoch.within epoch.holds on p.1.inside in
-        let low = C.since times.rises (num c) (den c plp) (epoch_ticks c plp) m k num_pos p.1.inside begun (since k from) in
-        let high = C.until times.rises (num c) (den c plp) (epoch_ticks c plp) m k num_pos p.1.inside ended (until k due) in
+        let low = C.since times.rises (num c) (den c plp) (epoch_ticks c plp) m k num_pos p.1.inside
+        begun (since k from) in
+        let high = C.until times.rises (num c) (den c plp) (epoch_ticks c plp) m k num_pos p.1.inside
+        ended (until k due) in
         elim out [
           | inl before ↦ inl (
               let q = C.before_rises law.within rates keeps epoch.within.slot (i + 1) m (omega (arith, before, low)) in
               let s = C.before_next rates keeps i in
               omega (arith, q, s, begins))
           | inr behind ↦ inr (
-              let q = C.before_rises law.within rates keeps epoch.within.slot (m + 1 + 1) i (omega (arith, behind, high)) in
+              let q = C.before_rises law.within rates keeps epoch.within.slot (m + 1 + 1) i
+              (omega (arith, behind, high)) in
               let s = C.before_next rates keeps (m + 1) in
               omega (arith, q, s, ends))
         ]
@@ -180,15 +186,18 @@ module _ (law : S.Sending) (times : Times) (laws : PlanLaws) (c : Config) (plp :
           go true on = ap (λ (t : Bool). cond {A = List ℕ} (keeps k && not t) (at k) null_packet) (same_touched on)
           go false off =
               ap (λ (b : Bool). cond {A = List ℕ}
-              (b && not (is_touched rates keeps (filter lost (range_with_len 0 (first + count))) k)) (at k) null_packet) off
-              ∙ sym (ap (λ (b : Bool). cond {A = List ℕ} (b && not (is_touched rates keeps ends_lost k)) (at k) null_packet) off)
+              (b && not (is_touched rates keeps (filter lost (range_with_len 0 (first + count))) k)) (at k) null_packet)
+              off
+              ∙ sym (ap (λ (b : Bool). cond {A = List ℕ} (b && not (is_touched rates keeps ends_lost k))
+              (at k) null_packet) off)
 
 pub lost_ended : S.Sending → Times → PlanLaws → LostEnded
 lost_ended law times laws c plp at muted first count plan inside =
     let lost : ℕ → Bool = is_lost c plp muted first count in
     map_same (recovered c plp (epoch_ticks c plp) at (lost_frames c plp muted first count))
     (recovered c plp (epoch_ticks c plp) at (filter lost (epochs_in (spread c.plps plp) first count)))
-    (first_slot (slot_rule c plp) first) (due_after (slot_rule c plp) (first + count) - first_slot (slot_rule c plp) first)
+    (first_slot (slot_rule c plp) first) (due_after (slot_rule c plp) (first + count) - first_slot (slot_rule c plp)
+    first)
     (λ k a b. same_packet law times laws c plp at first count plan inside k a (omega (arith, a, b)) lost)
 
 -- ---- Readback

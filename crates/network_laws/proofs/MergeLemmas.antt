@@ -1,5 +1,6 @@
 -- What comes of the frames that are picked of two streams.
-use Rattle.std.proofs.Common.{◌≡◌, ◌⊎◌, ℕ, zero, suc, ◌+◌, ◌%◌, ◌<◌, ◌≤◌, true, List, [], ◌∷◌, ◌++◌, map, Option, Some, None, refl}
+use Rattle.std.proofs.Common.{◌≡◌, ◌⊎◌, ℕ, zero, suc, ◌+◌, ◌%◌, ◌<◌, ◌≤◌, true, List, [], ◌∷◌, ◌++◌, map, Option, Some}
+use Rattle.std.proofs.Common.{None, refl}
 use Rattle.std.proofs.Common.{ap, subst, ◌∙◌, ⊎_elim, arith}
 use Rattle.std.specs.Prelude.{max, option_to_list}
 use Rattle.std.specs.List.{AllByRecursion}
@@ -40,7 +41,8 @@ skipped : (o : Option Picked) (rest : List Picked) → o ≡ None → first_numb
     ≡ first_number (frames_of rest)
 skipped o rest e = ap (λ (o : Option Picked). first_number (frames_of (option_to_list o ++ rest))) e
 
-taken : (o : Option Picked) (rest : List Picked) (p : Picked) → o ≡ Some p → first_number (frames_of (option_to_list o ++ rest))
+taken : (o : Option Picked) (rest : List Picked) (p : Picked) → o ≡ Some p
+    → first_number (frames_of (option_to_list o ++ rest))
     ≡ p.frame.number
 taken o rest p e = ap (λ (o : Option Picked). first_number (frames_of (option_to_list o ++ rest))) e
 
@@ -52,7 +54,8 @@ module _ (c : Config) (some : 0 < c.frames) (pick : ℕ → Option Picked)
   nothing : ((n : ℕ) → pick n ≡ None) → (k a : ℕ) → Well a k
   nothing none zero a = none_first c.frames some
   nothing none (suc k) a =
-      ap (λ (n : ℕ). n % c.frames) (skipped (pick a) (picked_from c pick is (a + 1) k) (none a)) ∙ nothing none k (a + 1)
+      ap (λ (n : ℕ). n % c.frames) (skipped (pick a) (picked_from c pick is (a + 1) k) (none a))
+      ∙ nothing none k (a + 1)
 
   from_first : (x : BeginsAt c pick) → (k a : ℕ) → a ≤ x.place → Well a k
   from_first x zero a l = none_first c.frames some
@@ -63,7 +66,8 @@ module _ (c : Config) (some : 0 < c.frames) (pick : ℕ → Option Picked)
       (λ (more : x.place ≤ a).
       let same : x.place ≡ a = omega (arith, l, more) in
       ap (λ (n : ℕ). n % c.frames)
-      (taken (pick a) (picked_from c pick is (a + 1) k) x.pick (subst (λ (n : ℕ). pick n ≡ Some x.pick) same x.there) ∙ x.number)
+      (taken (pick a) (picked_from c pick is (a + 1) k) x.pick (subst (λ (n : ℕ). pick n ≡ Some x.pick) same x.there)
+      ∙ x.number)
       ∙ x.idx)
       (cases_lt a x.place)
 
@@ -80,7 +84,8 @@ none_come c = refl
 -- what comes of any frames that are such
 pub comes : RemadeComesBack → RemadeArrives → (c : Config) → IsPlan c → HasByteIds c → (frames : List NumberedView)
     → AllByRecursion (IsWrittenFrame c) frames → Rise frames → AreSpaced c frames → first_number frames % c.frames ≡ 0
-    → map (λ (x : FrameRecord). content_view c x.number x.content) (records_due c true (joined (pipe c.pid (remade_packets c frames))))
+    → map (λ (x : FrameRecord). content_view c x.number x.content)
+    (records_due c true (joined (pipe c.pid (remade_packets c frames))))
     ≡ must_come c frames
 comes back arrive c plan ids [] written rise spaced begins =
     ap (map (λ (x : FrameRecord). content_view c x.number x.content)) (arrive c [] plan ids written ∙ none_come c)
@@ -103,6 +108,8 @@ merged_comes_back follow pass named arrive back c a b plan ids first second spac
     let two = follow c true b in
     let begins : Begins c (pick_of c ra rb) =
     either_begins c (λ n. frame_from c A n ra) (λ n. frame_from c B n rb)
-    (feed_begins c A ra (due_starts named c plan a) one.0 one.1) (feed_begins c B rb (due_starts named c plan b) two.0 two.1) in
-    comes back arrive c plan ids (merged c a b) (all_written c (pick_of c ra rb) is end 0) (all_rise c (pick_of c ra rb) is end 0)
+    (feed_begins c A ra (due_starts named c plan a) one.0 one.1) (feed_begins c B rb (due_starts named c plan b)
+    two.0 two.1) in
+    comes back arrive c plan ids (merged c a b) (all_written c (pick_of c ra rb) is end 0)
+    (all_rise c (pick_of c ra rb) is end 0)
     spaced (begins_well c (omega (arith, r.0)) (pick_of c ra rb) is begins end)

@@ -1,6 +1,7 @@
 -- Kept slots and the bytes of the string, by their numbers; more slots change none of them.
-use Rattle.std.proofs.Common.{◌≡◌, ℕ, zero, suc, ◌+◌, ◌-◌, ◌<◌, ◌≤◌, Bool, true, false, List, [], ◌∷◌, ◌++◌, length, get_or, refl}
-use Rattle.std.proofs.Common.{ap, ap₂, ◌∙◌, sym, subst, arith, cond, append_assoc, length-append}
+use Rattle.std.proofs.Common.{◌≡◌, ℕ, zero, suc, ◌+◌, ◌-◌, ◌<◌, ◌≤◌, Bool, true, false, List, [], ◌∷◌, ◌++◌, length}
+use Rattle.std.proofs.Common.{get_or, refl}
+use Rattle.std.proofs.Common.{ap, ◌∙◌, sym, subst, arith, cond, append_assoc, length-append}
 use Rattle.std.specs.List.{range_with_len, filter, flat_map}
 use Rattle.std.proofs.lemmas.Grind.{flat_map-append}
 use Rattle.std.proofs.lemmas.List.{get_or_append_left, get_or-append_right}
@@ -9,13 +10,6 @@ use Rattle.null_delete.specs.Deletion.{kept_slots}
 use Rattle.mode_adapt.specs.UserPackets.{keeps_of, user_packet, up_string}
 use Rattle.terms.proofs.RangeLemmas.{range_append}
 use Rattle.network_laws.proofs.KeptSlots.{kept_slot}
-
-pub same_list : (xs ys : List ℕ) → length xs ≡ length ys → ((i : ℕ) → i < length xs → get_or xs i 0 ≡ get_or ys i 0) → xs ≡ ys
-same_list [] [] e h = refl
-same_list [] (y ∷ ys) e h = absurd (omega (arith, e))
-same_list (x ∷ xs) [] e h = absurd (omega (arith, e))
-same_list (x ∷ xs) (y ∷ ys) e h =
-    ap₂ (λ (a : ℕ) (l : List ℕ). a ∷ l) (h 0 (omega arith)) (same_list xs ys (omega (arith, e)) (λ i l. h (suc i) (omega arith)))
 
 filter_passes : (p : ℕ → Bool) (xs : List ℕ) (n : ℕ) → n < length (filter p xs) → p (get_or (filter p xs) n 0) ≡ true
 filter_passes p [] n l = absurd (omega arith)
@@ -30,7 +24,8 @@ filter_passes p (x ∷ xs) n l = go (p x) refl n l (λ m h. filter_passes p xs m
     at_true (suc m) h e rest = rest m (omega arith)
 
     go : (b : Bool) → p x ≡ b → (m : ℕ) → m < length (list (p x))
-        → ((m : ℕ) → m < length (filter p xs) → p (get_or (filter p xs) m 0) ≡ true) → p (get_or (list (p x)) m 0) ≡ true
+        → ((m : ℕ) → m < length (filter p xs) → p (get_or (filter p xs) m 0) ≡ true)
+        → p (get_or (list (p x)) m 0) ≡ true
     go true e m h rest = subst (λ (b : Bool). p (get_or (list b) m 0) ≡ true) (sym e)
         (at_true m (subst (λ (b : Bool). m < length (list b)) e h) e rest)
     go false e m h rest = subst (λ (b : Bool). p (get_or (list b) m 0) ≡ true) (sym e)
@@ -56,7 +51,8 @@ module _ (keeps : ℕ → Bool) where
         ∙ ap (λ (k : ℕ). kept_slots keeps e ++ filter keeps (range_with_len k (end - e))) z;
   }
 
-  pub same_slot : (e end n : ℕ) → e ≤ end → n < length (kept_slots keeps e) → kept_slot keeps end n ≡ kept_slot keeps e n
+  pub same_slot : (e end n : ℕ) → e ≤ end → n < length (kept_slots keeps e)
+      → kept_slot keeps end n ≡ kept_slot keeps e n
   same_slot e end n l m =
       let f = kept_front e end l in
       ap (λ (s : List ℕ). get_or s n 0) f.front ∙ get_or_append_left (kept_slots keeps e) f.more 0 n m
@@ -68,7 +64,8 @@ module _ (keeps : ℕ → Bool) where
       omega (arith, n)
 
   -- a kept slot stands behind the kept slots before it
-  own_front : (end k : ℕ) → keeps k ≡ true → k < end → (rest : List ℕ) × (kept_slots keeps end ≡ kept_slots keeps k ++ k ∷ rest)
+  own_front : (end k : ℕ) → keeps k ≡ true → k < end → (rest : List ℕ)
+      × (kept_slots keeps end ≡ kept_slots keeps k ++ k ∷ rest)
   own_front end k on l =
       let f = kept_front (k + 1) end (omega (arith, l)) in
       let z : 0 + k ≡ k = omega arith in
@@ -80,7 +77,8 @@ module _ (keeps : ℕ → Bool) where
       (f.more, f.front ∙ ap (λ (ks : List ℕ). ks ++ f.more) own ∙ append_assoc (kept_slots keeps k) (k ∷ []) f.more)
 
   -- a kept slot is the one of its number
-  pub own_number : (end k : ℕ) → keeps k ≡ true → k < end → (length (kept_slots keeps k) < length (kept_slots keeps end))
+  pub own_number : (end k : ℕ) → keeps k ≡ true → k < end
+      → (length (kept_slots keeps k) < length (kept_slots keeps end))
       × (kept_slot keeps end (length (kept_slots keeps k)) ≡ k)
   own_number end k on l =
       let f = own_front end k on l in
@@ -99,5 +97,6 @@ pub same_byte : (deletes : Bool) (at : ℕ → List ℕ) (e end i : ℕ) → e �
 same_byte deletes at e end i l m =
     let f = kept_front (keeps_of deletes at) e end l in
     ap (λ (s : List ℕ). get_or (flat_map (user_packet deletes at) s) i 0) f.front
-    ∙ ap (λ (s : List ℕ). get_or s i 0) (flat_map-append (user_packet deletes at) (kept_slots (keeps_of deletes at) e) f.more)
+    ∙ ap (λ (s : List ℕ). get_or s i 0) (flat_map-append (user_packet deletes at) (kept_slots (keeps_of deletes at) e)
+    f.more)
     ∙ get_or_append_left (up_string deletes at e) (flat_map (user_packet deletes at) f.more) 0 i m

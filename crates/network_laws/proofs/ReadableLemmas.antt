@@ -1,5 +1,6 @@
 -- The record of a frame of a plan is readable, and its shape is that of the frame.
-use Rattle.std.proofs.Common.{◌%◌, ◌≡◌, ℕ, ◌<◌, ◌==◌, ◌&&◌, Bool, true, false, List, [], length, Option, Some, None, refl}
+use Rattle.std.proofs.Common.{◌%◌, ◌≡◌, ℕ, ◌<◌, ◌==◌, ◌&&◌, Bool, true, false, List, [], length, Option, Some, None}
+use Rattle.std.proofs.Common.{refl}
 use Rattle.std.proofs.Common.{ap, ◌∙◌, subst, arith, cond, eq-eqb}
 use Rattle.std.specs.Prelude.{option_map, slice_index}
 use Rattle.std.specs.Cmp.Lexicographic.{pointwise}
@@ -16,7 +17,8 @@ use Rattle.l1_signal.specs.L1Of.{post_bits, told_shape}
 use Rattle.l1_signal.specs.L1Pre.{pre_reading}
 use Rattle.frame_groups.specs.TestLaws.{IsOfFrame}
 use Rattle.frame_groups.specs.MapTest.{map_passes}
-use Rattle.frame_groups.specs.Readable.{told_dynamic, post_agrees, coming, block_sizes, has_size, shape_agrees, fitting, readable}
+use Rattle.frame_groups.specs.Readable.{told_dynamic, post_agrees, coming, block_sizes, has_size, shape_agrees, fitting}
+use Rattle.frame_groups.specs.Readable.{readable}
 use Rattle.frame_groups.specs.Tests.{read_whole, pre_agrees}
 use Rattle.mode_adapt.specs.Blocks.{plp_blocks, own_blocks, told_count, told_counts}
 use Rattle.site_frame.specs.Record.{Block}
@@ -63,7 +65,8 @@ module _ (reads : Reads) (c : Config) (inputs : ℕ → List (List ℕ)) (n : �
   written = post_of c n counts
 
   post_ok : post_agrees c n post ≡ true
-  post_ok = subst (λ (bits : List Bool). post_agrees c n bits ≡ true) written (post_is reads.signal c n (frame_parts c inputs n) is)
+  post_ok = subst (λ (bits : List Bool). post_agrees c n bits ≡ true) written
+      (post_is reads.signal c n (frame_parts c inputs n) is)
 
   shape_told : option_map told_shape (told_dynamic c post) ≡ Some shape
   shape_told =
@@ -96,10 +99,12 @@ module _ (reads : Reads) (c : Config) (inputs : ℕ → List (List ℕ)) (n : �
 
   sizes_agree : pointwise has_size blocks (block_sizes c (coming c n shape)) ≡ true
   sizes_agree =
-      all_sizes given.numbers c (coming c n shape) (own_blocks c inputs n) (own_long given.numbers given.field c inputs n)
+      all_sizes given.numbers c (coming c n shape) (own_blocks c inputs n)
+      (own_long given.numbers given.field c inputs n)
       (length c.plps) 0
       (λ plp from below. let lt : plp < length c.plps = omega (arith, below) in
-      get_or-map-range_with_len (λ p. cond {A = ℕ} (is_first c p n) (slice_index shape.counts p) 0) 0 (length c.plps) plp plp 0 lt
+      get_or-map-range_with_len (λ p. cond {A = ℕ} (is_first c p n) (slice_index shape.counts p) 0) 0
+      (length c.plps) plp plp 0 lt
       (omega arith)
       ∙ begun_are plp lt)
 
@@ -115,7 +120,8 @@ module _ (reads : Reads) (c : Config) (inputs : ℕ → List (List ℕ)) (n : �
   pub is_readable : readable c n (l1_pre c) post blocks cells ≡ Some shape
   unfolding readable
   is_readable =
-      ap (λ (b : Bool). cond {A = Option FrameShape} b (fitting c n blocks cells (option_map told_shape (told_dynamic c post)))
+      ap (λ (b : Bool). cond {A = Option FrameShape} b
+      (fitting c n blocks cells (option_map told_shape (told_dynamic c post)))
       None)
       (and_from (pre_agrees c (read_whole (pre_reading true (l1_pre c)))) (post_agrees c n post) pre_ok post_ok)
       ∙ ap (fitting c n blocks cells) shape_told

@@ -27,7 +27,8 @@ use Rattle.record_laws.specs.Recover.{is_carried, is_touched, recovered}
 use Rattle.network_laws.specs.ToldEpochs.{ArePackets}
 use Rattle.network_laws.specs.RecoverLaws.{InterleavingIsEpoch, SlotRecovers}
 use Rattle.network_laws.proofs.NumberLemmas.{is_kept_slot, own_number}
-use Rattle.network_laws.proofs.FoundLemmas.{all_in_range, each_in_range, filter_all, all_filter, none_any, any_none, all_kept, Has}
+use Rattle.network_laws.proofs.FoundLemmas.{all_in_range, each_in_range, filter_all, all_filter, none_any, any_none}
+use Rattle.network_laws.proofs.FoundLemmas.{all_kept, Has}
 use Rattle.network_laws.proofs.FoundLemmas.{finds, finds_none, packet_back}
 use Rattle.network_laws.proofs.CarriedLemmas as C
 use Rattle.network_laws.proofs.SentLemmas as S
@@ -90,7 +91,8 @@ module _ (c : Config) (plp : ℕ) (packet : ℕ → List ℕ) (law : S.Sending) 
   gives : R.Gives c plp packet end law is (follow r _ end) lost first count covers first count
       (sent_before rates keeps first) []
   gives =
-      R.gives c plp packet end law is (follow r _ end) lost first count covers count first (sent_before rates keeps first)
+      R.gives c plp packet end law is (follow r _ end) lost first count covers count first
+      (sent_before rates keeps first)
       [] refl
       (record {
         bytes = S.no_bytes c plp packet end law is (sent_before rates keeps first);
@@ -107,7 +109,8 @@ module _ (c : Config) (plp : ℕ) (packet : ℕ → List ℕ) (law : S.Sending) 
   counted_is : counted r z ≡ ups
   unfolding counted
   counted_is =
-      all_kept (counts r) ups (all_map IsOwn (λ (up : UserPacket). counts r up ≡ true) (λ up own. own.counted) ups gives.all)
+      all_kept (counts r) ups (all_map IsOwn (λ (up : UserPacket). counts r up ≡ true) (λ up own. own.counted)
+      ups gives.all)
 
   abbrev shown : Option UserPacket → List ℕ
   shown found = unwrap_or (option_map (λ up. packet_of (item_values up.items)) found) null_packet
@@ -120,7 +123,8 @@ module _ (c : Config) (plp : ℕ) (packet : ℕ → List ℕ) (law : S.Sending) 
     none_has never =
         found_is
         ∙ ap shown (finds_none k ups (all_map IsOwn (λ (up : UserPacket). (up.slot == k) ≡ false)
-        (λ up own. false_from_ne_true _ (λ (t : (up.slot == k) ≡ true). never up own (eqb-true up.slot k t))) ups gives.all))
+        (λ up own. false_from_ne_true _ (λ (t : (up.slot == k) ≡ true). never up own (eqb-true up.slot k t)))
+        ups gives.all))
 
     one_has : Has k ups → slot_packet r z k ≡ packet k
     one_has has =
@@ -145,7 +149,8 @@ module _ (c : Config) (plp : ℕ) (packet : ℕ → List ℕ) (law : S.Sending) 
         none_any (λ m. list_any (is_carried rates keeps m) (range_with_len (len * n) len)) missing
         (filter_all (λ (m : ℕ). list_any (is_carried rates keeps m) (range_with_len (len * n) len) ≡ false) lost
         (range_with_len first count)
-        (all_in_range (λ (m : ℕ). lost m ≡ true → list_any (is_carried rates keeps m) (range_with_len (len * n) len) ≡ false)
+        (all_in_range (λ (m : ℕ). lost m ≡ true → list_any (is_carried rates keeps m) (range_with_len (len * n) len)
+        ≡ false)
         count first
         (λ m a b on. C.all_missed rates keeps m (len * n) (misses m (own.whole m a b on)))))
 
@@ -156,10 +161,12 @@ module _ (c : Config) (plp : ℕ) (packet : ℕ → List ℕ) (law : S.Sending) 
       not_carried : (m i : ℕ) → first ≤ m → m < first + count → lost m ≡ true → len * n ≤ i → i < len * n + len
           → sent_before rates keeps m ≤ i → i < sent rates keeps m → ⊥
       not_carried m i a b off x y p q =
-          let each = all_filter (λ (j : ℕ). list_any (is_carried rates keeps j) (range_with_len (len * n) len) ≡ false) lost
+          let each = all_filter (λ (j : ℕ). list_any (is_carried rates keeps j) (range_with_len (len * n) len) ≡ false)
+          lost
           (range_with_len first count)
           (any_none (λ j. list_any (is_carried rates keeps j) (range_with_len (len * n) len)) missing clear) in
-          let here = each_in_range (λ (j : ℕ). lost j ≡ true → list_any (is_carried rates keeps j) (range_with_len (len * n) len)
+          let here = each_in_range (λ (j : ℕ). lost j ≡ true → list_any (is_carried rates keeps j)
+          (range_with_len (len * n) len)
           ≡ false) count first each m a b off in
           let none = each_in_range (λ (j : ℕ). is_carried rates keeps m j ≡ false) len (len * n)
           (any_none (is_carried rates keeps m) (range_with_len (len * n) len) here) i x y in
@@ -185,7 +192,8 @@ module _ (c : Config) (plp : ℕ) (packet : ℕ → List ℕ) (law : S.Sending) 
         misses i a b off =
             let begun = begins in
             elim (cases_lt i m) [
-              | inl lt ↦ inl (let q = before_rises (i + 1) m (omega arith) in let s = before_next i in omega (arith, q, s, begun))
+              | inl lt ↦ inl (let q = before_rises (i + 1) m (omega arith) in let s = before_next i in
+                  omega (arith, q, s, begun))
               | inr ge ↦ elim (cases_eq i m) [
                 | inl e ↦
                     let s = ap (sent_before rates keeps) e in
@@ -216,14 +224,16 @@ module _ (c : Config) (plp : ℕ) (packet : ℕ → List ℕ) (law : S.Sending) 
             let cover = covers m (omega (arith, until)) in
             let h = inside.1 in
             let own = own_number keeps end k on (omega (arith, cover, h)) in
-            subst (λ (j : ℕ). Has j ups) own.1 (gives.has n (omega (arith, low, begun)) (omega (arith, high, two, ends)) misses)
+            subst (λ (j : ℕ). Has j ups) own.1 (gives.has n (omega (arith, low, begun)) (omega (arith, high, two, ends))
+            misses)
 
       has_one : Has k ups
       has_one =
           let p = times.partition (num c) (den c plp) (epoch_ticks c plp) k num_pos den_pos is.sound.times.least in
           has_it p.0 p.1.inside
 
-    slot_is : slots_by c plp ((first - 1) * epoch_ticks c plp) ≤ k → k < slots_by c plp ((first + count - 2) * epoch_ticks c plp)
+    slot_is : slots_by c plp ((first - 1) * epoch_ticks c plp) ≤ k
+        → k < slots_by c plp ((first + count - 2) * epoch_ticks c plp)
         → slot_packet r z k ≡ recovered c plp (epoch_ticks c plp) packet missing k
     slot_is from below = go (keeps k) refl (is_touched rates keeps missing k) refl
       where
@@ -252,7 +262,8 @@ pub record PlanLaws : Type 0 where
   pub up : UserPacketRange
   pub field : FieldRange
 
-pub plans_by : InterleavingIsEpoch → SoundTimes → FrameTicks → SpreadDividesFrames → UserPacketRange → FieldRange → PlanLaws
+pub plans_by : InterleavingIsEpoch → SoundTimes → FrameTicks → SpreadDividesFrames → UserPacketRange
+    → FieldRange → PlanLaws
 plans_by a b d e f g = record { epochs = a; times = b; frame = d; spread = e; up = f; field = g }
 
 pub sound_is : PlanLaws → (c : Config) (plp : ℕ) → IsPlan c → plp < length c.plps → IsSound (slot_rule c plp)
@@ -266,7 +277,8 @@ sound_is laws c plp plan inside =
       up = laws.up c plp;
     }
 
-pub gateway_is : PlanLaws → (c : Config) (plp : ℕ) (packet : ℕ → List ℕ) → IsPlan c → plp < length c.plps → ArePackets packet
+pub gateway_is : PlanLaws → (c : Config) (plp : ℕ) (packet : ℕ → List ℕ) → IsPlan c → plp < length c.plps
+    → ArePackets packet
     → S.IsGateway c plp packet
 gateway_is laws c plp packet plan inside packets =
     let epoch = laws.epochs c plp plan inside in
@@ -281,4 +293,5 @@ gateway_is laws c plp packet plan inside packets =
 
 pub slot_recovers : S.Sending → Times → KeptFollow → PlanLaws → SlotRecovers
 slot_recovers law times follow laws c plp packet lost first count k plan inside packets from below =
-    slot_is c plp packet law times follow (gateway_is laws c plp packet plan inside packets) lost first count k from below
+    slot_is c plp packet law times follow (gateway_is laws c plp packet plan inside packets) lost first
+    count k from below

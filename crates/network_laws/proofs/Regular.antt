@@ -1,5 +1,6 @@
 -- Strings as a gateway makes them: user packet n stands from place up_len * n on, and no byte is missing.
-use Rattle.std.specs.Prelude.{◌≡◌, ◌⊎◌, ℕ, ◌+◌, ◌-◌, ◌*◌, ◌<◌, ◌≤◌, ◌%◌, ◌^◌, suc, true, None, ◌++◌, ◌∷◌, map, List, length}
+use Rattle.std.specs.Prelude.{◌≡◌, ◌⊎◌, ℕ, ◌+◌, ◌-◌, ◌*◌, ◌<◌, ◌≤◌, ◌%◌, ◌^◌, suc, true, None, ◌++◌, ◌∷◌, map, List}
+use Rattle.std.specs.Prelude.{length}
 use Rattle.std.specs.Prelude.{get_or, Some, if◌then◌else◌}
 use Rattle.plp_receiver.specs.declared.slot_rule.SlotRule.{SlotRule}
 use Rattle.plp_receiver.specs.declared.mark.Mark.TheVariants.{Inside, Next, Timed}
@@ -35,7 +36,8 @@ pub record IsRegular (r : SlotRule) (slots dnps : ℕ → ℕ) (place : ℕ) (z 
 
 -- of the first bound user packets each has the slot of the one before plus 1 plus its own dnp
 abbrev pub Follow : SlotRule → (ℕ → ℕ) → (ℕ → ℕ) → ℕ → Type 0
-Follow r slots dnps bound = (n : ℕ) → suc n < bound → slots (suc n) ≡ slots n + 1 + (if r.deletes then dnps (suc n) else 0)
+Follow r slots dnps bound = (n : ℕ) → suc n < bound
+    → slots (suc n) ≡ slots n + 1 + (if r.deletes then dnps (suc n) else 0)
 
 -- Every user packet that stands whole in such a string gets its own slot.
 abbrev pub OwnSlots : Type 0
@@ -50,8 +52,8 @@ RegularJoin = (r : SlotRule) (slots dnps : ℕ → ℕ) (place : ℕ) (z y : Lis
     → IsRegular r slots dnps (place + length z) y
     → IsRegular r slots dnps place (z ++ y)
 
--- What a block tells of the bytes from a place on: SYNCD is the place of user packet n, the first from there, if that begins in
--- the block, and ISSY then tells its slot. The last byte of a user packet is its dnp.
+-- What a block tells of the bytes from a place on: SYNCD is the place of user packet n, the first from there, if that
+-- begins in the block, and ISSY then tells its slot. The last byte of a user packet is its dnp.
 pub record IsBlock (r : SlotRule) (slots dnps : ℕ → ℕ) (epoch place n : ℕ) (b : Block) : Type 0 where
   pub least : place ≤ r.up_len * n
   pub close : r.up_len * n < place + r.up_len
@@ -59,7 +61,8 @@ pub record IsBlock (r : SlotRule) (slots dnps : ℕ → ℕ) (epoch place n : �
   pub some : r.up_len * n < place + length b.field → b.first ≡ Some (r.up_len * n - place)
   pub issy : r.up_len * n < place + length b.field → (iscr : ℕ) × (first_mark b.issy ≡ Timed iscr)
       × (slot_of_iscr r.times epoch iscr ≡ Some (slots n))
-  pub values : (k i : ℕ) → place + i + 1 ≡ r.up_len * suc k → i < length b.field → r.deletes ≡ true → get_or b.field i 0 ≡ dnps k
+  pub values : (k i : ℕ) → place + i + 1 ≡ r.up_len * suc k → i < length b.field → r.deletes ≡ true
+      → get_or b.field i 0 ≡ dnps k
 
 -- Its items are such a string.
 abbrev pub BlockRegular : Type 0
@@ -79,13 +82,15 @@ pub record AreWhole (r : SlotRule) (slots : ℕ → ℕ) (place n : ℕ) (z : Li
   pub all : (k : ℕ) → n ≤ k → r.up_len * k + r.up_len ≤ place + length z → k < n + count
 
 abbrev pub WholePackets : Type 0
-WholePackets = (r : SlotRule) (slots dnps : ℕ → ℕ) (place n bound : ℕ) (z : List Item) → IsSound r → Follow r slots dnps bound
+WholePackets = (r : SlotRule) (slots dnps : ℕ → ℕ) (place n bound : ℕ) (z : List Item) → IsSound r
+    → Follow r slots dnps bound
     → place + length z ≤ r.up_len * bound → IsRegular r slots dnps place z
     → place ≤ r.up_len * n → r.up_len * n < place + r.up_len → AreWhole r slots place n z
 
 -- Across a gap no user packet goes on.
 abbrev pub GapParts : Type 0
-GapParts = (r : SlotRule) (z y : List Item) (epoch : ℕ) → IsSound r → user_packets r (z ++ gap epoch ∷ y) ≡ user_packets r z
+GapParts = (r : SlotRule) (z y : List Item) (epoch : ℕ) → IsSound r
+    → user_packets r (z ++ gap epoch ∷ y) ≡ user_packets r z
     ++ user_packets r y
 
 -- The ISCR of a slot tells it among those of its range.

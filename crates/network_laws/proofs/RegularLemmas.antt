@@ -1,6 +1,8 @@
 -- Every user packet that stands whole in a string of the gateway gets its own slot.
-use Rattle.std.proofs.Common.{◌≡◌, ◌⊎◌, ℕ, zero, suc, ◌+◌, ◌-◌, ◌*◌, ◌%◌, ◌<◌, ◌≤◌, ◌++◌, ◌&&◌, Bool, true, false, List, [], ◌∷◌}
-use Rattle.std.proofs.Common.{length, take, drop, get_or, Option, Some, None, refl, ap, ap₂, ◌∙◌, sym, subst, arith, inl, inr}
+use Rattle.std.proofs.Common.{◌≡◌, ◌⊎◌, ℕ, zero, suc, ◌+◌, ◌-◌, ◌*◌, ◌%◌, ◌<◌, ◌≤◌, ◌++◌, ◌&&◌, Bool, true, false, List}
+use Rattle.std.proofs.Common.{[], ◌∷◌}
+use Rattle.std.proofs.Common.{length, take, drop, get_or, Option, Some, None, refl, ap, ap₂, ◌∙◌, sym, subst, arith}
+use Rattle.std.proofs.Common.{inl, inr}
 use Rattle.std.proofs.Common.{cond, length-take, length-append}
 use Rattle.std.specs.Prelude.{if◌then◌else◌}
 use Rattle.std.proofs.lemmas.List.{get_or-take, get_or-drop, drop_more, get_or_append_left, get_or-append_right}
@@ -10,10 +12,13 @@ use Rattle.std.proofs.Math.Nat.{mul-le-mul_left}
 use Rattle.plp_receiver.specs.declared.slot_rule.SlotRule.{SlotRule}
 use Rattle.plp_receiver.specs.declared.mark.Mark.{Mark}
 use Rattle.plp_receiver.specs.declared.mark.Mark.TheVariants.{Inside, Next}
-use Rattle.plp_receiver.specs.Strings.{Item, Block, is_start, is_inside, first_mark, mark_at, item_at, items_from, block_items}
-use Rattle.plp_receiver.proofs.BlockLemmas.{Ends, ends_field, ends_start, none_marks, mark_before, mark_first, mark_next}
+use Rattle.plp_receiver.specs.Strings.{Item, Block, is_start, is_inside, first_mark, mark_at, item_at, items_from}
+use Rattle.plp_receiver.specs.Strings.{block_items}
+use Rattle.plp_receiver.proofs.BlockLemmas.{Ends, ends_field, ends_start, none_marks, mark_before, mark_first}
+use Rattle.plp_receiver.proofs.BlockLemmas.{mark_next}
 use Rattle.plp_receiver.proofs.BlockLemmas.{mark_inner}
-use Rattle.plp_receiver.specs.Packets.{all_inside, is_one, is_complete, last_item, first_item, no_item, slot_by, slot_of}
+use Rattle.plp_receiver.specs.Packets.{all_inside, is_one, is_complete, last_item, first_item, no_item, slot_by}
+use Rattle.plp_receiver.specs.Packets.{slot_of}
 use Rattle.plp_receiver.specs.Packets.{dnp_of, slot_before, slots_at, window}
 use Rattle.plp_config.specs.SlotTimes.{slot_of_iscr}
 use Rattle.plp_receiver.specs.Sound.{IsSound}
@@ -21,7 +26,8 @@ use Rattle.plp_receiver.proofs.OneLemmas.{one_from}
 use Rattle.plp_receiver.proofs.SlotLemmas.{before_at, slots_suc}
 use Rattle.plp_receiver.proofs.PlaceLemmas.{last_is}
 use Rattle.plp_receiver.specs.LaterBlocks.{at}
-use Rattle.network_laws.proofs.Regular.{IsTimed, IsNext, IsEnd, Follow, IsRegular, OwnSlots, RegularJoin, IsBlock, BlockRegular}
+use Rattle.network_laws.proofs.Regular.{IsTimed, IsNext, IsEnd, Follow, IsRegular, OwnSlots, RegularJoin, IsBlock}
+use Rattle.network_laws.proofs.Regular.{BlockRegular}
 
 mul-add : (len n d : ℕ) → len * (n + d) ≡ len * n + d * len
 mul-add len n d = omega arith
@@ -32,7 +38,8 @@ all_from (x ∷ xs) h = ap₂ (λ (a b : Bool). a && b) (ap is_inside (h 0 (omeg
     (all_from xs (λ k l. h (suc k) (omega arith)))
 
 module _ (r : SlotRule) (slots dnps : ℕ → ℕ) (place bound : ℕ) (z : List Item) (sound : IsSound r)
-    (follow : Follow r slots dnps bound) (fits : place + length z ≤ r.up_len * bound) (reg : IsRegular r slots dnps place z) where
+    (follow : Follow r slots dnps bound) (fits : place + length z ≤ r.up_len * bound)
+    (reg : IsRegular r slots dnps place z) where
   pub size : r.up_len ≡ suc (r.up_len - 1)
   size = let u = sound.up in omega (arith, u)
 
@@ -52,7 +59,8 @@ module _ (r : SlotRule) (slots dnps : ℕ → ℕ) (place bound : ℕ) (z : List
         let long : k < r.up_len - 1 = omega (arith, m, length-take (r.up_len - 1) (drop (i + 1) z)) in
         let same : get_or (take (r.up_len - 1) (drop (i + 1) z)) k no_item ≡ at z (i + 1 + k) =
         get_or-take (r.up_len - 1) (drop (i + 1) z) k no_item long ∙ get_or-drop (i + 1) z k no_item in
-        ap (λ (x : Item). x.mark) same ∙ reg.inner n (1 + k) (i + 1 + k) (omega (arith, e)) (omega arith) (omega (arith, long))
+        ap (λ (x : Item). x.mark) same ∙ reg.inner n (1 + k) (i + 1 + k) (omega (arith, e)) (omega arith)
+        (omega (arith, long))
         (omega (arith, long)))
 
     last : last_item w ≡ at z (i + (r.up_len - 1))
@@ -70,7 +78,8 @@ module _ (r : SlotRule) (slots dnps : ℕ → ℕ) (place bound : ℕ) (z : List
     dnp_is : (if r.deletes then (at z (i + (r.up_len - 1))).value else 0) ≡ (if r.deletes then dnps n else 0)
     dnp_is = go r.deletes refl
       where
-        go : (b : Bool) → r.deletes ≡ b → (if b then (at z (i + (r.up_len - 1))).value else 0) ≡ (if b then dnps n else 0)
+        go : (b : Bool) → r.deletes ≡ b → (if b then (at z (i + (r.up_len - 1))).value else 0)
+            ≡ (if b then dnps n else 0)
         go true d = end.tells d
         go false d = refl
 
@@ -79,25 +88,30 @@ module _ (r : SlotRule) (slots dnps : ℕ → ℕ) (place bound : ℕ) (z : List
         let one : is_one w ≡ true = ap is_one split ∙ one_from (at z i) (take (r.up_len - 1) (drop (i + 1) z)) s rest in
         ap₂ (λ (a b : Bool). a && b) one (ap (λ (x : Item). x.can_end) last ∙ end.can_end)
 
-    slot_is : (before : Option ℕ) → is_start (at z i).mark ≡ true → slot_of r w before ≡ slot_by r (at z i).mark (at z i).epoch
+    slot_is : (before : Option ℕ) → is_start (at z i).mark ≡ true → slot_of r w before ≡ slot_by r (at z i).mark
+        (at z i).epoch
         (if r.deletes then (at z (i + (r.up_len - 1))).value else 0) before
     unfolding slot_of
     slot_is before s =
-        ap (λ (b : Bool). cond {A = Option ℕ} b (slot_by r (first_item w).mark (first_item w).epoch (dnp_of r w) before) None)
+        ap (λ (b : Bool). cond {A = Option ℕ} b (slot_by r (first_item w).mark (first_item w).epoch (dnp_of r w) before)
+        None)
         (complete s)
         ∙ ap₂ (λ (x y : Item). slot_by r x.mark x.epoch (if r.deletes then y.value else 0) before) first last
 
     timed : (before : Option ℕ) → IsTimed r (slots n) (at z i) → slot_of r w before ≡ Some (slots n)
     timed before t =
         slot_is before (ap is_start t.mark)
-        ∙ ap (λ (m : Mark). slot_by r m (at z i).epoch (if r.deletes then (at z (i + (r.up_len - 1))).value else 0) before) t.mark
+        ∙ ap (λ (m : Mark). slot_by r m (at z i).epoch (if r.deletes then (at z (i + (r.up_len - 1))).value else 0)
+        before) t.mark
         ∙ t.tells
 
-    next : (before : Option ℕ) → IsNext r z i → (m : ℕ) → before ≡ Some m → slots n ≡ m + 1 + (if r.deletes then dnps n else 0)
+    next : (before : Option ℕ) → IsNext r z i → (m : ℕ) → before ≡ Some m
+        → slots n ≡ m + 1 + (if r.deletes then dnps n else 0)
         → slot_of r w before ≡ Some (slots n)
     next before t m b f =
         slot_is before (ap is_start t.mark)
-        ∙ ap₂ (λ (k : Mark) (o : Option ℕ). slot_by r k (at z i).epoch (if r.deletes then (at z (i + (r.up_len - 1))).value
+        ∙ ap₂ (λ (k : Mark) (o : Option ℕ). slot_by r k (at z i).epoch
+        (if r.deletes then (at z (i + (r.up_len - 1))).value
         else 0) o) t.mark b
         ∙ ap (λ (d : ℕ). Some (m + 1 + d)) dnp_is
         ∙ ap (λ (k : ℕ). Some k) (sym f)
@@ -110,7 +124,8 @@ module _ (r : SlotRule) (slots dnps : ℕ → ℕ) (place bound : ℕ) (z : List
             absurd (omega (arith, mul-le-mul_left {m = bound} {n = n} r.up_len no_less, fits, e, l, u))
       ]
 
-  own : (n i : ℕ) → place + i ≡ r.up_len * n → i + r.up_len ≤ length z → slot_of r (window r z i) (slot_before r (slots_at r z i))
+  own : (n i : ℕ) → place + i ≡ r.up_len * n → i + r.up_len ≤ length z
+      → slot_of r (window r z i) (slot_before r (slots_at r z i))
       ≡ Some (slots n)
   own zero i e l = go (reg.starts zero i e (some zero i e l))
     where
@@ -136,7 +151,8 @@ module _ (r : SlotRule) (slots dnps : ℕ → ℕ) (place bound : ℕ) (z : List
           next (suc n) i e l _ t (slots n) before (follow n (below (suc n) i e l))
 
 pub own_slots : OwnSlots
-own_slots r slots dnps place bound z sound follow fits reg n i e l = own r slots dnps place bound z sound follow fits reg n i e l
+own_slots r slots dnps place bound z sound follow fits reg n i e l = own r slots dnps place bound z sound
+    follow fits reg n i e l
 
 -- Joining.
 
@@ -168,7 +184,11 @@ regular_join r slots dnps place z y f g = record {
     front : (n i : ℕ) → i < length z → IsTimed r (slots n) (at z i) ⊎ IsNext r z i → IsTimed r (slots n) (at (z ++ y) i)
         ⊎ IsNext r (z ++ y) i
     front n i lt (inl t) = inl (subst (IsTimed r (slots n)) (sym (at_front z y i lt)) t)
-    front n i lt (inr t) = inr (record { mark = ap (λ (x : Item). x.mark) (at_front z y i lt) ∙ t.mark; behind = t.behind })
+    front n i lt (inr t) = inr (record {
+      mark = ap (λ (x : Item). x.mark) (at_front z y i lt)
+          ∙ t.mark;
+      behind = t.behind;
+    })
 
     behind : (n i : ℕ) → length z ≤ i → IsTimed r (slots n) (at y (i - length z)) ⊎ IsNext r y (i - length z)
         → IsTimed r (slots n) (at (z ++ y) i) ⊎ IsNext r (z ++ y) i
@@ -221,7 +241,8 @@ module _ (r : SlotRule) (slots dnps : ℕ → ℕ) (epoch place n : ℕ) (b : Bl
   abbrev mark : ℕ → Mark
   mark i = mark_at r.up_len b i
 
-  pub here : (i : ℕ) → i < length b.field → at (block_items r.up_len epoch b) i ≡ item_at r.up_len epoch b i (get_or b.field i 0)
+  pub here : (i : ℕ) → i < length b.field → at (block_items r.up_len epoch b) i ≡ item_at r.up_len epoch
+      b i (get_or b.field i 0)
   here i l = let z : 0 + i ≡ i = omega arith in (items_told r.up_len epoch b b.field 0).1 i l
       ∙ ap (λ (j : ℕ). item_at r.up_len epoch b j (get_or b.field i 0)) z
 
@@ -289,7 +310,8 @@ module _ (r : SlotRule) (slots dnps : ℕ → ℕ) (epoch place n : ℕ) (b : Bl
       let a = is.least in
       let u = sound.up in
       let below : n ≤ k = omega arith in (
-        mark_next r.up_len epoch b (r.up_len * n - place) (is.some (omega (arith, q, s, e))) i (omega (arith, q, s, e, a, u))
+        mark_next r.up_len epoch b (r.up_len * n - place) (is.some (omega (arith, q, s, e))) i
+            (omega (arith, q, s, e, a, u))
             (whole k i below e),
         omega (arith, q, s, e, a),
       )

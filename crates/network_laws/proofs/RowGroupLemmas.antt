@@ -119,7 +119,7 @@ module _ (c : Config) (some : 0 < c.frames) where
       (other_superframe (m / c.frames) (n / c.frames) (omega (arith, e, rise)) near))
       (cases_eq (m / c.frames) (n / c.frames))
 
-  own_key : (n : ℕ) → is_same (key n) (key n) ≡ true
+  pub own_key : (n : ℕ) → is_same (key n) (key n) ≡ true
   own_key n = and_from (n / c.frames % 16 == n / c.frames % 16) (n % c.frames == n % c.frames)
       (eq-eqb (n / c.frames % 16) (n / c.frames % 16) refl) (eq-eqb (n % c.frames) (n % c.frames) refl)
 

@@ -1,12 +1,14 @@
 -- The user packets of the epochs of a gateway: those that stand whole in runs of epochs that are not lost.
 use Rattle.std.proofs.Common.{◌≡◌, ℕ, zero, suc, ◌+◌, ◌-◌, ◌*◌, ◌<◌, ◌≤◌, ◌&&◌, Bool, true, false, List, [], ◌∷◌, ◌++◌}
-use Rattle.std.proofs.Common.{length, map, take, drop, get_or, Some, refl, ap, ap₂, ◌∙◌, sym, subst, arith, inl, inr, cond}
+use Rattle.std.proofs.Common.{length, map, take, drop, get_or, Some, refl, ap, ap₂, ◌∙◌, sym, subst, arith, inl, inr}
+use Rattle.std.proofs.Common.{cond}
 use Rattle.std.proofs.Common.{append-nil, append_assoc, length-take, length-drop, length-append}
 use Rattle.std.specs.Int.{div_ceil}
 use Rattle.std.specs.List.{AllByRecursion}
 use Rattle.std.proofs.lemmas.List.{get_or-take, get_or-drop, length-map}
 use Rattle.std.proofs.lemmas.Bool.{cases_lt, cases_eq, both_ways, le-leb, lt-ltb}
 use Rattle.std.proofs.Math.Nat.{mul-le-mul_left, mul-le-mul_right}
+use Rattle.std.proofs.lemmas.Grind.{same_number_lists}
 use Rattle.plp_config.specs.Capacity.{up_bytes}
 use Rattle.plp_config.specs.Plps.{plp_at}
 use Rattle.plp_config.specs.SlotTime.{slot_start, slots_by, epoch_ticks, InRange}
@@ -33,7 +35,7 @@ use Rattle.network_laws.specs.ToldEpochs.{told_blocks, told_epoch, told_epochs}
 use Rattle.network_laws.proofs.WholeLemmas.{whole_packets, gap_parts}
 use Rattle.network_laws.proofs.GatewayLemmas.{ceil_parts}
 use Rattle.network_laws.proofs.KeptLemmas.{string_even}
-use Rattle.network_laws.proofs.NumberLemmas.{same_list, is_kept_slot, kept_least}
+use Rattle.network_laws.proofs.NumberLemmas.{is_kept_slot, kept_least}
 use Rattle.network_laws.proofs.FoundLemmas.{range_all, Has, has_left, has_right, has_in_range}
 use Rattle.network_laws.proofs.CarriedLemmas as C
 use Rattle.network_laws.proofs.SentLemmas as S
@@ -80,7 +82,8 @@ module _ (c : Config) (plp : ℕ) (packet : ℕ → List ℕ) (end : ℕ) (law :
       → sent_before rates keeps m ≤ len * length (kept_slots keeps end)
   within_end m l =
       let a = law.within rates keeps m is.within.slot in
-      let b : len * length (kept_slots keeps (slots_by c plp (m * epoch_ticks c plp))) ≤ len * length (kept_slots keeps end) =
+      let b : len * length (kept_slots keeps (slots_by c plp (m * epoch_ticks c plp))) ≤ len * length
+      (kept_slots keeps end) =
       mul-le-mul_left len (kept_least keeps (slots_by c plp (m * epoch_ticks c plp)) end l) in
       omega (arith, a, b)
 
@@ -141,7 +144,7 @@ module _ (c : Config) (plp : ℕ) (packet : ℕ → List ℕ) (end : ℕ) (law :
         even = string_even (plp_at c.plps plp).delete packet len end (S.size_of c plp packet end law is)
 
         bytes : item_values w ≡ user_packet (plp_at c.plps plp).delete packet (slots n)
-        bytes = same_list (item_values w) (user_packet (plp_at c.plps plp).delete packet (slots n))
+        bytes = same_number_lists (item_values w) (user_packet (plp_at c.plps plp).delete packet (slots n))
             (length-map w (λ (x : Item). x.value) ∙ long ∙ sym (S.size_of c plp packet end law is (slots n)))
             (λ j l. let lt : j < len = omega (arith, l, length-map w (λ (x : Item). x.value), long) in
             value_at w j ∙ ap (λ (x : Item). x.value) (item_is j lt) ∙ (byte_at j lt).value ∙ even.byte n j inside lt)
@@ -183,7 +186,8 @@ module _ (c : Config) (plp : ℕ) (packet : ℕ → List ℕ) (end : ℕ) (law :
         early =
             let a = is.sound.times.some in
             let b = is.sound.times.long in
-            let d = law.outlasts r.times.num r.times.den r.times.epoch begun (slots n) (omega (arith, a, b)) (omega (arith, a))
+            let d = law.outlasts r.times.num r.times.den r.times.epoch begun (slots n) (omega (arith, a, b))
+            (omega (arith, a))
             range in
             let q : (ended + 1) * r.times.epoch ≤ (begun + 2) * r.times.epoch =
             mul-le-mul_right r.times.epoch (omega (arith, soon)) in
@@ -233,14 +237,16 @@ module _ (c : Config) (plp : ℕ) (packet : ℕ → List ℕ) (end : ℕ) (law :
           let q : len * div_ceil place len ≤ len * k = mul-le-mul_left len l in
           own k (omega (arith, p, q)) (a.inside k l h)))
 
-      pub run_has : (n : ℕ) → place ≤ len * n → len * n + len ≤ sent_before rates keeps m → Has (slots n) (user_packets r z)
+      pub run_has : (n : ℕ) → place ≤ len * n → len * n + len ≤ sent_before rates keeps m
+          → Has (slots n) (user_packets r z)
       run_has n from l =
           let a = are in
           let p = (ceil_parts place len one).1 in
           let e = run.reaches in
           let k : div_ceil place len ≤ n = elim (cases_lt n (div_ceil place len)) [
             | inl lt ↦
-                let q : len * suc n ≤ len * div_ceil place len = mul-le-mul_left {m = suc n} {n = div_ceil place len} len lt in
+                let q : len * suc n ≤ len * div_ceil place len = mul-le-mul_left {m = suc n} {n = div_ceil place len}
+                len lt in
                 let s : len * suc n ≡ len * n + len = omega arith in
                 absurd (omega (arith, p, q, s, from))
             | inr ge ↦ ge
@@ -302,18 +308,21 @@ module _ (c : Config) (plp : ℕ) (packet : ℕ → List ℕ) (end : ℕ) (law :
                   omega (arith, q, s, u);
             } in
             let g = next (sent rates keeps m) [] after in
-            let parts : user_packets r (z ++ rest_items m (suc j)) ≡ user_packets r z ++ user_packets r (rest_items (m + 1) j) =
+            let parts : user_packets r (z ++ rest_items m (suc j)) ≡ user_packets r z ++ user_packets
+            r (rest_items (m + 1) j) =
             ap (λ (l : List Item). user_packets r (z ++ l)) (rest_by m j true on)
             ∙ gap_parts r z (rest_items (m + 1) j) m is.sound in
             record {
               all = subst (AllByRecursion IsOwn) (sym parts)
-                  (all_append IsOwn (user_packets r z) (user_packets r (rest_items (m + 1) j)) (run_own m place z to run) g.all);
-              has = λ n from l misses. subst (Has (slots n)) (sym parts) (elim (misses m (omega arith) (omega (arith, e)) on) [
-                | inl before ↦ has_right (slots n) (user_packets r z) (user_packets r (rest_items (m + 1) j))
-                    (g.has n before l (λ i a b t. misses i (omega arith) b t))
-                | inr behind ↦ has_left (slots n) (user_packets r z) (user_packets r (rest_items (m + 1) j))
-                    (run_has m place z to run n from behind)
-              ]);
+                  (all_append IsOwn (user_packets r z) (user_packets r (rest_items (m + 1) j))
+                  (run_own m place z to run) g.all);
+              has = λ n from l misses. subst (Has (slots n)) (sym parts)
+                  (elim (misses m (omega arith) (omega (arith, e)) on) [
+                    | inl before ↦ has_right (slots n) (user_packets r z) (user_packets r (rest_items (m + 1) j))
+                        (g.has n before l (λ i a b t. misses i (omega arith) b t))
+                    | inr behind ↦ has_left (slots n) (user_packets r z) (user_packets r (rest_items (m + 1) j))
+                        (run_has m place z to run n from behind)
+                  ]);
             }
         go false off next =
             let items = S.own_are c plp packet end law is m (covers m (omega (arith, e))) in

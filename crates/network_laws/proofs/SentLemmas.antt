@@ -1,5 +1,6 @@
 -- A block and an epoch of the gateway: its items are the bytes of the stream from its place on.
-use Rattle.std.proofs.Common.{◌≡◌, ℕ, suc, ◌+◌, ◌-◌, ◌*◌, ◌<◌, ◌≤◌, Bool, true, false, List, [], ◌∷◌, ◌++◌, length, map, drop}
+use Rattle.std.proofs.Common.{◌≡◌, ℕ, suc, ◌+◌, ◌-◌, ◌*◌, ◌<◌, ◌≤◌, Bool, true, false, List, [], ◌∷◌, ◌++◌, length, map}
+use Rattle.std.proofs.Common.{drop}
 use Rattle.std.proofs.Common.{get_or, min, Option, Some, refl, ap, ◌∙◌, sym, subst, arith, inl, inr, cond, length-take}
 use Rattle.std.proofs.Common.{length-drop, length-append}
 use Rattle.std.specs.Prelude.{if◌then◌else◌}
@@ -29,7 +30,8 @@ use Rattle.plp_receiver.specs.Taken.{block_read}
 use Rattle.network_laws.proofs.GatewayBlocks.{IsSent}
 use Rattle.network_laws.proofs.KeptSlots.{kept_slot, IsEven}
 use Rattle.network_laws.specs.ToldEpochs.{told_block, told_blocks, ArePackets}
-use Rattle.network_laws.proofs.RegularLemmas.{block_regular, regular_join, at_front, at_back, here, items_told, none_regular}
+use Rattle.network_laws.proofs.RegularLemmas.{block_regular, regular_join, at_front, at_back, here, items_told}
+use Rattle.network_laws.proofs.RegularLemmas.{none_regular}
 use Rattle.network_laws.proofs.GatewayLemmas.{gateway_block}
 use Rattle.network_laws.proofs.KeptLemmas.{kept_number, string_even}
 use Rattle.network_laws.proofs.EpochLemmas as E
@@ -58,7 +60,8 @@ pub fewer : (len n bound : ℕ) → len * n < len * bound → n < bound
 fewer len n bound l =
     elim (cases_lt n bound) [
       | inl lt ↦ lt
-      | inr ge ↦ let q : len * bound ≤ len * n = mul-le-mul_left {m = bound} {n = n} len ge in absurd (omega (arith, q, l))
+      | inr ge ↦ let q : len * bound ≤ len * n = mul-le-mul_left {m = bound} {n = n} len ge in absurd
+          (omega (arith, q, l))
     ]
 
 -- a block tells the same of slots that are the same as far as it goes
@@ -98,14 +101,16 @@ pub record IsGateway (c : Config) (plp : ℕ) (packet : ℕ → List ℕ) : Type
   pub field : (869 ≤ field_bytes c plp) × (field_bytes c plp ≤ 6720)
   pub packets : ArePackets packet
 
-up_size : (deletes : Bool) (packet : ℕ → List ℕ) (k : ℕ) → length (packet k) ≡ 188 → length (user_packet deletes packet k)
+up_size : (deletes : Bool) (packet : ℕ → List ℕ) (k : ℕ) → length (packet k) ≡ 188
+    → length (user_packet deletes packet k)
     ≡ (if deletes then 188 else 187)
 up_size true packet k e = length-append (drop 1 (packet k)) (dnp (keeps_of true packet) k ∷ [])
     ∙ omega (arith, length-drop 1 (packet k), e)
 up_size false packet k e = let none : List ℕ = [] in length-append (drop 1 (packet k)) none
     ∙ omega (arith, length-drop 1 (packet k), e)
 
-last_byte : (deletes : Bool) (packet : ℕ → List ℕ) (k len : ℕ) → length (packet k) ≡ 188 → len ≡ (if deletes then 188 else 187)
+last_byte : (deletes : Bool) (packet : ℕ → List ℕ) (k len : ℕ) → length (packet k) ≡ 188
+    → len ≡ (if deletes then 188 else 187)
     → deletes ≡ true
     → get_or (user_packet deletes packet k) (len - 1) 0 ≡ dnp (keeps_of deletes packet) k
 last_byte false packet k len e l d = absurd (omega (arith, ap (λ (b : Bool). cond {A = ℕ} b 1 0) d))
@@ -150,7 +155,8 @@ module _ (c : Config) (plp : ℕ) (packet : ℕ → List ℕ) (end : ℕ) (law :
   pub no_bytes : (place : ℕ) → AreBytes place []
   no_bytes place = record { regular = none_regular r slots dnps place; each = each_none IsByte place }
 
-  pub bytes_join : (place : ℕ) (z y : List Item) → AreBytes place z → AreBytes (place + length z) y → AreBytes place (z ++ y)
+  pub bytes_join : (place : ℕ) (z y : List Item) → AreBytes place z → AreBytes (place + length z) y
+      → AreBytes place (z ++ y)
   bytes_join place z y f g =
       record {
         regular = regular_join r slots dnps place z y f.regular g.regular;
@@ -162,7 +168,8 @@ module _ (c : Config) (plp : ℕ) (packet : ℕ → List ℕ) (end : ℕ) (law :
       → up_bytes c plp * length (kept_slots keeps (kept_slot keeps at_end n)) ≡ up_bytes c plp * n
   place_is at_end n l = ap (λ (k : ℕ). up_bytes c plp * k) (kept_number keeps at_end n l).1
 
-  module _ (m x y : ℕ) (from : sent_before rates keeps m ≤ x) (some : x < y) (to : y ≤ sent rates keeps m) (short : y - x ≤ 6720)
+  module _ (m x y : ℕ) (from : sent_before rates keeps m ≤ x) (some : x < y) (to : y ≤ sent rates keeps m)
+      (short : y - x ≤ 6720)
       (last : slots_by c plp (m * epoch_ticks c plp) ≤ end) where
     abbrev now : ℕ
     now = slots_by c plp (m * epoch_ticks c plp)
@@ -196,7 +203,8 @@ module _ (c : Config) (plp : ℕ) (packet : ℕ → List ℕ) (end : ℕ) (law :
 
     byte_is : (i : ℕ) → i < y - x → get_or field i 0 ≡ get_or (plp_string c plp packet end) (x + i) 0
     byte_is i l = let e = even.size in
-        byte_now i l ∙ sym (same_byte (plp_at c.plps plp).delete packet now end (x + i) last (omega (arith, e, within, l)))
+        byte_now i l ∙ sym (same_byte (plp_at c.plps plp).delete packet now end (x + i) last
+        (omega (arith, e, within, l)))
 
     is_in : (n : ℕ) → up_bytes c plp * n < y → n < length kept
     is_in n l = fewer (up_bytes c plp) n (length kept) (omega (arith, within, l))
@@ -219,7 +227,8 @@ module _ (c : Config) (plp : ℕ) (packet : ℕ → List ℕ) (end : ℕ) (law :
         byte_now i lt
         ∙ ap (λ (j : ℕ). get_or (plp_string c plp packet now) j 0) p
         ∙ even.byte k (up_bytes c plp - 1) inside (omega (arith, one))
-        ∙ last_byte (plp_at c.plps plp).delete packet (get_or kept k 0) (up_bytes c plp) (is.packets (get_or kept k 0)).size is.up
+        ∙ last_byte (plp_at c.plps plp).delete packet (get_or kept k 0) (up_bytes c plp)
+        (is.packets (get_or kept k 0)).size is.up
         d
 
     sent_is : IsSent r c plp kept (λ k. dnp keeps (get_or kept k 0)) m x y field
@@ -233,7 +242,8 @@ module _ (c : Config) (plp : ℕ) (packet : ℕ → List ℕ) (end : ℕ) (law :
       values = values;
     }
 
-    block_is : block_read (header_at c plp x (y - x) (up_with (up_bytes c plp) kept 0 (div_ceil x (up_bytes c plp)) y)) field
+    block_is : block_read (header_at c plp x (y - x) (up_with (up_bytes c plp) kept 0 (div_ceil x (up_bytes c plp)) y))
+        field
         ≡ told_block c plp packet now x y
     block_is = ap (λ (o : Option (ℕ × ℕ)). block_read (header_at c plp x (y - x) o) field)
         (sym (law.first (up_bytes c plp) keeps now x y one))
@@ -255,10 +265,12 @@ module _ (c : Config) (plp : ℕ) (packet : ℕ → List ℕ) (end : ℕ) (law :
 
     pub items_are : AreBytes x items
     items_are = record {
-      regular = block_regular r slots dnps m x (div_ceil x (up_bytes c plp)) (told_block c plp packet now x y) is.sound is_block;
+      regular = block_regular r slots dnps m x (div_ceil x (up_bytes c plp)) (told_block c plp packet now x y)
+          is.sound is_block;
       each = λ i l.
           let lt : i < y - x = omega (arith, l, items_size) in
-          let e = here r slots dnps m x (div_ceil x (up_bytes c plp)) (told_block c plp packet now x y) is.sound is_block i
+          let e = here r slots dnps m x (div_ceil x (up_bytes c plp)) (told_block c plp packet now x y)
+          is.sound is_block i
           (omega (arith, lt, size)) in
           subst (IsByte (x + i)) (sym e)
           (record { from = omega (arith, from); below = omega (arith, lt, to); value = byte_is i lt });
@@ -288,7 +300,8 @@ module _ (c : Config) (plp : ℕ) (packet : ℕ → List ℕ) (end : ℕ) (law :
       let order : x ≤ y = (law.within rates keeps m is.within.slot).0 in
       let joined = E.whole AreBytes no_bytes bytes_join (λ from. block_items (up_bytes c plp) m (block from)) len x y
       (omega (arith, f)) order
-      (λ from a b. let low : from < min (from + len) y = omega (arith, f, b) in let high : min (from + len) y ≤ y = omega arith in
+      (λ from a b. let low : from < min (from + len) y = omega (arith, f, b) in let high : min (from + len)
+      y ≤ y = omega arith in
       let small : min (from + len) y - from ≤ 6720 = omega (arith, f) in (
         items_size m from (min (from + len) y) a low high small last,
         items_are m from (min (from + len) y) a low high small last,

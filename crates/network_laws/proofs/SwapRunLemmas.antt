@@ -11,7 +11,7 @@ use Rattle.frame_groups.specs.Tests.{rules}
 use Rattle.record_laws.specs.Records.{record_numbers}
 use Rattle.site_frame.specs.declared.reading.RecordView.{RecordView}
 use Rattle.modulator.specs.StandsFor.{records_due}
-use Rattle.stream_laws.specs.Remade.{NumberedView}
+use Rattle.stream_laws.specs.Remade.{NumberedView, numbered}
 use Rattle.stream_laws.specs.SentPackets.{Sent, frame_packets, frame_group}
 use Rattle.stream_laws.specs.UnitLaws.{SurvivalLength, HonestRecords}
 use Rattle.stream_laws.specs.Streams.{Stream, IsStream, stream_survival}
@@ -21,13 +21,14 @@ use Rattle.stream_laws.specs.SentFrames.{run_length, run_stream, stream_bytes, s
 use Rattle.stream_laws.specs.Types.{TypesFit}
 use Rattle.stream_laws.proofs.FrameRecordLemmas.{last_below}
 use Rattle.stream_laws.specs.Again.{run_frame}
-use Rattle.region_swap.specs.Swapped.{numbered, frame_in, frames_in, swapped}
+use Rattle.region_swap.specs.Swapped.{frame_in, frames_in, swapped}
 use Rattle.network_laws.specs.Region.{with_input, FrameIsReplaced, RegionIsOfRun}
 use Rattle.feed_merge.proofs.PickLemmas.{numbers_below}
 
 -- ---- the frames of the records that must come
 
-module _ (written : WrittenIsFrame) (c : Config) (inputs : ℕ → List (List ℕ)) (n : ℕ) (plan : IsPlan c) (types : TypesFit c)
+module _ (written : WrittenIsFrame) (c : Config) (inputs : ℕ → List (List ℕ)) (n : ℕ) (plan : IsPlan c)
+    (types : TypesFit c)
     (survival : List Bool) where
   abbrev sent : List Sent
   sent = sent_frames c inputs n
@@ -35,11 +36,13 @@ module _ (written : WrittenIsFrame) (c : Config) (inputs : ℕ → List (List �
   abbrev whole : ℕ → Bool
   whole = is_whole c sent survival
 
-  one_in : (k : ℕ) → k < n → frame_in c k (sent_content c sent survival k) ≡ (if whole k then run_frame c inputs k ∷ [] else [])
+  one_in : (k : ℕ) → k < n → frame_in c k (sent_content c sent survival k) ≡ (if whole k then run_frame
+      c inputs k ∷ [] else [])
   one_in k l = go (whole k)
     where
       go : (t : Bool) → frame_in c k (if t then Whole (frame_group c.frames sent k)
-          else Muted (loss_of (frame_packets k (items_where_true survival sent)))) ≡ (if t then run_frame c inputs k ∷ [] else [])
+          else Muted (loss_of (frame_packets k (items_where_true survival sent)))) ≡ (if t then run_frame
+          c inputs k ∷ [] else [])
       go true = ap (λ (v : RecordView). numbered k v ∷ []) (written c inputs n k plan types l)
       go false = refl
 
@@ -49,13 +52,15 @@ module _ (written : WrittenIsFrame) (c : Config) (inputs : ℕ → List (List �
   frames_of (k ∷ numbers) h =
       ap₂ (λ (x y : List NumberedView). x ++ y) (one_in k h.0) (frames_of numbers h.1) ∙ join (whole k)
     where
-      join : (t : Bool) → (if t then run_frame c inputs k ∷ [] else []) ++ map (run_frame c inputs) (filter whole numbers)
+      join : (t : Bool) → (if t then run_frame c inputs k ∷ [] else []) ++ map (run_frame c inputs)
+          (filter whole numbers)
           ≡ map (run_frame c inputs) (if t then k ∷ filter whole numbers else filter whole numbers)
       join true = refl
       join false = refl
 
 -- with the PLP replaced
-all_replaced : FrameIsReplaced → (c : Config) (plp : ℕ) (inputs : ℕ → List (List ℕ)) (input : List (List ℕ)) → IsPlan c → TypesFit c
+all_replaced : FrameIsReplaced → (c : Config) (plp : ℕ) (inputs : ℕ → List (List ℕ)) (input : List (List ℕ))
+    → IsPlan c → TypesFit c
     → plp < length c.plps → (numbers : List ℕ)
     → swapped c plp input (map (run_frame c inputs) numbers) ≡ map (run_frame c (with_input inputs plp input)) numbers
 all_replaced law c plp inputs input plan types inside [] = refl
@@ -63,7 +68,8 @@ all_replaced law c plp inputs input plan types inside (k ∷ numbers) =
     ap₂ (λ (v : RecordView) (l : List NumberedView). numbered k v ∷ l) (law c plp inputs input k plan types inside)
     (all_replaced law c plp inputs input plan types inside numbers)
 
-pub region_is_of_run : FrameIsReplaced → SentAreFrames → FramesAreStream → TestsMeet → WrittenIsFrame → SurvivalLength → HonestRecords
+pub region_is_of_run : FrameIsReplaced → SentAreFrames → FramesAreStream → TestsMeet → WrittenIsFrame
+    → SurvivalLength → HonestRecords
     → RegionIsOfRun
 region_is_of_run law are stream meet written len records c plp inputs input from fates plan types inside l honest =
     let n : ℕ = run_length c inputs in

@@ -1,5 +1,6 @@
 -- Of a whole stream all frames are sent.
-use Rattle.std.proofs.Common.{◌≡◌, ℕ, zero, suc, ◌+◌, ◌-◌, ◌%◌, ◌≤◌, ◌==◌, ◌&&◌, Bool, true, false, List, [], ◌∷◌, map, length, drop, find}
+use Rattle.std.proofs.Common.{◌≡◌, ℕ, zero, suc, ◌+◌, ◌-◌, ◌%◌, ◌≤◌, ◌==◌, ◌&&◌, Bool, true, false, List, [], ◌∷◌, map}
+use Rattle.std.proofs.Common.{length, drop, find}
 use Rattle.std.proofs.Common.{Option, Some, None, refl, ap, ap₂, sym, ◌∙◌, arith}
 use Rattle.std.specs.Prelude.{if◌then◌else◌}
 use Rattle.std.specs.List.{filter, range_with_len, items_where_true}
@@ -41,22 +42,26 @@ module _ (c : Config) (inputs : ℕ → List (List ℕ)) (whole : ℕ → Bool) 
       go true e = refl
       go false e = absurd (let z : Muted (emission c k) ≡ frame_of c inputs k = e in cc)
 
-  all_whole : (k a : ℕ) → map (record_of c inputs whole) (range_with_len a k) ≡ map (frame_of c inputs) (range_with_len a k)
+  all_whole : (k a : ℕ) → map (record_of c inputs whole) (range_with_len a k) ≡ map (frame_of c inputs)
+      (range_with_len a k)
       → filter whole (range_with_len a k) ≡ range_with_len a k
   all_whole zero a e = refl
   all_whole (suc k) a e =
       let here = is_frame a (ap (first_of (Muted (emission c a))) e) in
       let behind = all_whole k (a + 1) (ap behind_first e) in
-      ap (λ (t : Bool). if t then a ∷ filter whole (range_with_len (a + 1) k) else filter whole (range_with_len (a + 1) k)) here
+      ap (λ (t : Bool). if t then a ∷ filter whole (range_with_len (a + 1) k) else filter whole
+      (range_with_len (a + 1) k)) here
       ∙ ap (λ (l : List ℕ). a ∷ l) behind
 
   from_some : (n end first : ℕ) → end ≤ n → end - first ≡ n
-      → map (record_of c inputs whole) (range_with_len first (end - first)) ≡ map (frame_of c inputs) (range_with_len 0 n)
+      → map (record_of c inputs whole) (range_with_len first (end - first)) ≡ map (frame_of c inputs)
+      (range_with_len 0 n)
       → filter whole (range_with_len first (end - first)) ≡ range_with_len 0 n
   from_some zero end first l count e = ap (λ (k : ℕ). filter whole (range_with_len first k)) count
   from_some (suc k) end first l count e =
       let none : first ≡ 0 = omega (arith, l, count) in
-      let is : range_with_len first (end - first) ≡ range_with_len 0 (suc k) = ap₂ (λ (x y : ℕ). range_with_len x y) none count in
+      let is : range_with_len first (end - first) ≡ range_with_len 0 (suc k) = ap₂ (λ (x y : ℕ). range_with_len x y)
+      none count in
       ap (filter whole) is ∙ all_whole (suc k) 0 (sym (ap (map (record_of c inputs whole)) is) ∙ e)
 
   -- So they are all frames of a run, if they are as many.
@@ -75,7 +80,8 @@ module _ (c : Config) (inputs : ℕ → List (List ℕ)) (whole : ℕ → Bool) 
       let count : end - first ≡ n = omega (arith, many, size, own) in
       from_some n end first l count e
 
-pub whole_is_replaced : RegionIsOfRun → SentAreFrames → KeptIsHonest → WholeArrives → WholeComes → RunSentAgain → WholeIsReplaced
+pub whole_is_replaced : RegionIsOfRun → SentAreFrames → KeptIsHonest → WholeArrives → WholeComes → RunSentAgain
+    → WholeIsReplaced
 whole_is_replaced region are kept arrives comes again c plp inputs input plan types inside l same =
     let n : ℕ = run_length c inputs in
     let s : Stream = run_stream c inputs in
@@ -89,7 +95,8 @@ whole_is_replaced region are kept arrives comes again c plp inputs input plan ty
     let frames : (2 ≤ c.frames) × (c.frames ≤ 255) = plan.rules SuperframeLength in
     let low = last_below n s.sent survival None (omega arith) (are c inputs n (omega (arith, frames.0))).below in
     let numbers : whole_numbers c inputs 0 fates ≡ range_with_len 0 n =
-    whole_from c inputs whole n end (find (λ k. whole k && (k % c.frames == 0)) (range_with_len 0 end)) low (comes c inputs plan types.ids l) in
+    whole_from c inputs whole n end (find (λ k. whole k && (k % c.frames == 0)) (range_with_len 0 end))
+    low (comes c inputs plan types.ids l) in
     ap (λ (bytes : List ℕ). remade_packets c (region_frames c plp input bytes)) (arrives c inputs)
     ∙ ap (remade_packets c)
     (region c plp inputs input 0 fates plan types inside l honest ∙ ap (map (run_frame c new)) numbers)

@@ -1,6 +1,8 @@
 -- The bits of a gateway's blocks are taken as what was sent.
-use Rattle.std.proofs.Common.{◌≡◌, ◌⊎◌, ℕ, zero, suc, ◌+◌, ◌-◌, ◌*◌, ◌^◌, ◌<◌, ◌≤◌, ◌==◌, Bool, true, false, List, [], ◌∷◌, ◌++◌}
-use Rattle.std.proofs.Common.{length, map, take, drop, get_or, min, Option, Some, None, refl, ap, ◌∙◌, sym, subst, arith, inl}
+use Rattle.std.proofs.Common.{◌≡◌, ◌⊎◌, ℕ, zero, suc, ◌+◌, ◌-◌, ◌*◌, ◌^◌, ◌<◌, ◌≤◌, ◌==◌, Bool, true, false, List, []}
+use Rattle.std.proofs.Common.{◌∷◌, ◌++◌}
+use Rattle.std.proofs.Common.{length, map, take, drop, get_or, min, Option, Some, None, refl, ap, ◌∙◌, sym, subst}
+use Rattle.std.proofs.Common.{arith, inl}
 use Rattle.std.proofs.Common.{inr, cond, append-nil}
 use Rattle.std.specs.Prelude.{if◌then◌else◌, slice_get, option_map}
 use Rattle.std.specs.Int.{div_ceil}
@@ -22,7 +24,8 @@ use Rattle.ts_packet.specs.Null.{is_null}
 use Rattle.mode_adapt.specs.Matype.{matype1, matype2, is_constant}
 use Rattle.mode_adapt.specs.Queue.{sent, sent_before}
 use Rattle.mode_adapt.specs.UserPackets.{keeps_of, user_packet}
-use Rattle.mode_adapt.specs.Blocks.{rates_of, plp_keeps, plp_string, header_at, up_with, first_up, with_place, data_field}
+use Rattle.mode_adapt.specs.Blocks.{rates_of, plp_keeps, plp_string, header_at, up_with, first_up, with_place}
+use Rattle.mode_adapt.specs.Blocks.{data_field}
 use Rattle.mode_adapt.specs.Blocks.{block_bits, block_places, blocks_of}
 use Rattle.network_laws.specs.ToldEpochs.{told_block, told_blocks, ArePackets}
 use Rattle.plp_receiver.specs.Taken.{block_read, IsOfStream, IsTaken}
@@ -41,7 +44,8 @@ small_append : (xs ys : List ℕ) → Small xs → Small ys → Small (xs ++ ys)
 small_append xs ys f g i =
     elim (cases_lt i (length xs)) [
       | inl lt ↦ subst (λ (v : ℕ). v < 256) (sym (get_or_append_left xs ys 0 i lt)) (f i)
-      | inr ge ↦ subst (λ (v : ℕ). v < 256) (sym (get_or-append_right xs ys (length xs) i 0 refl ge)) (g (i - length xs))
+      | inr ge ↦ subst (λ (v : ℕ). v < 256) (sym (get_or-append_right xs ys (length xs) i 0 refl ge))
+          (g (i - length xs))
     ]
 
 small_take : (n : ℕ) (xs : List ℕ) → Small xs → Small (take n xs)
@@ -66,14 +70,16 @@ small_packet : DnpFits → (deletes : Bool) (packet : ℕ → List ℕ) → AreP
 small_packet fits true packet small k =
     small_append (drop 1 (packet k)) (dnp (keeps_of true packet) k ∷ []) (small_drop 1 (packet k) (small k).bytes)
     (small_one _ (fits true (λ j. is_null (packet j)) k))
-small_packet fits false packet small k = small_append (drop 1 (packet k)) [] (small_drop 1 (packet k) (small k).bytes) small_nil
+small_packet fits false packet small k = small_append (drop 1 (packet k)) [] (small_drop 1 (packet k) (small k).bytes)
+    small_nil
 
 -- Headers.
 
 matype_small : (c : Config) (plp : ℕ) → matype1 c plp < 2 ^ 8
 unfolding matype1
 matype_small c plp =
-    number_of-lt (true ∷ true ∷ (length c.plps == 1) ∷ is_constant c.plps ∷ true ∷ (plp_at c.plps plp).delete ∷ false ∷ false
+    number_of-lt (true ∷ true ∷ (length c.plps == 1) ∷ is_constant c.plps ∷ true ∷ (plp_at c.plps plp).delete
+    ∷ false ∷ false
     ∷ [])
 
 of_stream : (a b d : Bool) → IsOfStream d (number_of (true ∷ true ∷ a ∷ b ∷ true ∷ d ∷ false ∷ false ∷ []))
@@ -119,7 +125,8 @@ good_none c plp x len id short = record {
   matype = refl;
 }
 
-good_some : (c : Config) (plp x len place slot : ℕ) → (plp_at c.plps plp).id < 2 ^ 8 → len ≤ 6720 → x ≤ place → place < x + len
+good_some : (c : Config) (plp x len place slot : ℕ) → (plp_at c.plps plp).id < 2 ^ 8 → len ≤ 6720 → x ≤ place
+    → place < x + len
     → IsGood c plp (header_at c plp x len (Some (place, slot))) len
 good_some c plp x len place slot id short from below = record {
   fits = record {
@@ -134,21 +141,25 @@ good_some c plp x len place slot id short from below = record {
   matype = refl;
 }
 
-good_up : (c : Config) (plp x y len n : ℕ) (slots : List ℕ) → (plp_at c.plps plp).id < 2 ^ 8 → y - x ≤ 6720 → x ≤ len * n
+good_up : (c : Config) (plp x y len n : ℕ) (slots : List ℕ) → (plp_at c.plps plp).id < 2 ^ 8 → y - x ≤ 6720
+    → x ≤ len * n
     → IsGood c plp (header_at c plp x (y - x) (up_with len slots 0 n y)) (y - x)
 good_up c plp x y len n slots id short from =
     elim (cases_lt (len * n) y) [
       | inl lt ↦
           subst (λ (b : Bool).
-          IsGood c plp (header_at c plp x (y - x) (cond b (option_map (λ (k : ℕ). (len * n, k)) (slice_get slots (n - 0))) None))
+          IsGood c plp (header_at c plp x (y - x)
+          (cond b (option_map (λ (k : ℕ). (len * n, k)) (slice_get slots (n - 0))) None))
           (y - x)) (sym (lt-ltb (len * n) y lt)) (go lt (slice_get slots (n - 0)))
       | inr ge ↦
           subst (λ (b : Bool).
-          IsGood c plp (header_at c plp x (y - x) (cond b (option_map (λ (k : ℕ). (len * n, k)) (slice_get slots (n - 0))) None))
+          IsGood c plp (header_at c plp x (y - x)
+          (cond b (option_map (λ (k : ℕ). (len * n, k)) (slice_get slots (n - 0))) None))
           (y - x)) (sym (le-ltb (len * n) y ge)) (good_none c plp x (y - x) id short)
     ]
   where
-    go : len * n < y → (o : Option ℕ) → IsGood c plp (header_at c plp x (y - x) (option_map (λ (k : ℕ). (len * n, k)) o)) (y - x)
+    go : len * n < y → (o : Option ℕ)
+        → IsGood c plp (header_at c plp x (y - x) (option_map (λ (k : ℕ). (len * n, k)) o)) (y - x)
     go lt None = good_none c plp x (y - x) id short
     go lt (Some k) = good_some c plp x (y - x) (len * n) k id short from (omega (arith, lt, from))
 
@@ -207,7 +218,8 @@ module _ (c : Config) (plp : ℕ) (packet : ℕ → List ℕ) (m : ℕ) (law : S
       block = ap (block_read header) (sym (bytes_of-bits_of field small_field));
     }
 
-  zip_map : {A B : Type 0} (R : A → B → Type 0) (P : ℕ → Type 0) (f : ℕ → A) (g : ℕ → B) → ((k : ℕ) → P k → R (f k) (g k))
+  zip_map : {A B : Type 0} (R : A → B → Type 0) (P : ℕ → Type 0) (f : ℕ → A) (g : ℕ → B)
+      → ((k : ℕ) → P k → R (f k) (g k))
       → (ks : List ℕ) → AllByRecursion P ks → AllZip R (map f ks) (map g ks)
   zip_map R P f g each [] h = tt
   zip_map R P f g each (k ∷ ks) h = (each k h.0, zip_map R P f g each ks h.1)

@@ -1,7 +1,9 @@
 -- What the records of a gateway's frames tell of the interleaving frames of a PLP.
-use Rattle.std.proofs.Common.{◌≡◌, ℕ, zero, suc, ◌+◌, ◌-◌, ◌*◌, ◌/◌, ◌%◌, ◌<◌, ◌≤◌, ◌==◌, ◌&&◌, Bool, true, false, List, [], ◌∷◌}
+use Rattle.std.proofs.Common.{◌≡◌, ℕ, zero, suc, ◌+◌, ◌-◌, ◌*◌, ◌/◌, ◌%◌, ◌<◌, ◌≤◌, ◌==◌, ◌&&◌, Bool, true, false, List}
+use Rattle.std.proofs.Common.{[], ◌∷◌}
 use Rattle.std.proofs.Common.{length}
-use Rattle.std.proofs.Common.{map, take, drop, get_or, Option, Some, None, refl, ap, ap₂, ◌∙◌, sym, subst, arith, inl, inr, cond}
+use Rattle.std.proofs.Common.{map, take, drop, get_or, Option, Some, None, refl, ap, ap₂, ◌∙◌, sym, subst, arith, inl}
+use Rattle.std.proofs.Common.{inr, cond}
 use Rattle.std.proofs.Common.{eq-eqb}
 use Rattle.std.proofs.Common.{eqb-true, sum}
 use Rattle.std.specs.Prelude.{not, ◌||◌, nat_le, nat_lt, option_map, slice_get, slice_index, if◌then◌else◌}
@@ -53,7 +55,8 @@ use Rattle.network_laws.proofs.ReadableLemmas as R
 
 -- ---- tests of numbers in a row
 
-pub each_passes : (test : ℕ → Bool) (n a : ℕ) → ((k : ℕ) → a ≤ k → k < a + n → test k ≡ true) → list_all test (range_with_len a n)
+pub each_passes : (test : ℕ → Bool) (n a : ℕ) → ((k : ℕ) → a ≤ k → k < a + n → test k ≡ true)
+    → list_all test (range_with_len a n)
     ≡ true
 each_passes test zero a h = refl
 each_passes test (suc n) a h =
@@ -91,10 +94,14 @@ row_of f (suc d) n a (suc count) l =
 zip_row : {X : Type 0} (G : ℕ → X → Type 0) (f : ℕ → X) (n a : ℕ) → ((k : ℕ) → a ≤ k → k < a + n → G k (f k))
     → AllZip G (range_with_len a n) (map f (range_with_len a n))
 zip_row G f zero a h = tt
-zip_row G f (suc n) a h =
-    (h a (omega arith) (omega arith), zip_row G f n (a + 1) (λ k from below. h k (omega (arith, from)) (omega (arith, below))))
+zip_row G f (suc n) a h = (
+  h a (omega arith) (omega arith),
+  zip_row G f n (a + 1) (λ k from below. h k (omega (arith, from))
+      (omega (arith, below))),
+)
 
-all_at : {X : Type 0} (P : X → Type 0) (xs : List X) (i : ℕ) (d : X) → AllByRecursion P xs → i < length xs → P (get_or xs i d)
+all_at : {X : Type 0} (P : X → Type 0) (xs : List X) (i : ℕ) (d : X) → AllByRecursion P xs → i < length xs
+    → P (get_or xs i d)
 all_at P [] i d h l = absurd (omega (arith, l))
 all_at P (x ∷ xs) zero d h l = h.0
 all_at P (x ∷ xs) (suc i) d h l = all_at P xs i d h.1 (omega (arith, l))
@@ -122,7 +129,8 @@ pub record Stand : Type 0 where
   pub back : ScramblesBack
   pub taken : BlocksTaken
 
-module _ (reads : R.Reads) (stand : Stand) (c : Config) (inputs : ℕ → List (List ℕ)) (plan : IsPlan c) (types : TypesFit c)
+module _ (reads : R.Reads) (stand : Stand) (c : Config) (inputs : ℕ → List (List ℕ)) (plan : IsPlan c)
+    (types : TypesFit c)
     (plp : ℕ) (inside : plp < length c.plps) (packets : ArePackets (packet_at (inputs plp))) where
   abbrev deletes : Bool
   deletes = (plp_at c.plps plp).delete
@@ -137,7 +145,8 @@ module _ (reads : R.Reads) (stand : Stand) (c : Config) (inputs : ℕ → List (
 
   -- what the record of a whole frame tells
   abbrev part_at : ℕ → Part
-  part_at n = part_with n (R.blocks reads c inputs n plan types) (frame_shape c inputs n) (R.cells reads c inputs n plan types)
+  part_at n = part_with n (R.blocks reads c inputs n plan types) (frame_shape c inputs n)
+      (R.cells reads c inputs n plan types)
 
   part_is : (n : ℕ) (whole : Bool) → part_of c n (cond whole (frame_of c inputs n) (Muted (emission c n)))
       ≡ cond {A = Option Part} whole (Some (part_at n)) None
@@ -153,7 +162,8 @@ module _ (reads : R.Reads) (stand : Stand) (c : Config) (inputs : ℕ → List (
     cell_is : (cell : ℕ) → cell < block_cells c plp → stands c (part_at n) plp block cell ≡ true
     cell_is cell below =
         let own : ℕ = ordinal_of shape plp block in
-        let found : Bool = is_cell own cell (slice_get (part_at n).cells (address_of c shape (n % c.frames) plp block cell)) in
+        let found : Bool = is_cell own cell (slice_get (part_at n).cells (address_of c shape (n % c.frames)
+        plp block cell)) in
         bool_cases (is_carried c shape (n % c.frames) plp block cell)
         (λ yes.
         let is : IsCarried c shape (n % c.frames) plp block cell = record {
@@ -259,7 +269,8 @@ module _ (reads : R.Reads) (stand : Stand) (c : Config) (inputs : ℕ → List (
           let test : Part → Bool = λ p. all_stand c plp p block in
           list_all-map test part_at (range_with_len begin n)
           ∙ each_passes (λ k. test (part_at k)) n begin
-          (λ k from below. cells_are k block (let t = told_is k from (omega (arith, below, l)) in omega (arith, t, there)))
+          (λ k from below. cells_are k block (let t = told_is k from (omega (arith, below, l)) in omega
+          (arith, t, there)))
 
       abbrev own : List Bool
       own = get_or bits block []
@@ -281,7 +292,8 @@ module _ (reads : R.Reads) (stand : Stand) (c : Config) (inputs : ℕ → List (
           let long = all_at (λ (b : List Bool). length b ≡ 8 * block_bytes c plp) bits block []
           (blocks_long numbers reads.given.field c inputs m plp) there in
           ap (λ (bytes : List ℕ). scrambled (bits_of bytes)) bytes_are
-          ∙ ap scrambled (bits_of-bytes_of (scrambled own) (block_bytes c plp) (numbers.scrambled own ∙ long)) ∙ stand.back own
+          ∙ ap scrambled (bits_of-bytes_of (scrambled own) (block_bytes c plp) (numbers.scrambled own ∙ long))
+          ∙ stand.back own
 
       given : (b : Block) → IsTaken deletes own b → IsGiven deletes (cells_stand c plp (parts_at begin n) block)
           (bytes_at (part_at begin).blocks (place_of c plp (part_at begin) block)) (Some b)
@@ -294,14 +306,16 @@ module _ (reads : R.Reads) (stand : Stand) (c : Config) (inputs : ℕ → List (
     tells_whole : (n : ℕ) → 1 ≤ n → n ≤ frames → Tells c plp (Some (parts_at begin n)) (epoch_with (map Some told))
     tells_whole zero l most = absurd (omega (arith, l))
     tells_whole (suc n) l most =
-        let G : ℕ → Option Block → Type 0 = λ block b. IsGiven deletes (cells_stand c plp (parts_at begin (suc n)) block)
+        let G : ℕ → Option Block → Type 0 = λ block b. IsGiven deletes (cells_stand c plp (parts_at begin (suc n))
+        block)
         (bytes_at (part_at begin).blocks (place_of c plp (part_at begin) block)) b in
         let blocks : TellsBlocks c plp (part_at begin) (parts_at begin (suc n)) (map Some told) =
         subst (λ (k : ℕ). AllZip G (range_with_len 0 k) (map Some told))
         (sym (count_is begin (omega arith) (omega (arith, some))))
         (zip_numbers deletes G bits told 0
         (stand.taken c plp (packet_at (inputs plp)) m plan inside (types.ids plp inside) packets)
-        (λ i b lt t. let e : i ≡ 0 + i = omega arith in subst (λ (k : ℕ). G k (Some b)) e (given (suc n) most i lt b t))) in
+        (λ i b lt t. let e : i ≡ 0 + i = omega arith in subst (λ (k : ℕ). G k (Some b)) e
+        (given (suc n) most i lt b t))) in
         (map Some told, blocks, refl)
 
   -- ---- the records of frames from one on
@@ -340,7 +354,8 @@ module _ (reads : R.Reads) (stand : Stand) (c : Config) (inputs : ℕ → List (
               (ap (λ (t : Bool). t && (nat_lt begin (first + count) && not (muted begin))) late)))
           | inr ge ↦
               let at : first + (begin - first) ≡ begin = omega (arith, ge) in
-              let rows : take frames (drop (begin - first) views) ≡ map (record_of c inputs whole) (range_with_len begin frames) =
+              let rows : take frames (drop (begin - first) views) ≡ map (record_of c inputs whole)
+              (range_with_len begin frames) =
               row_of (record_of c inputs whole) (begin - first) frames first count (omega (arith, ge, l, next))
               ∙ ap (λ (k : ℕ). map (record_of c inputs whole) (range_with_len k frames)) at in
               let same : is_in m ≡ list_all whole (range_with_len begin frames) =
@@ -350,7 +365,8 @@ module _ (reads : R.Reads) (stand : Stand) (c : Config) (inputs : ℕ → List (
               ap (λ (t : Bool). cond {A = Option (List Part)} t told None) (le-leb first begin ge)
               ∙ ap (λ (v : List RecordView). agreeing plp (parts_of c begin v)) rows
               ∙ ap (agreeing plp) (parts_are whole frames begin)
-              ∙ agreed (list_all whole (range_with_len begin frames)) (parts_at begin frames) (one_count m frames (omega arith))
+              ∙ agreed (list_all whole (range_with_len begin frames)) (parts_at begin frames)
+              (one_count m frames (omega arith))
               ∙ sym (ap (λ (t : Bool). there_or t (parts_at begin frames)) same)
         ]
 
@@ -359,7 +375,8 @@ module _ (reads : R.Reads) (stand : Stand) (c : Config) (inputs : ℕ → List (
         (told_epoch c plp (packet_at (inputs plp)) (is_lost c plp muted first count) m)
     tells_epoch m l =
         subst (λ (o : Option (List Part)). Tells c plp o
-        (told_epoch c plp (packet_at (inputs plp)) (is_lost c plp muted first count) m)) (sym (parts_there m l)) (go (is_in m))
+        (told_epoch c plp (packet_at (inputs plp)) (is_lost c plp muted first count) m)) (sym (parts_there m l))
+        (go (is_in m))
       where
         go : (b : Bool) → Tells c plp (there_or b (parts_at (m * frames) frames))
             (cond (not b) lost_epoch (epoch_with (map Some (told m))))
@@ -372,9 +389,12 @@ module _ (reads : R.Reads) (stand : Stand) (c : Config) (inputs : ℕ → List (
     tells_all =
         let lost : ℕ → Bool = is_lost c plp muted first count in
         let G : ℕ → Epoch → Type 0 = λ m e. Tells c plp (epoch_parts c plp first views m) e in
-        subst (λ (k : ℕ). AllZip G (epochs_in frames first k) (ended_epochs c plp (packet_at (inputs plp)) muted first count))
+        subst (λ (k : ℕ). AllZip G (epochs_in frames first k) (ended_epochs c plp (packet_at (inputs plp))
+        muted first count))
         (sym (length-map-range_with_len (record_of c inputs whole) first count))
-        (zip_row G (told_epoch c plp (packet_at (inputs plp)) lost) ((first + count) / frames - first / frames) (first / frames)
+        (zip_row G (told_epoch c plp (packet_at (inputs plp)) lost) ((first + count) / frames - first / frames)
+        (first / frames)
         (λ m from below.
-        let q : (m + 1) * frames ≤ (first + count) / frames * frames = mul-le-mul_right frames (omega (arith, from, below)) in
+        let q : (m + 1) * frames ≤ (first + count) / frames * frames = mul-le-mul_right frames
+        (omega (arith, from, below)) in
         tells_epoch m (omega (arith, q, div-mul-le_self (first + count) frames))))

@@ -11,6 +11,7 @@ use Rattle.std.proofs.lemmas.Bool.{cases_Bool, cases_eq, cases_lt, cond-true, co
 use Rattle.std.proofs.lemmas.Bool.{true≢false, false_from_ne_true, ltb-true}
 use Rattle.std.proofs.lemmas.List.FromFn.{get_or-map-range_with_len, length-map-range_with_len}
 use Rattle.std.proofs.lemmas.Nat.{div-add-mod', mod_below}
+use Rattle.std.proofs.lemmas.Option.{same_Some}
 use Rattle.terms.proofs.AllLemmas.{all_append}
 use Rattle.bb_frame.specs.Laws.{ScramblesBack}
 use Rattle.plp_config.specs.Places.{places}
@@ -26,9 +27,9 @@ use Rattle.stream_laws.specs.FormedLaws.{ShownIsSent}
 use Rattle.stream_laws.specs.Remade.{view_bodies}
 use Rattle.stream_laws.proofs.AgainLemmas.{frame_again}
 use Rattle.spaced_frames.specs.Spaced.{SentFrame, spacers, spacers_behind, spacers_between, spaced, spaced_behind}
-use Rattle.terms.proofs.OptionLemmas.{some_injective, none_some}
+use Rattle.terms.proofs.OptionLemmas.{none_some}
 use Rattle.plp_config.specs.Capacity.{IsPlan}
-use Rattle.plp_config.specs.InterleavingFrames.{begin_of}
+use Rattle.plp_config.specs.InterleavingFrames.{is_first, begin_of}
 use Rattle.plp_config.specs.declared.config.Config.{Config}
 use Rattle.mode_adapt.specs.Blocks.{own_blocks, told_counts}
 use Rattle.t2mi_packet.specs.declared.packet.Packet.{Packet}
@@ -65,25 +66,26 @@ use Rattle.network_laws.specs.FeedsOfRun.{run_packets, CameOf, IsOfRun, AreOfRun
 use Rattle.network_laws.specs.FeedsOfRun.{WholeStreamMended}
 use Rattle.network_laws.proofs.RunEventLemmas.{all_came, run_stream_events}
 use Rattle.network_laws.proofs.HonestGroupLemmas.{view_is, whole_has}
-use Rattle.mended_frames.proofs.PickLemmas.{all_less, behind_less, lesser_is, passes_least, passes_number}
+use Rattle.mended_frames.proofs.PickLemmas.{lesser_is, passes_least}
+use Rattle.mended_frames.proofs.MendLemmas.{no_fault}
 
 -- ---- the least of the numbers that are next
 
 lesser_most : (a b : Option ℕ) (m : ℕ) → (a ≡ Some m) ⊎ (b ≡ Some m) → (n : ℕ) × (lesser a b ≡ Some n) × (n ≤ m)
 lesser_most None b m w = ⊎_elim (λ (e : None ≡ Some m). none_some m e) (λ (e : b ≡ Some m). (m, e, omega arith)) w
 lesser_most (Some x) None m w = ⊎_elim
-    (λ (e : Some x ≡ Some m). (x, refl, (let s = some_injective x m e in omega (arith, s))))
+    (λ (e : Some x ≡ Some m). (x, refl, (let s = same_Some x m e in omega (arith, s))))
     (λ (e : None ≡ Some m). none_some m e) w
 lesser_most (Some x) (Some y) m w = (
   min x y,
   refl,
   ⊎_elim
-      (λ (e : Some x ≡ Some m). let s = some_injective x m e in omega (arith, s))
-      (λ (e : Some y ≡ Some m). let s = some_injective y m e in omega (arith, s)) w,
+      (λ (e : Some x ≡ Some m). let s = same_Some x m e in omega (arith, s))
+      (λ (e : Some y ≡ Some m). let s = same_Some y m e in omega (arith, s)) w,
 )
 
 -- it is no more than that of each feed
-least_most : (k : ℕ) (feeds : ℕ → Coming) (i m : ℕ) → i < k → number_next (feeds i).events ≡ Some m
+pub least_most : (k : ℕ) (feeds : ℕ → Coming) (i m : ℕ) → i < k → number_next (feeds i).events ≡ Some m
     → (n : ℕ) × (least_next k feeds ≡ Some n) × (n ≤ m)
 least_most zero feeds i m l e = absurd (omega (arith, l))
 least_most (suc k) feeds i m l e = ⊎_elim
@@ -171,7 +173,8 @@ module _ (given : Given) (knows : Knows) (carries : FrameCarries) (c : Config) (
           (λ (near : m / c.frames ≤ b / c.frames + 1). near)
           (cases_lt (b / c.frames + 1) (m / c.frames))
 
-  run_spaced : (last : Option ℕ) (j m : ℕ) → IsBefore last m → spaced_behind c last (map run_frame (range_with_len m j))
+  pub run_spaced : (last : Option ℕ) (j m : ℕ) → IsBefore last m
+      → spaced_behind c last (map run_frame (range_with_len m j))
       ≡ flat_map (λ i. map (λ (body : Body). (i, body))
       (frame_bodies c i (told_counts c inputs i) (own_blocks c inputs i)))
       (range_with_len m j)
@@ -193,21 +196,42 @@ module _ (given : Given) (knows : Knows) (carries : FrameCarries) (c : Config) (
   run_has n l = has_frame given.numbers given.field c inputs n (run_packets c inputs n) plan
       (carries c inputs count n l)
 
-  -- what has the frame passes behind all frames before it
+  -- Of the frames that were made before one each has what the run's frame has.
+  abbrev pub PastOfRun : ℕ → List Numbered → Type 0
+  PastOfRun n past = (b : ℕ) → b < n → (packets_at past b ≡ []) ⊎ HasFrame c inputs b (packets_at past b)
+
+  -- Those were made in which an interleaving frame began that it carries.
+  abbrev pub BegunMade : ℕ → List Numbered → Type 0
+  BegunMade n past = (plp : ℕ) → plp < length c.plps → is_first c plp n ≡ false
+      → HasFrame c inputs (begin_of c plp n) (packets_at past (begin_of c plp n))
+
+  -- what has the frame passes behind them
+  pub passes_behind : (n : ℕ) (past : List Numbered) (packets : List Packet) → PastOfRun n past → BegunMade n past
+      → HasFrame c inputs n packets → packets_fault c past n packets ≡ None
+  passes_behind n past packets of begun has =
+      passes given c inputs n plan types past
+      (λ b below is plp inside. ⊎_elim
+      (λ (none : packets_at past b ≡ []).
+      let e : length (right_blocks c plp (packets_at past b)) ≡ 0 =
+      ap (λ (l : List Packet). length (right_blocks c plp l)) none in
+      omega (arith, e))
+      (λ (h : HasFrame c inputs b (packets_at past b)).
+      let e = ap length (h.right plp inside) in
+      let most = own_few given c inputs b plan types plp inside in
+      omega (arith, e, most))
+      (of b below))
+      (λ plp inside later.
+      let h = begun plp inside later in
+      let is = begun_own given.laws c inputs plp n plan.rules inside in
+      (h.blocks plp inside ∙ is, h.right plp inside ∙ is))
+      packets has
+
+  -- so it does behind all frames before it
   frame_passes : (m : ℕ) (past : List Numbered) (packets : List Packet) → Gone m past → HasFrame c inputs m packets
       → packets_fault c past m packets ≡ None
   frame_passes m past packets gone has =
-      passes given c inputs m plan types past
-      (λ b below is plp inside.
-      let e = ap length ((gone.frames b below).right plp inside) in
-      let most = own_few given c inputs b plan types plp inside in
-      omega (arith, e, most))
-      (λ plp inside later.
-      let b : ℕ = begin_of c plp m in
-      let h = gone.frames b (begun_before c plp m later) in
-      let is = begun_own given.laws c inputs plp m plan.rules inside in
-      (h.blocks plp inside ∙ is, h.right plp inside ∙ is))
-      packets has
+      passes_behind m past packets (λ b below. inr (gone.frames b below))
+      (λ plp inside later. gone.frames (begin_of c plp m) (begun_before c plp m later)) has
 
   -- what is so of all groups of a number
   abbrev GroupOf : ℕ → Group → Type 0
@@ -238,10 +262,6 @@ module _ (given : Given) (knows : Knows) (carries : FrameCarries) (c : Config) (
   -- a group that passes is found among groups of which one does
   pub data Finds (m : ℕ) (past : List Numbered) (gs : List Group) : Type 0 where
     Found : (g : Group) → find (test_passes c past m) gs ≡ Some g → HasFrame c inputs m g.packets → Finds m past gs
-
-  no_fault : (o : Option MuteCause) → not (is_some o) ≡ true → o ≡ None
-  no_fault None e = refl
-  no_fault (Some cause) e = absurd (true≢false (sym e))
 
   finds_first : (m : ℕ) (past : List Numbered) (g : Group) (gs : List Group) → m < count → GroupOf m g
       → (test_passes c past m g ≡ false → Finds m past gs) → Finds m past (g ∷ gs)
@@ -316,7 +336,7 @@ module _ (given : Given) (knows : Knows) (carries : FrameCarries) (c : Config) (
   -- the numbers that are next are below the end
   next_below : (events : List FeedEvent) (n : ℕ) → AllOf events → number_next events ≡ Some n → n < count
   next_below [] n h e = none_some n e
-  next_below (Has x ∷ events) n h e = let l = h.0.0 in let s = some_injective x.number n e in omega (arith, l, s)
+  next_below (Has x ∷ events) n h e = let l = h.0.0 in let s = same_Some x.number n e in omega (arith, l, s)
   next_below (Silent ∷ events) n h e = none_some n e
 
   least_below : (k j n : ℕ) (feeds : ℕ → Coming) → AreOfRun c inputs k feeds → j ≤ k → least_next j feeds ≡ Some n
@@ -342,7 +362,7 @@ module _ (given : Given) (knows : Knows) (carries : FrameCarries) (c : Config) (
   abbrev next_step : Option ℕ → ℕ → ℕ → List Numbered → (ℕ → Coming) → List Made
   next_step o steps k past feeds = pick_next (taking c) o k past feeds (λ past feeds. picks steps k past feeds)
 
-  step_is : (steps k : ℕ) (past : List Numbered) (feeds : ℕ → Coming) → AreOfRun c inputs k feeds
+  pub step_is : (steps k : ℕ) (past : List Numbered) (feeds : ℕ → Coming) → AreOfRun c inputs k feeds
       → picks (suc steps) k past feeds ≡ next_step (least_next k feeds) steps k past feeds
   step_is steps k past feeds h =
       ap (λ (t : Bool). cond t [] (next_step (least_next k feeds) steps k past feeds))

@@ -1,5 +1,6 @@
 -- The user packets of a string of the gateway, as a list.
-use Rattle.std.proofs.Common.{◌≡◌, ℕ, zero, suc, ◌+◌, ◌-◌, ◌*◌, ◌%◌, ◌^◌, ◌<◌, ◌≤◌, List, [], ◌∷◌, ◌++◌, length, map, take, drop}
+use Rattle.std.proofs.Common.{◌≡◌, ℕ, zero, suc, ◌+◌, ◌-◌, ◌*◌, ◌%◌, ◌^◌, ◌<◌, ◌≤◌, List, [], ◌∷◌, ◌++◌, length, map}
+use Rattle.std.proofs.Common.{take, drop}
 use Rattle.std.proofs.Common.{Option, None, refl, ap, ap₂, ◌∙◌, sym, arith, inl, inr, append-nil, append_assoc}
 use Rattle.std.specs.List.{range_with_len}
 use Rattle.std.proofs.lemmas.Bool.{cases_lt, cases_eq}
@@ -10,7 +11,8 @@ use Rattle.plp_config.specs.SlotTime.{slot_start}
 use Rattle.plp_config.specs.Laws.{IscrFindsSlot}
 use Rattle.plp_receiver.specs.declared.slot_rule.SlotRule.{SlotRule}
 use Rattle.plp_receiver.specs.Strings.{Item, gap, is_start}
-use Rattle.plp_receiver.specs.Packets.{UserPacket, is_one, no_item, slot_of, slot_before, slots_at, window, with_slot, packets_at}
+use Rattle.plp_receiver.specs.Packets.{UserPacket, is_one, no_item, slot_of, slot_before, slots_at, window, with_slot}
+use Rattle.plp_receiver.specs.Packets.{packets_at}
 use Rattle.plp_receiver.specs.Packets.{user_packets}
 use Rattle.plp_receiver.specs.Machine.{State, state_of, turn, after, given}
 use Rattle.plp_receiver.specs.Sound.{IsSound}
@@ -30,7 +32,8 @@ unfolding packets_at
 packets_by r z = (refl, λ x. refl)
 
 module _ (r : SlotRule) (slots dnps : ℕ → ℕ) (place n bound : ℕ) (z : List Item) (sound : IsSound r)
-    (follow : Follow r slots dnps bound) (fits : place + length z ≤ r.up_len * bound) (reg : IsRegular r slots dnps place z)
+    (follow : Follow r slots dnps bound) (fits : place + length z ≤ r.up_len * bound)
+    (reg : IsRegular r slots dnps place z)
     (least : place ≤ r.up_len * n) (close : r.up_len * n < place + r.up_len) where
   pub record UpTo (x : ℕ) : Type 0 where
     pub count : ℕ
@@ -51,7 +54,8 @@ module _ (r : SlotRule) (slots dnps : ℕ → ℕ) (place n bound : ℕ) (z : Li
       let split : window r z x ≡ at z x ∷ take (r.up_len - 1) (drop (x + 1) z) =
       ap (λ (k : ℕ). take k (drop x z)) size ∙ ap (take (suc (r.up_len - 1))) (drop_more z x no_item some) in
       none_of r (window r z x) (slot_before r (slots_at r z x))
-      (ap is_one split ∙ none_alone (at z x) (take (r.up_len - 1) (drop (x + 1) z)) (ap is_start (reg.inner m t x e a b some)))
+      (ap is_one split ∙ none_alone (at z x) (take (r.up_len - 1) (drop (x + 1) z))
+      (ap is_start (reg.inner m t x e a b some)))
 
   up_to : (x : ℕ) → x + r.up_len ≤ length z + 1 → UpTo x
   up_to zero l = record {
@@ -86,18 +90,21 @@ module _ (r : SlotRule) (slots dnps : ℕ → ℕ) (place n bound : ℕ) (z : Li
                 }
             | inr ne ↦
                 let pos : 1 ≤ n + p.count = elim (cases_eq (n + p.count) 0) [
-                  | inl zero_is ↦ let q : r.up_len * (n + p.count) ≡ r.up_len * 0 = ap (λ (k : ℕ). r.up_len * k) zero_is in
+                  | inl zero_is ↦ let q : r.up_len * (n + p.count) ≡ r.up_len * 0 = ap (λ (k : ℕ). r.up_len * k)
+                      zero_is in
                       absurd (omega (arith, q, a, ne))
                   | inr some ↦ omega (arith, some)
                 ] in
                 let m : ℕ = n + p.count - 1 in
                 let d : n + p.count ≡ m + 1 = omega (arith, pos) in
-                let s : r.up_len * (n + p.count) ≡ r.up_len * m + r.up_len = ap (λ (k : ℕ). r.up_len * k) d ∙ omega arith in
+                let s : r.up_len * (n + p.count) ≡ r.up_len * m + r.up_len = ap (λ (k : ℕ). r.up_len * k) d
+                ∙ omega arith in
                 let none = none_inside x m (place + x - r.up_len * m) (omega (arith, s, a, b)) (omega (arith, s, a, b))
                 (omega (arith, s, a, b, ne)) (omega arith) in
                 record {
                   count = p.count;
-                  packets = (packets_by r z).1 x ∙ ap (λ (o : Option ℕ). packets_at r z x ++ with_slot (window r z x) o) none
+                  packets = (packets_by r z).1 x ∙ ap (λ (o : Option ℕ). packets_at r z x ++ with_slot (window r z x) o)
+                      none
                       ∙ append-nil (packets_at r z x) ∙ p.packets;
                   above = omega (arith, a, ne);
                   near = omega (arith, b);
@@ -143,7 +150,8 @@ whole_packets r slots dnps place n bound z sound follow fits reg least close =
 
 -- Gaps.
 
-given_append : (r : SlotRule) (s : State) (z y : List Item) → given r s (z ++ y) ≡ given r s z ++ given r (after r s z) y
+given_append : (r : SlotRule) (s : State) (z y : List Item) → given r s (z ++ y) ≡ given r s z
+    ++ given r (after r s z) y
 given_append r s [] y = refl
 given_append r s (x ∷ z) y =
     ap (λ (l : List UserPacket). (turn r s x).given ++ l) (given_append r (turn r s x).state z y)
@@ -157,7 +165,8 @@ from_start r two z =
     (reads r two z [] (state_of [] None) (begins_idle r (omega arith))).gains
     ∙ ap (λ (l : List UserPacket). l ++ given r (state_of [] None) z) (none_empty r two)
 
-gap_given : (r : SlotRule) (s : State) (epoch : ℕ) (y : List Item) → given r s (gap epoch ∷ y) ≡ given r (state_of [] None) y
+gap_given : (r : SlotRule) (s : State) (epoch : ℕ) (y : List Item) → given r s (gap epoch ∷ y) ≡ given
+    r (state_of [] None) y
 unfolding turn
 gap_given r s epoch y = refl
 
@@ -167,11 +176,13 @@ gap_parts r z y epoch sound =
     let two : 2 ≤ r.up_len = omega (arith, u) in
     from_start r two (z ++ gap epoch ∷ y)
     ∙ given_append r (state_of [] None) z (gap epoch ∷ y)
-    ∙ ap₂ (λ (a b : List UserPacket). a ++ b) (sym (from_start r two z)) (gap_given r (after r (state_of [] None) z) epoch y
+    ∙ ap₂ (λ (a b : List UserPacket). a ++ b) (sym (from_start r two z)) (gap_given r (after r (state_of [] None) z)
+    epoch y
     ∙ sym (from_start r two y))
 
 pub iscr_is : IscrFindsSlot → IscrOfSlot
 iscr_is law r epoch slot sound range =
     sym (iscr_found law r.times sound.times epoch (slot_start r.times.num r.times.den slot % 2 ^ 22) slot
-    (sym (law r.times.num r.times.den r.times.epoch epoch slot sound.times.some sound.times.long sound.times.most range))
+    (sym (law r.times.num r.times.den r.times.epoch epoch slot sound.times.some sound.times.long sound.times.most
+    range))
     range.0 range.1 refl)

@@ -15,10 +15,11 @@ use Rattle.std.proofs.lemmas.List.Folds.{list_all-map}
 use Rattle.std.proofs.lemmas.List.FromFn.{get_or-map-range_with_len, length-range_with_len, get_or-range_with_len}
 use Rattle.std.proofs.lemmas.List.Sums.{AllPass-from_list_all}
 use Rattle.std.proofs.lemmas.Simd.{map-map}
+use Rattle.std.proofs.lemmas.Option.{same_Some}
 use Rattle.terms.specs.Bits.{bits_of}
 use Rattle.terms.proofs.AllLemmas.{all_append}
 use Rattle.terms.proofs.BitLemmas.{bits_of-bytes_of}
-use Rattle.terms.proofs.OptionLemmas.{none_some, some_injective}
+use Rattle.terms.proofs.OptionLemmas.{none_some}
 use Rattle.terms.proofs.RangeLemmas.{map_same}
 use Rattle.plp_config.specs.Capacity.{IsPlan, block_bytes}
 use Rattle.plp_config.specs.Places.{places}
@@ -40,6 +41,7 @@ use Rattle.open_group.specs.Sent.{held_bytes}
 use Rattle.open_group.specs.Signals.{first_parts, signals, fits_pool}
 use Rattle.frame_writer.specs.FramePackets.{stamp_of, packet_with}
 use Rattle.gateway_core.specs.Packets.{block_bodies, frame_bodies, plp_bodies as run_plp_bodies}
+use Rattle.gateway_core.proofs.BoundLemmas.{bodies_count}
 use Rattle.stream_laws.proofs.MadeLemmas.{all_bodies, carried_by}
 use Rattle.stream_laws.proofs.FormedSignalLemmas.{Knows}
 use Rattle.stream_laws.proofs.SizeLemmas.{AreLong}
@@ -147,12 +149,6 @@ row_append c k n (x ∷ xs) ys =
     ap (λ (l : List Packet). packet_with c k n x ∷ l)
     (row_append c (k + 1) n xs ys ∙ ap (λ (j : ℕ). row_packets c (k + 1) n xs ++ row_packets c j n ys) e)
 
-length-blocks : (frame_idx id : ℕ) (first : Bool) (blocks : List (List Bool))
-    → length (block_bodies frame_idx id first blocks)
-    ≡ length blocks
-length-blocks frame_idx id first [] = refl
-length-blocks frame_idx id first (b ∷ blocks) = ap (λ (k : ℕ). suc k) (length-blocks frame_idx id false blocks)
-
 -- Bodies of which none is an L1-current.
 abbrev NoneSignals : List Body → Type 0
 NoneSignals bodies = AllByRecursion (λ (b : Body). ((count : ℕ) → l1_count count b ≡ None) × (body_l1 b ≡ None)) bodies
@@ -163,7 +159,7 @@ blocks_signal frame_idx id first [] = tt
 blocks_signal frame_idx id first (b ∷ blocks) = ((λ count. refl, refl), blocks_signal frame_idx id false blocks)
 
 -- so of what came of them
-none_counts : (c : Config) (k n : ℕ) (bodies : List Body) (flags : List Bool) → NoneSignals bodies
+pub none_counts : (c : Config) (k n : ℕ) (bodies : List Body) (flags : List Bool) → NoneSignals bodies
     → (first_count (items_where_true flags (row_packets c k n bodies)) ≡ None)
     × (l1s_of (items_where_true flags (row_packets c k n bodies)) ≡ [])
 none_counts c k n bodies flags h =
@@ -189,7 +185,7 @@ none_counts c k n bodies flags h =
     told k (b ∷ bodies) (false ∷ flags) h = told (k + 1) bodies flags h.1
 
 -- what brings no block of any PLP
-no_blocks : (c : Config) (p : Packet) → ((plp : ℕ) → right_blocks c plp (p ∷ []) ≡ []) → packet_blocks c p ≡ []
+pub no_blocks : (c : Config) (p : Packet) → ((plp : ℕ) → right_blocks c plp (p ∷ []) ≡ []) → packet_blocks c p ≡ []
 no_blocks c p h = go 0 (length c.plps)
   where
     go : (a k : ℕ) → flat_map (λ plp. map (marked_block p.packet_count plp) (right_blocks c plp (p ∷ [])))
@@ -227,7 +223,7 @@ module _ (law : StoodIsPlaced) (framed : PlacedIsOfFrame) (given : Given) (knows
   abbrev counts : List ℕ
   counts = coming c n shape
 
-  count_is : (plp : ℕ) → plp < length c.plps → slice_index counts plp ≡ length (own plp)
+  pub count_is : (plp : ℕ) → plp < length c.plps → slice_index counts plp ≡ length (own plp)
   count_is plp inside =
       get_or-map-range_with_len (own_count c n shape) 0 (length c.plps) plp plp 0 inside (omega arith)
       ∙ own_told given knows c inputs n plan types plp inside
@@ -239,12 +235,12 @@ module _ (law : StoodIsPlaced) (framed : PlacedIsOfFrame) (given : Given) (knows
   abbrev some_bytes : ℕ → ℕ → List (List ℕ)
   some_bytes a k = flat_map (λ plp. map held_bytes (own plp)) (range_with_len a k)
 
-  abbrev some_stood : ℕ → ℕ → ℕ → ℕ → List Stood
+  abbrev pub some_stood : ℕ → ℕ → ℕ → ℕ → List Stood
   some_stood number place a zero = []
   some_stood number place a (suc k) =
       plp_stood number a place (own a) ++ some_stood (number + length (own a)) (place + length (own a)) (a + 1) k
 
-  length-stood : (number plp place : ℕ) (blocks : List (List Bool)) → length (plp_stood number plp place blocks)
+  pub length-stood : (number plp place : ℕ) (blocks : List (List Bool)) → length (plp_stood number plp place blocks)
       ≡ length blocks
   length-stood number plp place [] = refl
   length-stood number plp place (b ∷ blocks) = ap (λ (k : ℕ). suc k) (length-stood (number + 1) plp (place + 1) blocks)
@@ -255,12 +251,12 @@ module _ (law : StoodIsPlaced) (framed : PlacedIsOfFrame) (given : Given) (knows
   abbrev all_bytes : List (List ℕ)
   all_bytes = some_bytes 0 plps
 
-  some_bring : (k a number place : ℕ) → a + k ≤ length c.plps
+  pub some_bring : (k a number place : ℕ) → a + k ≤ length c.plps
       → Bring c (row_packets c number n (some_bodies a k)) (some_stood number place a k)
   some_bring zero a number place l = tt
   some_bring (suc k) a number place l =
       let bodies : List Body = block_bodies idx (plp_at c.plps a).id true (own a) in
-      let size = length-blocks idx (plp_at c.plps a).id true (own a) in
+      let size = bodies_count idx (plp_at c.plps a).id true (own a) in
       subst (λ (ps : List Packet). Bring c ps (some_stood number place a (suc k)))
       (sym (row_append c number n bodies (some_bodies (a + 1) k)))
       (bring_appended c (row_packets c number n bodies)
@@ -271,7 +267,7 @@ module _ (law : StoodIsPlaced) (framed : PlacedIsOfFrame) (given : Given) (knows
       (some_stood (number + length (own a)) (place + length (own a)) (a + 1) k)) (sym size)
       (some_bring k (a + 1) (number + length (own a)) (place + length (own a)) (omega (arith, l)))))
 
-  some_at : (origin k a number place : ℕ) (pre : List (List ℕ)) → a + k ≤ length c.plps → number % 256
+  pub some_at : (origin k a number place : ℕ) (pre : List (List ℕ)) → a + k ≤ length c.plps → number % 256
       ≡ (origin + place) % 256
       → length pre ≡ place → start_of counts a ≡ place
       → AreAt counts origin (at_place (pre ++ some_bytes a k)) place (some_stood number place a k)
@@ -316,7 +312,7 @@ module _ (law : StoodIsPlaced) (framed : PlacedIsOfFrame) (given : Given) (knows
         (placed_from counts (unwrap_or (first_count packets) other + 1) 0 (marked_blocks c packets))
     pub l1 : (first_count packets ≡ Some (l % 256)) ⊎ (l1s_of packets ≡ [])
 
-  none_signal : (k a : ℕ) → NoneSignals (some_bodies a k)
+  pub none_signal : (k a : ℕ) → NoneSignals (some_bodies a k)
   none_signal zero a = tt
   none_signal (suc k) a =
       all_append (λ (b : Body). ((count : ℕ) → l1_count count b ≡ None) × (body_l1 b ≡ None))
@@ -404,7 +400,7 @@ module _ (law : StoodIsPlaced) (framed : PlacedIsOfFrame) (given : Given) (knows
       pub few : FewLack 0 flags
 
     -- the L1 signalling of a group that has some is the frame's
-    signal_is : (g : Group) → IsNear g → signals c n g.packets ≡ true → first_parts g.packets
+    pub signal_is : (g : Group) → IsNear g → signals c n g.packets ≡ true → first_parts g.packets
         ≡ Some (frame_parts c inputs n)
     signal_is g near s =
         go (l1s_of g.packets) s (is_left c inputs n all g.packets has
@@ -415,12 +411,12 @@ module _ (law : StoodIsPlaced) (framed : PlacedIsOfFrame) (given : Given) (knows
         go [] s h = absurd (true≢false (sym s))
         go (l1 ∷ l1s) s h = ap (λ (x : L1Parts). Some x) h.0
 
-    counts_is : (g : Group) → first_parts g.packets ≡ Some (frame_parts c inputs n) → counts_by c n g ≡ counts
+    pub counts_is : (g : Group) → first_parts g.packets ≡ Some (frame_parts c inputs n) → counts_by c n g ≡ counts
     counts_is g e =
         ap (λ (o : Option FrameShape). coming c n (unwrap_or o (blank (length c.plps))))
         (ap (option_and_then (l1_shape c)) e ∙ parts_tell given c inputs n plan types)
 
-    count_there : (g : Group) → IsNear g → first_parts g.packets ≡ Some (frame_parts c inputs n)
+    pub count_there : (g : Group) → IsNear g → first_parts g.packets ≡ Some (frame_parts c inputs n)
         → unwrap_or (first_count g.packets) 0 ≡ l1_number % 256
     count_there g near e = ⊎_elim
         (λ (h : first_count g.packets ≡ Some (l1_number % 256)). ap (λ (o : Option ℕ). unwrap_or o 0) h)
@@ -434,7 +430,7 @@ module _ (law : StoodIsPlaced) (framed : PlacedIsOfFrame) (given : Given) (knows
         cond_both {A = List Placed} (fits_pool c g.packets) _ _ Right
         (λ t. (sees g.packets near.flags near.are near.few).placed other e) (λ t. tt)
 
-    groups_placed : (other : ℕ) (gs : List Group) → other ≡ l1_number % 256 → AllByRecursion IsNear gs
+    pub groups_placed : (other : ℕ) (gs : List Group) → other ≡ l1_number % 256 → AllByRecursion IsNear gs
         → Right (flat_map (placed_in c counts other) gs)
     groups_placed other [] e h = tt
     groups_placed other (g ∷ gs) e h =
@@ -556,7 +552,7 @@ module _ (law : StoodIsPlaced) (framed : PlacedIsOfFrame) (given : Given) (knows
             → Some (group_with c n (woven_bodies c n t placed)) ≡ Some g → HasFrame c inputs n g.packets
         of_first t placed both is first right whole made =
             subst (λ (x : Group). HasFrame c inputs n x.packets)
-            (some_injective (group_with c n (woven_bodies c n t placed)) g made)
+            (same_Some (group_with c n (woven_bodies c n t placed)) g made)
             (has_alike c inputs n all (map (packet_with c 0 n) (woven_bodies c n t placed)) has
             (ap (map plainly) (carried_with (woven_bodies c n t placed)) ∙ bodies_woven t placed first right whole
             ∙ sym (ap (map plainly) carried_rows)))

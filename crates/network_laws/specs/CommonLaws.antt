@@ -16,14 +16,14 @@ use Rattle.common_plp.specs.Shared.{is_shared}
 use Rattle.common_plp.specs.Split.{slot_of, group_streams, split}
 use Rattle.plp_receiver.specs.JoinedBack.{JoinedBack}
 
--- Every interleaving frame that carries a byte of the user packet of slot k of a PLP, in each of whose slots is the packet that `at`
--- tells, is there: all its frames are among so many from one on, and none of them is muted.
+-- Every interleaving frame that carries a byte of the user packet of slot k of a PLP, in each of whose slots is the
+-- packet that `at` tells, is there: all its frames are among so many from one on, and none of them is muted.
 abbrev pub is_whole : Config → ℕ → (ℕ → List ℕ) → (ℕ → Bool) → ℕ → ℕ → ℕ → Bool
 is_whole c plp at muted first count k =
     not (is_touched (rates_of c plp (epoch_ticks c plp)) (plp_keeps c plp at) (lost_frames c plp muted first count) k)
 
--- so it is of the PLP that a slot of a stream is sent in: the common one, if all streams of the group share a packet in it, and
--- else its own
+-- so it is of the PLP that a slot of a stream is sent in: the common one, if all streams of the group share a packet in
+-- it, and else its own
 abbrev pub is_whole_slot : Config → (ℕ → List (List ℕ)) → ℕ → ℕ → (ℕ → Bool) → ℕ → ℕ → ℕ → Bool
 is_whole_slot c inputs common plp muted first count k =
     if is_shared (slot_of (group_streams c inputs (group_of c plp)) k)
@@ -36,8 +36,8 @@ comes_back c inputs common plp muted first count k =
     if is_null (packet_at (inputs plp) k) then null_packet
     else if is_whole_slot c inputs common plp muted first count k then packet_at (inputs plp) k else null_packet
 
--- What a PLP of a group with a common PLP is given back together with it of the records of a plan's frames, whose inputs are the
--- streams into which these inputs are split, and of which those that are not whole are muted.
+-- What a PLP of a group with a common PLP is given back together with it of the records of a plan's frames, whose
+-- inputs are the streams into which these inputs are split, and of which those that are not whole are muted.
 abbrev pub CommonComesBack : Type 0
 CommonComesBack = (c : Config) (common plp : ℕ) (inputs : ℕ → List (List ℕ)) (whole : ℕ → Bool) (first count : ℕ)
     (packets : List (List ℕ)) → IsPlan c → TypesFit c → plp < length c.plps → common_of c plp ≡ Some common

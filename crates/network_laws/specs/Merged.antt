@@ -32,5 +32,6 @@ AreNumbered records = AllByRecursion (λ x. x.number < MOST_FRAMES) records
 abbrev pub MergedComesBack : Type 0
 MergedComesBack = (c : Config) (a b : List ℕ) → IsPlan c → HasByteIds c → AreNumbered (records_due c true a)
     → AreNumbered (records_due c true b) → AreSpaced c (merged c a b)
-    → map (λ x. content_view c x.number x.content) (records_due c true (joined (pipe c.pid (remade_packets c (merged c a b)))))
+    → map (λ x. content_view c x.number x.content)
+    (records_due c true (joined (pipe c.pid (remade_packets c (merged c a b)))))
     ≡ must_come c (merged c a b)

@@ -33,36 +33,46 @@ region_frames c plp input bytes = swapped c plp input (frames_in c (records_due 
 abbrev pub whole_numbers : Config → (ℕ → List (List ℕ)) → ℕ → List Fate → List ℕ
 whole_numbers c inputs from fates =
     filter (is_whole c (sent_frames c inputs (run_length c inputs)) (stream_survival (run_stream c inputs) from fates))
-    (record_numbers c (is_whole c (sent_frames c inputs (run_length c inputs)) (stream_survival (run_stream c inputs) from fates))
+    (record_numbers c (is_whole c (sent_frames c inputs (run_length c inputs))
+    (stream_survival (run_stream c inputs) from fates))
     (end_of (stream_survivors (run_stream c inputs) from fates)))
 
 -- these frames of the run with the other input
 abbrev pub region_of_run : Config → ℕ → (ℕ → List (List ℕ)) → List (List ℕ) → ℕ → List Fate → List NumberedView
-region_of_run c plp inputs input from fates = map (run_frame c (with_input inputs plp input)) (whole_numbers c inputs from fates)
+region_of_run c plp inputs input from fates = map (run_frame c (with_input inputs plp input))
+    (whole_numbers c inputs from fates)
 
 -- A frame of a run with the PLP replaced is that frame of the run with the other input.
 abbrev pub FrameIsReplaced : Type 0
-FrameIsReplaced = (c : Config) (plp : ℕ) (inputs : ℕ → List (List ℕ)) (input : List (List ℕ)) (n : ℕ) → IsPlan c → TypesFit c
-    → plp < length c.plps → swapped_view c plp input n (frame_of c inputs n) ≡ frame_of c (with_input inputs plp input) n
+FrameIsReplaced = (c : Config) (plp : ℕ) (inputs : ℕ → List (List ℕ)) (input : List (List ℕ)) (n : ℕ)
+    → IsPlan c → TypesFit c
+    → plp < length c.plps → swapped_view c plp input n (frame_of c inputs n) ≡ frame_of c (with_input inputs plp input)
+    n
 
 -- If damage is honest, the frames that are sent are those of the run with the other input that are whole.
 abbrev pub RegionIsOfRun : Type 0
-RegionIsOfRun = (c : Config) (plp : ℕ) (inputs : ℕ → List (List ℕ)) (input : List (List ℕ)) (from : ℕ) (fates : List Fate) → IsPlan c
+RegionIsOfRun = (c : Config) (plp : ℕ) (inputs : ℕ → List (List ℕ)) (input : List (List ℕ)) (from : ℕ)
+    (fates : List Fate) → IsPlan c
     → TypesFit c → plp < length c.plps → run_length c inputs ≤ MOST_FRAMES → Honest (run_stream c inputs) from fates
-    → region_frames c plp input (stream_bytes (run_stream c inputs) from fates) ≡ region_of_run c plp inputs input from fates
+    → region_frames c plp input (stream_bytes (run_stream c inputs) from fates) ≡ region_of_run c plp
+    inputs input from fates
 
--- If they are spaced, what comes of their packets runs from the first to the last of them: each that is complete, and every other
--- number muted.
+-- If they are spaced, what comes of their packets runs from the first to the last of them: each that is complete, and
+-- every other number muted.
 abbrev pub RegionComesBack : Type 0
-RegionComesBack = (c : Config) (plp : ℕ) (inputs : ℕ → List (List ℕ)) (input : List (List ℕ)) (from : ℕ) (fates : List Fate) → IsPlan c
+RegionComesBack = (c : Config) (plp : ℕ) (inputs : ℕ → List (List ℕ)) (input : List (List ℕ)) (from : ℕ)
+    (fates : List Fate) → IsPlan c
     → TypesFit c → plp < length c.plps → run_length c inputs ≤ MOST_FRAMES → Honest (run_stream c inputs) from fates
     → AreSpaced c (region_of_run c plp inputs input from fates)
     → map (λ x. content_view c x.number x.content)
     (records_due c true (joined (pipe c.pid (remade_packets c (region_of_run c plp inputs input from fates)))))
     ≡ must_come c (region_of_run c plp inputs input from fates)
 
--- Of a whole stream, if the run with the other input has as many frames, the packets are those that the gateway sends of it.
+-- Of a whole stream, if the run with the other input has as many frames, the packets are those that the gateway sends
+-- of it.
 abbrev pub WholeIsReplaced : Type 0
 WholeIsReplaced = (c : Config) (plp : ℕ) (inputs : ℕ → List (List ℕ)) (input : List (List ℕ)) → IsPlan c → TypesFit c
-    → plp < length c.plps → run_length c inputs ≤ MOST_FRAMES → run_length c (with_input inputs plp input) ≡ run_length c inputs
-    → remade_packets c (region_frames c plp input (joined (pipe c.pid (packets_of c inputs)))) ≡ packets_of c (with_input inputs plp input)
+    → plp < length c.plps → run_length c inputs ≤ MOST_FRAMES → run_length c (with_input inputs plp input) ≡ run_length
+    c inputs
+    → remade_packets c (region_frames c plp input (joined (pipe c.pid (packets_of c inputs)))) ≡ packets_of
+    c (with_input inputs plp input)

@@ -1,6 +1,7 @@
--- What a gateway sends for a PLP in each interleaving frame, as records tell it to a receiver. An interleaving frame is an epoch
--- here, and in each slot of the PLP is the packet that `at` tells.
-use Rattle.std.specs.Prelude.{◌≡◌, ◌<◌, ◌≤◌, ℕ, ◌+◌, ◌-◌, ◌*◌, ◌^◌, not, Bool, List, map, length, slice_index, min, Some}
+-- What a gateway sends for a PLP in each interleaving frame, as records tell it to a receiver. An interleaving frame is
+-- an epoch here, and in each slot of the PLP is the packet that `at` tells.
+use Rattle.std.specs.Prelude.{◌≡◌, ◌<◌, ◌≤◌, ℕ, ◌+◌, ◌-◌, ◌*◌, ◌^◌, not, Bool, List, map, length, slice_index, min}
+use Rattle.std.specs.Prelude.{Some}
 use Rattle.std.specs.Prelude.{if◌then◌else◌}
 use Rattle.std.specs.List.{range_with_len}
 use Rattle.ts_packet.specs.declared.sizes.TheConstants.{SIZE, SYNC}
@@ -34,7 +35,8 @@ pub record IsEpoch (c : Config) (plp : ℕ) : Type 0 where
   pub within : IsWithin (rates_of c plp (epoch_ticks c plp))
   pub holds : up_bytes c plp ≤ capacity c plp
 
--- the block from place x on and up to place y, of the string of the slots below n: what its header and its data field tell
+-- the block from place x on and up to place y, of the string of the slots below n: what its header and its data field
+-- tell
 abbrev pub told_block : Config → ℕ → (ℕ → List ℕ) → ℕ → ℕ → ℕ → Block
 told_block c plp at n x y =
     block_read

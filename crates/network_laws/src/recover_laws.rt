@@ -1,6 +1,7 @@
 // Laws of the definitions. Their functions do nothing.
 ghost use Rattle.record_laws.specs.Laws.{NoneLost};
-ghost use Rattle.network_laws.specs.RecoverLaws.{InterleavingIsEpoch, SlotRecovers, LostEnded, ReadbackRecovers, BlocksTaken, RunRecovers};
+ghost use Rattle.network_laws.specs.RecoverLaws.{InterleavingIsEpoch, SlotRecovers, LostEnded, ReadbackRecovers};
+ghost use Rattle.network_laws.specs.RecoverLaws.{BlocksTaken, RunRecovers};
 ghost use Rattle.network_laws.specs.RecoverLaws.{RecordsRecover, WholeComesBack, RunComesBack};
 
 use bb_frame::{bit_counts_law, scramble_twice_law, written_is_spelled_law};

@@ -1,12 +1,14 @@
 // Laws of feeds that have nothing but packets of one run. Their functions do nothing.
 ghost use Rattle.network_laws.specs.FeedsOfRun.{MadeAreOfRun, DamagedRunsMended, WholeFeedMade, WholeStreamMended};
-ghost use Rattle.network_laws.specs.FeedsOfRun.{WholeAmongDamaged};
+ghost use Rattle.network_laws.specs.FeedsOfRun.{WholeAmongDamaged, CameAreMade, CameOfDamagedMade, SurvivorsMended};
+ghost use Rattle.network_laws.specs.FeedsOfRun.{SurvivorAlone, NoneLostMended};
 
 use bb_frame::{bit_counts_law, scramble_twice_law};
 use cell_map::shape_law;
 use frame_groups::{map_test_law, named_law, next_law, parts_law};
 use frame_weave::placed_law;
 use l1_signal::{conf_law, dyn_law, post_law, pre_law};
+use mended_frames::rise_law;
 use plp_config::{block_law, interleaving_law, spread_law};
 use record_laws::fit_law;
 use scheduler::{field_law, order_law};
@@ -55,6 +57,40 @@ pub fn honest_feeds_law()
     ensures made { MadeAreOfRun }
     ensures damaged { DamagedRunsMended }
 {
+    placed_law();
+    next_law();
+    named_law();
+    group_law();
+    sent_law();
+    shown_law();
+    map_test_law();
+    parts_law();
+    shape_law();
+    pre_law();
+    conf_law();
+    dyn_law();
+    post_law();
+    bit_counts_law();
+    scramble_twice_law();
+    fit_law();
+    block_law();
+    spread_law();
+    interleaving_law();
+    field_law();
+    order_law();
+}
+
+/// If feeds have nothing but packets of one run, near one another, each in a group of its frame's number, and none is
+/// silent too often, then each frame is made of which every packet came in some feed, whatever each feed lacks; and of
+/// streams that together lost nothing of the run what is written is its stream.
+pub fn woven_frames_law()
+    ensures come { CameAreMade }
+    ensures damaged { CameOfDamagedMade }
+    ensures streams { SurvivorsMended }
+    ensures alone { SurvivorAlone }
+    ensures none_lost { NoneLostMended }
+{
+    rise_law();
     placed_law();
     next_law();
     named_law();

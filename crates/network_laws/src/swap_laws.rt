@@ -32,8 +32,8 @@ pub fn region_law()
     honest_law();
 }
 
-/// If these frames are spaced, what comes of their packets runs from the first to the last: each that is complete, and every other
-/// number muted.
+/// If these frames are spaced, what comes of their packets runs from the first to the last: each that is complete, and
+/// every other number muted.
 pub fn back_law()
     ensures { RegionComesBack }
 {
@@ -44,7 +44,8 @@ pub fn back_law()
     remade_law();
 }
 
-/// Of a whole stream, if the run with the other input has as many frames, what is sent are the packets that the gateway sends of it.
+/// Of a whole stream, if the run with the other input has as many frames, what is sent are the packets that the gateway
+/// sends of it.
 pub fn whole_region_law()
     ensures { WholeIsReplaced }
 {

@@ -1,12 +1,14 @@
 -- The laws of deletion.
-use Rattle.std.proofs.Common.{◌≡◌, ℕ, zero, suc, ◌+◌, ◌-◌, ◌<◌, ◌≤◌, Bool, true, false, cond, List, [], ◌∷◌, ◌++◌, map, refl, ap}
+use Rattle.std.proofs.Common.{◌≡◌, ℕ, zero, suc, ◌+◌, ◌-◌, ◌<◌, ◌≤◌, Bool, true, false, cond, List, [], ◌∷◌, ◌++◌, map}
+use Rattle.std.proofs.Common.{refl, ap}
 use Rattle.std.proofs.Common.{sym, subst, ◌∙◌, arith, add-one, ⊎_elim}
 use Rattle.std.specs.Prelude.{filter}
 use Rattle.std.specs.List.{range_with_len}
 use Rattle.std.proofs.lemmas.Bool.{cases_lt}
 use Rattle.std.proofs.lemmas.List.Sums.{sum_by-append}
 use Rattle.null_delete.specs.Deletion.{is_kept, dnp, slot_after}
-use Rattle.null_delete.specs.Laws.{NoneKept, NextKept, FirstKept, WithoutDeletion, SlotsRestored, DnpFits, DecidedByThePast}
+use Rattle.null_delete.specs.Laws.{NoneKept, NextKept, FirstKept, WithoutDeletion, SlotsRestored, DnpFits}
+use Rattle.null_delete.specs.Laws.{DecidedByThePast}
 use Rattle.null_delete.proofs.RunLemmas.{run_none, dnp_same, kept_same, dnp_more, dnp_is_run, dnp_off}
 
 -- one slot more if none is kept
@@ -14,7 +16,8 @@ one_deleted : (keeps : ℕ → Bool) (k d : ℕ) → keeps k ≡ false → dnp k
 one_deleted keeps k d off before = dnp_more keeps k ∙ rw (off, before) refl
 
 -- so many slots behind a kept one
-behind_kept : (keeps : ℕ → Bool) (i d : ℕ) → keeps i ≡ true → NoneKept keeps (i + 1) (i + 1 + d) → dnp keeps (i + 1 + d) ≡ d
+behind_kept : (keeps : ℕ → Bool) (i d : ℕ) → keeps i ≡ true → NoneKept keeps (i + 1) (i + 1 + d)
+    → dnp keeps (i + 1 + d) ≡ d
 behind_kept keeps i zero on none = let e : i + 1 + 0 ≡ i + 1 = omega arith in rw e (dnp_more keeps i ∙ rw on refl)
 behind_kept keeps i (suc d) on none =
     let before = behind_kept keeps i d on (λ j from to. none j from (omega arith)) in
@@ -32,13 +35,15 @@ pub first_kept : FirstKept
 first_kept keeps zero none = sym (run_none _)
 first_kept keeps (suc k) none =
     let before : k ≡ dnp keeps k = first_kept keeps k (λ j from to. none j from (omega arith)) in
-    subst (λ (m : ℕ). m ≡ dnp keeps m) (add-one k) (sym (one_deleted keeps k k (none k (omega arith) (omega arith)) (sym before)))
+    subst (λ (m : ℕ). m ≡ dnp keeps m) (add-one k)
+    (sym (one_deleted keeps k k (none k (omega arith) (omega arith)) (sym before)))
 
 pub without_deletion : WithoutDeletion
 without_deletion nulls i k = (
   refl,
   dnp_off nulls k,
-  λ after none. next_kept (is_kept false nulls) i k refl after none ∙ ap (λ (n : ℕ). i + 1 + n) (dnp_off nulls k) ∙ omega arith,
+  λ after none. next_kept (is_kept false nulls) i k refl after none ∙ ap (λ (n : ℕ). i + 1 + n) (dnp_off nulls k)
+      ∙ omega arith,
 )
 
 pub dnp_fits : DnpFits
@@ -57,7 +62,8 @@ slot_first last dnp dnps = omega (arith, sum_by-append (λ n. 1 + n) (dnp ∷ []
 
 -- The kept slots from one on, behind a kept one: their dnps lead to each.
 abbrev Restored : (ℕ → Bool) → List ℕ → ℕ → Type 0
-Restored keeps kept at = (last k : ℕ) (front rest : List ℕ) → keeps last ≡ true → last < at → NoneKept keeps (last + 1) at
+Restored keeps kept at = (last k : ℕ) (front rest : List ℕ) → keeps last ≡ true → last < at
+    → NoneKept keeps (last + 1) at
     → kept ≡ front ++ k ∷ rest
     → k ≡ slot_after last (map (dnp keeps) (front ++ k ∷ []))
 

@@ -1,5 +1,6 @@
 -- One packet more.
-use Rattle.std.proofs.Common.{◌≡◌, ℕ, ◌+◌, ◌==◌, Bool, true, cond, List, [], ◌∷◌, ◌++◌, length, refl, ap, sym, ◌∙◌, arith}
+use Rattle.std.proofs.Common.{◌≡◌, ℕ, ◌+◌, ◌==◌, Bool, true, cond, List, [], ◌∷◌, ◌++◌, length, refl, ap, sym, ◌∙◌}
+use Rattle.std.proofs.Common.{arith}
 use Rattle.std.specs.Prelude.{not, ◌||◌, Some, None}
 use Rattle.std.proofs.lemmas.List.{get_or_append_left, get_or_push, length_push}
 use Rattle.std.proofs.lemmas.List.Sums.{sum_by-append}
@@ -31,7 +32,8 @@ comes on packets packet deleted e =
     let nulls : ℕ → Bool = nulls_of (packets ++ packet ∷ []) in
     let n : ℕ = length packets in
     let here : nulls n ≡ is_null packet = ap is_null (get_or_push packets packet null_packet n refl) in
-    let same : dnp (is_kept on nulls) n ≡ deleted = dnp_same on nulls (nulls_of packets) n (before_same packets packet) ∙ sym e in
+    let same : dnp (is_kept on nulls) n ≡ deleted = dnp_same on nulls (nulls_of packets) n (before_same packets packet)
+    ∙ sym e in
     let kept : is_kept on nulls n ≡ cond on (not (is_null packet) || (deleted == 255)) true = kept_by_dnp on nulls n
     ∙ rw (here, same) refl in
     record {
@@ -51,5 +53,6 @@ pub next_is : (on : Bool) (packets : List (List ℕ)) (packet : List ℕ) → ne
 next_is on packets packet = (comes on packets packet (next_dnp on packets) refl).next
 
 -- one dnp more at the end
-pub slot_more : (first : ℕ) (dnps : List ℕ) (dnp : ℕ) → slot_after first (dnps ++ dnp ∷ []) ≡ slot_after first dnps + (1 + dnp)
+pub slot_more : (first : ℕ) (dnps : List ℕ) (dnp : ℕ) → slot_after first (dnps ++ dnp ∷ []) ≡ slot_after
+    first dnps + (1 + dnp)
 slot_more first dnps dnp = omega (arith, sum_by-append (λ n. 1 + n) dnps (dnp ∷ []))

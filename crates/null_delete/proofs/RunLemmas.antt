@@ -1,5 +1,6 @@
 -- Runs of slots that end directly before a slot.
-use Rattle.std.proofs.Common.{◌≡◌, ℕ, zero, suc, ◌+◌, ◌%◌, ◌<◌, ◌==◌, Bool, true, false, cond, List, [], ◌∷◌, length, take}
+use Rattle.std.proofs.Common.{◌≡◌, ℕ, zero, suc, ◌+◌, ◌%◌, ◌<◌, ◌==◌, Bool, true, false, cond, List, [], ◌∷◌, length}
+use Rattle.std.proofs.Common.{take}
 use Rattle.std.proofs.Common.{⊎_elim, ◌≢◌, refl, ap, sym, subst, ◌∙◌, arith, add-one}
 use Rattle.std.specs.Prelude.{not, ◌||◌, take_while, reverse}
 use Rattle.std.specs.List.{range_with_len, prefix_len}
@@ -13,7 +14,8 @@ take_while_more : (passes : ℕ → Bool) (x : ℕ) (xs : List ℕ) → take_whi
     ≡ cond (passes x) (x ∷ take_while passes xs) []
 take_while_more passes x xs =
     let e : 1 + prefix_len passes xs ≡ suc (prefix_len passes xs) = omega arith in
-    elim (passes x) as (λ b. take (cond b (1 + prefix_len passes xs) 0) (x ∷ xs) ≡ cond b (x ∷ take_while passes xs) []) [
+    elim (passes x) as (λ b. take (cond b (1 + prefix_len passes xs) 0) (x ∷ xs) ≡ cond b
+    (x ∷ take_while passes xs) []) [
       | true ↦ ap (λ (n : ℕ). take n (x ∷ xs)) e
       | false ↦ refl
     ]
@@ -31,7 +33,8 @@ pub length-run_more : (passes : ℕ → Bool) (k : ℕ) → length (run_before p
     ≡ cond (passes k) (length (run_before passes k) + 1) 0
 length-run_more passes k =
     ap length (run_more passes k)
-    ∙ elim (passes k) as (λ b. length (cond b (k ∷ run_before passes k) []) ≡ cond b (length (run_before passes k) + 1) 0)
+    ∙ elim (passes k) as (λ b. length (cond b (k ∷ run_before passes k) []) ≡ cond b (length (run_before passes k) + 1)
+    0)
     [ true ↦ omega arith | false ↦ refl ]
 
 -- no slot stands before slot 0
@@ -49,7 +52,8 @@ run_same f g zero same = run_none f ∙ sym (run_none g)
 run_same f g (suc n) same =
     let before : length (run_before f n) ≡ length (run_before g n) = run_same f g n (λ j h. same j (omega arith)) in
     let here : f n ≡ g n = same n (omega arith) in
-    let step : cond (f n) (length (run_before f n) + 1) 0 ≡ cond (g n) (length (run_before g n) + 1) 0 = rw (before, here) refl in
+    let step : cond (f n) (length (run_before f n) + 1) 0 ≡ cond (g n) (length (run_before g n) + 1)
+    0 = rw (before, here) refl in
     subst (λ (m : ℕ). length (run_before f m) ≡ length (run_before g m)) (add-one n)
     (length-run_more f n ∙ step ∙ sym (length-run_more g n))
 
@@ -62,17 +66,20 @@ kept_same true f g n same = λ j h.
     rw (before, here) refl
 
 -- So does a dnp.
-pub dnp_same : (deletes : Bool) (f g : ℕ → Bool) (n : ℕ) → Same f g n → dnp (is_kept deletes f) n ≡ dnp (is_kept deletes g) n
+pub dnp_same : (deletes : Bool) (f g : ℕ → Bool) (n : ℕ) → Same f g n
+    → dnp (is_kept deletes f) n ≡ dnp (is_kept deletes g) n
 dnp_same deletes f g n same = run_same _ _ n (λ j h. ap not (kept_same deletes f g n same j h))
 
 -- one slot more behind the last kept one
 pub dnp_more : (keeps : ℕ → Bool) (k : ℕ) → dnp keeps (k + 1) ≡ cond (keeps k) 0 (dnp keeps k + 1)
 dnp_more keeps k =
     length-run_more (λ j. not (keeps j)) k
-    ∙ elim (keeps k) as (λ b. cond (not b) (dnp keeps k + 1) 0 ≡ cond b 0 (dnp keeps k + 1)) [ true ↦ refl | false ↦ refl ]
+    ∙ elim (keeps k) as (λ b. cond (not b) (dnp keeps k + 1) 0 ≡ cond b 0 (dnp keeps k + 1))
+    [ true ↦ refl | false ↦ refl ]
 
 -- the run of nulls and the run of deleted slots, one slot on
-counted : (null : Bool) (nulls deleted : ℕ) → deleted ≡ nulls % 256 → cond (not null || (nulls % 256 == 255)) 0 (deleted + 1)
+counted : (null : Bool) (nulls deleted : ℕ) → deleted ≡ nulls % 256
+    → cond (not null || (nulls % 256 == 255)) 0 (deleted + 1)
     ≡ (cond null (nulls + 1) 0) % 256
 counted false nulls deleted h = refl
 counted true nulls deleted h =
@@ -85,13 +92,15 @@ dnp_is_run nulls zero = run_none _ ∙ sym (ap (λ (n : ℕ). n % 256) (run_none
 dnp_is_run nulls (suc k) =
     let before : dnp (is_kept true nulls) k ≡ length (run_before nulls k) % 256 = dnp_is_run nulls k in
     subst (λ (m : ℕ). dnp (is_kept true nulls) m ≡ length (run_before nulls m) % 256) (add-one k)
-    (dnp_more (is_kept true nulls) k ∙ counted (nulls k) (length (run_before nulls k)) (dnp (is_kept true nulls) k) before
+    (dnp_more (is_kept true nulls) k ∙ counted (nulls k) (length (run_before nulls k)) (dnp (is_kept true nulls) k)
+    before
     ∙ sym (ap (λ (n : ℕ). n % 256) (length-run_more nulls k)))
 
 -- with deletion off nothing is deleted
 pub dnp_off : (nulls : ℕ → Bool) (k : ℕ) → dnp (is_kept false nulls) k ≡ 0
 dnp_off nulls zero = run_none _
-dnp_off nulls (suc k) = subst (λ (m : ℕ). dnp (is_kept false nulls) m ≡ 0) (add-one k) (dnp_more (is_kept false nulls) k)
+dnp_off nulls (suc k) = subst (λ (m : ℕ). dnp (is_kept false nulls) m ≡ 0) (add-one k)
+    (dnp_more (is_kept false nulls) k)
 
 -- Whether a slot is kept follows from its dnp.
 pub kept_by_dnp : (deletes : Bool) (nulls : ℕ → Bool) (k : ℕ) → is_kept deletes nulls k

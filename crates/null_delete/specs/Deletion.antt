@@ -1,5 +1,7 @@
--- Null-packet deletion (EN 302 755, clause 5.1.5): which packets are kept, and with which dnp. Each packet has a slot, from 0 on.
-use Rattle.std.specs.Prelude.{ℕ, ◌+◌, ◌%◌, ◌==◌, Bool, true, not, ◌||◌, if◌then◌else◌, List, [], ◌∷◌, ◌++◌, length, filter}
+-- Null-packet deletion (EN 302 755, clause 5.1.5): which packets are kept, and with which dnp. Each packet has a slot,
+-- from 0 on.
+use Rattle.std.specs.Prelude.{ℕ, ◌+◌, ◌%◌, ◌==◌, Bool, true, not, ◌||◌, if◌then◌else◌, List, [], ◌∷◌, ◌++◌, length}
+use Rattle.std.specs.Prelude.{filter}
 use Rattle.std.specs.Prelude.{take_while, reverse, sum_by, slice_index_or, Option, Some, None}
 use Rattle.std.specs.List.{range_with_len}
 use Rattle.ts_packet.specs.Null.{is_null, null_packet}
@@ -8,8 +10,8 @@ use Rattle.ts_packet.specs.Null.{is_null, null_packet}
 unfoldable pub run_before : (ℕ → Bool) → ℕ → List ℕ
 run_before passes k = take_while passes (reverse (range_with_len 0 k))
 
--- whether the packet in slot k is kept: each one if nothing is deleted, else one that is not null, and one if the longest run of
--- null packets directly before it has a length that is 255 modulo 256
+-- whether the packet in slot k is kept: each one if nothing is deleted, else one that is not null, and one if the
+-- longest run of null packets directly before it has a length that is 255 modulo 256
 abbrev pub is_kept : Bool → (ℕ → Bool) → ℕ → Bool
 is_kept deletes nulls k = if deletes then not (nulls k) || (length (run_before nulls k) % 256 == 255) else true
 

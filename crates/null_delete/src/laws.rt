@@ -1,5 +1,6 @@
 // Laws of the definitions. Their functions do nothing.
-ghost use Rattle.null_delete.specs.Laws.{NextKept, FirstKept, WithoutDeletion, SlotsRestored, DnpFits, DecidedByThePast, RunLaw};
+ghost use Rattle.null_delete.specs.Laws.{NextKept, FirstKept, WithoutDeletion, SlotsRestored, DnpFits};
+ghost use Rattle.null_delete.specs.Laws.{DecidedByThePast, RunLaw};
 
 /// Each kept slot is the kept slot before it plus 1 plus its own dnp.
 pub fn next_kept_law()

@@ -1,5 +1,6 @@
 -- One block more.
-use Rattle.std.proofs.Common.{◌≡◌, ◌≢◌, ℕ, zero, suc, ◌+◌, ◌*◌, ◌<◌, ◌≤◌, ◌==◌, ◌&&◌, Bool, true, false, List, [], ◌∷◌, ◌++◌, map}
+use Rattle.std.proofs.Common.{◌≡◌, ◌≢◌, ℕ, zero, suc, ◌+◌, ◌*◌, ◌<◌, ◌≤◌, ◌==◌, ◌&&◌, Bool, true, false, List, [], ◌∷◌}
+use Rattle.std.proofs.Common.{◌++◌, map}
 use Rattle.std.proofs.Common.{length, get_or, set, sum_by, Option, Some, None, refl, ap, sym, subst, ◌∙◌, ⊎_elim, arith}
 use Rattle.std.proofs.Common.{append-nil}
 use Rattle.std.specs.Prelude.{slice_index, slice_index_or, slice_set, if◌then◌else◌, cond}
@@ -28,7 +29,8 @@ use Rattle.open_group.specs.Sent.{held_bytes}
 use Rattle.open_group.specs.declared.blocks.HeldBlocks.{HeldBlocks}
 
 -- one place of a sum has more
-sum_more : (f g : ℕ → ℕ) (k more a n : ℕ) → ((j : ℕ) → j < a + n → j ≢ k → g j ≡ f j) → g k ≡ f k + more → a ≤ k → k < a + n
+sum_more : (f g : ℕ → ℕ) (k more a n : ℕ) → ((j : ℕ) → j < a + n → j ≢ k → g j ≡ f j) → g k ≡ f k + more
+    → a ≤ k → k < a + n
     → sum_by g (range_with_len a n) ≡ sum_by f (range_with_len a n) + more
 sum_more f g k more a zero h own low high = absurd (omega arith)
 sum_more f g k more a (suc n) h own low high =
@@ -41,7 +43,8 @@ sum_more f g k more a (suc n) h own low high =
     omega (arith, x, y, one, rest))
     (λ (ne : a ≡ k → ⊥).
     let one = h a (omega arith) ne in
-    let rest = sum_more f g k more (a + 1) n (λ j inside other. h j (omega arith) other) own (omega (arith, ne)) (omega arith) in
+    let rest = sum_more f g k more (a + 1) n (λ j inside other. h j (omega arith) other) own (omega (arith, ne))
+    (omega arith) in
     omega (arith, x, y, one, rest))
     (cases_eq a k)
 
@@ -52,7 +55,8 @@ capped_more held a b e = omega arith
 right_more : (c : Config) (packets : List Packet) (p : Packet) (plp : ℕ) → right_blocks c plp (packets ++ p ∷ [])
     ≡ right_blocks c plp packets ++ right_blocks c plp (p ∷ [])
 right_more c packets p plp =
-    ap (filter (has_length c plp)) (filter_map-append (λ (p : Packet). body_block (plp_at c.plps plp).id p.body) packets (p ∷ []))
+    ap (filter (has_length c plp)) (filter_map-append (λ (p : Packet). body_block (plp_at c.plps plp).id p.body)
+    packets (p ∷ []))
     ∙ filter-append (has_length c plp) (blocks_of c plp packets) (blocks_of c plp (p ∷ []))
 
 -- the numbers with one packet more
@@ -88,7 +92,8 @@ right_at c t p plp = slice_index (map (λ plp. slice_index t.right plp + added c
 times_more : (a w : ℕ) → (a + 1) * w ≡ a * w + w
 times_more a w = omega arith
 
-right_same : (c : Config) (t : Tally) (p : Packet) (plp : ℕ) → plp < length c.plps → added c p plp ≡ 0 → right_at c t p plp
+right_same : (c : Config) (t : Tally) (p : Packet) (plp : ℕ) → plp < length c.plps → added c p plp ≡ 0
+    → right_at c t p plp
     ≡ slice_index t.right plp
 right_same c t p plp inside none = let e = at_place c (λ plp. slice_index t.right plp + added c p plp) plp inside in
     omega (arith, e, none)
@@ -111,7 +116,8 @@ need_more c t p k inside one none =
     (λ plp. right_at c t p plp * chunks_for (block_bytes c plp)) k (chunks_for (block_bytes c k)) 0 (length c.plps)
     (λ plp high other. ap (λ (n : ℕ). n * chunks_for (block_bytes c plp))
     (right_same c t p plp (omega arith) (none plp (omega arith) other)))
-    (ap (λ (n : ℕ). n * chunks_for (block_bytes c k)) own ∙ times_more (slice_index t.right k) (chunks_for (block_bytes c k)))
+    (ap (λ (n : ℕ). n * chunks_for (block_bytes c k)) own ∙ times_more (slice_index t.right k)
+    (chunks_for (block_bytes c k)))
     (omega arith) (omega (arith, inside))
 
 -- the lists with one packet more
@@ -181,7 +187,8 @@ module _ (c : Config) (p : Packet) (none : (id : ℕ) → body_block id p.body �
 -- a block
 module _ (c : Config) (p : Packet) (frame_idx id : ℕ) (first : Bool) (bits : List Bool)
     (is : p.body ≡ Block frame_idx id first bits) where
-  here : (plp : ℕ) → blocks_of c plp (p ∷ []) ≡ cons_option (if id == (plp_at c.plps plp).id then Some bits else None) []
+  here : (plp : ℕ) → blocks_of c plp (p ∷ []) ≡ cons_option (if id == (plp_at c.plps plp).id then Some bits else None)
+      []
   here plp = ap (λ (b : Body). cons_option (body_block (plp_at c.plps plp).id b) []) is
 
   own_here : (plp : ℕ) → (plp_at c.plps plp).id ≡ id → blocks_of c plp (p ∷ []) ≡ bits ∷ []
@@ -200,7 +207,8 @@ module _ (c : Config) (p : Packet) (frame_idx id : ℕ) (first : Bool) (bits : L
   is_of plp = (id == (plp_at c.plps plp).id) && has_length c plp bits
 
   other_of : (plp : ℕ) → (plp_at c.plps plp).id ≢ id → is_of plp ≡ false
-  other_of plp other = ap (λ (t : Bool). t && has_length c plp bits) (ne_eqb id (plp_at c.plps plp).id (λ e. other (sym e)))
+  other_of plp other = ap (λ (t : Bool). t && has_length c plp bits) (ne_eqb id (plp_at c.plps plp).id
+      (λ e. other (sym e)))
 
   own_of : (plp : ℕ) → (plp_at c.plps plp).id ≡ id → is_of plp ≡ has_length c plp bits
   own_of plp own = ap (λ (t : Bool). t && has_length c plp bits) (eq-eqb id (plp_at c.plps plp).id (sym own))
@@ -247,7 +255,8 @@ module _ (c : Config) (p : Packet) (frame_idx id : ℕ) (first : Bool) (bits : L
   module _ (k : ℕ) (at : IsPlace c id k) where
     counted : (old new : HeldBlocks) → length old.counts.items ≡ length c.plps
         → new.counts.items ≡ slice_set old.counts.items k (capped (slice_index old.counts.items k + 1))
-        → (plp : ℕ) → plp < length c.plps → slice_index old.counts.items plp ≤ greatest → slice_index new.counts.items plp
+        → (plp : ℕ) → plp < length c.plps → slice_index old.counts.items plp ≤ greatest
+        → slice_index new.counts.items plp
         ≡ capped (slice_index old.counts.items plp + length (blocks_of c plp (p ∷ [])))
     counted old new size set plp inside most =
         let moved = ap (λ (l : List ℕ). slice_index l plp) set in
@@ -258,7 +267,8 @@ module _ (c : Config) (p : Packet) (frame_idx id : ℕ) (first : Bool) (bits : L
         (omega (arith, inside, size)) in
         let there : slice_index new.counts.items plp
         ≡ slice_index (slice_set old.counts.items plp (capped (slice_index old.counts.items plp + 1))) plp =
-        moved ∙ ap (λ (j : ℕ). slice_index (slice_set old.counts.items j (capped (slice_index old.counts.items j + 1))) plp)
+        moved ∙ ap (λ (j : ℕ). slice_index (slice_set old.counts.items j (capped (slice_index old.counts.items j + 1)))
+        plp)
         (sym e) in
         omega (arith, own, same, there))
         (λ (ne : plp ≡ k → ⊥).
@@ -282,7 +292,8 @@ module _ (c : Config) (p : Packet) (frame_idx id : ℕ) (first : Bool) (bits : L
       wrong_of : (plp : ℕ) → plp < length c.plps → is_of plp ≡ false
       wrong_of plp inside =
           ⊎_elim
-          (λ (e : plp ≡ k). own_of plp (ap (λ (j : ℕ). (plp_at c.plps j).id) e ∙ at.own) ∙ ap (λ (j : ℕ). has_length c j bits) e
+          (λ (e : plp ≡ k). own_of plp (ap (λ (j : ℕ). (plp_at c.plps j).id) e ∙ at.own)
+          ∙ ap (λ (j : ℕ). has_length c j bits) e
           ∙ ne_eqb (length bits) (8 * block_bytes c k) wrong)
           (λ (ne : plp ≡ k → ⊥). other_of plp (at.others plp inside ne)) (cases_eq plp k)
 
@@ -318,12 +329,14 @@ module _ (c : Config) (p : Packet) (frame_idx id : ℕ) (first : Bool) (bits : L
           let there = place_there k 0 inside in
           known_is
           ∙ list_any_at is_of (places c) k 0 inside
-          (subst (λ (j : ℕ). is_of j ≡ true) (sym there.0) (own_of k at.own ∙ eq-eqb (length bits) (8 * block_bytes c k) right))
+          (subst (λ (j : ℕ). is_of j ≡ true) (sym there.0) (own_of k at.own
+          ∙ eq-eqb (length bits) (8 * block_bytes c k) right))
 
       -- one more of a PLP is right
       righted : (old new : HeldBlocks) → length old.rights.items ≡ length c.plps
           → new.rights.items ≡ slice_set old.rights.items k (capped (slice_index old.rights.items k + 1))
-          → (plp : ℕ) → plp < length c.plps → slice_index old.rights.items plp ≤ greatest → slice_index new.rights.items plp
+          → (plp : ℕ) → plp < length c.plps → slice_index old.rights.items plp ≤ greatest
+          → slice_index new.rights.items plp
           ≡ capped (slice_index old.rights.items plp + length (right_blocks c plp (p ∷ [])))
       righted old new size set plp inside most =
           let moved = ap (λ (l : List ℕ). slice_index l plp) set in
@@ -334,7 +347,8 @@ module _ (c : Config) (p : Packet) (frame_idx id : ℕ) (first : Bool) (bits : L
           (omega (arith, inside, size)) in
           let there : slice_index new.rights.items plp
           ≡ slice_index (slice_set old.rights.items plp (capped (slice_index old.rights.items plp + 1))) plp =
-          moved ∙ ap (λ (j : ℕ). slice_index (slice_set old.rights.items j (capped (slice_index old.rights.items j + 1))) plp)
+          moved ∙ ap (λ (j : ℕ). slice_index (slice_set old.rights.items j
+          (capped (slice_index old.rights.items j + 1))) plp)
           (sym e) in
           omega (arith, own, same, there))
           (λ (ne : plp ≡ k → ⊥).
@@ -344,7 +358,8 @@ module _ (c : Config) (p : Packet) (frame_idx id : ℕ) (first : Bool) (bits : L
           (cases_eq plp k)
 
       pub right_counted : (old new : HeldBlocks) (t : Tally) → length old.counts.items ≡ length c.plps
-          → length old.rights.items ≡ length c.plps → Counted old new k (chunks_for (block_bytes c k)) → HoldsCounts c old t
+          → length old.rights.items ≡ length c.plps → Counted old new k (chunks_for (block_bytes c k))
+          → HoldsCounts c old t
           → HoldsCounts c new (tally_with c t p)
       right_counted old new t size rows e h =
           let set = ap (λ (b : Held). b.counts) e in
@@ -356,7 +371,8 @@ module _ (c : Config) (p : Packet) (frame_idx id : ℕ) (first : Bool) (bits : L
           (λ plp inside. righted old new rows row plp inside (let n = h.rights plp inside in omega (arith, n)))
           (need ∙ capped_more old.need (tally_need c t) (chunks_for (block_bytes c k)) h.need
           ∙ ap capped
-          (sym (need_more c t p k at.inside (ap length own_right) (λ plp inside ne. ap length (other_right plp inside ne)))))
+          (sym (need_more c t p k at.inside (ap length own_right) (λ plp inside ne. ap length
+          (other_right plp inside ne)))))
           (known ∙ one_true old.known ∙ ap (λ (b : Bool). old.known && b) (sym right_known))
 
       pub right_listed : (old new : HeldBlocks) (packets : List Packet) → length old.pool.lists ≡ length c.plps
@@ -371,7 +387,8 @@ module _ (c : Config) (p : Packet) (frame_idx id : ℕ) (first : Bool) (bits : L
           let now = ap (λ (s : State). list_at s plp) (pool (omega (arith, few, chunks))) in
           ⊎_elim
           (λ (e : plp ≡ k).
-          let front : list_at old.pool k ≡ map held_bytes (right_blocks c plp packets) = ap (list_at old.pool) (sym e) ∙ before in
+          let front : list_at old.pool k ≡ map held_bytes (right_blocks c plp packets) = ap (list_at old.pool) (sym e)
+          ∙ before in
           now
           ∙ ap (λ (j : ℕ). slice_index_or (slice_set old.pool.lists k grown) j []) e
           ∙ get_or-set_same old.pool.lists k grown [] (let l = at.inside in omega (arith, size, l))

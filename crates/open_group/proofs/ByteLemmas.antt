@@ -1,5 +1,6 @@
 -- Bits that fill bytes.
-use Rattle.std.proofs.Common.{◌≡◌, ℕ, zero, suc, ◌-◌, ◌*◌, ◌^◌, ◌<◌, Bool, List, length, take, drop, ap, ap₂, sym, ◌∙◌, arith}
+use Rattle.std.proofs.Common.{◌≡◌, ℕ, zero, suc, ◌-◌, ◌*◌, ◌^◌, ◌<◌, Bool, List, length, take, drop, ap, ap₂, sym, ◌∙◌}
+use Rattle.std.proofs.Common.{arith}
 use Rattle.std.proofs.lemmas.List.{take_all, length-drop}
 use Rattle.terms.specs.Bits.{number_of, number_at, byte_at}
 
@@ -16,7 +17,8 @@ moved (suc (suc (suc (suc (suc (suc (suc zero))))))) v h s = omega (arith, s)
 moved (suc (suc (suc (suc (suc (suc (suc (suc left)))))))) v h s = absurd (omega (arith, h))
 
 -- the last byte
-pub last_byte : (bits : List Bool) (k left v : ℕ) → left ≡ length bits - 8 * k → left < 8 → v ≡ number_at bits (8 * k) left
+pub last_byte : (bits : List Bool) (k left v : ℕ) → left ≡ length bits - 8 * k → left < 8
+    → v ≡ number_at bits (8 * k) left
     → v * 2 ^ (8 - left) ≡ byte_at bits k
 last_byte bits k left v e h is =
     let d : length (drop (8 * k) bits) ≡ left = length-drop (8 * k) bits ∙ sym e in

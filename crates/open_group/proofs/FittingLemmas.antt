@@ -1,5 +1,6 @@
 -- Sinks with room.
-use Rattle.std.proofs.Common.{◌≡◌, ℕ, ◌+◌, ◌-◌, ◌≤◌, Bool, true, false, List, [], length, Some, ap, ◌∙◌, arith, length-append}
+use Rattle.std.proofs.Common.{◌≡◌, ℕ, ◌+◌, ◌-◌, ◌≤◌, Bool, true, false, List, [], length, Some, ap, ◌∙◌, arith}
+use Rattle.std.proofs.Common.{length-append}
 use Rattle.terms.specs.Bits.{field}
 use Rattle.terms.proofs.BitLemmas.{length-field}
 use Rattle.bit_slice.specs.Crc.{crc32_of}
@@ -9,7 +10,8 @@ use Rattle.open_group.specs.Fitting.{HasRoom}
 
 -- a sink of fixed size in which nothing stands
 pub fresh_room : (size : ℕ) (bits : List Bool) (s : State) (count : ℕ) → bits ≡ []
-    → s ≡ wrapped (record { written = bits; room = Some (size - length bits); grows = false; below = [] }) → count ≤ size
+    → s ≡ wrapped (record { written = bits; room = Some (size - length bits); grows = false; below = [] })
+    → count ≤ size
     → HasRoom s count
 fresh_room size bits s count empty is most =
     let none : size - 0 ≡ size = omega arith in

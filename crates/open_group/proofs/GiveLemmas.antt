@@ -22,7 +22,8 @@ use Rattle.open_group.specs.declared.stamps.HeldStamps.{HeldStamps}
 abbrev pub SameNumbers : HeldBlocks → HeldBlocks → Type 0
 SameNumbers old new = held_of new ≡ record (held_of old) { pool = new.pool }
 
-counts_still : (c : Config) (old new : HeldBlocks) (t : Tally) → SameNumbers old new → HoldsCounts c old t → HoldsCounts c new t
+counts_still : (c : Config) (old new : HeldBlocks) (t : Tally) → SameNumbers old new → HoldsCounts c old t
+    → HoldsCounts c new t
 counts_still c old new t same h = record {
   counts = λ plp inside. ap (λ (b : Held). slice_index b.counts plp) same ∙ h.counts plp inside;
   rights = λ plp inside. ap (λ (b : Held). slice_index b.rights plp) same ∙ h.rights plp inside;
@@ -51,14 +52,17 @@ pub record Stays (old new : PooledGroup) : Type 0 where
 packets_still : (old new : PooledGroup) (packets : List Packet) → Stays old new → new.blocks.pool ≡ old.blocks.pool
     → HoldsPackets old packets → HoldsPackets new packets
 packets_still old new packets s pool h =
-    let tallied : tally old.network packets ≡ tally new.network packets = ap (λ (c : Config). tally c packets) (sym s.network) in
+    let tallied : tally old.network packets ≡ tally new.network packets = ap (λ (c : Config). tally c packets)
+    (sym s.network) in
     record {
       stamps =
-          subst (HoldsStamps new.stamps) tallied (subst (λ (st : HeldStamps). HoldsStamps st (tally old.network packets))
+          subst (HoldsStamps new.stamps) tallied
+          (subst (λ (st : HeldStamps). HoldsStamps st (tally old.network packets))
           (sym s.stamps) h.stamps);
       l1 =
           subst (λ (c : Config). HoldsL1 c new.l1 (tally c packets).l1 (tally c packets).alike) (sym s.network)
-          (subst (λ (l : HeldL1). HoldsL1 old.network l (tally old.network packets).l1 (tally old.network packets).alike)
+          (subst (λ (l : HeldL1). HoldsL1 old.network l (tally old.network packets).l1
+          (tally old.network packets).alike)
           (sym s.l1) h.l1);
       blocks = subst (λ (c : Config). HoldsCounts c new.blocks (tally c packets)) (sym s.network)
           (counts_still old.network old.blocks new.blocks (tally old.network packets) s.numbers h.blocks);

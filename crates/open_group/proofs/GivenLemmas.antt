@@ -1,6 +1,8 @@
 -- A group that passes gives its frame.
-use Rattle.std.proofs.Common.{◌≡◌, ℕ, zero, suc, ◌+◌, ◌*◌, ◌%◌, ◌<◌, ◌≤◌, ◌==◌, ◌&&◌, Bool, true, false, cond, List, [], ◌∷◌}
-use Rattle.std.proofs.Common.{◌++◌, map, length, get_or, Option, Some, None, refl, ap, ap₂, sym, subst, ◌∙◌, ⊎_elim, arith}
+use Rattle.std.proofs.Common.{◌≡◌, ℕ, zero, suc, ◌+◌, ◌*◌, ◌%◌, ◌<◌, ◌≤◌, ◌==◌, ◌&&◌, Bool, true, false, cond, List, []}
+use Rattle.std.proofs.Common.{◌∷◌}
+use Rattle.std.proofs.Common.{◌++◌, map, length, get_or, Option, Some, None, refl, ap, ap₂, sym, subst, ◌∙◌, ⊎_elim}
+use Rattle.std.proofs.Common.{arith}
 use Rattle.std.specs.Prelude.{slice_index, slice_index_or, is_some, sum_by}
 use Rattle.std.specs.List.{concat, filter, flat_map, list_all, list_any, cons_option, range_with_len}
 use Rattle.std.specs.Option.{option_or, unwrap_or}
@@ -10,12 +12,10 @@ use Rattle.std.proofs.lemmas.List.Elements.{filter_passes}
 use Rattle.std.proofs.lemmas.List.Folds.{Any-from_list_any}
 use Rattle.std.proofs.lemmas.List.FromFn.{fill_by_all, length-range_with_len, get_or-range_with_len}
 use Rattle.std.proofs.lemmas.List.Sums.{AllPass-from_list_all}
-use Rattle.std.proofs.lemmas.Simd.{map-map}
 use Rattle.terms.specs.Bits.{bytes_for}
 use Rattle.terms.proofs.BitLemmas.{length-bytes_of, bits_of-bytes_of}
 use Rattle.terms.proofs.OptionLemmas.{none_if}
 use Rattle.bb_frame.specs.Laws.{BitCounts}
-use Rattle.bb_frame.specs.Scrambled.{scrambled}
 use Rattle.plp_config.specs.Capacity.{IsPlan, block_bytes}
 use Rattle.plp_config.specs.Emission.{emission}
 use Rattle.plp_config.specs.Places.{places}
@@ -31,7 +31,8 @@ use Rattle.frame_groups.specs.declared.cause.MuteCause.TheVariants.{PacketMissin
 use Rattle.frame_groups.specs.Carried.{body_block, has_length, blocks_of, right_blocks}
 use Rattle.frame_groups.specs.Modulated.{Numbered}
 use Rattle.frame_groups.specs.Begun.{packets_at}
-use Rattle.frame_groups.specs.Tests.{pool_test, missing_test, l1_test, time_test, first_shape, has_begun, has_count, has_counts}
+use Rattle.frame_groups.specs.Tests.{pool_test, missing_test, l1_test, time_test, first_shape, has_begun, has_count}
+use Rattle.frame_groups.specs.Tests.{has_counts}
 use Rattle.frame_groups.specs.Tests.{body_known, is_known}
 use Rattle.frame_groups.specs.Tests.{blocks_test, map_test, packets_fault}
 use Rattle.record_laws.specs.Frames.{sent_block, sent_blocks, frame_view}
@@ -64,13 +65,17 @@ both_none c past n packets e =
     (none_behind (l1_test c n packets) behind_c
     (none_behind (missing_test c n packets) behind_b (none_behind (pool_test c past n packets) behind_a e)))
 
-blocks_none : (c : Config) (past : List Numbered) (n : ℕ) (packets : List Packet) → packets_fault c past n packets ≡ None
+blocks_none : (c : Config) (past : List Numbered) (n : ℕ) (packets : List Packet)
+    → packets_fault c past n packets ≡ None
     → blocks_test c past n packets ≡ None
-blocks_none c past n packets e = none_first (blocks_test c past n packets) (map_test c packets) (both_none c past n packets e)
+blocks_none c past n packets e = none_first (blocks_test c past n packets) (map_test c packets)
+    (both_none c past n packets e)
 
-pub map_none : (c : Config) (past : List Numbered) (n : ℕ) (packets : List Packet) → packets_fault c past n packets ≡ None
+pub map_none : (c : Config) (past : List Numbered) (n : ℕ) (packets : List Packet)
+    → packets_fault c past n packets ≡ None
     → map_test c packets ≡ None
-map_none c past n packets e = none_behind (blocks_test c past n packets) (map_test c packets) (both_none c past n packets e)
+map_none c past n packets e = none_behind (blocks_test c past n packets) (map_test c packets)
+    (both_none c past n packets e)
 
 blocks_pass : (c : Config) (past : List Numbered) (n : ℕ) (packets : List Packet) → blocks_test c past n packets ≡ None
     → (has_counts c past n packets (first_shape c packets) ≡ true) × (list_all (is_known c) packets ≡ true)
@@ -99,12 +104,14 @@ counts_are : (c : Config) (past : List Numbered) (n : ℕ) (packets : List Packe
 counts_are c past n packets shape all plp inside =
     let there : get_or (places c) plp 0 ≡ plp = let e = get_or-range_with_len 0 (length c.plps) plp 0 inside in
     omega (arith, e) in
-    let within : plp < length (places c) = let size = length-range_with_len 0 (length c.plps) in omega (arith, size, inside) in
+    let within : plp < length (places c) = let size = length-range_with_len 0 (length c.plps) in omega
+    (arith, size, inside) in
     let passes = AllPass-from_list_all
     (λ plp. has_count c past n plp (length (blocks_of c plp packets)) (slice_index shape.counts plp))
     (places c) all plp 0 within in
     own_is c past n plp (length (blocks_of c plp packets)) shape
-    (subst (λ (j : ℕ). has_count c past n j (length (blocks_of c j packets)) (slice_index shape.counts j) ≡ true) there passes)
+    (subst (λ (j : ℕ). has_count c past n j (length (blocks_of c j packets)) (slice_index shape.counts j) ≡ true)
+    there passes)
 
 -- if each block is known, all have the length of their PLP
 module _ (c : Config) (plan : IsPlan c) (plp : ℕ) (inside : plp < length c.plps) where
@@ -115,7 +122,8 @@ module _ (c : Config) (plan : IsPlan c) (plp : ℕ) (inside : plp < length c.plp
   abbrev is_of : ℕ → List Bool → ℕ → Bool
   is_of id bits k = (id == (plp_at c.plps k).id) && has_length c k bits
 
-  known_length : (id : ℕ) (bits : List Bool) → list_any (is_of id bits) (places c) ≡ true → id ≡ own_id → has_length c plp bits
+  known_length : (id : ℕ) (bits : List Bool) → list_any (is_of id bits) (places c) ≡ true → id ≡ own_id
+      → has_length c plp bits
       ≡ true
   known_length id bits known own =
       let found = Any-from_list_any (is_of id bits) (places c) known in
@@ -128,7 +136,8 @@ module _ (c : Config) (plan : IsPlan c) (plp : ℕ) (inside : plp < length c.plp
       (subst (λ (j : ℕ). is_of id bits j ≡ true) there found.4) in
       let of_k : id ≡ (plp_at c.plps k).id = eqb-true id (plp_at c.plps k).id both.0 in
       ⊎_elim (λ (e : k ≡ plp). subst (λ (j : ℕ). has_length c j bits ≡ true) e both.1)
-      (λ (ne : k ≡ plp → ⊥). absurd ((place_is c plan.rules own_id plp inside refl).others k within ne (sym of_k ∙ own)))
+      (λ (ne : k ≡ plp → ⊥). absurd ((place_is c plan.rules own_id plp inside refl).others k within ne (sym of_k
+      ∙ own)))
       (cases_eq k plp)
 
   by_id : (id : ℕ) (bits own : List Bool) → list_any (is_of id bits) (places c) ≡ true → (t : Bool) → (id == own_id) ≡ t
@@ -145,12 +154,14 @@ module _ (c : Config) (plan : IsPlan c) (plp : ℕ) (inside : plp < length c.plp
   body_length (Timestamp stamp) known bits e = not_some bits (sym e)
   body_length (Other packet_type others) known bits e = not_some bits (sym e)
 
-  kept : (o : Option (List Bool)) (more : List (List Bool)) → ((bits : List Bool) → o ≡ Some bits → has_length c plp bits ≡ true)
+  kept : (o : Option (List Bool)) (more : List (List Bool)) → ((bits : List Bool) → o ≡ Some bits
+      → has_length c plp bits ≡ true)
       → filter (has_length c plp) more ≡ more
       → filter (has_length c plp) (cons_option o more) ≡ cons_option o more
   kept None more right rest = rest
   kept (Some bits) more right rest =
-      ap (λ (t : Bool). cond t (bits ∷ filter (has_length c plp) more) (filter (has_length c plp) more)) (right bits refl)
+      ap (λ (t : Bool). cond t (bits ∷ filter (has_length c plp) more) (filter (has_length c plp) more))
+      (right bits refl)
       ∙ ap (λ (l : List (List Bool)). bits ∷ l) rest
 
   all_right : (packets : List Packet) → list_all (is_known c) packets ≡ true → right_blocks c plp packets
@@ -197,7 +208,8 @@ module _ (sizes : BitCounts) (c : Config) (past : List Numbered) (n : ℕ) (pack
     (held : (plp : ℕ) → plp < length c.plps → list_at lists plp ≡ map held_bytes (right_blocks c plp packets)) where
   lists_sent : list_blocks c 0 lists ≡ sent_blocks c (λ plp. right_blocks c plp packets)
   lists_sent =
-      ap (list_blocks c 0) (fill_by_all (λ plp. map held_bytes (right_blocks c plp packets)) lists (length c.plps) [] long held)
+      ap (list_blocks c 0) (fill_by_all (λ plp. map held_bytes (right_blocks c plp packets)) lists (length c.plps)
+      [] long held)
       ∙ laid c (λ plp. right_blocks c plp packets) 0 (length c.plps)
       (λ plp place there. eqb-true (length (get_or (right_blocks c plp packets) place [])) (8 * block_bytes c plp)
       (filter_passes (has_length c plp) (blocks_of c plp packets) place [] there))
@@ -214,7 +226,8 @@ module _ (sizes : BitCounts) (c : Config) (past : List Numbered) (n : ℕ) (pack
   held_length : (plp place : ℕ) → plp < length c.plps → place < length (map held_bytes (right_blocks c plp packets))
       → length (slice_index_or (map held_bytes (right_blocks c plp packets)) place []) ≡ block_bytes c plp
   held_length plp place inside within =
-      let there : place < length (right_blocks c plp packets) = let size = length-map (right_blocks c plp packets) held_bytes in
+      let there : place < length (right_blocks c plp packets) = let size = length-map (right_blocks c plp packets)
+      held_bytes in
       omega (arith, size, within) in
       let right = filter_passes (has_length c plp) (blocks_of c plp packets) place [] there in
       ap length (get_or-map held_bytes (right_blocks c plp packets) place [] [] there)
@@ -241,7 +254,8 @@ module _ (sizes : BitCounts) (c : Config) (past : List Numbered) (n : ℕ) (pack
   pub same_view : (dynamic : List Bool) → dynamic ≡ dynamic_in packets
       → written_frame c (emission c n) (n % c.frames) dynamic shape lists ≡ packets_view c n packets
   same_view dynamic is =
-      ap (λ (d : List Bool). frame_view c (emission c n) (n % c.frames) (post_with c d) (list_blocks c 0 lists) shape) is
+      ap (λ (d : List Bool). frame_view c (emission c n) (n % c.frames) (post_with c d) (list_blocks c 0 lists) shape)
+      is
       ∙ ap (λ b. frame_view c (emission c n) (n % c.frames) (post_with c (dynamic_in packets)) b shape) lists_sent
       ∙ ap (λ (o : Option FrameShape). frame_view c (emission c n) (n % c.frames) (post_with c (dynamic_in packets))
       (sent_blocks c (λ plp. right_blocks c plp packets)) (unwrap_or o (blank (length c.plps)))) (sym first)
@@ -250,19 +264,23 @@ module _ (sizes : BitCounts) (c : Config) (past : List Numbered) (n : ℕ) (pack
 pub given_frame : RecordWritten → BlockCount → RestLength → BitCounts
     → (c : Config) (past : List Numbered) (n : ℕ) (packets : List Packet) (dynamic : List Bool) (shape : FrameShape)
     (lists : List (List (List ℕ))) (blocks rest : ℕ)
-    → IsPlan c → packets_fault c past n packets ≡ None → dynamic ≡ dynamic_in packets → first_shape c packets ≡ Some shape
+    → IsPlan c → packets_fault c past n packets ≡ None → dynamic ≡ dynamic_in packets
+    → first_shape c packets ≡ Some shape
     → length shape.counts ≡ length c.plps → length lists ≡ length c.plps
     → ((plp : ℕ) → plp < length c.plps → list_at lists plp ≡ map held_bytes (right_blocks c plp packets))
     → blocks ≡ sum_by (own_count c n shape) (places c)
     → rest ≡ rest_size c (post_size c (length dynamic)) (own_count c n shape)
     → front_bytes c (emission c n) dynamic blocks rest ++ step_bytes c shape (n % c.frames) lists (Blocks 0)
     ≡ record_bytes (packets_view c n packets)
-given_frame written count size sizes c past n packets dynamic shape lists blocks rest plan passes is first told long held so_many
+given_frame written count size sizes c past n packets dynamic shape lists blocks rest plan passes is
+    first told long held so_many
     so_long =
     let has = has_blocks sizes c past n packets shape lists plan passes first told long held in
     let all : blocks ≡ length (list_blocks c 0 lists) = so_many ∙ sym (count c (own_count c n shape) lists has) in
-    let follow : rest ≡ length (concat (written_rest (written_frame c (emission c n) (n % c.frames) dynamic shape lists))) =
+    let follow : rest ≡ length
+    (concat (written_rest (written_frame c (emission c n) (n % c.frames) dynamic shape lists))) =
     so_long ∙ sym (size c (emission c n) (n % c.frames) dynamic shape (own_count c n shape) lists has) in
-    ap₂ (λ (b r : ℕ). front_bytes c (emission c n) dynamic b r ++ step_bytes c shape (n % c.frames) lists (Blocks 0)) all follow
+    ap₂ (λ (b r : ℕ). front_bytes c (emission c n) dynamic b r ++ step_bytes c shape (n % c.frames) lists (Blocks 0))
+    all follow
     ∙ written c (emission c n) (n % c.frames) dynamic shape lists
     ∙ ap record_bytes (same_view sizes c past n packets shape lists plan passes first told long held dynamic is)

@@ -1,5 +1,6 @@
 -- No packets, and one packet more.
-use Rattle.std.proofs.Common.{◌≡◌, ℕ, zero, suc, ◌+◌, ◌*◌, ◌<◌, ◌≤◌, Bool, true, false, List, [], ◌∷◌, ◌++◌, map, length}
+use Rattle.std.proofs.Common.{◌≡◌, ℕ, zero, suc, ◌+◌, ◌*◌, ◌<◌, ◌≤◌, Bool, true, false, List, [], ◌∷◌, ◌++◌, map}
+use Rattle.std.proofs.Common.{length}
 use Rattle.std.proofs.Common.{replicate, sum_by, Option, Some, None, refl, ap, ap₂, sym, subst, ◌∙◌, arith}
 use Rattle.std.specs.Prelude.{slice_index, slice_get, if◌then◌else◌}
 use Rattle.std.specs.List.{range_with_len}
@@ -66,7 +67,8 @@ no_blocks c held n m chunks e = record {
       ap (λ (b : Held). slice_index b.rights plp) e ∙ zero_at m plp ∙ ap capped (sym (none_at c plp inside));
   need = ap (λ (b : Held). b.need) e
       ∙ ap capped
-      (sym (none_needed (λ plp. slice_index (map (λ plp. 0) (places c)) plp * chunks_for (block_bytes c plp)) 0 (length c.plps)
+      (sym (none_needed (λ plp. slice_index (map (λ plp. 0) (places c)) plp * chunks_for (block_bytes c plp))
+      0 (length c.plps)
       (λ plp low high. ap (λ (k : ℕ). k * chunks_for (block_bytes c plp)) (none_at c plp (omega arith))
       ∙ no_times (chunks_for (block_bytes c plp)))));
   known = ap (λ (b : Held). b.known) e;
@@ -83,7 +85,8 @@ module _ (grows : TallyGrows) (c : Config) (packets : List Packet) (p : Packet) 
       subst (HoldsStamps new) (sym (grows c packets p))
       (record {
         first = adds.first ∙ ap (λ (o : Option Stamp). option_or o (slice_get (stamps_of (p ∷ [])) 0)) h.first;
-        unlike = adds.unlike ∙ ap₂ (λ (u o : Option Stamp). option_or u (unlike_behind o (stamps_of (p ∷ [])))) h.unlike h.first;
+        unlike = adds.unlike ∙ ap₂ (λ (u o : Option Stamp). option_or u (unlike_behind o (stamps_of (p ∷ []))))
+            h.unlike h.first;
       })
 
   pub l1_more : (old new : HeldL1) → AddsL1 c old new (l1s_of (p ∷ []))

@@ -21,7 +21,8 @@ block_fits len = omega arith
 length-sent_bytes : (c : Config) (plp : ℕ) (block : List ℕ) → length (sent_bytes c plp block) ≡ 4 + length block
 length-sent_bytes c plp block = let size = length-scrambled_bytes block in omega (arith, size)
 
-list_fits : (c : Config) (plp : ℕ) (blocks : List (List ℕ)) → length (flat_map (sent_bytes c plp) blocks) ≤ (4 + chunk_len)
+list_fits : (c : Config) (plp : ℕ) (blocks : List (List ℕ))
+    → length (flat_map (sent_bytes c plp) blocks) ≤ (4 + chunk_len)
     * chunks_of blocks
 list_fits c plp [] = omega arith
 list_fits c plp (b ∷ blocks) =

@@ -22,7 +22,8 @@ use Rattle.frame_groups.specs.Begun.{is_begin, packets_at}
 use Rattle.frame_groups.specs.Carried.{blocks_of, right_blocks}
 use Rattle.frame_groups.specs.Tally.{tally}
 use Rattle.frame_groups.specs.Tests.{pool_chunks, pool_need, capped, room_test, begun_test, first_failure}
-use Rattle.frame_groups.proofs.BegunLemmas.{at_own, at_other, no_need, none_begins, none_fails, one_fails, has_room, lacks_room}
+use Rattle.frame_groups.proofs.BegunLemmas.{at_own, at_other, no_need, none_begins, none_fails, one_fails, has_room}
+use Rattle.frame_groups.proofs.BegunLemmas.{lacks_room}
 use Rattle.frame_groups.proofs.BegunLemmas.{no_room_asked}
 use Rattle.frame_groups.proofs.TallyLemmas.{at_place, need_is}
 use Rattle.open_group.specs.HoldsBlocks.{HoldsCounts}
@@ -104,7 +105,8 @@ no_past c held n m begun needs = record {
 
 -- ---- one more
 
-module _ (law : BeginIsFirst) (last : BeginIsLast) (c : Config) (rules : AllRules c) (past : List Numbered) (n : ℕ) (g : Group)
+module _ (law : BeginIsFirst) (last : BeginIsLast) (c : Config) (rules : AllRules c) (past : List Numbered)
+    (n : ℕ) (g : Group)
     (falling : AreFalling past) (above : IsAbove past n) (blocks : HeldBlocks)
     (counts : HoldsCounts c blocks (tally c g.packets)) where
   abbrev more : List Numbered
@@ -156,7 +158,8 @@ module _ (law : BeginIsFirst) (last : BeginIsLast) (c : Config) (rules : AllRule
       → new ≡ noted c n blocks plp old → IsBegun c more plp new
   begun_more plp old new inside h is =
       subst (IsBegun c more plp) (sym is)
-      (cond_both (is_first c plp n) _ _ (IsBegun c more plp) (λ e. begun_new plp inside e) (λ e. begun_old plp old inside e h))
+      (cond_both (is_first c plp n) _ _ (IsBegun c more plp) (λ e. begun_new plp inside e)
+      (λ e. begun_old plp old inside e h))
 
   needed_new : (place : ℕ) → place ≡ n % c.frames → 0 < c.frames
       → IsNeeded c more place (record { superframe = n / c.frames; chunks = blocks.need })
@@ -213,11 +216,14 @@ pub not_begun : (c : Config) (past : List Numbered) (n b : ℕ) → is_begin c n
 not_begun c past n b e = cond-false (is_begin c n b) (room_test c (packets_at past b)) None e
 
 -- and one whose blocks have room passes
-roomy : (c : Config) (past : List Numbered) (n b : ℕ) → room_test c (packets_at past b) ≡ None → begun_test c past n b ≡ None
-roomy c past n b e = cond_both (is_begin c n b) (room_test c (packets_at past b)) None (λ o. o ≡ None) (λ _. e) (λ _. refl)
+roomy : (c : Config) (past : List Numbered) (n b : ℕ) → room_test c (packets_at past b) ≡ None
+    → begun_test c past n b ≡ None
+roomy c past n b e = cond_both (is_begin c n b) (room_test c (packets_at past b)) None (λ o. o ≡ None)
+    (λ _. e) (λ _. refl)
 
 -- what is held for a frame_idx before that of a later frame
-pub needed_at : (c : Config) (held : HeldPast) (past : List Numbered) (place n : ℕ) (need : Need) → HoldsPast c held past
+pub needed_at : (c : Config) (held : HeldPast) (past : List Numbered) (place n : ℕ) (need : Need)
+    → HoldsPast c held past
     → 0 < c.frames → place < n % c.frames → need ≡ need_at held place → IsNeeded c past place need
 needed_at c held past place n need h some inside is =
     let low = mod_below n c.frames some in
@@ -240,7 +246,8 @@ has_room_there c past place need n h above inside few low =
     ap (room_test c) (h.others n above inside ne) ∙ no_room_asked c few)
     (cases_eq (n / c.frames) need.superframe))
 
-pub lacks_room_there : (c : Config) (past : List Numbered) (place : ℕ) (need : Need) (n : ℕ) → IsNeeded c past place need
+pub lacks_room_there : (c : Config) (past : List Numbered) (place : ℕ) (need : Need) (n : ℕ)
+    → IsNeeded c past place need
     → pool_chunks c < 2 ^ 32 → need.superframe ≡ n / c.frames → pool_chunks c < need.chunks
     → is_begin c n (n / c.frames * c.frames + place) ≡ true
     → begun_test c past n (n / c.frames * c.frames + place) ≡ Some (PoolFull need.chunks (pool_chunks c))
@@ -258,7 +265,8 @@ module _ (law : BeginsInSuperframe) (c : Config) (rules : AllRules c) (past : Li
   none_before place none b low =
       let parts : n / c.frames * c.frames + n % c.frames ≡ n = div-add-mod' n c.frames in
       ⊎_elim
-      (λ (l : b < n / c.frames * c.frames). not_begun c past n b (none_begins law c n b rules (omega (arith, l, parts))))
+      (λ (l : b < n / c.frames * c.frames). not_begun c past n b (none_begins law c n b rules
+      (omega (arith, l, parts))))
       (λ (l : n / c.frames * c.frames ≤ b).
       let at : n / c.frames * c.frames + (b - n / c.frames * c.frames) ≡ b = omega (arith, l) in
       ap (begun_test c past n) (sym at) ∙ none (b - n / c.frames * c.frames) (omega (arith, l, low)))

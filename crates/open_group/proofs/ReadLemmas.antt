@@ -16,14 +16,16 @@ record IsRead (plps : ℕ) (bits : List Bool) (d : L1Dyn) : Type 0 where
   pub len : length bits ≡ dyn_len plps
   pub rows : length d.plps ≡ plps
 
-is_read : DynReadSpelled → DynLength → (plps : ℕ) (bits : List Bool) (d : L1Dyn) → read_whole (dyn_read plps bits) ≡ Some d
+is_read : DynReadSpelled → DynLength → (plps : ℕ) (bits : List Bool) (d : L1Dyn)
+    → read_whole (dyn_read plps bits) ≡ Some d
     → IsRead plps bits d
 is_read spelled len plps bits d e = go (dyn_read plps bits) refl e
   where
     none : {P : Type 0} → ◌≡◌ {A = Option L1Dyn} None (Some d) → P
     none z = absurd (true≢false (sym (ap is_some z)))
 
-    whole : (r : L1Dyn × List Bool) → dyn_read plps bits ≡ Ok r → (t : Bool) → (length r.1 == 0) ≡ t → cond t (Some r.0) None
+    whole : (r : L1Dyn × List Bool) → dyn_read plps bits ≡ Ok r → (t : Bool) → (length r.1 == 0) ≡ t
+        → cond t (Some r.0) None
         ≡ Some d → IsRead plps bits d
     whole r is true t e =
         let s = spelled plps bits r.0 r.1 is in
@@ -42,10 +44,12 @@ is_read spelled len plps bits d e = go (dyn_read plps bits) refl e
     go (Ok r) is e = whole r is (length r.1 == 0) refl e
     go (Err fault) is e = none e
 
-pub read_len : DynReadSpelled → DynLength → (plps : ℕ) (bits : List Bool) (d : L1Dyn) → read_whole (dyn_read plps bits) ≡ Some d
+pub read_len : DynReadSpelled → DynLength → (plps : ℕ) (bits : List Bool) (d : L1Dyn)
+    → read_whole (dyn_read plps bits) ≡ Some d
     → length bits ≡ dyn_len plps
 read_len spelled len plps bits d e = (is_read spelled len plps bits d e).len
 
-pub read_rows : DynReadSpelled → DynLength → (plps : ℕ) (bits : List Bool) (d : L1Dyn) → read_whole (dyn_read plps bits) ≡ Some d
+pub read_rows : DynReadSpelled → DynLength → (plps : ℕ) (bits : List Bool) (d : L1Dyn)
+    → read_whole (dyn_read plps bits) ≡ Some d
     → length d.plps ≡ plps
 read_rows spelled len plps bits d e = (is_read spelled len plps bits d e).rows

@@ -1,5 +1,6 @@
 -- The bytes of blocks and cells, piece by piece.
-use Rattle.std.proofs.Common.{◌≡◌, ℕ, zero, suc, ◌+◌, ◌-◌, ◌<◌, ◌≤◌, List, [], ◌∷◌, ◌++◌, length, take, drop, refl, ap, ap₂, sym}
+use Rattle.std.proofs.Common.{◌≡◌, ℕ, zero, suc, ◌+◌, ◌-◌, ◌<◌, ◌≤◌, List, [], ◌∷◌, ◌++◌, length, take, drop, refl, ap}
+use Rattle.std.proofs.Common.{ap₂, sym}
 use Rattle.std.proofs.Common.{subst, ◌∙◌, ⊎_elim, arith, append_assoc, length-append, take-append-drop, replicate, lit≤}
 use Rattle.std.specs.Prelude.{slice_set, slice_index_or}
 use Rattle.std.specs.List.{flat_map}
@@ -18,12 +19,14 @@ use Rattle.site_frame.specs.Words.{words}
 use Rattle.site_frame.proofs.WordLemmas.{words_split}
 
 -- the first block of a list, and the others
-first_block : (c : Config) (plp : ℕ) (l : List (List ℕ)) (rest : List ℕ) → 0 < length l → flat_map (sent_bytes c plp) l ++ rest
+first_block : (c : Config) (plp : ℕ) (l : List (List ℕ)) (rest : List ℕ) → 0 < length l
+    → flat_map (sent_bytes c plp) l ++ rest
     ≡ sent_bytes c plp (slice_index_or l 0 []) ++ (flat_map (sent_bytes c plp) (drop 1 l) ++ rest)
 first_block c plp [] rest h = absurd (omega arith)
 first_block c plp (b ∷ l) rest h = append_assoc (sent_bytes c plp b) (flat_map (sent_bytes c plp) l) rest
 
-pub blocks_front : (c : Config) (plp : ℕ) (lists : List (List (List ℕ))) → plp < length lists → 0 < length (list_at lists plp)
+pub blocks_front : (c : Config) (plp : ℕ) (lists : List (List (List ℕ))) → plp < length lists
+    → 0 < length (list_at lists plp)
     → lists_bytes c plp (drop plp lists) ≡ sent_bytes c plp (front_of lists plp) ++ lists_bytes c plp
     (drop plp (slice_set lists plp (drop 1 (list_at lists plp))))
 blocks_front c plp lists h some =
@@ -41,7 +44,8 @@ none_at (suc n) (suc i) = none_at n i
 
 pub empty_is_short : EmptyIsShort
 empty_is_short chunks lists list place =
-    subst (λ (l : List (List ℕ)). length (slice_index_or l place []) ≤ MOST_BLOCK_BYTES) (sym (none_at lists list)) (nothing place)
+    subst (λ (l : List (List ℕ)). length (slice_index_or l place []) ≤ MOST_BLOCK_BYTES) (sym (none_at lists list))
+    (nothing place)
   where
     none : List (List ℕ)
     none = []
@@ -51,7 +55,8 @@ empty_is_short chunks lists list place =
     nothing (suc place) = lit≤ tt
 
 -- and stay so with a short block more
-push_short : (blocks : List (List ℕ)) (block : List ℕ) (place : ℕ) → ((p : ℕ) → length (slice_index_or blocks p []) ≤ MOST_BLOCK_BYTES)
+push_short : (blocks : List (List ℕ)) (block : List ℕ) (place : ℕ)
+    → ((p : ℕ) → length (slice_index_or blocks p []) ≤ MOST_BLOCK_BYTES)
     → length block ≤ MOST_BLOCK_BYTES
     → length (slice_index_or (blocks ++ block ∷ []) place []) ≤ MOST_BLOCK_BYTES
 push_short [] block zero each short = short
@@ -76,7 +81,8 @@ appended_is_short pool plp block inside short few list place =
 
 -- a block is given
 pub block_given : (c : Config) (first plp : ℕ) (old new : List (List (List ℕ))) (out tail : List ℕ)
-    → lists_bytes c first (drop first old) ≡ lists_bytes c plp (drop plp old) → plp < length old → 0 < length (list_at old plp)
+    → lists_bytes c first (drop first old) ≡ lists_bytes c plp (drop plp old) → plp < length old
+    → 0 < length (list_at old plp)
     → out ≡ sent_bytes c plp (front_of old plp) → new ≡ slice_set old plp (drop 1 (list_at old plp))
     → lists_bytes c first (drop first old) ++ tail ≡ out ++ (lists_bytes c plp (drop plp new) ++ tail)
 block_given c first plp old new out tail same inside some o n =
@@ -134,7 +140,8 @@ pub length-put_mid : (from size : ℕ) (place bytes : List ℕ) → length bytes
 length-put_mid from size place bytes e inside =
     let front : length (take from place) ≡ from = length-take-le from place (omega (arith, inside)) in
     let a : length (drop from place) ≡ length place - from = length-drop from place in
-    let b : length (drop size (drop from place)) ≡ length (drop from place) - size = length-drop size (drop from place) in
+    let b : length (drop size (drop from place)) ≡ length (drop from place) - size = length-drop size
+    (drop from place) in
     let c : length (take from place ++ (bytes ++ drop size (drop from place))) ≡ length (take from place)
     + length (bytes ++ drop size (drop from place)) = length-append (take from place) _ in
     let d : length (bytes ++ drop size (drop from place)) ≡ length bytes + length (drop size (drop from place)) =

@@ -1,5 +1,6 @@
 -- The blocks of a frame have room.
-use Rattle.std.proofs.Common.{◌≡◌, ℕ, ◌<◌, ◌≤◌, Bool, true, false, List, map, length, Option, Some, None, refl, ap, sym, arith}
+use Rattle.std.proofs.Common.{◌≡◌, ℕ, ◌<◌, ◌≤◌, Bool, true, false, List, map, length, Option, Some, None, refl, ap, sym}
+use Rattle.std.proofs.Common.{arith}
 use Rattle.std.specs.Prelude.{nat_le, is_some}
 use Rattle.std.specs.List.{range_with_len}
 use Rattle.std.specs.Option.{option_or}
@@ -11,7 +12,8 @@ use Rattle.frame_groups.specs.Modulated.{Numbered}
 use Rattle.frame_groups.specs.declared.cause.MuteCause.{MuteCause}
 use Rattle.frame_groups.specs.declared.cause.MuteCause.TheVariants.{PoolFull}
 use Rattle.frame_groups.specs.Carried.{right_blocks}
-use Rattle.frame_groups.specs.Tally.{Tally, tally_need, tally_room, tally_pool, tally_missing, tally_l1, tally_time, tally_blocks}
+use Rattle.frame_groups.specs.Tally.{Tally, tally_need, tally_room, tally_pool, tally_missing, tally_l1, tally_time}
+use Rattle.frame_groups.specs.Tally.{tally_blocks}
 use Rattle.frame_groups.specs.Tally.{tally_map, tally_fault}
 use Rattle.frame_groups.specs.Tests.{unless, pool_chunks, capped, begun_test, first_failure}
 use Rattle.open_group.specs.HoldsBlocks.{HoldsCounts, HoldsLists}
@@ -47,5 +49,6 @@ pub holds_all : (c : Config) (held : HeldBlocks) (packets : List Packet) (past :
     → HoldsCounts c held t
     → HoldsLists c held packets → held.chunks ≡ pool_chunks c → tally_fault c past n t ≡ None
     → (plp : ℕ) → plp < length c.plps → list_at held.pool plp ≡ map held_bytes (right_blocks c plp packets)
-holds_all c held packets past n t counts lists chunks none = let room = has_room c past n t none in let need = counts.need in
+holds_all c held packets past n t counts lists chunks none = let room = has_room c past n t none in let need =
+    counts.need in
     lists (omega (arith, room, need, chunks))

@@ -1,5 +1,6 @@
 -- A group that passes makes a frame that fits a record.
-use Rattle.std.proofs.Common.{◌≡◌, ℕ, ◌%◌, ◌<◌, ◌≤◌, ◌^◌, true, List, [], map, length, get_or, Option, Some, None, refl, ap, sym}
+use Rattle.std.proofs.Common.{◌≡◌, ℕ, ◌%◌, ◌<◌, ◌≤◌, ◌^◌, true, List, [], map, length, get_or, Option, Some, None, refl}
+use Rattle.std.proofs.Common.{ap, sym}
 use Rattle.std.proofs.Common.{subst, ◌∙◌, arith}
 use Rattle.std.specs.Prelude.{slice_get}
 use Rattle.std.specs.Option.{option_map, option_map_or, option_and_then}
@@ -61,7 +62,8 @@ lists_held c packets plp inside =
     get_or-map (λ plp. map held_bytes (right_blocks c plp packets)) (places c) plp 0 [] (omega (arith, size, inside))
     ∙ ap (λ (j : ℕ). map held_bytes (right_blocks c j packets)) there
 
-module _ (fits : RecordFits) (passing : MapPasses) (spelled : DynReadSpelled) (len : DynLength) (sizes : BitCounts) (c : Config)
+module _ (fits : RecordFits) (passing : MapPasses) (spelled : DynReadSpelled) (len : DynLength) (sizes : BitCounts)
+    (c : Config)
     (past : List Numbered) (n : ℕ) (packets : List Packet)
     (plan : IsPlan c) (ids : HasByteIds c) (small : n < 2 ^ 32) (none : packets_fault c past n packets ≡ None) where
   has : has_map c (first_shape c packets) ≡ true
@@ -75,10 +77,13 @@ module _ (fits : RecordFits) (passing : MapPasses) (spelled : DynReadSpelled) (l
       ∙ ap (λ (d : Option L1Dyn). has_map c (option_map told_shape d)) k) ∙ has))
   by_parts l1 e (Some d) k =
       let shape : FrameShape = told_shape d in
-      let first : first_shape c packets ≡ Some shape = ap (option_and_then (l1_shape c)) e ∙ ap (option_map told_shape) k in
+      let first : first_shape c packets ≡ Some shape = ap (option_and_then (l1_shape c)) e
+      ∙ ap (option_map told_shape) k in
       let passes : Passes c shape = (passing c shape plan).0 (sym (ap (has_map c) first) ∙ has) in
-      let told : length shape.counts ≡ length c.plps = shape_rows d ∙ read_rows spelled len (length c.plps) l1.dynamic d k in
-      let dynamic : dynamic_in packets ≡ l1.dynamic = ap (λ (o : Option L1Parts). option_map_or (λ l1. l1.dynamic) o []) e in
+      let told : length shape.counts ≡ length c.plps = shape_rows d ∙ read_rows spelled len (length c.plps)
+      l1.dynamic d k in
+      let dynamic : dynamic_in packets ≡ l1.dynamic = ap (λ (o : Option L1Parts). option_map_or (λ l1. l1.dynamic) o [])
+      e in
       let size = ap length dynamic ∙ read_len spelled len (length c.plps) l1.dynamic d k in
       let short : length (dynamic_in packets) ≤ dyn_len (length c.plps) = omega (arith, size) in
       let long = lists_long c packets in
@@ -92,7 +97,8 @@ module _ (fits : RecordFits) (passing : MapPasses) (spelled : DynReadSpelled) (l
   packets_fit = go (slice_get (l1s_of packets) 0) refl
     where
       go : (o : Option L1Parts) → slice_get (l1s_of packets) 0 ≡ o → FitsRecord (packets_view c n packets)
-      go None e = absurd (false≢true (sym (ap (λ (p : Option L1Parts). has_map c (option_and_then (l1_shape c) p)) e) ∙ has))
+      go None e = absurd (false≢true (sym (ap (λ (p : Option L1Parts). has_map c (option_and_then (l1_shape c) p)) e)
+          ∙ has))
       go (Some l1) e = by_parts l1 e (read_dynamic c l1) refl
 
 pub content_fits : RecordFits → MutedFits → MapPasses → DynReadSpelled → DynLength → BitCounts

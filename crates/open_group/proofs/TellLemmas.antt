@@ -21,7 +21,8 @@ pub record Tells (held : HeldL1) : Type 0 where
 pub tells : (c : Config) (held : HeldL1) → has_map c (shape_told held) ≡ true → Tells held
 tells c held e = go held.is_held held.told refl refl e
   where
-    go : (a b : Bool) → held.is_held ≡ a → held.told ≡ b → has_map c (cond (a && b) (Some held.shape) None) ≡ true → Tells held
+    go : (a b : Bool) → held.is_held ≡ a → held.told ≡ b → has_map c (cond (a && b) (Some held.shape) None) ≡ true
+        → Tells held
     go true true x y e = record { is_held = x; told = y }
     go true false x y e = absurd (true≢false (sym e))
     go false b x y e = absurd (true≢false (sym e))

@@ -1,5 +1,6 @@
 -- What a writer gives of a frame is its record.
-use Rattle.std.proofs.Common.{◌≡◌, ℕ, suc, ◌+◌, ◌*◌, ◌^◌, ◌<◌, ◌≤◌, Bool, List, [], ◌∷◌, ◌++◌, length, refl, sym, subst, ap}
+use Rattle.std.proofs.Common.{◌≡◌, ℕ, suc, ◌+◌, ◌*◌, ◌^◌, ◌<◌, ◌≤◌, Bool, List, [], ◌∷◌, ◌++◌, length, refl, sym, subst}
+use Rattle.std.proofs.Common.{ap}
 use Rattle.std.proofs.Common.{ap₂}
 use Rattle.std.proofs.Common.{◌∙◌, arith, append_assoc, append-nil, length-append}
 use Rattle.std.specs.Prelude.{map, sum, sum_by, slice_index, slice_index_or}
@@ -25,7 +26,8 @@ use Rattle.l1_signal.specs.L1Configurable.{conf_bits}
 use Rattle.l1_signal.specs.L1Of.{conf_of}
 use Rattle.l1_signal.specs.Laws.{PreBitsLength, ConfPartLength}
 use Rattle.site_frame.specs.Laws.{BlocksInOrder}
-use Rattle.site_frame.specs.Record.{Block, frame_kind, muted_kind, head_bytes, block_bytes as spelled_block, blocks_bytes}
+use Rattle.site_frame.specs.Record.{Block, frame_kind, muted_kind, head_bytes, block_bytes as spelled_block}
+use Rattle.site_frame.specs.Record.{blocks_bytes}
 use Rattle.site_frame.specs.Record.{cell_bytes}
 use Rattle.site_frame.specs.Whole.{written_rest, block_size}
 use Rattle.record_laws.specs.Frames.{l1_pre, frame_cells, HasByteIds}
@@ -33,7 +35,8 @@ use Rattle.record_laws.specs.Laws.{IsSentBlock, EveryFrameFits, blocks_size}
 use Rattle.site_frame.specs.Words.{words}
 use Rattle.open_group.specs.Front.{post_with}
 use Rattle.open_group.specs.RecordBytes.{own_count, list_at, plp_block, sent_bytes, list_blocks, lists_bytes}
-use Rattle.open_group.specs.WriterLaws.{written_frame, RecordWritten, MutedWritten, HasBlocks, BlockCount, post_size, RestLength}
+use Rattle.open_group.specs.WriterLaws.{written_frame, RecordWritten, MutedWritten, HasBlocks, BlockCount, post_size}
+use Rattle.open_group.specs.WriterLaws.{RestLength}
 use Rattle.open_group.specs.WriterLaws.{RecordFits}
 use Rattle.record_laws.proofs.FitLemmas.{length-l1_pre, room_for_all}
 use Rattle.open_group.proofs.FittingLemmas.{length-crc_behind}
@@ -49,13 +52,16 @@ plp_bytes : (c : Config) (plp : ℕ) (blocks : List (List ℕ)) (more : List Blo
 plp_bytes c plp [] more = refl
 plp_bytes c plp (b ∷ blocks) more =
     ap (λ (l : List ℕ). sent_bytes c plp b ++ l) (plp_bytes c plp blocks more)
-    ∙ sym (append_assoc (sent_bytes c plp b) (flat_map (sent_bytes c plp) blocks) (flat_map (λ b. spelled_block b 0) more))
+    ∙ sym (append_assoc (sent_bytes c plp b) (flat_map (sent_bytes c plp) blocks)
+    (flat_map (λ b. spelled_block b 0) more))
 
-all_bytes : (c : Config) (plp : ℕ) (lists : List (List (List ℕ))) → flat_map (λ b. spelled_block b 0) (list_blocks c plp lists)
+all_bytes : (c : Config) (plp : ℕ) (lists : List (List (List ℕ))) → flat_map (λ b. spelled_block b 0)
+    (list_blocks c plp lists)
     ≡ lists_bytes c plp lists
 all_bytes c plp [] = refl
 all_bytes c plp (blocks ∷ lists) =
-    plp_bytes c plp blocks (list_blocks c (plp + 1) lists) ∙ ap (λ (l : List ℕ). flat_map (sent_bytes c plp) blocks ++ l)
+    plp_bytes c plp blocks (list_blocks c (plp + 1) lists)
+    ∙ ap (λ (l : List ℕ). flat_map (sent_bytes c plp) blocks ++ l)
     (all_bytes c (plp + 1) lists)
 
 -- the words are those of the cells
@@ -77,7 +83,8 @@ record_written order c moment frame_idx dynamic shape lists =
     let post : List Bool = post_with c dynamic in
     let blocks : List Block = list_blocks c 0 lists in
     let head : List ℕ =
-    head_bytes frame_kind moment (length (concat (written_rest (written_frame c moment frame_idx dynamic shape lists)))) in
+    head_bytes frame_kind moment
+    (length (concat (written_rest (written_frame c moment frame_idx dynamic shape lists)))) in
     let pre : List ℕ = bytes_of (l1_pre c) in
     let bits : List ℕ = big_bytes 4 (length post) in
     let count : List ℕ = big_bytes 2 (length blocks) in
@@ -87,10 +94,12 @@ record_written order c moment frame_idx dynamic shape lists =
     joined head pre (bits ++ bytes_of post) count (lists_bytes c 0 lists) (big_bytes 4 c.cells)
     (words c shape frame_idx 0 c.cells)
     ∙ ap₂ (λ (p b : List ℕ).
-    head ++ (pre ++ ((bits ++ p) ++ ((count ++ b) ++ ((big_bytes 4 c.cells ++ words c shape frame_idx 0 c.cells) ++ [])))))
+    head ++ (pre ++ ((bits ++ p) ++ ((count ++ b) ++ ((big_bytes 4 c.cells ++ words c shape frame_idx 0 c.cells)
+    ++ [])))))
     (ap bytes_of (sym (append-nil post))) (sym spelled)
     ∙ ap₂ (λ (n : ℕ) (w : List ℕ).
-    head ++ (pre ++ ((bits ++ bytes_of (post ++ [])) ++ ((count ++ blocks_bytes blocks []) ++ ((big_bytes 4 n ++ w) ++ [])))))
+    head ++ (pre ++ ((bits ++ bytes_of (post ++ [])) ++ ((count ++ blocks_bytes blocks [])
+    ++ ((big_bytes 4 n ++ w) ++ [])))))
     (sym (length-map-range_with_len (get (cell_map c shape frame_idx)) 0 c.cells)) (sym all)
 
 pub muted_written : MutedWritten
@@ -111,7 +120,8 @@ block_count c count lists h =
         let same : plp + 0 ≡ plp = omega arith in
         let here : count plp ≡ length blocks = ap count (sym same) ∙ each 0 (omega arith) in
         let more = counted (plp + 1) lists
-        (λ i lt. let e : plp + suc i ≡ plp + 1 + i = omega arith in ap count (sym e) ∙ each (suc i) (omega (arith, lt))) in
+        (λ i lt. let e : plp + suc i ≡ plp + 1 + i = omega arith in ap count (sym e)
+        ∙ each (suc i) (omega (arith, lt))) in
         let size = length-append (map (plp_block c plp) blocks) (list_blocks c (plp + 1) lists) in
         let one = length-map blocks (plp_block c plp) in
         let all = sum_by-cons count plp (range_with_len (plp + 1) (length lists)) in
@@ -133,7 +143,8 @@ lists_size : (c : Config) (count : ℕ → ℕ) (from : ℕ) (lists : List (List
     → ((i : ℕ) → i < length lists → count (from + i) ≡ length (list_at lists i))
     → ((i place : ℕ) → place < length (list_at lists i) → length (slice_index_or (list_at lists i) place [])
     ≡ block_bytes c (from + i))
-    → length (lists_bytes c from lists) ≡ sum_by (λ plp. count plp * (4 + block_bytes c plp)) (range_with_len from (length lists))
+    → length (lists_bytes c from lists) ≡ sum_by (λ plp. count plp * (4 + block_bytes c plp))
+    (range_with_len from (length lists))
 lists_size c count from [] counts each = refl
 lists_size c count from (blocks ∷ lists) counts each =
     let same : from + 0 ≡ from = omega arith in
@@ -182,7 +193,8 @@ all_sized c plp (blocks ∷ lists) =
     )
 
 -- the bytes of four sections
-four_sections : (a b c d : List ℕ) → length (concat (a ∷ b ∷ c ∷ d ∷ [])) ≡ length a + (length b + (length c + length d))
+four_sections : (a b c d : List ℕ) → length (concat (a ∷ b ∷ c ∷ d ∷ [])) ≡ length
+    a + (length b + (length c + length d))
 four_sections a b c d =
     omega (
       arith,
@@ -196,17 +208,25 @@ four_sections a b c d =
 length-post_with : ConfPartLength → (c : Config) (dynamic : List Bool) → length (post_with c dynamic)
     ≡ post_size c (length dynamic)
 length-post_with law c dynamic =
-    omega (arith, length-crc_behind (conf_bits (conf_of c) ++ dynamic), length-append (conf_bits (conf_of c)) dynamic, law c)
+    omega (
+      arith,
+      length-crc_behind (conf_bits (conf_of c) ++ dynamic),
+      length-append (conf_bits (conf_of c))
+          dynamic,
+      law c,
+    )
 
 pub rest_length : PreBitsLength → ConfPartLength → BlocksInOrder → RestLength
 rest_length bits conf order c moment frame_idx dynamic shape count lists h =
     let post : List Bool = post_with c dynamic in
     let blocks : List Block = list_blocks c 0 lists in
-    let pre_size : length (bytes_of (l1_pre c)) ≡ 25 = length-bytes_of (l1_pre c) ∙ ap bytes_for (length-l1_pre bits c) in
+    let pre_size : length (bytes_of (l1_pre c)) ≡ 25 = length-bytes_of (l1_pre c)
+    ∙ ap bytes_for (length-l1_pre bits c) in
     let post_bytes : length (bytes_of (post ++ [])) ≡ bytes_for (post_size c (length dynamic)) =
     length-bytes_of (post ++ []) ∙ ap (λ (p : List Bool). bytes_for (length p)) (append-nil post)
     ∙ ap bytes_for (length-post_with conf c dynamic) in
-    let long : length (big_bytes 4 (length post) ++ bytes_of (post ++ [])) ≡ 4 + bytes_for (post_size c (length dynamic)) =
+    let long : length (big_bytes 4 (length post) ++ bytes_of (post ++ [])) ≡ 4 + bytes_for
+    (post_size c (length dynamic)) =
     omega (arith, post_bytes) in
     let all = all_size c count lists h in
     let sized : length (big_bytes 2 (length blocks) ++ blocks_bytes blocks [])
@@ -232,10 +252,13 @@ plp_is_sent : (c : Config) (plp : ℕ) (blocks : List (List ℕ)) → (plp_at c.
     → ((place : ℕ) → place < length blocks → length (slice_index_or blocks place []) ≤ 6730)
     → AllByRecursion IsSentBlock (map (plp_block c plp) blocks)
 plp_is_sent c plp [] id each = tt
-plp_is_sent c plp (b ∷ blocks) id each =
-    ((id, (let s = length-scrambled_bytes b in let e = each 0 (omega arith) in omega (arith, s, e))), plp_is_sent c plp blocks id (λ place lt. each (suc place) (omega (arith, lt))))
+plp_is_sent c plp (b ∷ blocks) id each = (
+  (id, (let s = length-scrambled_bytes b in let e = each 0 (omega arith) in omega (arith, s, e))),
+  plp_is_sent c plp blocks id (λ place lt. each (suc place) (omega (arith, lt))),
+)
 
-lists_are_sent : FieldRange → (c : Config) (from : ℕ) (lists : List (List (List ℕ))) → HasByteIds c → from + length lists
+lists_are_sent : FieldRange → (c : Config) (from : ℕ) (lists : List (List (List ℕ))) → HasByteIds c
+    → from + length lists
     ≤ length c.plps
     → ((i place : ℕ) → place < length (list_at lists i) → length (slice_index_or (list_at lists i) place [])
     ≡ block_bytes c (from + i))
@@ -249,7 +272,8 @@ lists_are_sent field c from (blocks ∷ lists) ids inside each =
     (λ i place lt. let e : from + suc i ≡ from + 1 + i = omega arith in each (suc i) place lt ∙ ap (block_bytes c) e))
 
 own-le : (c : Config) (n : ℕ) (shape : FrameShape) (plp : ℕ) → own_count c n shape plp ≤ slice_index shape.counts plp
-own-le c n shape plp = cond_both (is_first c plp n) (slice_index shape.counts plp) 0 (λ k. k ≤ slice_index shape.counts plp)
+own-le c n shape plp = cond_both (is_first c plp n) (slice_index shape.counts plp) 0
+    (λ k. k ≤ slice_index shape.counts plp)
     (λ e. omega arith) (λ e. omega arith)
 
 -- a record has no more blocks than the shape of its frame tells

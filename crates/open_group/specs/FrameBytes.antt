@@ -9,7 +9,8 @@ use Rattle.open_group.specs.HoldsL1.{shape_told}
 use Rattle.open_group.specs.Parts.{parts_of}
 use Rattle.open_group.specs.declared.group.PooledGroup.{PooledGroup}
 
--- the dynamic part of the first L1-current, as it came, the shape that it tells, if it reads, and the blocks, a list for each PLP
+-- the dynamic part of the first L1-current, as it came, the shape that it tells, if it reads, and the blocks, a list
+-- for each PLP
 abbrev pub dynamic_of : PooledGroup → List Bool
 dynamic_of held = (parts_of held.l1.parts).dynamic
 
@@ -23,12 +24,13 @@ lists_of held = held.blocks.pool.lists
 abbrev pub has_room : PooledGroup → Bool
 has_room held = nat_le held.blocks.need held.blocks.chunks
 
--- what is held can be given as a frame: the right blocks have room, and the first L1-current tells a shape with a cell map
+-- what is held can be given as a frame: the right blocks have room, and the first L1-current tells a shape with a cell
+-- map
 abbrev pub is_frame : PooledGroup → Bool
 is_frame held = nat_le held.blocks.need held.blocks.chunks && has_map held.network (shape_of held)
 
--- what a caller sees of it, but for the packets that it stands for: its network, its key, whether its packets are all there, and
--- whether it can be given as a frame
+-- what a caller sees of it, but for the packets that it stands for: its network, its key, whether its packets are all
+-- there, and whether it can be given as a frame
 pub record Status : Type 0 where
   pub network : Config
   pub key : Option Key

@@ -17,8 +17,8 @@ pub record HoldsPackets (held : PooledGroup) (packets : List Packet) : Type 0 wh
   pub blocks : HoldsCounts held.network held.blocks (tally held.network packets)
   pub lists : HoldsLists held.network held.blocks packets
 
--- Behind groups that have numbers, it has the key of a group and what its blocks come to and, until the record of its own frame
--- is begun, holds its packets.
+-- Behind groups that have numbers, it has the key of a group and what its blocks come to and, until the record of its
+-- own frame is begun, holds its packets.
 pub record HoldsGroup (held : PooledGroup) (past : List Numbered) (g : Group) : Type 0 where
   pub key : held.key ≡ Some g.key
   pub past-is : HoldsPast held.network held.past past

@@ -40,5 +40,6 @@ pub record HoldsL1 (c : Config) (held : HeldL1) (first : Option L1Parts) (alike 
 -- More were added.
 abbrev pub AddsL1 : Config → HeldL1 → HeldL1 → List L1Parts → Type 0
 AddsL1 c old new more =
-    (first : Option L1Parts) (alike : Bool) → HoldsL1 c old first alike → HoldsL1 c new (option_or first (slice_get more 0))
+    (first : Option L1Parts) (alike : Bool) → HoldsL1 c old first alike
+    → HoldsL1 c new (option_or first (slice_get more 0))
     (alike && alike_behind first more)

@@ -10,8 +10,8 @@ use Rattle.frame_groups.specs.Tests.{group_fault}
 use Rattle.site_frame.specs.Whole.{Spells}
 use Rattle.open_group.specs.Written.{content_view, spelled}
 
--- Of a plan, the bytes of a record spell it: the frame of a group that passes the tests as the frame of its number, or a muted
--- one. So they are read back.
+-- Of a plan, the bytes of a record spell it: the frame of a group that passes the tests as the frame of its number, or
+-- a muted one. So they are read back.
 abbrev pub RecordSpelled : Type 0
 RecordSpelled = (c : Config) (x : FrameRecord) → IsPlan c → HasByteIds c → x.number < 2 ^ 32
     → ((g : Group) → x.content ≡ Whole g → (past : List Numbered) × (group_fault c past g x.number ≡ None))

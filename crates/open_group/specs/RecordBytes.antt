@@ -25,8 +25,8 @@ plp_block c plp bytes = record { plp_id = (plp_at c.plps plp).id; bytes = scramb
 abbrev pub sent_bytes : Config → ℕ → List ℕ → List ℕ
 sent_bytes c plp bytes = block_bytes (plp_block c plp bytes) 0
 
--- how many blocks of a PLP stand in the record of frame n: as many as its shape tells if an interleaving frame begins there, and
--- else none
+-- how many blocks of a PLP stand in the record of frame n: as many as its shape tells if an interleaving frame begins
+-- there, and else none
 abbrev pub own_count : Config → ℕ → FrameShape → ℕ → ℕ
 own_count c n shape plp = if is_first c plp n then slice_index shape.counts plp else 0
 

@@ -12,7 +12,8 @@ AreBlocks c packets lists =
     (plp : ℕ) → plp < length c.plps → slice_index_or lists plp [] ≡ map held_bytes (right_blocks c plp packets)
 
 -- The dynamic part of the first L1-current, as it came, and the blocks.
-pub record Shows (c : Config) (packets : List Packet) (dynamic : List Bool) (lists : List (List (List ℕ))) : Type 0 where
+pub record Shows (c : Config) (packets : List Packet) (dynamic : List Bool) (lists : List (List (List ℕ))) :
+    Type 0 where
   pub dynamic_is : dynamic ≡ dynamic_in packets
   pub plps : length lists ≡ length c.plps
   pub blocks : AreBlocks c packets lists

@@ -10,8 +10,8 @@ use Rattle.open_group.specs.RecordBytes.{AreShort, lists_bytes}
 use Rattle.open_group.specs.declared.step.Step.{Step}
 use Rattle.open_group.specs.declared.step.Step.TheVariants.{Blocks, Cells, Done}
 
--- the blocks from a PLP on, the number of cells, and these; or the cells from an address on. The frame is told by its number in
--- its superframe
+-- the blocks from a PLP on, the number of cells, and these; or the cells from an address on. The frame is told by its
+-- number in its superframe
 abbrev pub step_bytes : Config → FrameShape → ℕ → List (List (List ℕ)) → Step → List ℕ
 step_bytes c shape frame_idx lists (Blocks plp) =
     lists_bytes c plp (drop plp lists) ++ (big_bytes 4 c.cells ++ words c shape frame_idx 0 c.cells)

@@ -28,7 +28,8 @@ abbrev pub written_frame : Config → Moment → ℕ → List Bool → FrameShap
 written_frame c moment frame_idx dynamic shape lists =
     frame_view c moment frame_idx (post_with c dynamic) (list_blocks c 0 lists) shape
 
--- What a writer gives of a frame is its record, if it was told how many blocks there are and how many bytes follow the head.
+-- What a writer gives of a frame is its record, if it was told how many blocks there are and how many bytes follow the
+-- head.
 abbrev pub RecordWritten : Type 0
 RecordWritten = (c : Config) (moment : Moment) (frame_idx : ℕ) (dynamic : List Bool) (shape : FrameShape)
     (lists : List (List (List ℕ)))
@@ -64,8 +65,8 @@ RestLength = (c : Config) (moment : Moment) (frame_idx : ℕ) (dynamic : List Bo
     → length (concat (written_rest (written_frame c moment frame_idx dynamic shape lists)))
     ≡ rest_size c (post_size c (length dynamic)) count
 
--- A frame of a plan fits a record, if its dynamic part has no more bits than those of the plan: so what is written of it spells
--- it, and is read back.
+-- A frame of a plan fits a record, if its dynamic part has no more bits than those of the plan: so what is written of
+-- it spells it, and is read back.
 abbrev pub RecordFits : Type 0
 RecordFits = (c : Config) (n frame_idx : ℕ) (dynamic : List Bool) (shape : FrameShape) (lists : List (List (List ℕ)))
     → IsPlan c → HasByteIds c → n < 2 ^ 32

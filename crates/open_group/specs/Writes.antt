@@ -12,8 +12,8 @@ use Rattle.open_group.specs.declared.writer.Writer.{Writer}
 abbrev pub bytes_left : Writer → Config → FrameShape → List (List (List ℕ)) → List ℕ
 bytes_left w c shape lists = drop w.at w.piece ++ step_bytes c shape w.frame_idx lists w.step
 
--- the most bytes of a frame's record whose blocks fill so many chunks: its front, the blocks with a head for each chunk, the
--- number of cells, and these
+-- the most bytes of a frame's record whose blocks fill so many chunks: its front, the blocks with a head for each
+-- chunk, the number of cells, and these
 abbrev pub most_record : Config → ℕ → ℕ
 most_record c chunks = piece_len + (4 + chunk_len) * chunks + 4 + 4 * c.cells
 

@@ -22,9 +22,9 @@ dynamic_in packets = option_map_or (λ l1. l1.dynamic) (slice_get (l1s_of packet
 abbrev pub shape_in : Config → List Packet → FrameShape
 shape_in c packets = unwrap_or (first_shape c packets) (blank (length c.plps))
 
--- the frame that packets make, as frame n: it leaves when frame n does, L1-pre and the configurable part are the configuration's,
--- the dynamic part is as it came, the blocks stand PLP by PLP, scrambled, and each cell that frame n carries stands at its
--- address by the shape that was told
+-- the frame that packets make, as frame n: it leaves when frame n does, L1-pre and the configurable part are the
+-- configuration's, the dynamic part is as it came, the blocks stand PLP by PLP, scrambled, and each cell that frame n
+-- carries stands at its address by the shape that was told
 abbrev pub packets_view : Config → ℕ → List Packet → RecordView
 packets_view c n packets =
     frame_view c (emission c n) (n % c.frames) (post_with c (dynamic_in packets))

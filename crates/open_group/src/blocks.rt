@@ -57,8 +57,10 @@ fn clear_pool(pool: &mut Pool, lists: u32)
 }
 
 impl HeldBlocks {
-    ghost use Rattle.std.specs.Prelude.{◌≡◌, ◌≢◌, ◌↔◌, ◌<◌, ◌≤◌, ◌+◌, ◌*◌, ◌%◌, ◌^◌, ◌++◌, ◌∷◌, [], true, false, Some, min, length};
-    ghost use Rattle.std.specs.Prelude.{drop, replicate, slice_index_or, IsNone, IfSome, map, vec_len, slice_set, slice_index};
+    ghost use Rattle.std.specs.Prelude.{◌≡◌, ◌≢◌, ◌↔◌, ◌<◌, ◌≤◌, ◌+◌, ◌*◌, ◌%◌, ◌^◌, ◌++◌, ◌∷◌, [], true, false, Some};
+    ghost use Rattle.std.specs.Prelude.{min, length};
+    ghost use Rattle.std.specs.Prelude.{drop, replicate, slice_index_or, IsNone, IfSome, map, vec_len, slice_set};
+    ghost use Rattle.std.specs.Prelude.{slice_index};
     ghost use Rattle.std.specs.Prelude.{IfOk, List, Bool, ℕ};
     ghost use Rattle.linked_pool.specs.Pool.{State, list_at, chunks_for, used_chunks, appended};
     ghost use Rattle.plp_config.specs.Capacity.{block_bytes};
@@ -115,7 +117,8 @@ impl HeldBlocks {
         requires bytes { length bits.now % 8 ≡ 0 }
         requires short { length (held_bytes bits.now) ≤ MOST_BLOCK_BYTES }
         requires chunks { chunks ≡ chunks_for (length (held_bytes bits.now)) }
-        ensures kept { self.new.need ≤ self.old.chunks → self.new.pool ≡ appended self.old.pool plp (held_bytes bits.now) }
+        ensures kept { self.new.need ≤ self.old.chunks → self.new.pool ≡ appended self.old.pool plp
+            (held_bytes bits.now) }
         ensures lists { length self.new.pool.lists ≡ length self.old.pool.lists }
         ensures held { held_of self.new ≡ record (held_of self.old) {
           pool = self.new.pool;
@@ -132,7 +135,8 @@ impl HeldBlocks {
 
     fn add_block(&mut self, plan: &Plan, id: u8, bits: &BitSlice<'_>)
         requires open { IsOpenFor self.old (length plan.now.plps) }
-        ensures counts { (t : Tally) (p : Packet) (frame_idx : ℕ) (first : Bool) → p.body ≡ Block frame_idx id first bits.now
+        ensures counts { (t : Tally) (p : Packet) (frame_idx : ℕ) (first : Bool)
+            → p.body ≡ Block frame_idx id first bits.now
             → HoldsCounts plan.now self.old t → HoldsCounts plan.now self.new (tally_with plan.now t p) }
         ensures lists { (packets : List Packet) (p : Packet) (frame_idx : ℕ) (first : Bool)
             → p.body ≡ Block frame_idx id first bits.now → HoldsLists plan.now self.old packets

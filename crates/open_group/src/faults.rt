@@ -1,9 +1,11 @@
-// Our six tests of a group, by what is held of it; `frame_groups` defines them. The fields are those of ETSI TS 102 773, clause 5.
+// Our six tests of a group, by what is held of it; `frame_groups` defines them. The fields are those of ETSI TS 102
+// 773, clause 5.
 ghost use Rattle.std.specs.Prelude.{◌≡◌, ◌<◌, ◌≤◌, ◌^◌, true, IsNone, List, length};
 ghost use Rattle.std.specs.Option.{option_and_then};
 ghost use Rattle.frame_groups.specs.Modulated.{Numbered};
 ghost use Rattle.frame_groups.specs.Sequenced.{IsAbove};
-ghost use Rattle.frame_groups.specs.Tally.{Tally, tally_room, tally_pool, tally_missing, tally_l1, first_late, tally_time};
+ghost use Rattle.frame_groups.specs.Tally.{Tally, tally_room, tally_pool, tally_missing, tally_l1, first_late};
+ghost use Rattle.frame_groups.specs.Tally.{tally_time};
 ghost use Rattle.frame_groups.specs.Tally.{tally_counts};
 ghost use Rattle.frame_groups.specs.Tally.{tally_shape, tally_blocks, tally_map, tally_fault};
 ghost use Rattle.frame_groups.specs.Tests.{begins_superframe, pool_chunks, stamp_agrees, disagrees, has_map};
@@ -43,7 +45,8 @@ fn room_fault(plan: &Plan, blocks: &HeldBlocks) -> Option<MuteCause>
     })
 }
 
-/// a: so have those of the groups before in which interleaving frames begin that the frame carries, and before all others.
+/// a: so have those of the groups before in which interleaving frames begin that the frame carries, and before all
+/// others.
 pub fn pool_fault(
     plan: &Plan,
     number: u64,
@@ -170,7 +173,8 @@ pub fn blocks_fault(
 // Whether the shape that the first L1-current tells has one.
 fn has_map(plan: &Plan, l1: &HeldL1) -> bool
     requires rows { length l1.now.dynamic.plps ≡ length plan.now.plps }
-    ensures told { (t : Tally) → HoldsL1 plan.now l1.now t.l1 t.alike → result ≡ has_map plan.now (tally_shape plan.now t) }
+    ensures told { (t : Tally) → HoldsL1 plan.now l1.now t.l1 t.alike
+        → result ≡ has_map plan.now (tally_shape plan.now t) }
     ensures shape { result ≡ has_map plan.now (shape_told l1.now) }
 {
     match l1.shape() {

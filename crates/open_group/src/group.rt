@@ -23,8 +23,9 @@ use scheduler::Shape;
 use std::alloc::Global;
 use t2mi_packet::Packet;
 
-/// The group under way: its key, and what its packets come to; and the record that is given of it, or of a muted frame. All its
-/// memory is taken in `open`. If its blocks need more chunks than the pool has, no more of them are kept, and only counted.
+/// The group under way: its key, and what its packets come to; and the record that is given of it, or of a muted frame.
+/// All its memory is taken in `open`. If its blocks need more chunks than the pool has, no more of them are kept, and
+/// only counted.
 /// Of the groups before it knows what the blocks came to where interleaving frames began.
 #[derive(Drop)]
 pub struct PooledGroup<'p> {
@@ -48,7 +49,8 @@ pub struct PooledGroup<'p> {
 }
 
 impl<'p> PooledGroup<'p> {
-    ghost use Rattle.std.specs.Prelude.{◌≡◌, ◌≢◌, ◌↔◌, ◌<◌, ◌^◌, ◌++◌, ◌∷◌, [], ℕ, List, Option, Some, None, true, IfOk, IfSome};
+    ghost use Rattle.std.specs.Prelude.{◌≡◌, ◌≢◌, ◌↔◌, ◌<◌, ◌^◌, ◌++◌, ◌∷◌, [], ℕ, List, Option, Some, None, true};
+    ghost use Rattle.std.specs.Prelude.{IfOk, IfSome};
     ghost use Rattle.std.specs.Prelude.{IsNone, is_some, length, map, drop, slice_get, slice_index_or};
     ghost use Rattle.std.specs.Option.{option_copied};
     ghost use Rattle.t2mi_packet.specs.T2miPacket.{Fits};

@@ -1,4 +1,5 @@
-//! The group under way of a modulator, of fixed size, its six tests, and the bytes of its record, given out piece by piece.
+//! The group under way of a modulator, of fixed size, its six tests, and the bytes of its record, given out piece by
+//! piece.
 #![tactic(auto)]
 
 mod behind;

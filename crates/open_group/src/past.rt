@@ -10,8 +10,8 @@ use plp_config::{Plan, interleaving_law};
 use scheduler::Shape;
 use std::alloc::Global;
 
-/// Of a PLP, the last group in which an interleaving frame of it began: the number of its frame, and how many blocks of the
-/// PLP it has, of any length and of the right one.
+/// Of a PLP, the last group in which an interleaving frame of it began: the number of its frame, and how many blocks of
+/// the PLP it has, of any length and of the right one.
 #[derive(Clone, Copy, Debug, PartialEq, Eq)]
 pub struct Begun {
     pub number: u64,
@@ -27,8 +27,8 @@ pub struct Need {
     pub chunks: u64,
 }
 
-/// What is held of the groups before the one under way. Its numbers of blocks and chunks stand still at the greatest that they
-/// can be.
+/// What is held of the groups before the one under way. Its numbers of blocks and chunks stand still at the greatest
+/// that they can be.
 #[derive(Drop)]
 pub struct HeldPast {
     // Of each PLP.
@@ -146,7 +146,8 @@ impl HeldPast {
         self.note_need((number % frames) as usize, need);
     }
 
-    // Whether the group of the frame in which an interleaving frame begins has so many blocks of its PLP, each of its length.
+    // Whether the group of the frame in which an interleaving frame begins has so many blocks of its PLP, each of its
+    // length.
     fn has_begun(&self, plp: usize, begin: u64, told: u16) -> bool
         requires { plp < length self.now.begun.items }
         ensures { result ≡ told_begun (begun_at self.now plp) begin told }
@@ -194,7 +195,8 @@ impl HeldPast {
         self.needs[place]
     }
 
-    // Whether the blocks of the group of a frame have room, if an interleaving frame begins there that frame `number` carries.
+    // Whether the blocks of the group of a frame have room, if an interleaving frame begins there that frame `number`
+    // carries.
     fn fault_at(&self, plan: &Plan, number: u64, place: usize) -> Option<MuteCause>
         requires inside { place < number % plan.now.frames }
         requires sized { AreSized plan.now self.now }
@@ -221,7 +223,8 @@ impl HeldPast {
         })
     }
 
-    /// The first of the groups whose blocks lack room, of those in which an interleaving frame begins that a frame carries.
+    /// The first of the groups whose blocks lack room, of those in which an interleaving frame begins that a frame
+    /// carries.
     pub fn fault(&self, plan: &Plan, number: u64) -> Option<MuteCause>
         requires { AreSized plan.now self.now }
         ensures { (past : List Numbered) → HoldsPast plan.now self.now past → IsAbove past number

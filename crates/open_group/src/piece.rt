@@ -83,7 +83,8 @@ impl Piece {
         self.len = end;
     }
 
-    /// Appends the words of so many cells of a frame from an address on. The frame is told by its number in the superframe.
+    /// Appends the words of so many cells of a frame from an address on. The frame is told by its number in the
+    /// superframe.
     pub fn put_words(&mut self, plan: &Plan, shape: &Shape, frame_idx: u8, address: u32, count: u32)
         requires plps { length shape.now.counts ≡ length plan.now.plps }
         requires passes { Passes plan.now shape.now }

@@ -38,7 +38,8 @@ impl<'p> PooledGroup<'p> {
         ensures held { result.now.lists ≡ lists_of self.now }
         ensures plps { length result.now.lists ≡ length self.now.network.plps }
         ensures short { AreShort result.now.lists }
-        // They are those that have the length of their PLP, if all these have room: also if the frame is muted for another reason.
+        // They are those that have the length of their PLP, if all these have room: also if the frame is muted for
+        // another reason.
         ensures blocks { (past : List Numbered) (h : Group) → self.now.intact ≡ true → Holds self.now past (Some h)
             → has_room self.now ≡ true → AreBlocks self.now.network h.packets result.now.lists }
     {

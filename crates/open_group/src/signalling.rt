@@ -182,8 +182,8 @@ fn put_post(conf: &Signalling, dynamic: BitSlice<'_>, out: &mut Piece)
     put_bits(&bits, out);
 }
 
-/// Puts the first bytes of a frame's record: its head, which tells how many bytes follow it, its L1 signalling, and the number of
-/// its blocks.
+/// Puts the first bytes of a frame's record: its head, which tells how many bytes follow it, its L1 signalling, and the
+/// number of its blocks.
 pub fn put_front(
     plan: &Plan,
     conf: &Signalling,

@@ -88,7 +88,8 @@ fn build_block(plan: &Plan, pool: &mut Pool, plp: usize, out: &mut Piece) -> Ste
     requires lists { HasLists plan.now pool.old.lists }
     requires inside { plp ≤ length pool.old.lists }
     requires empty { out.old ≡ [] }
-    ensures bytes { (shape : FrameShape) (frame_idx : ℕ) → step_bytes plan.now shape frame_idx pool.old.lists (Blocks plp)
+    ensures bytes { (shape : FrameShape) (frame_idx : ℕ) → step_bytes plan.now shape frame_idx pool.old.lists
+        (Blocks plp)
         ≡ out.new ++ step_bytes plan.now shape frame_idx pool.new.lists result }
     ensures some { 0 < length out.new }
     ensures step { (shape : FrameShape) → HasMap plan.now shape → IsStep plan.now shape pool.new.lists result }
@@ -113,7 +114,8 @@ fn build_cells(plan: &Plan, shape: &Shape, frame_idx: u8, address: u32, out: &mu
     requires map { HasMap plan.now shape.now }
     requires inside { address ≤ plan.now.cells }
     requires empty { out.old ≡ [] }
-    ensures bytes { (lists : List (List (List ℕ))) → words plan.now shape.now frame_idx address (plan.now.cells - address)
+    ensures bytes { (lists : List (List (List ℕ))) → words plan.now shape.now frame_idx address
+        (plan.now.cells - address)
         ≡ out.new ++ step_bytes plan.now shape.now frame_idx lists result }
     ensures none { out.new ≡ [] → result ≡ Done }
     ensures step { (lists : List (List (List ℕ))) → IsStep plan.now shape.now lists result }
@@ -153,8 +155,8 @@ fn build(
     }
 }
 
-// Writes the words of the cells that come next straight to a place, as many as have room behind it, and answers how many bytes
-// these are.
+// Writes the words of the cells that come next straight to a place, as many as have room behind it, and answers how
+// many bytes these are.
 fn fill_cells(
     plan: &Plan,
     shape: &Shape,
@@ -220,7 +222,8 @@ pub struct Writer {
 }
 
 impl Writer {
-    ghost use Rattle.std.specs.Prelude.{◌≡◌, ◌<◌, ◌≤◌, ◌++◌, ◌⊎◌, ◌↔◌, ℕ, List, [], length, take, drop, IfOk, true, false};
+    ghost use Rattle.std.specs.Prelude.{◌≡◌, ◌<◌, ◌≤◌, ◌++◌, ◌⊎◌, ◌↔◌, ℕ, List, [], length, take, drop, IfOk, true};
+    ghost use Rattle.std.specs.Prelude.{false};
     ghost use Rattle.cell_map.specs.CellMap.{Passes};
     ghost use Rattle.plp_config.specs.declared.config.Config.{Config};
     ghost use Rattle.scheduler.specs.Shape.{FrameShape};
@@ -253,15 +256,16 @@ impl Writer {
     pub fn clear(&mut self)
         ensures done { is_done self.new ≡ true }
         ensures last { IsLast self.new }
-        ensures ready { (c : Config) (shape : FrameShape) (lists : List (List (List ℕ))) → IsReady self.new c shape lists }
+        ensures ready { (c : Config) (shape : FrameShape) (lists : List (List (List ℕ)))
+            → IsReady self.new c shape lists }
     {
         self.piece.clear();
         self.at = 0;
         self.step = Step::Done;
     }
 
-    /// Begins the record of the frame of this number in its superframe: its head tells `rest`, and it has so many blocks, which
-    /// wait in the pool.
+    /// Begins the record of the frame of this number in its superframe: its head tells `rest`, and it has so many
+    /// blocks, which wait in the pool.
     pub fn begin_frame(
         &mut self,
         plan: &Plan,
@@ -280,7 +284,8 @@ impl Writer {
             ++ step_bytes plan.now shape frame_idx lists (Blocks 0) }
         ensures most { (shape : FrameShape) (lists : List (List (List ℕ)))
             → length (bytes_left self.new plan.now shape lists) ≤ most_record plan.now (used_chunks lists) }
-        ensures ready { (shape : FrameShape) (lists : List (List (List ℕ))) → HasMap plan.now shape → HasLists plan.now lists
+        ensures ready { (shape : FrameShape) (lists : List (List (List ℕ))) → HasMap plan.now shape
+            → HasLists plan.now lists
             → IsReady self.new plan.now shape lists }
         ensures done { is_done self.new ≡ false }
     {
@@ -298,7 +303,8 @@ impl Writer {
         ensures most { (c : Config) (shape : FrameShape) (lists : List (List (List ℕ)))
             → length (bytes_left self.new c shape lists) ≤ piece_len }
         ensures last { IsLast self.new }
-        ensures ready { (c : Config) (shape : FrameShape) (lists : List (List (List ℕ))) → IsReady self.new c shape lists }
+        ensures ready { (c : Config) (shape : FrameShape) (lists : List (List (List ℕ)))
+            → IsReady self.new c shape lists }
         ensures done { is_done self.new ≡ false }
     {
         self.piece.clear();
@@ -307,8 +313,8 @@ impl Writer {
         self.step = Step::Done;
     }
 
-    /// Gives the next bytes of the record: what is left of the piece in hand, and behind it as many words of cells as there is
-    /// room for. It takes blocks from the pool as it goes.
+    /// Gives the next bytes of the record: what is left of the piece in hand, and behind it as many words of cells as
+    /// there is room for. It takes blocks from the pool as it goes.
     pub fn take(&mut self, plan: &Plan, shape: &Shape, pool: &mut Pool, out: &mut [u8]) -> usize
         requires { IsReady self.old plan.now shape.now pool.old.lists }
         ensures last { IsLast self.old → IsLast self.new × (pool.new ≡ pool.old) }

@@ -1,5 +1,6 @@
 // Laws of the definitions. Their functions do nothing.
-ghost use Rattle.open_group.specs.WriterLaws.{RecordWritten, MutedWritten, EmptyIsShort, AppendedIsShort, BlockCount, RestLength};
+ghost use Rattle.open_group.specs.WriterLaws.{RecordWritten, MutedWritten, EmptyIsShort, AppendedIsShort, BlockCount};
+ghost use Rattle.open_group.specs.WriterLaws.{RestLength};
 ghost use Rattle.open_group.specs.WriterLaws.{RecordFits};
 
 use l1_signal::{post_law, pre_law};
@@ -7,8 +8,8 @@ use plp_config::block_law;
 use record_laws::fit_law;
 use site_frame::writing_law;
 
-/// What is written of a frame is its record, which has so many blocks and so many bytes behind its head. That of a plan spells
-/// the frame.
+/// What is written of a frame is its record, which has so many blocks and so many bytes behind its head. That of a plan
+/// spells the frame.
 pub fn written_law()
     ensures written { RecordWritten }
     ensures muted { MutedWritten }

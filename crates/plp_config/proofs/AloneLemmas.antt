@@ -1,5 +1,5 @@
 -- The tests of the capacity where each interleaving frame is carried by one frame.
-use Rattle.std.proofs.Common.{◌≡◌, ℕ, zero, suc, ◌+◌, ◌*◌, ◌/◌, ◌<◌, ◌≤◌, cond, List, [], ◌∷◌, length, sum_by, ap, sym, ◌∙◌}
+use Rattle.std.proofs.Common.{◌≡◌, ℕ, suc, ◌+◌, ◌*◌, ◌/◌, ◌<◌, ◌≤◌, cond, List, [], ◌∷◌, length, sum_by, ap, sym, ◌∙◌}
 use Rattle.std.proofs.Common.{arith, subst}
 use Rattle.std.specs.Int.{div_ceil}
 use Rattle.std.proofs.Math.Nat.{mul-le-mul_left, le_of_mul-le-mul_right, add-mul}
@@ -8,13 +8,12 @@ use Rattle.plp_config.proofs.NeedLemmas.{div_ceil-le}
 use Rattle.plp_config.proofs.SpreadLemmas.{spread_greatest}
 use Rattle.plp_config.proofs.TableLemmas.{block_table, short_bytes, normal_cells, cell_table}
 use Rattle.plp_config.proofs.TimeLemmas.{div_ceil-ge}
-use Rattle.plp_config.specs.Capacity.{superframe_room, block_room, longest_rest, cell_need, up_bytes, capacity, block_parts}
+use Rattle.plp_config.specs.Capacity.{superframe_room, block_room, longest_rest, cell_need, up_bytes, capacity}
 use Rattle.plp_config.specs.Laws.{FitsAlone}
-use Rattle.plp_config.specs.Plps.{plp_at, is_type2, spread, spread_max}
+use Rattle.plp_config.specs.Plps.{plp_at, is_type2, spread}
 use Rattle.plp_config.specs.Rules.{SuperframeLength, PlpCount}
 use Rattle.plp_config.specs.SlotTime.{num, den, epoch_ticks}
 use Rattle.plp_config.specs.Tables.{info_bits, cells_per_block}
-use Rattle.plp_config.specs.declared.config.Config.{Config}
 use Rattle.plp_config.specs.declared.plp.FecSize.{FecSize}
 use Rattle.plp_config.specs.declared.plp.FecSize.TheVariants.{Short, Normal}
 use Rattle.plp_config.specs.declared.plp.Modulation.{Modulation}
@@ -22,7 +21,8 @@ use Rattle.plp_config.specs.declared.plp.Plp.{Plp}
 use Rattle.plp_config.specs.declared.plp.Rate.{Rate}
 
 -- a block has fewer bytes in a record than cells
-room_table : (fec : FecSize) (rate : Rate) (modulation : Modulation) → 4 + info_bits fec rate / 8 ≤ cells_per_block fec modulation
+room_table : (fec : FecSize) (rate : Rate) (modulation : Modulation)
+    → 4 + info_bits fec rate / 8 ≤ cells_per_block fec modulation
 room_table Normal rate modulation = omega (arith, (block_table Normal rate).1, normal_cells modulation)
 room_table Short rate modulation = omega (arith, short_bytes rate, (cell_table Short modulation).1)
 
@@ -58,7 +58,8 @@ unfolding cell_need longest_rest
 fits_alone c rules alone =
     let frames : 0 < c.frames = omega (arith, (rules SuperframeLength).0) in
     let need : cell_need c ≡ sum_by plp_cells c.plps =
-    ap (λ (n : ℕ). div_ceil n c.frames) (superframe c.frames c.plps alone) ∙ div_ceil-mul (sum_by plp_cells c.plps) c.frames frames in
+    ap (λ (n : ℕ). div_ceil n c.frames) (superframe c.frames c.plps alone)
+    ∙ div_ceil-mul (sum_by plp_cells c.plps) c.frames frames in
     let greatest = (spread_greatest c rules).1 in
     record {
       throughput = λ plp inside.
@@ -67,7 +68,8 @@ fits_alone c rules alone =
             λ fits. subst (λ (t : ℕ). up_bytes c plp * t * den c plp ≤ capacity c plp * num c) (sym e) fits,
           );
       cells = need;
-      parts = λ plp inside. ap (λ (s : ℕ). (cond (is_type2 (plp_at c.plps plp).plp_type) c.sub_slices 1) * s) (alone plp inside)
+      parts = λ plp inside. ap (λ (s : ℕ). (cond (is_type2 (plp_at c.plps plp).plp_type) c.sub_slices 1) * s)
+          (alone plp inside)
           ∙ omega arith;
       records = λ cells addresses. omega (arith, rooms c.plps, need, cells, addresses, (rules PlpCount).1);
       spread = sym greatest.2 ∙ alone greatest.0 greatest.1;

@@ -1,13 +1,11 @@
 -- Where interleaving frames begin.
-use Rattle.std.proofs.Common.{◌≡◌, ℕ, suc, ◌+◌, ◌-◌, ◌*◌, ◌/◌, ◌%◌, ◌<◌, ◌≤◌, true, length, ap, sym, ◌∙◌, ⊎_elim, arith}
+use Rattle.std.proofs.Common.{◌≡◌, ℕ, suc, ◌+◌, ◌-◌, ◌*◌, ◌/◌, ◌%◌, ◌<◌, ◌≤◌, ap, sym, ◌∙◌, ⊎_elim, arith}
 use Rattle.std.proofs.Math.Nat.{mod-one, mod-le, mul_assoc, add-mul-mod_self_right, mul-le-mul_right, mul-mod_left}
 use Rattle.std.proofs.lemmas.Bool.{cases_lt, eq-eqb, eqb-true}
 use Rattle.std.proofs.lemmas.Nat.{div-add-mod', mod_below}
-use Rattle.plp_config.specs.InterleavingFrames.{interleaving_frame, is_first, begin_of}
-use Rattle.plp_config.specs.Laws.{SuperframeBegins, BeginsInSuperframe, BeginIsFirst, BeginIsLast, BeginByNumber, BeginAlone}
-use Rattle.plp_config.specs.Plps.{spread, StandsAlone}
-use Rattle.plp_config.specs.Rules.{AllRules}
-use Rattle.plp_config.specs.declared.config.Config.{Config}
+use Rattle.plp_config.specs.Laws.{SuperframeBegins, BeginsInSuperframe, BeginIsFirst, BeginIsLast, BeginByNumber}
+use Rattle.plp_config.specs.Laws.{BeginAlone}
+use Rattle.plp_config.specs.Plps.{spread}
 use Rattle.plp_config.proofs.SpreadLemmas.{spread_divides}
 
 -- the rest by a divisor is no more
@@ -18,7 +16,8 @@ rest-le n p f whole =
     let times : f ≡ f / p * p = omega (arith, own, whole) in
     let turn : n / f * f ≡ n / f * (f / p) * p = ap (λ (k : ℕ). n / f * k) times ∙ sym (mul_assoc (n / f) (f / p) p) in
     let is : n % f + n / f * (f / p) * p ≡ n = omega (arith, parts, turn) in
-    let same : n % p ≡ n % f % p = sym (ap (λ (k : ℕ). k % p) is) ∙ add-mul-mod_self_right (n % f) (n / f * (f / p)) p in
+    let same : n % p ≡ n % f % p = sym (ap (λ (k : ℕ). k % p) is) ∙ add-mul-mod_self_right (n % f) (n / f * (f / p))
+    p in
     let less = mod-le (n % f) p in
     omega (arith, same, less)
 
@@ -42,7 +41,8 @@ begin_by_number c plp n = multiple n (spread c.plps plp)
 pub begin_first : BeginIsFirst
 begin_first c plp n rules inside =
     eq-eqb ((n - n % spread c.plps plp) % spread c.plps plp) 0
-    (ap (λ (k : ℕ). k % spread c.plps plp) (multiple n (spread c.plps plp)) ∙ mul-mod_left (n / spread c.plps plp) (spread c.plps plp))
+    (ap (λ (k : ℕ). k % spread c.plps plp) (multiple n (spread c.plps plp))
+    ∙ mul-mod_left (n / spread c.plps plp) (spread c.plps plp))
 
 -- a multiple up to a number is no greater than the last one
 last-multiple : (n k p : ℕ) → 0 < p → k % p ≡ 0 → k ≤ n → k ≤ n - n % p
@@ -68,7 +68,8 @@ begin_last c plp n k rules inside first low =
 pub begin_alone : BeginAlone
 begin_alone c plp n alone =
     let none : n % spread c.plps plp ≡ 0 = ap (λ (k : ℕ). n % k) alone ∙ mod-one n in
-    let parts : n / spread c.plps plp * spread c.plps plp + n % spread c.plps plp ≡ n = div-add-mod' n (spread c.plps plp) in
+    let parts : n / spread c.plps plp * spread c.plps plp + n % spread c.plps plp ≡ n = div-add-mod'
+    n (spread c.plps plp) in
     let times : n / spread c.plps plp * spread c.plps plp ≡ n / spread c.plps plp * 1 =
     ap (λ (k : ℕ). n / spread c.plps plp * k) alone in
     (eq-eqb (n % spread c.plps plp) 0 none, omega (arith, parts, times, none), omega (arith, none))

@@ -1,9 +1,11 @@
 -- The first test of the capacity that fails, from the answers of the tests in their order.
-use Rattle.std.proofs.Common.{◌≡◌, ℕ, zero, suc, ◌+◌, ◌<◌, ◌≤◌, Option, Some, None, MatchOption, refl, sym, ap, subst, ◌∙◌, arith}
+use Rattle.std.proofs.Common.{◌≡◌, ℕ, zero, suc, ◌+◌, ◌<◌, ◌≤◌, Option, Some, None, MatchOption, refl, sym, ap, subst}
+use Rattle.std.proofs.Common.{◌∙◌, arith}
 use Rattle.std.proofs.Common.{inl, inr}
 use Rattle.std.proofs.lemmas.Bool.{cases_eq}
 use Rattle.std.specs.Option.{option_or}
-use Rattle.plp_config.specs.Capacity.{Test, Throughput, CellCount, EvenParts, CellAddresses, RecordLength, test_number, TestHolds}
+use Rattle.plp_config.specs.Capacity.{Test, Throughput, CellCount, EvenParts, CellAddresses, RecordLength, test_number}
+use Rattle.plp_config.specs.Capacity.{TestHolds}
 use Rattle.plp_config.specs.Capacity.{TestsBelow, AllTests, Lacks}
 use Rattle.plp_config.specs.CapacityTests.{AnswersTest}
 use Rattle.plp_config.specs.declared.config.Config.{Config}
@@ -67,7 +69,8 @@ Tried-none c test lt = absurd (omega (arith, test_number-range test))
 
 -- the first of two answers
 Tried-or : (c : Config) (test : Test) (fault answer : Option CapacityFault)
-    → Tried (test_number test) c fault → AnswersTest test c answer → Tried (test_number test + 1) c (option_or fault answer)
+    → Tried (test_number test) c fault → AnswersTest test c answer
+    → Tried (test_number test + 1) c (option_or fault answer)
 Tried-or c test (Some fault) answer tried answers = tried
 Tried-or c test None None tried holds = TestsBelow-more c test tried holds
 Tried-or c test None (Some fault) tried lacks = lacks tried

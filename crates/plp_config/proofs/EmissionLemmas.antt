@@ -50,7 +50,8 @@ found_emission c moment frame found =
     let past : (subseconds_by c moment - origin c) / frame_subseconds c * frame_subseconds c
     + (subseconds_by c moment - origin c) % frame_subseconds c
     ≡ subseconds_by c moment - origin c = div-add-mod' (subseconds_by c moment - origin c) (frame_subseconds c) in
-    let frames : frame * frame_subseconds c + 0 ≡ subseconds_by c moment - origin c = rw (found.frames, found.whole) at past in
+    let frames : frame * frame_subseconds c + 0 ≡ subseconds_by c moment - origin c = rw (found.frames, found.whole)
+    at past in
     let total : origin c + frame * frame_subseconds c ≡ moment.seconds * second + moment.subseconds =
     omega (arith, found.later) in
     rw (

@@ -1,5 +1,6 @@
 -- One PLP more has been looked at, in the loops over identifiers and over types.
-use Rattle.std.proofs.Common.{◌≡◌, ℕ, ◌+◌, ◌<◌, ◌≤◌, Bool, true, false, List, length, get_or, set, sym, ap, ◌∙◌, arith, inl, inr}
+use Rattle.std.proofs.Common.{◌≡◌, ℕ, ◌+◌, ◌<◌, ◌≤◌, Bool, true, false, List, length, get_or, set, sym, ap, ◌∙◌, arith}
+use Rattle.std.proofs.Common.{inl, inr}
 use Rattle.std.proofs.Common.{below_more, get_or-set_same, get_or-set_other}
 use Rattle.std.proofs.lemmas.Bool.{cases_eq, cases_lt, false≢true}
 use Rattle.std.proofs.lemmas.List.{get_or-replicate, length-replicate}
@@ -43,13 +44,16 @@ DistinctIds-more c seen place holds all new =
 pub seen-more : (c : Config) (seen : List Bool) (place : ℕ)
     → HoldsBelow (λ earlier. get_or seen (plp_at c.plps earlier).id false ≡ true) place
     → (plp_at c.plps place).id < length seen
-    → HoldsBelow (λ earlier. get_or (set seen (plp_at c.plps place).id true) (plp_at c.plps earlier).id false ≡ true) (place + 1)
+    → HoldsBelow (λ earlier. get_or (set seen (plp_at c.plps place).id true) (plp_at c.plps earlier).id false ≡ true)
+    (place + 1)
 seen-more c seen place all inside =
-    below_more (λ earlier. get_or (set seen (plp_at c.plps place).id true) (plp_at c.plps earlier).id false ≡ true) place
+    below_more (λ earlier. get_or (set seen (plp_at c.plps place).id true) (plp_at c.plps earlier).id false ≡ true)
+    place
     (λ earlier lt. elim (cases_eq (plp_at c.plps earlier).id (plp_at c.plps place).id) [
       | inl same ↦ ap (λ (id : ℕ). get_or (set seen (plp_at c.plps place).id true) id false) same
           ∙ get_or-set_same seen (plp_at c.plps place).id true false inside
-      | inr differ ↦ get_or-set_other seen (plp_at c.plps place).id (plp_at c.plps earlier).id true false differ ∙ all earlier lt
+      | inr differ ↦ get_or-set_other seen (plp_at c.plps place).id (plp_at c.plps earlier).id true false differ
+          ∙ all earlier lt
     ])
     (get_or-set_same seen (plp_at c.plps place).id true false inside)
 
@@ -73,5 +77,6 @@ none_seen n id on =
     elim (cases_lt id n) [
       | inl inside ↦ false≢true (sym (get_or-replicate n id false false inside) ∙ on)
       | inr past ↦
-          false≢true (sym (get_or-eq_default (replicate n false) false (omega (arith, length-replicate {A = Bool} n false))) ∙ on)
+          false≢true (sym (get_or-eq_default (replicate n false) false
+          (omega (arith, length-replicate {A = Bool} n false))) ∙ on)
     ]

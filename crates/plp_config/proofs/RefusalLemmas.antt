@@ -1,5 +1,6 @@
 -- A configuration has one refusal, and one want of capacity.
-use Rattle.std.proofs.Common.{◌≡◌, ℕ, ◌<◌, Bool, true, false, Option, Some, None, length, refl, sym, ap, subst, ◌∙◌, arith, inl}
+use Rattle.std.proofs.Common.{◌≡◌, ℕ, ◌<◌, Bool, true, false, Option, Some, None, length, refl, sym, ap, subst, ◌∙◌}
+use Rattle.std.proofs.Common.{arith, inl}
 use Rattle.std.proofs.Common.{inr}
 use Rattle.std.specs.Prelude.{MatchBool, IsSomeAnd, nat_le, unwrap_or}
 use Rattle.std.proofs.lemmas.Bool.{cases_lt}
@@ -22,7 +23,8 @@ same_least a b p q =
     ]
 
 -- a demand has one first failure
-same_failure : (holds : ℕ → Type 0) (count p q : ℕ) → IsFirstFailure holds count p → IsFirstFailure holds count q → p ≡ q
+same_failure : (holds : ℕ → Type 0) (count p q : ℕ) → IsFirstFailure holds count p → IsFirstFailure holds count q
+    → p ≡ q
 same_failure holds count p q first other =
     same_least p q (λ less. first.fails (other.before p less)) (λ less. other.fails (first.before q less))
 
@@ -61,7 +63,8 @@ one_test c fault other lacks again =
     let number : fault.test ≡ other.test = lacks.number ∙ ap test_number same ∙ sym again.number in
     let place : fault.plp ≡ other.plp =
     same_place (is_of_plps again.test) (PlaceFits again.test c) (length c.plps) fault.plp other.plp
-    (subst (λ (t : Test). MatchBool (is_of_plps t) (IsSomeAnd fault.plp (IsFirstFailure (PlaceFits t c) (length c.plps)))
+    (subst (λ (t : Test). MatchBool (is_of_plps t)
+    (IsSomeAnd fault.plp (IsFirstFailure (PlaceFits t c) (length c.plps)))
     (fault.plp ≡ None)) same lacks.place) again.place in
     let need : fault.need ≡ other.need = lacks.need ∙ ap (λ (t : Test). need_of t c (unwrap_or fault.plp 0)) same
     ∙ ap (λ (p : Option ℕ). need_of again.test c (unwrap_or p 0)) place ∙ sym again.need in

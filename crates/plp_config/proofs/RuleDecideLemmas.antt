@@ -1,16 +1,20 @@
 -- Every rule is decided, so a configuration satisfies all or has a refusal.
-use Rattle.std.proofs.Common.{◌≡◌, ◌≢◌, ◌⊎◌, ℕ, ◌+◌, ◌-◌, ◌%◌, ◌^◌, ◌<◌, ◌≤◌, length, min, Some, None, refl, ap, subst, ◌∙◌, inl, inr}
+use Rattle.std.proofs.Common.{◌≡◌, ◌≢◌, ◌⊎◌, ℕ, ◌+◌, ◌-◌, ◌%◌, ◌^◌, ◌<◌, ◌≤◌, length, min, Some, None, refl, ap, subst}
+use Rattle.std.proofs.Common.{◌∙◌, inl, inr}
 use Rattle.std.proofs.Common.{arith}
 use Rattle.std.proofs.Math.Decide.{dec_le, dec_lt, map_dec, ℕ_discrete}
 use Rattle.std.proofs.lemmas.Bool.{lt-leb}
-use Rattle.terms.proofs.DecisionLemmas.{as_sum, decide_not, decide_both, decide_three, decide_if, decide_case, first_other}
+use Rattle.terms.proofs.DecisionLemmas.{as_sum, decide_not, decide_both, decide_three, decide_if, decide_case}
+use Rattle.terms.proofs.DecisionLemmas.{first_other}
 use Rattle.terms.proofs.DecisionLemmas.{first_failure, decide_below}
-use Rattle.plp_config.proofs.RuleLemmas.{rule_at, rule_at-rule_number, rule_number-rule_at, rule_number-range, refused_at}
+use Rattle.plp_config.proofs.RuleLemmas.{rule_at, rule_at-rule_number, rule_number-rule_at, rule_number-range}
+use Rattle.plp_config.proofs.RuleLemmas.{refused_at}
 use Rattle.plp_config.specs.FirstFailure.{HoldsBelow}
 use Rattle.plp_config.specs.Laws.{RulesDecided}
 use Rattle.plp_config.specs.Plps.{plp_at, type_number, has_type2, spread}
 use Rattle.plp_config.specs.SlotTime.{epoch_ticks}
-use Rattle.plp_config.specs.Rules.{Rule, FrameDuration, SuperframeLength, LeastCells, StartTime, UtcOffset, PidRange, L1Fields}
+use Rattle.plp_config.specs.Rules.{Rule, FrameDuration, SuperframeLength, LeastCells, StartTime, UtcOffset, PidRange}
+use Rattle.plp_config.specs.Rules.{L1Fields}
 use Rattle.plp_config.specs.Rules.{SubSlices, PlpCount, DistinctIds, TypeOrder, BlockLimit, InterleaverLength, BitRate}
 use Rattle.plp_config.specs.Rules.{SpreadDivides, SpreadLength, EpochDuration, OneCommon, CommonRate, CommonShared}
 use Rattle.plp_config.specs.Rules.{IsCommonOf, IsInStep, HasCompany}
@@ -93,20 +97,23 @@ decide_place : (rule : Rule) (c : Config) (place : ℕ) → Dec (PlaceHolds rule
 decide_place DistinctIds c place =
     decide_below _ (λ earlier. decide_not (ℕ_discrete (plp_at c.plps earlier).id (plp_at c.plps place).id)) place
 decide_place TypeOrder c place =
-    decide_below _ (λ earlier. dec_le (type_number (plp_at c.plps earlier).plp_type) (type_number (plp_at c.plps place).plp_type))
+    decide_below _ (λ earlier. dec_le (type_number (plp_at c.plps earlier).plp_type)
+    (type_number (plp_at c.plps place).plp_type))
     place
 decide_place BlockLimit c place =
     decide_both (dec_le 1 (plp_at c.plps place).blocks) (dec_le (plp_at c.plps place).blocks MOST_BLOCKS)
 decide_place InterleaverLength c place = dec_le (plp_at c.plps place).interleave (min (plp_at c.plps place).blocks 255)
 decide_place BitRate c place = decide_both (dec_le 1 (plp_at c.plps place).bits_per_second)
     (dec_le (plp_at c.plps place).bits_per_second 72000000)
-decide_place SpreadDivides c place = decide_both (dec_le 1 (spread c.plps place)) (ℕ_discrete (c.frames % spread c.plps place) 0)
+decide_place SpreadDivides c place = decide_both (dec_le 1 (spread c.plps place))
+    (ℕ_discrete (c.frames % spread c.plps place) 0)
 decide_place SpreadLength c place =
     decide_if (dec_lt 1 (spread c.plps place)) (ℕ_discrete (plp_at c.plps place).interleave 1)
 decide_place EpochDuration c place = dec_lt (epoch_ticks c place) ISCR_TICKS
 decide_place OneCommon c place = decide_if (decide_common (plp_at c.plps place).plp_type)
     (decide_below _ (λ earlier. decide_not (decide_common_of c (plp_at c.plps place).group earlier)) place)
-decide_place CommonRate c place = decide_below _ (λ common. decide_if (decide_common_of c (plp_at c.plps place).group common)
+decide_place CommonRate c place = decide_below _
+    (λ common. decide_if (decide_common_of c (plp_at c.plps place).group common)
     (decide_in_step (plp_at c.plps place) (plp_at c.plps common))) (length c.plps)
 decide_place CommonShared c place = decide_if (decide_common (plp_at c.plps place).plp_type) (decide_company c place)
 decide_place FrameDuration c place = yes tt
@@ -128,7 +135,8 @@ decide_rule StartTime c = decide_three (dec_le 1 c.seconds) (dec_le c.seconds (2
 decide_rule UtcOffset c = dec_lt c.utco 8192
 decide_rule PidRange c = decide_both (dec_le 16 c.pid) (dec_le c.pid 8190)
 decide_rule L1Fields c = decide_l1 c.l1
-decide_rule SubSlices c = decide_case (has_type2 c.plps) (decide_both (dec_le 2 c.sub_slices) (dec_le c.sub_slices 6480))
+decide_rule SubSlices c = decide_case (has_type2 c.plps) (decide_both (dec_le 2 c.sub_slices)
+    (dec_le c.sub_slices 6480))
     (ℕ_discrete c.sub_slices 1)
 decide_rule PlpCount c = decide_both (dec_le 1 (length c.plps)) (dec_le (length c.plps) 255)
 decide_rule DistinctIds c = decide_below _ (decide_place DistinctIds c) (length c.plps)
@@ -147,11 +155,19 @@ abbrev Refused : Config → Type 0
 Refused c = (fault : ConfigFault) × Refuses c fault
 
 -- the refusal for a rule of the network
-refused_network : (c : Config) (rule : Rule) → rule_number rule < 10 → ¬ (RuleHolds rule c) → RulesBelow (rule_number rule) c
+refused_network : (c : Config) (rule : Rule) → rule_number rule < 10 → ¬ (RuleHolds rule c)
+    → RulesBelow (rule_number rule) c
     → Refused c
 refused_network c rule early fails lower = (
   record { rule = rule_number rule; plp = None },
-  record { rule = rule; number = refl; fails = fails; lower = lower; place = rw (lt-leb 10 (rule_number rule) early) refl },
+  record {
+    rule = rule;
+    number = refl;
+    fails = fails;
+    lower = lower;
+    place = rw (lt-leb 10 (rule_number rule) early)
+        refl;
+  },
 )
 
 -- the refusal for a rule of the PLPs

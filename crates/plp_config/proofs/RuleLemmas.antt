@@ -1,10 +1,12 @@
 -- The first rule that fails, from the tests of the rules in their order.
-use Rattle.std.proofs.Common.{◌≡◌, ℕ, zero, suc, ◌+◌, ◌-◌, ◌<◌, ◌≤◌, ◌↔◌, Bool, true, List, [], ◌∷◌, length, get_or, Option, Some}
+use Rattle.std.proofs.Common.{◌≡◌, ℕ, zero, suc, ◌+◌, ◌-◌, ◌<◌, ◌≤◌, ◌↔◌, Bool, true, List, [], ◌∷◌, length, get_or}
+use Rattle.std.proofs.Common.{Option, Some}
 use Rattle.std.proofs.Common.{None, MatchOption, IsTrue, refl, sym, ap, subst, ◌∙◌, arith, inl, inr}
 use Rattle.std.proofs.lemmas.Bool.{cases_eq, le-leb, lt-leb}
 use Rattle.std.specs.Option.{option_or}
 use Rattle.plp_config.specs.FirstFailure.{HoldsBelow, IsFirstFailure, FindsFailure}
-use Rattle.plp_config.specs.Rules.{Rule, FrameDuration, SuperframeLength, LeastCells, StartTime, UtcOffset, PidRange, L1Fields}
+use Rattle.plp_config.specs.Rules.{Rule, FrameDuration, SuperframeLength, LeastCells, StartTime, UtcOffset, PidRange}
+use Rattle.plp_config.specs.Rules.{L1Fields}
 use Rattle.plp_config.specs.Rules.{SubSlices, PlpCount, DistinctIds, TypeOrder, BlockLimit, InterleaverLength, BitRate}
 use Rattle.plp_config.specs.Rules.{SpreadDivides, SpreadLength, EpochDuration, OneCommon, CommonRate, CommonShared}
 use Rattle.plp_config.specs.Rules.{rule_number, PlaceHolds, RuleHolds, RulesBelow, AllRules, Refuses}
@@ -37,7 +39,8 @@ rule_number-range CommonShared = (omega arith, omega arith)
 
 -- the rule with a number
 pub rule_at : ℕ → Rule
-rule_at number = get_or (FrameDuration ∷ SuperframeLength ∷ LeastCells ∷ StartTime ∷ UtcOffset ∷ PidRange ∷ L1Fields ∷ SubSlices
+rule_at number = get_or (FrameDuration ∷ SuperframeLength ∷ LeastCells ∷ StartTime ∷ UtcOffset ∷ PidRange
+    ∷ L1Fields ∷ SubSlices
     ∷ PlpCount ∷ DistinctIds ∷ TypeOrder ∷ BlockLimit ∷ InterleaverLength ∷ BitRate ∷ SpreadDivides ∷ SpreadLength
     ∷ EpochDuration ∷ OneCommon ∷ CommonRate ∷ CommonShared ∷ []) (number - 1) CommonShared
 
@@ -82,12 +85,19 @@ rule_number-rule_at (suc (suc (suc (suc (suc (suc (suc (suc (suc (suc (suc zero)
 rule_number-rule_at (suc (suc (suc (suc (suc (suc (suc (suc (suc (suc (suc (suc zero)))))))))))) lt = refl
 rule_number-rule_at (suc (suc (suc (suc (suc (suc (suc (suc (suc (suc (suc (suc (suc zero))))))))))))) lt = refl
 rule_number-rule_at (suc (suc (suc (suc (suc (suc (suc (suc (suc (suc (suc (suc (suc (suc zero)))))))))))))) lt = refl
-rule_number-rule_at (suc (suc (suc (suc (suc (suc (suc (suc (suc (suc (suc (suc (suc (suc (suc zero))))))))))))))) lt = refl
-rule_number-rule_at (suc (suc (suc (suc (suc (suc (suc (suc (suc (suc (suc (suc (suc (suc (suc (suc zero)))))))))))))))) lt = refl
-rule_number-rule_at (suc (suc (suc (suc (suc (suc (suc (suc (suc (suc (suc (suc (suc (suc (suc (suc (suc zero))))))))))))))))) lt = refl
-rule_number-rule_at (suc (suc (suc (suc (suc (suc (suc (suc (suc (suc (suc (suc (suc (suc (suc (suc (suc (suc zero)))))))))))))))))) lt = refl
-rule_number-rule_at (suc (suc (suc (suc (suc (suc (suc (suc (suc (suc (suc (suc (suc (suc (suc (suc (suc (suc (suc zero))))))))))))))))))) lt = refl
-rule_number-rule_at (suc (suc (suc (suc (suc (suc (suc (suc (suc (suc (suc (suc (suc (suc (suc (suc (suc (suc (suc (suc n)))))))))))))))))))) lt =
+rule_number-rule_at (suc (suc (suc (suc (suc (suc (suc (suc (suc (suc (suc (suc (suc (suc (suc zero)))))))))))))))
+    lt = refl
+rule_number-rule_at (suc (suc (suc (suc (suc (suc (suc (suc (suc (suc (suc (suc (suc (suc (suc (suc zero))))))))))))))))
+    lt = refl
+rule_number-rule_at (suc (suc
+    (suc (suc (suc (suc (suc (suc (suc (suc (suc (suc (suc (suc (suc (suc (suc zero))))))))))))))))) lt = refl
+rule_number-rule_at (suc (suc
+    (suc (suc (suc (suc (suc (suc (suc (suc (suc (suc (suc (suc (suc (suc (suc (suc zero)))))))))))))))))) lt = refl
+rule_number-rule_at (suc (suc
+    (suc (suc (suc (suc (suc (suc (suc (suc (suc (suc (suc (suc (suc (suc (suc (suc (suc zero)))))))))))))))))))
+    lt = refl
+rule_number-rule_at (suc (suc
+    (suc (suc (suc (suc (suc (suc (suc (suc (suc (suc (suc (suc (suc (suc (suc (suc (suc (suc n)))))))))))))))))))) lt =
     absurd (omega arith)
 
 -- two rules with one number are one
@@ -142,7 +152,8 @@ Tried-or c rule None (Some p) other late whole parts tried finds told =
     rw (told (omega (arith, finds.inside))) (refused_at c rule p late whole tried finds)
 
 -- one rule of the PLPs more was tried
-pub Tried-more : (c : Config) (rule : Rule) (fault : Option ConfigFault) (place : Option ℕ) (other all : Option ConfigFault)
+pub Tried-more : (c : Config) (rule : Rule) (fault : Option ConfigFault) (place : Option ℕ)
+    (other all : Option ConfigFault)
     → 10 ≤ rule_number rule
     → (RuleHolds rule c → HoldsBelow (PlaceHolds rule c) (length c.plps))
     → (HoldsBelow (PlaceHolds rule c) (length c.plps) → RuleHolds rule c)
@@ -155,7 +166,8 @@ Tried-more c rule fault place other all late whole parts tried finds told is =
     rw is (Tried-or c rule fault place other late whole parts tried finds told)
 
 -- every rule was tried
-pub Tried-all : (c : Config) (fault : Option ConfigFault) → Tried 21 c fault → MatchOption fault (AllRules c) (Refuses c)
+pub Tried-all : (c : Config) (fault : Option ConfigFault) → Tried 21 c fault
+    → MatchOption fault (AllRules c) (Refuses c)
 Tried-all c None below = AllRules-from c below
 Tried-all c (Some fault) refuses = refuses
 
@@ -203,13 +215,15 @@ pub refused_by_test : (c : Config) (tests : List Bool) (place : ℕ) → length 
     → IsFirstFailure (λ k. IsTrue (get_or tests k true)) (length tests) place
     → Refuses c (record { rule = place + 1; plp = None })
 refused_by_test c tests place nine tells first =
-    let number : rule_number (rule_at (place + 1)) ≡ place + 1 = rule_number-rule_at place (omega (arith, first.inside)) in
+    let number : rule_number (rule_at (place + 1)) ≡ place + 1 = rule_number-rule_at place
+    (omega (arith, first.inside)) in
     let late : rule_number (rule_at (place + 1)) < 10 = omega (arith, number, first.inside) in
     let here : rule_number (rule_at (place + 1)) - 1 ≡ place = omega (arith, number) in
     record {
       rule = rule_at (place + 1);
       number = sym number;
-      fails = λ holds. first.fails (ap (λ (k : ℕ). get_or tests k true) (sym here) ∙ (tells (rule_at (place + 1)) late).1 holds);
+      fails = λ holds. first.fails (ap (λ (k : ℕ). get_or tests k true) (sym here)
+          ∙ (tells (rule_at (place + 1)) late).1 holds);
       lower = λ other lt. (tells other (omega (arith, late))).0
           (first.before (rule_number other - 1) (omega (arith, number, rule_number-range other)));
       place = rw (lt-leb 10 (rule_number (rule_at (place + 1))) late) refl;

@@ -23,7 +23,8 @@ le-last_tick c packets (suc n) plp lt = elim (cases_eq plp n) [
 ]
 
 -- a tick by which all are done is not before it
-last_tick-le : (c : Config) (packets : ℕ → ℕ) (tick n : ℕ) → HoldsBelow (λ plp. start c plp (packets plp) + delay c plp ≤ tick) n
+last_tick-le : (c : Config) (packets : ℕ → ℕ) (tick n : ℕ)
+    → HoldsBelow (λ plp. start c plp (packets plp) + delay c plp ≤ tick) n
     → last_tick c packets n ≤ tick
 unfolding last_tick
 last_tick-le c packets tick zero done = omega arith

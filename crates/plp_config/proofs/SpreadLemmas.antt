@@ -1,6 +1,6 @@
 -- Interleaving frames: how many frames carry one, and the cells in each.
 use Rattle.std.proofs.Common.{◌≡◌, ℕ, zero, suc, ◌+◌, ◌*◌, ◌/◌, ◌%◌, ◌<◌, ◌≤◌, cond, List, [], ◌∷◌, ◌++◌, length, max}
-use Rattle.std.proofs.Common.{take, sum_by, ap, sym, ◌∙◌, arith, inl, inr}
+use Rattle.std.proofs.Common.{take, sum_by, ap, ◌∙◌, arith, inl, inr}
 use Rattle.std.specs.Int.{div_ceil}
 use Rattle.std.proofs.Math.Nat.{div-mul-le_self, mul-le-mul_left, mul-le-mul_right, le_of_mul-le-mul_right, mul_assoc}
 use Rattle.std.proofs.Math.Nat.{mul_comm, add-mul}
@@ -31,7 +31,8 @@ spread_max-ge (p ∷ plps) zero lt = omega arith
 spread_max-ge (p ∷ plps) (suc plp) lt = omega (arith, spread_max-ge plps plp (omega arith))
 
 -- and of some PLPs one has it
-spread_max-reached : (p : Plp) (plps : List Plp) → (plp : ℕ) × (plp < length (p ∷ plps)) × (spread (p ∷ plps) plp ≡ spread_max (p ∷ plps))
+spread_max-reached : (p : Plp) (plps : List Plp) → (plp : ℕ) × (plp < length (p ∷ plps))
+    × (spread (p ∷ plps) plp ≡ spread_max (p ∷ plps))
 unfolding spread_max
 spread_max-reached p [] = (0, omega arith, omega arith)
 spread_max-reached p (q ∷ plps) =
@@ -41,7 +42,8 @@ spread_max-reached p (q ∷ plps) =
       | inr first ↦ (0, omega arith, omega arith)
     ]
 
-some_reached : (plps : List Plp) → 1 ≤ length plps → (plp : ℕ) × (plp < length plps) × (spread plps plp ≡ spread_max plps)
+some_reached : (plps : List Plp) → 1 ≤ length plps → (plp : ℕ) × (plp < length plps)
+    × (spread plps plp ≡ spread_max plps)
 some_reached [] some = absurd (omega arith)
 some_reached (p ∷ plps) some = spread_max-reached p plps
 
@@ -54,7 +56,8 @@ unfolding spread_max
 spread_max_push [] last = omega arith
 spread_max_push (p ∷ plps) last =
     let rest = spread_max_push plps last in
-    let whole : max p.spread (spread_max (plps ++ last ∷ [])) ≡ max (max p.spread (spread_max plps)) last.spread = omega arith in
+    let whole : max p.spread (spread_max (plps ++ last ∷ [])) ≡ max (max p.spread (spread_max plps))
+    last.spread = omega arith in
     whole
 
 pub spread_max_more : (plps : List Plp) (n : ℕ) → n < length plps
@@ -87,7 +90,8 @@ rooms frames (p ∷ plps) all =
     let here = room_part (p.blocks * cells_per_block p.fec p.modulation) p.spread frames (all 0 (omega arith)).0
     (all 0 (omega arith)).1 in
     let rest = rooms frames plps (λ plp lt. all (suc plp) (omega arith)) in
-    let both : (frame_room p + sum_by frame_room plps) * frames ≡ frame_room p * frames + sum_by frame_room plps * frames =
+    let both : (frame_room p + sum_by frame_room plps) * frames ≡ frame_room p * frames + sum_by frame_room
+    plps * frames =
     add-mul (frame_room p) (sum_by frame_room plps) frames in
     rw (sum_by-cons frame_room p plps, sum_by-cons (superframe_room frames) p plps) (omega (arith, here, rest, both))
 
@@ -99,7 +103,8 @@ rooms_fit c is =
     let need : div_ceil superframe c.frames ≤ c.cells = is.tests CellCount in
     let up : superframe ≤ div_ceil superframe c.frames * c.frames = div_ceil-ge superframe c.frames some in
     let most : div_ceil superframe c.frames * c.frames ≤ c.cells * c.frames = mul-le-mul_right c.frames need in
-    let each : sum_by frame_room c.plps * c.frames ≤ superframe = rooms c.frames c.plps (λ plp lt. is.rules SpreadDivides plp lt) in
+    let each : sum_by frame_room c.plps * c.frames ≤ superframe = rooms c.frames c.plps
+    (λ plp lt. is.rules SpreadDivides plp lt) in
     le_of_mul-le-mul_right {k = c.frames} (omega arith) some
 
 -- and for those of one PLP
@@ -120,10 +125,12 @@ all_blocks : (most : ℕ) (plps : List Plp)
 all_blocks most [] all = omega arith
 all_blocks most (p ∷ plps) all =
     let own : (1 ≤ p.spread) × (p.spread ≤ most) × (block_size p % p.spread ≡ 0) = all 0 (omega arith) in
-    let exact : p.spread * frame_room p ≡ p.blocks * block_size p = cut_whole p.blocks (block_size p) p.spread own.0 own.2 in
+    let exact : p.spread * frame_room p ≡ p.blocks * block_size p = cut_whole p.blocks (block_size p)
+    p.spread own.0 own.2 in
     let here : p.spread * frame_room p ≤ most * frame_room p = mul-le-mul_right (frame_room p) own.1 in
     let rest = all_blocks most plps (λ plp lt. all (suc plp) (omega arith)) in
-    let both : most * (frame_room p + sum_by frame_room plps) ≡ most * frame_room p + most * sum_by frame_room plps = omega arith in
+    let both : most * (frame_room p + sum_by frame_room plps) ≡ most * frame_room p + most * sum_by frame_room
+    plps = omega arith in
     rw (sum_by-cons (λ (plp : Plp). plp.blocks * block_size plp) p plps, sum_by-cons frame_room p plps)
     (omega (arith, exact, here, rest, both))
 

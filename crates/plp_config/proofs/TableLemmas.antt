@@ -1,16 +1,19 @@
 -- Facts of the tables, by computing over them.
-use Rattle.std.proofs.Common.{◌≡◌, ℕ, ◌*◌, ◌/◌, ◌%◌, ◌≤◌, Bool, true, false, cond, MatchBool, refl, ap, ◌∙◌, lit≤, arith}
+use Rattle.std.proofs.Common.{◌≡◌, ℕ, ◌*◌, ◌/◌, ◌%◌, ◌≤◌, Bool, true, false, cond, MatchBool, refl, lit≤, arith}
 use Rattle.std.specs.Int.{div_ceil}
 use Rattle.std.proofs.lemmas.Nat.{mul-le}
 use Rattle.plp_config.specs.Capacity.{block_bytes, field_bytes, block_cells, up_bytes, capacity, CellAddresses, IsPlan}
-use Rattle.plp_config.specs.Laws.{SlotLength, FrameTicks, FrameQuarter, FieldRange, BlockBits, UserPacketRange, CapacityHoldsUp}
-use Rattle.plp_config.specs.Laws.{CellsByFive, BlockChunks, EpochTicks, EpochAlone, SoundTimes}
+use Rattle.plp_config.specs.Laws.{SlotLength, FrameTicks, FrameQuarter, FieldRange, BlockBits, UserPacketRange}
+use Rattle.plp_config.specs.Laws.{CapacityHoldsUp}
+use Rattle.plp_config.specs.Laws.{CellsByFive, BlockChunks, EpochTicks, SoundTimes}
 use Rattle.plp_config.specs.Plps.{plp_at, has_type2, spread}
 use Rattle.plp_config.specs.Ranges.{HasRanges}
-use Rattle.plp_config.specs.Rules.{FrameDuration, SuperframeLength, LeastCells, SubSlices, PlpCount, BlockLimit, BitRate}
+use Rattle.plp_config.specs.Rules.{FrameDuration, SuperframeLength, LeastCells, SubSlices, PlpCount, BlockLimit}
+use Rattle.plp_config.specs.Rules.{BitRate}
 use Rattle.plp_config.specs.Rules.{SpreadDivides, EpochDuration}
 use Rattle.plp_config.specs.SlotTime.{num, den}
-use Rattle.plp_config.specs.Tables.{subseconds_per_second, subseconds_per_tick, greatest_ticks, info_bits, cells_per_block}
+use Rattle.plp_config.specs.Tables.{subseconds_per_second, subseconds_per_tick, greatest_ticks, info_bits}
+use Rattle.plp_config.specs.Tables.{cells_per_block}
 use Rattle.plp_config.specs.declared.config.Config.{Config}
 use Rattle.plp_config.specs.declared.band.Band.{Band}
 use Rattle.plp_config.specs.declared.band.Band.TheVariants.{Mhz1_7, Mhz5, Mhz6, Mhz7, Mhz8, Mhz10}
@@ -45,7 +48,8 @@ pub quarter : (band : Band) (ticks : ℕ) → ticks ≤ greatest_ticks band → 
 quarter band ticks h =
     let four : 4 * ticks ≤ 4 * greatest_ticks band = omega arith in
     let all : 4 * ticks * subseconds_per_tick band ≤ 4 * greatest_ticks band * subseconds_per_tick band =
-    mul-le (4 * ticks) (subseconds_per_tick band) (4 * greatest_ticks band) (subseconds_per_tick band) four (omega arith) in
+    mul-le (4 * ticks) (subseconds_per_tick band) (4 * greatest_ticks band) (subseconds_per_tick band)
+    four (omega arith) in
     omega (arith, greatest_quarter band)
 
 -- the sub-slices of either case
@@ -127,14 +131,16 @@ normal_cells Qam64 = lit≤ tt
 normal_cells Qam256 = lit≤ tt
 
 -- the chunks of a block of so many bytes and cells
-chunks_of : (bytes cells most : ℕ) → bytes ≤ 256 * (7 * most) → 2025 * most ≤ cells → div_ceil bytes 256 ≤ 7 * (cells / 2025)
+chunks_of : (bytes cells most : ℕ) → bytes ≤ 256 * (7 * most) → 2025 * most ≤ cells
+    → div_ceil bytes 256 ≤ 7 * (cells / 2025)
 chunks_of bytes cells most few many = omega arith
 
 -- the chunks of a block
 chunk_table : (fec : FecSize) (rate : Rate) (modulation : Modulation) → div_ceil (info_bits fec rate / 8) 256
     ≤ 7 * (cells_per_block fec modulation / 2025)
 chunk_table Normal rate modulation =
-    chunks_of (info_bits Normal rate / 8) (cells_per_block Normal modulation) 4 (omega (arith, (block_table Normal rate).1))
+    chunks_of (info_bits Normal rate / 8) (cells_per_block Normal modulation) 4
+    (omega (arith, (block_table Normal rate).1))
     (normal_cells modulation)
 chunk_table Short rate modulation =
     chunks_of (info_bits Short rate / 8) (cells_per_block Short modulation) 1 (omega (arith, short_bytes rate))

@@ -1,10 +1,13 @@
 -- Every test of the capacity is decided, so a configuration passes all or lacks something.
-use Rattle.std.proofs.Common.{◌≡◌, ℕ, ◌+◌, ◌-◌, ◌*◌, ◌%◌, true, false, length, Some, None, refl, ap, subst, ◌∙◌, inl, inr, arith}
+use Rattle.std.proofs.Common.{◌≡◌, ℕ, ◌+◌, ◌-◌, ◌*◌, ◌%◌, true, false, length, Some, None, refl, ap, subst, ◌∙◌, inl}
+use Rattle.std.proofs.Common.{inr, arith}
 use Rattle.std.proofs.Math.Decide.{dec_le, ℕ_discrete}
 use Rattle.terms.proofs.DecisionLemmas.{first_failure, decide_below}
 use Rattle.plp_config.proofs.CapacityLemmas.{test_at, test_at-test_number, test_number-test_at, test_number-range}
-use Rattle.plp_config.specs.Capacity.{Test, Throughput, CellCount, EvenParts, CellAddresses, RecordLength, test_number, is_of_plps}
-use Rattle.plp_config.specs.Capacity.{need_of, supply_of, block_cells, up_bytes, capacity, cell_need, block_parts, longest_rest}
+use Rattle.plp_config.specs.Capacity.{Test, Throughput, CellCount, EvenParts, CellAddresses, RecordLength, test_number}
+use Rattle.plp_config.specs.Capacity.{is_of_plps}
+use Rattle.plp_config.specs.Capacity.{need_of, supply_of, block_cells, up_bytes, capacity, cell_need, block_parts}
+use Rattle.plp_config.specs.Capacity.{longest_rest}
 use Rattle.plp_config.specs.Capacity.{PlaceFits, TestHolds, TestsBelow, Lacks}
 use Rattle.plp_config.specs.FirstFailure.{HoldsBelow}
 use Rattle.plp_config.specs.Laws.{TestsDecided}
@@ -31,11 +34,20 @@ abbrev Lacking : Config → Type 0
 Lacking c = (fault : CapacityFault) × Lacks c fault
 
 -- the refusal for a test of the frame
-lacks_frame : (c : Config) (test : Test) → is_of_plps test ≡ false → ¬ (TestHolds test c) → TestsBelow (test_number test) c
+lacks_frame : (c : Config) (test : Test) → is_of_plps test ≡ false → ¬ (TestHolds test c)
+    → TestsBelow (test_number test) c
     → Lacking c
 lacks_frame c test whole fails lower = (
   record { test = test_number test; plp = None; need = need_of test c 0; have = supply_of test c 0 },
-  record { test = test; number = refl; fails = fails; lower = lower; place = rw whole refl; need = refl; supply = refl },
+  record {
+    test = test;
+    number = refl;
+    fails = fails;
+    lower = lower;
+    place = rw whole refl;
+    need = refl;
+    supply = refl;
+  },
 )
 
 -- the refusal for a test of single PLPs
@@ -46,7 +58,13 @@ lacks_plp c test single parts fails lower =
     elim (first_failure (PlaceFits test c) (decide_place test c) (length c.plps)) [
       | inl all ↦ absurd (fails (parts all))
       | inr found ↦ (
-        record { test = test_number test; plp = Some found.0; need = need_of test c found.0; have = supply_of test c found.0 },
+        record {
+          test = test_number test;
+          plp = Some found.0;
+          need = need_of test c found.0;
+          have = supply_of
+              test c found.0;
+        },
         record {
           test = test;
           number = refl;

@@ -1,13 +1,17 @@
 -- Starts, counts and ranges of slots, for epochs of any number of ticks.
-use Rattle.std.proofs.Common.{◌≡◌, ◌≢◌, ℕ, zero, suc, ◌+◌, ◌-◌, ◌*◌, ◌/◌, ◌%◌, ◌^◌, ◌<◌, ◌≤◌, ◌↔◌, sym, ap, ◌∙◌, arith, inl, inr}
-use Rattle.std.proofs.Math.Nat.{le-div_iff_mul-le, div-lt_iff_lt-mul, mul-le-mul_left, mul-le-mul_right, lt_of_mul-lt-mul_right}
+use Rattle.std.proofs.Common.{◌≡◌, ◌≢◌, ℕ, zero, suc, ◌+◌, ◌-◌, ◌*◌, ◌/◌, ◌%◌, ◌^◌, ◌<◌, ◌≤◌, ◌↔◌, sym, ap, ◌∙◌, arith}
+use Rattle.std.proofs.Common.{inl, inr}
+use Rattle.std.proofs.Math.Nat.{le-div_iff_mul-le, div-lt_iff_lt-mul, mul-le-mul_left, mul-le-mul_right}
+use Rattle.std.proofs.Math.Nat.{lt_of_mul-lt-mul_right}
 use Rattle.std.proofs.Math.Nat.{le_of_mul-le-mul_right, add-mul, mul_assoc}
 use Rattle.std.proofs.lemmas.Nat.{div-add-mod'}
 use Rattle.std.proofs.lemmas.Grind.{div_ceil_times}
 use Rattle.std.proofs.lemmas.Bool.{cases_lt, cases_order}
 use Rattle.std.specs.Int.{div_ceil}
-use Rattle.plp_config.specs.SlotTime.{slot_start, slot_count, InRange, tick_of_iscr, delay_ticks, released_count, window_slots}
-use Rattle.plp_config.specs.Laws.{StartsBefore, StartsFrom, StartsAt, OverBy, NotOverBy, CountReaches, StartRises, CountRises}
+use Rattle.plp_config.specs.SlotTime.{slot_start, slot_count, InRange, tick_of_iscr, delay_ticks, released_count}
+use Rattle.plp_config.specs.SlotTime.{window_slots}
+use Rattle.plp_config.specs.Laws.{StartsBefore, StartsFrom, StartsAt, OverBy, NotOverBy, CountReaches, StartRises}
+use Rattle.plp_config.specs.Laws.{CountRises}
 use Rattle.plp_config.specs.Laws.{NoneAtZero, EndsAfterStart, StartsApart, RangesPartition, RangeBounds, SpansEpoch}
 use Rattle.plp_config.specs.Laws.{OneSlotPerIscr, IscrFindsSlot, DelayOutlasts, ReleasedFirst, ReleasedOld, WindowHolds}
 
@@ -40,7 +44,11 @@ starts_from num den slot tick pos = le-div_iff_mul-le pos
 
 pub starts_at : StartsAt
 starts_at num den slot tick pos = (
-  (λ at. ((starts_from num den slot tick pos).0 (omega arith), (starts_before num den slot (tick + 1) pos).0 (omega arith))),
+  (λ at. (
+    (starts_from num den slot tick pos).0 (omega arith),
+    (starts_before num den slot (tick + 1) pos).0
+        (omega arith),
+  )),
   (λ at. omega (arith, (starts_from num den slot tick pos).1 at.0, (starts_before num den slot (tick + 1) pos).1 at.1)),
 )
 
@@ -133,7 +141,11 @@ ranges_partition num den epoch slot pos den_pos long =
     let length : 0 < epoch * den = omega (arith, mul-le-mul_right {m = 1} {n = epoch} den long) in
     let m = div_ceil end (epoch * den) in
     let some : 0 < m =
-    (lt-div_ceil end (epoch * den) 0 length).1 (omega (arith, mul-le-mul_right {m = 1} {n = slot + 1} num (omega arith))) in
+    (lt-div_ceil end (epoch * den) 0 length).1 (omega (
+      arith,
+      mul-le-mul_right {m = 1} {n = slot + 1}
+          num (omega arith),
+    )) in
     let low : (m - 1) * (epoch * den) < end = (lt-div_ceil end (epoch * den) (m - 1) length).0 (omega arith) in
     let high : end ≤ m * (epoch * den) = div_ceil-ge end (epoch * den) length in
     let early : (m - 1) * epoch * den ≡ (m - 1) * (epoch * den) = mul_assoc (m - 1) epoch den in
@@ -195,7 +207,8 @@ mod_apart a b k lt near same =
 
 pub one_slot_per_iscr : OneSlotPerIscr
 one_slot_per_iscr num den epoch m slot later pos long short range other lt =
-    let span : (slot_start num den slot < slot_start num den later) × (slot_start num den later ≤ slot_start num den slot + epoch)
+    let span : (slot_start num den slot < slot_start num den later)
+    × (slot_start num den later ≤ slot_start num den slot + epoch)
     = spans_epoch num den epoch m slot later pos long range other lt in
     mod_apart (slot_start num den slot) (slot_start num den later) (2 ^ 22) span.0 (omega (arith, span.1))
 
@@ -226,7 +239,11 @@ iscr_finds_slot num den epoch m slot pos long short range =
     let from : slot_start num den first ≤ slot_start num den slot = start_rises num den first slot pos range.0 in
     let near : slot_start num den slot < slot_start num den first + 2 ^ 22 = elim (cases_lt first slot) [
       | inl later ↦
-          omega (arith, (spans_epoch num den epoch m first slot pos long (omega arith, omega (arith, range.1)) range later).1)
+          omega (
+            arith,
+            (spans_epoch num den epoch m first slot pos long (omega arith, omega (arith, range.1))
+                range later).1,
+          )
       | inr same ↦ omega (arith, start_rises num den slot first pos same)
     ] in
     let tick : tick_of_iscr (slot_start num den first) (slot_start num den slot % 2 ^ 22) ≡ slot_start num den slot
@@ -243,17 +260,20 @@ delay_outlasts num den epoch m slot pos den_pos range =
     let late : (slot + 1) * num < (start + 1 + div_ceil num den) * den = ends_after_start num den slot den_pos in
     let before : (m - 1) * epoch < start + 1 + div_ceil num den = lt_of_mul-lt-mul_right den (omega (arith, bounds)) in
     let whole : m + 2 ≡ m - 1 + 3 = omega (arith, bounds.0) in
-    let three : (m + 2) * epoch ≡ (m - 1) * epoch + 3 * epoch = ap (λ (k : ℕ). k * epoch) whole ∙ add-mul (m - 1) 3 epoch in
+    let three : (m + 2) * epoch ≡ (m - 1) * epoch + 3 * epoch = ap (λ (k : ℕ). k * epoch) whole
+    ∙ add-mul (m - 1) 3 epoch in
     omega arith
 
 pub released_first : ReleasedFirst
 released_first num den delay tick slot pos den_pos = (
   (λ below.
-      let product : slot * num < (tick + 1 - delay) * den = (lt-div_ceil ((tick + 1 - delay) * den) num slot pos).0 below in
+      let product : slot * num < (tick + 1 - delay) * den = (lt-div_ceil ((tick + 1 - delay) * den) num slot pos).0
+      below in
       omega (arith, (starts_before num den slot (tick + 1 - delay) den_pos).1 product)),
   (λ early.
       let before : slot_start num den slot < tick + 1 - delay = omega arith in
-      (lt-div_ceil ((tick + 1 - delay) * den) num slot pos).1 ((starts_before num den slot (tick + 1 - delay) den_pos).0 before)),
+      (lt-div_ceil ((tick + 1 - delay) * den) num slot pos).1 ((starts_before num den slot (tick + 1 - delay) den_pos).0
+      before)),
 )
 
 pub released_old : ReleasedOld
@@ -289,7 +309,8 @@ held_slots num den delay tick first pos den_pos released =
 pub window_holds : WindowHolds
 window_holds num den delay ticks tick first pos den_pos released =
     let count = slot_count num den tick in
-    let all : (delay + ticks) * den ≤ div_ceil ((delay + ticks) * den) num * num = div_ceil-ge ((delay + ticks) * den) num pos in
+    let all : (delay + ticks) * den ≤ div_ceil ((delay + ticks) * den) num * num = div_ceil-ge ((delay + ticks) * den)
+    num pos in
     let held : (count - first) * num ≤ delay * den = held_slots num den delay tick first pos den_pos released in
     let within : count - first ≤ div_ceil ((delay + ticks) * den) num =
     le_of_mul-le-mul_right (omega (arith, add-mul delay ticks den)) pos in

@@ -1,5 +1,6 @@
 -- What a block holds, and whether the PLPs fit their frames.
-use Rattle.std.specs.Prelude.{◌≡◌, ℕ, ◌+◌, ◌-◌, ◌*◌, ◌/◌, ◌%◌, ◌<◌, ◌≤◌, Bool, true, false, None, length, sum_by, unwrap_or, MatchBool}
+use Rattle.std.specs.Prelude.{◌≡◌, ℕ, ◌+◌, ◌-◌, ◌*◌, ◌/◌, ◌%◌, ◌<◌, ◌≤◌, Bool, true, false, None, length, sum_by}
+use Rattle.std.specs.Prelude.{unwrap_or, MatchBool}
 use Rattle.std.specs.Prelude.{IsSomeAnd, if◌then◌else◌}
 use Rattle.std.specs.Int.{div_ceil}
 use Rattle.plp_config.specs.FirstFailure.{HoldsBelow, IsFirstFailure}
@@ -8,7 +9,8 @@ use Rattle.plp_config.specs.Rules.{AllRules}
 use Rattle.plp_config.specs.SlotTime.{num, den, epoch_ticks}
 use Rattle.plp_config.specs.Tables.{info_bits, cells_per_block}
 use Rattle.plp_config.specs.declared.config.Config.{Config}
-use Rattle.plp_config.specs.declared.config.TheConstants.{GREATEST_REST, MOST_CELLS, FIXED_REST, L1_POST_BITS, L1_POST_PLP_BITS}
+use Rattle.plp_config.specs.declared.config.TheConstants.{GREATEST_REST, MOST_CELLS, FIXED_REST, L1_POST_BITS}
+use Rattle.plp_config.specs.declared.config.TheConstants.{L1_POST_PLP_BITS}
 use Rattle.plp_config.specs.declared.capacity.CapacityFault.{CapacityFault}
 use Rattle.plp_config.specs.declared.plp.Plp.{Plp}
 
@@ -51,9 +53,11 @@ block_parts c plp = (if is_type2 (plp_at c.plps plp).plp_type then c.sub_slices 
 abbrev pub block_room : Plp → ℕ
 block_room plp = plp.blocks * (4 + info_bits plp.fec plp.rate / 8)
 
--- bytes of a record of a frame at most, behind its head: L1-pre and three counts, L1-post, the words of the cells, and the blocks
+-- bytes of a record of a frame at most, behind its head: L1-pre and three counts, L1-post, the words of the cells, and
+-- the blocks
 unfoldable pub longest_rest : Config → ℕ
-longest_rest c = FIXED_REST + div_ceil (L1_POST_BITS + L1_POST_PLP_BITS * length c.plps) 8 + 4 * c.cells + sum_by block_room c.plps
+longest_rest c = FIXED_REST + div_ceil (L1_POST_BITS + L1_POST_PLP_BITS * length c.plps) 8 + 4 * c.cells + sum_by
+    block_room c.plps
 
 -- The tests of the capacity. A test's number is its place, from 1.
 pub data Test : Type 0 where
@@ -114,8 +118,8 @@ is_of_plps EvenParts = true
 is_of_plps CellAddresses = false
 is_of_plps RecordLength = false
 
--- the refusal for want of capacity: the least test that fails, the first place where it fails if it is one of the PLPs, and
--- what it needs there and what there is
+-- the refusal for want of capacity: the least test that fails, the first place where it fails if it is one of the PLPs,
+-- and what it needs there and what there is
 pub record Lacks (c : Config) (fault : CapacityFault) : Type 0 where
   pub test : Test
   pub number : fault.test ≡ test_number test

@@ -6,4 +6,5 @@ use Rattle.plp_config.specs.declared.capacity.CapacityFault.{CapacityFault}
 
 -- the answer of one test: None if it holds, else the refusal, if the tests before hold
 abbrev pub AnswersTest : Test → Config → Option CapacityFault → Type 0
-AnswersTest test c answer = MatchOption answer (TestHolds test c) (λ fault. TestsBelow (test_number test) c → Lacks c fault)
+AnswersTest test c answer = MatchOption answer (TestHolds test c) (λ fault. TestsBelow (test_number test) c
+    → Lacks c fault)

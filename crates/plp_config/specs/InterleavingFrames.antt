@@ -1,5 +1,5 @@
--- Interleaving frames (EN 302 755, clause 6.5): of a PLP with spread P the one with number m is carried by the frames m P to
--- m P + P - 1.
+-- Interleaving frames (EN 302 755, clause 6.5): of a PLP with spread P the one with number m is carried by the frames m
+-- P to m P + P - 1.
 use Rattle.std.specs.Prelude.{ℕ, ◌-◌, ◌/◌, ◌%◌, ◌==◌, Bool}
 use Rattle.plp_config.specs.Plps.{spread}
 use Rattle.plp_config.specs.declared.config.Config.{Config}

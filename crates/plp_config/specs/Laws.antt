@@ -1,9 +1,12 @@
--- Laws of the times and the tables, for the crates above. A slot lasts num / den ticks, and an epoch is any number of ticks.
+-- Laws of the times and the tables, for the crates above. A slot lasts num / den ticks, and an epoch is any number of
+-- ticks.
 use Rattle.std.specs.Prelude.{◌≡◌, ◌≢◌, ◌⊎◌, ℕ, true, ◌+◌, ◌-◌, ◌*◌, ◌/◌, ◌%◌, ◌^◌, ◌<◌, ◌≤◌, ◌↔◌, length, sum_by}
 use Rattle.std.specs.Prelude.{if◌then◌else◌}
 use Rattle.std.specs.Int.{div_ceil}
-use Rattle.plp_config.specs.Capacity.{block_bytes, field_bytes, block_cells, up_bytes, capacity, frame_room, AllTests, Lacks}
-use Rattle.plp_config.specs.Capacity.{IsPlan, PlaceFits, TestHolds, Throughput, CellCount, CellAddresses, RecordLength, cell_need}
+use Rattle.plp_config.specs.Capacity.{block_bytes, field_bytes, block_cells, up_bytes, capacity, frame_room, AllTests}
+use Rattle.plp_config.specs.Capacity.{Lacks}
+use Rattle.plp_config.specs.Capacity.{IsPlan, PlaceFits, TestHolds, Throughput, CellCount, CellAddresses, RecordLength}
+use Rattle.plp_config.specs.Capacity.{cell_need}
 use Rattle.plp_config.specs.Capacity.{block_parts}
 use Rattle.plp_config.specs.Emission.{subseconds_by, origin, frame_subseconds, emission, FindsFrame}
 use Rattle.plp_config.specs.InterleavingFrames.{interleaving_frame, is_first, begin_of}
@@ -17,7 +20,8 @@ use Rattle.plp_config.specs.declared.config.Config.{Config}
 use Rattle.plp_config.specs.declared.moment.Moment.{Moment}
 use Rattle.plp_config.specs.declared.plp.TheConstants.{MOST_FIELD_BYTES}
 use Rattle.plp_config.specs.declared.rules.ConfigFault.{ConfigFault}
-use Rattle.plp_config.specs.SlotTime.{num, den, slot_start, slot_count, InRange, iscr_slot, delay, delay_ticks, released_count}
+use Rattle.plp_config.specs.SlotTime.{num, den, slot_start, slot_count, InRange, iscr_slot, delay, delay_ticks}
+use Rattle.plp_config.specs.SlotTime.{released_count}
 use Rattle.plp_config.specs.SlotTime.{window_slots, IsReleased, epoch_ticks}
 use Rattle.plp_config.specs.SlotTimes.{slot_times, AreSlotTimes}
 
@@ -56,11 +60,13 @@ NoneAtZero = (num den : ℕ) → 0 < num → slot_count num den 0 ≡ 0
 
 -- a slot has ended one slot's length, rounded up, after the tick in which it starts
 abbrev pub EndsAfterStart : Type 0
-EndsAfterStart = (num den slot : ℕ) → 0 < den → (slot + 1) * num < (slot_start num den slot + 1 + div_ceil num den) * den
+EndsAfterStart = (num den slot : ℕ) → 0 < den → (slot + 1) * num < (slot_start num den slot + 1 + div_ceil num den)
+    * den
 
 -- if a slot lasts a tick or more, no two slots start in one tick
 abbrev pub StartsApart : Type 0
-StartsApart = (num den slot later : ℕ) → 0 < den → den ≤ num → slot < later → slot_start num den slot < slot_start num den later
+StartsApart = (num den slot later : ℕ) → 0 < den → den ≤ num → slot < later
+    → slot_start num den slot < slot_start num den later
 
 -- each slot is in the range of exactly one epoch, and that is not epoch 0
 pub record IsOnlyEpoch (num den epoch slot m : ℕ) : Type 0 where
@@ -78,9 +84,11 @@ RangeBounds = (num den epoch m slot : ℕ) → 0 < num → InRange num den epoch
 
 -- two slots of one epoch start an epoch apart at most
 abbrev pub SpansEpoch : Type 0
-SpansEpoch = (num den epoch m slot later : ℕ) → 0 < den → den ≤ num → InRange num den epoch m slot → InRange num den epoch m later
+SpansEpoch = (num den epoch m slot later : ℕ) → 0 < den → den ≤ num → InRange num den epoch m slot
+    → InRange num den epoch m later
     → slot < later
-    → (slot_start num den slot < slot_start num den later) × (slot_start num den later ≤ slot_start num den slot + epoch)
+    → (slot_start num den slot < slot_start num den later)
+    × (slot_start num den later ≤ slot_start num den slot + epoch)
 
 -- ISCR, the start of a slot modulo 2^22, tells the slots of an epoch apart. Both premises are needed
 abbrev pub OneSlotPerIscr : Type 0
@@ -110,7 +118,8 @@ ReleasedByFrame = (c : Config) (plp frame slot : ℕ) → AllRules c → plp < l
 
 -- a slot that is given out has been over for three epochs
 abbrev pub ReleasedOld : Type 0
-ReleasedOld = (num den epoch tick slot : ℕ) → 0 < num → 0 < den → slot < released_count num den (delay_ticks num den epoch) tick
+ReleasedOld = (num den epoch tick slot : ℕ) → 0 < num → 0 < den
+    → slot < released_count num den (delay_ticks num den epoch) tick
     → (3 * epoch ≤ tick) × (slot < slot_count num den (tick - 3 * epoch))
 
 -- between the slots given out by a tick and those over by it lie no more than a window
@@ -128,12 +137,14 @@ EmissionsDiffer = (c : Config) (frame other : ℕ) → AllRules c → emission c
 
 -- which frame leaves at a moment
 abbrev pub EmissionFound : Type 0
-EmissionFound = (c : Config) (moment : Moment) (frame : ℕ) → AllRules c → (moment ≡ emission c frame) ↔ FindsFrame c moment frame
+EmissionFound = (c : Config) (moment : Moment) (frame : ℕ) → AllRules c → (moment ≡ emission c frame)
+    ↔ FindsFrame c moment frame
 
 -- the emissions of a run fit a timestamp, and are neither relative (0 seconds) nor null (all ones)
 abbrev pub EmissionFits : Type 0
 EmissionFits = (c : Config) (frame : ℕ) → AllRules c → frame < 2 ^ 32
-    → (1 ≤ (emission c frame).seconds) × ((emission c frame).seconds < 2 ^ 40 - 1) × ((emission c frame).subseconds < 2 ^ 27)
+    → (1 ≤ (emission c frame).seconds) × ((emission c frame).seconds < 2 ^ 40 - 1)
+    × ((emission c frame).subseconds < 2 ^ 27)
 
 -- `frame_count` is the least number of whole superframes that is enough
 abbrev pub FrameCountLeast : Type 0
@@ -207,10 +218,12 @@ BeginsInSuperframe = (c : Config) (plp frame : ℕ) → AllRules c → plp < len
 
 -- of the frames up to one, `begin_of` is the last in which one begins
 abbrev pub BeginIsFirst : Type 0
-BeginIsFirst = (c : Config) (plp frame : ℕ) → AllRules c → plp < length c.plps → is_first c plp (begin_of c plp frame) ≡ true
+BeginIsFirst = (c : Config) (plp frame : ℕ) → AllRules c → plp < length c.plps
+    → is_first c plp (begin_of c plp frame) ≡ true
 
 abbrev pub BeginIsLast : Type 0
-BeginIsLast = (c : Config) (plp frame first : ℕ) → AllRules c → plp < length c.plps → is_first c plp first ≡ true → first ≤ frame
+BeginIsLast = (c : Config) (plp frame first : ℕ) → AllRules c → plp < length c.plps → is_first c plp first ≡ true
+    → first ≤ frame
     → first ≤ begin_of c plp frame
 
 -- interleaving frame m begins in frame m P
@@ -224,7 +237,8 @@ BeginAlone = (c : Config) (plp frame : ℕ) → StandsAlone c.plps plp
 
 -- a frame lasts a quarter of a second at most
 abbrev pub FrameQuarter : Type 0
-FrameQuarter = (c : Config) → AllRules c → (1 ≤ frame_subseconds c) × (4 * frame_subseconds c ≤ subseconds_per_second c.band)
+FrameQuarter = (c : Config) → AllRules c → (1 ≤ frame_subseconds c)
+    × (4 * frame_subseconds c ≤ subseconds_per_second c.band)
 
 -- the sizes of blocks: a data field is longer than a user packet, and shorter than 65,535 bits
 abbrev pub FieldRange : Type 0
@@ -250,22 +264,24 @@ CellsInParts = (c : Config) (plp : ℕ) → IsPlan c → plp < length c.plps →
 abbrev pub RoomsFit : Type 0
 RoomsFit = (c : Config) → IsPlan c → sum_by frame_room c.plps ≤ c.cells
 
--- all blocks of the interleaving frames that a frame carries have no more cells than as many frames as the greatest spread
+-- all blocks of the interleaving frames that a frame carries have no more cells than as many frames as the greatest
+-- spread
 abbrev pub BlocksFit : Type 0
 BlocksFit = (c : Config) → IsPlan c
     → sum_by (λ plp. plp.blocks * cells_per_block plp.fec plp.modulation) c.plps ≤ spread_max c.plps * c.cells
 
 -- the time interleaver has five columns a block
 abbrev pub CellsByFive : Type 0
-CellsByFive = (c : Config) (plp : ℕ) → (block_cells c plp % 5 ≡ 0) × (2025 ≤ block_cells c plp) × (block_cells c plp ≤ 32400)
+CellsByFive = (c : Config) (plp : ℕ) → (block_cells c plp % 5 ≡ 0) × (2025 ≤ block_cells c plp)
+    × (block_cells c plp ≤ 32400)
 
 -- the chunks of 256 bytes that a block fills are 7 for each 2,025 cells at most
 abbrev pub BlockChunks : Type 0
 BlockChunks = (c : Config) (plp : ℕ) → div_ceil (block_bytes c plp) 256 ≤ 7 * (block_cells c plp / 2025)
 
--- If each interleaving frame is carried by one frame, the tests of the capacity are those of single frames: the blocks of a
--- frame carry what arrives in its time, the cells of all blocks fit it, a block of type 2 is parted by its sub-slices alone,
--- and no record is too long.
+-- If each interleaving frame is carried by one frame, the tests of the capacity are those of single frames: the blocks
+-- of a frame carry what arrives in its time, the cells of all blocks fit it, a block of type 2 is parted by its
+-- sub-slices alone, and no record is too long.
 pub record FitsByFrames (c : Config) : Type 0 where
   pub throughput : (plp : ℕ) → plp < length c.plps
       → PlaceFits Throughput c plp ↔ (up_bytes c plp * c.ticks * den c plp ≤ capacity c plp * num c)

@@ -56,7 +56,8 @@ rule_number OneCommon = 18
 rule_number CommonRate = 19
 rule_number CommonShared = 20
 
--- each number fits its field of L1-pre, and S2 is even (EN 302 755, clause 7.2.2); TX_ID_AVAILABILITY has 8 bits, as its type
+-- each number fits its field of L1-pre, and S2 is even (EN 302 755, clause 7.2.2); TX_ID_AVAILABILITY has 8 bits, as
+-- its type
 pub record FitsL1 (l1 : L1Numbers) : Type 0 where
   pub bwt_ext : l1.bwt_ext < 2 ^ 1
   pub s2 : l1.s2 < 2 ^ 4
@@ -88,15 +89,18 @@ HasCompany c place = (other : ℕ) × (other < length c.plps) × (other ≢ plac
 abbrev pub PlaceHolds : Rule → Config → ℕ → Type 0
 PlaceHolds DistinctIds c place = HoldsBelow (λ earlier. (plp_at c.plps earlier).id ≢ (plp_at c.plps place).id) place
 PlaceHolds TypeOrder c place =
-    HoldsBelow (λ earlier. type_number (plp_at c.plps earlier).plp_type ≤ type_number (plp_at c.plps place).plp_type) place
+    HoldsBelow (λ earlier. type_number (plp_at c.plps earlier).plp_type ≤ type_number (plp_at c.plps place).plp_type)
+    place
 PlaceHolds BlockLimit c place = (1 ≤ (plp_at c.plps place).blocks) × ((plp_at c.plps place).blocks ≤ MOST_BLOCKS)
 PlaceHolds InterleaverLength c place = (plp_at c.plps place).interleave ≤ min (plp_at c.plps place).blocks 255
-PlaceHolds BitRate c place = (1 ≤ (plp_at c.plps place).bits_per_second) × ((plp_at c.plps place).bits_per_second ≤ 72000000)
+PlaceHolds BitRate c place = (1 ≤ (plp_at c.plps place).bits_per_second)
+    × ((plp_at c.plps place).bits_per_second ≤ 72000000)
 PlaceHolds SpreadDivides c place = (1 ≤ spread c.plps place) × (c.frames % spread c.plps place ≡ 0)
 PlaceHolds SpreadLength c place = 1 < spread c.plps place → (plp_at c.plps place).interleave ≡ 1
 PlaceHolds EpochDuration c place = epoch_ticks c place < ISCR_TICKS
 PlaceHolds OneCommon c place =
-    (plp_at c.plps place).plp_type ≡ Common → HoldsBelow (λ earlier. ¬ (IsCommonOf c (plp_at c.plps place).group earlier)) place
+    (plp_at c.plps place).plp_type ≡ Common
+    → HoldsBelow (λ earlier. ¬ (IsCommonOf c (plp_at c.plps place).group earlier)) place
 PlaceHolds CommonRate c place = HoldsBelow (λ common. IsCommonOf c (plp_at c.plps place).group common
     → IsInStep (plp_at c.plps place) (plp_at c.plps common)) (length c.plps)
 PlaceHolds CommonShared c place = (plp_at c.plps place).plp_type ≡ Common → HasCompany c place
@@ -123,11 +127,13 @@ AllRules c = (rule : Rule) → RuleHolds rule c
 abbrev pub RulesBelow : ℕ → Config → Type 0
 RulesBelow number c = (rule : Rule) → rule_number rule < number → RuleHolds rule c
 
--- the refusal of a configuration: the least rule that fails and, for the rules of the PLPs, the first place where it fails
+-- the refusal of a configuration: the least rule that fails and, for the rules of the PLPs, the first place where it
+-- fails
 pub record Refuses (c : Config) (fault : ConfigFault) : Type 0 where
   pub rule : Rule
   pub number : fault.rule ≡ rule_number rule
   pub fails : ¬ (RuleHolds rule c)
   pub lower : RulesBelow (rule_number rule) c
-  pub place : MatchBool (nat_le 10 (rule_number rule)) (IsSomeAnd fault.plp (IsFirstFailure (PlaceHolds rule c) (length c.plps)))
+  pub place : MatchBool (nat_le 10 (rule_number rule))
+      (IsSomeAnd fault.plp (IsFirstFailure (PlaceHolds rule c) (length c.plps)))
       (fault.plp ≡ None)

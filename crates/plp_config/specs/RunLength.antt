@@ -16,7 +16,8 @@ frame_count c packets = div_ceil (last_tick c packets (length c.plps)) (c.frames
 
 -- the delay has passed for all packets by the end of so many frames
 abbrev pub IsEnough : Config → (ℕ → ℕ) → ℕ → Type 0
-IsEnough c packets frames = HoldsBelow (λ plp. start c plp (packets plp) + delay c plp ≤ frames * c.ticks) (length c.plps)
+IsEnough c packets frames = HoldsBelow (λ plp. start c plp (packets plp) + delay c plp ≤ frames * c.ticks)
+    (length c.plps)
 
 -- the least number of whole superframes that is enough, in frames
 pub record IsFrameCount (c : Config) (packets : ℕ → ℕ) (frames : ℕ) : Type 0 where

@@ -1,5 +1,5 @@
--- Slots and ticks. A PLP of R bit/s has one slot for the 1504 bits of a transport packet. In ticks, elementary periods T,
--- a slot lasts num / den, with num = 1504 Q and den = R M: a second has Q subseconds, and a tick M.
+-- Slots and ticks. A PLP of R bit/s has one slot for the 1504 bits of a transport packet. In ticks, elementary periods
+-- T, a slot lasts num / den, with num = 1504 Q and den = R M: a second has Q subseconds, and a tick M.
 use Rattle.std.specs.Prelude.{◌≡◌, ℕ, ◌+◌, ◌-◌, ◌*◌, ◌/◌, ◌%◌, ◌^◌, ◌<◌, ◌≤◌}
 use Rattle.std.specs.Int.{div_ceil, IsGcd}
 use Rattle.plp_config.specs.Plps.{plp_at, spread}
@@ -14,7 +14,8 @@ slot_start num den slot = slot * num / den
 abbrev pub slot_count : ℕ → ℕ → ℕ → ℕ
 slot_count num den tick = tick * den / num
 
--- the slots that end in epoch m, if an epoch is so many ticks: after tick (m - 1) * epoch, and at tick m * epoch at the latest
+-- the slots that end in epoch m, if an epoch is so many ticks: after tick (m - 1) * epoch, and at tick m * epoch at the
+-- latest
 abbrev pub InRange : ℕ → ℕ → ℕ → ℕ → ℕ → Type 0
 InRange num den epoch m slot = (slot_count num den ((m - 1) * epoch) ≤ slot) × (slot < slot_count num den (m * epoch))
 
@@ -48,7 +49,8 @@ den c plp = (plp_at c.plps plp).bits_per_second * subseconds_per_tick c.band
 
 -- the same in lowest terms: both are divided by their greatest common divisor
 abbrev pub IsSlotLength : Config → ℕ → ℕ → ℕ → Type 0
-IsSlotLength c plp n d = (divisor : ℕ) × IsGcd (num c) (den c plp) divisor × (n ≡ num c / divisor) × (d ≡ den c plp / divisor)
+IsSlotLength c plp n d = (divisor : ℕ) × IsGcd (num c) (den c plp) divisor × (n ≡ num c / divisor)
+    × (d ≡ den c plp / divisor)
 
 -- the ticks of an interleaving frame of the PLP at a place
 abbrev pub epoch_ticks : Config → ℕ → ℕ

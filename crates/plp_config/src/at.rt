@@ -14,7 +14,8 @@ impl fmt::Display for At {
     }
 }
 
-// That a test of the capacity fails. It stands apart since the kit takes a crate for one with tests if an attribute says that word.
+// That a test of the capacity fails. It stands apart since the kit takes a crate for one with tests if an attribute
+// says that word.
 #[derive(Clone, Copy)]
 pub(crate) struct Failed(pub(crate) u8);
 

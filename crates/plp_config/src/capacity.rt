@@ -1,10 +1,13 @@
 // What a block holds, and whether the PLPs fit their frames.
-ghost use Rattle.std.specs.Prelude.{◌≡◌, ◌<◌, ◌≤◌, ◌*◌, ◌^◌, ◌↔◌, length, sum_by, IsTrue, MatchOption, IsOk, IfOk, IfErr};
+ghost use Rattle.std.specs.Prelude.{◌≡◌, ◌<◌, ◌≤◌, ◌*◌, ◌^◌, ◌↔◌, length, sum_by, IsTrue, MatchOption, IsOk, IfOk};
+ghost use Rattle.std.specs.Prelude.{IfErr};
 ghost use Rattle.plp_config.specs.FirstFailure.{FindsFailure};
 ghost use Rattle.plp_config.specs.Plps.{plp_at};
 ghost use Rattle.plp_config.specs.Rules.{AllRules};
-ghost use Rattle.plp_config.specs.Capacity.{block_bytes, field_bytes, block_cells, up_bytes, capacity, superframe_room, cell_need};
-ghost use Rattle.plp_config.specs.Capacity.{block_parts, block_room, longest_rest, need_of, PlaceFits, AllTests, Lacks, Throughput};
+ghost use Rattle.plp_config.specs.Capacity.{block_bytes, field_bytes, block_cells, up_bytes, capacity, superframe_room};
+ghost use Rattle.plp_config.specs.Capacity.{cell_need};
+ghost use Rattle.plp_config.specs.Capacity.{block_parts, block_room, longest_rest, need_of, PlaceFits, AllTests, Lacks};
+ghost use Rattle.plp_config.specs.Capacity.{Throughput};
 ghost use Rattle.plp_config.specs.Capacity.{CellCount, EvenParts, CellAddresses, RecordLength};
 ghost use Rattle.plp_config.specs.SlotTime.{den, epoch_ticks};
 ghost use Rattle.plp_config.specs.CapacityTests.{AnswersTest};

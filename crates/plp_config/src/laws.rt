@@ -1,11 +1,17 @@
 // Laws between the definitions, for the crates above. No function here does anything.
-ghost use Rattle.plp_config.specs.Laws.{StartsBefore, StartsFrom, StartsAt, OverBy, NotOverBy, CountReaches, StartRises};
-ghost use Rattle.plp_config.specs.Laws.{CountRises, NoneAtZero, EndsAfterStart, StartsApart, RangesPartition, RangeBounds};
-ghost use Rattle.plp_config.specs.Laws.{SpansEpoch, OneSlotPerIscr, IscrFindsSlot, DelayOutlasts, ReleasedFirst, ReleasedByFrame};
-ghost use Rattle.plp_config.specs.Laws.{ReleasedOld, WindowHolds, EmissionTotal, EmissionsDiffer, EmissionFound, EmissionFits};
-ghost use Rattle.plp_config.specs.Laws.{FrameCountLeast, OneRuleFails, RefusalFails, RulesDecided, OneTestFails, LackFails};
+ghost use Rattle.plp_config.specs.Laws.{StartsBefore, StartsFrom, StartsAt, OverBy, NotOverBy, CountReaches};
+ghost use Rattle.plp_config.specs.Laws.{StartRises};
+ghost use Rattle.plp_config.specs.Laws.{CountRises, NoneAtZero, EndsAfterStart, StartsApart, RangesPartition};
+ghost use Rattle.plp_config.specs.Laws.{RangeBounds};
+ghost use Rattle.plp_config.specs.Laws.{SpansEpoch, OneSlotPerIscr, IscrFindsSlot, DelayOutlasts, ReleasedFirst};
+ghost use Rattle.plp_config.specs.Laws.{ReleasedByFrame};
+ghost use Rattle.plp_config.specs.Laws.{ReleasedOld, WindowHolds, EmissionTotal, EmissionsDiffer, EmissionFound};
+ghost use Rattle.plp_config.specs.Laws.{EmissionFits};
+ghost use Rattle.plp_config.specs.Laws.{FrameCountLeast, OneRuleFails, RefusalFails, RulesDecided, OneTestFails};
+ghost use Rattle.plp_config.specs.Laws.{LackFails};
 ghost use Rattle.plp_config.specs.Laws.{TestsDecided, SlotLength, FrameTicks, FrameQuarter, FieldRange, BlockBits};
-ghost use Rattle.plp_config.specs.Laws.{UserPacketRange, CapacityHoldsUp, CellsByFive, BlockChunks, EpochTicks, RoomsFit};
+ghost use Rattle.plp_config.specs.Laws.{UserPacketRange, CapacityHoldsUp, CellsByFive, BlockChunks, EpochTicks};
+ghost use Rattle.plp_config.specs.Laws.{RoomsFit};
 ghost use Rattle.plp_config.specs.Laws.{SpreadDividesFrames, SpreadIsGreatest, CellsInParts, BlocksFit, EpochAlone};
 ghost use Rattle.plp_config.specs.Laws.{SoundTimes, SuperframeBegins, BeginsInSuperframe, BeginIsFirst};
 ghost use Rattle.plp_config.specs.Laws.{BeginIsLast, BeginByNumber, BeginAlone, FitsAlone};

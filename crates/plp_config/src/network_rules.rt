@@ -2,7 +2,8 @@
 ghost use Rattle.std.specs.Prelude.{◌≡◌, ◌↔◌, length, IsTrue};
 ghost use Rattle.std.specs.List.{list_all};
 ghost use Rattle.plp_config.specs.Plps.{has_type2};
-ghost use Rattle.plp_config.specs.Rules.{RuleHolds, FrameDuration, SuperframeLength, LeastCells, StartTime, UtcOffset, PidRange};
+ghost use Rattle.plp_config.specs.Rules.{RuleHolds, FrameDuration, SuperframeLength, LeastCells, StartTime, UtcOffset};
+ghost use Rattle.plp_config.specs.Rules.{PidRange};
 ghost use Rattle.plp_config.specs.Rules.{L1Fields, SubSlices, PlpCount};
 ghost use Rattle.plp_config.specs.RuleTests.{TellsRules};
 

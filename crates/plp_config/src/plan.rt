@@ -1,6 +1,7 @@
 // A configuration that every layer above can rely on.
 ghost use Rattle.std.specs.Prelude.{◌≡◌, ◌-◌, ◌/◌, ◌%◌, ◌^◌, ◌<◌, ◌≤◌, length, IfSome, IfNone};
-ghost use Rattle.plp_config.specs.Capacity.{AllTests, Throughput, block_bytes, field_bytes, block_cells, up_bytes, capacity};
+ghost use Rattle.plp_config.specs.Capacity.{AllTests, Throughput, block_bytes, field_bytes, block_cells, up_bytes};
+ghost use Rattle.plp_config.specs.Capacity.{capacity};
 ghost use Rattle.plp_config.specs.Capacity.{frame_room, need_of};
 ghost use Rattle.plp_config.specs.Emission.{emission};
 ghost use Rattle.plp_config.specs.InterleavingFrames.{begin_of, is_first};
@@ -140,7 +141,8 @@ impl Plan {
         (frame % u64::from(values::frames(&self.config))) as u8
     }
 
-    /// superframe_idx of a frame: the number of its superframe, of which T2-MI tells four bits (TS 102 773, clause 5.1).
+    /// superframe_idx of a frame: the number of its superframe, of which T2-MI tells four bits (TS 102 773, clause
+    /// 5.1).
     pub fn superframe_idx(&self, frame: u64) -> u8
         ensures value { result ≡ frame / self.now.frames % 16 }
         ensures small { result < 2 ^ 4 }

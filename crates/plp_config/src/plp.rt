@@ -127,8 +127,8 @@ pub struct Plp {
     pub rotation: bool,
     /// The greatest number of blocks in an interleaving frame, PLP_NUM_BLOCKS_MAX; 1 to 1,023.
     pub blocks: u16,
-    /// TI-blocks in an interleaving frame, or 0 for no time interleaving; at most `blocks`, and at most 255, and 1 with a
-    /// spread above 1.
+    /// TI-blocks in an interleaving frame, or 0 for no time interleaving; at most `blocks`, and at most 255, and 1 with
+    /// a spread above 1.
     pub interleave: u16,
     /// Whether null packets are deleted.
     pub delete: bool,

@@ -2,7 +2,8 @@
 ghost use Rattle.std.specs.Prelude.{◌≡◌, ◌<◌, ◌↔◌, length, IsTrue, IsFalse};
 ghost use Rattle.plp_config.specs.FirstFailure.{HoldsBelow, FindsFailure};
 ghost use Rattle.plp_config.specs.Rules.{PlaceHolds, DistinctIds, TypeOrder, BlockLimit, InterleaverLength, BitRate};
-ghost use Rattle.plp_config.specs.Rules.{SpreadDivides, SpreadLength, EpochDuration, OneCommon, CommonRate, CommonShared};
+ghost use Rattle.plp_config.specs.Rules.{SpreadDivides, SpreadLength, EpochDuration, OneCommon, CommonRate};
+ghost use Rattle.plp_config.specs.Rules.{CommonShared};
 ghost use Rattle.plp_config.specs.Rules.{IsCommonOf, IsInStep, HasCompany};
 ghost use Rattle.plp_config.specs.declared.plp.PlpType.TheVariants.{Common};
 

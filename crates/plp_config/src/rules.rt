@@ -1,5 +1,6 @@
 // The rules of a configuration, and which of them fails first.
-ghost use Rattle.std.specs.Prelude.{◌≡◌, ◌<◌, ◌↔◌, length, slice_index_or, true, IsTrue, MatchOption, IsOk, IfOk, IfErr};
+ghost use Rattle.std.specs.Prelude.{◌≡◌, ◌<◌, ◌↔◌, length, slice_index_or, true, IsTrue, MatchOption, IsOk, IfOk};
+ghost use Rattle.std.specs.Prelude.{IfErr};
 ghost use Rattle.plp_config.specs.FirstFailure.{FindsFailure};
 ghost use Rattle.plp_config.specs.Rules.{RulesBelow, AllRules, Refuses};
 
@@ -110,7 +111,8 @@ fn first_fault(config: &Config) -> Option<ConfigFault>
     }
 }
 
-// The least of the rules 10 to 20 that fails. They take time by the square of the number of PLPs, which is bounded by then.
+// The least of the rules 10 to 20 that fails. They take time by the square of the number of PLPs, which is bounded by
+// then.
 fn plp_fault(config: &Config) -> Option<ConfigFault>
     requires { RulesBelow 10 config.now }
     ensures { MatchOption result (AllRules config.now) (Refuses config.now) }

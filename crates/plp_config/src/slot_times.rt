@@ -9,8 +9,8 @@ use crate::moment::{ISCR_TICKS, MOST_FRAMES};
 
 /// The slots of a PLP, and its interleaving frames, in ticks.
 ///
-/// A slot lasts `num / den` ticks, a fraction that is not reduced. An interleaving frame is an epoch of the slots: its blocks carry the user
-/// packets of the slots that end in it.
+/// A slot lasts `num / den` ticks, a fraction that is not reduced. An interleaving frame is an epoch of the slots: its
+/// blocks carry the user packets of the slots that end in it.
 #[derive(Clone, Copy, Debug, PartialEq, Eq)]
 pub struct SlotTimes {
     /// From `den` to 2^38 - 1.
@@ -99,7 +99,8 @@ impl SlotTimes {
         ensures first { result.0 ≡ over_by self.now (epoch - 1) }
         ensures end { result.1 ≡ over_by self.now epoch }
         ensures order { result.0 ≤ result.1 }
-        ensures far { (result.0 * self.now.num ≤ 2 ^ 53 * self.now.den) × (result.1 * self.now.num ≤ 2 ^ 53 * self.now.den) }
+        ensures far { (result.0 * self.now.num ≤ 2 ^ 53 * self.now.den)
+            × (result.1 * self.now.num ≤ 2 ^ 53 * self.now.den) }
         ensures small { (result.0 ≤ 2 ^ 53) × (result.1 ≤ 2 ^ 53) }
     {
         slot_time_law();
@@ -130,7 +131,8 @@ impl SlotTimes {
         requires are { AreSlotTimes self.now }
         requires over { first * self.now.num ≤ 2 ^ 53 * self.now.den }
         requires iscr { iscr < ISCR_TICKS }
-        ensures { result ≡ div_ceil (tick_of_iscr (slot_start self.now.num self.now.den first) iscr * self.now.den) self.now.num }
+        ensures { result ≡ div_ceil (tick_of_iscr (slot_start self.now.num self.now.den first) iscr * self.now.den)
+            self.now.num }
     {
         let from = self.early_start(first);
         let tick = from + (u64::from(iscr) + ISCR_TICKS - from % ISCR_TICKS) % ISCR_TICKS;

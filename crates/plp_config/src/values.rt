@@ -124,7 +124,8 @@ pub(crate) fn plp_count(config: &Config) -> u8
 
 // The first PLP with an identifier.
 pub(crate) fn first_with(config: &Config, id: u8) -> Option<usize>
-    ensures some { IfSome result (λ place. (place < length config.now.plps) × ((plp_at config.now.plps place).id ≡ id)) }
+    ensures some { IfSome result (λ place. (place < length config.now.plps)
+        × ((plp_at config.now.plps place).id ≡ id)) }
     ensures none { IfNone result (HasNoPlace config.now id) }
 {
     for place in 0..config.plps.len() {

@@ -1,5 +1,6 @@
 -- Interleaving frames that are carried by one frame.
-use Rattle.std.proofs.Common.{◌≡◌, ℕ, zero, suc, ◌+◌, ◌-◌, ◌*◌, ◌%◌, ◌==◌, ◌<◌, Bool, true, List, [], ◌∷◌, length, take, drop}
+use Rattle.std.proofs.Common.{◌≡◌, ℕ, zero, suc, ◌+◌, ◌-◌, ◌*◌, ◌%◌, ◌==◌, ◌<◌, Bool, true, List, [], ◌∷◌, length, take}
+use Rattle.std.proofs.Common.{drop}
 use Rattle.std.proofs.Common.{Option, Some, None, refl, ap, ap₂, ◌∙◌, sym, arith, cond}
 use Rattle.std.specs.Prelude.{nat_le, is_some, unwrap_or, option_map, slice_get, slice_index}
 use Rattle.std.specs.List.{range_with_len}
@@ -13,7 +14,8 @@ use Rattle.plp_receiver.specs.Parts.{Part}
 use Rattle.plp_receiver.specs.Epochs.{part_of, with_part, parts_of, agreeing, epoch_parts, epochs_in}
 use Rattle.plp_receiver.specs.Laws.{OneFrame, AllCome}
 
-one_taken : (views : List RecordView) (k : ℕ) (v : RecordView) → slice_get views k ≡ Some v → take 1 (drop k views) ≡ v ∷ []
+one_taken : (views : List RecordView) (k : ℕ) (v : RecordView) → slice_get views k ≡ Some v
+    → take 1 (drop k views) ≡ v ∷ []
 one_taken [] zero v e = absurd (false≢true (ap is_some e))
 one_taken [] (suc k) v e = absurd (false≢true (ap is_some e))
 one_taken (w ∷ views) zero v e = ap (λ (o : Option RecordView). unwrap_or o w ∷ []) e
@@ -44,7 +46,8 @@ module _ (c : Config) (plp first : ℕ) (views : List RecordView) (one : spread 
       let at : m - first ≡ place = omega arith in
       ap (λ (s : ℕ). parts_by s (m * s)) one
       ∙ ap (parts_by 1) same
-      ∙ ap (λ (b : Bool). cond {A = Option (List Part)} b (agreeing plp (parts_of c m (take 1 (drop (m - first) views)))) None)
+      ∙ ap (λ (b : Bool). cond {A = Option (List Part)} b
+      (agreeing plp (parts_of c m (take 1 (drop (m - first) views)))) None)
       there
       ∙ ap (λ (k : ℕ). agreeing plp (parts_of c m (take 1 (drop k views)))) at
       ∙ ap (λ (l : List RecordView). agreeing plp (parts_of c m l)) (one_taken views place v e)
@@ -59,7 +62,8 @@ one_frame c plp first views one =
 
 pub all_come : AllCome
 all_come c n shape alone long =
-    sym (fill_by_all (λ p. cond {A = ℕ} (is_first c p n) (slice_index shape.counts p) 0) shape.counts (length c.plps) 0 long
+    sym (fill_by_all (λ p. cond {A = ℕ} (is_first c p n) (slice_index shape.counts p) 0) shape.counts
+    (length c.plps) 0 long
     (λ p inside. sym (ap (λ (b : Bool). cond {A = ℕ} b (slice_index shape.counts p) 0) (begins p inside))))
   where
     begins : (p : ℕ) → p < length c.plps → is_first c p n ≡ true

@@ -1,12 +1,15 @@
--- A data field is its pieces: the bytes before the first user packet, and then user packets, the last one perhaps cut off.
-use Rattle.std.proofs.Common.{◌≡◌, ◌≢◌, ℕ, suc, ◌+◌, ◌-◌, ◌%◌, ◌<◌, ◌≤◌, ◌==◌, ◌||◌, Bool, true, false, List, [], ◌∷◌, ◌++◌}
-use Rattle.std.proofs.Common.{length, Option, Some, None, refl, ap, ap₂, ◌∙◌, arith, cond, eq-eqb}
+-- A data field is its pieces: the bytes before the first user packet, and then user packets, the last one perhaps cut
+-- off.
+use Rattle.std.proofs.Common.{◌≡◌, ◌≢◌, ℕ, suc, ◌+◌, ◌-◌, ◌%◌, ◌<◌, ◌≤◌, ◌==◌, ◌||◌, Bool, true, false, List, [], ◌∷◌}
+use Rattle.std.proofs.Common.{◌++◌}
+use Rattle.std.proofs.Common.{length, Option, Some, None, ap, ap₂, ◌∙◌, arith, cond, eq-eqb}
 use Rattle.std.specs.Prelude.{nat_lt, if◌then◌else◌}
 use Rattle.std.proofs.Math.Bool.{or-true}
 use Rattle.std.proofs.lemmas.Bool.{lt-ltb, le-ltb, false_from_ne_true, eqb-true}
 use Rattle.plp_receiver.specs.declared.mark.Mark.{Mark}
 use Rattle.plp_receiver.specs.declared.mark.Mark.TheVariants.{Inside, Next}
-use Rattle.plp_receiver.specs.Strings.{Item, Block, is_start, first_mark, mark_from, mark_in, mark_at, item_at, items_from}
+use Rattle.plp_receiver.specs.Strings.{Item, Block, is_start, first_mark, mark_from, mark_in, mark_at, item_at}
+use Rattle.plp_receiver.specs.Strings.{items_from}
 use Rattle.plp_receiver.specs.Pieces.{item, piece_items}
 
 module _ (len epoch : ℕ) (b : Block) where
@@ -24,15 +27,18 @@ module _ (len epoch : ℕ) (b : Block) where
   -- at the first byte at most a user packet begins, and one can end where the bytes end
   pub piece_is : (i v : ℕ) (vs : List ℕ) → ((j : ℕ) → i < j → j < i + length (v ∷ vs) → mark_at len b j ≡ Inside)
       → i + length (v ∷ vs) ≤ length b.field
-      → Ends (i + length (v ∷ vs)) ≡ true → items_from len epoch b i (v ∷ vs) ≡ piece_items (mark_at len b i) epoch (v ∷ vs)
+      → Ends (i + length (v ∷ vs)) ≡ true → items_from len epoch b i (v ∷ vs) ≡ piece_items (mark_at len b i)
+      epoch (v ∷ vs)
   piece_is i v [] inner l e = ap (λ (t : Bool). item (mark_at len b i) v epoch t ∷ []) e
   piece_is i v (u ∷ us) inner l e =
       let m : mark_at len b (i + 1) ≡ Inside = inner (i + 1) (omega arith) (omega arith) in
       let q : i + 1 + length (u ∷ us) ≡ i + length (v ∷ u ∷ us) = omega arith in
       let not_last : (i + 1 == length b.field) ≡ false =
-      false_from_ne_true _ (λ (t : (i + 1 == length b.field) ≡ true). omega (arith, eqb-true (i + 1) (length b.field) t)) in
+      false_from_ne_true _ (λ (t : (i + 1 == length b.field) ≡ true). omega
+      (arith, eqb-true (i + 1) (length b.field) t)) in
       let none : Ends (i + 1) ≡ false = ap₂ (λ (x y : Bool). x || y) not_last (ap is_start m) in
-      let rest = piece_is (i + 1) u us (λ j p r. inner j (omega arith) (omega (arith, q))) (omega (arith, q)) (ap Ends q ∙ e) in
+      let rest = piece_is (i + 1) u us (λ j p r. inner j (omega arith) (omega (arith, q))) (omega (arith, q)) (ap Ends q
+      ∙ e) in
       ap₂ (λ (t : Bool) (l : List Item). item (mark_at len b i) v epoch t ∷ l) none
       (rest ∙ ap (λ (k : Mark). piece_items k epoch (u ∷ us)) m)
 
@@ -74,7 +80,8 @@ module _ (len epoch : ℕ) (b : Block) where
     behind i l =
         marks i
         ∙ differs i (λ (e : i ≡ s). omega (arith, e))
-        ∙ ap (λ (t : Bool). cond {A = Mark} t Inside (if (i - s) % len == 0 then Next else Inside)) (le-ltb i s (omega arith))
+        ∙ ap (λ (t : Bool). cond {A = Mark} t Inside (if (i - s) % len == 0 then Next else Inside))
+        (le-ltb i s (omega arith))
 
     pub mark_next : (i : ℕ) → s < i → (i - s) % len ≡ 0 → mark_at len b i ≡ Next
     mark_next i l e = behind i l ∙ ap (λ (t : Bool). cond t Next Inside) (eq-eqb ((i - s) % len) 0 e)

@@ -1,5 +1,6 @@
 -- The window shows what the assembler found.
-use Rattle.std.proofs.Common.{◌≡◌, ℕ, ◌+◌, ◌-◌, ◌*◌, ◌^◌, ◌<◌, Bool, true, false, List, [], ◌∷◌, ◌++◌, take, Option, Some, None}
+use Rattle.std.proofs.Common.{◌≡◌, ℕ, ◌+◌, ◌-◌, ◌*◌, ◌^◌, ◌<◌, Bool, true, false, List, [], ◌∷◌, ◌++◌, take, Option}
+use Rattle.std.proofs.Common.{Some, None}
 use Rattle.std.proofs.Common.{ap, ap₂, ◌∙◌, sym, subst, arith, inl, inr, append-nil, cond}
 use Rattle.std.specs.Prelude.{nat_lt, nat_le, if◌then◌else◌}
 use Rattle.std.proofs.lemmas.List.{take-take}
@@ -24,7 +25,8 @@ module _ (r : SlotRule) (sound : IsSound r) (z piece : List Item) (epoch first e
     (shows : Shows r z first end slots) (held : List ℕ) where
   pub gain_none : Gains r z epoch piece held None → Shows r (z ++ piece) first end slots
   gain_none g =
-      nothing_found r z (z ++ piece) first end slots (g.packets ∙ ap (λ (l : List UserPacket). user_packets r z ++ l) g.gives
+      nothing_found r z (z ++ piece) first end slots (g.packets ∙ ap (λ (l : List UserPacket). user_packets r z ++ l)
+      g.gives
       ∙ append-nil (user_packets r z)) shows
 
   module _ (found : Found) (delay : ℕ) (late : delay ≡ delay_of r.times) (near : over_by r.times found.epoch < 2 ^ 53)
@@ -69,19 +71,22 @@ module _ (r : SlotRule) (sound : IsSound r) (z piece : List Item) (epoch first e
           | inl lt ↦
               subst (Shows r (z ++ piece) first end)
               (sym (n ∙ ap
-              (λ (t : Bool). cond {A = List (Option (List ℕ))} t slots (filled slots (found.slot - first) (packet_of held)))
+              (λ (t : Bool). cond {A = List (Option (List ℕ))} t slots (filled slots (found.slot - first)
+              (packet_of held)))
               (lt-ltb found.slot first lt)))
               (too_late r z (z ++ piece) up gains first end slots counted (omega (arith, slot_is, lt)) shows)
           | inr ge ↦
               subst (Shows r (z ++ piece) first end)
               (sym (n ∙ ap
-              (λ (t : Bool). cond {A = List (Option (List ℕ))} t slots (filled slots (found.slot - first) (packet_of held)))
+              (λ (t : Bool). cond {A = List (Option (List ℕ))} t slots (filled slots (found.slot - first)
+              (packet_of held)))
               (le-ltb found.slot first ge)
               ∙ ap₂ (λ (k : ℕ) (p : List ℕ). filled slots (k - first) p) slot_is packet_is))
               (put_in r z (z ++ piece) up gains first end slots counted (omega (arith, slot_is, ge)) shows)
         ]
 
-pub moved : (r : SlotRule) (z : List Item) (first end new_first new_end : ℕ) (slots : List (Option (List ℕ))) → new_first ≡ first
+pub moved : (r : SlotRule) (z : List Item) (first end new_first new_end : ℕ) (slots : List (Option (List ℕ)))
+    → new_first ≡ first
     → new_end ≡ end → Shows r z first end slots → Shows r z new_first new_end slots
 moved r z first end new_first new_end slots e f h =
     subst (λ (n : ℕ). Shows r z n new_end slots) (sym e) (subst (λ (n : ℕ). Shows r z first n slots) (sym f) h)
@@ -89,6 +94,8 @@ moved r z first end new_first new_end slots e f h =
 pub near_by : (q r : SlotRule) (epoch : ℕ) → q ≡ r → over_by q.times epoch < 2 ^ 53 → over_by r.times epoch < 2 ^ 53
 near_by q r epoch e h = subst (λ (x : SlotRule). over_by x.times epoch < 2 ^ 53) e h
 
-pub counts_as : (q r : SlotRule) (delay slot begun ended : ℕ) (c b : Bool) → q ≡ r → c ≡ counts_by q delay slot begun ended
+pub counts_as : (q r : SlotRule) (delay slot begun ended : ℕ) (c b : Bool) → q ≡ r
+    → c ≡ counts_by q delay slot begun ended
     → c ≡ b → counts_by r delay slot begun ended ≡ b
-counts_as q r delay slot begun ended c b e h f = sym (h ∙ ap (λ (x : SlotRule). counts_by x delay slot begun ended) e) ∙ f
+counts_as q r delay slot begun ended c b e h f = sym (h ∙ ap (λ (x : SlotRule). counts_by x delay slot begun ended) e)
+    ∙ f

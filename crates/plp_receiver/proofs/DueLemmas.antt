@@ -32,7 +32,8 @@ pub equal_due : common.InStep → (own v : Receiver) → AllRules (one.network_o
 equal_due law own v rules inside step due other first views released s t =
     let a = due first views released s in
     let b = common_told own v step other first views released t in
-    let same = same_length law (one.network_of own) (one.plp_of own) (one.plp_of v) rules inside step.place first views b.0 a.0
+    let same = same_length law (one.network_of own) (one.plp_of own) (one.plp_of v) rules inside step.place
+    first views b.0 a.0
     b.1 a.1 in
     b.2 ∙ ap (λ (n : ℕ). n - released) same ∙ sym a.2
 
@@ -41,7 +42,8 @@ told_in : common.InStep → JoinedSlots → (own : Receiver) (other : Option Rec
     → one.plp_of own < length (one.network_of own).plps → InStep own other → TellsDue own → CommonTellsDue other
     → (first : ℕ) (views : List RecordView) (released : ℕ) → one.ReceiverStandsFor own first views released
     → CommonStandsFor other first views released
-    → (packets : List (List ℕ)) × JoinedBackWith (common_at other) (one.network_of own) (one.plp_of own) first views packets
+    → (packets : List (List ℕ)) × JoinedBackWith (common_at other) (one.network_of own) (one.plp_of own)
+    first views packets
     × (max (one.due_of own) (common_due other) ≡ length packets - released)
 told_in law slots own None rules inside step due tells first views released s t =
     let a = due first views released s in (a.0, a.1, (let d = a.2 in omega (arith, d)))
@@ -49,9 +51,11 @@ told_in law slots own (Some v) rules inside step due tells first views released 
     let a = due first views released s in
     let k = step.both v refl in
     let b = common_told own v k tells first views released t in
-    let same = same_length law (one.network_of own) (one.plp_of own) (one.plp_of v) rules inside k.place first views b.0 a.0
+    let same = same_length law (one.network_of own) (one.plp_of own) (one.plp_of v) rules inside k.place
+    first views b.0 a.0
     b.1 a.1 in
-    let both : JoinsReadbacks (one.network_of own) (one.plp_of v) (one.plp_of own) first views (joined b.0 a.0) = record {
+    let both : JoinsReadbacks (one.network_of own) (one.plp_of v) (one.plp_of own) first views (joined b.0 a.0) =
+    record {
       shared = b.0;
       back_shared = b.1;
       own = a.0;
@@ -64,11 +68,14 @@ told_in law slots own (Some v) rules inside step due tells first views released 
       (let d = a.2 in let e = b.2 in let n = slots.count b.0 a.0 in omega (arith, d, e, n, same)),
     )
 
-pub told_with : common.InStep → JoinedSlots → (own : Receiver) (other : Option Receiver) (c : Config) → one.network_of own ≡ c → AllRules c
+pub told_with : common.InStep → JoinedSlots → (own : Receiver) (other : Option Receiver) (c : Config)
+    → one.network_of own ≡ c → AllRules c
     → one.plp_of own < length c.plps → InStep own other → TellsDue own → CommonTellsDue other
     → (first : ℕ) (views : List RecordView) (released : ℕ) → one.ReceiverStandsFor own first views released
     → CommonStandsFor other first views released
-    → (packets : List (List ℕ)) × JoinedBackWith (common_at other) (one.network_of own) (one.plp_of own) first views packets
+    → (packets : List (List ℕ)) × JoinedBackWith (common_at other) (one.network_of own) (one.plp_of own)
+    first views packets
     × (max (one.due_of own) (common_due other) ≡ length packets - released)
 told_with law slots own other c same rules inside =
-    told_in law slots own other (subst AllRules (sym same) rules) (subst (λ (d : Config). one.plp_of own < length d.plps) (sym same) inside)
+    told_in law slots own other (subst AllRules (sym same) rules)
+    (subst (λ (d : Config). one.plp_of own < length d.plps) (sym same) inside)

@@ -1,6 +1,8 @@
 -- What records tell of epochs, record by record.
-use Rattle.std.proofs.Common.{◌≡◌, ◌≢◌, ℕ, zero, suc, ◌+◌, ◌-◌, ◌*◌, ◌/◌, ◌%◌, ◌<◌, ◌≤◌, ◌==◌, ◌&&◌, Bool, true, false, List, []}
-use Rattle.std.proofs.Common.{◌∷◌, ◌++◌, length, take, drop, Option, Some, None, refl, ap, ◌∙◌, sym, subst, arith, inl, inr, cond}
+use Rattle.std.proofs.Common.{◌≡◌, ◌≢◌, ℕ, zero, suc, ◌+◌, ◌-◌, ◌*◌, ◌/◌, ◌%◌, ◌<◌, ◌≤◌, ◌==◌, ◌&&◌, Bool, true, false}
+use Rattle.std.proofs.Common.{List, []}
+use Rattle.std.proofs.Common.{◌∷◌, ◌++◌, length, take, drop, Option, Some, None, refl, ap, ◌∙◌, sym, subst, arith, inl}
+use Rattle.std.proofs.Common.{inr, cond}
 use Rattle.std.proofs.Common.{length-append}
 use Rattle.std.specs.Prelude.{nat_le, not}
 use Rattle.std.specs.List.{AllZip, range_with_len}
@@ -16,7 +18,8 @@ use Rattle.plp_config.specs.declared.config.Config.{Config}
 use Rattle.site_frame.specs.declared.reading.RecordView.{RecordView}
 use Rattle.plp_receiver.specs.Parts.{Part, count_of}
 use Rattle.plp_config.specs.Plps.{spread}
-use Rattle.plp_receiver.specs.Epochs.{part_of, with_part, parts_of, agree, agreeing, epoch_parts, Tells, epochs_in, TellAll}
+use Rattle.plp_receiver.specs.Epochs.{part_of, with_part, parts_of, agree, agreeing, epoch_parts, Tells, epochs_in}
+use Rattle.plp_receiver.specs.Epochs.{TellAll}
 use Rattle.plp_receiver.specs.Holds.{Holds, seen_from, seen, is_begun, joined}
 use Rattle.plp_receiver.specs.declared.held.HeldBlocks.{HeldBlocks}
 use Rattle.plp_receiver.proofs.ListLemmas.{zip_more, zip_over}
@@ -91,7 +94,8 @@ begun_joined plp (Some (p ∷ parts)) (Some q) = go (count_of plp q == count_of 
     go false = refl
 
 -- ---- the epoch under way
-pub seen_more : (c : Config) (plp first : ℕ) (views : List RecordView) (v : RecordView) (from : ℕ) → from ≤ first + length views
+pub seen_more : (c : Config) (plp first : ℕ) (views : List RecordView) (v : RecordView) (from : ℕ)
+    → from ≤ first + length views
     → seen_from c plp first (views ++ v ∷ []) from ≡ joined plp (seen_from c plp first views from)
     (part_of c (first + length views) v)
 seen_more c plp first views v from l =
@@ -131,7 +135,8 @@ pub none_seen : (c : Config) (plp first : ℕ) (views : List RecordView) (from :
 none_seen c plp first views from e =
     let low : nat_le first from ≡ true = le-leb first from (omega (arith, e)) in
     let all : drop (from - first) views ≡ [] = nothing views (from - first) (omega (arith, e)) in
-    ap (λ (b : Bool). cond {A = Option (List Part)} b (agreeing plp (parts_of c from (drop (from - first) views))) None) low
+    ap (λ (b : Bool). cond {A = Option (List Part)} b (agreeing plp (parts_of c from (drop (from - first) views))) None)
+    low
     ∙ ap (λ (x : List RecordView). agreeing plp (parts_of c from x)) all
     ∙ ap (agreeing plp) (no_parts c from)
   where
@@ -146,7 +151,8 @@ begun_parts : (c : Config) (plp n : ℕ) (v : RecordView) (views : List RecordVi
 unfolding parts_of
 begun_parts c plp n v views = go (part_of c n v) (parts_of c (n + 1) views)
   where
-    test : (p : Part) (ps : List Part) (b : Bool) → is_begun (cond {A = Option (List Part)} b (Some (p ∷ ps)) None) ≡ true
+    test : (p : Part) (ps : List Part) (b : Bool) → is_begun (cond {A = Option (List Part)} b (Some (p ∷ ps)) None)
+        ≡ true
     test p ps true = refl
     test p ps false = refl
 
@@ -163,12 +169,14 @@ some_seen c plp first views from l =
       | inl lt ↦
           let e : nat_le first from ≡ false = false_from_ne_true _ (λ (t : nat_le first from ≡ true).
           let m = leb-true first from t in omega (arith, m, lt)) in
-          ap (λ (b : Bool). is_begun (cond {A = Option (List Part)} b (agreeing plp (parts_of c from (drop (from - first) views)))
+          ap (λ (b : Bool). is_begun (cond {A = Option (List Part)} b
+          (agreeing plp (parts_of c from (drop (from - first) views)))
           None))
           e
       | inr ge ↦
           let e : nat_le first from ≡ true = le-leb first from ge in
-          ap (λ (b : Bool). is_begun (cond {A = Option (List Part)} b (agreeing plp (parts_of c from (drop (from - first) views)))
+          ap (λ (b : Bool). is_begun (cond {A = Option (List Part)} b
+          (agreeing plp (parts_of c from (drop (from - first) views)))
           None))
           e ∙ go (drop (from - first) views) (omega (arith, l, ge, length-drop (from - first) views))
     ]
@@ -246,7 +254,8 @@ module _ (c : Config) (plp first : ℕ) (views : List RecordView) where
                 let all : take s (drop (from - first) longer) ≡ drop (from - first) longer =
                 take_all s (drop (from - first) longer)
                 (omega (arith, length-drop (from - first) longer, next, e, f, more, ge)) in
-                ap (λ (x : List RecordView). cond {A = Option (List Part)} (nat_le first from) (agreeing plp (parts_of c from x))
+                ap (λ (x : List RecordView). cond {A = Option (List Part)} (nat_le first from)
+                (agreeing plp (parts_of c from x))
                 None)
                 all ∙ seen_joined
           ]
@@ -265,7 +274,8 @@ module _ (c : Config) (plp first : ℕ) (views : List RecordView) where
             (agreeing plp (parts_of c (m * s) (take s (drop (m * s - first) views)))) None) b)
         | inr ge ↦
             let k : ℕ = m * s - first in
-            let e : drop k (views ++ others) ≡ drop k views ++ others = drop-append-le k views others (omega (arith, l, ge)) in
+            let e : drop k (views ++ others) ≡ drop k views ++ others = drop-append-le k views others
+            (omega (arith, l, ge)) in
             let f : take s (drop k views ++ others) ≡ take s (drop k views) =
             take-append-le s (drop k views) others (omega (arith, length-drop k views, l, ge)) in
             ap (λ (x : List RecordView). cond {A = Option (List Part)} (nat_le first (m * s))
@@ -283,15 +293,18 @@ module _ (c : Config) (plp first : ℕ) (views : List RecordView) where
   -- what was told of them
   pub told_before : (others : List RecordView) (told : List Epoch) → first / s ≤ n / s
       → AllZip (λ m e. Tells c plp (epoch_parts c plp first views m) e) (epochs_in s first (length views)) told
-      → AllZip (λ m e. Tells c plp (epoch_parts c plp first (views ++ others) m) e) (epochs_in s first (length views)) told
+      → AllZip (λ m e. Tells c plp (epoch_parts c plp first (views ++ others) m) e) (epochs_in s first (length views))
+      told
   told_before others told low z =
       zip_over (λ (m : ℕ) (e : Epoch). Tells c plp (epoch_parts c plp first views m) e)
       (λ (m : ℕ) (e : Epoch). Tells c plp (epoch_parts c plp first (views ++ others) m) e)
       (first / s) (n / s - first / s) told
-      (λ m e a b t. subst (λ (o : Option (List Part)). Tells c plp o e) (sym (same_parts others m (ended m n b low))) t) z
+      (λ m e a b t. subst (λ (o : Option (List Part)). Tells c plp o e) (sym (same_parts others m (ended m n b low))) t)
+      z
 
   pub told_after : (others : List RecordView) (told : List Epoch) → first / s ≤ n / s
-      → AllZip (λ m e. Tells c plp (epoch_parts c plp first (views ++ others) m) e) (epochs_in s first (length views)) told
+      → AllZip (λ m e. Tells c plp (epoch_parts c plp first (views ++ others) m) e) (epochs_in s first (length views))
+      told
       → AllZip (λ m e. Tells c plp (epoch_parts c plp first views m) e) (epochs_in s first (length views)) told
   told_after others told low z =
       zip_over (λ (m : ℕ) (e : Epoch). Tells c plp (epoch_parts c plp first (views ++ others) m) e)
@@ -317,7 +330,8 @@ unfolding TellAll
 none_told c plp first =
     let e : (first + 0) / spread c.plps plp - first / spread c.plps plp ≡ 0 =
     (let f : first + 0 ≡ first = omega arith in let g = ap (λ (k : ℕ). k / spread c.plps plp) f in omega (arith, g)) in
-    subst (λ (k : ℕ). AllZip (λ m e. Tells c plp (epoch_parts c plp first [] m) e) (range_with_len (first / spread c.plps plp) k)
+    subst (λ (k : ℕ). AllZip (λ m e. Tells c plp (epoch_parts c plp first [] m) e)
+    (range_with_len (first / spread c.plps plp) k)
     [])
     (sym e) tt
 

@@ -1,6 +1,8 @@
 -- The pieces that are taken of a data field are its items, one piece behind another.
-use Rattle.std.proofs.Common.{◌≡◌, ℕ, ◌+◌, ◌-◌, ◌*◌, ◌/◌, ◌%◌, ◌^◌, ◌<◌, ◌≤◌, ◌==◌, Bool, true, false, List, [], ◌∷◌, ◌++◌}
-use Rattle.std.proofs.Common.{length, take, drop, Option, Some, None, refl, ap, ◌∙◌, sym, subst, arith, inl, inr, append_assoc}
+use Rattle.std.proofs.Common.{◌≡◌, ℕ, ◌+◌, ◌-◌, ◌*◌, ◌/◌, ◌%◌, ◌^◌, ◌<◌, ◌≤◌, ◌==◌, Bool, true, false, List, [], ◌∷◌}
+use Rattle.std.proofs.Common.{◌++◌}
+use Rattle.std.proofs.Common.{length, take, drop, Option, Some, None, refl, ap, ◌∙◌, sym, subst, arith, inl, inr}
+use Rattle.std.proofs.Common.{append_assoc}
 use Rattle.std.proofs.Common.{length-drop, length-take, cond, eq-eqb}
 use Rattle.std.specs.Prelude.{min, if◌then◌else◌}
 use Rattle.std.proofs.lemmas.List.{take_all}
@@ -13,7 +15,8 @@ use Rattle.plp_receiver.specs.declared.slot_rule.SlotRule.{SlotRule}
 use Rattle.plp_receiver.specs.Sound.{IsSound}
 use Rattle.plp_receiver.specs.Strings.{Item, Block, is_start, first_mark, mark_at, items_from, block_items}
 use Rattle.plp_receiver.specs.Pieces.{piece_items}
-use Rattle.plp_receiver.proofs.BlockLemmas.{Ends, items_append, piece_is, ends_field, ends_start, none_marks, mark_before}
+use Rattle.plp_receiver.proofs.BlockLemmas.{Ends, items_append, piece_is, ends_field, ends_start, none_marks}
+use Rattle.plp_receiver.proofs.BlockLemmas.{mark_before}
 use Rattle.plp_receiver.proofs.BlockLemmas.{mark_first, mark_next, mark_inner}
 use Rattle.plp_receiver.specs.TakenBlocks.{front_of, IsBegun, IsStart}
 
@@ -42,11 +45,13 @@ module _ (len epoch : ℕ) (b : Block) where
       → ((j : ℕ) → at < j → j < at + n → mark_at len b j ≡ Inside) → Ends len epoch b (at + n) ≡ true
       → front_of len epoch b at ++ piece_items (mark_at len b at) epoch bytes ≡ front_of len epoch b (at + n)
   piece_behind at n bytes l e s inner ends =
-      let size : length bytes ≡ n = ap length e ∙ omega (arith, length-take n (drop at b.field), length-drop at b.field) in
+      let size : length bytes ≡ n = ap length e
+      ∙ omega (arith, length-take n (drop at b.field), length-drop at b.field) in
       let front : length (take at b.field) ≡ at = omega (arith, length-take at b.field) in
       sym (ap (items_from len epoch b 0) (take-add at n b.field ∙ ap (λ (p : List ℕ). take at b.field ++ p) (sym e))
       ∙ items_append len epoch b 0 (take at b.field) bytes
-      ∙ ap (λ (k : ℕ). front_of len epoch b at ++ items_from len epoch b k bytes) (let z : 0 + length (take at b.field) ≡ at =
+      ∙ ap (λ (k : ℕ). front_of len epoch b at ++ items_from len epoch b k bytes)
+      (let z : 0 + length (take at b.field) ≡ at =
       omega (arith, front) in z)
       ∙ ap (λ (p : List Item). front_of len epoch b at ++ p) (go bytes size))
     where
@@ -116,16 +121,19 @@ module _ (len epoch : ℕ) (b : Block) where
   front_taken (Some s) start e h l =
       let f : b.first ≡ Some start = e ∙ ap (λ (k : ℕ). Some k) (sym h.0) in
       let z : 0 + start ≡ start = omega arith in
-      ap (λ (m : Mark). piece_items m epoch (take start b.field)) (sym (mark_before len epoch b start f 0 (omega arith)))
+      ap (λ (m : Mark). piece_items m epoch (take start b.field))
+      (sym (mark_before len epoch b start f 0 (omega arith)))
       ∙ piece_behind 0 start (take start b.field) (omega (arith, h)) refl l
       (λ j p q. mark_before len epoch b start f j (omega arith))
-      (ends_start len epoch b (0 + start) (ap is_start (mark_first len epoch b start f (0 + start) z) ∙ is_first b.issy))
+      (ends_start len epoch b (0 + start) (ap is_start (mark_first len epoch b start f (0 + start) z)
+      ∙ is_first b.issy))
       ∙ ap (front_of len epoch b) z
 
   pub all_taken : (at : ℕ) → length b.field ≤ at → front_of len epoch b at ≡ block_items len epoch b
   all_taken at l = ap (items_from len epoch b 0) (take_all at b.field l)
 
-pub up_joined : (epoch : ℕ) (b : Block) (r a : SlotRule) → IsSound r → a ≡ r → (z : List Item) (start at end : ℕ) (bytes : List ℕ)
+pub up_joined : (epoch : ℕ) (b : Block) (r a : SlotRule) → IsSound r → a ≡ r
+    → (z : List Item) (start at end : ℕ) (bytes : List ℕ)
     (mark : Mark) → b.first ≡ Some start
     → at < length b.field → IsBegun start at a.up_len → end ≡ min (at + a.up_len) (length b.field)
     → bytes ≡ take (end - at) (drop at b.field)

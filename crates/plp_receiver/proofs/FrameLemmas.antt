@@ -32,7 +32,8 @@ module _ (r : SlotRule) (sound : IsSound r) (one : r.spread ≡ 1) where
   unfolding readback
   packets_are first count epochs =
       ap (λ (m : ℕ). map (slot_packet r (string_of r.up_len m epochs))
-      (range_with_len (over_after r (first - r.spread)) (due_after r (first + count) - over_after r (first - r.spread))))
+      (range_with_len (over_after r (first - r.spread)) (due_after r (first + count) - over_after r
+      (first - r.spread))))
       (epoch_is first)
       ∙ ap (λ (s : ℕ). map (slot_packet r (string_of r.up_len first epochs))
       (range_with_len (over_after r (first - s)) (due_after r (first + count) - over_after r (first - s)))) one

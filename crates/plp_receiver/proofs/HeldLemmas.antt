@@ -6,7 +6,8 @@ use Rattle.std.specs.Prelude.{not, option_map, slice_index, sum}
 use Rattle.std.specs.Option.{option_map_or}
 use Rattle.std.specs.List.{AllZip, range_with_len}
 use Rattle.std.proofs.lemmas.Bool.{both_ways, and_parts, eqb-true, eq-eqb, false_from_ne_true}
-use Rattle.std.proofs.lemmas.List.{length-take-le, length-drop, drop-drop, drop-take, take-take, drop-append-le, take-append-le}
+use Rattle.std.proofs.lemmas.List.{length-take-le, length-drop, drop-drop, drop-take, take-take, drop-append-le}
+use Rattle.std.proofs.lemmas.List.{take-append-le}
 use Rattle.std.proofs.lemmas.List.Folds.{list_all-append}
 use Rattle.std.proofs.Math.Seq.{drop-append_seam, take-append_seam}
 use Rattle.std.proofs.Math.Nat.{mul-le-mul_right}
@@ -86,7 +87,13 @@ module _ (k len : ℕ) (out block new : List ℕ) (long : length block ≡ len) 
       let whole : k * len ≡ a + m = omega (arith, fits) in
       let back : drop a (take (k * len) out) ≡ take m (drop a out) = ap (λ (n : ℕ). drop a (take n out)) whole
       ∙ drop-take a m out in
-      let size : len ≤ length (drop a (take (k * len) out)) = omega (arith, fits, front, length-drop a (take (k * len) out)) in
+      let size : len ≤ length (drop a (take (k * len) out)) = omega (
+        arith,
+        fits,
+        front,
+        length-drop
+            a (take (k * len) out),
+      ) in
       ap (λ (x : List ℕ). take len (drop a x)) new_is
       ∙ ap (take len) (drop-append-le a (take (k * len) out) (block ++ rest) (omega (arith, fits, front)))
       ∙ take-append-le len (drop a (take (k * len) out)) (block ++ rest) size
@@ -111,7 +118,8 @@ pub record Begun (c : Config) (plp : ℕ) (q : Part) (h : HeldBlocks) : Type 0 w
   pub bytes : (k : ℕ) → k < h.count → block_at h.len h.bytes.items k ≡ bytes_at q.blocks (place_of c plp q k)
   pub stand : (k : ℕ) → k < h.count → get_or h.stands.items k false ≡ true
 
-pub begun_at : (c : Config) (plp n : ℕ) (shape : FrameShape) (blocks rest : List frame.Block) (cells : List (Option Cell))
+pub begun_at : (c : Config) (plp n : ℕ) (shape : FrameShape) (blocks rest : List frame.Block)
+    (cells : List (Option Cell))
     (h : HeldBlocks) → h.there ≡ true → h.count ≡ slice_index shape.counts plp
     → rest ≡ drop (sum (take plp (coming c n shape))) blocks
     → ((k : ℕ) → k < h.count → block_at h.len h.bytes.items k ≡ bytes_at rest k)
@@ -124,7 +132,8 @@ begun_at c plp n shape blocks rest cells h there count behind bytes stand = reco
       let front : ℕ = sum (take plp (coming c n shape)) in
       bytes k l
       ∙ ap (λ (l : List frame.Block). bytes_at l k) behind
-      ∙ ap (λ (o : Option frame.Block). option_map_or (λ b. b.bytes) o []) (slice_get_drop blocks front k (front + k) refl);
+      ∙ ap (λ (o : Option frame.Block). option_map_or (λ b. b.bytes) o [])
+      (slice_get_drop blocks front k (front + k) refl);
   stand = stand;
 }
 
@@ -172,7 +181,8 @@ module _ (c : Config) (plp : ℕ) (q : Part) where
       both : (old.there ≡ true) × ((old.count == count_of plp q) ≡ true)
       both = and_parts old.there (old.count == count_of plp q) on
 
-      go : (ps : Option (List Part)) → is_begun ps ≡ true → Holds c plp ps old → Holds c plp (joined plp ps (Some q)) new
+      go : (ps : Option (List Part)) → is_begun ps ≡ true → Holds c plp ps old
+          → Holds c plp (joined plp ps (Some q)) new
       go None e k = absurd (both_ways _ k both.0)
       go (Some []) e k = absurd (both_ways _ refl e)
       go (Some (p ∷ ps)) e k =
@@ -194,7 +204,8 @@ module _ (c : Config) (plp : ℕ) (q : Part) where
       → (old.there && (old.count == count_of plp q)) ≡ false → new.there ≡ false → Sees c plp n (Some q) old new
   breaks_off n old new later off lost parts started h = go parts (started ∙ ap not later) h
     where
-      go : (ps : Option (List Part)) → is_begun ps ≡ true → Holds c plp ps old → Holds c plp (joined plp ps (Some q)) new
+      go : (ps : Option (List Part)) → is_begun ps ≡ true → Holds c plp ps old
+          → Holds c plp (joined plp ps (Some q)) new
       go None e k = lost
       go (Some []) e k = absurd (both_ways _ refl e)
       go (Some (p ∷ ps)) e k =
@@ -202,8 +213,10 @@ module _ (c : Config) (plp : ℕ) (q : Part) where
           sym (ap (λ (t : Bool). t && (old.count == count_of plp q)) k.there) ∙ off in
           let differ : (count_of plp q == count_of plp p) ≡ false =
           false_from_ne_true _ (λ (t : (count_of plp q == count_of plp p) ≡ true).
-          both_ways _ other (eq-eqb old.count (count_of plp q) (k.count ∙ sym (eqb-true (count_of plp q) (count_of plp p) t)))) in
-          subst (λ (b : Bool). Holds c plp (cond {A = Option (List Part)} b (Some (p ∷ ps ++ q ∷ [])) None) new) (sym differ) lost
+          both_ways _ other (eq-eqb old.count (count_of plp q) (k.count
+          ∙ sym (eqb-true (count_of plp q) (count_of plp p) t)))) in
+          subst (λ (b : Bool). Holds c plp (cond {A = Option (List Part)} b (Some (p ∷ ps ++ q ∷ [])) None) new)
+          (sym differ) lost
 
 -- a record that is not readable
 pub loses : (c : Config) (plp n : ℕ) (old new : HeldBlocks) → new.there ≡ false → Sees c plp n None old new
@@ -225,7 +238,8 @@ epoch_told c plp deletes h old new there own t (Some (p ∷ ps)) e k = record {
   tells = (
     t.told,
     subst (λ (n : ℕ). AllZip Given (range_with_len 0 n) t.told) k.count
-        (zip_over (λ i b. IsGiven deletes (get_or h.stands.items i false) (block_at h.len h.bytes.items i) b) Given 0 h.count
+        (zip_over (λ i b. IsGiven deletes (get_or h.stands.items i false) (block_at h.len h.bytes.items i) b)
+        Given 0 h.count
         t.told here t.given),
     refl,
   );
@@ -233,7 +247,8 @@ epoch_told c plp deletes h old new there own t (Some (p ∷ ps)) e k = record {
 }
   where
     Given : ℕ → Option Block → Type 0
-    Given i b = IsGiven (plp_at c.plps plp).delete (cells_stand c plp (p ∷ ps) i) (bytes_at p.blocks (place_of c plp p i)) b
+    Given i b = IsGiven (plp_at c.plps plp).delete (cells_stand c plp (p ∷ ps) i)
+        (bytes_at p.blocks (place_of c plp p i)) b
 
     here : (i : ℕ) (b : Option Block) → 0 ≤ i → i < 0 + h.count
         → IsGiven deletes (get_or h.stands.items i false) (block_at h.len h.bytes.items i) b → Given i b
@@ -243,14 +258,16 @@ epoch_told c plp deletes h old new there own t (Some (p ∷ ps)) e k = record {
         (subst (λ (x : Bool). IsGiven deletes x (bytes_at p.blocks (place_of c plp p i)) b) (k.stand i l)
         (subst (λ (x : List ℕ). IsGiven deletes (get_or h.stands.items i false) x b) (k.bytes i l) g))
 
-pub epoch_lost : (c : Config) (plp : ℕ) (h : HeldBlocks) (old new : PacketSlots) → h.there ≡ false → Ends old new lost_epoch
+pub epoch_lost : (c : Config) (plp : ℕ) (h : HeldBlocks) (old new : PacketSlots) → h.there ≡ false
+    → Ends old new lost_epoch
     → (parts : Option (List Part)) → is_begun parts ≡ true → Holds c plp parts h → TellsEpoch c plp parts old new
 epoch_lost c plp h old new lost ends None e k = record { told = lost_epoch; tells = refl; ends = ends }
 epoch_lost c plp h old new lost ends (Some []) e k = absurd (both_ways _ refl e)
 epoch_lost c plp h old new lost ends (Some (p ∷ ps)) e k = absurd (both_ways _ lost k.there)
 
 -- ---- a record by its parts
-pub muted_seen : (c : Config) (plp n : ℕ) (view : RecordView) (moment : Moment) (old new : HeldBlocks) → view ≡ Muted moment
+pub muted_seen : (c : Config) (plp n : ℕ) (view : RecordView) (moment : Moment) (old new : HeldBlocks)
+    → view ≡ Muted moment
     → new.there ≡ false → Sees c plp n (part_of c n view) old new
 muted_seen c plp n view moment old new e lost =
     subst (λ (v : RecordView). Sees c plp n (part_of c n v) old new) (sym e) (loses c plp n old new lost)

@@ -1,6 +1,8 @@
 -- What an assembler keeps is the machine's state, piece by piece.
-use Rattle.std.proofs.Common.{◌≡◌, ℕ, suc, ◌+◌, ◌-◌, ◌^◌, ◌<◌, ◌≤◌, ◌==◌, ◌&&◌, Bool, true, false, List, [], ◌∷◌, ◌++◌, length}
-use Rattle.std.proofs.Common.{take, get_or, Option, Some, None, refl, ap, ap₂, ◌∙◌, sym, subst, arith, length-append, cond}
+use Rattle.std.proofs.Common.{◌≡◌, ℕ, suc, ◌+◌, ◌-◌, ◌^◌, ◌<◌, ◌≤◌, ◌==◌, ◌&&◌, Bool, true, false, List, [], ◌∷◌, ◌++◌}
+use Rattle.std.proofs.Common.{length}
+use Rattle.std.proofs.Common.{take, get_or, Option, Some, None, refl, ap, ap₂, ◌∙◌, sym, subst, arith, length-append}
+use Rattle.std.proofs.Common.{cond}
 use Rattle.std.proofs.Common.{eq-eqb}
 use Rattle.std.specs.Prelude.{min, option_map, if◌then◌else◌, IfSome}
 use Rattle.std.proofs.lemmas.List.{get_or-take}
@@ -12,7 +14,8 @@ use Rattle.plp_receiver.specs.declared.assembler.Base.{Base}
 use Rattle.plp_receiver.specs.declared.assembler.Found.{Found}
 use Rattle.plp_receiver.specs.Sound.{IsSound}
 use Rattle.plp_receiver.specs.Strings.{Item, item_values, is_start, is_inside}
-use Rattle.plp_receiver.specs.Packets.{UserPacket, is_one, all_inside, last_item, last_of, no_item, first_item, dnp_of, slot_by}
+use Rattle.plp_receiver.specs.Packets.{UserPacket, is_one, all_inside, last_item, last_of, no_item, first_item, dnp_of}
+use Rattle.plp_receiver.specs.Packets.{slot_by}
 use Rattle.plp_receiver.specs.Packets.{slot_of, with_slot, user_packets}
 use Rattle.plp_receiver.specs.Machine.{State, Turn, state_of, turn_of, before_next, ended, given, Follows}
 use Rattle.plp_receiver.specs.Pieces.{item, piece_items, piece_grown, piece_inside, piece_turn}
@@ -44,7 +47,8 @@ all_append : (xs ys : List Item) → all_inside xs ≡ true → all_inside ys �
 all_append [] ys h e = e
 all_append (x ∷ xs) ys h e = go (is_inside x.mark) (all_inside xs) h (λ k. all_append xs ys k e)
   where
-    go : (a b : Bool) → (a && b) ≡ true → (b ≡ true → all_inside (xs ++ ys) ≡ true) → (a && all_inside (xs ++ ys)) ≡ true
+    go : (a b : Bool) → (a && b) ≡ true → (b ≡ true → all_inside (xs ++ ys) ≡ true)
+        → (a && all_inside (xs ++ ys)) ≡ true
     go true b h k = k h
     go false b h k = absurd (both_ways _ refl h)
 
@@ -55,7 +59,8 @@ one_append (x ∷ xs) ys h e = let p = one_parts x xs h in one_from x (xs ++ ys)
 
 one_piece : (m : Mark) (epoch v : ℕ) (vs : List ℕ) → is_start m ≡ true → is_one (piece_items m epoch (v ∷ vs)) ≡ true
 one_piece m epoch v [] h = one_from (item m v epoch true) [] h refl
-one_piece m epoch v (u ∷ us) h = one_from (item m v epoch false) (piece_items Inside epoch (u ∷ us)) h (all_piece epoch (u ∷ us))
+one_piece m epoch v (u ∷ us) h = one_from (item m v epoch false) (piece_items Inside epoch (u ∷ us))
+    h (all_piece epoch (u ∷ us))
 
 -- what the last item of a piece is
 pub record IsLast (epoch : ℕ) (x : Item) : Type 0 where
@@ -71,7 +76,8 @@ last_append d [] [] e l = absurd (omega arith)
 last_append d [] (y ∷ ys) e l = refl
 last_append d (x ∷ xs) ys e l = last_append x xs ys e l
 
-last_value : (d : Item) (xs : List Item) → 1 ≤ length xs → get_or (item_values xs) (length xs - 1) 0 ≡ (last_of d xs).value
+last_value : (d : Item) (xs : List Item) → 1 ≤ length xs → get_or (item_values xs) (length xs - 1)
+    0 ≡ (last_of d xs).value
 last_value d [] l = absurd (omega arith)
 last_value d (x ∷ []) l = refl
 last_value d (x ∷ y ∷ ys) l =
@@ -80,16 +86,19 @@ last_value d (x ∷ y ∷ ys) l =
 
 -- Slots.
 
-cap_next : (d : ℕ) (o : Option ℕ) → option_map (λ k. min (k + 1 + d) far) (capped o) ≡ capped (option_map (λ k. k + 1 + d) o)
+cap_next : (d : ℕ) (o : Option ℕ) → option_map (λ k. min (k + 1 + d) far) (capped o) ≡ capped
+    (option_map (λ k. k + 1 + d) o)
 cap_next d None = refl
-cap_next d (Some k) = let e : min (min k far + 1 + d) far ≡ min (k + 1 + d) far = omega arith in ap (λ (n : ℕ). Some n) e
+cap_next d (Some k) = let e : min (min k far + 1 + d) far ≡ min (k + 1 + d) far = omega arith in ap (λ (n : ℕ). Some n)
+    e
 
 cap_near : (o : Option ℕ) → IfSome o (λ k. k ≤ 2 ^ 53) → o ≡ capped o
 cap_near None h = refl
 cap_near (Some k) h = let e : k ≡ min k far = omega arith in ap (λ (n : ℕ). Some n) e
 
 -- the bytes of a user packet with those of the piece
-pub record Joined (r : SlotRule) (s : State) (len : ℕ) (held : List ℕ) (kept : Base) (mark : Mark) (epoch : ℕ) (bytes : List ℕ)
+pub record Joined (r : SlotRule) (s : State) (len : ℕ) (held : List ℕ) (kept : Base) (mark : Mark) (epoch : ℕ)
+    (bytes : List ℕ)
     (w : List Item) (before : Option ℕ) : Type 0 where
   pub turn : piece_turn r s mark (piece_items mark epoch bytes) ≡ piece_grown r w before
   pub size : length w ≡ next_len len mark + length bytes
@@ -105,7 +114,8 @@ pub record IsJoined (r : SlotRule) (s : State) (len : ℕ) (held : List ℕ) (ke
   pub joined : Joined r s len held kept mark epoch bytes w before
 
 module _ (r : SlotRule) (sound : IsSound r) (z : List Item) (epoch v : ℕ) (vs : List ℕ) where
-  goes_on : (hs : List Item) (before : Option ℕ) (len : ℕ) (held : List ℕ) (kept : Base) → Follows r z (state_of hs before)
+  goes_on : (hs : List Item) (before : Option ℕ) (len : ℕ) (held : List ℕ) (kept : Base)
+      → Follows r z (state_of hs before)
       → Holds r (state_of hs before) len held kept
       → (len == 0) ≡ false → IsJoined r (state_of hs before) len held kept Inside epoch (v ∷ vs)
   goes_on [] before len held kept f h e = absurd (both_ways _ e (eq-eqb len 0 h.count))
@@ -122,7 +132,8 @@ module _ (r : SlotRule) (sound : IsSound r) (z : List Item) (epoch v : ℕ) (vs 
               (piece_values Inside epoch (v ∷ vs));
           base = h.base;
           one = one_append (y ∷ ys) p f.begins (all_piece epoch (v ∷ vs));
-          last = subst (IsLast epoch) (sym (last_append no_item (y ∷ ys) p no_item some)) (piece_last no_item Inside epoch v vs);
+          last = subst (IsLast epoch) (sym (last_append no_item (y ∷ ys) p no_item some))
+              (piece_last no_item Inside epoch v vs);
         };
       }
 
@@ -156,12 +167,14 @@ module _ (r : SlotRule) (sound : IsSound r) (z : List Item) (epoch v : ℕ) (vs 
   before_is : (hs : List Item) (before : Option ℕ) (len : ℕ) (held : List ℕ) (kept : Base)
       → Holds r (state_of hs before) len held kept
       → (if len == 0 then kept.slot else None) ≡ capped (before_next hs before)
-  before_is [] before len held kept h = ap (λ (b : Bool). cond {A = Option ℕ} b kept.slot None) (eq-eqb len 0 h.count) ∙ h.base
+  before_is [] before len held kept h = ap (λ (b : Bool). cond {A = Option ℕ} b kept.slot None) (eq-eqb len 0 h.count)
+      ∙ h.base
   before_is (y ∷ ys) before len held kept h =
       ap (λ (b : Bool). cond {A = Option ℕ} b kept.slot None)
       (false_from_ne_true _ (λ (t : (len == 0) ≡ true). omega (arith, eqb-true len 0 t, h.count)))
 
-  pub joined : (mark : Mark) (s : State) (len : ℕ) (held : List ℕ) (kept : Base) → Follows r z s → Holds r s len held kept
+  pub joined : (mark : Mark) (s : State) (len : ℕ) (held : List ℕ) (kept : Base) → Follows r z s
+      → Holds r s len held kept
       → IsEpoch epoch mark
       → IfSome (next_base r len kept mark epoch).slot (λ k. k ≤ 2 ^ 53) → is_idle len mark ≡ false
       → IsJoined r s len held kept mark epoch (v ∷ vs)
@@ -191,7 +204,8 @@ module _ (r : SlotRule) (sound : IsSound r) (z : List Item) (epoch v : ℕ) (vs 
   idles Next s len held kept h e = absurd (both_ways _ refl e)
   idles (Timed iscr) s len held kept h e = absurd (both_ways _ refl e)
 
-module _ (r : SlotRule) (sound : IsSound r) (z : List Item) (epoch v : ℕ) (vs : List ℕ) (mark : Mark) (len : ℕ) (held : List ℕ)
+module _ (r : SlotRule) (sound : IsSound r) (z : List Item) (epoch v : ℕ) (vs : List ℕ) (mark : Mark)
+    (len : ℕ) (held : List ℕ)
     (kept : Base) (st : AssemblerStands r len held kept z) (is : IsEpoch epoch mark) where
   abbrev piece : List Item
   piece = piece_items mark epoch (v ∷ vs)
@@ -220,7 +234,8 @@ module _ (r : SlotRule) (sound : IsSound r) (z : List Item) (epoch v : ℕ) (vs 
       (record { follows = m.follows; packets = m.gains })
 
   emptied : (before : Option ℕ) (given : List UserPacket) (new_len : ℕ) (new_held : List ℕ) (new_kept : Base)
-      → piece_turn r st.state mark piece ≡ turn_of (state_of [] before) given → new_len ≡ 0 → new_kept.slot ≡ capped before
+      → piece_turn r st.state mark piece ≡ turn_of (state_of [] before) given → new_len ≡ 0
+      → new_kept.slot ≡ capped before
       → AssemblerStands r new_len new_held new_kept (z ++ piece)
   emptied before given new_len new_held new_kept e l b = record {
     state = state_of [] before;
@@ -252,7 +267,8 @@ module _ (r : SlotRule) (sound : IsSound r) (z : List Item) (epoch v : ℕ) (vs 
         ∙ lt_cond r epoch r.up_len (length j.w) _ _ (omega (arith, j.joined.size))
 
     -- too many bytes
-    pub over_stands : r.up_len < total → (new_len : ℕ) (new_held : List ℕ) (new_kept : Base) → new_len ≡ 0 → new_kept.slot ≡ None
+    pub over_stands : r.up_len < total → (new_len : ℕ) (new_held : List ℕ) (new_kept : Base) → new_len ≡ 0
+        → new_kept.slot ≡ None
         → AssemblerStands r new_len new_held new_kept (z ++ piece)
     over_stands l new_len new_held new_kept e b = emptied None [] new_len new_held new_kept (passed l) e b
 
@@ -263,7 +279,8 @@ module _ (r : SlotRule) (sound : IsSound r) (z : List Item) (epoch v : ℕ) (vs 
     waits l = j.joined.turn ∙ lt_cond r epoch (length j.w) r.up_len _ _ (omega (arith, j.joined.size))
 
     -- too few bytes
-    pub short_stands : total < r.up_len → (new_held : List ℕ) → take total new_held ≡ take (next_len len mark) held ++ v ∷ vs
+    pub short_stands : total < r.up_len → (new_held : List ℕ) → take total new_held ≡ take (next_len len mark) held
+        ++ v ∷ vs
         → AssemblerStands r total new_held next (z ++ piece)
     short_stands l new_held e = record {
       state = state_of j.w j.before;
@@ -287,16 +304,19 @@ module _ (r : SlotRule) (sound : IsSound r) (z : List Item) (epoch v : ℕ) (vs 
     unfolding slot_of
     slot_is =
         ap₂ (λ (a b : Bool).
-        cond {A = Option ℕ} (a && b) (slot_by r (first_item j.w).mark (first_item j.w).epoch (dnp_of r j.w) j.before) None)
+        cond {A = Option ℕ} (a && b) (slot_by r (first_item j.w).mark (first_item j.w).epoch (dnp_of r j.w) j.before)
+        None)
         j.joined.one j.joined.last.can_end
 
-    base_is : (w : List Item) (before : Option ℕ) → 1 ≤ length w → IsBase r w before next → (next.epoch ≡ (first_item w).epoch)
+    base_is : (w : List Item) (before : Option ℕ) → 1 ≤ length w → IsBase r w before next
+        → (next.epoch ≡ (first_item w).epoch)
         × ((dnp : ℕ) → slot_with next dnp ≡ capped (slot_by r (first_item w).mark (first_item w).epoch dnp before))
     base_is [] before l b = absurd (omega arith)
     base_is (x ∷ xs) before l b = b
 
     -- as many bytes as a user packet has
-    module _ (l : total ≡ r.up_len) (new_held : List ℕ) (e : take total new_held ≡ take (next_len len mark) held ++ v ∷ vs) where
+    module _ (l : total ≡ r.up_len) (new_held : List ℕ) (e : take total new_held ≡ take (next_len len mark) held
+        ++ v ∷ vs) where
       whole : take r.up_len new_held ≡ item_values j.w
       whole = ap (λ (n : ℕ). take n new_held) (sym l) ∙ e ∙ sym j.joined.values_are
 
@@ -311,15 +331,18 @@ module _ (r : SlotRule) (sound : IsSound r) (z : List Item) (epoch v : ℕ) (vs 
           ∙ last_value no_item j.w (omega (arith, n, u)))
 
       parts : (next.epoch ≡ (first_item j.w).epoch)
-          × ((dnp : ℕ) → slot_with next dnp ≡ capped (slot_by r (first_item j.w).mark (first_item j.w).epoch dnp j.before))
+          × ((dnp : ℕ) → slot_with next dnp ≡ capped (slot_by r (first_item j.w).mark (first_item j.w).epoch
+          dnp j.before))
       parts = base_is j.w j.before (omega (arith, j.joined.size)) j.joined.base
 
       pub end_slot : slot_with next (kept_dnp r new_held) ≡ capped slot_now
       end_slot = ap (slot_with next) dnp_is ∙ parts.1 (dnp_of r j.w) ∙ sym (ap capped slot_is)
 
       pub end_stands : (new_len : ℕ) (any_held : List ℕ) (new_kept : Base) → new_len ≡ 0
-          → new_kept.slot ≡ slot_with next (kept_dnp r new_held) → AssemblerStands r new_len any_held new_kept (z ++ piece)
-      end_stands new_len any_held new_kept n b = emptied slot_now (with_slot j.w slot_now) new_len any_held new_kept (ends l) n
+          → new_kept.slot ≡ slot_with next (kept_dnp r new_held) → AssemblerStands r new_len any_held
+          new_kept (z ++ piece)
+      end_stands new_len any_held new_kept n b = emptied slot_now (with_slot j.w slot_now) new_len any_held
+          new_kept (ends l) n
           (b ∙ end_slot)
 
       gives : (o : Option ℕ) → Gives r epoch new_held (found_of next (capped o)) (with_slot j.w o)

@@ -1,6 +1,8 @@
 -- A complete user packet, by the blocks of a run.
-use Rattle.std.proofs.Common.{◌≡◌, ℕ, zero, suc, ◌+◌, ◌-◌, ◌*◌, ◌/◌, ◌%◌, ◌<◌, ◌≤◌, ◌==◌, ◌&&◌, ◌||◌, Bool, true, false, List, []}
-use Rattle.std.proofs.Common.{◌∷◌, length, take, drop, get_or, Option, Some, None, refl, ap, ap₂, ◌∙◌, sym, subst, arith, inl}
+use Rattle.std.proofs.Common.{◌≡◌, ℕ, zero, suc, ◌+◌, ◌-◌, ◌*◌, ◌/◌, ◌%◌, ◌<◌, ◌≤◌, ◌==◌, ◌&&◌, ◌||◌, Bool, true, false}
+use Rattle.std.proofs.Common.{List, []}
+use Rattle.std.proofs.Common.{◌∷◌, length, take, drop, get_or, Option, Some, None, refl, ap, ap₂, ◌∙◌, sym, subst}
+use Rattle.std.proofs.Common.{arith, inl}
 use Rattle.std.proofs.Common.{inr, length-append, length-take, length-drop}
 use Rattle.std.proofs.lemmas.Bool.{cases_lt, cases_eq, both_ways, and_parts, false_from_ne_true, eqb-true}
 use Rattle.std.proofs.lemmas.List.{get_or-take, get_or-drop, drop_more, get_or_append_left, get_or-append_right}
@@ -12,7 +14,8 @@ use Rattle.plp_receiver.specs.Sound.{IsSound}
 use Rattle.plp_receiver.specs.Strings.{Item, Block, is_start, is_inside, mark_at, item_at, items_from, block_items}
 use Rattle.plp_receiver.specs.Packets.{all_inside, is_one, is_complete, last_item, no_item, window}
 use Rattle.plp_receiver.proofs.OneLemmas.{one_parts, one_from}
-use Rattle.plp_receiver.proofs.BlockLemmas.{Ends, ends_field, ends_start, none_marks, mark_before, mark_first, mark_next}
+use Rattle.plp_receiver.proofs.BlockLemmas.{Ends, ends_field, ends_start, none_marks, mark_before, mark_first}
+use Rattle.plp_receiver.proofs.BlockLemmas.{mark_next}
 use Rattle.plp_receiver.proofs.BlockLemmas.{mark_inner}
 use Rattle.plp_receiver.proofs.FieldLemmas.{is_first}
 use Rattle.plp_receiver.proofs.PlaceLemmas.{last_is}
@@ -41,7 +44,8 @@ all_at [] k h l = absurd (omega arith)
 all_at (x ∷ xs) zero h l = (and_parts (is_inside x.mark) (all_inside xs) h).0
 all_at (x ∷ xs) (suc k) h l = all_at xs k (and_parts (is_inside x.mark) (all_inside xs) h).1 (omega arith)
 
-all_of : (xs : List Item) → ((k : ℕ) → k < length xs → is_inside (get_or xs k no_item).mark ≡ true) → all_inside xs ≡ true
+all_of : (xs : List Item) → ((k : ℕ) → k < length xs → is_inside (get_or xs k no_item).mark ≡ true)
+    → all_inside xs ≡ true
 all_of [] h = refl
 all_of (x ∷ xs) h = ap₂ (λ (a b : Bool). a && b) (h 0 (omega arith)) (all_of xs (λ k l. h (suc k) (omega arith)))
 
@@ -88,7 +92,8 @@ module _ (r : SlotRule) (sound : IsSound r) where
     complete_of h =
         let all = all_of rest (λ k m. ap (λ (i : Item). is_inside i.mark) (rest_at k (omega (arith, long, m)))
         ∙ h.inner (x + 1 + k) (omega arith) (omega (arith, long, m))) in
-        ap₂ (λ (a b : Bool). a && b) (ap is_one split ∙ one_from (at z x) rest start all) (ap (λ (i : Item). i.can_end) last
+        ap₂ (λ (a b : Bool). a && b) (ap is_one split ∙ one_from (at z x) rest start all)
+        (ap (λ (i : Item). i.can_end) last
         ∙ h.ends)
 
   -- the blocks of a run from a place on are the items of the string from there on
@@ -109,7 +114,8 @@ module _ (r : SlotRule) (sound : IsSound r) where
   in_block z place p run a i l =
       let e : 0 + i ≡ i = omega arith in
       a i (omega (arith, run_len p run))
-      ∙ get_or_append_left (block_items r.up_len p.epoch p.block) (run_items r.up_len run) no_item i (omega (arith, field_len p))
+      ∙ get_or_append_left (block_items r.up_len p.epoch p.block) (run_items r.up_len run) no_item i
+      (omega (arith, field_len p))
       ∙ items_at r.up_len p.epoch p.block p.block.field 0 i l
       ∙ ap (λ (j : ℕ). item_at r.up_len p.epoch p.block j (get_or p.block.field i 0)) e
 
@@ -126,7 +132,8 @@ module _ (r : SlotRule) (sound : IsSound r) where
 
   module _ (z : List Item) (x : ℕ) where
     -- from the bytes to the blocks
-    one_continues : AreBytes r.up_len z x → (place : ℕ) (p : Placed) (run : List Placed) → Agrees z place (p ∷ run) → x < place
+    one_continues : AreBytes r.up_len z x → (place : ℕ) (p : Placed) (run : List Placed) → Agrees z place (p ∷ run)
+        → x < place
         → place < x + r.up_len
         → (first : Option ℕ) → p.block.first ≡ first → IsPlace first (length p.block.field)
         → Continues r.up_len x place first (length p.block.field)
@@ -158,7 +165,8 @@ module _ (r : SlotRule) (sound : IsSound r) where
           | inl lt ↦
               elim (not_both (mark_at r.up_len p.block s) (ap is_start (mark_first r.up_len p.epoch p.block s e s refl)
               ∙ is_first p.block.issy)
-              (sym (ap (λ (t : Item). is_inside t.mark) (in_block z place p run a s f)) ∙ h.inner (place + s) (omega arith) lt))
+              (sym (ap (λ (t : Item). is_inside t.mark) (in_block z place p run a s f))
+              ∙ h.inner (place + s) (omega arith) lt))
               [ ]
           | inr ge ↦ elim (cases_eq (place + s) (x + r.up_len)) [
             | inl same ↦ same
@@ -200,8 +208,10 @@ module _ (r : SlotRule) (sound : IsSound r) where
 
     -- a block whose marks are known
     block_covers : (place : ℕ) (p : Placed) (run : List Placed) → Agrees z place (p ∷ run)
-        → ((i : ℕ) → x < place + i → i < length p.block.field → place + i < x + r.up_len → mark_at r.up_len p.block i ≡ Inside)
-        → ((i : ℕ) → place + i ≡ x + (r.up_len - 1) → i < length p.block.field → Ends r.up_len p.epoch p.block (i + 1) ≡ true)
+        → ((i : ℕ) → x < place + i → i < length p.block.field → place + i < x + r.up_len
+        → mark_at r.up_len p.block i ≡ Inside)
+        → ((i : ℕ) → place + i ≡ x + (r.up_len - 1) → i < length p.block.field
+        → Ends r.up_len p.epoch p.block (i + 1) ≡ true)
         → Covers place (place + length p.block.field)
     block_covers place p run a marks ends = record {
       inner = λ q l m n o.
@@ -229,16 +239,19 @@ module _ (r : SlotRule) (sound : IsSound r) where
         mark_before r.up_len p.epoch p.block s e i (omega (arith, c)))
         (λ i q m. let u = sound.up in let c = h (omega (arith, q, u)) in
         ends_start r.up_len p.epoch p.block (i + 1)
-        (ap is_start (mark_first r.up_len p.epoch p.block s e (i + 1) (omega (arith, q, c, u))) ∙ is_first p.block.issy))
+        (ap is_start (mark_first r.up_len p.epoch p.block s e (i + 1) (omega (arith, q, c, u)))
+        ∙ is_first p.block.issy))
 
     later : (place : ℕ) (run : List Placed) → Agrees z place run → x < place → EachLater r.up_len x place run
         → Covers place (place + length (run_items r.up_len run))
     later place [] a before h = record { inner = λ q l m n o. absurd (omega arith); ends = λ m n. absurd (omega arith) }
     later place (p ∷ run) a before h =
-        let e : place + length p.block.field + length (run_items r.up_len run) ≡ place + length (run_items r.up_len (p ∷ run)) =
+        let e : place + length p.block.field + length (run_items r.up_len run) ≡ place + length
+        (run_items r.up_len (p ∷ run)) =
         omega (arith, run_len p run) in
         subst (Covers place) e
-        (both_cover place (place + length p.block.field) (place + length p.block.field + length (run_items r.up_len run))
+        (both_cover place (place + length p.block.field) (place + length p.block.field + length
+        (run_items r.up_len run))
         (one_later place p run a before p.block.first refl (h.0 before))
         (later (place + length p.block.field) run (behind z place p run a) (omega arith) h.1))
 
@@ -262,7 +275,8 @@ module _ (r : SlotRule) (sound : IsSound r) where
         → x < place + length p.block.field
         → (first : Option ℕ) → p.block.first ≡ first → is_start (mark_at r.up_len p.block (x - place)) ≡ true
         → Covers place (place + length p.block.field)
-    own_block place p run a l m None e st = elim (inside_no_start _ (none_marks r.up_len p.epoch p.block (x - place) e) st) [ ]
+    own_block place p run a l m None e st = elim (inside_no_start _ (none_marks r.up_len p.epoch p.block (x - place) e)
+        st) [ ]
     own_block place p run a l m (Some s) e st =
         let u = sound.up in
         let w : ℕ = x - place in
@@ -297,12 +311,14 @@ module _ (r : SlotRule) (sound : IsSound r) where
           | inr ge ↦ ends_field r.up_len p.epoch p.block (i + 1) (omega (arith, c, ge))
         ])
 
-    from_own : (place : ℕ) (run : List Placed) → Agrees z place run → place ≤ x → x < place + length (run_items r.up_len run)
+    from_own : (place : ℕ) (run : List Placed) → Agrees z place run → place ≤ x
+        → x < place + length (run_items r.up_len run)
         → is_start (at z x).mark ≡ true → EachLater r.up_len x place run
         → Covers x (place + length (run_items r.up_len run))
     from_own place [] a l m st h = absurd (omega arith)
     from_own place (p ∷ run) a l m st h =
-        let e : place + length p.block.field + length (run_items r.up_len run) ≡ place + length (run_items r.up_len (p ∷ run)) =
+        let e : place + length p.block.field + length (run_items r.up_len run) ≡ place + length
+        (run_items r.up_len (p ∷ run)) =
         omega (arith, run_len p run) in
         elim (cases_lt x (place + length p.block.field)) [
           | inl lt ↦
@@ -312,7 +328,8 @@ module _ (r : SlotRule) (sound : IsSound r) where
               ∙ ap (λ (k : ℕ). is_start (at z k).mark) q ∙ st in
               let own = own_block place p run a l lt p.block.first refl start in
               subst (Covers x) e
-              (both_cover x (place + length p.block.field) (place + length p.block.field + length (run_items r.up_len run))
+              (both_cover x (place + length p.block.field) (place + length p.block.field + length
+              (run_items r.up_len run))
               (record {
                 inner = λ k b c d o. own.inner k b (omega arith) d o;
                 ends = λ c d. let u = sound.up in
@@ -327,7 +344,8 @@ module _ (r : SlotRule) (sound : IsSound r) where
 pub complete_by_blocks : CompleteByBlocks
 complete_by_blocks r run x sound field start l =
     let z : List Item = run_items r.up_len run in
-    let agrees : (i : ℕ) → i < length z → at z (0 + i) ≡ at z i = λ i m. let e : 0 + i ≡ i = omega arith in ap (at z) e in
+    let agrees : (i : ℕ) → i < length z → at z (0 + i) ≡ at z i = λ i m. let e : 0 + i ≡ i = omega arith in
+    ap (at z) e in
     let u = sound.up in (
       λ h. each_later r sound z x (bytes_of r sound z x start l h) 0 run agrees field,
       λ h.

@@ -1,6 +1,5 @@
 -- The laws of what a PLP is given back together with the common one.
-use Rattle.std.proofs.Common.{◌≡◌, ℕ, ◌<◌, List, ◌++◌, length, Option, Some, None, refl, ap, ap₂, sym, ◌∙◌}
-use Rattle.plp_config.specs.Capacity.{IsPlan}
+use Rattle.std.proofs.Common.{◌≡◌, ℕ, List, ◌++◌, Option, Some, None, refl, ap, ap₂, sym, ◌∙◌}
 use Rattle.plp_config.specs.declared.config.Config.{Config}
 use Rattle.site_frame.specs.declared.reading.RecordView.{RecordView}
 use Rattle.plp_receiver.specs.Laws.{ReadbackOnce, ReadbackFront}
@@ -10,7 +9,8 @@ use Rattle.common_plp.proofs.LawLemmas.{has_common}
 use Rattle.plp_receiver.specs.JoinedBack.{JoinedBackWith}
 use Rattle.plp_receiver.specs.JointLaws.{JoinedOnce, JoinedFront}
 
-once_with : ReadbackOnce → (o : Option ℕ) (c : Config) (plp first : ℕ) (views : List RecordView) (packets other : List (List ℕ))
+once_with : ReadbackOnce → (o : Option ℕ) (c : Config) (plp first : ℕ) (views : List RecordView)
+    (packets other : List (List ℕ))
     → JoinedBackWith o c plp first views packets → JoinedBackWith o c plp first views other → packets ≡ other
 once_with once None c plp first views packets other a b = once c plp first views packets other a b
 once_with once (Some common) c plp first views packets other a b =

@@ -21,12 +21,14 @@ slots_of r first count = due_after r (first + count) - first_slot r first
 abbrev rule_with : SlotRule → SlotTimes → ℕ → SlotRule
 rule_with r times spread = record r { times = times; spread = spread }
 
-count_is : (c : Config) (plp first : ℕ) (views : List RecordView) (packets : List (List ℕ)) → Readback c plp first views packets
+count_is : (c : Config) (plp first : ℕ) (views : List RecordView) (packets : List (List ℕ))
+    → Readback c plp first views packets
     → length packets ≡ slots_of (slot_rule c plp) first (length views)
 count_is c plp first views packets b =
     ap length b.packets_are ∙ length_readback (slot_rule c plp) first (length views) b.told
 
-pub same_length : InStep → (c : Config) (plp common : ℕ) → AllRules c → plp < length c.plps → common_of c plp ≡ Some common
+pub same_length : InStep → (c : Config) (plp common : ℕ) → AllRules c → plp < length c.plps
+    → common_of c plp ≡ Some common
     → (first : ℕ) (views : List RecordView) (shared own : List (List ℕ)) → Readback c common first views shared
     → Readback c plp first views own → length shared ≡ length own
 same_length step c plp common rules inside is first views shared own a b =

@@ -1,5 +1,6 @@
 -- Strings that begin a user packet with their first byte and no other.
-use Rattle.std.proofs.Common.{◌≡◌, ◌≤◌, ◌&&◌, Bool, true, false, List, [], ◌∷◌, ◌++◌, length, refl, ap, ap₂, ◌∙◌, sym, arith}
+use Rattle.std.proofs.Common.{◌≡◌, ◌≤◌, ◌&&◌, Bool, true, false, List, [], ◌∷◌, ◌++◌, length, refl, ap, ap₂, ◌∙◌, sym}
+use Rattle.std.proofs.Common.{arith}
 use Rattle.std.proofs.lemmas.Bool.{and_parts, both_ways, false_from_ne_true}
 use Rattle.plp_receiver.specs.Strings.{Item, is_start, is_inside}
 use Rattle.plp_receiver.specs.Packets.{all_inside, is_one}
@@ -10,7 +11,8 @@ all_front (x ∷ xs) ys h =
     let p = and_parts (is_inside x.mark) (all_inside (xs ++ ys)) h in
     ap₂ (λ (a b : Bool). a && b) p.0 (all_front xs ys p.1)
 
-all_push : (xs : List Item) (x : Item) → all_inside xs ≡ true → is_inside x.mark ≡ true → all_inside (xs ++ x ∷ []) ≡ true
+all_push : (xs : List Item) (x : Item) → all_inside xs ≡ true → is_inside x.mark ≡ true
+    → all_inside (xs ++ x ∷ []) ≡ true
 all_push [] x h e = ap (λ (a : Bool). a && true) e
 all_push (y ∷ xs) x h e =
     let p = and_parts (is_inside y.mark) (all_inside xs) h in
@@ -38,7 +40,8 @@ none_on (x ∷ xs) ys l h =
     let p = one_parts x (xs ++ ys) t in both_ways _ h (one_from x xs p.0 (all_front xs ys p.1)))
 
 -- a start or a gap behind the first byte
-pub none_cut : (xs : List Item) (x : Item) (ys : List Item) → 1 ≤ length xs → is_inside x.mark ≡ false → is_one (xs ++ x ∷ ys)
+pub none_cut : (xs : List Item) (x : Item) (ys : List Item) → 1 ≤ length xs → is_inside x.mark ≡ false
+    → is_one (xs ++ x ∷ ys)
     ≡ false
 none_cut [] x ys l e = absurd (omega arith)
 none_cut (y ∷ xs) x ys l e =

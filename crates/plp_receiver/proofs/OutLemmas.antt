@@ -1,5 +1,6 @@
 -- One lemma for each way out of `piece`, over the parts of the assembler.
-use Rattle.std.proofs.Common.{◌≡◌, ℕ, ◌+◌, ◌^◌, ◌<◌, ◌≤◌, true, false, List, [], ◌∷◌, ◌++◌, length, take, Option, None, refl, ap}
+use Rattle.std.proofs.Common.{◌≡◌, ℕ, ◌+◌, ◌^◌, ◌<◌, ◌≤◌, true, false, List, [], ◌∷◌, ◌++◌, length, take, Option, None}
+use Rattle.std.proofs.Common.{refl, ap}
 use Rattle.std.proofs.Common.{◌∙◌, sym, subst, arith, append-nil}
 use Rattle.std.specs.Prelude.{IfSome}
 use Rattle.plp_receiver.specs.declared.slot_rule.SlotRule.{SlotRule}
@@ -29,7 +30,8 @@ module _ (rule r : SlotRule) (len : ℕ) (held : List ℕ) (kept : Base) (z : Li
   sound_r : (bytes : List ℕ) → Before rule r len held kept z mark epoch bytes → IsSound r
   sound_r bytes b = subst IsSound b.same b.sound
 
-  next_is : (base : Base) → rule ≡ r → base ≡ next_base rule len kept mark epoch → base ≡ next_base r len kept mark epoch
+  next_is : (base : Base) → rule ≡ r → base ≡ next_base rule len kept mark epoch
+      → base ≡ next_base r len kept mark epoch
   next_is base e h = h ∙ ap (λ (q : SlotRule). next_base q len kept mark epoch) e
 
   near_is : (base : Base) → base ≡ next_base r len kept mark epoch → IfSome base.slot (λ k. k ≤ 2 ^ 53)
@@ -40,11 +42,14 @@ module _ (rule r : SlotRule) (len : ℕ) (held : List ℕ) (kept : Base) (z : Li
   len_is e = ap (λ (q : SlotRule). q.up_len) e
 
   pub idle_out : (bytes : List ℕ) → Before rule r len held kept z mark epoch bytes → is_idle len mark ≡ true
-      → (l : ℕ) (h : List ℕ) (k : Base) → l ≡ 0 → k.slot ≡ None → AssemblerStands r l h k (z ++ piece_items mark epoch bytes)
+      → (l : ℕ) (h : List ℕ) (k : Base) → l ≡ 0 → k.slot ≡ None
+      → AssemblerStands r l h k (z ++ piece_items mark epoch bytes)
   idle_out [] b i l h k e f = let s = b.some in absurd (omega (arith, s))
-  idle_out (v ∷ vs) b i l h k e f = H.idle_stands r (sound_r (v ∷ vs) b) z epoch v vs mark len held kept b.stands b.at i l h k e f
+  idle_out (v ∷ vs) b i l h k e f = H.idle_stands r (sound_r (v ∷ vs) b) z epoch v vs mark len held kept
+      b.stands b.at i l h k e f
 
-  pub idle_gains_out : (bytes : List ℕ) → Before rule r len held kept z mark epoch bytes → is_idle len mark ≡ true → (h : List ℕ)
+  pub idle_gains_out : (bytes : List ℕ) → Before rule r len held kept z mark epoch bytes → is_idle len mark ≡ true
+      → (h : List ℕ)
       → Gains r z epoch (piece_items mark epoch bytes) h None
   idle_gains_out [] b i h = let s = b.some in absurd (omega (arith, s))
   idle_gains_out (v ∷ vs) b i h = H.idle_gains r (sound_r (v ∷ vs) b) z epoch v vs mark len held kept b.stands b.at i h
@@ -54,14 +59,17 @@ module _ (rule r : SlotRule) (len : ℕ) (held : List ℕ) (kept : Base) (z : Li
       → rule.up_len < next_len len mark + length bytes → (l : ℕ) (h : List ℕ) (k : Base) → l ≡ 0 → k.slot ≡ None
       → AssemblerStands r l h k (z ++ piece_items mark epoch bytes)
   over_out [] b base n g i m l h k e f = let s = b.some in absurd (omega (arith, s))
-  over_out (v ∷ vs) b base n g i m l h k e f = H.over_stands r (sound_r (v ∷ vs) b) z epoch v vs mark len held kept b.stands b.at
+  over_out (v ∷ vs) b base n g i m l h k e f = H.over_stands r (sound_r (v ∷ vs) b) z epoch v vs mark
+      len held kept b.stands b.at
       (near_is base (next_is base b.same n) g) i (let q = len_is b.same in omega (arith, q, m)) l h k e f
 
   pub over_gains_out : (bytes : List ℕ) → Before rule r len held kept z mark epoch bytes → (base : Base)
       → base ≡ next_base rule len kept mark epoch → IfSome base.slot (λ k. k ≤ 2 ^ 53) → is_idle len mark ≡ false
-      → rule.up_len < next_len len mark + length bytes → (h : List ℕ) → Gains r z epoch (piece_items mark epoch bytes) h None
+      → rule.up_len < next_len len mark + length bytes → (h : List ℕ)
+      → Gains r z epoch (piece_items mark epoch bytes) h None
   over_gains_out [] b base n g i m h = let s = b.some in absurd (omega (arith, s))
-  over_gains_out (v ∷ vs) b base n g i m h = H.over_gains r (sound_r (v ∷ vs) b) z epoch v vs mark len held kept b.stands b.at
+  over_gains_out (v ∷ vs) b base n g i m h = H.over_gains r (sound_r (v ∷ vs) b) z epoch v vs mark len
+      held kept b.stands b.at
       (near_is base (next_is base b.same n) g) i (let q = len_is b.same in omega (arith, q, m)) h
 
   pub short_out : (bytes : List ℕ) → Before rule r len held kept z mark epoch bytes → (base : Base)
@@ -71,20 +79,25 @@ module _ (rule r : SlotRule) (len : ℕ) (held : List ℕ) (kept : Base) (z : Li
       (z ++ piece_items mark epoch bytes)
   short_out [] b base n g i m h e = let s = b.some in absurd (omega (arith, s))
   short_out (v ∷ vs) b base n g i m h e =
-      subst (λ (k : Base). AssemblerStands r (next_len len mark + length (v ∷ vs)) h k (z ++ piece_items mark epoch (v ∷ vs)))
+      subst (λ (k : Base). AssemblerStands r (next_len len mark + length (v ∷ vs)) h k
+      (z ++ piece_items mark epoch (v ∷ vs)))
       (sym (next_is base b.same n)) (H.short_stands r (sound_r (v ∷ vs) b) z epoch v vs mark len held kept b.stands b.at
       (near_is base (next_is base b.same n) g) i (let q = len_is b.same in omega (arith, q, m)) h e)
 
   pub short_gains_out : (bytes : List ℕ) → Before rule r len held kept z mark epoch bytes → (base : Base)
       → base ≡ next_base rule len kept mark epoch → IfSome base.slot (λ k. k ≤ 2 ^ 53) → is_idle len mark ≡ false
-      → next_len len mark + length bytes < rule.up_len → (h : List ℕ) → Gains r z epoch (piece_items mark epoch bytes) h None
+      → next_len len mark + length bytes < rule.up_len → (h : List ℕ)
+      → Gains r z epoch (piece_items mark epoch bytes) h None
   short_gains_out [] b base n g i m h = let s = b.some in absurd (omega (arith, s))
-  short_gains_out (v ∷ vs) b base n g i m h = H.short_gains r (sound_r (v ∷ vs) b) z epoch v vs mark len held kept b.stands b.at
+  short_gains_out (v ∷ vs) b base n g i m h = H.short_gains r (sound_r (v ∷ vs) b) z epoch v vs mark
+      len held kept b.stands b.at
       (near_is base (next_is base b.same n) g) i (let q = len_is b.same in omega (arith, q, m)) h
 
-  slot_is : (base : Base) (h : List ℕ) → base ≡ next_base r len kept mark epoch → rule ≡ r → slot_with base (kept_dnp rule h)
+  slot_is : (base : Base) (h : List ℕ) → base ≡ next_base r len kept mark epoch → rule ≡ r
+      → slot_with base (kept_dnp rule h)
       ≡ slot_with (next_base r len kept mark epoch) (kept_dnp r h)
-  slot_is base h e f = ap (λ (q : SlotRule). slot_with base (kept_dnp q h)) f ∙ ap (λ (p : Base). slot_with p (kept_dnp r h)) e
+  slot_is base h e f = ap (λ (q : SlotRule). slot_with base (kept_dnp q h)) f
+      ∙ ap (λ (p : Base). slot_with p (kept_dnp r h)) e
 
   pub end_out : (bytes : List ℕ) → Before rule r len held kept z mark epoch bytes → (base : Base)
       → base ≡ next_base rule len kept mark epoch → IfSome base.slot (λ k. k ≤ 2 ^ 53) → is_idle len mark ≡ false
@@ -93,25 +106,31 @@ module _ (rule r : SlotRule) (len : ℕ) (held : List ℕ) (kept : Base) (z : Li
       → k.slot ≡ slot_with base (kept_dnp rule h) → AssemblerStands r l any k (z ++ piece_items mark epoch bytes)
   end_out [] b base n g i m h e l any k f s = let s = b.some in absurd (omega (arith, s))
   end_out (v ∷ vs) b base n g i m h e l any k f s =
-      H.end_stands r (sound_r (v ∷ vs) b) z epoch v vs mark len held kept b.stands b.at (near_is base (next_is base b.same n) g) i
+      H.end_stands r (sound_r (v ∷ vs) b) z epoch v vs mark len held kept b.stands b.at
+      (near_is base (next_is base b.same n) g) i
       (m ∙ len_is b.same) h e l any k f (s ∙ (slot_is base h (next_is base b.same n) b.same))
 
   pub end_gains_out : (bytes : List ℕ) → Before rule r len held kept z mark epoch bytes → (base : Base)
       → base ≡ next_base rule len kept mark epoch → IfSome base.slot (λ k. k ≤ 2 ^ 53) → is_idle len mark ≡ false
       → next_len len mark + length bytes ≡ rule.up_len → (h : List ℕ) → take (next_len len mark + length bytes) h
       ≡ take (next_len len mark) held ++ bytes → (result : Option Found)
-      → result ≡ found_of base (slot_with base (kept_dnp rule h)) → Gains r z epoch (piece_items mark epoch bytes) h result
+      → result ≡ found_of base (slot_with base (kept_dnp rule h)) → Gains r z epoch (piece_items mark epoch bytes)
+      h result
   end_gains_out [] b base n g i m h e result a = let s = b.some in absurd (omega (arith, s))
   end_gains_out (v ∷ vs) b base n g i m h e result a =
-      H.end_gains r (sound_r (v ∷ vs) b) z epoch v vs mark len held kept b.stands b.at (near_is base (next_is base b.same n) g) i
+      H.end_gains r (sound_r (v ∷ vs) b) z epoch v vs mark len held kept b.stands b.at
+      (near_is base (next_is base b.same n) g) i
       (m ∙ len_is b.same) h e result (a ∙ ap (found_of base) (slot_is base h (next_is base b.same n) b.same)
-      ∙ ap (λ (p : Base). found_of p (slot_with (next_base r len kept mark epoch) (kept_dnp r h))) (next_is base b.same n))
+      ∙ ap (λ (p : Base). found_of p (slot_with (next_base r len kept mark epoch) (kept_dnp r h)))
+      (next_is base b.same n))
 
-pub front_is : (from len : ℕ) (bytes h old : List ℕ) → from ≡ len → take (from + length bytes) h ≡ take from old ++ bytes
+pub front_is : (from len : ℕ) (bytes h old : List ℕ) → from ≡ len → take (from + length bytes) h ≡ take from old
+    ++ bytes
     → take (len + length bytes) h ≡ take len old ++ bytes
 front_is from len bytes h old e f = subst (λ (n : ℕ). take (n + length bytes) h ≡ take n old ++ bytes) e f
 
-pub new_stands : (r : SlotRule) (held : List ℕ) (kept : Base) → IsSound r → kept.slot ≡ None → AssemblerStands r 0 held kept []
+pub new_stands : (r : SlotRule) (held : List ℕ) (kept : Base) → IsSound r → kept.slot ≡ None
+    → AssemblerStands r 0 held kept []
 new_stands r held kept sound e = record {
   state = state_of [] None;
   follows = let u = sound.up in begins_idle r (omega (arith, u));
@@ -119,7 +138,8 @@ new_stands r held kept sound e = record {
 }
 
 -- a gap
-pub gap_stands : (epoch : ℕ) (rule r : SlotRule) (len : ℕ) (held : List ℕ) (kept : Base) (z : List Item) → rule ≡ r → IsSound rule
+pub gap_stands : (epoch : ℕ) (rule r : SlotRule) (len : ℕ) (held : List ℕ) (kept : Base) (z : List Item)
+    → rule ≡ r → IsSound rule
     → AssemblerStands r len held kept z
     → (l : ℕ) (h : List ℕ) (k : Base) → l ≡ 0 → k.slot ≡ None → AssemblerStands r l h k (z ++ gap epoch ∷ [])
 unfolding turn
@@ -133,7 +153,8 @@ gap_stands epoch rule r len held kept z e sound st l h k f g =
       holds = record { bytes = ap (λ (n : ℕ). take n h) f; count = f; base = g };
     }
 
-pub gap_none : (epoch : ℕ) (rule r : SlotRule) (len : ℕ) (held : List ℕ) (kept : Base) (z : List Item) → rule ≡ r → IsSound rule
+pub gap_none : (epoch : ℕ) (rule r : SlotRule) (len : ℕ) (held : List ℕ) (kept : Base) (z : List Item)
+    → rule ≡ r → IsSound rule
     → AssemblerStands r len held kept z
     → user_packets r (z ++ gap epoch ∷ []) ≡ user_packets r z
 unfolding turn

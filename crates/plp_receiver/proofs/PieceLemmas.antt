@@ -1,5 +1,6 @@
 -- What a piece does to the machine, all its bytes at once.
-use Rattle.std.proofs.Common.{◌≡◌, ℕ, ◌+◌, ◌<◌, ◌≤◌, ◌&&◌, Bool, true, false, List, [], ◌∷◌, ◌++◌, length, Option, None, refl, ap}
+use Rattle.std.proofs.Common.{◌≡◌, ℕ, ◌+◌, ◌<◌, ◌≤◌, ◌&&◌, Bool, true, false, List, [], ◌∷◌, ◌++◌, length, Option, None}
+use Rattle.std.proofs.Common.{refl, ap}
 use Rattle.std.proofs.Common.{◌∙◌, sym, arith, inl, inr, append-nil, append_assoc, length-append, cond}
 use Rattle.std.specs.Prelude.{nat_lt, if◌then◌else◌}
 use Rattle.std.proofs.lemmas.Bool.{cases_lt, lt-ltb, le-ltb}
@@ -12,14 +13,16 @@ use Rattle.plp_receiver.specs.Machine.{State, Turn, state_of, turn_of, before_ne
 use Rattle.plp_receiver.specs.Pieces.{item, piece_items, piece_grown, piece_inside, piece_turn}
 
 -- where the last byte of a piece stands is no place where a user packet can end
-cannot_end : (r : SlotRule) (w : List Item) (x : Item) (before : Option ℕ) → x.can_end ≡ false → slot_of r (w ++ x ∷ []) before
+cannot_end : (r : SlotRule) (w : List Item) (x : Item) (before : Option ℕ) → x.can_end ≡ false
+    → slot_of r (w ++ x ∷ []) before
     ≡ None
 unfolding slot_of
 cannot_end r w x before e =
     ap (λ (b : Bool).
     cond {A = Option ℕ} b (slot_by r (first_item (w ++ x ∷ [])).mark (first_item (w ++ x ∷ [])).epoch
     (dnp_of r (w ++ x ∷ [])) before) None)
-    (ap (λ (l : Item). is_one (w ++ x ∷ []) && l.can_end) (last_push no_item w) ∙ ap (λ (b : Bool). is_one (w ++ x ∷ []) && b) e
+    (ap (λ (l : Item). is_one (w ++ x ∷ []) && l.can_end) (last_push no_item w)
+    ∙ ap (λ (b : Bool). is_one (w ++ x ∷ []) && b) e
     ∙ and_no (is_one (w ++ x ∷ [])))
   where
     last_push : (y : Item) (v : List Item) → last_of y (v ++ x ∷ []) ≡ x
@@ -41,7 +44,8 @@ module _ (r : SlotRule) (epoch : ℕ) where
   pub ge_cond : (a b : ℕ) (x y : Turn) → b ≤ a → (if nat_lt a b then x else y) ≡ y
   ge_cond a b x y l = ap (λ (t : Bool). cond t x y) (le-ltb a b l)
 
-  step : (s : State) (x : Item) (xs : List Item) (t : Turn) → turn r s x ≡ t → runs r s (x ∷ xs) ≡ turn_of (after r t.state xs)
+  step : (s : State) (x : Item) (xs : List Item) (t : Turn) → turn r s x ≡ t
+      → runs r s (x ∷ xs) ≡ turn_of (after r t.state xs)
       (t.given ++ given r t.state xs)
   step s x xs t e = ap (λ (u : Turn). turn_of (after r u.state xs) (u.given ++ given r u.state xs)) e
 
@@ -52,7 +56,8 @@ module _ (r : SlotRule) (epoch : ℕ) where
   idle before v [] = refl
   idle before v (u ∷ us) = idle None u us
 
-  inside_turn : (h : List Item) (before : Option ℕ) (x : Item) → 1 ≤ length h → x.mark ≡ Inside → turn r (state_of h before) x
+  inside_turn : (h : List Item) (before : Option ℕ) (x : Item) → 1 ≤ length h → x.mark ≡ Inside
+      → turn r (state_of h before) x
       ≡ grown r (h ++ x ∷ []) before
   unfolding turn
   inside_turn [] before x l e = absurd (omega arith)
@@ -98,24 +103,28 @@ module _ (r : SlotRule) (epoch : ℕ) where
             ∙ ap (λ (w : List Item). piece_grown r w before) e
         | inr ge ↦
             ap (λ (t : Turn). turn_of (after r t.state p) (t.given ++ given r t.state p)) (ge_cond _ _ _ _ ge)
-            ∙ ap (λ (o : Option ℕ). turn_of (after r (state_of [] o) p) (with_slot (h ++ x ∷ []) o ++ given r (state_of [] o) p))
+            ∙ ap (λ (o : Option ℕ). turn_of (after r (state_of [] o) p) (with_slot (h ++ x ∷ []) o
+            ++ given r (state_of [] o) p))
             (cannot_end r h x before refl)
             ∙ idle None u us
-            ∙ sym (ge_cond (length (h ++ x ∷ p)) r.up_len _ _ (omega (arith, n, k)) ∙ lt_cond r.up_len (length (h ++ x ∷ p)) _ _
+            ∙ sym (ge_cond (length (h ++ x ∷ p)) r.up_len _ _ (omega (arith, n, k))
+            ∙ lt_cond r.up_len (length (h ++ x ∷ p)) _ _
             (omega (arith, n, k, length_piece Inside u us)))
       ]
 
   -- a user packet begins
   begins : (m : Mark) (s : State) (v : ℕ) (vs : List ℕ) → 2 ≤ r.up_len
       → ((x : Item) → x.mark ≡ m → turn r s x ≡ turn_of (state_of (x ∷ []) (before_next s.held s.before)) [])
-      → runs r s (piece_items m epoch (v ∷ vs)) ≡ piece_grown r (piece_items m epoch (v ∷ vs)) (before_next s.held s.before)
+      → runs r s (piece_items m epoch (v ∷ vs)) ≡ piece_grown r (piece_items m epoch (v ∷ vs))
+      (before_next s.held s.before)
   begins m s v [] two h =
       step s (item m v epoch true) [] _ (h (item m v epoch true) refl) ∙ sym (lt_cond 1 r.up_len _ _ (omega arith))
   begins m s v (u ∷ us) two h =
       step s (item m v epoch false) (piece_items Inside epoch (u ∷ us)) _ (h (item m v epoch false) refl)
       ∙ goes_on (item m v epoch false ∷ []) (before_next s.held s.before) u us (omega arith) (omega arith)
 
-  next_turn : (s : State) (x : Item) → x.mark ≡ Next → turn r s x ≡ turn_of (state_of (x ∷ []) (before_next s.held s.before)) []
+  next_turn : (s : State) (x : Item) → x.mark ≡ Next
+      → turn r s x ≡ turn_of (state_of (x ∷ []) (before_next s.held s.before)) []
   unfolding turn
   next_turn s x e = ap (turn_by r s.held s.before x) e
 
@@ -131,7 +140,8 @@ module _ (r : SlotRule) (epoch : ℕ) where
   inside_runs (y ∷ ys) before v vs l = goes_on (y ∷ ys) before v vs (omega arith) l
 
   -- the items of a piece make one turn
-  pub piece_runs : (m : Mark) (s : State) (v : ℕ) (vs : List ℕ) → 2 ≤ r.up_len → length s.held < r.up_len → (m ≡ Gap → ⊥)
+  pub piece_runs : (m : Mark) (s : State) (v : ℕ) (vs : List ℕ) → 2 ≤ r.up_len → length s.held < r.up_len
+      → (m ≡ Gap → ⊥)
       → runs r s (piece_items m epoch (v ∷ vs)) ≡ piece_turn r s m (piece_items m epoch (v ∷ vs))
   piece_runs Gap s v vs two l h = elim (h refl) [ ]
   piece_runs Inside s v vs two l h = inside_runs s.held s.before v vs l

@@ -1,17 +1,21 @@
 -- Where the user packets of a string begin and end, and in which epochs.
-use Rattle.std.proofs.Common.{◌≡◌, ℕ, zero, suc, ◌+◌, ◌-◌, ◌<◌, ◌≤◌, List, [], ◌∷◌, ◌++◌, length, take, drop, get_or, Option}
-use Rattle.std.proofs.Common.{Some, None, refl, ap, ◌∙◌, sym, subst, arith, inl, inr, append-nil, append_assoc, length-append}
+use Rattle.std.proofs.Common.{◌≡◌, ℕ, zero, suc, ◌+◌, ◌-◌, ◌<◌, ◌≤◌, List, [], ◌∷◌, ◌++◌, length, take, drop, get_or}
+use Rattle.std.proofs.Common.{Option}
+use Rattle.std.proofs.Common.{Some, None, refl, ap, ◌∙◌, sym, subst, arith, inl, inr, append-nil, append_assoc}
+use Rattle.std.proofs.Common.{length-append}
 use Rattle.std.specs.List.{AllByRecursion}
 use Rattle.std.proofs.lemmas.Bool.{cases_lt}
 use Rattle.terms.proofs.AllLemmas.{all_append}
 use Rattle.plp_receiver.specs.declared.slot_rule.SlotRule.{SlotRule}
 use Rattle.plp_receiver.specs.Strings.{Item}
-use Rattle.plp_receiver.specs.Packets.{UserPacket, window, first_item, last_item, last_of, no_item, slot_of, slot_before}
+use Rattle.plp_receiver.specs.Packets.{UserPacket, window, first_item, last_item, last_of, no_item, slot_of}
+use Rattle.plp_receiver.specs.Packets.{slot_before}
 use Rattle.plp_receiver.specs.Packets.{slots_at, with_slot, packets_at, user_packets}
 use Rattle.plp_receiver.proofs.SlotLemmas.{same_packets}
 use Rattle.plp_receiver.specs.SlotsHold.{From, UpTo, Since}
 
-pub all_map : {X : Type 0} (P Q : X → Type 0) (f : (x : X) → P x → Q x) (xs : List X) → AllByRecursion P xs → AllByRecursion Q xs
+pub all_map : {X : Type 0} (P Q : X → Type 0) (f : (x : X) → P x → Q x) (xs : List X) → AllByRecursion P xs
+    → AllByRecursion Q xs
 all_map P Q f [] h = tt
 all_map P Q f (x ∷ xs) h = (f x h.0, all_map P Q f xs h.1)
 
@@ -22,7 +26,8 @@ pub record IsMore (r : SlotRule) (z : List Item) (n j : ℕ) : Type 0 where
   pub all : AllByRecursion (From r z n (n + j)) more
 
 module _ (r : SlotRule) (z : List Item) where
-  with_all : (n x end : ℕ) (o : Option ℕ) → n ≤ x → x < end → AllByRecursion (From r z n end) (with_slot (window r z x) o)
+  with_all : (n x end : ℕ) (o : Option ℕ) → n ≤ x → x < end → AllByRecursion (From r z n end)
+      (with_slot (window r z x) o)
   with_all n x end None l m = tt
   with_all n x end (Some k) l m = (record { place = x; least = l; below = m; items_are = refl }, tt)
 
@@ -55,7 +60,8 @@ module _ (r : SlotRule) (z : List Item) where
             ∙ append_assoc (packets_at r z n) m.more last;
         all =
             all_append (From r z n (n + suc j)) m.more last
-            (all_map (From r z n (n + j)) (From r z n (n + suc j)) (widen n (n + j) (n + suc j) (omega arith)) m.more m.all)
+            (all_map (From r z n (n + j)) (From r z n (n + suc j)) (widen n (n + j) (n + suc j) (omega arith))
+            m.more m.all)
             (with_all n (n + j) (n + suc j) _ (omega arith) (omega arith));
       }
 
@@ -101,7 +107,8 @@ begins_up_to r z n end epoch up l h f =
     omega (arith, ap (λ (x : Item). x.epoch) e, up_to epoch z f.place h)
 
 -- one that ends behind the first items ends in an epoch of the others
-pub ends_since : (r : SlotRule) (z y : List Item) (n end epoch : ℕ) (up : UserPacket) → 1 ≤ r.up_len → length z + 1 ≤ n + r.up_len
+pub ends_since : (r : SlotRule) (z y : List Item) (n end epoch : ℕ) (up : UserPacket) → 1 ≤ r.up_len
+    → length z + 1 ≤ n + r.up_len
     → end + r.up_len ≤ length z + length y + 1 → Since epoch y
     → From r (z ++ y) n end up → epoch ≤ (last_item up.items).epoch
 ends_since r z y n end epoch up l a b h f =
@@ -125,7 +132,8 @@ packets_zero r w = refl
 same_front : (r : SlotRule) (z y : List Item) → packets_at r (z ++ y) (length z + 1 - r.up_len) ≡ user_packets r z
 same_front r z y =
     elim (cases_lt (length z + 1) r.up_len) [
-      | inl lt ↦ let e : length z + 1 - r.up_len ≡ 0 = omega arith in ap (packets_at r (z ++ y)) e ∙ packets_zero r (z ++ y)
+      | inl lt ↦ let e : length z + 1 - r.up_len ≡ 0 = omega arith in ap (packets_at r (z ++ y)) e
+          ∙ packets_zero r (z ++ y)
           ∙ sym (ap (packets_at r z) e ∙ packets_zero r z)
       | inr ge ↦ same_packets r z y (length z + 1 - r.up_len) (omega arith)
     ]
@@ -155,7 +163,8 @@ longer r z y epoch l h =
           let m = more_at r (z ++ y) n j in
           record {
             more = m.more;
-            packets = ap (packets_at r (z ++ y)) e ∙ m.packets ∙ ap (λ (l : List UserPacket). l ++ m.more) (same_front r z y);
+            packets = ap (packets_at r (z ++ y)) e ∙ m.packets ∙ ap (λ (l : List UserPacket). l ++ m.more)
+                (same_front r z y);
             all = all_map (From r (z ++ y) n (n + j)) (λ (up : UserPacket). epoch ≤ (last_item up.items).epoch)
                 (λ up f. ends_since r z y n (n + j) epoch up l (omega arith) (omega arith) h f) m.more m.all;
           }
@@ -171,6 +180,7 @@ all_of r z =
     let n : ℕ = length z + 1 - r.up_len in
     let m = more_at r z 0 n in
     let e : 0 + n ≡ n = omega arith in
-    let p : user_packets r z ≡ m.more = sym (ap (packets_at r z) e) ∙ m.packets ∙ ap (λ (l : List UserPacket). l ++ m.more)
+    let p : user_packets r z ≡ m.more = sym (ap (packets_at r z) e) ∙ m.packets
+    ∙ ap (λ (l : List UserPacket). l ++ m.more)
     (packets_zero r z) in
     record { n = 0 + n; all = subst (AllByRecursion (From r z 0 (0 + n))) (sym p) m.all }

@@ -11,9 +11,11 @@ use Rattle.scheduler.specs.Shape.{FrameShape}
 use Rattle.site_frame.specs.Record.{Block}
 use Rattle.frame_groups.specs.Readable.{told_dynamic, post_agrees, shape_agrees, fitting, readable}
 
-pub told_readable : (c : Config) (n : ℕ) (pre post : List Bool) (blocks : List Block) (cells : List (Option Cell)) (d : L1Dyn)
+pub told_readable : (c : Config) (n : ℕ) (pre post : List Bool) (blocks : List Block) (cells : List (Option Cell))
+    (d : L1Dyn)
     (shape : FrameShape) (fits : Bool)
-    → pre_agrees c (read_whole (pre_reading true pre)) ≡ true → post_agrees c n post ≡ true → told_dynamic c post ≡ Some d
+    → pre_agrees c (read_whole (pre_reading true pre)) ≡ true → post_agrees c n post ≡ true
+    → told_dynamic c post ≡ Some d
     → shape ≡ told_shape d → fits ≡ shape_agrees c n blocks cells shape
     → readable c n pre post blocks cells ≡ cond {A = Option FrameShape} fits (Some shape) None
 unfolding readable

@@ -1,5 +1,6 @@
 -- What comes of later epochs changes no packet of a slot that is given out.
-use Rattle.std.proofs.Common.{◌≡◌, ℕ, suc, ◌+◌, ◌-◌, ◌*◌, ◌<◌, ◌≤◌, ◌==◌, ◌&&◌, Bool, true, false, List, [], ◌∷◌, ◌++◌, length}
+use Rattle.std.proofs.Common.{◌≡◌, ℕ, suc, ◌+◌, ◌-◌, ◌*◌, ◌<◌, ◌≤◌, ◌==◌, ◌&&◌, Bool, true, false, List, [], ◌∷◌, ◌++◌}
+use Rattle.std.proofs.Common.{length}
 use Rattle.std.proofs.Common.{map, Option, Some, None, refl, ap, ◌∙◌, sym, arith, inl, inr, append_assoc}
 use Rattle.std.specs.Prelude.{nat_lt, nat_le, option_map, unwrap_or}
 use Rattle.std.specs.Option.{option_or}
@@ -76,14 +77,16 @@ string_append len epoch (e ∷ epochs) more =
 
 pub record Counts (r : SlotRule) (up : UserPacket) : Type 0 where
   pub below : up.slot < over_by r.times (first_item up.items).epoch
-  pub early : last_frame r (last_item up.items).epoch * r.ticks < slot_start r.times.num r.times.den up.slot + delay_of r.times
+  pub early : last_frame r (last_item up.items).epoch * r.ticks < slot_start r.times.num r.times.den
+      up.slot + delay_of r.times
 
 counts_parts : (r : SlotRule) (up : UserPacket) → counts r up ≡ true → Counts r up
 counts_parts r up h =
     let a : Bool = nat_le (over_by r.times ((first_item up.items).epoch - 1)) up.slot in
     let b : Bool = nat_lt up.slot (over_by r.times (first_item up.items).epoch) in
     let d : Bool =
-    nat_lt (last_frame r (last_item up.items).epoch * r.ticks) (slot_start r.times.num r.times.den up.slot + delay_of r.times) in
+    nat_lt (last_frame r (last_item up.items).epoch * r.ticks) (slot_start r.times.num r.times.den up.slot + delay_of
+    r.times) in
     let p = and_parts a (b && d) h in
     let q = and_parts b d p.1 in
     record { below = ltb-true _ _ q.0; early = ltb-true _ _ q.1 }
@@ -134,7 +137,8 @@ module _ (r : SlotRule) (sound : IsSound r) where
       (law r.times.num r.times.den (delay_of r.times) (frame * r.ticks) k num_pos den_pos).0 l in
       let none : find test (filter (counts r) m.more) ≡ None =
       none_found (counts r) test m.more
-      (all_map (λ (up : UserPacket). epoch_of r frame ≤ (last_item up.items).epoch) (λ (up : UserPacket). counts r up ≡ true
+      (all_map (λ (up : UserPacket). epoch_of r frame ≤ (last_item up.items).epoch)
+      (λ (up : UserPacket). counts r up ≡ true
       → (up.slot == k) ≡ false)
       (λ up f e. false_from_ne_true _ (λ (t : (up.slot == k) ≡ true).
       let b = (counts_parts r up e).early in
@@ -152,7 +156,8 @@ module _ (r : SlotRule) (sound : IsSound r) where
   out_rises law a b l =
       elim (cases_lt (due_after r b) (due_after r a)) [
         | inl lt ↦
-            let p = (law r.times.num r.times.den (delay_of r.times) (a * r.ticks) (due_after r b) num_pos den_pos).0 lt in
+            let p = (law r.times.num r.times.den (delay_of r.times) (a * r.ticks) (due_after r b) num_pos den_pos).0
+            lt in
             let q : a * r.ticks ≤ b * r.ticks = mul-le-mul_right r.ticks l in
             let s = (law r.times.num r.times.den (delay_of r.times) (b * r.ticks) (due_after r b) num_pos den_pos).1
             (omega (arith, p, q)) in
@@ -180,13 +185,15 @@ module _ (r : SlotRule) (sound : IsSound r) where
       let same : map (slot_packet r (z ++ y)) (range_with_len s n) ≡ map (slot_packet r z) (range_with_len s n) =
       map_same (slot_packet r (z ++ y)) (slot_packet r z) s n
       (λ k a b.
-      ap (λ (o : Option UserPacket). unwrap_or (option_map (λ (up : UserPacket). packet_of (item_values up.items)) o) null_packet)
+      ap (λ (o : Option UserPacket). unwrap_or (option_map (λ (up : UserPacket). packet_of (item_values up.items)) o)
+      null_packet)
       (final law z y (first + count) k (since_string r.up_len (m0 + length epochs) (epoch_of r (first + count)) more
       (omega (arith, ended))) (omega (arith, b)))) in
       record {
         others = map (slot_packet r (z ++ y)) (range_with_len (s + n) m);
         front =
-            ap (λ (x : List Item). map (slot_packet r x) (range_with_len s (due_after r (first + (count + later)) - s))) w
+            ap (λ (x : List Item). map (slot_packet r x) (range_with_len s (due_after r (first + (count + later)) - s)))
+            w
             ∙ ap (map (slot_packet r (z ++ y))) (ap (range_with_len s) e ∙ range_append s n m)
             ∙ map-append (slot_packet r (z ++ y)) (range_with_len s n) (range_with_len (s + n) m)
             ∙ ap (λ (l : List (List ℕ)). l ++ map (slot_packet r (z ++ y)) (range_with_len (s + n) m)) same;

@@ -1,5 +1,6 @@
 -- The cells of a block all stand exactly if none is missed when the record is gone over beside the map.
-use Rattle.std.proofs.Common.{◌≡◌, ℕ, zero, suc, ◌+◌, ◌%◌, ◌<◌, ◌&&◌, ◌==◌, Bool, true, false, List, [], ◌∷◌, length, get_or}
+use Rattle.std.proofs.Common.{◌≡◌, ℕ, zero, suc, ◌+◌, ◌%◌, ◌<◌, ◌&&◌, ◌==◌, Bool, true, false, List, [], ◌∷◌, length}
+use Rattle.std.proofs.Common.{get_or}
 use Rattle.std.proofs.Common.{Option}
 use Rattle.std.proofs.Common.{Some, None, refl, ap, ap₂, sym, subst, ◌∙◌, arith}
 use Rattle.std.specs.Prelude.{slice_get, not, ◌||◌}
@@ -30,14 +31,16 @@ range_true t a (suc n) e zero l =
     ap t same ∙ (and_parts (t a) (list_all t (range_with_len (a + 1) n)) e).0
 range_true t a (suc n) e (suc k) l =
     let same : a + suc k ≡ a + 1 + k = omega arith in
-    ap t same ∙ range_true t (a + 1) n (and_parts (t a) (list_all t (range_with_len (a + 1) n)) e).1 k (omega (arith, l))
+    ap t same ∙ range_true t (a + 1) n (and_parts (t a) (list_all t (range_with_len (a + 1) n)) e).1
+    k (omega (arith, l))
 
 true_range : (t : ℕ → Bool) (a n : ℕ) → ((k : ℕ) → k < n → t (a + k) ≡ true) → list_all t (range_with_len a n) ≡ true
 true_range t a zero f = refl
 true_range t a (suc n) f =
     let here : a ≡ a + 0 = omega arith in
     and_from (t a) (list_all t (range_with_len (a + 1) n)) (ap t here ∙ f 0 (omega arith))
-    (true_range t (a + 1) n (λ k l. let same : a + 1 + k ≡ a + suc k = omega arith in ap t same ∙ f (suc k) (omega (arith, l))))
+    (true_range t (a + 1) n (λ k l. let same : a + 1 + k ≡ a + suc k = omega arith in ap t same
+    ∙ f (suc k) (omega (arith, l))))
 
 each_true : (t : ℕ → Bool) (n : ℕ) → each_below n t ≡ true → (k : ℕ) → k < n → t k ≡ true
 each_true t n e k l = let same : k ≡ 0 + k = omega arith in ap t same ∙ range_true t 0 n e k l
@@ -45,7 +48,8 @@ each_true t n e k l = let same : k ≡ 0 + k = omega arith in ap t same ∙ rang
 true_each : (t : ℕ → Bool) (n : ℕ) → ((k : ℕ) → k < n → t k ≡ true) → each_below n t ≡ true
 true_each t n f = true_range t 0 n (λ k l. let same : 0 + k ≡ k = omega arith in ap t same ∙ f k l)
 
-from_more : (t : ℕ → Bool) (a n : ℕ) → list_all t (range_with_len a (n + 1)) ≡ (list_all t (range_with_len a n) && t (a + n))
+from_more : (t : ℕ → Bool) (a n : ℕ) → list_all t (range_with_len a (n + 1)) ≡ (list_all t (range_with_len a n)
+    && t (a + n))
 from_more t a n = ap (list_all t) (range_more a n) ∙ list_all-append t (range_with_len a n) ((a + n) ∷ [])
     ∙ ap (λ (b : Bool). list_all t (range_with_len a n) && b) (whole (t (a + n)))
   where
@@ -75,7 +79,8 @@ from_split t a (suc n) m =
 pub seen_more : (c : Config) (shape : FrameShape) (frame_idx : ℕ) (cells : List (Option Cell)) (ordinal address n : ℕ)
     (was before now : Bool)
     (expected found : Option Cell)
-    → before ≡ (was && seen_from c shape frame_idx cells ordinal address n) → now ≡ (before && is_seen ordinal expected found)
+    → before ≡ (was && seen_from c shape frame_idx cells ordinal address n)
+    → now ≡ (before && is_seen ordinal expected found)
     → expected ≡ get (cell_map c shape frame_idx) (address + n) → slice_get cells (address + n) ≡ Some found
     → now ≡ (was && seen_from c shape frame_idx cells ordinal address (n + 1))
 seen_more c shape frame_idx cells ordinal address n was before now expected found b e x f =
@@ -85,7 +90,8 @@ seen_more c shape frame_idx cells ordinal address n was before now expected foun
     ∙ and_assoc was seen (is_seen ordinal expected found)
     ∙ ap (λ (t : Bool). was && t)
     (ap (λ (o : Option Cell). seen && is_right ordinal o (Some found)) x
-    ∙ ap (λ (o : Option (Option Cell)). seen && is_right ordinal (get (cell_map c shape frame_idx) (address + n)) o) (sym f)
+    ∙ ap (λ (o : Option (Option Cell)). seen && is_right ordinal (get (cell_map c shape frame_idx) (address + n)) o)
+    (sym f)
     ∙ sym (from_more (right_at c shape frame_idx cells ordinal) address n))
 
 -- ---- one piece more
@@ -98,9 +104,11 @@ pieces_seen c shape frame_idx cells ordinal address n was before now b e =
     let zero_on : 0 + address ≡ address = omega arith in
     e
     ∙ ap (λ (t : Bool). t && seen_from c shape frame_idx cells ordinal address n) b
-    ∙ and_assoc was (seen_from c shape frame_idx cells ordinal 0 address) (seen_from c shape frame_idx cells ordinal address n)
+    ∙ and_assoc was (seen_from c shape frame_idx cells ordinal 0 address) (seen_from c shape frame_idx
+    cells ordinal address n)
     ∙ ap (λ (t : Bool). was && t)
-    (ap (λ (a : ℕ). seen_from c shape frame_idx cells ordinal 0 address && seen_from c shape frame_idx cells ordinal a n)
+    (ap (λ (a : ℕ). seen_from c shape frame_idx cells ordinal 0 address && seen_from c shape frame_idx
+    cells ordinal a n)
     (sym zero_on)
     ∙ sym (from_split (right_at c shape frame_idx cells ordinal) 0 address n))
 
@@ -121,7 +129,8 @@ pub all_own : (c : Config) (shape : FrameShape) (frame_idx : ℕ) (cells : List 
     → ((i : ℕ) → i < n → slice_get cells (address + i) ≡ Some (get (cell_map c shape frame_idx) (address + i)))
     → seen_from c shape frame_idx cells ordinal address n ≡ true
 all_own c shape frame_idx cells ordinal address n h = true_range (right_at c shape frame_idx cells ordinal) address n
-    (λ i l. ap (λ (f : Option (Option Cell)). is_right ordinal (get (cell_map c shape frame_idx) (address + i)) f) (h i l)
+    (λ i l. ap (λ (f : Option (Option Cell)). is_right ordinal (get (cell_map c shape frame_idx) (address + i)) f)
+    (h i l)
     ∙ right_own ordinal (get (cell_map c shape frame_idx) (address + i)))
 
 pub none_seen : (was : Bool) → was ≡ (was && true)
@@ -130,7 +139,8 @@ none_seen false = refl
 
 -- ---- all of them
 right_one : (ordinal cell : ℕ) (found : Option (Option Cell))
-    → is_right ordinal (Some (record { ordinal = ordinal; cell = cell })) found ≡ true → is_cell ordinal cell found ≡ true
+    → is_right ordinal (Some (record { ordinal = ordinal; cell = cell })) found ≡ true
+    → is_cell ordinal cell found ≡ true
 right_one ordinal cell found e =
     let yes : (ordinal == ordinal) ≡ true = eq-eqb ordinal ordinal refl in
     sym (ap (λ (t : Bool). not t || is_cell ordinal cell found) yes) ∙ e
@@ -157,11 +167,17 @@ module _ (has : MapHasEachCell) (only : MapHasOnlyCells) (c : Config) (shape : F
       let at : ℕ = address_of c shape frame_idx plp block cell in
       bool_cases (is_carried c shape frame_idx plp block cell)
       (λ yes.
-      let here : IsCarried c shape frame_idx plp block cell = record { there = there cell l; carried = eqb-true _ _ yes } in
-      let right = each_true (right_at c shape frame_idx cells own) c.cells e at (passes.below frame_idx plp block cell here) in
+      let here : IsCarried c shape frame_idx plp block cell = record {
+        there = there cell l;
+        carried =
+            eqb-true _ _ yes;
+      } in
+      let right = each_true (right_at c shape frame_idx cells own) c.cells e at
+      (passes.below frame_idx plp block cell here) in
       or_right (not (is_carried c shape frame_idx plp block cell)) (is_cell own cell (slice_get cells at))
       (right_one own cell (slice_get cells at)
-      (ap (λ (o : Option Cell). is_right own o (slice_get cells at)) (sym (has c shape frame_idx plp block cell passes here))
+      (ap (λ (o : Option Cell). is_right own o (slice_get cells at))
+      (sym (has c shape frame_idx plp block cell passes here))
       ∙ right)))
       (λ none. ap (λ (t : Bool). not t || is_cell own cell (slice_get cells at)) none))
 
@@ -177,7 +193,8 @@ module _ (has : MapHasEachCell) (only : MapHasOnlyCells) (c : Config) (shape : F
       subst (λ (b : ℕ). IsCarried c shape frame_idx plp b x.cell) one.1
       (subst (λ (p : ℕ). IsCarried c shape frame_idx p s.block x.cell) one.0 s.there) in
       let standing : is_cell own x.cell (slice_get cells (address_of c shape frame_idx plp block x.cell)) ≡ true =
-      sym (ap (λ (t : Bool). not t || is_cell own x.cell (slice_get cells (address_of c shape frame_idx plp block x.cell)))
+      sym (ap (λ (t : Bool). not t || is_cell own x.cell
+      (slice_get cells (address_of c shape frame_idx plp block x.cell)))
       (eq-eqb _ _ here.carried))
       ∙ each_true (stands c part plp block) (block_cells c plp) e x.cell here.there.within in
       let place : address_of c shape frame_idx plp block x.cell ≡ at =

@@ -1,5 +1,6 @@
 -- The blocks of a frame of a shape, each with its length.
-use Rattle.std.proofs.Common.{◌≡◌, ℕ, zero, suc, ◌+◌, ◌-◌, ◌<◌, ◌≤◌, ◌&&◌, ◌==◌, Bool, true, false, List, [], ◌∷◌, ◌++◌, length}
+use Rattle.std.proofs.Common.{◌≡◌, ℕ, zero, suc, ◌+◌, ◌-◌, ◌<◌, ◌≤◌, ◌&&◌, ◌==◌, Bool, true, false, List, [], ◌∷◌, ◌++◌}
+use Rattle.std.proofs.Common.{length}
 use Rattle.std.proofs.Common.{take, drop, get_or, replicate, Option, refl, ap, sym, subst, ◌∙◌, arith, cond, ◌%◌}
 use Rattle.std.specs.Prelude.{slice_index, sum}
 use Rattle.std.specs.Option.{option_map_or}
@@ -26,7 +27,8 @@ left_is : (n k : ℕ) → k < n → n - k ≡ suc (n - (k + 1))
 left_is n k l = omega (arith, l)
 
 -- a block came that has the size
-pub came : (b : Block) (rest : List Block) (size : BlockSize) (n k : ℕ) (more : List BlockSize) → k < n → has_size b size ≡ true
+pub came : (b : Block) (rest : List Block) (size : BlockSize) (n k : ℕ) (more : List BlockSize) → k < n
+    → has_size b size ≡ true
     → pointwise has_size (b ∷ rest) (replicate (n - k) size ++ more)
     ≡ pointwise has_size rest (replicate (n - (k + 1)) size ++ more)
 came b rest size n k more l e =
@@ -42,7 +44,8 @@ came_other b rest size n k more l e =
     ∙ and_left (has_size b size) (pointwise has_size rest (replicate (n - (k + 1)) size ++ more)) e
 
 -- the sizes from a PLP on begin with its own
-sizes_first : (c : Config) (counts : List ℕ) (n plp : ℕ) → plp < n → sizes_from c counts plp (n - plp) ≡ plp_sizes c counts plp
+sizes_first : (c : Config) (counts : List ℕ) (n plp : ℕ) → plp < n → sizes_from c counts plp (n - plp) ≡ plp_sizes
+    c counts plp
     ++ sizes_from c counts (plp + 1) (n - (plp + 1))
 sizes_first c counts n plp l = ap (sizes_from c counts plp) (left_is n plp l)
 
@@ -56,7 +59,8 @@ pub comes : (c : Config) (counts : List ℕ) (old new : List Block) (n plp count
 comes c counts old new n plp count id len result l e i s f =
     let more : List BlockSize = sizes_from c counts (plp + 1) (n - (plp + 1)) in
     ap (pointwise has_size old) (sizes_first c counts n plp l)
-    ∙ ap (λ (m : ℕ). pointwise has_size old (replicate m (size_of (plp_at c.plps plp).id (block_bytes c plp)) ++ more)) (sym e)
+    ∙ ap (λ (m : ℕ). pointwise has_size old (replicate m (size_of (plp_at c.plps plp).id (block_bytes c plp)) ++ more))
+    (sym e)
     ∙ ap (λ (m : ℕ). pointwise has_size old (replicate count (size_of m (block_bytes c plp)) ++ more)) (sym i)
     ∙ ap (λ (m : ℕ). pointwise has_size old (replicate count (size_of id m) ++ more)) (sym s)
     ∙ f more
@@ -78,7 +82,8 @@ splits : (blocks : List Block) (n id len : ℕ) (more : List BlockSize)
 splits blocks zero id len more e = record { whole = omega arith; each = λ k l. absurd (omega (arith, l)); behind = e }
 splits [] (suc n) id len more e = absurd (true≢false (sym e))
 splits (b ∷ blocks) (suc n) id len more e =
-    let parts = and_parts (has_size b (size_of id len)) (pointwise has_size blocks (replicate n (size_of id len) ++ more)) e in
+    let parts = and_parts (has_size b (size_of id len)) (pointwise has_size blocks (replicate n (size_of id len)
+    ++ more)) e in
     let here : length b.bytes ≡ len =
     eqb-true (length b.bytes) len (and_parts (b.plp_id == id) (length b.bytes == len) parts.0).1 in
     let rest = splits blocks n id len more parts.1 in
@@ -89,7 +94,8 @@ splits (b ∷ blocks) (suc n) id len more e =
       behind = rest.behind;
     }
   where
-    go : length b.bytes ≡ len → ((k : ℕ) → k < n → IsLong blocks k len) → (k : ℕ) → k < suc n → IsLong (b ∷ blocks) k len
+    go : length b.bytes ≡ len → ((k : ℕ) → k < n → IsLong blocks k len) → (k : ℕ) → k < suc n
+        → IsLong (b ∷ blocks) k len
     go here each zero l = record { inside = omega arith; bytes = here }
     go here each (suc k) l = let e = each k (omega (arith, l)) in let i = e.inside in
         record { inside = omega (arith, i); bytes = e.bytes }
@@ -166,19 +172,22 @@ have_length c counts blocks plp e l = (enough (slice_index counts plp) (λ k i. 
 
     each : (k : ℕ) → k < slice_index counts plp → length (bytes_at (drop front blocks) k) ≡ block_bytes c plp
     each k i =
-        ap (λ (o : Option Block). length (option_map_or (λ b. b.bytes) o [])) (slice_get_drop blocks front k (front + k) refl)
+        ap (λ (o : Option Block). length (option_map_or (λ b. b.bytes) o []))
+        (slice_get_drop blocks front k (front + k) refl)
         ∙ (long k i).bytes
 
 -- those that come of a PLP
 pub coming_is : (c : Config) (n : ℕ) (shape : FrameShape) (plp : ℕ) → plp < length c.plps
     → slice_index (coming c n shape) plp ≡ cond {A = ℕ} (is_first c plp n) (slice_index shape.counts plp) 0
 coming_is c n shape plp l =
-    get_or-map-range_with_len (λ p. cond {A = ℕ} (is_first c p n) (slice_index shape.counts p) 0) 0 (length c.plps) plp plp 0 l
+    get_or-map-range_with_len (λ p. cond {A = ℕ} (is_first c p n) (slice_index shape.counts p) 0) 0 (length c.plps)
+    plp plp 0 l
     (omega arith)
 
 -- by the test of whether an epoch begins
 pub begun_is : (c : Config) (n : ℕ) (shape : FrameShape) (plp count : ℕ) → plp < length c.plps
-    → (n % spread c.plps plp == 0) ≡ true → count ≡ slice_index shape.counts plp → count ≡ slice_index (coming c n shape) plp
+    → (n % spread c.plps plp == 0) ≡ true → count ≡ slice_index shape.counts plp
+    → count ≡ slice_index (coming c n shape) plp
 begun_is c n shape plp count l e same =
     same
     ∙ sym (ap (λ (b : Bool). cond {A = ℕ} b (slice_index shape.counts plp) 0) e)

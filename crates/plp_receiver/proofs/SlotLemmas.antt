@@ -1,12 +1,15 @@
 -- Slots and user packets of a string that grows by one item.
-use Rattle.std.proofs.Common.{◌≡◌, ℕ, zero, suc, ◌+◌, ◌-◌, ◌<◌, ◌≤◌, ◌&&◌, Bool, false, List, [], ◌∷◌, ◌++◌, length, take, drop}
-use Rattle.std.proofs.Common.{Option, None, refl, ap, ap₂, ◌∙◌, sym, arith, inl, inr, append-nil, length-append, length-drop}
+use Rattle.std.proofs.Common.{◌≡◌, ℕ, zero, suc, ◌+◌, ◌-◌, ◌<◌, ◌≤◌, ◌&&◌, Bool, false, List, [], ◌∷◌, ◌++◌, length}
+use Rattle.std.proofs.Common.{take, drop}
+use Rattle.std.proofs.Common.{Option, None, refl, ap, ap₂, ◌∙◌, sym, arith, inl, inr, append-nil, length-append}
+use Rattle.std.proofs.Common.{length-drop}
 use Rattle.std.proofs.Common.{cond}
 use Rattle.std.proofs.lemmas.Bool.{cases_lt}
 use Rattle.std.proofs.lemmas.List.{take-append-le, drop-append-le, take_all, drop_all}
 use Rattle.plp_receiver.specs.declared.slot_rule.SlotRule.{SlotRule}
 use Rattle.plp_receiver.specs.Strings.{Item}
-use Rattle.plp_receiver.specs.Packets.{UserPacket, is_one, last_item, slot_by, slot_of, dnp_of, first_item, window, latest}
+use Rattle.plp_receiver.specs.Packets.{UserPacket, is_one, last_item, slot_by, slot_of, dnp_of, first_item, window}
+use Rattle.plp_receiver.specs.Packets.{latest}
 use Rattle.plp_receiver.specs.Packets.{slot_before, slots_at, with_slot, packets_at, user_packets}
 
 pub none_of : (r : SlotRule) (w : List Item) (before : Option ℕ) → is_one w ≡ false → slot_of r w before ≡ None
@@ -25,18 +28,22 @@ module _ (r : SlotRule) where
   unfolding slots_at
   same_slots z ys zero h = refl
   same_slots z ys (suc x) h =
-      ap₂ (λ (w : List Item) (l : List (Option ℕ)). slot_of r w (slot_before r l) ∷ l) (same_window z ys x (omega arith))
+      ap₂ (λ (w : List Item) (l : List (Option ℕ)). slot_of r w (slot_before r l) ∷ l)
+      (same_window z ys x (omega arith))
       (same_slots z ys x (omega arith))
 
-  pub same_packets : (z ys : List Item) (n : ℕ) → n + r.up_len ≤ length z + 1 → packets_at r (z ++ ys) n ≡ packets_at r z n
+  pub same_packets : (z ys : List Item) (n : ℕ) → n + r.up_len ≤ length z + 1
+      → packets_at r (z ++ ys) n ≡ packets_at r z n
   unfolding packets_at
   same_packets z ys zero h = refl
   same_packets z ys (suc x) h =
       let e = same_window z ys x (omega arith) in
       let f = same_slots z ys x (omega arith) in
       let g = same_packets z ys x (omega arith) in
-      ap₂ (λ (w : List Item) (l : List (Option ℕ)). packets_at r (z ++ ys) x ++ with_slot w (slot_of r w (slot_before r l))) e f
-      ∙ ap (λ (l : List UserPacket). l ++ with_slot (window r z x) (slot_of r (window r z x) (slot_before r (slots_at r z x)))) g
+      ap₂ (λ (w : List Item) (l : List (Option ℕ)). packets_at r (z ++ ys) x ++ with_slot w
+      (slot_of r w (slot_before r l))) e f
+      ∙ ap (λ (l : List UserPacket). l ++ with_slot (window r z x)
+      (slot_of r (window r z x) (slot_before r (slots_at r z x)))) g
 
   length_slots : (z : List Item) (n : ℕ) → length (slots_at r z n) ≡ n
   unfolding slots_at
@@ -46,9 +53,11 @@ module _ (r : SlotRule) where
   back : (z : List Item) (y j : ℕ) → drop j (slots_at r z (j + y)) ≡ slots_at r z y
   unfolding slots_at
   back z y zero = let e : 0 + y ≡ y = omega arith in ap (slots_at r z) e
-  back z y (suc j) = let e : suc j + y ≡ suc (j + y) = omega arith in ap (λ (n : ℕ). drop (suc j) (slots_at r z n)) e ∙ back z y j
+  back z y (suc j) = let e : suc j + y ≡ suc (j + y) = omega arith in ap (λ (n : ℕ). drop (suc j) (slots_at r z n)) e
+      ∙ back z y j
 
-  pub before_at : (z : List Item) (x y : ℕ) → x ≡ (r.up_len - 1) + y → slot_before r (slots_at r z x) ≡ latest (slots_at r z y)
+  pub before_at : (z : List Item) (x y : ℕ) → x ≡ (r.up_len - 1) + y
+      → slot_before r (slots_at r z x) ≡ latest (slots_at r z y)
   before_at z x y e = ap (λ (n : ℕ). slot_before r (slots_at r z n)) e ∙ ap latest (back z y (r.up_len - 1))
 
   pub before_none : (z : List Item) (x : ℕ) → x < r.up_len → slot_before r (slots_at r z x) ≡ None
@@ -61,7 +70,8 @@ module _ (r : SlotRule) where
         | inl lt ↦ before_none (z ++ ys) x lt ∙ sym (before_none z x lt)
         | inr ge ↦
             let e : x ≡ (r.up_len - 1) + (x - (r.up_len - 1)) = omega arith in
-            before_at (z ++ ys) x _ e ∙ ap latest (same_slots z ys (x - (r.up_len - 1)) (omega arith)) ∙ sym (before_at z x _ e)
+            before_at (z ++ ys) x _ e ∙ ap latest (same_slots z ys (x - (r.up_len - 1)) (omega arith))
+            ∙ sym (before_at z x _ e)
       ]
 
   pub slots_suc : (z : List Item) (x : ℕ) → latest (slots_at r z (suc x))
@@ -89,7 +99,8 @@ module _ (r : SlotRule) where
     whole : (x : ℕ) → x + r.up_len ≡ length z + 1 → window r more x ≡ drop x more
     whole x e = take_all r.up_len (drop x more) (omega (arith, length-drop x more, size, e))
 
-    latest_is : (x : ℕ) → latest (slots_at r more (suc x)) ≡ slot_of r (window r more x) (slot_before r (slots_at r more x))
+    latest_is : (x : ℕ) → latest (slots_at r more (suc x)) ≡ slot_of r (window r more x)
+        (slot_before r (slots_at r more x))
     unfolding slots_at
     latest_is x = refl
 
@@ -104,7 +115,8 @@ module _ (r : SlotRule) where
       slot_here = slot_of r (drop x more) (slot_before r (slots_at r z x))
 
       slot_is : slot_of r (window r more x) (slot_before r (slots_at r more x)) ≡ slot_here
-      slot_is = ap₂ (λ (w : List Item) (s : Option ℕ). slot_of r w s) (whole x e) (same_before z (b ∷ []) x l (omega arith))
+      slot_is = ap₂ (λ (w : List Item) (s : Option ℕ). slot_of r w s) (whole x e)
+          (same_before z (b ∷ []) x l (omega arith))
 
       pub one_more_slot : slot_before r (slots_at r more (length z + 1)) ≡ slot_here
       one_more_slot = before_at more (length z + 1) (suc x) (omega arith) ∙ latest_is x ∙ slot_is
@@ -116,7 +128,8 @@ module _ (r : SlotRule) where
           ap (packets_at r more) n
           ∙ packets_are x
           ∙ ap₂ (λ (w : List Item) (s : Option ℕ). packets_at r more x ++ with_slot w s) (whole x e) slot_is
-          ∙ ap (λ (p : List UserPacket). p ++ with_slot (drop x more) slot_here) (same_packets z (b ∷ []) x (omega arith))
+          ∙ ap (λ (p : List UserPacket). p ++ with_slot (drop x more) slot_here)
+          (same_packets z (b ∷ []) x (omega arith))
           ∙ sym (ap (λ (k : ℕ). packets_at r z k ++ with_slot (drop x more) slot_here) m)
 
     -- nothing ends here
@@ -142,7 +155,8 @@ module _ (r : SlotRule) where
               let none = none_of r (drop x more) (slot_before r (slots_at r z x)) (h x e) in
               record {
                 slot = one_more_slot x l e ∙ none;
-                packets = one_more_packet x l e ∙ ap (λ (s : Option ℕ). user_packets r z ++ with_slot (drop x more) s) none
+                packets = one_more_packet x l e ∙ ap (λ (s : Option ℕ). user_packets r z ++ with_slot (drop x more) s)
+                    none
                     ∙ append-nil (user_packets r z);
               }
         ]

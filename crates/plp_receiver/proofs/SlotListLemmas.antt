@@ -1,22 +1,26 @@
 -- Ranges, filters and searches.
-use Rattle.std.proofs.Common.{◌≡◌, ◌≢◌, ℕ, zero, suc, ◌+◌, ◌-◌, ◌<◌, ◌≤◌, Bool, true, false, List, [], ◌∷◌, ◌++◌, map, replicate}
+use Rattle.std.proofs.Common.{◌≡◌, ◌≢◌, ℕ, zero, suc, ◌+◌, ◌-◌, ◌<◌, ◌≤◌, Bool, true, false, List, [], ◌∷◌, ◌++◌, map}
+use Rattle.std.proofs.Common.{replicate}
 use Rattle.std.proofs.Common.{Option, Some, None, refl, ap, ap₂, ◌∙◌, sym, arith, inl, inr, cond}
 use Rattle.std.specs.List.{AllByRecursion, range_with_len, find, filter}
 use Rattle.std.proofs.lemmas.Bool.{cases_eq}
 use Rattle.terms.proofs.RangeLemmas.{map_same}
 use Rattle.plp_receiver.specs.Filling.{filled}
 
-pub map_none : {X : Type 0} (f : ℕ → Option X) (n a : ℕ) → ((k : ℕ) → a ≤ k → k < a + n → f k ≡ None) → map f (range_with_len a n)
+pub map_none : {X : Type 0} (f : ℕ → Option X) (n a : ℕ) → ((k : ℕ) → a ≤ k → k < a + n → f k ≡ None)
+    → map f (range_with_len a n)
     ≡ replicate n None
 map_none f zero a h = refl
 map_none f (suc n) a h =
-    ap₂ (λ x l. x ∷ l) (h a (omega arith) (omega arith)) (map_none f n (a + 1) (λ k l m. h k (omega arith) (omega arith)))
+    ap₂ (λ x l. x ∷ l) (h a (omega arith) (omega arith))
+    (map_none f n (a + 1) (λ k l m. h k (omega arith) (omega arith)))
 
 pub filter_append : {X : Type 0} (p : X → Bool) (xs ys : List X) → filter p (xs ++ ys) ≡ filter p xs ++ filter p ys
 filter_append p [] ys = refl
 filter_append {X} p (x ∷ xs) ys = go (p x) (filter_append p xs ys)
   where
-    go : (b : Bool) → filter p (xs ++ ys) ≡ filter p xs ++ filter p ys → cond b (x ∷ filter p (xs ++ ys)) (filter p (xs ++ ys))
+    go : (b : Bool) → filter p (xs ++ ys) ≡ filter p xs ++ filter p ys
+        → cond b (x ∷ filter p (xs ++ ys)) (filter p (xs ++ ys))
         ≡ cond b (x ∷ filter p xs) (filter p xs) ++ filter p ys
     go true h = ap (λ (l : List X). x ∷ l) h
     go false h = h
@@ -27,11 +31,13 @@ pub none_found : {X : Type 0} (p test : X → Bool) (xs : List X) → AllByRecur
 none_found p test [] h = refl
 none_found {X} p test (x ∷ xs) h = go (p x) refl (none_found p test xs h.1)
   where
-    go : (b : Bool) → p x ≡ b → find test (filter p xs) ≡ None → find test (cond b (x ∷ filter p xs) (filter p xs)) ≡ None
+    go : (b : Bool) → p x ≡ b → find test (filter p xs) ≡ None
+        → find test (cond b (x ∷ filter p xs) (filter p xs)) ≡ None
     go false e n = n
     go true e n = ap (λ (t : Bool). cond t (Some x) (find test (filter p xs))) (h.0 e) ∙ n
 
-filled_suc : (x : Option (List ℕ)) (l : List (Option (List ℕ))) (m : ℕ) (p : List ℕ) → filled (x ∷ l) (suc m) p ≡ x ∷ filled l m p
+filled_suc : (x : Option (List ℕ)) (l : List (Option (List ℕ))) (m : ℕ) (p : List ℕ)
+    → filled (x ∷ l) (suc m) p ≡ x ∷ filled l m p
 filled_suc None l m p = refl
 filled_suc (Some y) l m p = refl
 
@@ -60,9 +66,11 @@ put_list f g k p (suc n) a l other none some =
         let z : k - a ≡ 0 = omega (arith, e) in
         ap₂ (λ (m : ℕ) (x : Option (List ℕ)). filled (x ∷ map f (range_with_len (a + 1) n)) m p) z (ap f (sym e) ∙ h)
 
-    here : k ≡ a → (o : Option (List ℕ)) → f k ≡ o → map g (range_with_len a (suc n)) ≡ filled (map f (range_with_len a (suc n)))
+    here : k ≡ a → (o : Option (List ℕ)) → f k ≡ o → map g (range_with_len a (suc n)) ≡ filled
+        (map f (range_with_len a (suc n)))
         (k - a) p
     here e None h = ap₂ (λ (x : Option (List ℕ)) (l : List (Option (List ℕ))). x ∷ l) (ap g (sym e) ∙ none h) (rest e)
         ∙ sym (at e None h)
-    here e (Some q) h = ap₂ (λ (x : Option (List ℕ)) (l : List (Option (List ℕ))). x ∷ l) (ap g (sym e) ∙ some q h ∙ h) (rest e)
+    here e (Some q) h = ap₂ (λ (x : Option (List ℕ)) (l : List (Option (List ℕ))). x ∷ l) (ap g (sym e)
+        ∙ some q h ∙ h) (rest e)
         ∙ sym (at e (Some q) h)

@@ -1,7 +1,8 @@
 -- What a `PacketSlots` stands for, call by call, over its parts.
 use Rattle.std.proofs.Common.{◌≡◌, ℕ, suc, ◌+◌, ◌-◌, ◌/◌, ◌%◌, ◌==◌, ◌<◌, ◌≤◌, List, [], ◌∷◌, ◌++◌, length, map, drop}
 use Rattle.std.proofs.Common.{get_or}
-use Rattle.std.proofs.Common.{replicate, Bool, true, false, cond, Option, Some, None, refl, ap, ap₂, ◌∙◌, sym, subst, arith}
+use Rattle.std.proofs.Common.{replicate, Bool, true, false, cond, Option, Some, None, refl, ap, ap₂, ◌∙◌, sym, subst}
+use Rattle.std.proofs.Common.{arith}
 use Rattle.std.proofs.Common.{append-nil}
 use Rattle.std.proofs.Common.{append_assoc, length-append, eq-eqb}
 use Rattle.std.specs.Prelude.{unwrap_or, slice_get, nat_lt, if◌then◌else◌}
@@ -21,7 +22,8 @@ use Rattle.plp_receiver.specs.declared.window.SlotWindow.{SlotWindow}
 use Rattle.plp_receiver.specs.SlotsHold.{Shows}
 use Rattle.plp_receiver.specs.Window.{Status, status_of, Reaches, begun, entered, left, given, front_packet}
 use Rattle.plp_receiver.specs.Readback.{slot_option, slot_packet}
-use Rattle.plp_receiver.specs.SlotEpochs.{Epoch, HaveEnded, block_or_gap, epoch_items, string_of, first_slot, reached, lost_epoch}
+use Rattle.plp_receiver.specs.SlotEpochs.{Epoch, HaveEnded, block_or_gap, epoch_items, string_of, first_slot, reached}
+use Rattle.plp_receiver.specs.SlotEpochs.{lost_epoch}
 use Rattle.plp_receiver.specs.SlotEpochs.{epoch_with, readback, held_slots}
 use Rattle.plp_receiver.specs.Times.{epoch_of, over_after, due_after}
 use Rattle.plp_receiver.proofs.TimeLemmas.{next_epoch, same_epoch, all_rise, ended_over, none_over, none_given}
@@ -36,7 +38,8 @@ shows_none : (r : SlotRule) (z : List Item) (first end : ℕ) (slots : List (Opt
 shows_none r z first end slots e f = record {
   order = omega (arith, e);
   slots_are =
-      f ∙ sym (ap (λ (n : ℕ). map (slot_option r z) (range_with_len first n)) (let z : end - first ≡ 0 = omega (arith, e) in z));
+      f ∙ sym (ap (λ (n : ℕ). map (slot_option r z) (range_with_len first n))
+      (let z : end - first ≡ 0 = omega (arith, e) in z));
 }
 
 pub fresh_from : (a : Assembler) (w : SlotWindow) (r : SlotRule) → AssemblerStandsFor a r []
@@ -75,7 +78,8 @@ begins a old new r first f e =
           (record {
             assembles = f.both.assembles;
             rule = rule ∙ f.both.rule;
-            shows = shows_none r [] new.first new.end new.slots.items (end ∙ sym at) (ap (λ (s : Status). s.slots) e ∙ f.empty);
+            shows = shows_none r [] new.first new.end new.slots.items (end ∙ sym at) (ap (λ (s : Status). s.slots) e
+                ∙ f.empty);
           });
       number = omega arith;
       ended = omega arith;
@@ -106,7 +110,8 @@ enters r sound rises first frame count epochs released a old new h low e order =
             shows =
                 moved r z old.first new.end new.first new.end new.slots.items at refl
                 (subst (Shows r z old.first new.end) (sym slots)
-                (window.entered r sound rises z (epoch_of r frame - 1) old.first old.end new.end old.slots.items h.both.shows
+                (window.entered r sound rises z (epoch_of r frame - 1) old.first old.end new.end old.slots.items
+                h.both.shows
                 (up_to_string r.up_len (epoch_of r first) (epoch_of r frame - 1) epochs (omega (arith, n)))
                 (omega (arith, low, ended_over rises r sound frame)) order));
           });
@@ -116,14 +121,16 @@ enters r sound rises first frame count epochs released a old new h low e order =
       end = end ∙ same;
     }
 
-pub low_at : (q r : SlotRule) (in_frame : Bool) (frame end : ℕ) → q ≡ r → in_frame ≡ false → Reaches q in_frame frame end
+pub low_at : (q r : SlotRule) (in_frame : Bool) (frame end : ℕ) → q ≡ r → in_frame ≡ false
+    → Reaches q in_frame frame end
     → over_after r (frame - r.spread) ≤ end
 low_at q r in_frame frame end e f h =
     subst (λ (s : SlotRule). over_after s (frame - s.spread) ≤ end) e
     (subst (λ (b : Bool). Reaches q b frame end) f h).least
 
 -- the slots in range before all frames
-pub open_range : (w : SlotWindow) (r : SlotRule) → status_of w ≡ record { rule = r; slots = []; first = 0; end = 0; due_end = 0 }
+pub open_range : (w : SlotWindow) (r : SlotRule)
+    → status_of w ≡ record { rule = r; slots = []; first = 0; end = 0; due_end = 0 }
     → Reaches w.rule false 0 w.end
 open_range w r e =
     let end = ap (λ (s : Status). s.end) e in
@@ -153,7 +160,8 @@ left_range rises old new in_frame frame within h e =
     let sound = new.sound in
     let same : new.rule ≡ old.rule = ap (λ (s : Status). s.rule) e in
     let last : new.end ≡ old.end = ap (λ (s : Status). s.end) e in
-    let low : over_after old.rule frame ≤ old.end = (subst (λ (b : Bool). Reaches old.rule b frame old.end) within h).least in
+    let low : over_after old.rule frame ≤ old.end = (subst (λ (b : Bool). Reaches old.rule b frame old.end)
+    within h).least in
     let high = h.most in
     let now : over_after r frame ≡ over_after old.rule frame = ap (λ (q : SlotRule). over_after q frame) same in
     let s = sound.spread in
@@ -162,10 +170,12 @@ left_range rises old new in_frame frame within h e =
     record { least = omega (arith, before, now, low, last); most = omega (arith, behind, now, high, last) }
 
 -- A frame has ended, and these items came with it.
-module _ (r : SlotRule) (first frame count : ℕ) (epochs : List Epoch) (released : ℕ) (a : Assembler) (old new : SlotWindow)
+module _ (r : SlotRule) (first frame count : ℕ) (epochs : List Epoch) (released : ℕ) (a : Assembler)
+    (old new : SlotWindow)
     (n : frame ≡ first + count) (begin : old.first ≡ first_slot r first + released) (end : old.end ≡ over_after r frame)
     (e : status_of new ≡ left (status_of old) frame) where
-  ends : (more : List Epoch) → Both r (string_of r.up_len (epoch_of r first) more) a old → HaveEnded r first (frame + 1) more
+  ends : (more : List Epoch) → Both r (string_of r.up_len (epoch_of r first) more) a old
+      → HaveEnded r first (frame + 1) more
       → Stands a new (frame + 1) r first (count + 1) more released
   ends more both ended =
       let at = ap (λ (s : Status). s.first) e in
@@ -196,28 +206,33 @@ module _ (r : SlotRule) (first frame count : ℕ) (epochs : List Epoch) (release
       ≡ string_of r.up_len (epoch_of r first) (epochs ++ epoch ∷ []) =
       sym (string_append r.up_len (epoch_of r first) epochs (epoch ∷ [])
       ∙ ap (λ (y : List Item). string_of r.up_len (epoch_of r first) epochs ++ y)
-      (one_epoch r.up_len (epoch_of r first + length epochs) epoch ∙ ap (λ (m : ℕ). epoch_items r.up_len m epoch) ended)) in
+      (one_epoch r.up_len (epoch_of r first + length epochs) epoch ∙ ap (λ (m : ℕ). epoch_items r.up_len m epoch)
+      ended)) in
       ends (epochs ++ epoch ∷ []) (subst (λ (z : List Item). Both r z a old) string both)
       (omega (arith, more, ended, next_epoch r.spread frame sound.spread last))
 
 last_is : (q r : SlotRule) (frame : ℕ) → q ≡ r → ((frame + 1) % q.spread == 0) ≡ true → (frame + 1) % r.spread ≡ 0
 last_is q r frame e l = subst (λ (s : SlotRule). (frame + 1) % s.spread ≡ 0) e (eqb-true ((frame + 1) % q.spread) 0 l)
 
-pub ends_frame : (r : SlotRule) (first frame count : ℕ) (epochs : List Epoch) (blocks : List (Option Block)) (released : ℕ)
+pub ends_frame : (r : SlotRule) (first frame count : ℕ) (epochs : List Epoch) (blocks : List (Option Block))
+    (released : ℕ)
     (a : Assembler) (old new : SlotWindow) → Within a old frame r first count epochs blocks released
     → ((frame + 1) % old.rule.spread == 0) ≡ true → status_of new ≡ left (status_of old) frame
     → Stands a new (frame + 1) r first (count + 1) (epochs ++ epoch_with blocks ∷ []) released
 ends_frame r first frame count epochs blocks released a old new h last e =
-    ends_with r first frame count epochs released a old new h.number h.begin h.end e (subst IsSound h.both.rule old.sound)
+    ends_with r first frame count epochs released a old new h.number h.begin h.end e
+    (subst IsSound h.both.rule old.sound)
     (epoch_with blocks) h.ended (last_is old.rule r frame h.both.rule last) h.both
 
 -- an epoch that is not there is a gap, as a block that is not taken
-pub loses : (r : SlotRule) (first frame count : ℕ) (epochs : List Epoch) (released : ℕ) (a : Assembler) (old new : SlotWindow)
+pub loses : (r : SlotRule) (first frame count : ℕ) (epochs : List Epoch) (released : ℕ) (a : Assembler)
+    (old new : SlotWindow)
     → Within a old frame r first count epochs (None ∷ []) released → ((frame + 1) % old.rule.spread == 0) ≡ true
     → status_of new ≡ left (status_of old) frame
     → Stands a new (frame + 1) r first (count + 1) (epochs ++ lost_epoch ∷ []) released
 loses r first frame count epochs released a old new h last e =
-    ends_with r first frame count epochs released a old new h.number h.begin h.end e (subst IsSound h.both.rule old.sound)
+    ends_with r first frame count epochs released a old new h.number h.begin h.end e
+    (subst IsSound h.both.rule old.sound)
     lost_epoch h.ended (last_is old.rule r frame h.both.rule last) h.both
 
 -- What a caller sees, call by call.
@@ -253,10 +268,12 @@ released_status old new frame within false t e =
     let first = ap (λ (s : Status). s.first) e in
     let end = ap (λ (s : Status). s.due_end) e in
     let none = ltb-false old.first old.due_end (sym t) in
-    ap₂ (λ (r : SlotRule) (n : ℕ). seen r frame within n) (ap (λ (s : Status). s.rule) e) (omega (arith, first, end, none))
+    ap₂ (λ (r : SlotRule) (n : ℕ). seen r frame within n) (ap (λ (s : Status). s.rule) e)
+    (omega (arith, first, end, none))
 
 -- no epoch ends
-pub passes : (r : SlotRule) (first frame count : ℕ) (epochs : List Epoch) (released : ℕ) (a : Assembler) (old new : SlotWindow)
+pub passes : (r : SlotRule) (first frame count : ℕ) (epochs : List Epoch) (released : ℕ) (a : Assembler)
+    (old new : SlotWindow)
     → Within a old frame r first count epochs [] released → ((frame + 1) % old.rule.spread == 0) ≡ false
     → status_of new ≡ left (status_of old) frame
     → Stands a new (frame + 1) r first (count + 1) epochs released
@@ -267,13 +284,15 @@ passes r first frame count epochs released a old new h inner e =
     let goes : (frame + 1) / r.spread ≡ frame / r.spread =
     same_epoch r.spread frame sound.spread
     (λ (z : (frame + 1) % r.spread ≡ 0).
-    both_ways ((frame + 1) % r.spread == 0) (ap (λ (q : SlotRule). (frame + 1) % q.spread == 0) (sym h.both.rule) ∙ inner)
+    both_ways ((frame + 1) % r.spread == 0) (ap (λ (q : SlotRule). (frame + 1) % q.spread == 0) (sym h.both.rule)
+    ∙ inner)
     (eq-eqb ((frame + 1) % r.spread) 0 z)) in
     ends r first frame count epochs released a old new h.number h.begin h.end e epochs
     (subst (λ (y : List Item). Both r y a old) (append-nil z) h.both) (omega (arith, ended, goes))
 
 -- One block more came, or one that is not taken.
-pub takes : (r : SlotRule) (first frame count : ℕ) (epochs : List Epoch) (blocks : List (Option Block)) (block : Option Block)
+pub takes : (r : SlotRule) (first frame count : ℕ) (epochs : List Epoch) (blocks : List (Option Block))
+    (block : Option Block)
     (released : ℕ) (a b : Assembler) (old new : SlotWindow)
     → Within a old frame r first count epochs blocks released → KeepsTimes old new
     → Both r ((string_of r.up_len (epoch_of r first) epochs ++ blocks_items r.up_len (epoch_of r frame) blocks)
@@ -289,7 +308,8 @@ takes r first frame count epochs blocks block released a b old new h t both =
           flat_map-append (block_or_gap r.up_len m) blocks (block ∷ [])
           ∙ ap (λ (y : List Item). blocks_items r.up_len m blocks ++ y) (append-nil (block_or_gap r.up_len m block)) in
           subst (λ (z : List Item). Both r z b new)
-          (append_assoc z (blocks_items r.up_len m blocks) (block_or_gap r.up_len m block) ∙ ap (λ (y : List Item). z ++ y)
+          (append_assoc z (blocks_items r.up_len m blocks) (block_or_gap r.up_len m block)
+          ∙ ap (λ (y : List Item). z ++ y)
           (sym more)) both;
       number = h.number;
       ended = h.ended;
@@ -303,25 +323,29 @@ unfolding readback
 length_readback r first count epochs =
     length-map-range_with_len _ (first_slot r first) (due_after r (first + count) - first_slot r first)
 
-pub due_is : (a : Assembler) (w : SlotWindow) (next : ℕ) (r : SlotRule) (first count : ℕ) (epochs : List Epoch) (released : ℕ)
+pub due_is : (a : Assembler) (w : SlotWindow) (next : ℕ) (r : SlotRule) (first count : ℕ) (epochs : List Epoch)
+    (released : ℕ)
     → Stands a w next r first count epochs released
     → w.due_end - w.first ≡ length (readback r first count epochs) - released
 due_is a w next r first count epochs released h = let b = h.begin in let d = h.due ∙ ap (due_after r) h.number in
     omega (arith, b, d, length_readback r first count epochs)
 
-pub held_is : (a : Assembler) (w : SlotWindow) (next : ℕ) (r : SlotRule) (first count : ℕ) (epochs : List Epoch) (released : ℕ)
+pub held_is : (a : Assembler) (w : SlotWindow) (next : ℕ) (r : SlotRule) (first count : ℕ) (epochs : List Epoch)
+    (released : ℕ)
     → Stands a w next r first count epochs released
     → w.end - w.first ≡ held_slots r first count - released
 held_is a w next r first count epochs released h = let b = h.begin in let d = h.end in
     omega (arith, b, d)
 
-pub none_due : (a : Assembler) (w : SlotWindow) (next : ℕ) (r : SlotRule) (first count : ℕ) (epochs : List Epoch) (released : ℕ)
+pub none_due : (a : Assembler) (w : SlotWindow) (next : ℕ) (r : SlotRule) (first count : ℕ) (epochs : List Epoch)
+    (released : ℕ)
     → Stands a w next r first count epochs released
     → w.due_end ≤ w.first → length (readback r first count epochs) ≤ released
 none_due a w next r first count epochs released h l = let b = h.begin in let d = h.due ∙ ap (due_after r) h.number in
     omega (arith, b, d, l, length_readback r first count epochs)
 
-pub same_stands : (a : Assembler) (old new : SlotWindow) (next : ℕ) (r : SlotRule) (first count : ℕ) (epochs : List Epoch)
+pub same_stands : (a : Assembler) (old new : SlotWindow) (next : ℕ) (r : SlotRule) (first count : ℕ)
+    (epochs : List Epoch)
     (released : ℕ) → Stands a old next r first count epochs released
     → status_of new ≡ status_of old → Stands a new next r first count epochs released
 same_stands a old new next r first count epochs released h e =
@@ -341,7 +365,8 @@ same_stands a old new next r first count epochs released h e =
       due = ap (λ (s : Status). s.due_end) e ∙ h.due;
     }
 
-module _ (a : Assembler) (old new : SlotWindow) (next : ℕ) (r : SlotRule) (first count : ℕ) (epochs : List Epoch) (released : ℕ)
+module _ (a : Assembler) (old new : SlotWindow) (next : ℕ) (r : SlotRule) (first count : ℕ) (epochs : List Epoch)
+    (released : ℕ)
     (h : Stands a old next r first count epochs released) (e : status_of new ≡ given (status_of old))
     (due : old.first < old.due_end) (known : old.due_end ≤ old.end) where
   step : (get_or old.slots.items 0 None ≡ slot_option r (string_of r.up_len (epoch_of r first) epochs) old.first)
@@ -388,16 +413,19 @@ front_given a old next r first count epochs released h due known =
     ∙ sym (ap (λ (o : Option (List ℕ)). unwrap_or o null_packet) step.0))
 
 -- Either way.
-pub released_or_not : (a : Assembler) (old new : SlotWindow) (next : ℕ) (r : SlotRule) (first count : ℕ) (epochs : List Epoch)
+pub released_or_not : (a : Assembler) (old new : SlotWindow) (next : ℕ) (r : SlotRule) (first count : ℕ)
+    (epochs : List Epoch)
     (released : ℕ) → Stands a old next r first count epochs released
-    → (b : Bool) → b ≡ nat_lt old.first old.due_end → status_of new ≡ (if b then given (status_of old) else status_of old)
+    → (b : Bool) → b ≡ nat_lt old.first old.due_end
+    → status_of new ≡ (if b then given (status_of old) else status_of old)
     → old.due_end ≤ old.end → Stands a new next r first count epochs (if b then released + 1 else released)
 released_or_not a old new next r first count epochs released h true t e known =
     release_stands a old new next r first count epochs released h e (ltb-true _ _ (sym t)) known
 released_or_not a old new next r first count epochs released h false t e known =
     same_stands a old new next r first count epochs released h e
 
-pub release_answers : (a : Assembler) (old : SlotWindow) (next : ℕ) (r : SlotRule) (first count : ℕ) (epochs : List Epoch)
+pub release_answers : (a : Assembler) (old : SlotWindow) (next : ℕ) (r : SlotRule) (first count : ℕ)
+    (epochs : List Epoch)
     (released : ℕ)
     → Stands a old next r first count epochs released
     → (b : Bool) → b ≡ true → b ≡ nat_lt old.first old.due_end → (out before : List ℕ)
@@ -421,4 +449,5 @@ pub fresh_held : (a : Assembler) (w : SlotWindow) (r : SlotRule) → Fresh a w r
 fresh_held a w r f = let none = ap length f.empty in let span = w.span in omega (arith, none, span)
 
 pub fresh_due : (a : Assembler) (w : SlotWindow) (r : SlotRule) → Fresh a w r → w.due_end - w.first ≡ 0
-fresh_due a w r f = let none = ap length f.empty in let span = w.span in let known = w.known in omega (arith, none, span, known)
+fresh_due a w r f = let none = ap length f.empty in let span = w.span in let known = w.known in omega
+    (arith, none, span, known)

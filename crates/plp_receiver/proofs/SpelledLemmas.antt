@@ -31,8 +31,10 @@ tells h body bits s =
     let rest_e : List Bool = f ++ rest_f in
     let rest_d : List Bool = e ++ rest_e in
     let rest_c : List Bool = d ++ rest_d in
-    let at_c : bits ≡ ((a ++ b) ++ c) ++ (d ++ (e ++ (f ++ (g ++ (body ++ s.padding))))) = s.spelled ∙ simp append_assoc in
-    let at_d : bits ≡ ((a ++ b ++ c) ++ d) ++ (e ++ (f ++ (g ++ (body ++ s.padding)))) = s.spelled ∙ simp append_assoc in
+    let at_c : bits ≡ ((a ++ b) ++ c) ++ (d ++ (e ++ (f ++ (g ++ (body ++ s.padding))))) = s.spelled
+    ∙ simp append_assoc in
+    let at_d : bits ≡ ((a ++ b ++ c) ++ d) ++ (e ++ (f ++ (g ++ (body ++ s.padding)))) = s.spelled
+    ∙ simp append_assoc in
     let at_e : bits ≡ ((a ++ b ++ c ++ d) ++ e) ++ (f ++ (g ++ (body ++ s.padding))) = s.spelled ∙ simp append_assoc in
     let at_f : bits ≡ ((a ++ b ++ c ++ d ++ e) ++ f) ++ (g ++ (body ++ s.padding)) = s.spelled ∙ simp append_assoc in
     let two : length (a ++ b) ≡ 16 = simp (length-append, length-field) refl in
@@ -41,8 +43,10 @@ tells h body bits s =
     let seven : length (a ++ b ++ c ++ d ++ e) ≡ 56 = simp (length-append, length-field) refl in
     let high : h.issy / 2 ^ 8 < 2 ^ 16 = let small = fit.issy in omega arith in
     record {
-      upper = ap (λ (xs : List Bool). number_at xs 16 16) at_c ∙ number-middle (a ++ b) rest_c 16 16 (h.issy / 2 ^ 8) two high;
-      dfl = ap (λ (xs : List Bool). number_at xs 32 16) at_d ∙ number-middle (a ++ b ++ c) rest_d 32 16 h.dfl four fit.dfl;
+      upper = ap (λ (xs : List Bool). number_at xs 16 16) at_c ∙ number-middle (a ++ b) rest_c 16 16
+          (h.issy / 2 ^ 8) two high;
+      dfl = ap (λ (xs : List Bool). number_at xs 32 16) at_d ∙ number-middle (a ++ b ++ c) rest_d 32
+          16 h.dfl four fit.dfl;
       lower = ap (λ (xs : List Bool). number_at xs 48 8) at_e
           ∙ ap number_of (part-middle (a ++ b ++ c ++ d) e rest_e 48 8 six (length-field 8 h.issy))
           ∙ number_of-field-mod 8 h.issy;
@@ -85,5 +89,6 @@ spelled_once counts h k body other bits s t =
     record {
       issy = omega (arith, upper, lower);
       syncd = sym a.syncd ∙ b.syncd;
-      field = (field_behind counts h body bits s).1 ∙ ap (part bits 80) dfl ∙ sym (field_behind counts k other bits t).1;
+      field = (field_behind counts h body bits s).1 ∙ ap (part bits 80) dfl
+          ∙ sym (field_behind counts k other bits t).1;
     }

@@ -1,5 +1,6 @@
 -- What a receiver stands for, record by record.
-use Rattle.std.proofs.Common.{◌≡◌, ◌≢◌, ℕ, zero, suc, ◌+◌, ◌-◌, ◌%◌, ◌≤◌, ◌==◌, Bool, true, false, List, [], ◌∷◌, ◌++◌, length}
+use Rattle.std.proofs.Common.{◌≡◌, ◌≢◌, ℕ, zero, suc, ◌+◌, ◌-◌, ◌%◌, ◌≤◌, ◌==◌, Bool, true, false, List, [], ◌∷◌, ◌++◌}
+use Rattle.std.proofs.Common.{length}
 use Rattle.std.proofs.Common.{Option, Some, refl, ap, sym, subst, ◌∙◌, arith, length-append, eq-eqb}
 use Rattle.std.specs.Prelude.{slice_get, nat_lt, if◌then◌else◌}
 use Rattle.std.proofs.lemmas.Bool.{eqb-true, both_ways}
@@ -18,7 +19,8 @@ use Rattle.plp_receiver.specs.Epochs.{part_of, slot_rule, Readback}
 use Rattle.plp_receiver.specs.Holds.{Holds, seen, joined, Sees}
 use Rattle.plp_receiver.specs.Taking.{EndsRecord}
 use Rattle.plp_receiver.specs.declared.held.HeldBlocks.{HeldBlocks}
-use Rattle.plp_receiver.proofs.EpochLemmas.{seen_begun, seen_on, seen_anew, begun_joined, told_on, told_more, first_seen}
+use Rattle.plp_receiver.proofs.EpochLemmas.{seen_begun, seen_on, seen_anew, begun_joined, told_on, told_more}
+use Rattle.plp_receiver.proofs.EpochLemmas.{first_seen}
 use Rattle.plp_receiver.proofs.EpochLemmas.{none_told}
 
 -- the frame that comes next, and the rule by which it counts
@@ -32,9 +34,11 @@ rule_is : (p : PacketSlots) (r : SlotRule) (first count : ℕ) (told : List Epoc
 unfolding slots.PacketSlotsStandsFor
 rule_is p r first count told released s = s.both.rule
 
-pub record_came : (c : Config) (plp : ℕ) (old new : PacketSlots) (held mid new_held : HeldBlocks) (view : RecordView) (first : ℕ)
+pub record_came : (c : Config) (plp : ℕ) (old new : PacketSlots) (held mid new_held : HeldBlocks) (view : RecordView)
+    (first : ℕ)
     (views : List RecordView) (released : ℕ) → 1 ≤ spread c.plps plp
-    → Sees c plp (slots.frame_of old) (part_of c (slots.frame_of old) view) held mid → EndsRecord c plp mid new_held old new
+    → Sees c plp (slots.frame_of old) (part_of c (slots.frame_of old) view) held mid
+    → EndsRecord c plp mid new_held old new
     → Stands c plp old held first views released → Stands c plp new new_held first (views ++ view ∷ []) released
 record_came c plp old new held mid new_held view first views released some sees ends s =
     bool_cases (slots.ends_epoch old) last inner
@@ -46,7 +50,8 @@ record_came c plp old new held mid new_held view first views released some sees 
     number = next_is old (slot_rule c plp) first (length views) s.told released s.stands
 
     frames : old.window.rule.spread ≡ spread c.plps plp
-    frames = ap (λ (r : SlotRule). r.spread) (rule_is old (slot_rule c plp) first (length views) s.told released s.stands)
+    frames = ap (λ (r : SlotRule). r.spread) (rule_is old (slot_rule c plp) first (length views) s.told
+        released s.stands)
 
     test : slots.ends_epoch old ≡ ((n + 1) % spread c.plps plp == 0)
     test = ap (λ (k : ℕ). (k + 1) % old.window.rule.spread == 0) number ∙ ap (λ (k : ℕ). (n + 1) % k == 0) frames
@@ -68,9 +73,11 @@ record_came c plp old new held mid new_held view first views released some sees 
         record {
           told = s.told ++ t.told ∷ [];
           tells = told_more c plp first views view some s.told s.tells z t.told t.tells;
-          stands = subst (λ (k : ℕ). slots.PacketSlotsStandsFor new (slot_rule c plp) first k (s.told ++ t.told ∷ []) released) longer
+          stands = subst (λ (k : ℕ). slots.PacketSlotsStandsFor new (slot_rule c plp) first k (s.told ++ t.told ∷ [])
+              released) longer
               (t.ends (slot_rule c plp) first (length views) s.told released s.stands);
-          holds = subst (λ (o : Option (List Part)). Holds c plp o new_held) (sym (seen_anew c plp first views some view z)) tt;
+          holds = subst (λ (o : Option (List Part)). Holds c plp o new_held)
+              (sym (seen_anew c plp first views some view z)) tt;
         }
 
     inner : slots.ends_epoch old ≡ false → Stands c plp new new_held first (views ++ view ∷ []) released
@@ -83,20 +90,23 @@ record_came c plp old new held mid new_held view first views released some sees 
           tells = told_on c plp first views view some s.told s.tells ne;
           stands = subst (λ (k : ℕ). slots.PacketSlotsStandsFor new (slot_rule c plp) first k s.told released) longer
               (g.0 (slot_rule c plp) first (length views) s.told released s.stands);
-          holds = subst (λ (o : Option (List Part)). Holds c plp o new_held) (sym (seen_on c plp first views some view ne))
+          holds = subst (λ (o : Option (List Part)). Holds c plp o new_held)
+              (sym (seen_on c plp first views some view ne))
               (subst (Holds c plp parts) (sym g.1) holds);
         }
 
 -- in the network of the receiver
 pub came_in : (c d : Config) (plp q : ℕ) (new : PacketSlots) (held : HeldBlocks) (first : ℕ) (views : List RecordView)
-    (released : ℕ) → d ≡ c → q ≡ plp → Stands c plp new held first views released → Stands d q new held first views released
+    (released : ℕ) → d ≡ c → q ≡ plp → Stands c plp new held first views released
+    → Stands d q new held first views released
 came_in c d plp q new held first views released same_c same_p s =
     subst (λ (e : Config). Stands e q new held first views released) (sym same_c)
     (subst (λ (p : ℕ). Stands c p new held first views released) (sym same_p) s)
 
 pub begun : (c : Config) (plp : ℕ) (old new : PacketSlots) (h : HeldBlocks) (first : ℕ) → 1 ≤ spread c.plps plp
     → Fresh c plp old h
-    → ((r : SlotRule) → slots.IsFresh old r → slots.PacketSlotsStandsFor new r first 0 [] 0) → Stands c plp new h first [] 0
+    → ((r : SlotRule) → slots.IsFresh old r → slots.PacketSlotsStandsFor new r first 0 [] 0)
+    → Stands c plp new h first [] 0
 begun c plp old new h first some f step = record {
   told = [];
   tells = none_told c plp first;
@@ -104,7 +114,8 @@ begun c plp old new h first some f step = record {
   holds = first_seen c plp first some h f.none;
 }
 
-pub is_empty : (c : Config) (plp : ℕ) (old : PacketSlots) (h : HeldBlocks) → Fresh c plp old h → old.window.slots.items ≡ []
+pub is_empty : (c : Config) (plp : ℕ) (old : PacketSlots) (h : HeldBlocks) → Fresh c plp old h
+    → old.window.slots.items ≡ []
 unfolding slots.IsFresh
 is_empty c plp old h f = f.fresh.empty
 
@@ -118,20 +129,24 @@ none_due p r f = let none = ap length f.empty in let span = p.window.span in let
 pub still_fresh : (c : Config) (plp : ℕ) (old new : PacketSlots) (h : HeldBlocks) → Fresh c plp old h → (result : Bool)
     → result ≡ nat_lt 0 (slots.due_of old) → (result ≡ false → new ≡ old) → Fresh c plp new h
 still_fresh c plp old new h f result due same =
-    subst (λ (p : PacketSlots). Fresh c plp p h) (sym (same (due ∙ ap (nat_lt 0) (none_due old (slot_rule c plp) f.fresh)))) f
+    subst (λ (p : PacketSlots). Fresh c plp p h)
+    (sym (same (due ∙ ap (nat_lt 0) (none_due old (slot_rule c plp) f.fresh)))) f
 
 -- the packets that the slots show
-pub given_back : (c : Config) (plp : ℕ) (p : PacketSlots) (h : HeldBlocks) (first : ℕ) (views : List RecordView) (released : ℕ)
+pub given_back : (c : Config) (plp : ℕ) (p : PacketSlots) (h : HeldBlocks) (first : ℕ) (views : List RecordView)
+    (released : ℕ)
     → (s : Stands c plp p h first views released)
     → Readback c plp first views (readback (slot_rule c plp) first (length views) s.told)
 given_back c plp p h first views released s =
     record { told = s.told; tells = s.tells; packets_are = refl }
 
-pub due_is : ReadbackOnce → (c : Config) (plp : ℕ) (p : PacketSlots) (h : HeldBlocks) (first : ℕ) (views : List RecordView)
+pub due_is : ReadbackOnce → (c : Config) (plp : ℕ) (p : PacketSlots) (h : HeldBlocks) (first : ℕ)
+    (views : List RecordView)
     (released : ℕ)
     (packets : List (List ℕ)) (due : ℕ)
     → Stands c plp p h first views released → Readback c plp first views packets
-    → ((r : SlotRule) (first count : ℕ) (epochs : List Epoch) (released : ℕ) → slots.PacketSlotsStandsFor p r first count epochs released
+    → ((r : SlotRule) (first count : ℕ) (epochs : List Epoch) (released : ℕ)
+    → slots.PacketSlotsStandsFor p r first count epochs released
     → due ≡ length (readback r first count epochs) - released)
     → due ≡ length packets - released
 due_is once c plp p h first views released packets due s b answer =
@@ -140,11 +155,13 @@ due_is once c plp p h first views released packets due s b answer =
     (once c plp first views (readback (slot_rule c plp) first (length views) s.told) packets
     (given_back c plp p h first views released s) b)
 
-pub none_is : ReadbackOnce → (c : Config) (plp : ℕ) (p : PacketSlots) (h : HeldBlocks) (first : ℕ) (views : List RecordView)
+pub none_is : ReadbackOnce → (c : Config) (plp : ℕ) (p : PacketSlots) (h : HeldBlocks) (first : ℕ)
+    (views : List RecordView)
     (released : ℕ)
     (packets : List (List ℕ))
     → Stands c plp p h first views released → Readback c plp first views packets
-    → ((r : SlotRule) (first count : ℕ) (epochs : List Epoch) (released : ℕ) → slots.PacketSlotsStandsFor p r first count epochs released
+    → ((r : SlotRule) (first count : ℕ) (epochs : List Epoch) (released : ℕ)
+    → slots.PacketSlotsStandsFor p r first count epochs released
     → length (readback r first count epochs) ≤ released)
     → length packets ≤ released
 none_is once c plp p h first views released packets s b answer =
@@ -155,7 +172,8 @@ none_is once c plp p h first views released packets s b answer =
 
 pub held_is : (c : Config) (plp : ℕ) (p : PacketSlots) (h : HeldBlocks) (first : ℕ) (views : List RecordView)
     (released held : ℕ) → Stands c plp p h first views released
-    → ((r : SlotRule) (first count : ℕ) (epochs : List Epoch) (released : ℕ) → slots.PacketSlotsStandsFor p r first count epochs released
+    → ((r : SlotRule) (first count : ℕ) (epochs : List Epoch) (released : ℕ)
+    → slots.PacketSlotsStandsFor p r first count epochs released
     → held ≡ held_slots r first count - released)
     → held ≡ slots_come c plp first (length views) - released
 held_is c plp p h first views released held s answer =
@@ -166,11 +184,13 @@ held_is c plp p h first views released held s answer =
     come zero = omega arith
     come (suc before) = refl
 
-pub packet_is : ReadbackOnce → (c : Config) (plp : ℕ) (p : PacketSlots) (h : HeldBlocks) (first : ℕ) (views : List RecordView)
+pub packet_is : ReadbackOnce → (c : Config) (plp : ℕ) (p : PacketSlots) (h : HeldBlocks) (first : ℕ)
+    (views : List RecordView)
     (released : ℕ)
     (packets : List (List ℕ)) (out : List ℕ)
     → Stands c plp p h first views released → Readback c plp first views packets
-    → ((r : SlotRule) (first count : ℕ) (epochs : List Epoch) (released : ℕ) → slots.PacketSlotsStandsFor p r first count epochs released
+    → ((r : SlotRule) (first count : ℕ) (epochs : List Epoch) (released : ℕ)
+    → slots.PacketSlotsStandsFor p r first count epochs released
     → slice_get (readback r first count epochs) released ≡ Some out)
     → slice_get packets released ≡ Some out
 packet_is once c plp p h first views released packets out s b answer =
@@ -179,10 +199,12 @@ packet_is once c plp p h first views released packets out s b answer =
     (given_back c plp p h first views released s) b))
     ∙ answer (slot_rule c plp) first (length views) s.told released s.stands
 
-pub released_or_not : (c : Config) (plp : ℕ) (old new : PacketSlots) (h : HeldBlocks) (first : ℕ) (views : List RecordView)
+pub released_or_not : (c : Config) (plp : ℕ) (old new : PacketSlots) (h : HeldBlocks) (first : ℕ)
+    (views : List RecordView)
     (released : ℕ)
     (result : Bool) → Stands c plp old h first views released
-    → ((r : SlotRule) (first count : ℕ) (epochs : List Epoch) (released : ℕ) → slots.PacketSlotsStandsFor old r first count epochs released
+    → ((r : SlotRule) (first count : ℕ) (epochs : List Epoch) (released : ℕ)
+    → slots.PacketSlotsStandsFor old r first count epochs released
     → slots.PacketSlotsStandsFor new r first count epochs (if result then released + 1 else released))
     → Stands c plp new h first views (if result then released + 1 else released)
 released_or_not c plp old new h first views released result s step =

@@ -29,13 +29,15 @@ use Rattle.plp_receiver.specs.Taking.{Adds, TakesBlock, TakesBlocks, TakesEpoch}
 use Rattle.plp_receiver.proofs.ListLemmas.{zip_more, zip_over}
 
 -- a block whose cells stand
-pub stood : (deletes stands : Bool) (sent descrambled : List ℕ) (old new : PacketSlots) (told : Option Block) → stands ≡ true
+pub stood : (deletes stands : Bool) (sent descrambled : List ℕ) (old new : PacketSlots) (told : Option Block)
+    → stands ≡ true
     → IsTold deletes sent told → Adds old new (told ∷ []) → TakesBlock deletes stands sent old new
 stood deletes stands sent descrambled old new told e t a =
     record { told = told; given = subst (λ (b : Bool). IsGiven deletes b sent told) (sym e) t; adds = a }
 
 -- what is told of it
-pub told_some : (deletes : Bool) (sent descrambled : List ℕ) (b : Block) → bits_of descrambled ≡ scrambled (bits_of sent)
+pub told_some : (deletes : Bool) (sent descrambled : List ℕ) (b : Block)
+    → bits_of descrambled ≡ scrambled (bits_of sent)
     → IsTaken deletes (bits_of descrambled) b → IsTold deletes sent (Some b)
 told_some deletes sent descrambled b e t = subst (λ (bits : List Bool). IsTaken deletes bits b) e t
 
@@ -47,7 +49,8 @@ abbrev pub IsGivenAt : Bool → List Bool → ℕ → List ℕ → ℕ → Optio
 IsGivenAt deletes stands len bytes k b = IsGiven deletes (get_or stands k false) (block_at len bytes k) b
 
 -- so many blocks were taken
-pub record Took (deletes : Bool) (stands : List Bool) (len : ℕ) (bytes : List ℕ) (n : ℕ) (old new : PacketSlots) : Type 0 where
+pub record Took (deletes : Bool) (stands : List Bool) (len : ℕ) (bytes : List ℕ) (n : ℕ) (old new : PacketSlots) :
+    Type 0 where
   pub told : List (Option Block)
   pub given : AllZip (IsGivenAt deletes stands len bytes) (range_with_len 0 n) told
   pub adds : Adds old new told
@@ -69,7 +72,8 @@ pub took_more : (deletes : Bool) (stands : List Bool) (len : ℕ) (bytes : List 
     → Took deletes stands len bytes (n + 1) old new
 took_more deletes stands len bytes n old mid new sent stand was at same t = record {
   told = was.told ++ t.told ∷ [];
-  given = subst (λ (l : List ℕ). AllZip (IsGivenAt deletes stands len bytes) l (was.told ++ t.told ∷ [])) (sym (places_more n))
+  given = subst (λ (l : List ℕ). AllZip (IsGivenAt deletes stands len bytes) l (was.told ++ t.told ∷ []))
+      (sym (places_more n))
       (zip_more (IsGivenAt deletes stands len bytes) (range_with_len 0 n) was.told n t.told was.given here);
   adds = λ r first count epochs before released s.
       subst (λ (l : List (Option Block)). StandsWithin new r first count epochs l released)
@@ -92,7 +96,8 @@ took_all deletes stands len bytes n old new e t = record {
 
 -- ---- a whole epoch
 pub epoch_taken : (deletes : Bool) (h : HeldBlocks) (old begun within new : PacketSlots)
-    → ((r : SlotRule) (first count : ℕ) (epochs : List Epoch) (released : ℕ) → PacketSlotsStandsFor old r first count epochs released
+    → ((r : SlotRule) (first count : ℕ) (epochs : List Epoch) (released : ℕ)
+    → PacketSlotsStandsFor old r first count epochs released
     → StandsWithin begun r first count epochs [] released)
     → TakesBlocks deletes (take h.count h.stands.items) h.len h.bytes.items begun within
     → ((r : SlotRule) (first count : ℕ) (epochs : List Epoch) (blocks : List (Option Block)) (released : ℕ)
@@ -105,7 +110,8 @@ epoch_taken deletes h old begun within new begins t ends = record {
       (IsGivenAt deletes h.stands.items h.len h.bytes.items) 0 h.count t.told
       (λ k b low l g. subst (λ (x : Bool). IsGiven deletes x (block_at h.len h.bytes.items k) b)
       (get_or-take h.count h.stands.items k false (omega (arith, l))) g)
-      (subst (λ (n : ℕ). AllZip (IsGivenAt deletes (take h.count h.stands.items) h.len h.bytes.items) (range_with_len 0 n) t.told)
+      (subst (λ (n : ℕ). AllZip (IsGivenAt deletes (take h.count h.stands.items) h.len h.bytes.items)
+      (range_with_len 0 n) t.told)
       (length-take-le h.count h.stands.items (let few = h.few in omega (arith, few))) t.given);
   ends = λ r first count epochs released s.
       ends r first count epochs t.told released
@@ -114,13 +120,15 @@ epoch_taken deletes h old begun within new begins t ends = record {
 
 -- ---- a readable record
 -- what a shape agrees with
-pub record Agrees (c : Config) (n : ℕ) (blocks : List frame.Block) (cells : List (Option Cell)) (shape : FrameShape) : Type 0
+pub record Agrees (c : Config) (n : ℕ) (blocks : List frame.Block) (cells : List (Option Cell)) (shape : FrameShape) :
+    Type 0
   where
     pub sizes : pointwise has_size blocks (block_sizes c (coming c n shape)) ≡ true
     pub all : length cells ≡ c.cells
     pub passes : Passes c shape
 
-pub agrees : MapPasses → (c : Config) (n : ℕ) (blocks : List frame.Block) (cells : List (Option Cell)) (shape : FrameShape)
+pub agrees : MapPasses → (c : Config) (n : ℕ) (blocks : List frame.Block) (cells : List (Option Cell))
+    (shape : FrameShape)
     → IsPlan c
     → shape_agrees c n blocks cells shape ≡ true → Agrees c n blocks cells shape
 agrees law c n blocks cells shape plan e =

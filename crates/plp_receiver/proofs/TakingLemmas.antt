@@ -1,6 +1,7 @@
 -- What is taken of bytes.
 use Rattle.std.proofs.Common.{◌≡◌, ◌⊎◌, ℕ, ◌+◌, ◌*◌, ◌/◌, ◌%◌, ◌==◌, ◌<◌, ◌≤◌, Bool, true, false, List}
-use Rattle.std.proofs.Common.{length, take, drop, get_or, Option, Some, None, refl, ap, ◌∙◌, sym, subst, arith, inl, inr, cond}
+use Rattle.std.proofs.Common.{length, take, drop, get_or, Option, Some, None, refl, ap, ◌∙◌, sym, subst, arith, inl}
+use Rattle.std.proofs.Common.{inr, cond}
 use Rattle.std.specs.Prelude.{if◌then◌else◌, Result, Ok, Err}
 use Rattle.std.proofs.lemmas.Bool.{both_ways, eq-eqb}
 use Rattle.std.proofs.lemmas.List.{get_or-drop, length-take, length-drop}
@@ -19,10 +20,12 @@ use Rattle.plp_receiver.proofs.SpelledLemmas.{field_behind}
 abbrev pub block_with : Option ℕ → ℕ → List ℕ → Block
 block_with first issy field = record { first = first; issy = issy; field = field }
 
-small_part : (bytes : List ℕ) → ((k : ℕ) → get_or bytes k 0 < 256) → (at count k : ℕ) → get_or (take count (drop at bytes)) k 0
+small_part : (bytes : List ℕ) → ((k : ℕ) → get_or bytes k 0 < 256) → (at count k : ℕ)
+    → get_or (take count (drop at bytes)) k 0
     < 256
 small_part bytes small at count k =
-    small_take count (drop at bytes) (λ j. subst (λ (v : ℕ). v < 256) (sym (get_or-drop at bytes j 0)) (small (at + j))) k
+    small_take count (drop at bytes) (λ j. subst (λ (v : ℕ). v < 256) (sym (get_or-drop at bytes j 0)) (small (at + j)))
+    k
 
 -- the data field's bytes
 pub field_is : BitCounts → (bytes : List ℕ) → ((k : ℕ) → get_or bytes k 0 < 256) → (h : Header) (body : List Bool)
@@ -34,8 +37,11 @@ field_is counts bytes small h body s =
     let l = r.0 in
     let fits : 10 + h.dfl / 8 ≤ length bytes = omega (arith, l, length-bits_of bytes, e) in
     let field : body ≡ bits_of (take (h.dfl / 8) (drop 10 bytes)) =
-    r.1 ∙ ap (λ (n : ℕ). part (bits_of bytes) 80 n) e ∙ part-bits_of bytes 10 (h.dfl / 8) fits in
-    (fits, ap bytes_of field ∙ bytes_of-bits_of (take (h.dfl / 8) (drop 10 bytes)) (λ k. small_part bytes small 10 (h.dfl / 8) k))
+    r.1 ∙ ap (λ (n : ℕ). part (bits_of bytes) 80 n) e ∙ part-bits_of bytes 10 (h.dfl / 8) fits in (
+      fits,
+      ap bytes_of field ∙ bytes_of-bits_of (take (h.dfl / 8) (drop 10 bytes))
+          (λ k. small_part bytes small 10 (h.dfl / 8) k),
+    )
 
 pub taken_is : BitCounts → (bytes : List ℕ) → ((k : ℕ) → get_or bytes k 0 < 256) → (h : Header) (body : List Bool)
     → Spells h body (bits_of bytes) → (deletes : Bool) → IsOfStream deletes h.matype1

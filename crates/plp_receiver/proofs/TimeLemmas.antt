@@ -61,7 +61,8 @@ same_epoch spread frame l ne =
     ]
 
 -- the last frame of a later epoch is no earlier frame
-pub last_is_late : (r : SlotRule) → 1 ≤ r.spread → (frame epoch : ℕ) → epoch_of r frame ≤ epoch → frame ≤ last_frame r epoch
+pub last_is_late : (r : SlotRule) → 1 ≤ r.spread → (frame epoch : ℕ) → epoch_of r frame ≤ epoch
+    → frame ≤ last_frame r epoch
 last_is_late r l frame epoch m =
     let p = placed r.spread frame l in
     let b = p.below in
@@ -78,7 +79,8 @@ ended_before r l frame = go (frame / r.spread) (placed r.spread frame l)
     go (suc m) p =
         let is = p.frame_is in
         let e : suc m * r.spread ≡ m * r.spread + r.spread = omega arith in
-        let f : (suc m - 1) * r.spread ≡ m * r.spread = ap (λ (k : ℕ). k * r.spread) (let g : suc m - 1 ≡ m = omega arith in g) in
+        let f : (suc m - 1) * r.spread ≡ m * r.spread = ap (λ (k : ℕ). k * r.spread)
+        (let g : suc m - 1 ≡ m = omega arith in g) in
         omega (arith, e, f, is)
 
 -- ---- ticks
@@ -104,7 +106,8 @@ early_tick : (frame spread ticks : ℕ) → frame * ticks - 3 * (spread * ticks)
 early_tick frame spread ticks =
     elim (cases_lt frame spread) [
       | inl lt ↦
-          let q : frame * ticks ≤ spread * ticks = mul-le-mul_right {m = frame} {n = spread} ticks (omega (arith, lt)) in
+          let q : frame * ticks ≤ spread * ticks = mul-le-mul_right {m = frame} {n = spread} ticks
+          (omega (arith, lt)) in
           omega (arith, q)
       | inr ge ↦
           let e : frame ≡ (frame - spread) + spread = omega (arith, ge) in
@@ -147,7 +150,8 @@ ended_over rises r sound frame =
     let q : m * r.spread * r.ticks ≤ (frame - r.spread) * r.ticks =
     mul-le-mul_right {m = m * r.spread} {n = frame - r.spread} r.ticks (ended_before r sound.spread frame) in
     let e = tick_of_epochs r sound m in
-    rises r.times.num r.times.den (m * r.times.epoch) ((frame - r.spread) * r.ticks) (omega (arith, a, b)) (omega (arith, q, e))
+    rises r.times.num r.times.den (m * r.times.epoch) ((frame - r.spread) * r.ticks) (omega (arith, a, b))
+    (omega (arith, q, e))
 
 -- ---- before all frames
 -- No slot is over then,
@@ -166,7 +170,8 @@ none_given law r sound =
     let b = sound.times.long in
     elim (cases_lt 0 (due_after r 0)) [
       | inl lt ↦
-          let p = (law r.times.num r.times.den (delay_of r.times) (0 * r.ticks) 0 (omega (arith, a, b)) (omega (arith, a))).0
+          let p = (law r.times.num r.times.den (delay_of r.times) (0 * r.ticks) 0 (omega (arith, a, b))
+          (omega (arith, a))).0
           lt in
           let e : 0 * r.ticks ≡ 0 = omega arith in
           absurd (omega (arith, p, e))

@@ -1,6 +1,8 @@
 -- One item of the machine: the user packets that a string gains by one item are those that the machine gives.
-use Rattle.std.proofs.Common.{◌≡◌, ◌≢◌, ℕ, ◌+◌, ◌-◌, ◌<◌, ◌≤◌, Bool, true, false, List, [], ◌∷◌, ◌++◌, length, take, drop, Option}
-use Rattle.std.proofs.Common.{None, refl, ap, ap₂, ◌∙◌, sym, subst, arith, inl, inr, append-nil, append_assoc, length-append}
+use Rattle.std.proofs.Common.{◌≡◌, ◌≢◌, ℕ, ◌+◌, ◌-◌, ◌<◌, ◌≤◌, Bool, true, false, List, [], ◌∷◌, ◌++◌, length, take}
+use Rattle.std.proofs.Common.{drop, Option}
+use Rattle.std.proofs.Common.{None, refl, ap, ap₂, ◌∙◌, sym, subst, arith, inl, inr, append-nil, append_assoc}
+use Rattle.std.proofs.Common.{length-append}
 use Rattle.std.proofs.Common.{length-drop, length-take, cond}
 use Rattle.std.proofs.lemmas.Bool.{cases_lt, lt-ltb, le-ltb}
 use Rattle.std.proofs.lemmas.List.{drop-append-le, drop_at, drop_all, drop-drop, take-append-drop}
@@ -9,10 +11,12 @@ use Rattle.plp_receiver.specs.declared.slot_rule.SlotRule.{SlotRule}
 use Rattle.plp_receiver.specs.Strings.{Item, is_start, is_inside}
 use Rattle.plp_receiver.specs.declared.mark.Mark.TheVariants.{Gap, Inside, Next, Timed}
 use Rattle.plp_receiver.specs.Packets.{UserPacket, is_one, slot_of, slot_before, slots_at, with_slot, user_packets}
-use Rattle.plp_receiver.specs.Machine.{State, Turn, state_of, turn_of, before_next, ended, grown, inside, turn_by, turn, after}
+use Rattle.plp_receiver.specs.Machine.{State, Turn, state_of, turn_of, before_next, ended, grown, inside, turn_by, turn}
+use Rattle.plp_receiver.specs.Machine.{after}
 use Rattle.plp_receiver.specs.Machine.{given, idle_or_one, Follows}
 use Rattle.plp_receiver.proofs.OneLemmas.{none_on, none_cut, one_on, one_alone, none_alone, one_parts}
-use Rattle.plp_receiver.proofs.SlotLemmas.{same_before, before_none, one_more_slot, one_more_packet, none_ends, Stays, no_end}
+use Rattle.plp_receiver.proofs.SlotLemmas.{same_before, before_none, one_more_slot, one_more_packet, none_ends, Stays}
+use Rattle.plp_receiver.proofs.SlotLemmas.{no_end}
 
 idle_from : (h : List Item) → is_one h ≡ true → idle_or_one h ≡ true
 idle_from [] e = refl
@@ -29,7 +33,8 @@ start_not_inside Next e = refl
 start_not_inside (Timed iscr) e = refl
 
 -- the slot of the complete user packet, if there is one, that ends where the string ends
-next_before : (r : SlotRule) → 2 ≤ r.up_len → (z held : List Item) (before : Option ℕ) → Follows r z (state_of held before)
+next_before : (r : SlotRule) → 2 ≤ r.up_len → (z held : List Item) (before : Option ℕ)
+    → Follows r z (state_of held before)
     → before_next held before ≡ slot_before r (slots_at r z (length z))
 next_before r two z [] before f =
     f.before ∙ ap (λ (n : ℕ). slot_before r (slots_at r z n)) (let e : length z - 0 ≡ length z = omega arith in e)
@@ -46,7 +51,8 @@ next_before r two z (y ∷ ys) before f = sym (
           ap (λ (l : List Item). take k (drop x z) ++ l) (sym (drop-drop k x z ∙ ap (λ (n : ℕ). drop n z) q ∙ f.tail))
           ∙ take-append-drop k (drop x z) in
           let none : is_one (drop x z) ≡ false =
-          sym (ap is_one split) ∙ none_cut (take k (drop x z)) y ys (omega (arith, length-take k (drop x z), length-drop x z, s))
+          sym (ap is_one split) ∙ none_cut (take k (drop x z)) y ys
+          (omega (arith, length-take k (drop x z), length-drop x z, s))
           (start_not_inside y.mark (one_parts y ys f.begins).0) in
           none_ends r z x (omega arith) (omega arith) none
     ])
@@ -84,7 +90,8 @@ module _ (r : SlotRule) (two : 2 ≤ r.up_len) (z : List Item) (b : Item) where
   closes stays none = record {
     follows = record {
       before =
-          sym (ap (λ (n : ℕ). slot_before r (slots_at r more n)) (let e : length more - 0 ≡ length z + 1 = omega (arith, size) in
+          sym (ap (λ (n : ℕ). slot_before r (slots_at r more n)) (let e : length more - 0 ≡ length z + 1 =
+          omega (arith, size) in
           e) ∙ stays.slot);
       tail = drop_all _ more (omega arith);
       short = omega arith;
@@ -112,7 +119,8 @@ module _ (r : SlotRule) (two : 2 ≤ r.up_len) (z : List Item) (b : Item) where
       let stays = no_end r z b (omega arith) (λ x e. each x (omega arith)) in
       record {
         follows = record {
-          before = next_before r two z held before f ∙ sym (same_before r z (b ∷ []) (length z) (omega arith) (omega arith))
+          before = next_before r two z held before f
+              ∙ sym (same_before r z (b ∷ []) (length z) (omega arith) (omega arith))
               ∙ sym (ap (λ (n : ℕ). slot_before r (slots_at r more n)) at);
           tail = ap (λ (n : ℕ). drop n more) at ∙ alone;
           short = omega arith;
@@ -183,7 +191,8 @@ module _ (r : SlotRule) (two : 2 ≤ r.up_len) (z : List Item) (b : Item) where
         let at : length more - 0 ≡ length z + 1 = omega (arith, size) in
         record {
           follows = record {
-            before = sym (ap (λ (n : ℕ). slot_before r (slots_at r more n)) at ∙ one_more_slot r z b from (omega arith) e ∙ slot);
+            before = sym (ap (λ (n : ℕ). slot_before r (slots_at r more n)) at
+                ∙ one_more_slot r z b from (omega arith) e ∙ slot);
             tail = drop_all _ more (omega arith);
             short = omega arith;
             begins = refl;
@@ -203,7 +212,8 @@ module _ (r : SlotRule) (two : 2 ≤ r.up_len) (z : List Item) (b : Item) where
           | inr ge ↦
               subst Turned
               (sym (ap (λ (t : Bool). cond {A = Turn} t (turn_of (state_of (held ++ b ∷ []) before) [])
-              (ended r (held ++ b ∷ []) before)) (le-ltb _ _ ge))) (completes (let s = f.short in omega (arith, longer, s)))
+              (ended r (held ++ b ∷ []) before)) (le-ltb _ _ ge)))
+              (completes (let s = f.short in omega (arith, longer, s)))
         ]
 
   insides : (held : List Item) (before : Option ℕ) → Follows r z (state_of held before) → is_inside b.mark ≡ true

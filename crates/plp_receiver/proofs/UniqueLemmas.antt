@@ -1,5 +1,6 @@
 -- A PLP is given back one list of packets: its rule is one, and records tell one thing.
-use Rattle.std.proofs.Common.{◌≡◌, ℕ, suc, ◌+◌, ◌-◌, ◌/◌, ◌==◌, ◌<◌, ◌≤◌, Bool, true, false, List, [], ◌∷◌, ◌++◌, length, Option}
+use Rattle.std.proofs.Common.{◌≡◌, ℕ, suc, ◌+◌, ◌-◌, ◌/◌, ◌==◌, ◌<◌, ◌≤◌, Bool, true, false, List, [], ◌∷◌, ◌++◌}
+use Rattle.std.proofs.Common.{length, Option}
 use Rattle.std.proofs.Common.{Some, None, refl, ap, ap₂, sym, ◌∙◌, subst, cond, arith, length-append}
 use Rattle.std.specs.List.{AllZip, range_with_len}
 use Rattle.terms.specs.Bits.{bits_of, bytes_of}
@@ -21,39 +22,50 @@ use Rattle.plp_config.specs.Plps.{spread}
 use Rattle.plp_receiver.specs.Sound.{IsSound}
 use Rattle.plp_receiver.specs.Parts.{Part, count_of}
 use Rattle.plp_receiver.specs.Taken.{block_read, IsTaken, IsTold, IsGiven, bytes_at}
-use Rattle.plp_receiver.specs.Epochs.{epoch_parts, cells_stand, place_of, Tells, epochs_in, TellAll, slot_rule, Readback}
+use Rattle.plp_receiver.specs.Epochs.{epoch_parts, cells_stand, place_of, Tells, epochs_in, TellAll, slot_rule}
+use Rattle.plp_receiver.specs.Epochs.{Readback}
 use Rattle.plp_receiver.proofs.EpochLemmas.{epoch_rises, told_after}
 use Rattle.plp_receiver.proofs.SpelledLemmas.{spelled_once}
 
 -- ---- a block
-same_block : (h k : Header) (field other : List ℕ) → h.syncd ≡ k.syncd → h.issy ≡ k.issy → field ≡ other → block_read h field
+same_block : (h k : Header) (field other : List ℕ) → h.syncd ≡ k.syncd → h.issy ≡ k.issy → field ≡ other
+    → block_read h field
     ≡ block_read k other
 same_block h k field other s i f =
-    ap (λ (n : ℕ). block_with n h.issy field) s ∙ ap (λ (n : ℕ). block_with k.syncd n field) i ∙ ap (block_with k.syncd k.issy) f
+    ap (λ (n : ℕ). block_with n h.issy field) s ∙ ap (λ (n : ℕ). block_with k.syncd n field) i
+    ∙ ap (block_with k.syncd k.issy) f
   where
     block_with : ℕ → ℕ → List ℕ → Block
-    block_with syncd issy field = record { first = cond (syncd == NO_START) None (Some (syncd / 8)); issy = issy; field = field }
+    block_with syncd issy field = record {
+      first = cond (syncd == NO_START) None (Some (syncd / 8));
+      issy = issy;
+      field = field;
+    }
 
 taken_once : BitCounts → (deletes : Bool) (bits : List Bool) (b other : Block) → IsTaken deletes bits b
     → IsTaken deletes bits other → b ≡ other
 taken_once counts deletes bits b other s t =
     let same = spelled_once counts s.header t.header s.body t.body bits s.spelled t.spelled in
-    s.block ∙ same_block s.header t.header (bytes_of s.body) (bytes_of t.body) same.syncd same.issy (ap bytes_of same.field)
+    s.block ∙ same_block s.header t.header (bytes_of s.body) (bytes_of t.body) same.syncd same.issy
+    (ap bytes_of same.field)
     ∙ sym t.block
 
-told_once : BitCounts → (deletes : Bool) (bytes : List ℕ) (a b : Option Block) → IsTold deletes bytes a → IsTold deletes bytes b
+told_once : BitCounts → (deletes : Bool) (bytes : List ℕ) (a b : Option Block) → IsTold deletes bytes a
+    → IsTold deletes bytes b
     → a ≡ b
 told_once counts deletes bytes None None s t = refl
 told_once counts deletes bytes None (Some b) s t = absurd (s b t)
 told_once counts deletes bytes (Some a) None s t = absurd (t a s)
-told_once counts deletes bytes (Some a) (Some b) s t = ap Some (taken_once counts deletes (scrambled (bits_of bytes)) a b s t)
+told_once counts deletes bytes (Some a) (Some b) s t = ap Some (taken_once counts deletes (scrambled (bits_of bytes))
+    a b s t)
 
 given_once : BitCounts → (deletes stands : Bool) (bytes : List ℕ) (a b : Option Block) → IsGiven deletes stands bytes a
     → IsGiven deletes stands bytes b → a ≡ b
 given_once counts deletes true bytes a b s t = told_once counts deletes bytes a b s t
 given_once counts deletes false bytes a b s t = s ∙ sym t
 
-zip_once : {A B : Type 0} (R : A → B → Type 0) → ((x : A) (y z : B) → R x y → R x z → y ≡ z) → (xs : List A) (ys zs : List B)
+zip_once : {A B : Type 0} (R : A → B → Type 0) → ((x : A) (y z : B) → R x y → R x z → y ≡ z)
+    → (xs : List A) (ys zs : List B)
     → AllZip R xs ys → AllZip R xs zs → ys ≡ zs
 zip_once R one [] [] [] s t = refl
 zip_once R one [] [] (z ∷ zs) s t = absurd t
@@ -102,7 +114,8 @@ tell_all_once counts c plp first views a b s t =
     (epochs_in (spread c.plps plp) first (length views)) a b s t
 
 -- ---- the packets
-pub packets_are : BitCounts → (c : Config) (plp first : ℕ) (views : List RecordView) (packets : List (List ℕ)) (told : List Epoch)
+pub packets_are : BitCounts → (c : Config) (plp first : ℕ) (views : List RecordView) (packets : List (List ℕ))
+    (told : List Epoch)
     → Readback c plp first views packets → TellAll c plp first views told
     → packets ≡ readback (slot_rule c plp) first (length views) told
 packets_are counts c plp first views packets told b tells =

@@ -1,6 +1,8 @@
 -- What a window shows of the string so far, at each thing that happens to it.
-use Rattle.std.proofs.Common.{◌≡◌, ◌≢◌, ℕ, suc, ◌+◌, ◌-◌, ◌*◌, ◌^◌, ◌<◌, ◌≤◌, ◌==◌, ◌&&◌, Bool, true, false, List, [], ◌∷◌, ◌++◌}
-use Rattle.std.proofs.Common.{map, drop, replicate, get_or, Option, Some, None, refl, ap, ap₂, ◌∙◌, sym, arith, inl, inr}
+use Rattle.std.proofs.Common.{◌≡◌, ◌≢◌, ℕ, suc, ◌+◌, ◌-◌, ◌*◌, ◌^◌, ◌<◌, ◌≤◌, ◌==◌, ◌&&◌, Bool, true, false, List, []}
+use Rattle.std.proofs.Common.{◌∷◌, ◌++◌}
+use Rattle.std.proofs.Common.{map, drop, replicate, get_or, Option, Some, None, refl, ap, ap₂, ◌∙◌, sym, arith, inl}
+use Rattle.std.proofs.Common.{inr}
 use Rattle.std.proofs.Common.{append-nil, cond, eq-eqb}
 use Rattle.std.specs.Prelude.{nat_lt, nat_le, option_map, min}
 use Rattle.std.specs.Option.{option_or}
@@ -46,7 +48,8 @@ entered r sound rises z epoch first end next slots h u c l =
           (λ k a b. ap (option_map packet_of_up) (none_yet r sound rises z epoch k u (omega (arith, c))))))
           ∙ sym (map-append (slot_option r z) (range_with_len first (end - first))
           (range_with_len (first + (end - first)) (next - end)))
-          ∙ sym (ap (map (slot_option r z)) (ap (range_with_len first) e ∙ range_append first (end - first) (next - end)));
+          ∙ sym (ap (map (slot_option r z)) (ap (range_with_len first) e
+          ∙ range_append first (end - first) (next - end)));
     }
 
 same_counted : (r : SlotRule) (z w : List Item) → user_packets r w ≡ user_packets r z → counted r w ≡ counted r z
@@ -66,7 +69,8 @@ pub nothing_found : (r : SlotRule) (z w : List Item) (first end : ℕ) (slots : 
     → user_packets r w ≡ user_packets r z → Shows r z first end slots → Shows r w first end slots
 nothing_found r z w first end slots e h = shown_by r z w first end slots (same_counted r z w e) h
 
-module _ (r : SlotRule) (z w : List Item) (up : UserPacket) (gains : user_packets r w ≡ user_packets r z ++ up ∷ []) where
+module _ (r : SlotRule) (z w : List Item) (up : UserPacket) (gains : user_packets r w ≡ user_packets r z
+    ++ up ∷ []) where
   counted_more : (b : Bool) → counts r up ≡ b → counted r w ≡ counted r z ++ cond b (up ∷ []) []
   unfolding counted
   counted_more b e = ap (filter (counts r)) gains ∙ filter_append (counts r) (user_packets r z) (up ∷ [])
@@ -85,7 +89,8 @@ module _ (r : SlotRule) (z w : List Item) (up : UserPacket) (gains : user_packet
   other : (k : ℕ) → counts r up ≡ true → k ≢ up.slot → slot_option r w k ≡ slot_option r z k
   other k e ne =
       option_is k e
-      ∙ ap (λ (t : Bool). option_map packet_of_up (option_or (found_for r z k) (cond {A = Option UserPacket} t (Some up) None)))
+      ∙ ap (λ (t : Bool). option_map packet_of_up (option_or (found_for r z k)
+      (cond {A = Option UserPacket} t (Some up) None)))
       (false_from_ne_true _ (λ (t : (up.slot == k) ≡ true). ne (sym (eqb-true up.slot k t))))
       ∙ go (found_for r z k)
     where
@@ -93,7 +98,8 @@ module _ (r : SlotRule) (z w : List Item) (up : UserPacket) (gains : user_packet
       go None = refl
       go (Some u) = refl
 
-  at : counts r up ≡ true → slot_option r w up.slot ≡ option_map packet_of_up (option_or (found_for r z up.slot) (Some up))
+  at : counts r up ≡ true → slot_option r w up.slot ≡ option_map packet_of_up
+      (option_or (found_for r z up.slot) (Some up))
   at e = option_is up.slot e
       ∙ ap (λ (t : Bool).
       option_map packet_of_up (option_or (found_for r z up.slot) (cond {A = Option UserPacket} t (Some up) None)))
@@ -107,13 +113,15 @@ module _ (r : SlotRule) (z w : List Item) (up : UserPacket) (gains : user_packet
   first_wins (Some u) = (λ e. absurd (none-some (packet_of_up u) (sym e)), λ q e. refl)
 
   -- One ends that counts, for a slot in the window or before it.
-  pub put_in : (first end : ℕ) (slots : List (Option (List ℕ))) → counts r up ≡ true → first ≤ up.slot → Shows r z first end slots
+  pub put_in : (first end : ℕ) (slots : List (Option (List ℕ))) → counts r up ≡ true → first ≤ up.slot
+      → Shows r z first end slots
       → Shows r w first end (filled slots (up.slot - first) (packet_of_up up))
   put_in first end slots e l h = record {
     order = h.order;
     slots_are =
         ap (λ (s : List (Option (List ℕ))). filled s (up.slot - first) (packet_of_up up)) h.slots_are
-        ∙ sym (put_list (slot_option r z) (slot_option r w) up.slot (packet_of_up up) (end - first) first l (λ j ne. other j e ne)
+        ∙ sym (put_list (slot_option r z) (slot_option r w) up.slot (packet_of_up up) (end - first) first
+        l (λ j ne. other j e ne)
         (λ n. at e ∙ (first_wins (found_for r z up.slot)).0 n)
         (λ q n. at e ∙ (first_wins (found_for r z up.slot)).1 q n));
   }

@@ -10,7 +10,8 @@ use Rattle.plp_receiver.specs.declared.receiver.Receiver.{Receiver}
 use Rattle.common_plp.specs.Groups.{common_of}
 use Rattle.common_plp.specs.Shared.{joined_packet}
 
--- The second is the receiver of the common PLP of the group of the first one's, if it has one, and waits for the same frame.
+-- The second is the receiver of the common PLP of the group of the first one's, if it has one, and waits for the same
+-- frame.
 pub record KeepsStep (own common : Receiver) : Type 0 where
   pub place : common_of (network_of own) (plp_of own) ≡ Some (plp_of common)
   pub inside : plp_of common < length (network_of own).plps
@@ -57,7 +58,8 @@ abbrev pub GivesJoined : Option Receiver → Option Receiver → List ℕ → Li
 GivesJoined None None own packet = packet ≡ own
 GivesJoined None (Some new) own packet = ⊥
 GivesJoined (Some old) None own packet = ⊥
-GivesJoined (Some old) (Some new) own packet = (shared : List ℕ) × Gives shared old new × (packet ≡ joined_packet shared own)
+GivesJoined (Some old) (Some new) own packet = (shared : List ℕ) × Gives shared old new
+    × (packet ≡ joined_packet shared own)
 
 -- It is that of the PLP that is joined, if one is, and no record came to it.
 abbrev pub CommonIs : Config → Option ℕ → Option Receiver → Type 0

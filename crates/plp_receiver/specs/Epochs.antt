@@ -1,5 +1,5 @@
--- What records tell of the interleaving frames of a PLP, and what it is given back of them. An interleaving frame is an epoch
--- here.
+-- What records tell of the interleaving frames of a PLP, and what it is given back of them. An interleaving frame is an
+-- epoch here.
 use Rattle.std.specs.Prelude.{◌≡◌, ℕ, ◌+◌, ◌-◌, ◌*◌, ◌/◌, ◌==◌, nat_le, List, [], ◌∷◌, length, take, drop, sum, Option}
 use Rattle.std.specs.Prelude.{Some, None, Bool, true, if◌then◌else◌, option_map}
 use Rattle.std.specs.List.{AllZip, range_with_len, list_all}
@@ -41,19 +41,21 @@ abbrev pub agreeing : ℕ → Option (List Part) → Option (List Part)
 agreeing plp None = None
 agreeing plp (Some parts) = if agree plp parts then Some parts else None
 
--- what the records of epoch m, which ended with them, tell, if it is there: they are all in the list of the records from a frame
--- on, and readable, and agree
+-- what the records of epoch m, which ended with them, tell, if it is there: they are all in the list of the records
+-- from a frame on, and readable, and agree
 abbrev pub epoch_parts : Config → ℕ → ℕ → List RecordView → ℕ → Option (List Part)
 epoch_parts c plp first views m =
     if nat_le first (m * spread c.plps plp)
-    then agreeing plp (parts_of c (m * spread c.plps plp) (take (spread c.plps plp) (drop (m * spread c.plps plp - first) views)))
+    then agreeing plp (parts_of c (m * spread c.plps plp)
+    (take (spread c.plps plp) (drop (m * spread c.plps plp - first) views)))
     else None
 
 -- all cells of a block stand: each at its address in the record of the frame that carries it
 abbrev pub cells_stand : Config → ℕ → List Part → ℕ → Bool
 cells_stand c plp parts block = list_all (λ p. all_stand c plp p block) parts
 
--- the place of a block in the record of the frame in which its epoch begins: behind those of the PLPs before that come with it
+-- the place of a block in the record of the frame in which its epoch begins: behind those of the PLPs before that come
+-- with it
 abbrev pub place_of : Config → ℕ → Part → ℕ → ℕ
 place_of c plp p block = sum (take plp (coming c p.number p.shape)) + block
 

@@ -7,7 +7,8 @@ use Rattle.common_plp.specs.Groups.{common_of}
 use Rattle.common_plp.specs.Split.{joined}
 
 -- What both PLPs are given back, of as many slots, joined slot by slot.
-pub record JoinsReadbacks (c : Config) (common plp first : ℕ) (views : List RecordView) (packets : List (List ℕ)) : Type 0 where
+pub record JoinsReadbacks (c : Config) (common plp first : ℕ) (views : List RecordView) (packets : List (List ℕ)) :
+    Type 0 where
   pub shared : List (List ℕ)
   pub back_shared : Readback c common first views shared
   pub own : List (List ℕ)
@@ -24,7 +25,8 @@ abbrev pub JoinedBackWith : Option ℕ → Config → ℕ → ℕ → List Recor
 JoinedBackWith None c plp first views packets = Readback c plp first views packets
 JoinedBackWith (Some common) c plp first views packets = JoinsReadbacks c common plp first views packets
 
--- What a PLP is given back of the records of the frames from one on, with what goes in the common PLP of its group, if it has one:
+-- What a PLP is given back of the records of the frames from one on, with what goes in the common PLP of its group, if
+-- it has one:
 -- one packet for each slot that is due.
 unfoldable pub JoinedBack : Config → ℕ → ℕ → List RecordView → List (List ℕ) → Type 0
 JoinedBack c plp first views packets = JoinedBackWith (common_of c plp) c plp first views packets

@@ -12,7 +12,8 @@ JoinedOnce = (joins : Option ℕ) (c : Config) (plp first : ℕ) (views : List R
 
 -- What the first records give back is a prefix of what more give back.
 abbrev pub JoinedFront : Type 0
-JoinedFront = (joins : Option ℕ) (c : Config) (plp first : ℕ) (views more : List RecordView) (packets all : List (List ℕ))
+JoinedFront = (joins : Option ℕ) (c : Config) (plp first : ℕ) (views more : List RecordView)
+    (packets all : List (List ℕ))
     → IsPlan c → plp < length c.plps → MayJoin c plp joins
     → JoinedBackWith joins c plp first views packets → JoinedBackWith joins c plp first (views ++ more) all
     → (others : List (List ℕ)) × (all ≡ packets ++ others)

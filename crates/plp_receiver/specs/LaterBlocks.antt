@@ -1,5 +1,5 @@
--- A complete user packet, by the blocks of a run. A run is taken blocks that follow each other; places count the bytes of the
--- run.
+-- A complete user packet, by the blocks of a run. A run is taken blocks that follow each other; places count the bytes
+-- of the run.
 use Rattle.std.specs.Prelude.{◌≡◌, ◌↔◌, ℕ, ◌+◌, ◌<◌, ◌≤◌, true, List, [], ◌∷◌, length, get_or, Option, Some, None}
 use Rattle.std.specs.List.{AllByRecursion, flat_map}
 use Rattle.plp_receiver.specs.declared.slot_rule.SlotRule.{SlotRule}

@@ -30,7 +30,8 @@ pub record TellsByFrames (c : Config) (plp first : ℕ) (views : List RecordView
 
 -- So it is with spread 1.
 abbrev pub OneFrame : Type 0
-OneFrame = (c : Config) (plp first : ℕ) (views : List RecordView) → StandsAlone c.plps plp → TellsByFrames c plp first views
+OneFrame = (c : Config) (plp first : ℕ) (views : List RecordView) → StandsAlone c.plps plp
+    → TellsByFrames c plp first views
 
 -- And if each interleaving frame is carried by one frame, all blocks that a shape tells come with the frame.
 abbrev pub AllCome : Type 0

@@ -1,5 +1,6 @@
 -- The machine that finds user packets item by item. No public clause cites this module.
-use Rattle.std.specs.Prelude.{◌≡◌, ◌≢◌, ℕ, ◌+◌, ◌-◌, ◌<◌, nat_lt, Bool, true, false, List, [], ◌∷◌, ◌++◌, length, drop, Option}
+use Rattle.std.specs.Prelude.{◌≡◌, ◌≢◌, ℕ, ◌+◌, ◌-◌, ◌<◌, nat_lt, Bool, true, false, List, [], ◌∷◌, ◌++◌, length, drop}
+use Rattle.std.specs.Prelude.{Option}
 use Rattle.std.specs.Prelude.{None, if◌then◌else◌}
 use Rattle.plp_receiver.specs.declared.mark.Mark.{Mark}
 use Rattle.plp_receiver.specs.declared.slot_rule.SlotRule.{SlotRule}
@@ -66,4 +67,5 @@ pub record Follows (r : SlotRule) (z : List Item) (s : State) : Type 0 where
   pub tail : drop (length z - length s.held) z ≡ s.held
   pub short : length s.held < r.up_len
   pub begins : idle_or_one s.held ≡ true
-  pub others : (x : ℕ) → x < length z → length z < x + r.up_len → x ≢ length z - length s.held → is_one (drop x z) ≡ false
+  pub others : (x : ℕ) → x < length z → length z < x + r.up_len → x ≢ length z - length s.held
+      → is_one (drop x z) ≡ false

@@ -31,7 +31,8 @@ first_item (x ∷ xs) = x
 abbrev pub last_item : List Item → Item
 last_item xs = last_of no_item xs
 
--- These bytes, as many as a user packet has, are a complete one: no other begins among them, and it can end where they end.
+-- These bytes, as many as a user packet has, are a complete one: no other begins among them, and it can end where they
+-- end.
 abbrev pub is_complete : List Item → Bool
 is_complete w = is_one w && (last_item w).can_end
 
@@ -46,7 +47,8 @@ slot_by r Next epoch dnp before = option_map (λ k. k + 1 + dnp) before
 slot_by r (Timed iscr) epoch dnp before = slot_of_iscr r.times epoch iscr
 
 unfoldable pub slot_of : SlotRule → List Item → Option ℕ → Option ℕ
-slot_of r w before = if is_complete w then slot_by r (first_item w).mark (first_item w).epoch (dnp_of r w) before else None
+slot_of r w before = if is_complete w then slot_by r (first_item w).mark (first_item w).epoch (dnp_of r w)
+    before else None
 
 abbrev pub window : SlotRule → List Item → ℕ → List Item
 window r z x = take r.up_len (drop x z)
@@ -76,7 +78,8 @@ with_slot w (Some k) = record { slot = k; items = w } ∷ []
 -- those that begin at the places below n, in order
 unfoldable pub packets_at : SlotRule → List Item → ℕ → List UserPacket
 packets_at r z zero = []
-packets_at r z (suc x) = packets_at r z x ++ with_slot (window r z x) (slot_of r (window r z x) (slot_before r (slots_at r z x)))
+packets_at r z (suc x) = packets_at r z x ++ with_slot (window r z x)
+    (slot_of r (window r z x) (slot_before r (slots_at r z x)))
 
 -- those of the string
 abbrev pub user_packets : SlotRule → List Item → List UserPacket

@@ -1,5 +1,6 @@
 -- What a readable record tells, and which of its cells stand (EN 302 755, clauses 6.5 and 8).
-use Rattle.std.specs.Prelude.{ℕ, ◌%◌, ◌==◌, ◌&&◌, ◌||◌, not, Bool, false, List, slice_get, slice_index, Option, Some, None}
+use Rattle.std.specs.Prelude.{ℕ, ◌%◌, ◌==◌, ◌&&◌, ◌||◌, not, Bool, false, List, slice_get, slice_index, Option, Some}
+use Rattle.std.specs.Prelude.{None}
 use Rattle.plp_config.specs.Capacity.{block_cells}
 use Rattle.plp_config.specs.declared.config.Config.{Config}
 use Rattle.scheduler.specs.Shape.{FrameShape}
@@ -33,7 +34,8 @@ count_of plp p = slice_index p.shape.counts plp
 abbrev pub stands : Config → Part → ℕ → ℕ → ℕ → Bool
 stands c p plp block cell =
     not (is_carried c p.shape (p.number % c.frames) plp block cell)
-    || is_cell (ordinal_of p.shape plp block) cell (slice_get p.cells (address_of c p.shape (p.number % c.frames) plp block cell))
+    || is_cell (ordinal_of p.shape plp block) cell
+    (slice_get p.cells (address_of c p.shape (p.number % c.frames) plp block cell))
 
 -- and so does each cell of the block
 unfoldable pub all_stand : Config → ℕ → Part → ℕ → Bool

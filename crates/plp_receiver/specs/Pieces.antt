@@ -1,5 +1,5 @@
--- A data field in pieces: a user packet may begin at the first byte of a piece, and at no other. No public clause cites this
--- module.
+-- A data field in pieces: a user packet may begin at the first byte of a piece, and at no other. No public clause cites
+-- this module.
 use Rattle.std.specs.Prelude.{ℕ, nat_lt, Bool, true, false, List, [], ◌∷◌, ◌++◌, length, Option, None, if◌then◌else◌}
 use Rattle.plp_receiver.specs.declared.mark.Mark.{Mark}
 use Rattle.plp_receiver.specs.declared.slot_rule.SlotRule.{SlotRule}

@@ -10,8 +10,8 @@ use Rattle.plp_receiver.specs.Times.{last_frame}
 use Rattle.plp_receiver.specs.Strings.{Item, item_values}
 use Rattle.plp_receiver.specs.Packets.{UserPacket, user_packets, first_item, last_item}
 
--- A slot is in the range of the epoch in which its user packet begins, and is not given out when the last frame begins of the
--- epoch in which it ends.
+-- A slot is in the range of the epoch in which its user packet begins, and is not given out when the last frame begins
+-- of the epoch in which it ends.
 abbrev pub counts_by : SlotRule → ℕ → ℕ → ℕ → ℕ → Bool
 counts_by r delay slot begun ended =
     nat_le (over_by r.times (begun - 1)) slot && (nat_lt slot (over_by r.times begun)

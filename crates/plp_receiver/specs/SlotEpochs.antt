@@ -30,8 +30,8 @@ unfoldable pub string_of : ℕ → ℕ → List Epoch → List Item
 string_of len epoch [] = []
 string_of len epoch (e ∷ epochs) = epoch_items len epoch e ++ string_of len (epoch + 1) epochs
 
--- Of the frames from one on and before another, these are the epochs that ended. The first one began before them, unless its
--- first frame is their first.
+-- Of the frames from one on and before another, these are the epochs that ended. The first one began before them,
+-- unless its first frame is their first.
 abbrev pub HaveEnded : SlotRule → ℕ → ℕ → List Epoch → Type 0
 HaveEnded r first frame epochs = epoch_of r first + length epochs ≡ epoch_of r frame
 
@@ -39,7 +39,8 @@ HaveEnded r first frame epochs = epoch_of r first + length epochs ≡ epoch_of r
 abbrev pub first_slot : SlotRule → ℕ → ℕ
 first_slot r first = over_after r (first - r.spread)
 
--- the packets of the slots that are given out after so many frames from one on, and this is what came of the epochs that ended
+-- the packets of the slots that are given out after so many frames from one on, and this is what came of the epochs
+-- that ended
 unfoldable pub readback : SlotRule → ℕ → ℕ → List Epoch → List (List ℕ)
 readback r first count epochs =
     map (slot_packet r (string_of r.up_len (epoch_of r first) epochs))

@@ -9,8 +9,8 @@ use Rattle.plp_receiver.specs.Times.{epoch_of, last_frame, over_after, due_after
 use Rattle.plp_receiver.specs.Readback.{slot_packet}
 use Rattle.plp_receiver.specs.SlotEpochs.{Epoch, HaveEnded, string_of, readback}
 
--- What comes of later epochs changes no packet that is given out: Readback after the first frames is a prefix of Readback after
--- more.
+-- What comes of later epochs changes no packet that is given out: Readback after the first frames is a prefix of
+-- Readback after more.
 abbrev pub ReadbackFront : Type 0
 ReadbackFront = (r : SlotRule) (first count later : ℕ) (epochs more : List Epoch) → IsSound r
     → HaveEnded r first (first + count) epochs
@@ -23,7 +23,8 @@ pub record IsByFrames (r : SlotRule) : Type 0 where
   pub last : (epoch : ℕ) → last_frame r epoch ≡ epoch
   pub over : (epochs : ℕ) → over_by r.times epochs ≡ over_after r epochs
   pub delay : delay_of r.times ≡ delay_ticks r.times.num r.times.den r.ticks
-  pub ended : (first count : ℕ) (epochs : List Epoch) → HaveEnded r first (first + count) epochs ↔ (length epochs ≡ count)
+  pub ended : (first count : ℕ) (epochs : List Epoch) → HaveEnded r first (first + count) epochs
+      ↔ (length epochs ≡ count)
   pub packets : (first count : ℕ) (epochs : List Epoch) → readback r first count epochs
       ≡ map (slot_packet r (string_of r.up_len first epochs))
       (range_with_len (over_after r (first - 1)) (due_after r (first + count) - over_after r (first - 1)))

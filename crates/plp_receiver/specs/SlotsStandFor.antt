@@ -26,7 +26,8 @@ pub record Stands (a : Assembler) (w : SlotWindow) (frame : ℕ) (r : SlotRule) 
 
 pub record Within (a : Assembler) (w : SlotWindow) (frame : ℕ) (r : SlotRule) (first count : ℕ) (epochs : List Epoch)
     (blocks : List (Option Block)) (released : ℕ) : Type 0 where
-  pub both : Both r (string_of r.up_len (epoch_of r first) epochs ++ blocks_items r.up_len (epoch_of r frame) blocks) a w
+  pub both : Both r (string_of r.up_len (epoch_of r first) epochs ++ blocks_items r.up_len (epoch_of r frame) blocks)
+      a w
   pub number : frame ≡ first + count
   pub ended : HaveEnded r first frame epochs
   pub begin : w.first ≡ first_slot r first + released
@@ -45,8 +46,8 @@ due_of p = p.window.due_end - p.window.first
 abbrev pub rule_of : PacketSlots → SlotRule
 rule_of p = p.window.rule
 
--- what a caller sees: the slot rule, the frame that comes next or that is under way, whether it is under way, and how many slots
--- are due
+-- what a caller sees: the slot rule, the frame that comes next or that is under way, whether it is under way, and how
+-- many slots are due
 pub record SlotsStatus : Type 0 where
   pub rule : SlotRule
   pub frame : ℕ
@@ -78,7 +79,8 @@ IsEmpty p = p.window.slots.items ≡ []
 unfoldable pub PacketSlotsStandsFor : PacketSlots → SlotRule → ℕ → ℕ → List Epoch → ℕ → Type 0
 PacketSlotsStandsFor p r first count epochs released = Stands p.assembler p.window p.frame r first count epochs released
 
--- And the next frame is under way; of the epoch that ends with it came these blocks, nothing in place of one that is not taken.
+-- And the next frame is under way; of the epoch that ends with it came these blocks, nothing in place of one that is
+-- not taken.
 unfoldable pub StandsWithin : PacketSlots → SlotRule → ℕ → ℕ → List Epoch → List (Option Block) → ℕ → Type 0
 StandsWithin p r first count epochs blocks released =
     Within p.assembler p.window p.frame r first count epochs blocks released

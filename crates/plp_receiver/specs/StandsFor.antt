@@ -60,8 +60,8 @@ pub record Unseen : Type 0 where
 abbrev pub unseen_of : Receiver → Unseen
 unseen_of v = record { network = v.network; plp = v.plp; slots = v.slots }
 
--- how many slots of a PLP are over when so many frames have come; and how many came with so many from one on, from the slot on
--- at which the output begins
+-- how many slots of a PLP are over when so many frames have come; and how many came with so many from one on, from the
+-- slot on at which the output begins
 abbrev pub slots_over : Config → ℕ → ℕ → ℕ
 slots_over c plp frames = slots_by c plp (frames * c.ticks)
 
@@ -79,4 +79,5 @@ IsFresh v = Fresh v.network v.plp v.slots v.held
 -- There is a list of packets that the records give back, and of these so many are due.
 abbrev pub TellsDue : Receiver → Type 0
 TellsDue v = (first : ℕ) (views : List RecordView) (released : ℕ) → ReceiverStandsFor v first views released
-    → (packets : List (List ℕ)) × Readback (network_of v) (plp_of v) first views packets × (due_of v ≡ length packets - released)
+    → (packets : List (List ℕ)) × Readback (network_of v) (plp_of v) first views packets
+    × (due_of v ≡ length packets - released)

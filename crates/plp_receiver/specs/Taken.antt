@@ -18,7 +18,12 @@ pub record IsOfStream (deletes : Bool) (matype1 : ℕ) : Type 0 where
 
 -- what a header and a data field tell
 abbrev pub block_read : Header → List ℕ → Block
-block_read h field = record { first = if h.syncd == NO_START then None else Some (h.syncd / 8); issy = h.issy; field = field }
+block_read h field = record {
+  first = if h.syncd == NO_START then None else Some (h.syncd / 8);
+  issy =
+      h.issy;
+  field = field;
+}
 
 -- The bits spell a baseband frame that is taken, and this is what it tells.
 pub record IsTaken (deletes : Bool) (bits : List Bool) (b : Block) : Type 0 where

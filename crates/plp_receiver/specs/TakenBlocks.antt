@@ -1,5 +1,5 @@
--- A block that is taken, and what an assembler and a window hold together. No public clause cites this module, `block_of` and
--- `IsPlace` aside.
+-- A block that is taken, and what an assembler and a window hold together. No public clause cites this module,
+-- `block_of` and `IsPlace` aside.
 use Rattle.std.specs.Prelude.{◌≡◌, ℕ, ◌-◌, ◌%◌, ◌<◌, ◌≤◌, List, take, Option, Some, None}
 use Rattle.plp_receiver.specs.declared.slot_rule.SlotRule.{SlotRule}
 use Rattle.plp_receiver.specs.declared.assembler.Assembler.{Assembler}

@@ -1,5 +1,6 @@
 -- How the blocks of a PLP are taken. No public clause cites this module.
-use Rattle.std.specs.Prelude.{◌≡◌, ℕ, ◌+◌, ◌<◌, ◌≤◌, Bool, true, false, List, [], ◌∷◌, ◌++◌, length, slice_index_or, Option}
+use Rattle.std.specs.Prelude.{◌≡◌, ℕ, ◌+◌, ◌<◌, ◌≤◌, Bool, true, false, List, [], ◌∷◌, ◌++◌, length, slice_index_or}
+use Rattle.std.specs.Prelude.{Option}
 use Rattle.std.specs.List.{AllZip, range_with_len}
 use Rattle.plp_config.specs.declared.config.Config.{Config}
 use Rattle.site_frame.specs.Record as frame
@@ -21,7 +22,8 @@ HaveLength len count blocks = (count ≤ length blocks) × ((k : ℕ) → k < co
 -- These blocks of the epoch were taken, or nothing in place of each.
 abbrev pub Adds : PacketSlots → PacketSlots → List (Option Block) → Type 0
 Adds old new told = (r : SlotRule) (first count : ℕ) (epochs : List Epoch) (blocks : List (Option Block)) (released : ℕ)
-    → StandsWithin old r first count epochs blocks released → StandsWithin new r first count epochs (blocks ++ told) released
+    → StandsWithin old r first count epochs blocks released → StandsWithin new r first count epochs (blocks ++ told)
+    released
 
 -- A block was taken, or nothing in its place.
 pub record TakesBlock (deletes stands : Bool) (sent : List ℕ) (old new : PacketSlots) : Type 0 where
@@ -30,7 +32,8 @@ pub record TakesBlock (deletes stands : Bool) (sent : List ℕ) (old new : Packe
   pub adds : Adds old new (told ∷ [])
 
 -- So were all blocks that are held.
-pub record TakesBlocks (deletes : Bool) (stands : List Bool) (len : ℕ) (bytes : List ℕ) (old new : PacketSlots) : Type 0 where
+pub record TakesBlocks (deletes : Bool) (stands : List Bool) (len : ℕ) (bytes : List ℕ) (old new : PacketSlots) :
+    Type 0 where
   pub told : List (Option Block)
   pub given : AllZip (λ k b. IsGiven deletes (slice_index_or stands k false) (block_at len bytes k) b)
       (range_with_len 0 (length stands)) told
@@ -39,12 +42,14 @@ pub record TakesBlocks (deletes : Bool) (stands : List Bool) (len : ℕ) (bytes 
 -- A frame came, and an epoch ended with it, of which this came.
 abbrev pub Ends : PacketSlots → PacketSlots → Epoch → Type 0
 Ends old new epoch = (r : SlotRule) (first count : ℕ) (epochs : List Epoch) (released : ℕ)
-    → PacketSlotsStandsFor old r first count epochs released → PacketSlotsStandsFor new r first (count + 1) (epochs ++ epoch ∷ []) released
+    → PacketSlotsStandsFor old r first count epochs released → PacketSlotsStandsFor new r first (count + 1)
+    (epochs ++ epoch ∷ []) released
 
 -- A frame came, and no epoch ended.
 abbrev pub Goes : PacketSlots → PacketSlots → Type 0
 Goes old new = (r : SlotRule) (first count : ℕ) (epochs : List Epoch) (released : ℕ)
-    → PacketSlotsStandsFor old r first count epochs released → PacketSlotsStandsFor new r first (count + 1) epochs released
+    → PacketSlotsStandsFor old r first count epochs released → PacketSlotsStandsFor new r first (count + 1)
+    epochs released
 
 -- The blocks that are held were taken.
 pub record TakesEpoch (deletes : Bool) (h : HeldBlocks) (old new : PacketSlots) : Type 0 where

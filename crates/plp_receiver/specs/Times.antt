@@ -1,5 +1,5 @@
--- Slots by frames, and by interleaving frames. An interleaving frame is an epoch here: so many frames from a multiple of that
--- number on.
+-- Slots by frames, and by interleaving frames. An interleaving frame is an epoch here: so many frames from a multiple
+-- of that number on.
 use Rattle.std.specs.Prelude.{ℕ, ◌+◌, ◌-◌, ◌*◌, ◌/◌}
 use Rattle.plp_config.specs.SlotTime.{slot_count}
 use Rattle.plp_config.specs.SlotTimes.{due_by}

@@ -1,5 +1,6 @@
 -- What happens to a window.
-use Rattle.std.specs.Prelude.{◌≤◌, ℕ, Bool, ◌+◌, ◌-◌, nat_lt, List, ◌++◌, replicate, drop, get_or, unwrap_or, None, if◌then◌else◌}
+use Rattle.std.specs.Prelude.{◌≤◌, ℕ, Bool, ◌+◌, ◌-◌, nat_lt, List, ◌++◌, replicate, drop, get_or, unwrap_or, None}
+use Rattle.std.specs.Prelude.{if◌then◌else◌}
 use Rattle.std.specs.declared.option.Option.{Option}
 use Rattle.ts_packet.specs.Null.{null_packet}
 use Rattle.plp_receiver.specs.declared.slot_rule.SlotRule.{SlotRule}
@@ -26,18 +27,25 @@ begun s frame =
 
 -- the slots of a frame came into it
 abbrev pub entered : Status → ℕ → Status
-entered s frame = record s { slots = s.slots ++ replicate (over_after s.rule frame - s.end) None; end = over_after s.rule frame }
+entered s frame = record s {
+  slots = s.slots ++ replicate (over_after s.rule frame - s.end) None;
+  end =
+      over_after s.rule frame;
+}
 
 -- the packet of a slot came, unless the slot was given out, or has one
 abbrev pub put_in : Status → ℕ → List ℕ → Status
-put_in s slot packet = record s { slots = if nat_lt slot s.first then s.slots else filled s.slots (slot - s.first) packet }
+put_in s slot packet = record s {
+  slots = if nat_lt slot s.first then s.slots else filled s.slots (slot - s.first)
+      packet;
+}
 
 -- a frame has ended
 abbrev pub left : Status → ℕ → Status
 left s frame = record s { due_end = due_after s.rule (frame + 1) }
 
--- a window whose slots end here, in a frame or before it: the slots of the frame came, or at least those that are over when no
--- frame of an epoch before it came yet
+-- a window whose slots end here, in a frame or before it: the slots of the frame came, or at least those that are over
+-- when no frame of an epoch before it came yet
 pub record Reaches (r : SlotRule) (in_frame : Bool) (frame end : ℕ) : Type 0 where
   pub least : over_after r (if in_frame then frame else frame - r.spread) ≤ end
   pub most : end ≤ over_after r frame

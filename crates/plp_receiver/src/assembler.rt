@@ -1,5 +1,6 @@
 // Putting user packets together.
-ghost use Rattle.std.specs.Prelude.{◌≡◌, ◌^◌, ◌+◌, ◌<◌, ◌≤◌, ◌++◌, ◌==◌, length, take, IfSome, Some, None, ℕ, if◌then◌else◌};
+ghost use Rattle.std.specs.Prelude.{◌≡◌, ◌^◌, ◌+◌, ◌<◌, ◌≤◌, ◌++◌, ◌==◌, length, take, IfSome, Some, None, ℕ};
+ghost use Rattle.std.specs.Prelude.{if◌then◌else◌};
 ghost use Rattle.plp_receiver.specs.Base.{slot_with, next_len, is_idle};
 ghost use Rattle.plp_config.specs.declared.moment.TheConstants.{MOST_FRAMES};
 ghost use Rattle.plp_receiver.specs.Sound.{IsSound};
@@ -95,14 +96,16 @@ fn is_idle(len: usize, mark: Mark) -> bool
 }
 
 impl Assembler {
-    ghost use Rattle.std.specs.Prelude.{◌≡◌, ◌^◌, ◌-◌, ◌<◌, ◌≤◌, ◌++◌, ◌∷◌, [], length, slice_index, ℕ, List, Some, IfSome};
+    ghost use Rattle.std.specs.Prelude.{◌≡◌, ◌^◌, ◌-◌, ◌<◌, ◌≤◌, ◌++◌, ◌∷◌, [], length, slice_index, ℕ, List, Some};
+    ghost use Rattle.std.specs.Prelude.{IfSome};
     ghost use Rattle.std.specs.Prelude.{if◌then◌else◌};
     ghost use Rattle.plp_receiver.specs.declared.slot_rule.SlotRule.{SlotRule};
     ghost use Rattle.plp_receiver.specs.Strings.{Item, gap};
     ghost use Rattle.plp_receiver.specs.Packets.{user_packets};
     ghost use Rattle.plp_receiver.specs.Packets.{packet_of};
     ghost use Rattle.plp_receiver.specs.Pieces.{piece_items};
-    ghost use Rattle.plp_receiver.specs.Assembles.{next_base, kept_dnp, IsEpoch, IsCleared, Ends, Gains, AssemblerStandsFor};
+    ghost use Rattle.plp_receiver.specs.Assembles.{next_base, kept_dnp, IsEpoch, IsCleared, Ends, Gains};
+    ghost use Rattle.plp_receiver.specs.Assembles.{AssemblerStandsFor};
 
     /// An assembler of no data fields yet.
     #[tactic(auto, unfolding(crate::specs::Assembles::AssemblerStandsFor), using(crate::proofs::OutLemmas::new_stands))]
@@ -214,7 +217,8 @@ impl Assembler {
         }
     }
 
-    /// Takes a piece of a data field of an epoch: a user packet begins at its first byte at most, and one can end where it ends.
+    /// Takes a piece of a data field of an epoch: a user packet begins at its first byte at most, and one can end where
+    /// it ends.
     /// It answers the user packet that ends there, if it is complete and has a slot.
     pub fn piece(&mut self, mark: Mark, epoch: u64, bytes: &[u8]) -> Option<Found>
         requires epoch { IsEpoch epoch mark }

@@ -1,5 +1,6 @@
 // Taking the blocks of an epoch.
-ghost use Rattle.std.specs.Prelude.{◌≡◌, ◌^◌, ◌+◌, ◌-◌, ◌%◌, ◌<◌, ◌≤◌, ◌++◌, ◌==◌, ◌∷◌, [], length, take, drop, min, List, ℕ};
+ghost use Rattle.std.specs.Prelude.{◌≡◌, ◌^◌, ◌+◌, ◌-◌, ◌%◌, ◌<◌, ◌≤◌, ◌++◌, ◌==◌, ◌∷◌, [], length, take, drop, min};
+ghost use Rattle.std.specs.Prelude.{List, ℕ};
 ghost use Rattle.std.specs.Prelude.{IfSome, Some, Option, if◌then◌else◌};
 ghost use Rattle.plp_receiver.specs.declared.slot_rule.SlotRule.{SlotRule};
 ghost use Rattle.plp_config.specs.declared.moment.TheConstants.{MOST_FRAMES};

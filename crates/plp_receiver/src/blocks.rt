@@ -60,8 +60,8 @@ fn take_block(
     }
 }
 
-/// Takes blocks that stand one behind the other, one for each test of whether its cells stand, and a gap in place of each that is
-/// not taken.
+/// Takes blocks that stand one behind the other, one for each test of whether its cells stand, and a gap in place of
+/// each that is not taken.
 pub fn take_blocks(
     slots: &mut PacketSlots,
     bytes: &mut [u8],

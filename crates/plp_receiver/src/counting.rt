@@ -9,8 +9,8 @@ use crate::assembler::Found;
 use crate::slot_rule::SlotRule;
 use crate::times::last_tick;
 
-/// Whether a user packet that ends in an epoch counts: its slot is one of the epoch in which it begins, and is not given out
-/// before the last frame of the epoch in which it ends.
+/// Whether a user packet that ends in an epoch counts: its slot is one of the epoch in which it begins, and is not
+/// given out before the last frame of the epoch in which it ends.
 pub fn counts(rule: &SlotRule, found: &Found, epoch: u64) -> bool
     requires sound { IsSound rule.now }
     requires begun { found.now.epoch < MOST_FRAMES }

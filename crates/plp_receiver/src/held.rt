@@ -127,7 +127,8 @@ impl HeldBlocks {
     pub fn give(&mut self, slots: &mut PacketSlots, deletes: bool)
         requires small { frame_of slots.old < MOST_FRAMES }
         requires within { is_within slots.old ≡ true }
-        ensures takes { TakesBlocks deletes (take self.old.count self.old.stands.items) self.old.len self.old.bytes.items
+        ensures takes { TakesBlocks deletes (take self.old.count self.old.stands.items) self.old.len
+            self.old.bytes.items
             slots.old slots.new }
         ensures status { slots_status slots.new ≡ slots_status slots.old }
         ensures room { room_of self.new ≡ room_of self.old }

@@ -16,11 +16,11 @@ use site_frame::RecordView;
 use std::alloc::Global;
 use ts_packet::SIZE;
 
-/// Gives back the packets of a PLP, if so wanted with those that all PLPs of its group have in common, from the records of
-/// successive frames.
+/// Gives back the packets of a PLP, if so wanted with those that all PLPs of its group have in common, from the records
+/// of successive frames.
 ///
-/// [`begin_at`](Self::begin_at) names the first frame. Then [`frame`](Self::frame) takes the record of each, and behind each
-/// [`release`](Self::release) gives out what is due.
+/// [`begin_at`](Self::begin_at) names the first frame. Then [`frame`](Self::frame) takes the record of each, and behind
+/// each [`release`](Self::release) gives out what is due.
 #[derive(Drop)]
 pub struct JoinedReceiver<'p> {
     plan: &'p Plan,
@@ -38,11 +38,12 @@ impl<'p> JoinedReceiver<'p> {
     ghost use Rattle.site_frame.specs.declared.reading.RecordView.{RecordView};
     ghost use Rattle.plp_receiver.specs.StandsFor.{new_status};
     ghost use Rattle.plp_receiver.specs.JoinedBack.{MayJoin, JoinedBackWith};
-    ghost use Rattle.plp_receiver.specs.JointStandsFor.{JoinedReceiverStandsFor, IsFresh, network_of, plp_of, frame_of, due_of};
+    ghost use Rattle.plp_receiver.specs.JointStandsFor.{JoinedReceiverStandsFor, IsFresh, network_of, plp_of, frame_of};
+    ghost use Rattle.plp_receiver.specs.JointStandsFor.{due_of};
     ghost use Rattle.plp_receiver.specs.JointStandsFor.{joins_of, status_of};
 
-    /// Takes all the memory that is needed to receive the PLP at a place, and the common PLP of its group if its packets are to be
-    /// joined: `joins` is then that PLP's place, else `None`.
+    /// Takes all the memory that is needed to receive the PLP at a place, and the common PLP of its group if its
+    /// packets are to be joined: `joins` is then that PLP's place, else `None`.
     ///
     /// # Errors
     /// There is no memory for it. No later call wants any.
@@ -85,7 +86,8 @@ impl<'p> JoinedReceiver<'p> {
     pub fn frame(&mut self, view: &RecordView<'_>)
         requires small { frame_of self.old < MOST_FRAMES }
         requires given_out { due_of self.old ≡ 0 }
-        ensures stands { (first : ℕ) (views : List RecordView) (released : ℕ) → JoinedReceiverStandsFor self.old first views released
+        ensures stands { (first : ℕ) (views : List RecordView) (released : ℕ)
+            → JoinedReceiverStandsFor self.old first views released
             → JoinedReceiverStandsFor self.new first (views ++ view.now ∷ []) released }
         ensures status { status_of self.new ≡ record (status_of self.old) {
           frame = frame_of self.old + 1;
@@ -103,11 +105,14 @@ impl<'p> JoinedReceiver<'p> {
         ensures joins { MayJoin (network_of self.now) (plp_of self.now) (joins_of self.now) }
         ensures value { result ≡ due_of self.now }
         ensures fresh { IsFresh self.now → result ≡ 0 }
-        ensures some { (first : ℕ) (views : List RecordView) (released : ℕ) → JoinedReceiverStandsFor self.now first views released
-            → (packets : List (List ℕ)) × JoinedBackWith (joins_of self.now) (network_of self.now) (plp_of self.now) first views packets }
+        ensures some { (first : ℕ) (views : List RecordView) (released : ℕ)
+            → JoinedReceiverStandsFor self.now first views released
+            → (packets : List (List ℕ)) × JoinedBackWith (joins_of self.now) (network_of self.now) (plp_of self.now)
+            first views packets }
         ensures answer { (first : ℕ) (views : List RecordView) (released : ℕ) (packets : List (List ℕ))
             → JoinedReceiverStandsFor self.now first views released
-            → JoinedBackWith (joins_of self.now) (network_of self.now) (plp_of self.now) first views packets → result ≡ length packets - released }
+            → JoinedBackWith (joins_of self.now) (network_of self.now) (plp_of self.now) first views packets
+            → result ≡ length packets - released }
     {
         self.plan.rules_law();
         groups_law();
@@ -118,11 +123,13 @@ impl<'p> JoinedReceiver<'p> {
         self.own.due().max(due_of_common(&self.common))
     }
 
-    /// The packet of the next slot, which is due: that of the PLP, or that of the common one where the PLP has a null packet.
+    /// The packet of the next slot, which is due: that of the PLP, or that of the common one where the PLP has a null
+    /// packet.
     #[tactic(auto, unfolding(crate::specs::JointStandsFor::JoinedReceiverStandsFor, crate::specs::JointStandsFor::IsFresh, crate::specs::JointStandsFor::due_of), using(crate::proofs::StepLemmas::given_due))]
     pub fn release(&mut self, out: &mut [u8; SIZE])
         requires { 0 < due_of self.old }
-        ensures stands { (first : ℕ) (views : List RecordView) (released : ℕ) → JoinedReceiverStandsFor self.old first views released
+        ensures stands { (first : ℕ) (views : List RecordView) (released : ℕ)
+            → JoinedReceiverStandsFor self.old first views released
             → JoinedReceiverStandsFor self.new first views (released + 1) }
         ensures answer { (first : ℕ) (views : List RecordView) (released : ℕ) (packets : List (List ℕ))
             → JoinedReceiverStandsFor self.old first views released

@@ -17,8 +17,8 @@ pub fn readback_law()
     slots_law();
 }
 
-/// With spread 1 what records tell of a PLP is what each of them tells by itself; and if all spreads are 1, all blocks that a
-/// frame's shape tells come with it.
+/// With spread 1 what records tell of a PLP is what each of them tells by itself; and if all spreads are 1, all blocks
+/// that a frame's shape tells come with it.
 pub fn alone_law()
     ensures records { OneFrame }
     ensures blocks { AllCome }

@@ -1,5 +1,5 @@
-//! The packets of a PLP, from the records of its frames, each in its slot until that is due (EN 302 755, clause 5.1), also in step with
-//! those of the common PLP of its group (annex D).
+//! The packets of a PLP, from the records of its frames, each in its slot until that is due (EN 302 755, clause 5.1),
+//! also in step with those of the common PLP of its group (annex D).
 #![tactic(auto)]
 
 mod assembler;

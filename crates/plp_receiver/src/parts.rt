@@ -49,7 +49,8 @@ fn skip_blocks(rest: &mut BlocksIter<'_>, count: u32)
     }
 }
 
-// Sees the record of a frame of this shape in which an epoch begins: holds its blocks, and sees which of its cells stand.
+// Sees the record of a frame of this shape in which an epoch begins: holds its blocks, and sees which of its cells
+// stand.
 fn see_first(
     plan: &Plan,
     shape: &Shape,
@@ -77,8 +78,8 @@ fn see_first(
     held.see_cells(plan, shape, plp, number, cells);
 }
 
-/// Sees the record of a frame of this shape: holds the blocks of the epoch that begins in it, if one does, and sees which cells
-/// of the epoch stand in it.
+/// Sees the record of a frame of this shape: holds the blocks of the epoch that begins in it, if one does, and sees
+/// which cells of the epoch stand in it.
 pub fn see_part(
     plan: &Plan,
     shape: &Shape,

@@ -37,7 +37,8 @@ pub fn open_slots(alloc: Global, plan: &Plan, plp: usize) -> Result<PacketSlots,
     requires { plp < length plan.now.plps }
     ensures fresh { IfOk result (λ p. IsFresh p (slot_rule plan.now plp)) }
     ensures status { IfOk result (λ p. slots_status p ≡ slots.new_status (slot_rule plan.now plp)) }
-    ensures window { IfOk result (λ p. window_slots (rule_of p).times.num (rule_of p).times.den (delay_of (rule_of p).times)
+    ensures window { IfOk result (λ p. window_slots (rule_of p).times.num (rule_of p).times.den
+        (delay_of (rule_of p).times)
         (rule_of p).ticks ≡ window plan.now plp) }
 {
     PacketSlots::open(alloc, rule_of(plan, plp))

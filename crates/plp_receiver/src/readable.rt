@@ -1,5 +1,6 @@
 // Which records of frames are readable (EN 302 755, clauses 5 to 8).
-ghost use Rattle.std.specs.Prelude.{◌≡◌, ◌&&◌, ◌-◌, ◌<◌, ◌≤◌, ◌^◌, ◌==◌, true, Some, None, List, length, take, replicate, ◌++◌};
+ghost use Rattle.std.specs.Prelude.{◌≡◌, ◌&&◌, ◌-◌, ◌<◌, ◌≤◌, ◌^◌, ◌==◌, true, Some, None, List, length, take};
+ghost use Rattle.std.specs.Prelude.{replicate, ◌++◌};
 ghost use Rattle.std.specs.Prelude.{if◌then◌else◌};
 ghost use Rattle.std.specs.Bool.{beq};
 ghost use Rattle.std.specs.Cmp.Lexicographic.{pointwise};
@@ -66,8 +67,8 @@ fn come_next(rest: &mut BlocksIter<'_>, id: u8, len: u32, count: u16) -> bool
     true
 }
 
-// Whether blocks are those of a frame if it has this shape: PLP by PLP, as many as it tells of those whose epoch begins in it,
-// each with its length.
+// Whether blocks are those of a frame if it has this shape: PLP by PLP, as many as it tells of those whose epoch begins
+// in it, each with its length.
 fn has_blocks(plan: &Plan, shape: &Shape, number: u64, blocks: &Blocks<'_>) -> bool
     requires { length shape.now.counts ≡ length plan.now.plps }
     ensures { result ≡ pointwise has_size blocks.now (block_sizes plan.now (coming plan.now number shape.now)) }

@@ -1,5 +1,6 @@
 // The receiver of a PLP.
-ghost use Rattle.std.specs.Prelude.{◌≡◌, ◌<◌, ◌≤◌, ◌+◌, ◌-◌, ◌++◌, ◌∷◌, [], List, ℕ, IfOk, true, false, length, vec_len};
+ghost use Rattle.std.specs.Prelude.{◌≡◌, ◌<◌, ◌≤◌, ◌+◌, ◌-◌, ◌++◌, ◌∷◌, [], List, ℕ, IfOk, true, false, length};
+ghost use Rattle.std.specs.Prelude.{vec_len};
 ghost use Rattle.std.specs.Prelude.{slice_get, Some, nat_lt, if◌then◌else◌};
 ghost use Rattle.plp_config.specs.Plps.{plp_at, spread};
 ghost use Rattle.plp_config.specs.Capacity.{block_bytes};
@@ -33,8 +34,8 @@ fn some_spread_law(plan: &Plan, plp: usize)
 
 /// Gives back the packets of a PLP, from the records of successive frames.
 ///
-/// [`begin_at`](Self::begin_at) names the first frame. Then [`frame`](Self::frame) takes the record of each, and behind each
-/// [`release`](Self::release) gives out what is due.
+/// [`begin_at`](Self::begin_at) names the first frame. Then [`frame`](Self::frame) takes the record of each, and behind
+/// each [`release`](Self::release) gives out what is due.
 #[derive(Drop)]
 pub struct Receiver<'p> {
     network: Network<'p>,
@@ -67,7 +68,8 @@ impl<'p> Receiver<'p> {
     ghost use Rattle.plp_receiver.specs.SlotsStandFor.{ends_epoch};
     ghost use Rattle.std.specs.Prelude.{Option};
     ghost use Rattle.plp_receiver.specs.Taking.{EndsRecord, TellsEpoch};
-    ghost use Rattle.plp_receiver.specs.StandsFor.{ReceiverStandsFor, IsFresh, slots_come, network_of, plp_of, frame_of, due_of};
+    ghost use Rattle.plp_receiver.specs.StandsFor.{ReceiverStandsFor, IsFresh, slots_come, network_of, plp_of};
+    ghost use Rattle.plp_receiver.specs.StandsFor.{frame_of, due_of};
     ghost use Rattle.plp_receiver.specs.StandsFor.{status_of, new_status, unseen_of};
 
     /// Takes all the memory that is needed to receive the PLP at a place.
@@ -107,7 +109,8 @@ impl<'p> Receiver<'p> {
     pub fn frame(&mut self, view: &RecordView<'_>)
         requires small { frame_of self.old < MOST_FRAMES }
         requires given_out { due_of self.old ≡ 0 }
-        ensures stands { (first : ℕ) (views : List RecordView) (released : ℕ) → ReceiverStandsFor self.old first views released
+        ensures stands { (first : ℕ) (views : List RecordView) (released : ℕ)
+            → ReceiverStandsFor self.old first views released
             → ReceiverStandsFor self.new first (views ++ view.now ∷ []) released }
         ensures status { status_of self.new ≡ record (status_of self.old) {
           frame = frame_of self.old + 1;
@@ -217,11 +220,13 @@ impl<'p> Receiver<'p> {
     pub fn due(&self) -> u64
         ensures value { result ≡ due_of self.now }
         ensures fresh { IsFresh self.now → result ≡ 0 }
-        ensures some { (first : ℕ) (views : List RecordView) (released : ℕ) → ReceiverStandsFor self.now first views released
+        ensures some { (first : ℕ) (views : List RecordView) (released : ℕ)
+            → ReceiverStandsFor self.now first views released
             → (packets : List (List ℕ)) × Readback (network_of self.now) (plp_of self.now) first views packets }
         ensures answer { (first : ℕ) (views : List RecordView) (released : ℕ) (packets : List (List ℕ))
             → ReceiverStandsFor self.now first views released
-            → Readback (network_of self.now) (plp_of self.now) first views packets → result ≡ length packets - released }
+            → Readback (network_of self.now) (plp_of self.now) first views packets
+            → result ≡ length packets - released }
     {
         readback_law();
         self.slots.due()
@@ -231,7 +236,8 @@ impl<'p> Receiver<'p> {
     pub fn held(&self) -> u64
         ensures fresh { IsFresh self.now → result ≡ 0 }
         ensures most { result ≤ window (network_of self.now) (plp_of self.now) }
-        ensures answer { (first : ℕ) (views : List RecordView) (released : ℕ) → ReceiverStandsFor self.now first views released
+        ensures answer { (first : ℕ) (views : List RecordView) (released : ℕ)
+            → ReceiverStandsFor self.now first views released
             → result ≡ slots_come (network_of self.now) (plp_of self.now) first (length views) - released }
     {
         self.slots.held()
@@ -239,11 +245,13 @@ impl<'p> Receiver<'p> {
 
     /// The packet of the next slot, if one is due: `false` exactly if none is.
     pub fn release(&mut self, out: &mut [u8; SIZE]) -> bool
-        ensures stands { (first : ℕ) (views : List RecordView) (released : ℕ) → ReceiverStandsFor self.old first views released
+        ensures stands { (first : ℕ) (views : List RecordView) (released : ℕ)
+            → ReceiverStandsFor self.old first views released
             → ReceiverStandsFor self.new first views (if result then released + 1 else released) }
         ensures answer { result ≡ true → (first : ℕ) (views : List RecordView) (released : ℕ) (packets : List (List ℕ))
             → ReceiverStandsFor self.old first views released
-            → Readback (network_of self.old) (plp_of self.old) first views packets → slice_get packets released ≡ Some out.new }
+            → Readback (network_of self.old) (plp_of self.old) first views packets
+            → slice_get packets released ≡ Some out.new }
         ensures none { result ≡ false → (first : ℕ) (views : List RecordView) (released : ℕ) (packets : List (List ℕ))
             → ReceiverStandsFor self.old first views released
             → Readback (network_of self.old) (plp_of self.old) first views packets → length packets ≤ released }

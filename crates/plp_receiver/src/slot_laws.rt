@@ -16,8 +16,8 @@ pub fn one_frame_law()
     ensures { OneFrame }
 {}
 
-/// A user packet is complete exactly if each later block that begins before it ends has its first user packet where it ends, or
-/// has none and ends by there.
+/// A user packet is complete exactly if each later block that begins before it ends has its first user packet where it
+/// ends, or has none and ends by there.
 pub fn complete_law()
     ensures { CompleteByBlocks }
 {}

@@ -1,5 +1,6 @@
 // The slots of a PLP.
-ghost use Rattle.std.specs.Prelude.{◌≡◌, ◌<◌, ◌≤◌, ◌+◌, ◌-◌, ◌++◌, ◌∷◌, [], length, List, ℕ, IfOk, true, false, slice_get, Some};
+ghost use Rattle.std.specs.Prelude.{◌≡◌, ◌<◌, ◌≤◌, ◌+◌, ◌-◌, ◌++◌, ◌∷◌, [], length, List, ℕ, IfOk, true, false};
+ghost use Rattle.std.specs.Prelude.{slice_get, Some};
 ghost use Rattle.std.specs.Prelude.{None, Option, option_map, if◌then◌else◌};
 ghost use Rattle.plp_config.specs.SlotTime.{window_slots};
 ghost use Rattle.plp_config.specs.SlotTimes.{delay_of};
@@ -14,12 +15,13 @@ use plp_config::{release_law, slot_time_law};
 use std::alloc::{AllocError, Global};
 use ts_packet::SIZE;
 
-/// Puts the user packets of successive interleaving frames into their slots, and gives each slot's packet out once it is due.
+/// Puts the user packets of successive interleaving frames into their slots, and gives each slot's packet out once it
+/// is due.
 ///
 /// Of each frame, [`pass`](Self::pass), unless an interleaving frame ends with it. Of one that does,
 /// [`begin_frame`](Self::begin_frame), then each block of the interleaving frame in order, then
-/// [`end_frame`](Self::end_frame); or [`lose`](Self::lose), if the interleaving frame is not there. Behind that, all slots that
-/// are due must be given out.
+/// [`end_frame`](Self::end_frame); or [`lose`](Self::lose), if the interleaving frame is not there. Behind that, all
+/// slots that are due must be given out.
 #[derive(Drop)]
 pub struct PacketSlots {
     assembler: Assembler,
@@ -41,7 +43,8 @@ impl PacketSlots {
     ghost use Rattle.plp_receiver.specs.TakenBlocks.{block_of, IsPlace};
     ghost use Rattle.std.specs.Prelude.{nat_lt};
     ghost use Rattle.plp_receiver.specs.Window.{status_of, left};
-    ghost use Rattle.plp_receiver.specs.SlotsStandFor.{PacketSlotsStandsFor, StandsWithin, IsFresh, IsEmpty, frame_of, is_within, due_of};
+    ghost use Rattle.plp_receiver.specs.SlotsStandFor.{PacketSlotsStandsFor, StandsWithin, IsFresh, IsEmpty, frame_of};
+    ghost use Rattle.plp_receiver.specs.SlotsStandFor.{is_within, due_of};
     ghost use Rattle.plp_receiver.specs.SlotsStandFor.{rule_of, ends_epoch, slots_status, new_status};
 
     /// Takes all the memory that is needed.
@@ -96,7 +99,8 @@ impl PacketSlots {
         requires small { frame_of self.old < MOST_FRAMES }
         requires within { is_within self.old ≡ true }
         requires place { IsPlace block.now.first (length block.now.field.now) }
-        ensures stands { (r : SlotRule) (first count : ℕ) (epochs : List Epoch) (blocks : List (Option Block)) (released : ℕ)
+        ensures stands { (r : SlotRule) (first count : ℕ) (epochs : List Epoch) (blocks : List (Option Block))
+            (released : ℕ)
             → StandsWithin self.old r first count epochs blocks released
             → StandsWithin self.new r first count epochs (blocks ++ Some (block_of block.now) ∷ []) released }
         ensures status { slots_status self.new ≡ slots_status self.old }
@@ -108,7 +112,8 @@ impl PacketSlots {
     /// The next block of the epoch is not taken.
     pub fn skip(&mut self)
         requires within { is_within self.old ≡ true }
-        ensures stands { (r : SlotRule) (first count : ℕ) (epochs : List Epoch) (blocks : List (Option Block)) (released : ℕ)
+        ensures stands { (r : SlotRule) (first count : ℕ) (epochs : List Epoch) (blocks : List (Option Block))
+            (released : ℕ)
             → StandsWithin self.old r first count epochs blocks released
             → StandsWithin self.new r first count epochs (blocks ++ None ∷ []) released }
         ensures status { slots_status self.new ≡ slots_status self.old }
@@ -139,7 +144,8 @@ impl PacketSlots {
         requires small { frame_of self.old < MOST_FRAMES }
         requires within { is_within self.old ≡ true }
         requires last { ends_epoch self.old ≡ true }
-        ensures stands { (r : SlotRule) (first count : ℕ) (epochs : List Epoch) (blocks : List (Option Block)) (released : ℕ)
+        ensures stands { (r : SlotRule) (first count : ℕ) (epochs : List Epoch) (blocks : List (Option Block))
+            (released : ℕ)
             → StandsWithin self.old r first count epochs blocks released
             → PacketSlotsStandsFor self.new r first (count + 1) (epochs ++ epoch_with blocks ∷ []) released }
         ensures status { slots_status self.new ≡ record (slots_status self.old) {

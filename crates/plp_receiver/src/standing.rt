@@ -1,5 +1,6 @@
 // Whether the cells of the blocks of a PLP stand at their addresses (EN 302 755, clause 8).
-ghost use Rattle.std.specs.Prelude.{◌≡◌, ◌<◌, ◌≤◌, ◌+◌, ◌*◌, ◌^◌, ◌&&◌, ℕ, false, length, slice_index, slice_index_or, sum};
+ghost use Rattle.std.specs.Prelude.{◌≡◌, ◌<◌, ◌≤◌, ◌+◌, ◌*◌, ◌^◌, ◌&&◌, ℕ, false, length, slice_index, slice_index_or};
+ghost use Rattle.std.specs.Prelude.{sum};
 ghost use Rattle.std.specs.Prelude.{take, List};
 ghost use Rattle.std.specs.Prelude.{Some};
 ghost use Rattle.cell_map.specs.CellMap.{Passes};
@@ -22,8 +23,8 @@ fn is_found(cell: Cell, found: Option<Cell>) -> bool
     }
 }
 
-// Sees what is found if the map has a cell, or none: the test of its block fails if it is another. The first test is that of
-// the block with this ordinal.
+// Sees what is found if the map has a cell, or none: the test of its block fails if it is another. The first test is
+// that of the block with this ordinal.
 fn see(expected: Option<Cell>, found: Option<Cell>, first: u32, stands: &mut [bool])
     ensures len { length stands.new ≡ length stands.old }
     ensures each { (k : ℕ) → k < length stands.old → slice_index_or stands.new k false
@@ -58,7 +59,8 @@ fn see_each(
     requires inside { address + count ≤ plan.now.cells }
     ensures len { length stands.new ≡ length stands.old }
     ensures each { (k : ℕ) → k < length stands.old → slice_index_or stands.new k false
-        ≡ (slice_index_or stands.old k false && seen_from plan.now shape.now frame_idx cells.now (first + k) address count) }
+        ≡ (slice_index_or stands.old k false && seen_from plan.now shape.now frame_idx cells.now (first + k)
+        address count) }
 {
     let mut expected = Cells::resume(plan, shape, frame_idx, address);
     for i in 0..count {
@@ -88,7 +90,8 @@ fn see_piece(
     requires room { 4 * count ≤ length buffer.old }
     ensures len { length stands.new ≡ length stands.old }
     ensures each { (k : ℕ) → k < length stands.old → slice_index_or stands.new k false
-        ≡ (slice_index_or stands.old k false && seen_from plan.now shape.now frame_idx cells.now (first + k) address count) }
+        ≡ (slice_index_or stands.old k false && seen_from plan.now shape.now frame_idx cells.now (first + k)
+        address count) }
     ensures room { length buffer.new ≡ length buffer.old }
 {
     let words = &mut buffer[..4 * count as usize];
@@ -153,8 +156,8 @@ fn first_ordinal(shape: &Shape, plp: usize) -> u32
     first
 }
 
-/// Sees which cells of the blocks of a PLP stand in the record of a frame of this shape. The test of a block fails if one does
-/// not. There may be tests of more blocks, which decide nothing.
+/// Sees which cells of the blocks of a PLP stand in the record of a frame of this shape. The test of a block fails if
+/// one does not. There may be tests of more blocks, which decide nothing.
 pub fn see_standing(
     plan: &Plan,
     shape: &Shape,
@@ -170,7 +173,8 @@ pub fn see_standing(
     ensures len { length stands.new ≡ length stands.old }
     ensures each { (blocks : List Block) (k : ℕ) → k < length stands.old → k < slice_index shape.now.counts plp
         → slice_index_or stands.new k false
-        ≡ (slice_index_or stands.old k false && all_stand plan.now plp (part_with number blocks shape.now cells.now) k) }
+        ≡ (slice_index_or stands.old k false && all_stand plan.now plp (part_with number blocks shape.now cells.now)
+        k) }
 {
     map_law();
     plan.rules_law();

@@ -117,12 +117,13 @@ impl SlotWindow {
         self.end = end;
     }
 
-    /// Whether a user packet that ends in an epoch counts: its slot is one of the epoch in which it begins, and was not given out
-    /// before the last frame of the epoch in which it ends.
+    /// Whether a user packet that ends in an epoch counts: its slot is one of the epoch in which it begins, and was not
+    /// given out before the last frame of the epoch in which it ends.
     pub fn counts(&self, found: &Found, epoch: u64) -> bool
         requires begun { found.now.epoch < MOST_FRAMES }
         requires ended { epoch < MOST_FRAMES }
-        ensures value { result ≡ counts_by self.now.rule (delay_of self.now.rule.times) found.now.slot found.now.epoch epoch }
+        ensures value { result ≡ counts_by self.now.rule (delay_of self.now.rule.times) found.now.slot
+            found.now.epoch epoch }
         ensures near { over_by self.now.rule.times found.now.epoch < 2 ^ 53 }
     {
         counts(&self.rule, found, epoch)
@@ -176,7 +177,8 @@ impl SlotWindow {
     /// How many slots are held: as many as the window of the PLP has at most.
     pub fn held(&self) -> u64
         ensures value { result ≡ self.now.end - self.now.first }
-        ensures most { result ≤ window_slots self.now.rule.times.num self.now.rule.times.den (delay_of self.now.rule.times)
+        ensures most { result ≤ window_slots self.now.rule.times.num self.now.rule.times.den
+            (delay_of self.now.rule.times)
             self.now.rule.ticks }
     {
         self.slots.len() as u64

@@ -1,5 +1,6 @@
 -- A map of texts to vectors, seen as a finite map of names to bytes.
-use Rattle.std.proofs.Common.{◌≡◌, ℕ, Bool, true, false, cond, List, [], ◌∷◌, Option, Some, map, refl, ap, sym, ◌∙◌, Vec, String}
+use Rattle.std.proofs.Common.{◌≡◌, ℕ, Bool, true, false, cond, List, [], ◌∷◌, Option, Some, map, refl, ap, sym, ◌∙◌}
+use Rattle.std.proofs.Common.{Vec, String}
 use Rattle.std.proofs.Common.{Global, string_bytes}
 use Rattle.std.specs.Prelude.{option_map}
 use Rattle.std.specs.Ordering.{nat_cmp, is_eq, eq_by_cmp}
@@ -38,8 +39,10 @@ find-entries name (e ∷ es) =
     ∙ sym (option_map-cond items b (Some e.1) (lookup (is_at (λ k. slice_cmp nat_cmp name (string_bytes k))) es))
 
 -- the file of a name is the value at that text
-pub get-files_of : (files : Stored) (name : List ℕ) → get (files_of files) name ≡ option_map items (tree.get_by_text files name)
-get-files_of files name = get-from_entries nat_list_cmp_total (map entry_of files.entries) name ∙ find-entries name files.entries
+pub get-files_of : (files : Stored) (name : List ℕ) → get (files_of files) name ≡ option_map items
+    (tree.get_by_text files name)
+get-files_of files name = get-from_entries nat_list_cmp_total (map entry_of files.entries) name
+    ∙ find-entries name files.entries
 
 -- to set the value at a text is to set the file of that name
 pub files_of-insert : (old new : Stored) (name : List ℕ) (value : Vec ℕ Global) →

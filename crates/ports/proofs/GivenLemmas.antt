@@ -1,5 +1,6 @@
 -- How many bytes the reads of a file gave, after one more handle and after one more read.
-use Rattle.std.proofs.Common.{◌≡◌, ℕ, ◌+◌, ◌-◌, ◌^◌, ◌<◌, min, Bool, true, false, zero, suc, cond, List, [], ◌∷◌, ◌++◌, length}
+use Rattle.std.proofs.Common.{◌≡◌, ℕ, ◌+◌, ◌-◌, ◌^◌, ◌<◌, min, Bool, true, false, zero, suc, cond, List, [], ◌∷◌, ◌++◌}
+use Rattle.std.proofs.Common.{length}
 use Rattle.std.proofs.Common.{take, map, set, get_or, ap, sym, ◌∙◌, arith, string_bytes, add_assoc}
 use Rattle.std.proofs.lemmas.List.{take_more, length-map}
 use Rattle.std.specs.Str.{bytes_eq}
@@ -13,7 +14,8 @@ of_handles name xs = given_by name (map name_of xs) (map place_of xs)
 
 given_by-snoc : (name : List ℕ) (xs : List Handle) (x : Handle) → of_handles name (xs ++ x ∷ []) ≡ of_handles name xs
     + cond {A = ℕ} (bytes_eq (name_of x) name) x.place 0
-given_by-snoc name [] x = let b : ℕ = cond {A = ℕ} (bytes_eq (name_of x) name) x.place 0 in let e : b + 0 ≡ 0 + b = omega arith in
+given_by-snoc name [] x = let b : ℕ = cond {A = ℕ} (bytes_eq (name_of x) name) x.place 0 in let e : b + 0 ≡ 0 + b =
+    omega arith in
     e
 given_by-snoc name (y ∷ ys) x =
     let b : ℕ = cond {A = ℕ} (bytes_eq (name_of y) name) y.place 0 in
@@ -23,17 +25,20 @@ given_by-snoc name (y ∷ ys) x =
 -- one more handle that was looked at
 pub given_by_more : (name : List ℕ) (xs : List Handle) (i : ℕ) (x : Handle) → i < length xs → x ≡ get_or xs i x →
     given_by name (map name_of (take (i + 1) xs)) (map place_of (take (i + 1) xs))
-    ≡ given_by name (map name_of (take i xs)) (map place_of (take i xs)) + cond {A = ℕ} (bytes_eq (name_of x) name) x.place 0
+    ≡ given_by name (map name_of (take i xs)) (map place_of (take i xs)) + cond {A = ℕ} (bytes_eq (name_of x) name)
+    x.place 0
 given_by_more name xs i x inside is =
     ap (of_handles name) (take_more xs i x inside ∙ ap (λ (y : Handle). take i xs ++ y ∷ []) (sym is))
     ∙ given_by-snoc name (take i xs) x
 
-more_first : (b : Bool) (p n given : ℕ) → cond {A = ℕ} b (p + n) 0 + given ≡ (cond {A = ℕ} b p 0 + given) + cond {A = ℕ} b n 0
+more_first : (b : Bool) (p n given : ℕ) → cond {A = ℕ} b (p + n) 0 + given ≡ (cond {A = ℕ} b p 0 + given) + cond
+    {A = ℕ} b n 0
 more_first true p n given = omega arith
 more_first false p n given = omega arith
 
 -- a handle that was read on by n
-given_by-set : (name : List ℕ) (names : List (List ℕ)) (places : List ℕ) (at n : ℕ) → at < length names → at < length places →
+given_by-set : (name : List ℕ) (names : List (List ℕ)) (places : List ℕ) (at n : ℕ) → at < length names
+    → at < length places →
     given_by name names (set places at (get_or places at 0 + n)) ≡ given_by name names places
     + cond {A = ℕ} (bytes_eq (get_or names at []) name) n 0
 given_by-set name [] places at n inside _ = absurd (omega arith)
@@ -50,12 +55,15 @@ given_by-set name (m ∷ names) (p ∷ places) (suc at) n in_names in_places =
 pub gives_on : (xs : List Handle) (at n : ℕ) (x y : Handle) (name : List ℕ) → at < length xs → x ≡ get_or xs at x
     → y.name ≡ x.name → y.place ≡ x.place + n →
     given_by name (map name_of (set xs at y)) (map place_of (set xs at y))
-    ≡ given_by name (map name_of xs) (map place_of xs) + cond {A = ℕ} (bytes_eq (get_or (map name_of xs) at []) name) n 0
+    ≡ given_by name (map name_of xs) (map place_of xs) + cond {A = ℕ} (bytes_eq (get_or (map name_of xs) at []) name)
+    n 0
 gives_on xs at n x y name came is called moved =
-    let names : map name_of (set xs at y) ≡ map name_of xs = map-set_stayed name_of xs at x y is (ap string_bytes called) in
+    let names : map name_of (set xs at y) ≡ map name_of xs = map-set_stayed name_of xs at x y is
+    (ap string_bytes called) in
     let places : map place_of (set xs at y) ≡ set (map place_of xs) at (get_or (map place_of xs) at 0 + n) =
     map-set_moved place_of xs at n x y came is moved in
-    rw (names, places) (given_by-set name (map name_of xs) (map place_of xs) at n (rw length-map came) (rw length-map came))
+    rw (names, places) (given_by-set name (map name_of xs) (map place_of xs) at n (rw length-map came)
+    (rw length-map came))
 
 -- the sum so far, if the handle is of the name
 pub counted : (is : Bool) (before now total more place : ℕ) → is ≡ true → more ≡ total + cond {A = ℕ} is place 0

@@ -1,7 +1,9 @@
 -- What the places of handles are, and what a handle has left, after it was read.
-use Rattle.std.proofs.Common.{◌≡◌, ◌==◌, ℕ, Bool, false, ◌+◌, ◌-◌, ◌<◌, ◌≤◌, List, [], ◌++◌, length, take, drop, map, set, get_or, Some, refl, ap}
+use Rattle.std.proofs.Common.{◌≡◌, ◌==◌, ℕ, Bool, false, ◌+◌, ◌-◌, ◌<◌, ◌≤◌, List, [], ◌++◌, length, take, drop, map}
+use Rattle.std.proofs.Common.{set, get_or, Some, refl, ap}
 use Rattle.std.proofs.Common.{sym, ◌∙◌, arith, ◌↔◌, string_bytes}
-use Rattle.std.proofs.lemmas.List.{map-set, get_or-map, get_or-set_same, get_or-set_other, take_all, take-append-drop, drop-drop}
+use Rattle.std.proofs.lemmas.List.{map-set, get_or-map, get_or-set_same, get_or-set_other, take_all, take-append-drop}
+use Rattle.std.proofs.lemmas.List.{drop-drop}
 use Rattle.std.proofs.lemmas.List.{length-map, length-drop, length-take-le}
 use Rattle.std.proofs.Math.Seq.{map-set_same, take-append_seam}
 use Rattle.ports.specs.declared.counts.Counts.{Counts}
@@ -9,7 +11,8 @@ use Rattle.ports.specs.declared.memory.Handle.{Handle}
 use Rattle.ports.specs.Desk.{Files, State, bytes_of, Reads}
 
 -- one value moved by n
-pub map-set_moved : {A : Type 0} (f : A → ℕ) (xs : List A) (i n : ℕ) (x y : A) → i < length xs → x ≡ get_or xs i x → f y ≡ f x + n
+pub map-set_moved : {A : Type 0} (f : A → ℕ) (xs : List A) (i n : ℕ) (x y : A) → i < length xs → x ≡ get_or xs i x
+    → f y ≡ f x + n
     →
     map f (set xs i y) ≡ set (map f xs) i (get_or (map f xs) i 0 + n)
 map-set_moved f xs i n x y inside is moved =
@@ -64,7 +67,8 @@ pub reads_on : (files : Files) (xs : List Handle) (outs said : List (List ℕ)) 
     ((n ≡ 0) ↔ (drop x.place (bytes_of files (name_of x)) ≡ [])) →
     Reads (desk files xs outs said created counts) (desk files (set xs at y) outs said created counts) at n buffer
 reads_on files xs outs said created counts at n x y buffer came is name moved over next end =
-    let names : map name_of (set xs at y) ≡ map name_of xs = map-set_stayed name_of xs at x y is (ap string_bytes name) in
+    let names : map name_of (set xs at y) ≡ map name_of xs = map-set_stayed name_of xs at x y is
+    (ap string_bytes name) in
     let places : map place_of (set xs at y) ≡ set (map place_of xs) at y.place = map-set place_of xs at y in
     let ended : map ended_of (set xs at y) ≡ set (map ended_of xs) at (n == 0) = map-set ended_of xs at y
     ∙ ap (set (map ended_of xs) at) over in
@@ -84,6 +88,7 @@ reads_on files xs outs said created counts at n x y buffer came is name moved ov
           ∙ get_or-set_same (map ended_of xs) at (n == 0) false (rw length-map came);
       others = λ other apart.
           let same : get_or (map place_of (set xs at y)) other 0 ≡ get_or (map place_of xs) other 0 =
-          ap (λ (ps : List ℕ). get_or ps other 0) places ∙ get_or-set_other (map place_of xs) at other y.place 0 apart in
+          ap (λ (ps : List ℕ). get_or ps other 0) places ∙ get_or-set_other (map place_of xs) at other
+          y.place 0 apart in
           rw (names, same) refl;
     }

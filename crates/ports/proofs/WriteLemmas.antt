@@ -1,6 +1,8 @@
 -- What a file that is set or written leaves: two writes of a handle are one, and other names keep their bytes.
-use Rattle.std.proofs.Common.{◌≡◌, ◌≢◌, ℕ, ◌+◌, Bool, true, false, cond, List, [], ◌∷◌, ◌++◌, length, drop, get_or, Option, Some}
-use Rattle.std.proofs.Common.{None, refl, ap, sym, ◌∙◌, append_assoc, length-append, inl, inr, Vec, String, Global, string_bytes}
+use Rattle.std.proofs.Common.{◌≡◌, ◌≢◌, ℕ, ◌+◌, Bool, true, false, cond, List, [], ◌∷◌, ◌++◌, length, drop, get_or}
+use Rattle.std.proofs.Common.{Option, Some}
+use Rattle.std.proofs.Common.{None, refl, ap, sym, ◌∙◌, append_assoc, length-append, inl, inr, Vec, String, Global}
+use Rattle.std.proofs.Common.{string_bytes}
 use Rattle.std.specs.Prelude.{IfSome, slice_index, slice_index_or, unwrap_or, option_map}
 use Rattle.std.specs.Ordering.{nat_cmp, eq_by_cmp}
 use Rattle.std.specs.Cmp.Lexicographic.{slice_cmp, nat_list_cmp_total}
@@ -42,7 +44,8 @@ insert_twice m name x y =
 
 -- what is found at the name that was set
 pub get_set : (m : Files) (name x : List ℕ) → get (insert m name x) name ≡ Some x
-get_set m name x = get-insert nat_list_cmp_total m name x name ∙ ap (λ (b : Bool). cond b (Some x) (get m name)) (same_self name)
+get_set m name x = get-insert nat_list_cmp_total m name x name ∙ ap (λ (b : Bool). cond b (Some x) (get m name))
+    (same_self name)
 
 -- another name has what it had
 pub get_other : (m : Files) (name x q : List ℕ) → q ≢ name → get (insert m name x) q ≡ get m q
@@ -62,15 +65,18 @@ kept_at m name x q is =
 
 -- to set a file to the bytes that it has changes nothing
 pub insert_kept : (m : Files) (name x : List ℕ) → get m name ≡ Some x → insert m name x ≡ m
-insert_kept m name x is = same_map nat_list_cmp_total (slice_cmp-IsAntisymmetric nat_cmp-IsAntisymmetric) (insert m name x) m
+insert_kept m name x is = same_map nat_list_cmp_total (slice_cmp-IsAntisymmetric nat_cmp-IsAntisymmetric)
+    (insert m name x) m
     (λ q. kept_at m name x q is)
 
 -- what handles for reading have left, if another file was set
-left_beside : (files : Files) (names : List (List ℕ)) (handle place : ℕ) (name x : List ℕ) → slice_index_or names handle [] ≢ name
+left_beside : (files : Files) (names : List (List ℕ)) (handle place : ℕ) (name x : List ℕ)
+    → slice_index_or names handle [] ≢ name
     → drop place (bytes_of (insert files name x) (slice_index_or names handle []))
     ≡ drop place (bytes_of files (slice_index_or names handle []))
 left_beside files names handle place name x apart =
-    ap (λ (o : Option (List ℕ)). drop place (unwrap_or o [])) (get_other files name x (slice_index_or names handle []) apart)
+    ap (λ (o : Option (List ℕ)). drop place (unwrap_or o [])) (get_other files name x (slice_index_or names handle [])
+    apart)
 
 bytes_twice : (h : Held) (out : ℕ) (x y : List ℕ) → with_bytes out y (with_bytes out x h) ≡ with_bytes out (x ++ y) h
 bytes_twice h out x y =
@@ -78,13 +84,15 @@ bytes_twice h out x y =
       files = insert (insert h.files (out_name h out) (bytes_of h.files (out_name h out) ++ x))
           (out_name h out) (b ++ y);
     })
-    (ap (λ (o : Option (List ℕ)). unwrap_or o []) (get_set h.files (out_name h out) (bytes_of h.files (out_name h out) ++ x)))
+    (ap (λ (o : Option (List ℕ)). unwrap_or o []) (get_set h.files (out_name h out) (bytes_of h.files (out_name h out)
+    ++ x)))
     ∙ ap (λ (f : Files). record h { files = f })
     (insert_twice h.files (out_name h out) (bytes_of h.files (out_name h out) ++ x) _)
     ∙ ap (λ (b : List ℕ). record h { files = insert h.files (out_name h out) b })
     (append_assoc (bytes_of h.files (out_name h out)) x y)
 
-held_twice : (o : Option Held) (out : ℕ) (x y : List ℕ) → option_map (with_bytes out y) (option_map (with_bytes out x) o)
+held_twice : (o : Option Held) (out : ℕ) (x y : List ℕ)
+    → option_map (with_bytes out y) (option_map (with_bytes out x) o)
     ≡ option_map (with_bytes out (x ++ y)) o
 held_twice None out x y = refl
 held_twice (Some h) out x y = ap Some (bytes_twice h out x y)
@@ -96,7 +104,8 @@ apart_after : (o p : Option Held) (handle out : ℕ) (x : List ℕ) → p ≡ op
 apart_after None p handle out x is apart = rw is tt
 apart_after (Some h) p handle out x is apart = rw is apart
 
-pub writes_join : (a b c : State) (out : ℕ) (x y : List ℕ) → Writes a b out x → Writes b c out y → Writes a c out (x ++ y)
+pub writes_join : (a b c : State) (out : ℕ) (x y : List ℕ) → Writes a b out x → Writes b c out y
+    → Writes a c out (x ++ y)
 writes_join a b c out x y p q = record {
   held = q.held ∙ ap (option_map (with_bytes out y)) p.held ∙ held_twice a.held out x y;
   said = q.said ∙ p.said;
@@ -104,7 +113,8 @@ writes_join a b c out x y p q = record {
   ended = q.ended ∙ p.ended;
   created = q.created ∙ p.created;
   behind = q.behind ∙ ap (option_map (λ w. w ++ y)) p.behind ∙ append_twice (written_of a out) x y;
-  others = λ handle apart. q.others handle (apart_after a.held b.held handle out x p.held apart) ∙ p.others handle apart;
+  others = λ handle apart. q.others handle (apart_after a.held b.held handle out x p.held apart)
+      ∙ p.others handle apart;
 }
 
 -- a desk in memory
@@ -119,14 +129,17 @@ desk files names outs said opened ended created counts = record {
 }
 
 -- a desk after bytes were put behind those of an out
-pub writes_on : (files new : Files) (names outs said : List (List ℕ)) (opened : List ℕ) (ended : List Bool) (created : ℕ)
+pub writes_on : (files new : Files) (names outs said : List (List ℕ)) (opened : List ℕ) (ended : List Bool)
+    (created : ℕ)
     (counts : Counts) (out : ℕ)
     (name bytes : List ℕ)
     → name ≡ slice_index_or outs out [] → new ≡ insert files name (bytes_of files name ++ bytes)
-    → Writes (desk files names outs said opened ended created counts) (desk new names outs said opened ended created counts)
+    → Writes (desk files names outs said opened ended created counts) (desk new names outs said opened
+    ended created counts)
     out bytes
 writes_on files new names outs said opened ended created counts out name bytes named set =
-    let files_are : new ≡ insert files (slice_index_or outs out []) (bytes_of files (slice_index_or outs out []) ++ bytes) =
+    let files_are : new ≡ insert files (slice_index_or outs out []) (bytes_of files (slice_index_or outs out [])
+    ++ bytes) =
     rw (← named) set in
     record {
       held = ap (λ (f : Files). Some (record { files = f; names = names; outs = outs })) files_are;
@@ -139,7 +152,8 @@ writes_on files new names outs said opened ended created counts out name bytes n
           (get_set files (slice_index_or outs out []) (bytes_of files (slice_index_or outs out []) ++ bytes));
       others =
           λ handle apart.
-          ap (λ (f : Files). Some (drop (slice_index opened handle) (bytes_of f (slice_index_or names handle [])))) files_are
+          ap (λ (f : Files). Some (drop (slice_index opened handle) (bytes_of f (slice_index_or names handle []))))
+          files_are
           ∙ ap Some (left_beside files names handle (slice_index opened handle) (slice_index_or outs out [])
           (bytes_of files (slice_index_or outs out []) ++ bytes) apart);
     }
@@ -167,13 +181,15 @@ creates_on files new names outs outs_new said opened ended created created_new c
       opened = refl;
       ended = refl;
       created = one;
-      others = λ handle apart. rw set (ap Some (left_beside files names handle (slice_index opened handle) name [] apart));
+      others = λ handle apart. rw set (ap Some (left_beside files names handle (slice_index opened handle)
+          name [] apart));
     }
 
 -- what was written through to a text's value, if it has the bytes that it had, changes no file
 pub kept_files : (old new : BTreeMap (String Global) (Vec ℕ Global)) (name : List ℕ) (before after : Vec ℕ Global)
     → Some before ≡ tree.get_by_text old name
-    → after.items ≡ before.items → tree.UpdatesBy string_cmp (λ k. slice_cmp nat_cmp name (string_bytes k)) old new (Some after)
+    → after.items ≡ before.items → tree.UpdatesBy string_cmp (λ k. slice_cmp nat_cmp name (string_bytes k))
+    old new (Some after)
     → files_of new ≡ files_of old
 kept_files old new name before after is same_bytes updates =
     files_of-insert old new name after updates

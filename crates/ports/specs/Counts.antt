@@ -26,8 +26,8 @@ with_fault Reading c = record c { reads = one_more c.reads; first = first_of c.f
 with_fault Writing c = record c { writes = one_more c.writes; first = first_of c.first Writing }
 with_fault LastLine c = record c { lines = one_more c.lines; first = first_of c.first LastLine }
 
--- A call that may fail at reading: if it is Ok the counts are as they were; if it failed the count of reading rose, and the first
--- fault is what it was, or this one if there was none. The other counts never change.
+-- A call that may fail at reading: if it is Ok the counts are as they were; if it failed the count of reading rose, and
+-- the first fault is what it was, or this one if there was none. The other counts never change.
 pub record MayFailReading {T E : Type 0} (old new : Counts) (result : Result T E) : Type 0 where
   pub ok : OnOk result (new ≡ old)
   pub err : OnErr result (Rose old.reads new.reads)

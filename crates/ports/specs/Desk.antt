@@ -1,5 +1,6 @@
 -- What a desk means, and what its calls do.
-use Rattle.std.specs.Prelude.{◌≡◌, ◌≢◌, ◌⊎◌, ◌↔◌, ℕ, ◌+◌, ◌<◌, ◌==◌, Bool, false, List, [], ◌∷◌, ◌++◌, length, take, drop}
+use Rattle.std.specs.Prelude.{◌≡◌, ◌≢◌, ◌⊎◌, ◌↔◌, ℕ, ◌+◌, ◌<◌, ◌==◌, Bool, false, List, [], ◌∷◌, ◌++◌, length, take}
+use Rattle.std.specs.Prelude.{drop}
 use Rattle.std.specs.Prelude.{slice_index, slice_index_or, slice_set, unwrap_or, None, Some, IsSome, IfSome, option_map}
 use Rattle.std.specs.Prelude.{option_and_then}
 use Rattle.std.specs.declared.option.Option.{Option}
@@ -13,15 +14,16 @@ use Rattle.ports.specs.Counts.{FailsAtLast}
 abbrev pub Files : Type 0
 Files = FinMap (slice_cmp nat_cmp) (List ℕ)
 
--- the files, the name of each handle for reading in order of opening, and of each handle for writing in order of creating
+-- the files, the name of each handle for reading in order of opening, and of each handle for writing in order of
+-- creating
 pub record Held : Type 0 where
   pub files : Files
   pub names : List (List ℕ)
   pub outs : List (List ℕ)
 
--- What a desk means: what it holds and which texts were said, one for each call, if it tells; the place of each handle for
--- reading in order of opening, and whether its last read gave no byte, which is the end; the number of handles for writing; and
--- how often its calls failed, and which first.
+-- What a desk means: what it holds and which texts were said, one for each call, if it tells; the place of each handle
+-- for reading in order of opening, and whether its last read gave no byte, which is the end; the number of handles for
+-- writing; and how often its calls failed, and which first.
 pub record State : Type 0 where
   pub held : Option Held
   pub said : Option (List (List ℕ))
@@ -93,7 +95,8 @@ pub record Opens (old new : State) (name : List ℕ) (handle : ℕ) : Type 0 whe
   pub fresh : has_run_out new handle ≡ false
   pub others : (other : ℕ) → other < length old.opened → left_of new other ≡ left_of old other
 
--- The first n bytes of the buffer are the next ones of a handle's file, and n is 0 exactly at its end: then the handle has ended.
+-- The first n bytes of the buffer are the next ones of a handle's file, and n is 0 exactly at its end: then the handle
+-- has ended.
 pub record Reads (old new : State) (handle n : ℕ) (buffer : List ℕ) : Type 0 where
   pub held : new.held ≡ old.held
   pub said : new.said ≡ old.said
@@ -139,7 +142,10 @@ pub record FailsToCreate (old new : State) (name : List ℕ) : Type 0 where
 
 -- with bytes behind those of the file of a handle for writing
 abbrev pub with_bytes : ℕ → List ℕ → Held → Held
-with_bytes out bytes h = record h { files = insert h.files (out_name h out) (bytes_of h.files (out_name h out) ++ bytes) }
+with_bytes out bytes h = record h {
+  files = insert h.files (out_name h out) (bytes_of h.files (out_name h out)
+      ++ bytes);
+}
 
 -- The bytes were written behind those of the handle's file.
 pub record Writes (old new : State) (out : ℕ) (bytes : List ℕ) : Type 0 where

@@ -1,5 +1,6 @@
 -- A desk in memory: at its start, with a file set, after a call, and what its reads gave.
-use Rattle.std.specs.Prelude.{◌≡◌, ℕ, ◌+◌, ◌-◌, ◌^◌, List, [], ◌∷◌, Some, IfSome, slice_index_or, option_map, if◌then◌else◌}
+use Rattle.std.specs.Prelude.{◌≡◌, ℕ, ◌+◌, ◌-◌, ◌^◌, List, [], ◌∷◌, Some, IfSome, slice_index_or, option_map}
+use Rattle.std.specs.Prelude.{if◌then◌else◌}
 use Rattle.std.specs.declared.option.Option.{Option}
 use Rattle.std.specs.Str.{bytes_eq}
 use Rattle.std.specs.FinMap.{empty, insert}
@@ -10,14 +11,15 @@ use Rattle.ports.specs.Desk.{Held, State}
 use Rattle.ports.specs.Faults.{with_read_fault, with_write_fault, with_line_fault}
 use Rattle.ports.specs.Script.{no_script, one_call_of, listed_at}
 
--- what a desk in memory means, how many bytes a read or a write moves at most, and how many calls of each kind there were and
--- which of them fail
+-- what a desk in memory means, how many bytes a read or a write moves at most, and how many calls of each kind there
+-- were and which of them fail
 pub record Memory : Type 0 where
   pub state : State
   pub cap : ℕ
   pub script : Script
 
--- a desk with no file, on which nothing was done, which moves as many bytes as there are, and of which no call is to fail
+-- a desk with no file, on which nothing was done, which moves as many bytes as there are, and of which no call is to
+-- fail
 abbrev pub empty_memory : Memory
 empty_memory = record {
   state = record {
@@ -57,7 +59,8 @@ fails_writing m = record m { state = with_write_fault m.state }
 abbrev pub fails_at_last : Memory → Memory
 fails_at_last m = record m { state = with_line_fault m.state }
 
--- how many bytes the reads of a file gave: the places of its handles together, since each began at the start of the file
+-- how many bytes the reads of a file gave: the places of its handles together, since each began at the start of the
+-- file
 abbrev pub given_by : List ℕ → List (List ℕ) → List ℕ → ℕ
 given_by name (other ∷ names) (place ∷ places) = (if bytes_eq other name then place else 0) + given_by name names places
 given_by name _ _ = 0

@@ -66,7 +66,14 @@ abbrev script_code : Coded Script
 script_code = code_by six_calls
     (coded× calls_code (coded× calls_code (coded× calls_code (coded× calls_code (coded× calls_code calls_code)))))
     (λ s. (s.opens, (s.creates, (s.reads, (s.writes, (s.says, s.lasts))))))
-    (λ p. record { opens = p.0; creates = p.1.0; reads = p.1.1.0; writes = p.1.1.1.0; says = p.1.1.1.1.0; lasts = p.1.1.1.1.1 })
+    (λ p. record {
+      opens = p.0;
+      creates = p.1.0;
+      reads = p.1.1.0;
+      writes = p.1.1.1.0;
+      says = p.1.1.1.1.0;
+      lasts = p.1.1.1.1.1;
+    })
     (λ _. refl)
 
 -- a desk in memory is stored as the tuple of its fields

@@ -2,8 +2,8 @@
 
 use crate::FaultKind;
 
-/// How often calls of a desk failed, by their kinds, and of which kind the first fault was. Each count stays at its greatest
-/// value.
+/// How often calls of a desk failed, by their kinds, and of which kind the first fault was. Each count stays at its
+/// greatest value.
 #[derive(Clone, Copy, Debug, Default, PartialEq, Eq)]
 pub struct Counts {
     /// Opening and reading.

@@ -1,14 +1,16 @@
 // The outside of a command.
 ghost use Rattle.std.specs.Prelude.{◌≡◌, ◌<◌, ◌≤◌, false, length, take, IfOk, OnOk, OnErr};
 ghost use Rattle.ports.specs.Counts.{MayFailReading, MayFailWriting, MayFailAtLast};
-ghost use Rattle.ports.specs.Desk.{State, Keeps, Opens, Creates, FailsToCreate, Reads, Writes, Says, SaysLast, has_run_out};
+ghost use Rattle.ports.specs.Desk.{State, Keeps, Opens, Creates, FailsToCreate, Reads, Writes, Says, SaysLast};
+ghost use Rattle.ports.specs.Desk.{has_run_out};
 
 use crate::{DeskFault, Note};
 
 /// The outside of a command: named files, and standard output.
 ///
-/// After a fault all is as before but the count of its kind, and the kind of the first fault if there was none before, of which
-/// `Counts` tells. Of a file that could not be created nothing is known then. A call that is Ok changes neither.
+/// After a fault all is as before but the count of its kind, and the kind of the first fault if there was none before,
+/// of which `Counts` tells. Of a file that could not be created nothing is known then. A call that is Ok changes
+/// neither.
 pub trait Desk {
     /// What the desk holds and which texts were said, if it tells; the place of each handle for reading and whether it
     /// ended, and the number of those for writing; its counts of faults.

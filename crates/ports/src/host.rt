@@ -1,5 +1,6 @@
 // A desk over real files and standard output.
-ghost use Rattle.std.specs.Prelude.{◌≡◌, ◌⊎◌, ◌<◌, ◌≤◌, ◌+◌, ◌^◌, ◌==◌, false, length, IfOk, OnOk, OnErr, IsErr, IsSome};
+ghost use Rattle.std.specs.Prelude.{◌≡◌, ◌⊎◌, ◌<◌, ◌≤◌, ◌+◌, ◌^◌, ◌==◌, false, length, IfOk, OnOk, OnErr, IsErr};
+ghost use Rattle.std.specs.Prelude.{IsSome};
 ghost use Rattle.ports.specs.Counts.{with_fault};
 
 use crate::fault::fault;
@@ -20,8 +21,8 @@ struct Node {
     number: u64,
 }
 
-/// A file that was opened or created, under a name if there was memory for it; how many of its bytes were read, and whether the
-/// last read gave none.
+/// A file that was opened or created, under a name if there was memory for it; how many of its bytes were read, and
+/// whether the last read gave none.
 #[derive(Drop)]
 struct Handle<F> {
     file: F,
@@ -380,7 +381,8 @@ impl<R: Files + Print + Drop> Desk for HostDesk<R> {
     }
 
     fn say_last(&mut self, text: &[u8])
-        ensures said { (Says self.old self.new text.now × SameCounts self.old self.new) ⊎ (self.new ≡ with_line_fault self.old) }
+        ensures said { (Says self.old self.new text.now × SameCounts self.old self.new)
+            ⊎ (self.new ≡ with_line_fault self.old) }
         ensures counts { MayFailAtLast self.old.counts self.new.counts }
     {
         let _ = say(

@@ -1,5 +1,5 @@
-//! The outside of a command as the trait `Desk`, and its two kinds: one in memory, and one over real files; and the words of a
-//! command line.
+//! The outside of a command as the trait `Desk`, and its two kinds: one in memory, and one over real files; and the
+//! words of a command line.
 #![tactic(auto)]
 
 mod counts;

@@ -1,6 +1,8 @@
 // A desk in memory.
-ghost use Rattle.std.specs.Prelude.{◌≡◌, ◌⊎◌, min, option_map, ◌==◌, ◌<◌, ◌≤◌, ◌+◌, ◌-◌, ◌^◌, ◌++◌, ◌∷◌, ◌↔◌, [], length, map, vec_len};
-ghost use Rattle.std.specs.Prelude.{vec_capacity, take, drop, true, false, option_copied, IfSome, OnOk, OnErr, string_bytes};
+ghost use Rattle.std.specs.Prelude.{◌≡◌, ◌⊎◌, min, option_map, ◌==◌, ◌<◌, ◌≤◌, ◌+◌, ◌-◌, ◌^◌, ◌++◌, ◌∷◌, ◌↔◌, []};
+ghost use Rattle.std.specs.Prelude.{length, map, vec_len};
+ghost use Rattle.std.specs.Prelude.{vec_capacity, take, drop, true, false, option_copied, IfSome, OnOk, OnErr};
+ghost use Rattle.std.specs.Prelude.{string_bytes};
 ghost use Rattle.std.specs.FinMap.{get, insert};
 ghost use Rattle.std.specs.List.{concat};
 ghost use Rattle.ports.specs.Desk.{bytes_of};
@@ -261,8 +263,8 @@ impl MemoryDesk {
         self.cap = most;
     }
 
-    /// Lists a call to fail: the nth of its kind since the desk was made, counted from 1. Each call after number 2^64 - 1 counts
-    /// as that number; a number of a call that has been lists nothing.
+    /// Lists a call to fail: the nth of its kind since the desk was made, counted from 1. Each call after number 2^64 -
+    /// 1 counts as that number; a number of a call that has been lists nothing.
     pub fn fail(&mut self, kind: CallKind, nth: u64) -> Result<(), OutOfMemory>
         ensures ok { OnOk result (self.new ≡ with_failing kind nth self.old) }
         ensures err { OnErr result (self.new ≡ self.old) }
@@ -358,7 +360,8 @@ impl MemoryDesk {
 /// A call that was listed to fail is a fault, which does nothing but count.
 impl Desk for MemoryDesk {
     ghost use Rattle.std.specs.Prelude.{IsNone, IsErr, IfOk, OnOk, OnErr};
-    ghost use Rattle.ports.specs.Desk.{SameCounts, Opens, Creates, FailsToCreate, Reads, Writes, Says, file_of, has_run_out};
+    ghost use Rattle.ports.specs.Desk.{SameCounts, Opens, Creates, FailsToCreate, Reads, Writes, Says, file_of};
+    ghost use Rattle.ports.specs.Desk.{has_run_out};
     ghost use Rattle.ports.specs.Counts.{MayFailReading, MayFailWriting, MayFailAtLast};
     ghost use Rattle.ports.specs.MemoryDesk.{Gives, after_call, fails_reading, fails_writing, fails_at_last};
     ghost use Rattle.ports.specs.Script.{Strikes};
@@ -404,7 +407,8 @@ impl Desk for MemoryDesk {
         Ok(self.handles[handle as usize].read(&self.files, buffer, most))
     }
 
-    /// Beside a listed call and want of memory, the handle after 2^32 - 1 others is a fault. After a fault the file is as it was.
+    /// Beside a listed call and want of memory, the handle after 2^32 - 1 others is a fault. After a fault the file is
+    /// as it was.
     #[tactic(auto, using(crate::proofs::FaultLemmas::fails))]
     fn create(&mut self, name: &str) -> Result<u32, DeskFault>
         ensures ok { IfOk result (Creates self.old.state self.new.state name.now) }
@@ -462,7 +466,8 @@ impl Desk for MemoryDesk {
     fn say_last(&mut self, text: &[u8])
         ensures said { (Says self.old.state self.new.state text.now × SameCounts self.old.state self.new.state)
             ⊎ (self.new ≡ fails_at_last (after_call CallKind.Last self.old)) }
-        ensures listed { Strikes CallKind.Last self.old.script → self.new ≡ fails_at_last (after_call CallKind.Last self.old) }
+        ensures listed { Strikes CallKind.Last self.old.script
+            → self.new ≡ fails_at_last (after_call CallKind.Last self.old) }
         ensures counts { MayFailAtLast self.old.state.counts self.new.state.counts }
         ensures rest { self.new ≡ record (after_call CallKind.Last self.old) { state = self.new.state } }
     {

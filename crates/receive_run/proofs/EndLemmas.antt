@@ -1,6 +1,8 @@
 -- A file has an ending.
-use Rattle.std.proofs.Common.{◌≡◌, ◌≢◌, ◌⊎◌, ℕ, zero, suc, ◌+◌, ◌/◌, ◌%◌, ◌^◌, ◌<◌, ◌≤◌, ◌==◌, Bool, true, false, inl, inr, List}
-use Rattle.std.proofs.Common.{[], ◌∷◌, ◌++◌, length, drop, Option, Some, None, refl, ap, sym, subst, ◌∙◌, arith, append_assoc}
+use Rattle.std.proofs.Common.{◌≡◌, ◌≢◌, ◌⊎◌, ℕ, zero, suc, ◌+◌, ◌/◌, ◌%◌, ◌^◌, ◌<◌, ◌≤◌, ◌==◌, Bool, true, false, inl}
+use Rattle.std.proofs.Common.{inr, List}
+use Rattle.std.proofs.Common.{[], ◌∷◌, ◌++◌, length, drop, Option, Some, None, refl, ap, sym, subst, ◌∙◌, arith}
+use Rattle.std.proofs.Common.{append_assoc}
 use Rattle.std.proofs.Common.{length-append, length-drop, eqb-true}
 use Rattle.std.specs.Prelude.{nat_lt, bit_xor, Result, Ok, Err, if◌then◌else◌}
 use Rattle.std.specs.List.{AllZip, range_with_len, concat}
@@ -35,7 +37,8 @@ use Rattle.common_plp.specs.Laws.{InStep}
 use Rattle.common_plp.specs.Split.{joined}
 use Rattle.plp_receiver.specs.JoinedBack.{MayJoin, JoinedBackWith}
 use Rattle.plp_receiver.proofs.LengthLemmas.{same_length}
-use Rattle.plp_receiver.specs.Epochs.{epoch_parts, cells_stand, place_of, Tells, epochs_in, TellAll, slot_rule, Readback}
+use Rattle.plp_receiver.specs.Epochs.{epoch_parts, cells_stand, place_of, Tells, epochs_in, TellAll, slot_rule}
+use Rattle.plp_receiver.specs.Epochs.{Readback}
 use Rattle.plp_receiver.specs.Parts.{Part, count_of}
 use Rattle.plp_receiver.specs.Taken.{IsOfStream, block_read, IsTaken, IsGiven, bytes_at}
 use Rattle.receive_run.specs.JoinedLaws.{MustRun, RunEnds}
@@ -70,7 +73,8 @@ decide_stream deletes m =
     go (decide_three (decide_equal (m / 2 ^ 6) 3) (decide_equal (m / 2 ^ 3 % 2) 1)
     (decide_equal (m / 2 ^ 2 % 2) (if deletes then 1 else 0)))
   where
-    go : Dec ((m / 2 ^ 6 ≡ 3) × (m / 2 ^ 3 % 2 ≡ 1) × (m / 2 ^ 2 % 2 ≡ (if deletes then 1 else 0))) → Dec (IsOfStream deletes m)
+    go : Dec ((m / 2 ^ 6 ≡ 3) × (m / 2 ^ 3 % 2 ≡ 1) × (m / 2 ^ 2 % 2 ≡ (if deletes then 1 else 0)))
+        → Dec (IsOfStream deletes m)
     go (yes h) = yes (record { stream = h.0; issyi = h.1; npd = h.2 })
     go (no f) = no (λ s. f (s.stream, s.issyi, s.npd))
 
@@ -78,7 +82,8 @@ decide_stream deletes m =
 taken_there : bb.SpelledOrRefused → bb.NoRefusal → bb.BitCounts → (deletes : Bool) (bits : List Bool)
     → ((b : Block) × IsTaken deletes bits b) ⊎ ((b : Block) → ¬ (IsTaken deletes bits b))
 taken_there decides never counts deletes bits =
-    bool_cases (nat_lt (length bits) 80) (λ less. inr (λ b t. short (ltb-true (length bits) 80 less) t.header t.body t.spelled))
+    bool_cases (nat_lt (length bits) 80) (λ less. inr (λ b t. short (ltb-true (length bits) 80 less)
+    t.header t.body t.spelled))
     (λ not. long (decides bits (ltb-false (length bits) 80 not)))
   where
     short : length bits < 80 → (h : Header) (body : List Bool) → Spells h body bits → ⊥
@@ -92,27 +97,42 @@ taken_there decides never counts deletes bits =
     spelled : (h : Header) (body : List Bool) → Spells h body bits → Dec (IsOfStream deletes h.matype1)
         → ((b : Block) × IsTaken deletes bits b) ⊎ ((b : Block) → ¬ (IsTaken deletes bits b))
     spelled h body s (yes stream) =
-        inl (block_read h (bytes_of body), record { header = h; body = body; spelled = s; stream = stream; block = refl })
+        inl (
+          block_read h (bytes_of body),
+          record {
+            header = h;
+            body = body;
+            spelled = s;
+            stream = stream;
+            block = refl;
+          },
+        )
     spelled h body s (no f) =
         inr (λ b t.
-        f (subst (IsOfStream deletes) (sym (first_byte t.header t.body bits t.spelled) ∙ first_byte h body bits s) t.stream))
+        f (subst (IsOfStream deletes) (sym (first_byte t.header t.body bits t.spelled) ∙ first_byte h body bits s)
+        t.stream))
 
-    long : ((h : Header) × ((body : List Bool) × Spells h body bits)) ⊎ ((fault : BbFault) × baseband.Refuses bits fault)
+    long : ((h : Header) × ((body : List Bool) × Spells h body bits))
+        ⊎ ((fault : BbFault) × baseband.Refuses bits fault)
         → ((b : Block) × IsTaken deletes bits b) ⊎ ((b : Block) → ¬ (IsTaken deletes bits b))
     long (inl (h, (body, s))) = spelled h body s (decide_stream deletes h.matype1)
     long (inr (fault, r)) = inr (λ b t. never t.header t.body bits fault t.spelled r)
 
-given_there : bb.SpelledOrRefused → bb.NoRefusal → bb.BitCounts → (deletes stands : Bool) (bytes : List ℕ) → (b : Option Block)
+given_there : bb.SpelledOrRefused → bb.NoRefusal → bb.BitCounts → (deletes stands : Bool) (bytes : List ℕ)
+    → (b : Option Block)
     × IsGiven deletes stands bytes b
 given_there decides never counts deletes false bytes = (None, refl)
-given_there decides never counts deletes true bytes = go (taken_there decides never counts deletes (scrambled (bits_of bytes)))
+given_there decides never counts deletes true bytes = go (taken_there decides never counts deletes
+    (scrambled (bits_of bytes)))
   where
     go : ((b : Block) × IsTaken deletes (scrambled (bits_of bytes)) b)
-        ⊎ ((b : Block) → ¬ (IsTaken deletes (scrambled (bits_of bytes)) b)) → (b : Option Block) × IsGiven deletes true bytes b
+        ⊎ ((b : Block) → ¬ (IsTaken deletes (scrambled (bits_of bytes)) b)) → (b : Option Block)
+        × IsGiven deletes true bytes b
     go (inl t) = (Some t.0, t.1)
     go (inr f) = (None, f)
 
-zip_there : {A B : Type 0} (R : A → B → Type 0) → ((x : A) → (y : B) × R x y) → (xs : List A) → (ys : List B) × AllZip R xs ys
+zip_there : {A B : Type 0} (R : A → B → Type 0) → ((x : A) → (y : B) × R x y) → (xs : List A) → (ys : List B)
+    × AllZip R xs ys
 zip_there R each [] = ([], tt)
 zip_there R each (x ∷ xs) = let here = each x in let rest = zip_there R each xs in (here.0 ∷ rest.0, (here.1, rest.1))
 
@@ -154,7 +174,8 @@ record Knows : Type 0 where
   counts : bb.BitCounts
   step : InStep
 
-joined_there : Knows → (joins : Option ℕ) (c : Config) (plp first : ℕ) (views : List RecordView) → AllRules c → plp < length c.plps
+joined_there : Knows → (joins : Option ℕ) (c : Config) (plp first : ℕ) (views : List RecordView) → AllRules c
+    → plp < length c.plps
     → MayJoin c plp joins → (packets : List (List ℕ)) × JoinedBackWith joins c plp first views packets
 joined_there k None c plp first views rules inside may = read_there k.decides k.never k.counts c plp first views
 joined_there k (Some common) c plp first views rules inside may =
@@ -166,15 +187,18 @@ joined_there k (Some common) c plp first views rules inside may =
         back_shared = shared.1;
         own = own.0;
         back_own = own.1;
-        same_slots = same_length k.step c plp common rules inside (may common refl) first views shared.0 own.0 shared.1 own.1;
+        same_slots = same_length k.step c plp common rules inside (may common refl) first views shared.0
+            own.0 shared.1 own.1;
         packets_are = refl;
       },
     )
 
-back_there : Knows → (joins : Option ℕ) (c : Config) (plp first : ℕ) (views : List RecordView) → AllRules c → plp < length c.plps
+back_there : Knows → (joins : Option ℕ) (c : Config) (plp first : ℕ) (views : List RecordView) → AllRules c
+    → plp < length c.plps
     → MayJoin c plp joins → (packets : List (List ℕ)) × GivesBack joins c plp first views packets
 back_there k joins c plp first [] rules inside may = ([], refl)
-back_there k joins c plp first (v ∷ views) rules inside may = joined_there k joins c plp first (v ∷ views) rules inside may
+back_there k joins c plp first (v ∷ views) rules inside may = joined_there k joins c plp first (v ∷ views)
+    rules inside may
 
 -- ---- the frame of a moment
 
@@ -218,7 +242,8 @@ record Tail (c : Config) (n : ℕ) (file : List ℕ) : Type 0 where
 abbrev Reads : List ℕ → Type 0
 Reads bytes = ((view : RecordView) × ((len : ℕ) × BeginsWith bytes view len)) ⊎ ((why : RecordWhy) × Refuses bytes why)
 
-stops_here : (c : Config) (n : ℕ) (file : List ℕ) (why : RecordWhy) → n ≤ MOST_FRAMES → RefusesNext c (Some (n + 0)) file why
+stops_here : (c : Config) (n : ℕ) (file : List ℕ) (why : RecordWhy) → n ≤ MOST_FRAMES
+    → RefusesNext c (Some (n + 0)) file why
     → Tail c n file
 stops_here c n file why few r =
     record { views = []; rest = file; records = refl; successive = successive_none c n few; stuck = inr (why, r) }
@@ -234,7 +259,8 @@ goes_on c n file view len f begins t = record {
       (let e : n + 1 + length t.views ≡ n + suc (length t.views) = omega arith in e) t.stuck;
 }
 
-tail : SpelledOrRefused → (c : Config) (fuel n : ℕ) (file : List ℕ) → n ≤ MOST_FRAMES → AreBytes file → length file ≤ fuel
+tail : SpelledOrRefused → (c : Config) (fuel n : ℕ) (file : List ℕ) → n ≤ MOST_FRAMES → AreBytes file
+    → length file ≤ fuel
     → Tail c n file
 tail decides c fuel n [] few bytes enough =
     record { views = []; rest = []; records = refl; successive = successive_none c n few; stuck = inl refl }
@@ -242,7 +268,8 @@ tail decides c zero n (x ∷ file) few bytes enough = absurd (omega (arith, enou
 tail decides c (suc fuel) n (x ∷ file) few bytes enough = go (tail decides c fuel) (decides (x ∷ file) bytes)
   where
     placed : ((n : ℕ) (file : List ℕ) → n ≤ MOST_FRAMES → AreBytes file → length file ≤ fuel → Tail c n file)
-        → (view : RecordView) (len : ℕ) → BeginsWith (x ∷ file) view len → (frame : ℕ) → IsFrameOf c (moment_of view) frame
+        → (view : RecordView) (len : ℕ) → BeginsWith (x ∷ file) view len → (frame : ℕ)
+        → IsFrameOf c (moment_of view) frame
         → Dec (n ≡ frame) → Tail c n (x ∷ file)
     placed before view len b frame f (yes same) =
         let here : IsFrameOf c (moment_of view) n = subst (IsFrameOf c (moment_of view)) (sym same) f in
@@ -262,7 +289,8 @@ tail decides c (suc fuel) n (x ∷ file) few bytes enough = go (tail decides c f
     found before view len b (inl f) = placed before view len b f.0 f.1 (decide_equal n f.0)
     found before view len b (inr off) = stops_here c n (x ∷ file) why.OffGrid few (inr (view, len, b, off))
 
-    go : ((n : ℕ) (file : List ℕ) → n ≤ MOST_FRAMES → AreBytes file → length file ≤ fuel → Tail c n file) → Reads (x ∷ file)
+    go : ((n : ℕ) (file : List ℕ) → n ≤ MOST_FRAMES → AreBytes file → length file ≤ fuel → Tail c n file)
+        → Reads (x ∷ file)
         → Tail c n (x ∷ file)
     go before (inl (view, (len, b))) = found before view len b (frame_there c (moment_of view))
     go before (inr (w, r)) = stops_here c n (x ∷ file) w few (inl (some_left x file, r))
@@ -285,7 +313,8 @@ received_there k joins c plp first views p a =
     (concat b.0, record { first = first; successive = a; packets = b.0; back = b.1; bytes_are = refl }, refl)
 
 -- behind records there is nothing
-ends_well : Knows → (joins : Option ℕ) (c : Config) (plp first : ℕ) (file : List ℕ) (views : List RecordView) → IsPlp joins c plp
+ends_well : Knows → (joins : Option ℕ) (c : Config) (plp first : ℕ) (file : List ℕ) (views : List RecordView)
+    → IsPlp joins c plp
     → AreRecords file views [] → IsOnGrid c first views → Ends joins c plp file
 ends_well k joins c plp first file views p records a =
     let r = received_there k joins c plp first views p a in (
@@ -294,7 +323,8 @@ ends_well k joins c plp first file views p records a =
     )
 
 -- or what is refused
-ends_refused : Knows → (joins : Option ℕ) (c : Config) (plp first : ℕ) (file rest : List ℕ) (views : List RecordView) (why : RecordWhy)
+ends_refused : Knows → (joins : Option ℕ) (c : Config) (plp first : ℕ) (file rest : List ℕ) (views : List RecordView)
+    (why : RecordWhy)
     → IsPlp joins c plp → AreRecords file views rest → IsOnGrid c first views
     → RefusesNext c (expected_after first views) rest why → Ends joins c plp file
 ends_refused k joins c plp first file rest views why p records a refused =
@@ -313,7 +343,8 @@ ends_refused k joins c plp first file rest views why p records a refused =
       ),
     )
 
-ends_file : SpelledOrRefused → Knows → (joins : Option ℕ) (c : Config) (plp : ℕ) (file : List ℕ) → IsPlp joins c plp → AreBytes file
+ends_file : SpelledOrRefused → Knows → (joins : Option ℕ) (c : Config) (plp : ℕ) (file : List ℕ) → IsPlp joins c plp
+    → AreBytes file
     → Ends joins c plp file
 ends_file reads k joins c plp [] p bytes = ends_well k joins c plp 0 [] [] p refl (successive_none c 0 (omega arith))
 ends_file reads k joins c plp (x ∷ file) p bytes = go (reads (x ∷ file) bytes)
@@ -321,7 +352,8 @@ ends_file reads k joins c plp (x ∷ file) p bytes = go (reads (x ∷ file) byte
     none : IsOnGrid c 0 []
     none = successive_none c 0 (omega arith)
 
-    first_whole : (first : ℕ) (view : RecordView) (len : ℕ) → BeginsWith (x ∷ file) view len → IsFrameOf c (moment_of view) first
+    first_whole : (first : ℕ) (view : RecordView) (len : ℕ) → BeginsWith (x ∷ file) view len
+        → IsFrameOf c (moment_of view) first
         → (t : Tail c (first + 1) (drop len (x ∷ file))) → (t.rest ≡ [])
         ⊎ ((why : RecordWhy) × RefusesNext c (Some (first + 1 + length t.views)) t.rest why)
         → Ends joins c plp (x ∷ file)
@@ -332,7 +364,8 @@ ends_file reads k joins c plp (x ∷ file) p bytes = go (reads (x ∷ file) byte
     first_whole first view len b f t (inr (w, r)) =
         ends_refused k joins c plp first (x ∷ file) t.rest (view ∷ t.views) w p (len, b, t.records)
         (successive_join c first view t.views f t.successive)
-        (subst (λ (k : ℕ). RefusesNext c (Some k) t.rest w) (let e : first + 1 + length t.views ≡ first + suc (length t.views) =
+        (subst (λ (k : ℕ). RefusesNext c (Some k) t.rest w) (let e : first + 1 + length t.views ≡ first + suc
+        (length t.views) =
         omega arith in e) r)
 
     found : (view : RecordView) (len : ℕ) → BeginsWith (x ∷ file) view len → ((n : ℕ) × IsFrameOf c (moment_of view) n)

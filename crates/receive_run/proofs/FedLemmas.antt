@@ -38,7 +38,8 @@ fed_some law start m n events input count piece wanted same misplaced seen takes
     let feed = fed_stands law m.feed n.feed s.views events piece s.feed takes in
     subst (λ (k : ℕ). Becomes start (events ++ Fed k piece ∷ []) n) (sym w.only) (record {
       same = same_plp start m n same b.same;
-      shown = same_shown (joins_of start.receiver) (network_of start.receiver) (plp_of start.receiver) m n events now s w.idle same
+      shown = same_shown (joins_of start.receiver) (network_of start.receiver) (plp_of start.receiver)
+          m n events now s w.idle same
           (law.fed 0 piece events).gave feed
           (judged_none (network_of start.receiver) (expected_after s.first s.views) n (coming_of n.feed) feed.rest
           (misplaced ∙ w.none) seen);
@@ -46,7 +47,8 @@ fed_some law start m n events input count piece wanted same misplaced seen takes
 
 -- a record is whole, and was looked at
 pub fed_whole : EventsTell → JoinedFront → (start m mid n : ReceiverMachine) (events : List Event) (input count : ℕ)
-    (piece : List ℕ) → KnownPlan (joins_of m.receiver) (network_of m.receiver) (plp_of m.receiver) → Suffices (next_of m) input count → SameTaken m mid
+    (piece : List ℕ) → KnownPlan (joins_of m.receiver) (network_of m.receiver) (plp_of m.receiver)
+    → Suffices (next_of m) input count → SameTaken m mid
     → mid.misplaced ≡ m.misplaced → coming_of mid.feed ≡ Whole → Takes m.feed mid.feed piece → IsLookedAt mid n
     → Becomes start events m → Becomes start (events ++ Fed input piece ∷ []) n
 fed_whole law front start m mid n events input count piece known wanted same misplaced whole takes looked b =
@@ -84,7 +86,8 @@ ended law start m n events input bytes wanted same misplaced seen stands b =
     (stands s.views (fed 0 events) (has_ended 0 events) s.feed)) in
     subst (λ (k : ℕ). Becomes start (events ++ Ended k bytes ∷ []) n) (sym w.0.only) (record {
       same = same_plp start m n same b.same;
-      shown = same_shown (joins_of start.receiver) (network_of start.receiver) (plp_of start.receiver) m n events now s w.0.idle same more.gave feed
+      shown = same_shown (joins_of start.receiver) (network_of start.receiver) (plp_of start.receiver)
+          m n events now s w.0.idle same more.gave feed
           (judged_none (network_of start.receiver) (expected_after s.first s.views) n (coming_of n.feed) feed.rest
           (misplaced ∙ w.0.none) seen);
     })

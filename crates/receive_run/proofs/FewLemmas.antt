@@ -41,7 +41,8 @@ few_packets frame times c plp first views packets rules inside small b =
     omega (arith, count, few, span)
 
 -- so it is of a PLP with which another is joined
-pub few_joined : JoinedSlots → FrameTicks → SoundTimes → (joins : Option ℕ) (c : Config) (plp first : ℕ) (views : List RecordView)
+pub few_joined : JoinedSlots → FrameTicks → SoundTimes → (joins : Option ℕ) (c : Config) (plp first : ℕ)
+    (views : List RecordView)
     (packets : List (List ℕ)) → AllRules c → plp < length c.plps → first + length views ≤ MOST_FRAMES
     → JoinedBackWith joins c plp first views packets → length packets < 2 ^ 64
 few_joined slots frame times None c plp first views packets rules inside small b =

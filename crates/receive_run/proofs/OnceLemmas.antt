@@ -1,5 +1,6 @@
 -- A file has one ending at most.
-use Rattle.std.proofs.Common.{◌≡◌, ℕ, ◌+◌, List, [], ◌∷◌, length, take, drop, Option, Some, refl, ap, ap₂, sym, subst, ◌∙◌, inl}
+use Rattle.std.proofs.Common.{◌≡◌, ℕ, ◌+◌, List, [], ◌∷◌, length, take, drop, Option, Some, refl, ap, ap₂, sym, subst}
+use Rattle.std.proofs.Common.{◌∙◌, inl}
 use Rattle.std.proofs.Common.{inr, append-nil}
 use Rattle.std.specs.List.{concat}
 use Rattle.std.specs.Prelude.{◌⊎◌, Result, Ok, Err}
@@ -24,17 +25,20 @@ use Rattle.receive_run.specs.declared.stop.Ran.{Ran}
 use Rattle.receive_run.specs.declared.stop.ReceiveStop.{ReceiveStop}
 use Rattle.receive_run.specs.declared.stop.ReceiveStop.TheVariants.{RecordRefused}
 use Rattle.site_frame.proofs.RecordSplitLemmas.{same_front}
-use Rattle.receive_run.proofs.SameLemmas.{GoesOn, begins_nothing, comparable, same_first, next_not_refused, nothing_not_refused}
+use Rattle.receive_run.proofs.SameLemmas.{GoesOn, begins_nothing, comparable, same_first, next_not_refused}
+use Rattle.receive_run.proofs.SameLemmas.{nothing_not_refused}
 
 -- ---- what records give back
 
 abbrev ran_with : ℕ → ℕ → Ran
 ran_with first slots = record { first = first; slots = slots }
 
-same_ran : JoinedOnce → OneFrame → (joins : Option ℕ) (c : Config) (plp : ℕ) → AllRules c → (views : List RecordView) (bytes other : List ℕ)
+same_ran : JoinedOnce → OneFrame → (joins : Option ℕ) (c : Config) (plp : ℕ) → AllRules c
+    → (views : List RecordView) (bytes other : List ℕ)
     (a : Received joins c plp views bytes) (b : Received joins c plp views other)
     → ran_of c plp a.first views a.packets ≡ ran_of c plp b.first views b.packets
-same_ran once frame joins c plp rules [] bytes other a b = ap (λ (l : List (List ℕ)). ran_with 0 (length l)) (a.back ∙ sym b.back)
+same_ran once frame joins c plp rules [] bytes other a b = ap (λ (l : List (List ℕ)). ran_with 0 (length l)) (a.back
+    ∙ sym b.back)
 same_ran once frame joins c plp rules (w ∷ ws) bytes other a b =
     let first = same_first frame c rules a.first b.first w ws ws a.successive b.successive in
     let packets =
@@ -52,13 +56,15 @@ same_rans once frame joins c plp rules views others bytes other e a =
 
 -- ---- why a record is refused
 
-same_expected : OneFrame → (c : Config) → AllRules c → (views : List RecordView) (first second : ℕ) → IsOnGrid c first views
+same_expected : OneFrame → (c : Config) → AllRules c → (views : List RecordView) (first second : ℕ)
+    → IsOnGrid c first views
     → IsOnGrid c second views → expected_after first views ≡ expected_after second views
 same_expected frame c rules [] first second a b = refl
 same_expected frame c rules (w ∷ ws) first second a b =
     ap (λ (n : ℕ). Some (n + length (w ∷ ws))) (same_first frame c rules first second w ws ws a b)
 
-place_once : (c : Config) (expected : Option ℕ) (moment : Moment) (why other : RecordWhy) → RefusesPlace c expected moment why
+place_once : (c : Config) (expected : Option ℕ) (moment : Moment) (why other : RecordWhy)
+    → RefusesPlace c expected moment why
     → RefusesPlace c expected moment other → why ≡ other
 place_once c expected moment why.Head other a b = absurd a
 place_once c expected moment why.Kind other a b = absurd a
@@ -74,7 +80,8 @@ place_once c expected moment why.OffGrid why.Length a b = absurd b
 place_once c expected moment why.OffGrid why.Order a b = absurd (a b.frame b.of.small b.of.emission-is)
 place_once c expected moment why.OffGrid why.OffGrid a b = refl
 
-refused_once : OneRecord → NoRefusal → OneRefusal → (c : Config) (expected : Option ℕ) (bytes : List ℕ) (why other : RecordWhy)
+refused_once : OneRecord → NoRefusal → OneRefusal → (c : Config) (expected : Option ℕ) (bytes : List ℕ)
+    (why other : RecordWhy)
     → RefusesNext c expected bytes why → RefusesNext c expected bytes other → why ≡ other
 refused_once one never refusal c expected bytes why other (inl a) (inl b) = refusal bytes why other a.1 b.1
 refused_once one never refusal c expected bytes why other (inl a) (inr p) =
@@ -90,7 +97,8 @@ refused_once one never refusal c expected bytes why other (inr p) (inr q) =
 
 -- ---- two endings
 
-all_once : OneRecord → (file : List ℕ) (vs ws : List RecordView) → AreRecords file vs [] → AreRecords file ws [] → vs ≡ ws
+all_once : OneRecord → (file : List ℕ) (vs ws : List RecordView) → AreRecords file vs [] → AreRecords file ws []
+    → vs ≡ ws
 all_once one file vs ws h k = go (comparable one file [] [] vs ws h k)
   where
     go : GoesOn vs [] ws [] ⊎ GoesOn ws [] vs [] → vs ≡ ws
@@ -123,7 +131,8 @@ refused_as number why = Err (RecordRefused number why)
 
 -- two refusals behind the same records
 same_refused : OneRecord → NoRefusal → OneRefusal → OneFrame → (joins : Option ℕ) (c : Config) (plp : ℕ) → AllRules c
-    → (number count : ℕ) (why other : RecordWhy) (file bytes given : List ℕ) (a : HasBefore joins c plp number why file bytes)
+    → (number count : ℕ) (why other : RecordWhy) (file bytes given : List ℕ)
+    (a : HasBefore joins c plp number why file bytes)
     (b : HasBefore joins c plp count other file given)
     → a.views ≡ b.views → a.rest ≡ b.rest → refused_as number why ≡ refused_as count other
 same_refused one never refusal frame joins c plp rules number count why other file bytes given a b views rest =
@@ -139,7 +148,8 @@ same_refused one never refusal frame joins c plp rules number count why other fi
     (refused_once one never refusal c (expected_after b.received.first b.views) b.rest why other refused b.refused)
 
 before_once : OneRecord → NoRefusal → OneRefusal → OneFrame → (joins : Option ℕ) (c : Config) (plp : ℕ) → AllRules c
-    → (number count : ℕ) (why other : RecordWhy) (file bytes given : List ℕ) → HasBefore joins c plp number why file bytes
+    → (number count : ℕ) (why other : RecordWhy) (file bytes given : List ℕ)
+    → HasBefore joins c plp number why file bytes
     → HasBefore joins c plp count other file given
     → refused_as number why ≡ refused_as count other
 before_once one never refusal frame joins c plp rules number count why other file bytes given a b =
@@ -147,12 +157,14 @@ before_once one never refusal frame joins c plp rules number count why other fil
   where
     go : GoesOn a.views a.rest b.views b.rest ⊎ GoesOn b.views b.rest a.views a.rest → refused_as number why
         ≡ refused_as count other
-    go (inl ([], is, more)) = same_refused one never refusal frame joins c plp rules number count why other file bytes given a b
+    go (inl ([], is, more)) = same_refused one never refusal frame joins c plp rules number count why
+        other file bytes given a b
         (sym (is ∙ append-nil a.views)) more
     go (inl (o ∷ os, is, (len, begins, more))) =
         absurd (next_not_refused one never frame c rules a.received.first b.received.first a.views o os a.rest why len
         (subst (IsOnGrid c b.received.first) is b.received.successive) a.received.successive begins a.refused)
-    go (inr ([], is, more)) = same_refused one never refusal frame joins c plp rules number count why other file bytes given a b
+    go (inr ([], is, more)) = same_refused one never refusal frame joins c plp rules number count why
+        other file bytes given a b
         (is ∙ append-nil b.views) (sym more)
     go (inr (o ∷ os, is, (len, begins, more))) =
         absurd (next_not_refused one never frame c rules b.received.first a.received.first b.views o os b.rest other len
@@ -162,11 +174,14 @@ pub one_run : OneRecord → NoRefusal → OneRefusal → OneFrame → JoinedOnce
 one_run one never refusal frame once joins c plp file (Ok ran) (Ok other) plan (bytes, a) (given, b) =
     ap Ok (a.ran_is ∙ same_rans once frame joins c plp plan.rules a.views b.views bytes given
     (all_once one file a.views b.views a.records b.records) a.received b.received ∙ sym b.ran_is)
-one_run one never refusal frame once joins c plp file (Ok ran) (Err (RecordRefused number why)) plan (bytes, a) (given, b) =
+one_run one never refusal frame once joins c plp file (Ok ran) (Err (RecordRefused number why)) plan
+    (bytes, a) (given, b) =
     absurd (all_not_refused one never frame joins c plp plan.rules ran number why file bytes given a b)
-one_run one never refusal frame once joins c plp file (Err (RecordRefused number why)) (Ok ran) plan (bytes, a) (given, b) =
+one_run one never refusal frame once joins c plp file (Err (RecordRefused number why)) (Ok ran) plan
+    (bytes, a) (given, b) =
     absurd (all_not_refused one never frame joins c plp plan.rules ran number why file given bytes b a)
-one_run one never refusal frame once joins c plp file (Err (RecordRefused number why)) (Err (RecordRefused count other)) plan (bytes, a)
+one_run one never refusal frame once joins c plp file (Err (RecordRefused number why)) (Err (RecordRefused count other))
+    plan (bytes, a)
     (given, b) = before_once one never refusal frame joins c plp plan.rules number count why other file bytes given a b
 
 -- ---- one output
@@ -178,7 +193,8 @@ back_once : JoinedOnce → OneFrame → (joins : Option ℕ) (c : Config) (plp :
 back_once once frame joins c plp rules [] first second packets others a b g h = g ∙ sym h
 back_once once frame joins c plp rules (w ∷ ws) first second packets others a b g h =
     let same = same_first frame c rules first second w ws ws a b in
-    once joins c plp first (w ∷ ws) packets others g (subst (λ (n : ℕ). JoinedBackWith joins c plp n (w ∷ ws) others) (sym same) h)
+    once joins c plp first (w ∷ ws) packets others g (subst (λ (n : ℕ). JoinedBackWith joins c plp n (w ∷ ws) others)
+    (sym same) h)
 
 pub one_output : OneRecord → OneFrame → JoinedOnce → OneOutput
 one_output one frame once joins c plp file first views packets ran bytes plan records successive back a =

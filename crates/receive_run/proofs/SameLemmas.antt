@@ -1,6 +1,7 @@
--- Records of one file: of two lists with which it begins one is a front of the other, and records of successive frames are not
--- refused.
-use Rattle.std.proofs.Common.{◌≡◌, ℕ, suc, ◌+◌, ◌≤◌, List, [], ◌∷◌, ◌++◌, length, map, take, drop, Option, Some, None, refl, ap}
+-- Records of one file: of two lists with which it begins one is a front of the other, and records of successive frames
+-- are not refused.
+use Rattle.std.proofs.Common.{◌≡◌, ℕ, suc, ◌+◌, ◌≤◌, List, [], ◌∷◌, ◌++◌, length, map, take, drop, Option, Some, None}
+use Rattle.std.proofs.Common.{refl, ap}
 use Rattle.std.proofs.Common.{ap₂, sym, subst, ◌∙◌, inl, inr, ⊎_elim, arith, append-nil}
 use Rattle.std.specs.Prelude.{◌⊎◌}
 use Rattle.std.specs.List.{range_with_len}
@@ -43,20 +44,32 @@ GoesOn vs rest ws more = (others : List RecordView) × (ws ≡ vs ++ others) × 
 pub comparable : OneRecord → (file rest more : List ℕ) (vs ws : List RecordView) → AreRecords file vs rest
     → AreRecords file ws more → GoesOn vs rest ws more ⊎ GoesOn ws more vs rest
 comparable one file rest more [] ws h k = inl (ws, refl, subst (λ (l : List ℕ). AreRecords l ws more) h k)
-comparable one file rest more (v ∷ vs) [] h k = inr (v ∷ vs, refl, subst (λ (l : List ℕ). AreRecords l (v ∷ vs) rest) k h)
+comparable one file rest more (v ∷ vs) [] h k = inr (
+  v ∷ vs,
+  refl,
+  subst (λ (l : List ℕ). AreRecords l (v ∷ vs) rest)
+      k h,
+)
 comparable one file rest more (v ∷ vs) (w ∷ ws) (n, b, left) (m, d, right) =
     let same = same_front one file v w n m b d in
     ⊎_elim
-    (λ (g : GoesOn vs rest ws more). inl (g.0, ap₂ (λ (x : RecordView) (l : List RecordView). x ∷ l) (sym same.0) g.1, g.2))
+    (λ (g : GoesOn vs rest ws more). inl (
+      g.0,
+      ap₂ (λ (x : RecordView) (l : List RecordView). x ∷ l)
+          (sym same.0) g.1,
+      g.2,
+    ))
     (λ (g : GoesOn ws more vs rest). inr (g.0, ap₂ (λ (x : RecordView) (l : List RecordView). x ∷ l) same.0 g.1, g.2))
-    (comparable one (drop n file) rest more vs ws left (subst (λ (k : ℕ). AreRecords (drop k file) ws more) (sym same.1) right))
+    (comparable one (drop n file) rest more vs ws left (subst (λ (k : ℕ). AreRecords (drop k file) ws more)
+    (sym same.1) right))
 
 -- ---- successive frames
 
 pub successive_parts : (c : Config) (first : ℕ) (v : RecordView) (vs : List RecordView) → IsOnGrid c first (v ∷ vs)
     → IsFrameOf c (moment_of v) first × IsOnGrid c (first + 1) vs
 successive_parts c first v vs a =
-    let m : moment_of v ∷ map moment_of vs ≡ emission c first ∷ map (emission c) (range_with_len (first + 1) (length vs)) =
+    let m : moment_of v ∷ map moment_of vs ≡ emission c first ∷ map (emission c)
+    (range_with_len (first + 1) (length vs)) =
     a.moments in
     let here : moment_of v ≡ emission c first = cc in
     let others : map moment_of vs ≡ map (emission c) (range_with_len (first + 1) (length vs)) = cc in
@@ -73,7 +86,8 @@ successive_join c first v vs f a = record {
 pub successive_none : (c : Config) (first : ℕ) → first ≤ MOST_FRAMES → IsOnGrid c first []
 successive_none c first l = record { moments = refl; small = omega (arith, l) }
 
-pub successive_front : (c : Config) (first : ℕ) (vs ws : List RecordView) → IsOnGrid c first (vs ++ ws) → IsOnGrid c first vs
+pub successive_front : (c : Config) (first : ℕ) (vs ws : List RecordView) → IsOnGrid c first (vs ++ ws)
+    → IsOnGrid c first vs
 successive_front c first [] ws a = successive_none c first (let s = a.small in omega (arith, s))
 successive_front c first (v ∷ vs) ws a = let p = successive_parts c first v (vs ++ ws) a in
     successive_join c first v vs p.0 (successive_front c (first + 1) vs ws p.1)
@@ -88,7 +102,8 @@ frame_at c first (v ∷ vs) o os a =
 
 pub same_first : OneFrame → (c : Config) → AllRules c → (first second : ℕ) (w : RecordView) (vs ws : List RecordView)
     → IsOnGrid c first (w ∷ vs) → IsOnGrid c second (w ∷ ws) → first ≡ second
-same_first frame c rules first second w vs ws a b = frame c (moment_of w) first second rules (successive_parts c first w vs a).0
+same_first frame c rules first second w vs ws a b = frame c (moment_of w) first second rules
+    (successive_parts c first w vs a).0
     (successive_parts c second w ws b).0
 
 -- ---- the record of the next frame is not refused
@@ -110,7 +125,8 @@ is_expected frame c rules first second (w ∷ ws) o os why.Order b a p =
     p.order (omega (arith, same, number))
 
 pub next_not_refused : OneRecord → NoRefusal → OneFrame → (c : Config) → AllRules c
-    → (first second : ℕ) (vs : List RecordView) (o : RecordView) (os : List RecordView) (bytes : List ℕ) (why : RecordWhy)
+    → (first second : ℕ) (vs : List RecordView) (o : RecordView) (os : List RecordView) (bytes : List ℕ)
+    (why : RecordWhy)
     (len : ℕ)
     → IsOnGrid c second (vs ++ o ∷ os) → IsOnGrid c first vs → BeginsWith bytes o len
     → RefusesNext c (expected_after first vs) bytes why → ⊥
@@ -131,7 +147,8 @@ nothing_not_refused c expected why (inr p) = begins_nothing p.0 p.1 p.2
 
 -- what a machine has before it does not begin with the record of the next frame
 nothing_comes : OneRecord → NoRefusal → OneFrame → NoneWaits → (joins : Option ℕ) (c : Config) (plp : ℕ) → AllRules c
-    → (second : ℕ) (m : ReceiverMachine) (events : List Event) (s : Shown joins c plp m events) (o : RecordView) (os : List RecordView)
+    → (second : ℕ) (m : ReceiverMachine) (events : List Event) (s : Shown joins c plp m events) (o : RecordView)
+    (os : List RecordView)
     (len : ℕ) → IsOnGrid c second (s.views ++ o ∷ os) → BeginsWith s.feed.rest o len → ⊥
 nothing_comes one never frame waits joins c plp rules second m events s o os len b begins = go m.misplaced s.judged
   where
@@ -140,7 +157,8 @@ nothing_comes one never frame waits joins c plp rules second m events s o os len
     go None seen =
         waits m.feed s.views (fed 0 events) (has_ended 0 events) s.feed seen m.room.coming o len begins
     go (Some why) (whole, place) =
-        next_not_refused one never frame c rules s.first second s.views o os s.feed.rest why len b s.successive begins (inr place)
+        next_not_refused one never frame c rules s.first second s.views o os s.feed.rest why len b s.successive
+        begins (inr place)
 
 pub same_views : OneRecord → NoRefusal → OneFrame → NoneWaits → (joins : Option ℕ) (c : Config) (plp : ℕ) → AllRules c
     → (second : ℕ) (vs : List RecordView) (m : ReceiverMachine) (events : List Event) (s : Shown joins c plp m events)

@@ -17,7 +17,8 @@ use Rattle.receive_run.specs.Taking.{expected_by, SamePlp}
 use Rattle.receive_run.specs.declared.machine.ReceiverMachine.{ReceiverMachine}
 
 -- no record more was taken
-pub same_shown : (joins : Option ℕ) (c : Config) (plp : ℕ) (m n : ReceiverMachine) (was now : List Event) (s : Shown joins c plp m was)
+pub same_shown : (joins : Option ℕ) (c : Config) (plp : ℕ) (m n : ReceiverMachine) (was now : List Event)
+    (s : Shown joins c plp m was)
     → due_of m.receiver ≡ 0 → SameTaken m n → gave now ≡ gave was
     → (f : RecordFeedStandsFor n.feed s.views (fed 0 now) (has_ended 0 now))
     → Judged c (expected_after s.first s.views) n.misplaced (coming_of n.feed) f.rest → Shown joins c plp n now
@@ -30,7 +31,8 @@ same_shown joins c plp m n was now s idle same text f judged = record {
   judged = judged;
   given = subst (λ (l : List ℕ). Given joins c plp n.receiver s.first s.views n.slots l) (sym text)
       (subst (λ (k : ℕ). Given joins c plp n.receiver s.first s.views k (gave was)) (sym same.slots)
-      (subst (λ (v : JoinedReceiver). Given joins c plp v s.first s.views m.slots (gave was)) (sym same.receiver) s.given));
+      (subst (λ (v : JoinedReceiver). Given joins c plp v s.first s.views m.slots (gave was)) (sym same.receiver)
+      s.given));
   between = λ some. absurd (let e = ap due_of same.receiver in omega (arith, e, idle, some));
 }
 
@@ -56,21 +58,26 @@ pub known_inside : (m : ReceiverMachine) → plp_of m.receiver < length (network
 known_inside m = subst (λ (c : Config). plp_of m.receiver < length c.plps) (sym m.network)
     (subst (λ (p : ℕ). p < length m.plan.now.plps) (sym m.place) m.inside)
 
-pub known_of : (m : ReceiverMachine) → IsPlan m.plan.now → MayJoin (network_of m.receiver) (plp_of m.receiver) (joins_of m.receiver)
+pub known_of : (m : ReceiverMachine) → IsPlan m.plan.now → MayJoin (network_of m.receiver) (plp_of m.receiver)
+    (joins_of m.receiver)
     → KnownPlan (joins_of m.receiver) (network_of m.receiver) (plp_of m.receiver)
 known_of m plan may = (known_plan m plan, known_inside m, may)
 
 -- by the numbers that a machine holds, what is expected
-pub expects : (joins : Option ℕ) (c : Config) (plp : ℕ) (m : ReceiverMachine) (was : List Event) (s : Shown joins c plp m was) (count : ℕ)
+pub expects : (joins : Option ℕ) (c : Config) (plp : ℕ) (m : ReceiverMachine) (was : List Event)
+    (s : Shown joins c plp m was) (count : ℕ)
     → count ≡ length s.views → expected_by m.first count ≡ expected_by (first_of s.first s.views) (length s.views)
 expects joins c plp m was s count number = ap (λ (o : Option ℕ). expected_by o count) s.first_is
     ∙ ap (expected_by (first_of s.first s.views)) number
 
 -- what stands behind the records, by what comes next
-pub behind_at : (joins : Option ℕ) (c : Config) (plp : ℕ) (m : ReceiverMachine) (events : List Event) (p : Coming) → coming_of m.feed ≡ p
-    → (s : Shown joins c plp m events) → Behind p m.feed.head m.feed.bytes.items m.feed.left s.feed.rest (has_ended 0 events)
+pub behind_at : (joins : Option ℕ) (c : Config) (plp : ℕ) (m : ReceiverMachine) (events : List Event) (p : Coming)
+    → coming_of m.feed ≡ p
+    → (s : Shown joins c plp m events) → Behind p m.feed.head m.feed.bytes.items m.feed.left s.feed.rest
+    (has_ended 0 events)
 behind_at joins c plp m events p is s =
-    subst (λ (q : Coming). Behind q m.feed.head m.feed.bytes.items m.feed.left s.feed.rest (has_ended 0 events)) is s.feed.behind
+    subst (λ (q : Coming). Behind q m.feed.head m.feed.bytes.items m.feed.left s.feed.rest (has_ended 0 events))
+    is s.feed.behind
 
 -- a record that is whole is misplaced, since it was looked at
 pub judged_none : (c : Config) (expected : Option ℕ) (m : ReceiverMachine) (coming : Coming) (rest : List ℕ)

@@ -1,7 +1,9 @@
 -- What the machine wants, and what it knows if it is fed.
-use Rattle.std.proofs.Common.{◌≡◌, ℕ, zero, suc, ◌+◌, ◌<◌, ◌≤◌, List, [], ◌∷◌, length, Option, Some, None, refl, sym, subst, ◌∙◌}
+use Rattle.std.proofs.Common.{◌≡◌, ℕ, zero, suc, ◌+◌, ◌<◌, ◌≤◌, List, [], ◌∷◌, length, Option, Some, None, refl, sym}
+use Rattle.std.proofs.Common.{subst, ◌∙◌}
 use Rattle.std.proofs.Common.{arith}
-use Rattle.terms.proofs.OptionLemmas.{some_injective, none_some}
+use Rattle.std.proofs.lemmas.Option.{same_Some}
+use Rattle.terms.proofs.OptionLemmas.{none_some}
 use Rattle.plp_config.specs.declared.config.Config.{Config}
 use Rattle.plp_config.specs.declared.moment.TheConstants.{MOST_FRAMES}
 use Rattle.site_frame.specs.declared.fault.RecordWhy.{RecordWhy}
@@ -48,12 +50,14 @@ short m input count s =
 
 pub needs : (m : ReceiverMachine) (input count : ℕ) → Needs (next_of m) input count → WantsOf m input × (count ≤ 1)
 needs m input count s =
-    let w = wants_if (λ step. Needs step input count) (λ e. e) (λ e. e) (due_of m.receiver) m.misplaced (lacks_of m.feed) s in
+    let w = wants_if (λ step. Needs step input count) (λ e. e) (λ e. e) (due_of m.receiver) m.misplaced
+    (lacks_of m.feed) s in
     (record { idle = w.0; none = w.1; some = w.2; only = sym w.3.0 }, w.3.1)
 
 pub enough : (m : ReceiverMachine) (input count : ℕ) → Suffices (next_of m) input count → WantsOf m input × (0 < count)
 enough m input count s =
-    let w = wants_if (λ step. Suffices step input count) (λ e. e) (λ e. e) (due_of m.receiver) m.misplaced (lacks_of m.feed) s in
+    let w = wants_if (λ step. Suffices step input count) (λ e. e) (λ e. e) (due_of m.receiver) m.misplaced
+    (lacks_of m.feed) s in
     let k = w.3.1 in (record { idle = w.0; none = w.1; some = w.2; only = sym w.3.0 }, omega (arith, k))
 
 -- a machine that gives has packets that are due
@@ -107,7 +111,8 @@ fits m input count room one =
     let p = room.came.shown.feed.size in omega (arith, few, p)
 
 -- a machine that wants bytes is ready for a record
-ready_by : (joins : Option ℕ) (c : Config) (plp : ℕ) (m : ReceiverMachine) (events : List Event) (count : ℕ) → due_of m.receiver ≡ 0
+ready_by : (joins : Option ℕ) (c : Config) (plp : ℕ) (m : ReceiverMachine) (events : List Event) (count : ℕ)
+    → due_of m.receiver ≡ 0
     → (s : Shown joins c plp m events) → count ≡ length s.views → IsReady m.receiver m.first count
 ready_by joins c plp m events count idle s number = record {
   none = idle;
@@ -125,12 +130,13 @@ ready_by joins c plp m events count idle s number = record {
         → s.first + length views ≤ MOST_FRAMES → (n : ℕ) → m.first ≡ Some n → n + count ≤ MOST_FRAMES
     within [] first number small n is = none_some n (sym first ∙ is)
     within (v ∷ vs) first number small n is =
-        let e = some_injective s.first n (sym first ∙ is) in omega (arith, e, number, small)
+        let e = same_Some s.first n (sym first ∙ is) in omega (arith, e, number, small)
 
 pub is_ready : (m : ReceiverMachine) (input given count : ℕ) → HasRoom Becomes m input given → due_of m.receiver ≡ 0
     → count ≡ m.feed.count → IsReady m.receiver m.first count
 is_ready m input given count room idle same =
-    ready_by (joins_of room.start.receiver) (network_of room.start.receiver) (plp_of room.start.receiver) m room.events count idle room.came.shown
+    ready_by (joins_of room.start.receiver) (network_of room.start.receiver) (plp_of room.start.receiver)
+    m room.events count idle room.came.shown
     (same ∙ room.came.shown.feed.number)
 
 -- what is wanted can be read

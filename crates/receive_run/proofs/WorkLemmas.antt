@@ -1,12 +1,14 @@
 -- What a machine does by its file.
-use Rattle.std.proofs.Common.{◌≡◌, ◌⊎◌, ℕ, ◌+◌, ◌-◌, ◌<◌, ◌≤◌, Bool, true, inl, inr, List, [], ◌∷◌, ◌++◌, length, take, drop}
+use Rattle.std.proofs.Common.{◌≡◌, ◌⊎◌, ℕ, ◌+◌, ◌-◌, ◌<◌, ◌≤◌, Bool, true, inl, inr, List, [], ◌∷◌, ◌++◌, length, take}
+use Rattle.std.proofs.Common.{drop}
 use Rattle.std.proofs.Common.{Option, Some, None, refl, ap, sym, subst, ◌∙◌, arith, append_assoc, length-append}
 use Rattle.std.specs.Prelude.{slice_index}
 use Rattle.std.specs.List.{concat}
 use Rattle.std.proofs.Math.Seq.{take-length}
 use Rattle.std.proofs.lemmas.List.{nil_from_length, take-append-drop}
 use Rattle.std.proofs.lemmas.List.Folds.{concat-append}
-use Rattle.terms.proofs.OptionLemmas.{some_injective, none_some}
+use Rattle.std.proofs.lemmas.Option.{same_Some}
+use Rattle.terms.proofs.OptionLemmas.{none_some}
 use Rattle.plp_config.specs.Rules.{AllRules}
 use Rattle.plp_config.specs.declared.config.Config.{Config}
 use Rattle.plp_config.specs.declared.moment.TheConstants.{MOST_FRAMES}
@@ -31,7 +33,8 @@ use Rattle.file_run.specs.declared.machine.Step.TheVariants.{End}
 use Rattle.file_run.proofs.EventLemmas.{gave_more}
 use Rattle.file_run.proofs.OneInputLemmas.{whole_file}
 use Rattle.file_run.proofs.WorkLemmas.{are_whole}
-use Rattle.receive_run.specs.AsMachine.{next_of, reach_of, first_of, ran_by, ending_of, Judged, Given, GavePackets, Shown, Becomes}
+use Rattle.receive_run.specs.AsMachine.{next_of, reach_of, first_of, ran_by, ending_of, Judged, Given, GavePackets}
+use Rattle.receive_run.specs.AsMachine.{Shown, Becomes}
 use Rattle.receive_run.specs.NextStep.{next_from, refusal_of}
 use Rattle.receive_run.specs.JoinedReceived.{GivesBack, Received}
 use Rattle.receive_run.specs.Received.{ran_of, expected_after, RefusesNext}
@@ -43,13 +46,15 @@ use Rattle.receive_run.proofs.WantedLemmas.{short, needs, some_due, none_due, no
 
 -- ---- what was given
 
-record GaveAll (joins : Option ℕ) (c : Config) (plp first : ℕ) (views : List RecordView) (slots : ℕ) (text : List ℕ) : Type 0 where
+record GaveAll (joins : Option ℕ) (c : Config) (plp first : ℕ) (views : List RecordView) (slots : ℕ)
+    (text : List ℕ) : Type 0 where
   packets : List (List ℕ)
   back : GivesBack joins c plp first views packets
   text_is : text ≡ concat packets
   count : slots ≡ length packets
 
-gave_all : (joins : Option ℕ) (c : Config) (plp : ℕ) (v : JoinedReceiver) (first : ℕ) (views : List RecordView) (slots : ℕ) (text : List ℕ)
+gave_all : (joins : Option ℕ) (c : Config) (plp : ℕ) (v : JoinedReceiver) (first : ℕ) (views : List RecordView)
+    (slots : ℕ) (text : List ℕ)
     → due_of v ≡ 0 → Given joins c plp v first views slots text → GaveAll joins c plp first views slots text
 gave_all joins c plp v first [] slots text none g = record { packets = []; back = refl; text_is = g.3; count = g.2 }
 gave_all joins c plp v first (w ∷ ws) slots text none g =
@@ -64,11 +69,14 @@ gave_all joins c plp v first (w ∷ ws) slots text none g =
     }
 
 -- the slots of a machine are those of its records
-ran_same : (c : Config) (plp first : ℕ) (views : List RecordView) (begins : Option ℕ) (slots : ℕ) (packets : List (List ℕ))
-    → begins ≡ first_of first views → slots ≡ length packets → ran_by c plp begins slots ≡ ran_of c plp first views packets
+ran_same : (c : Config) (plp first : ℕ) (views : List RecordView) (begins : Option ℕ) (slots : ℕ)
+    (packets : List (List ℕ))
+    → begins ≡ first_of first views → slots ≡ length packets → ran_by c plp begins slots ≡ ran_of c plp
+    first views packets
 ran_same c plp first views begins slots packets is count = rw (is, count) (go views)
   where
-    go : (views : List RecordView) → ran_by c plp (first_of first views) (length packets) ≡ ran_of c plp first views packets
+    go : (views : List RecordView) → ran_by c plp (first_of first views) (length packets) ≡ ran_of c
+        plp first views packets
     go [] = refl
     go (v ∷ vs) = refl
 
@@ -99,7 +107,8 @@ lacks_some rest more left count (inr b) some none =
     inr (b.len, announces_on rest more b.len b.announces, (let l = b.lacks in omega (arith, l, some, none)))
 
 -- what stands behind the records is refused whatever follows, ends within a record, and no more is wanted
-record StandsRefused (c : Config) (expected : Option ℕ) (why : RecordWhy) (left : ℕ) (rest : List ℕ) (ended : Bool) : Type 0 where
+record StandsRefused (c : Config) (expected : Option ℕ) (why : RecordWhy) (left : ℕ) (rest : List ℕ)
+    (ended : Bool) : Type 0 where
   refuses : (more : List ℕ) → (ended ≡ true → more ≡ []) → RefusesNext c expected (rest ++ more) why
   within : EndsWithin rest (length rest)
   none : (left ≡ 0) ⊎ (ended ≡ true)
@@ -108,12 +117,15 @@ abbrev refused_for : RecordWhy → Coming
 refused_for why = Refused why
 
 -- a record came, if something is due, or if records came
-given_due : (joins : Option ℕ) (c : Config) (plp : ℕ) (v : JoinedReceiver) (first : ℕ) (views : List RecordView) (slots : ℕ)
-    (text : List ℕ) → 0 < due_of v → Given joins c plp v first views slots text → GavePackets joins c plp v first views slots text
+given_due : (joins : Option ℕ) (c : Config) (plp : ℕ) (v : JoinedReceiver) (first : ℕ) (views : List RecordView)
+    (slots : ℕ)
+    (text : List ℕ) → 0 < due_of v → Given joins c plp v first views slots text
+    → GavePackets joins c plp v first views slots text
 given_due joins c plp v first [] slots text some g = absurd (let z = g.1 in omega (arith, z, some))
 given_due joins c plp v first (w ∷ ws) slots text some g = g
 
-given_some : (joins : Option ℕ) (c : Config) (plp : ℕ) (v : JoinedReceiver) (first : ℕ) (before : List RecordView) (last : RecordView)
+given_some : (joins : Option ℕ) (c : Config) (plp : ℕ) (v : JoinedReceiver) (first : ℕ) (before : List RecordView)
+    (last : RecordView)
     (slots : ℕ) (text : List ℕ) → Given joins c plp v first (before ++ last ∷ []) slots text
     → GavePackets joins c plp v first (before ++ last ∷ []) slots text
     × ((packets : List (List ℕ)) → JoinedBackWith joins c plp first (before ++ last ∷ []) packets
@@ -132,14 +144,16 @@ packets_cut packets n = ap concat (sym (take-append-drop n packets)) ∙ concat-
 -- ---- a machine
 
 -- the first record is of a frame whose number one may have
-pub first_early : (start now : ReceiverMachine) (events : List Event) → Becomes start events now → (n : ℕ) → now.first ≡ Some n
+pub first_early : (start now : ReceiverMachine) (events : List Event) → Becomes start events now → (n : ℕ)
+    → now.first ≡ Some n
     → n < MOST_FRAMES
 first_early start now events b n is = go b.shown.views b.shown.first_is b.shown.successive
   where
-    go : (views : List RecordView) → now.first ≡ first_of b.shown.first views → IsOnGrid (network_of start.receiver) b.shown.first views
+    go : (views : List RecordView) → now.first ≡ first_of b.shown.first views
+        → IsOnGrid (network_of start.receiver) b.shown.first views
         → n < MOST_FRAMES
     go [] e a = none_some n (sym e ∙ is)
-    go (v ∷ vs) e a = let f = some_injective b.shown.first n (sym e ∙ is) in let s = a.small in omega (arith, f, s)
+    go (v ∷ vs) e a = let f = same_Some b.shown.first n (sym e ∙ is) in let s = a.small in omega (arith, f, s)
 
 -- nothing may be joined
 pub may_none : (c : Config) (plp : ℕ) → MayJoin c plp None
@@ -184,8 +198,15 @@ module _ (start now : ReceiverMachine) (files : ℕ → List ℕ) (places : List
   all_given : due_of now.receiver ≡ 0 → GaveAll joins c plp s.first s.views now.slots (gave events)
   all_given idle = gave_all joins c plp now.receiver s.first s.views now.slots (gave events) idle s.given
 
-  abbrev received : GaveAll joins c plp s.first s.views now.slots (gave events) → Received joins c plp s.views (gave events)
-  received g = record { first = s.first; successive = s.successive; packets = g.packets; back = g.back; bytes_are = g.text_is }
+  abbrev received : GaveAll joins c plp s.first s.views now.slots (gave events)
+      → Received joins c plp s.views (gave events)
+  received g = record {
+    first = s.first;
+    successive = s.successive;
+    packets = g.packets;
+    back = g.back;
+    bytes_are = g.text_is;
+  }
 
   -- how much was read behind the records that were taken
   read_behind : length s.feed.rest + (place - length got) ≡ place - bytes_before (files 0) rest
@@ -203,7 +224,8 @@ module _ (start now : ReceiverMachine) (files : ℕ → List ℕ) (places : List
   idle_at end = none_due (due_of now.receiver) now.misplaced (lacks_of now.feed) end
 
   -- it has read the whole file, if the record of the next frame is not refused
-  lacking_none : (p : Coming) → coming_of now.feed ≡ p → next_of now ≡ End → now.misplaced ≡ None → lacks_at p now.feed.left ≡ 0
+  lacking_none : (p : Coming) → coming_of now.feed ≡ p → next_of now ≡ End → now.misplaced ≡ None
+      → lacks_at p now.feed.left ≡ 0
   lacking_none p at end none =
       subst (λ (q : Coming). lacks_at q now.feed.left ≡ 0) at
       (none_taken (due_of now.receiver) (lacks_of now.feed)
@@ -211,10 +233,13 @@ module _ (start now : ReceiverMachine) (files : ℕ → List ℕ) (places : List
 
   finished : (p : Coming) → coming_of now.feed ≡ p → refusal_of p now.misplaced ≡ None → next_of now ≡ End
       → coming_of now.feed ≡ Finished
-  finished Head at none end = absurd (let e = lacking_none Head at end none in let some = (now.feed.lacks at).0 in omega (arith, e, some))
-  finished Rest at none end = absurd (let e = lacking_none Rest at end none in let some = (now.feed.room at).0 in omega (arith, e, some))
+  finished Head at none end = absurd (let e = lacking_none Head at end none in let some = (now.feed.lacks at).0 in
+      omega (arith, e, some))
+  finished Rest at none end = absurd (let e = lacking_none Rest at end none in let some = (now.feed.room at).0 in
+      omega (arith, e, some))
   finished Whole at none end =
-      absurd (subst (λ (o : Option RecordWhy). Judged c (expected_after s.first s.views) o (coming_of now.feed) s.feed.rest) none
+      absurd (subst (λ (o : Option RecordWhy). Judged c (expected_after s.first s.views) o (coming_of now.feed)
+      s.feed.rest) none
       s.judged at)
   finished (Refused why) at none end = none_some why (sym none)
   finished NoRoom at none end = absurd (now.room.coming at)
@@ -226,7 +251,8 @@ module _ (start now : ReceiverMachine) (files : ℕ → List ℕ) (places : List
 
   refused_place : (why : RecordWhy) → now.misplaced ≡ Some why → RefusedSo why
   refused_place why is =
-      let judged = subst (λ (o : Option RecordWhy). Judged c (expected_after s.first s.views) o (coming_of now.feed) s.feed.rest) is
+      let judged = subst (λ (o : Option RecordWhy). Judged c (expected_after s.first s.views) o (coming_of now.feed)
+      s.feed.rest) is
       s.judged in
       let p = judged.1 in
       let b = behind_at joins c plp now events Whole judged.0 s in
@@ -237,12 +263,13 @@ module _ (start now : ReceiverMachine) (files : ℕ → List ℕ) (places : List
         none = inl (now.feed.whole judged.0);
       }
 
-  refused_so : (why : RecordWhy) (p : Coming) → coming_of now.feed ≡ p → refusal_of p now.misplaced ≡ Some why → RefusedSo why
+  refused_so : (why : RecordWhy) (p : Coming) → coming_of now.feed ≡ p → refusal_of p now.misplaced ≡ Some why
+      → RefusedSo why
   refused_so why Head at e = refused_place why e
   refused_so why Rest at e = refused_place why e
   refused_so why Whole at e = refused_place why e
   refused_so why (Refused other) at e =
-      let b = behind_at joins c plp now events (Refused why) (at ∙ ap refused_for (some_injective other why e)) s in
+      let b = behind_at joins c plp now events (Refused why) (at ∙ ap refused_for (same_Some other why e)) s in
       record { refuses = λ more end. inl (b.refuses more end); within = b.within; none = b.none }
   refused_so why NoRoom at e = refused_place why e
   refused_so why Finished at e = refused_place why e
@@ -268,7 +295,8 @@ module _ (start now : ReceiverMachine) (files : ℕ → List ℕ) (places : List
           number_is = s.feed.number;
           refused = b.refuses first.more first.end;
         };
-        within = fewer_within s.feed.rest first.more (place - bytes_before (files 0) rest) b.within (omega (arith, behind, most));
+        within = fewer_within s.feed.rest first.more (place - bytes_before (files 0) rest) b.within
+            (omega (arith, behind, most));
       }
   ends_in end within None is =
       let b = behind_at joins c plp now events Finished (finished (coming_of now.feed) refl is end) s in
@@ -277,7 +305,8 @@ module _ (start now : ReceiverMachine) (files : ℕ → List ℕ) (places : List
             subst (λ (k : ℕ). has_ended k events ≡ true) zero b.1),
         record {
           views = s.views;
-          records = subst (λ (l : List ℕ). AreRecords l s.views []) (whole_file (files 0) place got (has_ended 0 events) first b.1).0
+          records = subst (λ (l : List ℕ). AreRecords l s.views []) (whole_file (files 0) place got (has_ended 0 events)
+              first b.1).0
               (subst (λ (l : List ℕ). AreRecords got s.views l) b.0 s.feed.records);
           received = received g;
           ran_is = ran_same c plp s.first s.views now.first now.slots g.packets s.first_is g.count;
@@ -296,7 +325,8 @@ module _ (start now : ReceiverMachine) (files : ℕ → List ℕ) (places : List
 
   -- ---- before
 
-  has_met : (Within : List ℕ → ℕ → Type 0) → due_of now.receiver ≡ 0 → Within rest (length s.feed.rest + (place - length got))
+  has_met : (Within : List ℕ → ℕ → Type 0) → due_of now.receiver ≡ 0
+      → Within rest (length s.feed.rest + (place - length got))
       → HasMet joins c plp Within place (files 0) (gave events)
   has_met Within idle within = record {
     views = s.views;
@@ -310,14 +340,16 @@ module _ (start now : ReceiverMachine) (files : ℕ → List ℕ) (places : List
   lacking : TakesOn → 0 < lacks_of now.feed → Lacks s.feed.rest (lacks_of now.feed)
   lacking takes some = (takes now.feed s.views got (has_ended 0 events) s.feed some).0
 
-  too_long : TakesOn → LacksWithin → (input : ℕ) → Needs (next_of now) input (slice_index places input - length (fed input events))
+  too_long : TakesOn → LacksWithin → (input : ℕ)
+      → Needs (next_of now) input (slice_index places input - length (fed input events))
       → HasMet joins c plp EndsWithin place (files 0) (gave events)
   too_long takes within input wants =
       let w = needs now input _ wants in
       let few = subst (λ (k : ℕ). slice_index places k - length (fed k events) ≤ 1) w.0.only w.1 in
       let some = w.0.some in
       has_met EndsWithin w.0.idle
-      (within s.feed.rest first.more (lacks_of now.feed) (place - length got) (lacking takes some) (omega (arith, some, few)))
+      (within s.feed.rest first.more (lacks_of now.feed) (place - length got) (lacking takes some)
+      (omega (arith, some, few)))
 
   unread : TakesOn → (input : ℕ) → FallsShort (next_of now) input (slice_index places input - length (fed input events))
       → HasMet joins c plp LacksSome place (files 0) (gave events)
@@ -325,15 +357,18 @@ module _ (start now : ReceiverMachine) (files : ℕ → List ℕ) (places : List
       let w = short now input _ wants in
       let none = subst (λ (k : ℕ). slice_index places k - length (fed k events) < 1) w.0.only w.1 in
       has_met LacksSome w.0.idle
-      (lacks_some s.feed.rest first.more (lacks_of now.feed) (place - length got) (lacking takes w.0.some) w.0.some none)
+      (lacks_some s.feed.rest first.more (lacks_of now.feed) (place - length got) (lacking takes w.0.some)
+      w.0.some none)
 
 -- ---- what could not be written
 
 -- at the moment when all was written for the last time, packets were due; some of these were written
-unwritten : OneRecord → NoRefusal → OneFrame → NoneWaits → (start now : ReceiverMachine) (files : ℕ → List ℕ) (places : List ℕ)
+unwritten : OneRecord → NoRefusal → OneFrame → NoneWaits → (start now : ReceiverMachine) (files : ℕ
+    → List ℕ) (places : List ℕ)
     (events : List Event) (bytes : List ℕ) → AllRules (network_of start.receiver) → AreFed 1 files places events
     → GaveSome reach_of next_of (Becomes start) 1 places events now bytes
-    → HasSome (joins_of start.receiver) (network_of start.receiver) (plp_of start.receiver) (slice_index places 0) (files 0) bytes
+    → HasSome (joins_of start.receiver) (network_of start.receiver) (plp_of start.receiver) (slice_index places 0)
+    (files 0) bytes
 unwritten one never frame waits start now files places events bytes rules are w =
     let joins : Option ℕ = joins_of start.receiver in
     let c : Config = network_of start.receiver in
@@ -352,7 +387,8 @@ unwritten one never frame waits start now files places events bytes rules are w 
     subst (λ (l : List ℕ). AreRecords (fed 0 events) h.views l) nothing h.feed.records in
     let same : k.views ≡ h.views =
     same_views one never frame waits joins c plp rules h.first h.views now (events ++ w.late) k
-    (subst (λ (l : List ℕ). AreRecords l h.views []) (sym ((gave_more events w.late w.only).fed 0)) here) h.successive in
+    (subst (λ (l : List ℕ). AreRecords l h.views []) (sym ((gave_more events w.late w.only).fed 0)) here)
+    h.successive in
     let e = (given_due joins c plp mid.receiver h.first h.views mid.slots (gave events) due h.given).early in
     let are_views : k.views ≡ e.before ++ e.last ∷ [] = same ∙ e.are in
     let text : List ℕ = gave (events ++ w.late) in
@@ -383,7 +419,8 @@ unwritten one never frame waits start now files places events bytes rules are w 
       };
       more = w.more ++ later;
       some = λ z. w.some (front_empty w.more later z);
-      begins = packets_cut g.0.packets now.slots ∙ ap (λ (l : List ℕ). l ++ later) written ∙ append_assoc bytes w.more later;
+      begins = packets_cut g.0.packets now.slots ∙ ap (λ (l : List ℕ). l ++ later) written
+          ∙ append_assoc bytes w.more later;
       early = concat e.packets;
       received_early = record {
         first = h.first;
@@ -417,8 +454,10 @@ does one never frame takes lacks waits start rules = record {
 }
 
 -- by the names of what it is for
-pub receive_does : OneRecord → NoRefusal → OneFrame → TakesOn → LacksWithin → NoneWaits → (start : ReceiverMachine) (c : Config)
-    (plp : ℕ) (joins : Option ℕ) → network_of start.receiver ≡ c → plp_of start.receiver ≡ plp → joins_of start.receiver ≡ joins
+pub receive_does : OneRecord → NoRefusal → OneFrame → TakesOn → LacksWithin → NoneWaits
+    → (start : ReceiverMachine) (c : Config)
+    (plp : ℕ) (joins : Option ℕ) → network_of start.receiver ≡ c → plp_of start.receiver ≡ plp
+    → joins_of start.receiver ≡ joins
     → AllRules c → DoesSo start joins c plp
 receive_does one never frame takes lacks waits start c plp common same_c same_p same_j rules =
     subst (λ (j : Option ℕ). DoesSo start j c plp) same_j

@@ -1,5 +1,6 @@
 -- A receiver as a machine between files. No public clause cites this module.
-use Rattle.std.specs.Prelude.{◌≡◌, ◌≢◌, ◌⊎◌, ℕ, ◌+◌, ◌-◌, ◌<◌, ◌≤◌, Bool, List, [], ◌∷◌, ◌++◌, length, take, Option, Some}
+use Rattle.std.specs.Prelude.{◌≡◌, ◌≢◌, ◌⊎◌, ℕ, ◌+◌, ◌-◌, ◌<◌, ◌≤◌, Bool, List, [], ◌∷◌, ◌++◌, length, take, Option}
+use Rattle.std.specs.Prelude.{Some}
 use Rattle.std.specs.Prelude.{None, unwrap_or, Result, Ok, Err}
 use Rattle.std.specs.List.{concat}
 use Rattle.plp_config.specs.Plps.{spread}
@@ -9,7 +10,8 @@ use Rattle.site_frame.specs.Record.{head_len}
 use Rattle.site_frame.specs.RecordFile.{IsOnGrid}
 use Rattle.site_frame.specs.declared.fault.RecordWhy.{RecordWhy}
 use Rattle.site_frame.specs.declared.reading.RecordView.{RecordView}
-use Rattle.site_frame.specs.FeedStandsFor.{RecordFeedStandsFor, coming_of, count_of, came_of, left_of, lacks_of, record_of}
+use Rattle.site_frame.specs.FeedStandsFor.{RecordFeedStandsFor, coming_of, count_of, came_of, left_of, lacks_of}
+use Rattle.site_frame.specs.FeedStandsFor.{record_of}
 use Rattle.site_frame.specs.declared.coming.Coming.{Coming}
 use Rattle.site_frame.specs.declared.coming.Coming.TheVariants.{Head, Whole, Refused}
 use Rattle.plp_receiver.specs.JointStandsFor as stands
@@ -48,7 +50,8 @@ pub record IsReady (v : JoinedReceiver) (first : Option ℕ) (count : ℕ) : Typ
 -- The record that has come whole was taken, and what is due comes next, or the next head.
 pub record IsTaken (old new : ReceiverMachine) : Type 0 where
   pub frame : ℕ
-  pub takes : TakesRecord (network_of old.receiver) (expected_by old.first (count_of old.feed)) (record_of old.feed) old.receiver
+  pub takes : TakesRecord (network_of old.receiver) (expected_by old.first (count_of old.feed)) (record_of old.feed)
+      old.receiver
       new.receiver frame
   pub same : SamePlp old.receiver new.receiver
   pub due : TellsDue new.receiver
@@ -99,7 +102,8 @@ abbrev pub IsBetween : ReceiverMachine → Type 0
 IsBetween m = (coming_of m.feed ≡ Head) × (left_of m.feed ≡ head_len) × (m.misplaced ≡ None)
 
 -- All that the records before the last one give back was given.
-pub record GaveEarly (joins : Option ℕ) (c : Config) (plp first : ℕ) (views : List RecordView) (text : List ℕ) : Type 0 where
+pub record GaveEarly (joins : Option ℕ) (c : Config) (plp first : ℕ) (views : List RecordView) (text : List ℕ) :
+    Type 0 where
   pub before : List RecordView
   pub last : RecordView
   pub are : views ≡ before ++ last ∷ []
@@ -109,7 +113,8 @@ pub record GaveEarly (joins : Option ℕ) (c : Config) (plp first : ℕ) (views 
   pub begins : text ≡ concat packets ++ more
 
 -- Of what the records give back so many packets were given, and no other is due but those behind them.
-pub record GavePackets (joins : Option ℕ) (c : Config) (plp : ℕ) (v : JoinedReceiver) (first : ℕ) (views : List RecordView)
+pub record GavePackets (joins : Option ℕ) (c : Config) (plp : ℕ) (v : JoinedReceiver) (first : ℕ)
+    (views : List RecordView)
     (released : ℕ) (text : List ℕ) : Type 0 where
   pub stands : stands.JoinedReceiverStandsFor v first views released
   pub frame : frame_of v ≡ first + length views
@@ -129,7 +134,8 @@ abbrev pub first_of : ℕ → List RecordView → Option ℕ
 first_of first [] = None
 first_of first (view ∷ views) = Some first
 
--- To a machine of this PLP, with which this one is joined, this was done: these records were taken, the first of them of this frame.
+-- To a machine of this PLP, with which this one is joined, this was done: these records were taken, the first of them
+-- of this frame.
 pub record Shown (joins : Option ℕ) (c : Config) (plp : ℕ) (m : ReceiverMachine) (events : List Event) : Type 0 where
   pub first : ℕ
   pub views : List RecordView

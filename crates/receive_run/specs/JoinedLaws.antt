@@ -16,7 +16,8 @@ use Rattle.receive_run.specs.declared.stop.ReceiveStop.TheVariants.{RecordRefuse
 -- How a run must end over a file that is not too long, if nothing outside fails.
 abbrev pub MustRun : Option ℕ → Config → ℕ → List ℕ → Result Ran ReceiveStop → Type 0
 MustRun joins c plp file (Ok ran) = (bytes : List ℕ) × HasAll joins c plp ran file bytes
-MustRun joins c plp file (Err (RecordRefused number why)) = (bytes : List ℕ) × HasBefore joins c plp number why file bytes
+MustRun joins c plp file (Err (RecordRefused number why)) = (bytes : List ℕ)
+    × HasBefore joins c plp number why file bytes
 
 -- A file decides how a run of a PLP of a plan over it must end.
 abbrev pub OneRun : Type 0
@@ -25,11 +26,14 @@ OneRun = (joins : Option ℕ) (c : Config) (plp : ℕ) (file : List ℕ) (result
 
 -- A run over a file has an ending.
 abbrev pub RunEnds : Type 0
-RunEnds = (joins : Option ℕ) (c : Config) (plp : ℕ) (file : List ℕ) → IsPlan c → plp < length c.plps → MayJoin c plp joins
+RunEnds = (joins : Option ℕ) (c : Config) (plp : ℕ) (file : List ℕ) → IsPlan c → plp < length c.plps
+    → MayJoin c plp joins
     → AreBytes file → (result : Result Ran ReceiveStop) × MustRun joins c plp file result
 
 -- Records of successive frames that are a whole file tell what a run over it writes, and its slots.
 abbrev pub OneOutput : Type 0
-OneOutput = (joins : Option ℕ) (c : Config) (plp : ℕ) (file : List ℕ) (first : ℕ) (views : List RecordView) (packets : List (List ℕ))
+OneOutput = (joins : Option ℕ) (c : Config) (plp : ℕ) (file : List ℕ) (first : ℕ) (views : List RecordView)
+    (packets : List (List ℕ))
     (ran : Ran) (bytes : List ℕ) → IsPlan c → AreRecords file views [] → IsOnGrid c first views
-    → GivesBack joins c plp first views packets → HasAll joins c plp ran file bytes → (bytes ≡ concat packets) × (ran ≡ ran_of c plp first views packets)
+    → GivesBack joins c plp first views packets → HasAll joins c plp ran file bytes → (bytes ≡ concat packets)
+    × (ran ≡ ran_of c plp first views packets)

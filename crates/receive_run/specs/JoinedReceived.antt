@@ -1,4 +1,5 @@
--- What stands in the output after the records of a file, if the packets of another PLP are joined with those of one, or of none.
+-- What stands in the output after the records of a file, if the packets of another PLP are joined with those of one, or
+-- of none.
 use Rattle.std.specs.Prelude.{◌≡◌, ℕ, List, [], ◌∷◌, Option}
 use Rattle.std.specs.List.{concat}
 use Rattle.plp_config.specs.declared.config.Config.{Config}
@@ -11,8 +12,8 @@ abbrev pub GivesBack : Option ℕ → Config → ℕ → ℕ → List RecordView
 GivesBack joins c plp first [] packets = packets ≡ []
 GivesBack joins c plp first (view ∷ views) packets = JoinedBackWith joins c plp first (view ∷ views) packets
 
--- The bytes are what stands in the output after these records, which are of successive frames: the packets that the PLP is given
--- back, one behind another.
+-- The bytes are what stands in the output after these records, which are of successive frames: the packets that the PLP
+-- is given back, one behind another.
 pub record Received (joins : Option ℕ) (c : Config) (plp : ℕ) (views : List RecordView) (bytes : List ℕ) : Type 0 where
   pub first : ℕ
   pub successive : IsOnGrid c first views

@@ -17,17 +17,21 @@ MustRun c plp file result = joined.MustRun None c plp file result
 
 -- A file decides how a run of a PLP of a plan over it must end.
 abbrev pub OneRun : Type 0
-OneRun = (c : Config) (plp : ℕ) (file : List ℕ) (result other : Result Ran ReceiveStop) → IsPlan c → MustRun c plp file result
+OneRun = (c : Config) (plp : ℕ) (file : List ℕ) (result other : Result Ran ReceiveStop) → IsPlan c
+    → MustRun c plp file result
     → MustRun c plp file other → result ≡ other
 
 -- A run over a file has an ending.
 abbrev pub RunEnds : Type 0
-RunEnds = (c : Config) (plp : ℕ) (file : List ℕ) → IsPlan c → plp < length c.plps → AreBytes file → (result : Result Ran ReceiveStop)
+RunEnds = (c : Config) (plp : ℕ) (file : List ℕ) → IsPlan c → plp < length c.plps → AreBytes file
+    → (result : Result Ran ReceiveStop)
     × MustRun c plp file result
 
 -- Records of successive frames that are a whole file tell what a run over it writes, and its slots.
 abbrev pub OneOutput : Type 0
-OneOutput = (c : Config) (plp : ℕ) (file : List ℕ) (first : ℕ) (views : List RecordView) (packets : List (List ℕ)) (ran : Ran)
+OneOutput = (c : Config) (plp : ℕ) (file : List ℕ) (first : ℕ) (views : List RecordView) (packets : List (List ℕ))
+    (ran : Ran)
     (bytes : List ℕ) → IsPlan c
-    → AreRecords file views [] → IsOnGrid c first views → GivesBack c plp first views packets → HasAll c plp ran file bytes
+    → AreRecords file views [] → IsOnGrid c first views → GivesBack c plp first views packets
+    → HasAll c plp ran file bytes
     → (bytes ≡ concat packets) × (ran ≡ ran_of c plp first views packets)

@@ -6,7 +6,8 @@ use Rattle.site_frame.specs.declared.fault.RecordWhy.{RecordWhy}
 use Rattle.site_frame.specs.declared.coming.Coming.{Coming}
 use Rattle.site_frame.specs.declared.coming.Coming.TheVariants.{Refused}
 
--- what is done next, by how many slots are due, why a record is misplaced, and how many bytes of the next one are lacking
+-- what is done next, by how many slots are due, why a record is misplaced, and how many bytes of the next one are
+-- lacking
 abbrev pub next_from : ℕ → Option RecordWhy → ℕ → Step
 next_from (suc due) misplaced lacks = Give
 next_from zero (Some why) lacks = End

@@ -15,13 +15,13 @@ use Rattle.receive_run.specs.declared.stop.Ran.{Ran}
 abbrev pub GivesBack : Config → ℕ → ℕ → List RecordView → List (List ℕ) → Type 0
 GivesBack c plp first views packets = joined.GivesBack None c plp first views packets
 
--- The bytes are what stands in the output after these records, which are of successive frames: the packets that the PLP is given
--- back, one behind another.
+-- The bytes are what stands in the output after these records, which are of successive frames: the packets that the PLP
+-- is given back, one behind another.
 abbrev pub Received : Config → ℕ → List RecordView → List ℕ → Type 0
 Received c plp views bytes = joined.Received None c plp views bytes
 
--- the slot at which the output begins: those before it are over one interleaving frame before the first frame begins; 0 if
--- there is
+-- the slot at which the output begins: those before it are over one interleaving frame before the first frame begins; 0
+-- if there is
 -- no record
 abbrev pub first_slot : Config → ℕ → ℕ → List RecordView → ℕ
 first_slot c plp first [] = 0

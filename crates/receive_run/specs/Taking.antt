@@ -5,7 +5,8 @@ use Rattle.plp_config.specs.declared.config.Config.{Config}
 use Rattle.site_frame.specs.Placing.{IsPlaced}
 use Rattle.site_frame.specs.Whole.{BeginsWith, Refuses, moment_of}
 use Rattle.site_frame.specs.declared.reading.RecordView.{RecordView}
-use Rattle.plp_receiver.specs.JointStandsFor.{JoinedReceiverStandsFor, IsFresh, network_of, plp_of, joins_of, frame_of, due_of}
+use Rattle.plp_receiver.specs.JointStandsFor.{JoinedReceiverStandsFor, IsFresh, network_of, plp_of, joins_of, frame_of}
+use Rattle.plp_receiver.specs.JointStandsFor.{due_of}
 use Rattle.plp_receiver.specs.JoinedBack.{JoinedBackWith}
 use Rattle.plp_receiver.specs.declared.joined_receiver.JoinedReceiver.{JoinedReceiver}
 use Rattle.receive_run.specs.Received.{IsMisplaced}
@@ -34,7 +35,8 @@ TakesView (Some other) old new frame view = (first : ℕ) (views : List RecordVi
     → JoinedReceiverStandsFor new first (views ++ view ∷ []) released
 
 -- The bytes begin with a record of the frame that was expected, and the receiver took it.
-pub record TakesRecord (c : Config) (expected : Option ℕ) (bytes : List ℕ) (old new : JoinedReceiver) (frame : ℕ) : Type 0 where
+pub record TakesRecord (c : Config) (expected : Option ℕ) (bytes : List ℕ) (old new : JoinedReceiver)
+    (frame : ℕ) : Type 0 where
   pub view : RecordView
   pub len : ℕ
   pub begins : BeginsWith bytes view len
@@ -58,7 +60,8 @@ pub record GivesPacket (old new : JoinedReceiver) (packet : List ℕ) : Type 0 w
   pub packets : (first : ℕ) (views : List RecordView) (released : ℕ) (packets : List (List ℕ))
       → JoinedReceiverStandsFor old first views released
       → JoinedBackWith (joins_of old) (network_of old) (plp_of old) first views packets → released ≤ length packets
-      → (released + 1 ≤ length packets) × (concat (take (released + 1) packets) ≡ concat (take released packets) ++ packet)
+      → (released + 1 ≤ length packets) × (concat (take (released + 1) packets) ≡ concat (take released packets)
+      ++ packet)
 
 -- There is a list of packets that the records give back, and of these so many are due.
 abbrev pub TellsDue : JoinedReceiver → Type 0

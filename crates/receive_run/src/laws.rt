@@ -7,8 +7,8 @@ use common_plp::groups_law;
 use plp_receiver::joined_law;
 use site_frame::{place_law, reading_law, refusal_law};
 
-/// A file that is not too long decides how a run over it ends, if nothing outside fails: that of a PLP alone, and one that is joined
-/// with another.
+/// A file that is not too long decides how a run over it ends, if nothing outside fails: that of a PLP alone, and one
+/// that is joined with another.
 pub fn one_run_law()
     ensures joined { joined.OneRun }
     ensures alone { OneRun }

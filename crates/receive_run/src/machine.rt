@@ -19,8 +19,8 @@ use site_frame::{Coming, RecordFeed, RecordWhy, stands_law};
 use std::alloc::Global;
 use ts_packet::SIZE;
 
-/// A receiver that is fed with the bytes of records and gives the packets of a PLP, if so wanted with those that its group has in
-/// common.
+/// A receiver that is fed with the bytes of records and gives the packets of a PLP, if so wanted with those that its
+/// group has in common.
 #[derive(Drop)]
 pub struct ReceiverMachine<'p> {
     plan: &'p Plan,
@@ -103,7 +103,8 @@ impl<'p> ReceiverMachine<'p> {
     ghost use Rattle.receive_run.specs.NextStep.{refusal_of};
     ghost use Rattle.receive_run.specs.Taking.{expected_by};
 
-    /// A receiver of the PLP at a place to which nothing was fed, and all its memory; with it the PLP that is joined, if one is.
+    /// A receiver of the PLP at a place to which nothing was fed, and all its memory; with it the PLP that is joined,
+    /// if one is.
     pub fn open(
         alloc: Global,
         plan: &'p Plan,

@@ -40,9 +40,9 @@ fn run_with<D: Desk>(
     run_over(alloc, &mut machine, input, Output::File(out), desk)
 }
 
-/// Runs the receiver of the PLP at a place of a plan: opens the input, creates the output, and writes the packets of all slots
-/// that are due behind a record before it reads the next one. It reads no further than the record under way, and no further than
-/// a head with which no record begins. All memory is taken before the input is opened.
+/// Runs the receiver of the PLP at a place of a plan: opens the input, creates the output, and writes the packets of
+/// all slots that are due behind a record before it reads the next one. It reads no further than the record under way,
+/// and no further than a head with which no record begins. All memory is taken before the input is opened.
 #[tactic(auto, using(crate::proofs::WorkLemmas::may_none))]
 pub fn run<D: Desk>(
     alloc: Global,
@@ -54,13 +54,14 @@ pub fn run<D: Desk>(
 ) -> Result<Ran, RunStop<ReceiveStop>>
     requires plp { plp < length plan.now.plps }
     requires apart { input.now ≢ out.now }
-    ensures ends { Ends (receive_work plan.now plp) (D.state desk.old) (D.state desk.new) (Into out.now) (input.now ∷ []) result }
+    ensures ends { Ends (receive_work plan.now plp) (D.state desk.old) (D.state desk.new) (Into out.now)
+        (input.now ∷ []) result }
 {
     run_with(alloc, plan, plp, None, input, out, desk)
 }
 
-/// The same with the packets of the common PLP of its group, if it has one: in each slot where the PLP has a null packet the packet
-/// of the common one.
+/// The same with the packets of the common PLP of its group, if it has one: in each slot where the PLP has a null
+/// packet the packet of the common one.
 #[tactic(auto, using(crate::proofs::WorkLemmas::may_common))]
 pub fn run_joined<D: Desk>(
     alloc: Global,
@@ -72,7 +73,8 @@ pub fn run_joined<D: Desk>(
 ) -> Result<Ran, RunStop<ReceiveStop>>
     requires plp { plp < length plan.now.plps }
     requires apart { input.now ≢ out.now }
-    ensures ends { Ends (joined.receive_work (common_of plan.now plp) plan.now plp) (D.state desk.old) (D.state desk.new)
+    ensures ends { Ends (joined.receive_work (common_of plan.now plp) plan.now plp) (D.state desk.old)
+        (D.state desk.new)
         (Into out.now) (input.now ∷ []) result }
 {
     let joins = common_of(plan.config(), plp);

@@ -1,7 +1,6 @@
 -- Frames that carry whole interleaving frames.
-use Rattle.std.proofs.Common.{◌≡◌, ℕ, ◌+◌, map, length, ap, ◌∙◌, arith}
+use Rattle.std.proofs.Common.{ℕ, ◌+◌, map, length, ap, ◌∙◌, arith}
 use Rattle.terms.proofs.RangeLemmas.{map_same, flat_same, sums_same}
-use Rattle.plp_config.specs.declared.config.Config.{Config}
 use Rattle.mode_adapt.specs.Blocks.{plp_blocks, own_blocks, told_count}
 use Rattle.mode_adapt.specs.Laws.{AloneBlocks}
 use Rattle.scheduler.specs.Shape.{shape_of}

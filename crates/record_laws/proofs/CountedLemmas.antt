@@ -1,5 +1,6 @@
 -- The numbers that were counted apart.
-use Rattle.std.proofs.Common.{append_assoc, replicate, Option, Some, None, take, ◌++◌, ◌≡◌, ℕ, zero, suc, ◌+◌, ◌-◌, ◌*◌, ◌<◌, ◌≤◌}
+use Rattle.std.proofs.Common.{append_assoc, replicate, Option, Some, None, take, ◌++◌, ◌≡◌, ℕ, zero, suc, ◌+◌, ◌-◌, ◌*◌}
+use Rattle.std.proofs.Common.{◌<◌, ◌≤◌}
 use Rattle.std.proofs.Common.{Bool, true, false, List, [], ◌∷◌, length, refl, ap, ap₂, ◌∙◌, arith}
 use Rattle.std.specs.Prelude.{filter, map, min}
 use Rattle.std.specs.List.{range_with_len}
@@ -31,11 +32,13 @@ use Rattle.ts_packet.specs.Null.{is_null, null_packet}
 use Rattle.null_delete.specs.Deletion.{packet_at, kept_slots}
 use Rattle.mode_adapt.specs.Queue.{Rates, arrived, least_to, sent, sent_before}
 use Rattle.mode_adapt.specs.UserPackets.{keeps_of}
-use Rattle.mode_adapt.specs.Blocks.{rates_of, plp_keeps, blocks_between, block_places, block_bits, data_field, header_at}
+use Rattle.mode_adapt.specs.Blocks.{rates_of, plp_keeps, blocks_between, block_places, block_bits, data_field}
+use Rattle.mode_adapt.specs.Blocks.{header_at}
 use Rattle.mode_adapt.specs.Blocks.{with_place, first_up, plp_blocks}
 use Rattle.record_laws.specs.Networks.{small_network, small_post, data_packet, data_packets}
 use Rattle.record_laws.proofs.FitLemmas.{all_map_twice}
-use Rattle.record_laws.specs.Counted.{CountedLengths, CountedBlocks, CountedStart, CountedPre, CountedPost, CountedFrames}
+use Rattle.record_laws.specs.Counted.{CountedLengths, CountedBlocks, CountedStart, CountedPre, CountedPost}
+use Rattle.record_laws.specs.Counted.{CountedFrames}
 use Rattle.record_laws.specs.Counted.{CountedRecords, CountedSlots}
 use Rattle.terms.proofs.AllLemmas.{all_append}
 use Rattle.bb_frame.specs.Laws.{BitCounts}
@@ -79,15 +82,18 @@ kept_from keeps n from (suc count) all le =
     rw (all from (omega (arith, le)))
     (ap (λ (ks : List ℕ). from ∷ ks) (kept_from keeps n (from + 1) count all (omega (arith, le))))
 
-pub kept_count : (deletes : Bool) (n m : ℕ) → m ≤ n → length (kept_slots (keeps_of deletes (packet_at (data_packets n))) m) ≡ m
+pub kept_count : (deletes : Bool) (n m : ℕ) → m ≤ n
+    → length (kept_slots (keeps_of deletes (packet_at (data_packets n))) m) ≡ m
 kept_count deletes n m le =
-    ap (λ (ks : List ℕ). length ks) (kept_from (keeps_of deletes (packet_at (data_packets n))) n 0 m (data_kept deletes n)
+    ap (λ (ks : List ℕ). length ks) (kept_from (keeps_of deletes (packet_at (data_packets n))) n 0 m
+    (data_kept deletes n)
     (omega (arith, le))) ∙ length-range_with_len 0 m
 
 -- what has arrived and what is sent
 arrived_is : (r : Rates) (deletes : Bool) (n m : ℕ) → slot_count r.num r.den (m * r.epoch) ≤ n
     → arrived r (keeps_of deletes (packet_at (data_packets n))) m ≡ r.up_len * slot_count r.num r.den (m * r.epoch)
-arrived_is r deletes n m le = ap (λ (k : ℕ). r.up_len * k) (kept_count deletes n (slot_count r.num r.den (m * r.epoch)) le)
+arrived_is r deletes n m le = ap (λ (k : ℕ). r.up_len * k) (kept_count deletes n (slot_count r.num r.den (m * r.epoch))
+    le)
 
 -- the bytes sent by the end of a frame, if the packets are there
 abbrev pub sent_data : Rates → ℕ → ℕ
@@ -118,7 +124,8 @@ small_before = sent_is small_rates true 20 0 (λ i le. small_slots i (omega (ari
 blocks_count : (c : Config) (plp : ℕ) (at : ℕ → List ℕ) (n x y : ℕ) → length (blocks_between c plp at n x y)
     ≡ div_ceil (y - x) (field_bytes c plp)
 blocks_count c plp at n x y =
-    length-map (block_places (field_bytes c plp) x y) (λ from. block_bits c plp at n from (min (from + field_bytes c plp) y))
+    length-map (block_places (field_bytes c plp) x y) (λ from. block_bits c plp at n from
+    (min (from + field_bytes c plp) y))
     ∙ length-map-range_with_len (λ i. x + i * field_bytes c plp) 0 (div_ceil (y - x) (field_bytes c plp))
 
 pub counted_blocks : CountedBlocks
@@ -132,7 +139,8 @@ small_post_of : ℕ → List ℕ
 small_post_of count = bytes_of (post_bits small_network 1 (shape_of small_network (count ∷ [])))
 
 post_is : small_post_of 4 ≡ small_post
-unfolding small_post_of post_bits conf_of conf_plp_of conf_bits dyn_of dyn_bits row_bits spelling shape_of start_of interval_of
+unfolding small_post_of post_bits conf_of conf_plp_of conf_bits dyn_of dyn_bits row_bits spelling shape_of
+    start_of interval_of
     type2_start_of block_cells crc32_of field
 post_is = refl
 
@@ -148,10 +156,12 @@ two_bytes : BitCounts → (h : Header) (rest : List Bool) → h.matype1 ≡ 0xFC
 unfolding fifteen_before field
 two_bytes numbers h rest first second =
     let sent : List Bool = scrambled (header_bits h ++ rest) in
-    let long : length sent ≡ 80 + length rest = numbers.scrambled (header_bits h ++ rest) ∙ length-append (header_bits h) rest
+    let long : length sent ≡ 80 + length rest = numbers.scrambled (header_bits h ++ rest)
+    ∙ length-append (header_bits h) rest
     ∙ ap (λ (n : ℕ). n + length rest) (numbers.header h) in
     take-map-range_with_len (byte_at sent) 0 (bytes_for (length sent)) 2 (omega (arith, long))
-    ∙ ap₂ (λ (a b : ℕ). a ∷ b ∷ []) (byte_at-whole sent 0 (omega (arith, long))) (byte_at-whole sent 1 (omega (arith, long)))
+    ∙ ap₂ (λ (a b : ℕ). a ∷ b ∷ []) (byte_at-whole sent 0 (omega (arith, long)))
+    (byte_at-whole sent 1 (omega (arith, long)))
     ∙ rw (first, second) refl
 
 -- MATYPE of the small network: FC 00
@@ -168,7 +178,8 @@ frame_starts numbers h body size starts =
     (append_assoc (header_bits h) body (replicate (size - 80 - length body) false))
     ∙ two_bytes numbers h (body ++ replicate (size - 80 - length body) false) starts.0 starts.1
 
-block_starts : BitCounts → (at : ℕ → List ℕ) (n x y : ℕ) → take 2 (bytes_of (scrambled (block_bits small_network 0 at n x y)))
+block_starts : BitCounts → (at : ℕ → List ℕ) (n x y : ℕ)
+    → take 2 (bytes_of (scrambled (block_bits small_network 0 at n x y)))
     ≡ 0xFF ∷ 0xF6 ∷ []
 block_starts numbers at n x y =
     let up : Option (ℕ × ℕ) = with_place (up_bytes small_network 0) (plp_keeps small_network 0 at)
@@ -187,6 +198,7 @@ counted_start numbers inputs n =
     let end : ℕ = sent (rates_of small_network 0 100000) (plp_keeps small_network 0 at) n in
     let len : ℕ = field_bytes small_network 0 in
     all_append Starts (map (sent_block small_network 0) (plp_blocks small_network inputs n 0)) []
-    (all_map_twice Starts (sent_block small_network 0) (λ from. block_bits small_network 0 at slots from (min (from + len) end))
+    (all_map_twice Starts (sent_block small_network 0) (λ from. block_bits small_network 0 at slots from
+    (min (from + len) end))
     (block_places len begin end)
     (λ from. (refl, block_starts numbers at slots from (min (from + len) end)))) tt

@@ -1,5 +1,6 @@
 -- The frames of a plan fit a record.
-use Rattle.std.proofs.Common.{◌≡◌, ℕ, zero, suc, ◌+◌, ◌-◌, ◌*◌, ◌/◌, ◌^◌, ◌<◌, ◌≤◌, ◌%◌, ◌==◌, ◌&&◌, Bool, true, false, cond}
+use Rattle.std.proofs.Common.{◌≡◌, ℕ, zero, suc, ◌+◌, ◌-◌, ◌*◌, ◌/◌, ◌^◌, ◌<◌, ◌≤◌, ◌%◌, ◌==◌, ◌&&◌, Bool, true, false}
+use Rattle.std.proofs.Common.{cond}
 use Rattle.std.proofs.Common.{Option, Some, None, List, [], ◌∷◌, length, refl, sym, ap, ap₂, subst, ◌∙◌, arith, lit≤}
 use Rattle.std.specs.Prelude.{map, find, min, sum, sum_by, slice_index}
 use Rattle.std.specs.List.{flat_map, range_with_len, AllByRecursion}
@@ -11,7 +12,8 @@ use Rattle.std.proofs.lemmas.List.FromFn.{get_or-map-range_with_len, length-map-
 use Rattle.std.proofs.lemmas.List.Sums.{sum-map, sum_by-cons, sum_by-le-sum_by}
 use Rattle.terms.specs.Bits.{bytes_for}
 use Rattle.terms.proofs.BitLemmas.{length-field}
-use Rattle.plp_config.specs.Capacity.{IsPlan, CellAddresses, RecordLength, block_bytes, field_bytes, capacity, block_room}
+use Rattle.plp_config.specs.Capacity.{IsPlan, CellAddresses, RecordLength, block_bytes, field_bytes, capacity}
+use Rattle.plp_config.specs.Capacity.{block_room}
 use Rattle.plp_config.specs.Capacity.{longest_rest}
 use Rattle.plp_config.specs.Emission.{emission}
 use Rattle.plp_config.specs.Laws.{EmissionFits, FieldRange, SlotLength}
@@ -54,7 +56,8 @@ use Rattle.bb_frame.specs.Laws.{BitCounts}
 -- ---- L1-pre
 
 pub length-l1_pre : PreBitsLength → (c : Config) → length (l1_pre c) ≡ 200
-length-l1_pre law c = length-append (pre_bits (pre_of c)) _ ∙ ap₂ (λ (a b : ℕ). a + b) (law (pre_of c)) (length-field 32 _)
+length-l1_pre law c = length-append (pre_bits (pre_of c)) _ ∙ ap₂ (λ (a b : ℕ). a + b) (law (pre_of c))
+    (length-field 32 _)
 
 -- ---- how many blocks a frame has
 
@@ -66,7 +69,8 @@ count_le slot field law c inputs n plp is lt =
     let at : ℕ → List ℕ = packet_at (inputs plp) in
     let s = slot c plp is.rules lt in
     let f = field c plp in
-    let most = law (rates_of c plp (epoch_ticks c plp)) (plp_keeps c plp at) (field_bytes c plp) (plp_at c.plps plp).blocks n
+    let most = law (rates_of c plp (epoch_ticks c plp)) (plp_keeps c plp at) (field_bytes c plp)
+    (plp_at c.plps plp).blocks n
     (omega (arith, s)) (omega (arith, f.0)) refl in
     let len : length (plp_blocks c inputs n plp)
     ≡ length (block_places (field_bytes c plp) (sent_before (rates_of c plp (epoch_ticks c plp)) (plp_keeps c plp at) n)
@@ -88,7 +92,8 @@ either_le : (b : Bool) (blocks : List (List Bool)) → length (cond b blocks [])
 either_le true blocks = omega arith
 either_le false blocks = omega arith
 
-pub own_le : (c : Config) (inputs : ℕ → List (List ℕ)) (n plp : ℕ) → length (own_blocks c inputs n plp) ≤ told_count c inputs n plp
+pub own_le : (c : Config) (inputs : ℕ → List (List ℕ)) (n plp : ℕ) → length (own_blocks c inputs n plp) ≤ told_count
+    c inputs n plp
 own_le c inputs n plp = either_le (is_first c plp n) (plp_blocks c inputs (interleaving_frame c plp n) plp)
 
 -- no block has fewer than 883 bytes with its head, and so many are no more than those of the PLPs
@@ -106,7 +111,8 @@ few_for field c (n ∷ counts) (p ∷ plps) from len at each =
     let is : p ≡ plp_at c.plps from = at 0 (omega arith) ∙ ap (plp_at c.plps) (sym same) in
     let f = field c from in
     let wide : 883 ≤ 4 + block_bytes c from = omega (arith, f) in
-    let bytes : 883 ≤ 4 + info_bits p.fec p.rate / 8 = subst (λ (q : Plp). 883 ≤ 4 + info_bits q.fec q.rate / 8) (sym is) wide in
+    let bytes : 883 ≤ 4 + info_bits p.fec p.rate / 8 = subst (λ (q : Plp). 883 ≤ 4 + info_bits q.fec q.rate / 8)
+    (sym is) wide in
     let both : n * 883 ≤ block_room p = mul-le-mul first bytes in
     let more = few_for field c counts plps (from + 1) (omega (arith, len))
     (λ i lt. let e : from + suc i ≡ from + 1 + i = omega arith in at (suc i) (omega (arith, lt)) ∙ ap (plp_at c.plps) e)
@@ -136,7 +142,8 @@ room_from c count (p ∷ plps) from at each =
     omega (arith, here, more, front, sum_by-cons block_room p plps)
 
 -- and so have those of all
-pub room_for_all : (c : Config) (count : ℕ → ℕ) → ((plp : ℕ) → plp < length c.plps → count plp ≤ (plp_at c.plps plp).blocks)
+pub room_for_all : (c : Config) (count : ℕ → ℕ) → ((plp : ℕ) → plp < length c.plps
+    → count plp ≤ (plp_at c.plps plp).blocks)
     → blocks_size c count ≤ sum_by block_room c.plps
 room_for_all c count few =
     room_from c count c.plps 0 (λ i lt. let e : i ≡ 0 + i = omega arith in ap (plp_at c.plps) e)
@@ -172,7 +179,8 @@ block_is_sent : BitCounts → FieldRange → (c : Config) (plp : ℕ) (bits : Li
     → length bits ≡ 8 * block_bytes c plp → IsSentBlock (sent_block c plp bits)
 block_is_sent numbers law c plp bits id e = let f = law c plp in (id, omega (arith, block_len numbers c plp bits e, f))
 
-plp_blocks_are_sent : BitCounts → FieldRange → (c : Config) (inputs : ℕ → List (List ℕ)) (n plp : ℕ) → (plp_at c.plps plp).id
+plp_blocks_are_sent : BitCounts → FieldRange → (c : Config) (inputs : ℕ → List (List ℕ)) (n plp : ℕ)
+    → (plp_at c.plps plp).id
     < 2 ^ 8 → AllByRecursion IsSentBlock (map (sent_block c plp) (plp_blocks c inputs n plp))
 plp_blocks_are_sent numbers law c inputs n plp id =
     let at : ℕ → List ℕ = packet_at (inputs plp) in
@@ -210,7 +218,8 @@ all_fit [] h = tt
 all_fit (b ∷ blocks) h = ((omega (arith, h.0), omega (arith, h.0)), all_fit blocks h.1)
 
 -- what stands at an address
-cell_fits : (r : Option Cell) → ((found : Cell) → r ≡ Some found → (found.ordinal < 2 ^ 16) × (found.cell < 2 ^ 15)) → FitsCell r
+cell_fits : (r : Option Cell) → ((found : Cell) → r ≡ Some found → (found.ordinal < 2 ^ 16) × (found.cell < 2 ^ 15))
+    → FitsCell r
 cell_fits None h = tt
 cell_fits (Some found) h = let s = h found refl in (omega (arith, s), omega (arith, s))
 
@@ -243,7 +252,8 @@ every_frame_fits bits emits field cells c n frame_idx post blocks shape is small
       small = omega (arith, room, bytes, addresses, rest);
     }
 
-pub frame_fits : BitCounts → SlotLength → FieldRange → CountLaw → PostLength → ShapeHasCounts → ShapePasses → EveryFrameFits
+pub frame_fits : BitCounts → SlotLength → FieldRange → CountLaw → PostLength → ShapeHasCounts → ShapePasses
+    → EveryFrameFits
     → FrameFits
 frame_fits numbers slot field law post has passes every c inputs n is ids small =
     let all : List ℕ = told_counts c inputs n in
@@ -278,7 +288,8 @@ either_fits : (b : Bool) (v w : RecordView) → FitsRecord v → FitsRecord w �
 either_fits true v w h k = h
 either_fits false v w h k = k
 
-pub range_fits : EmissionFits → FrameFits → (c : Config) (inputs : ℕ → List (List ℕ)) (whole : ℕ → Bool) (first count : ℕ)
+pub range_fits : EmissionFits → FrameFits → (c : Config) (inputs : ℕ → List (List ℕ)) (whole : ℕ
+    → Bool) (first count : ℕ)
     → IsPlan c → HasByteIds c → first + count ≤ 2 ^ 31
     → AllByRecursion FitsRecord (map (record_of c inputs whole) (range_with_len first count))
 range_fits emits fits c inputs whole first zero is ids small = tt
@@ -288,7 +299,8 @@ range_fits emits fits c inputs whole first (suc count) is ids small = (
   range_fits emits fits c inputs whole (first + 1) count is ids (omega (arith, small)),
 )
 
-numbers_fit : EmissionFits → FrameFits → (c : Config) (inputs : ℕ → List (List ℕ)) (whole : ℕ → Bool) (end : ℕ) (r : Option ℕ)
+numbers_fit : EmissionFits → FrameFits → (c : Config) (inputs : ℕ → List (List ℕ)) (whole : ℕ → Bool)
+    (end : ℕ) (r : Option ℕ)
     → ((n : ℕ) → r ≡ Some n → n ≤ end) → IsPlan c → HasByteIds c → end ≤ 2 ^ 31
     → AllByRecursion FitsRecord (map (record_of c inputs whole) (numbers_from end r))
 numbers_fit emits fits c inputs whole end None within is ids small = tt

@@ -1,5 +1,6 @@
 -- The record of a frame has as many bytes as its sections.
-use Rattle.std.proofs.Common.{◌≡◌, ℕ, ◌+◌, ◌*◌, ◌%◌, min, Bool, true, false, cond, List, [], ◌∷◌, length, refl, sym, ap, ap₂}
+use Rattle.std.proofs.Common.{◌≡◌, ℕ, ◌+◌, ◌*◌, ◌%◌, min, Bool, true, false, cond, List, [], ◌∷◌, length, refl, sym, ap}
+use Rattle.std.proofs.Common.{ap₂}
 use Rattle.std.proofs.Common.{◌∙◌, arith}
 use Rattle.std.specs.Prelude.{map, sum_by}
 use Rattle.std.specs.List.{flat_map}
@@ -38,7 +39,8 @@ block_len counts c plp bits e =
     omega (arith, size)
 
 -- blocks of one length
-alike : BitCounts → (c : Config) (plp : ℕ) (f : ℕ → List Bool) → ((x : ℕ) → length (f x) ≡ 8 * block_bytes c plp) → (xs : List ℕ)
+alike : BitCounts → (c : Config) (plp : ℕ) (f : ℕ → List Bool) → ((x : ℕ) → length (f x) ≡ 8 * block_bytes c plp)
+    → (xs : List ℕ)
     → sum_by block_size (map (sent_block c plp) (map f xs)) ≡ length (map f xs) * (4 + block_bytes c plp)
 alike counts c plp f each [] = omega arith
 alike counts c plp f each (x ∷ xs) =
@@ -54,14 +56,17 @@ plp_len counts law c inputs n plp =
     let ticks : ℕ = epoch_ticks c plp in
     let end : ℕ = sent (rates_of c plp ticks) (plp_keeps c plp at) n in
     let begin : ℕ = sent_before (rates_of c plp ticks) (plp_keeps c plp at) n in
-    alike counts c plp (λ from. block_bits c plp at (slots_by c plp (n * ticks)) from (min (from + field_bytes c plp) end))
-    (λ x. length-block counts law c plp at (slots_by c plp (n * ticks)) x (min (x + field_bytes c plp) end) (omega arith))
+    alike counts c plp (λ from. block_bits c plp at (slots_by c plp (n * ticks)) from
+    (min (from + field_bytes c plp) end))
+    (λ x. length-block counts law c plp at (slots_by c plp (n * ticks)) x (min (x + field_bytes c plp) end)
+    (omega arith))
     (block_places (field_bytes c plp) begin end)
 
 -- these or none
 either_len : (b : Bool) (c : Config) (plp : ℕ) (blocks : List (List Bool))
     → sum_by block_size (map (sent_block c plp) blocks) ≡ length blocks * (4 + block_bytes c plp)
-    → sum_by block_size (map (sent_block c plp) (cond b blocks [])) ≡ length (cond b blocks []) * (4 + block_bytes c plp)
+    → sum_by block_size (map (sent_block c plp) (cond b blocks [])) ≡ length (cond b blocks []) *
+    (4 + block_bytes c plp)
 either_len true c plp blocks e = e
 either_len false c plp blocks e = omega arith
 
@@ -74,13 +79,15 @@ own_len counts law c inputs n plp =
 
 -- all blocks of a frame
 all_len : (c : Config) (blocks : ℕ → List (List Bool))
-    → ((plp : ℕ) → sum_by block_size (map (sent_block c plp) (blocks plp)) ≡ length (blocks plp) * (4 + block_bytes c plp))
+    → ((plp : ℕ) → sum_by block_size (map (sent_block c plp) (blocks plp)) ≡ length (blocks plp) *
+    (4 + block_bytes c plp))
     → (plps : List ℕ)
     → sum_by block_size (flat_map (λ plp. map (sent_block c plp) (blocks plp)) plps)
     ≡ sum_by (λ plp. length (blocks plp) * (4 + block_bytes c plp)) plps
 all_len c blocks each [] = refl
 all_len c blocks each (plp ∷ plps) =
-    sum_by-append block_size (map (sent_block c plp) (blocks plp)) (flat_map (λ plp. map (sent_block c plp) (blocks plp)) plps)
+    sum_by-append block_size (map (sent_block c plp) (blocks plp))
+    (flat_map (λ plp. map (sent_block c plp) (blocks plp)) plps)
     ∙ ap₂ (λ (a b : ℕ). a + b) (each plp) (all_len c blocks each plps)
     ∙ sym (sum_by-cons (λ plp. length (blocks plp) * (4 + block_bytes c plp)) plp plps)
 
@@ -90,7 +97,8 @@ cells_count c shape frame_idx = length-map-range_with_len (get (cell_map c shape
 
 -- how many bytes the blocks of a frame have
 pub length-blocks : BitCounts → FieldRange → (c : Config) (inputs : ℕ → List (List ℕ)) (n : ℕ)
-    → sum_by block_size (sent_blocks c (own_blocks c inputs n)) ≡ blocks_size c (λ plp. length (own_blocks c inputs n plp))
+    → sum_by block_size (sent_blocks c (own_blocks c inputs n)) ≡ blocks_size c
+    (λ plp. length (own_blocks c inputs n plp))
 length-blocks counts law c inputs n = all_len c (own_blocks c inputs n) (own_len counts law c inputs n) (places c)
 
 pub frame_length : BitCounts → FieldRange → PostLength → FrameLength

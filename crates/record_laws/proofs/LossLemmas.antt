@@ -1,7 +1,7 @@
 -- What is lost of the narrow network, if frames 3 and 4 are muted.
 use Rattle.std.proofs.Common.{inl, inr, ◌⊎◌, lit≤, ◌≡◌, ℕ, ◌+◌, ◌*◌, ◌<◌, ◌≤◌, Bool, true, false, List, [], ◌∷◌}
 use Rattle.std.proofs.Common.{length, refl, ap, ap₂, ◌∙◌, arith, lit<}
-use Rattle.std.specs.Prelude.{◌||◌, not, cond, nat_le, nat_lt, ◌&&◌}
+use Rattle.std.specs.Prelude.{not, cond, nat_le, nat_lt, ◌&&◌}
 use Rattle.std.specs.List.{range_with_len, list_any}
 use Rattle.std.proofs.Math.Bool.{or-true}
 use Rattle.std.proofs.lemmas.Bool.{cases_lt}
@@ -43,7 +43,8 @@ narrow_sent4 = sent_is narrow_rates true 110 4 narrow_slots
 
 -- whether two frames that carry the bytes from a, b and c on touch a user packet
 abbrev touches : ℕ → ℕ → ℕ → ℕ → ℕ → Bool
-touches len a b c place = list_any (λ (x : ℕ × ℕ). list_any (λ i. nat_le x.0 i && nat_lt i x.1) (range_with_len place len))
+touches len a b c place = list_any (λ (x : ℕ × ℕ). list_any (λ i. nat_le x.0 i && nat_lt i x.1)
+    (range_with_len place len))
     ((a, b) ∷ (b, c) ∷ [])
 
 touched_by : (r : Rates) (keeps : ℕ → Bool) (k p a b c : ℕ) → length (kept_slots keeps k) ≡ p → sent r keeps 2 ≡ a
@@ -58,15 +59,18 @@ touched_by r keeps k p a b c place first second third =
 narrow_touched : (k : ℕ) → k ≤ 110 → is_touched narrow_rates narrow_keeps (3 ∷ 4 ∷ []) k
     ≡ touches narrow_rates.up_len 5051 7658 10265 (narrow_rates.up_len * k)
 narrow_touched k le =
-    touched_by narrow_rates narrow_keeps k k 5051 7658 10265 (kept_count true 110 k le) narrow_sent2 narrow_sent3 narrow_sent4
+    touched_by narrow_rates narrow_keeps k k 5051 7658 10265 (kept_count true 110 k le) narrow_sent2
+    narrow_sent3 narrow_sent4
 
 abbrev given_back : Bool → Bool → List ℕ → List ℕ
 given_back kept touched packet = cond (kept && not touched) packet null_packet
 
-narrow_is : (k : ℕ) (touched : Bool) → k < 110 → touches narrow_rates.up_len 5051 7658 10265 (narrow_rates.up_len * k) ≡ touched
+narrow_is : (k : ℕ) (touched : Bool) → k < 110 → touches narrow_rates.up_len 5051 7658 10265
+    (narrow_rates.up_len * k) ≡ touched
     → narrow_recovered k ≡ given_back true touched data_packet
 narrow_is k touched lt e =
-    ap (λ (t : Bool). given_back (narrow_keeps k) t (packet_at (data_packets 110) k)) (narrow_touched k (omega (arith, lt)) ∙ e)
+    ap (λ (t : Bool). given_back (narrow_keeps k) t (packet_at (data_packets 110) k))
+    (narrow_touched k (omega (arith, lt)) ∙ e)
     ∙ ap₂ (λ (b : Bool) (p : List ℕ). given_back b touched p) (data_kept true 110 k lt) (data_at 110 k lt)
 
 -- the bytes from a up to b

@@ -8,7 +8,6 @@ use Rattle.ts_packet.specs.Null.{null_packet}
 use Rattle.plp_config.specs.Laws.{EpochAlone, ReleasedByFrame}
 use Rattle.plp_config.specs.Plps.{spread}
 use Rattle.plp_config.specs.SlotTime.{num, den, delay, delay_ticks, slots_by, released_count, IsReleased}
-use Rattle.plp_config.specs.declared.config.Config.{Config}
 use Rattle.mode_adapt.specs.Blocks.{plp_keeps}
 use Rattle.record_laws.specs.Laws.{NoneLost, DueReleased, RecoverAlone}
 
@@ -38,7 +37,8 @@ due_released law c plp first count last slot rules lt e =
     let from : ℕ = slots_by c plp ((first - spread c.plps plp) * c.ticks) in
     let end : ℕ = released_count (num c) (den c plp) (delay c plp) ((first + count) * c.ticks) in
     let given : IsReleased c plp last slot ↔ (slot < end) =
-    subst (λ (n : ℕ). IsReleased c plp last slot ↔ (slot < released_count (num c) (den c plp) (delay c plp) (n * c.ticks)))
+    subst (λ (n : ℕ). IsReleased c plp last slot
+    ↔ (slot < released_count (num c) (den c plp) (delay c plp) (n * c.ticks)))
     (sym e) (law c plp last slot rules lt) in (
       (λ m. let r = (in_range from (end - from) slot).0 m in (r.0, given.1 (omega (arith, r.0, r.1)))),
       (λ h. let early = given.0 h.1 in (in_range from (end - from) slot).1 (h.0, omega (arith, h.0, early))),

@@ -1,5 +1,6 @@
 -- Blocks stand at their ordinals, and cells at their addresses.
-use Rattle.std.proofs.Common.{◌≡◌, ℕ, zero, suc, ◌+◌, ◌%◌, ◌<◌, ◌≤◌, Option, Some, List, [], ◌∷◌, ◌++◌, length, get_or, take}
+use Rattle.std.proofs.Common.{◌≡◌, ℕ, zero, suc, ◌+◌, ◌%◌, ◌<◌, ◌≤◌, Option, Some, List, [], ◌∷◌, ◌++◌, length, get_or}
+use Rattle.std.proofs.Common.{take}
 use Rattle.std.proofs.Common.{refl}
 use Rattle.std.proofs.Common.{sym, ap, ap₂, subst, ◌∙◌, arith}
 use Rattle.std.specs.Prelude.{map, sum, sum_by, slice_get}
@@ -11,7 +12,7 @@ use Rattle.std.proofs.lemmas.List.Sums.{sum-map, sum_by-cons}
 use Rattle.std.proofs.lemmas.Option.{slice_get-map}
 use Rattle.plp_config.specs.Places.{places}
 use Rattle.cell_map.specs.Address.{address_of}
-use Rattle.cell_map.specs.CellMap.{ordinal_of, cell_map}
+use Rattle.cell_map.specs.CellMap.{cell_map}
 use Rattle.cell_map.specs.Laws.{ShapePasses, MapHasEachCell}
 use Rattle.cell_map.specs.declared.places.Cell.{Cell}
 use Rattle.mode_adapt.specs.Laws.{CountLaw}
@@ -32,11 +33,13 @@ get_front (x ∷ xs) ys (suc k) lt = get_front xs ys k (omega (arith, lt))
 get_behind : {X : Type 0} (xs ys : List X) (n k : ℕ) → length xs ≡ n → slice_get (xs ++ ys) (n + k) ≡ slice_get ys k
 get_behind [] ys n k e = let none : n + k ≡ k = omega (arith, e) in ap (slice_get ys) none
 get_behind (x ∷ xs) ys zero k e = absurd (omega (arith, e))
-get_behind (x ∷ xs) ys (suc n) k e = let next : suc n + k ≡ suc (n + k) = omega arith in ap (slice_get (x ∷ (xs ++ ys))) next
+get_behind (x ∷ xs) ys (suc n) k e = let next : suc n + k ≡ suc (n + k) = omega arith in ap (slice_get (x ∷ (xs ++ ys)))
+    next
     ∙ get_behind xs ys n k (omega (arith, e))
 
 -- an element of the piece at a place stands behind the pieces before it
-get_piece : {X : Type 0} (pieces : ℕ → List X) (plps : List ℕ) (i j : ℕ) → i < length plps → j < length (pieces (get_or plps i 0))
+get_piece : {X : Type 0} (pieces : ℕ → List X) (plps : List ℕ) (i j : ℕ) → i < length plps
+    → j < length (pieces (get_or plps i 0))
     → slice_get (flat_map pieces plps) (sum_by (λ plp. length (pieces plp)) (take i plps) + j)
     ≡ slice_get (pieces (get_or plps i 0)) j
 get_piece pieces [] i j lt in_piece = absurd (omega arith)
@@ -60,7 +63,8 @@ same_sums f g (x ∷ xs) same = sum_by-cons f x xs ∙ ap₂ (λ (a b : ℕ). a 
 take_range : (from count n : ℕ) → n ≤ count → take n (range_with_len from count) ≡ range_with_len from n
 take_range from count zero le = refl
 take_range from zero (suc n) le = absurd (omega (arith, le))
-take_range from (suc count) (suc n) le = ap (λ (l : List ℕ). from ∷ l) (take_range (from + 1) count n (omega (arith, le)))
+take_range from (suc count) (suc n) le = ap (λ (l : List ℕ). from ∷ l) (take_range (from + 1) count n
+    (omega (arith, le)))
 
 take_places : (c : Config) (plp : ℕ) → plp < length c.plps → take plp (places c) ≡ range_with_len 0 plp
 take_places c plp lt = take_range 0 (length c.plps) plp (omega (arith, lt))
@@ -77,7 +81,8 @@ pub block_stands : BlockStands
 block_stands c blocks plp block lt sent =
     let piece : ℕ → List Block = λ plp. map (sent_block c plp) (blocks plp) in
     let place : get_or (places c) plp 0 ≡ plp = get_or-range_with_len 0 (length c.plps) plp 0 lt ∙ omega arith in
-    let len : (plp : ℕ) → length (piece plp) ≡ length (blocks plp) = λ plp. length-map (blocks plp) (sent_block c plp) in
+    let len : (plp : ℕ) → length (piece plp) ≡ length (blocks plp) = λ plp. length-map (blocks plp)
+    (sent_block c plp) in
     let at : blocks_before blocks plp + block ≡ sum_by (λ plp. length (piece plp)) (take plp (places c)) + block =
     ap (λ (l : List ℕ). sum_by (λ plp. length (blocks plp)) l + block) (sym (take_places c plp lt))
     ∙ ap (λ (s : ℕ). s + block)

@@ -52,13 +52,15 @@ pub record CountedFrames : Type 0 where
   pub empty : length (run_frames small_network (λ plp. [])) ≡ 4
   pub narrow : length (run_frames narrow_network (λ plp. data_packets 110)) ≡ 12
 
--- Of twelve frames: those from frame 7 on are whole, or all but frames 3 and 4; of four, only those that begin no superframe.
+-- Of twelve frames: those from frame 7 on are whole, or all but frames 3 and 4; of four, only those that begin no
+-- superframe.
 pub record CountedRecords : Type 0 where
   pub late : record_numbers narrow_network (λ n. nat_le 7 n) 12 ≡ 8 ∷ 9 ∷ 10 ∷ 11 ∷ []
   pub gap : record_numbers narrow_network (λ n. not (n == 3) && not (n == 4)) 12 ≡ range_with_len 0 12
   pub none : record_numbers small_network (λ n. n % 2 == 1) 4 ≡ []
 
--- Slots that are due: of the small network after 4 and 24 frames, of the large one after 8, of the narrow one after frames 8 to
+-- Slots that are due: of the small network after 4 and 24 frames, of the large one after 8, of the narrow one after
+-- frames 8 to
 -- 11.
 pub record CountedSlots : Type 0 where
   pub four : length (due_slots small_network 0 0 4) ≡ 14

@@ -45,13 +45,13 @@ frame_cells c shape frame_idx = map (get (cell_map c shape frame_idx)) (range_wi
 abbrev pub l1_pre : Config → List Bool
 l1_pre c = crc_behind true (pre_bits (pre_of c))
 
--- the frame of this number in its superframe that leaves at a moment, with this L1-post, these blocks, and the cells of this
--- shape; L1-pre is that of the configuration
+-- the frame of this number in its superframe that leaves at a moment, with this L1-post, these blocks, and the cells of
+-- this shape; L1-pre is that of the configuration
 abbrev pub frame_view : Config → Moment → ℕ → List Bool → List Block → FrameShape → RecordView
 frame_view c moment frame_idx post blocks shape = Frame moment (l1_pre c) post blocks (frame_cells c shape frame_idx)
 
--- frame n: when it leaves, its number in its superframe, L1-post, the blocks of the interleaving frames that begin in it, and the
--- shape of all that it carries
+-- frame n: when it leaves, its number in its superframe, L1-post, the blocks of the interleaving frames that begin in
+-- it, and the shape of all that it carries
 abbrev pub frame_of : Config → (ℕ → List (List ℕ)) → ℕ → RecordView
 frame_of c inputs n =
     frame_view c (emission c n) (n % c.frames) (post_bits c n (frame_shape c inputs n))

@@ -1,5 +1,6 @@
 -- Laws of frames, of records and of what is given back.
-use Rattle.std.specs.Prelude.{◌≡◌, ◌⊎◌, ◌↔◌, ◌<◌, ◌≤◌, ◌^◌, ◌*◌, ◌+◌, ◌-◌, ◌%◌, ◌&&◌, ℕ, Bool, true, false, List, [], length}
+use Rattle.std.specs.Prelude.{◌≡◌, ◌⊎◌, ◌↔◌, ◌<◌, ◌≤◌, ◌^◌, ◌*◌, ◌+◌, ◌-◌, ◌%◌, ◌&&◌, ℕ, Bool, true, false, List, []}
+use Rattle.std.specs.Prelude.{length}
 use Rattle.std.specs.Prelude.{map, nat_le, nat_lt, not, sum_by, slice_get, Some, option_map, sum}
 use Rattle.std.specs.List.{AllByRecursion, Contains, range_with_len}
 use Rattle.plp_config.specs.Places.{places, FramesStandAlone}
@@ -22,7 +23,8 @@ use Rattle.site_frame.specs.RecordFile.{IsOnGrid}
 use Rattle.site_frame.specs.Whole.{FitsRecord, record_len, block_size}
 use Rattle.site_frame.specs.declared.reading.RecordView.TheVariants.{Muted}
 use Rattle.site_frame.specs.Record.{Block, head_len, pre_len}
-use Rattle.record_laws.specs.Frames.{sent_block, sent_blocks, frame_cells, frame_shape, frame_view, frame_of, HasByteIds}
+use Rattle.record_laws.specs.Frames.{sent_block, sent_blocks, frame_cells, frame_shape, frame_view, frame_of}
+use Rattle.record_laws.specs.Frames.{HasByteIds}
 use Rattle.record_laws.specs.Frames.{run_frames}
 use Rattle.record_laws.specs.Records.{record_of, records}
 use Rattle.record_laws.specs.Recover.{due_slots, recovered, is_there}
@@ -55,7 +57,8 @@ blocks_before blocks plp = sum_by (λ before. length (blocks before)) (range_wit
 
 -- The blocks of a record are counted PLP by PLP: each stands behind those of the PLPs before its own.
 abbrev pub BlockStands : Type 0
-BlockStands = (c : Config) (blocks : ℕ → List (List Bool)) (plp block : ℕ) → plp < length c.plps → block < length (blocks plp)
+BlockStands = (c : Config) (blocks : ℕ → List (List Bool)) (plp block : ℕ) → plp < length c.plps
+    → block < length (blocks plp)
     → slice_get (sent_blocks c blocks) (blocks_before blocks plp + block)
     ≡ option_map (sent_block c plp) (slice_get (blocks plp) block)
 
@@ -64,8 +67,8 @@ abbrev pub OrdinalCounts : Type 0
 OrdinalCounts = (c : Config) (inputs : ℕ → List (List ℕ)) (n plp block : ℕ) → plp < length c.plps
     → ordinal_of (frame_shape c inputs n) plp block ≡ sum_by (told_count c inputs n) (range_with_len 0 plp) + block
 
--- If each interleaving frame is carried by one frame, frame n has the blocks of those with its number, and their shape; so each
--- stands in its record at its ordinal.
+-- If each interleaving frame is carried by one frame, frame n has the blocks of those with its number, and their shape;
+-- so each stands in its record at its ordinal.
 pub record IsAlone (c : Config) (inputs : ℕ → List (List ℕ)) (n : ℕ) : Type 0 where
   pub count : (plp : ℕ) → plp < length c.plps → told_count c inputs n plp ≡ length (plp_blocks c inputs n plp)
   pub shape : frame_shape c inputs n ≡ shape_of c (map (λ plp. length (plp_blocks c inputs n plp)) (places c))
@@ -93,8 +96,9 @@ FewBlocks = (c : Config) (shape : FrameShape) → IsPlan c → length shape.coun
 abbrev pub IsSentBlock : Block → Type 0
 IsSentBlock b = (b.plp_id < 2 ^ 8) × (length b.bytes ≤ MOST_BLOCK_BYTES)
 
--- The frame of a shape that passes fits a record, whatever its L1-post and its blocks are, if L1-post has no more bits than
--- always, there are no more blocks than the shape tells, and they have no more bytes than those that the PLPs may have.
+-- The frame of a shape that passes fits a record, whatever its L1-post and its blocks are, if L1-post has no more bits
+-- than always, there are no more blocks than the shape tells, and they have no more bytes than those that the PLPs may
+-- have.
 abbrev pub EveryFrameFits : Type 0
 EveryFrameFits = (c : Config) (n frame_idx : ℕ) (post : List Bool) (blocks : List Block) (shape : FrameShape) → IsPlan c
     → n < 2 ^ 32
@@ -131,28 +135,31 @@ RecordsOnGrid = (c : Config) (inputs : ℕ → List (List ℕ)) (whole : ℕ →
 
 -- The records of a plan's frames fit too.
 abbrev pub RecordsFit : Type 0
-RecordsFit = (c : Config) (inputs : ℕ → List (List ℕ)) (whole : ℕ → Bool) (end : ℕ) → IsPlan c → HasByteIds c → end ≤ 2 ^ 31
+RecordsFit = (c : Config) (inputs : ℕ → List (List ℕ)) (whole : ℕ → Bool) (end : ℕ) → IsPlan c → HasByteIds c
+    → end ≤ 2 ^ 31
     → AllByRecursion FitsRecord (records c inputs whole end)
 
 -- If every frame is whole, the records are the frames of the run.
 abbrev pub AllWhole : Type 0
-AllWhole = (c : Config) (inputs : ℕ → List (List ℕ)) → records c inputs (λ n. true) (frame_count c (λ plp. length (inputs plp)))
+AllWhole = (c : Config) (inputs : ℕ → List (List ℕ))
+    → records c inputs (λ n. true) (frame_count c (λ plp. length (inputs plp)))
     ≡ run_frames c inputs
 
--- If no interleaving frame is lost and a packet that is not kept is the canonical null packet, the packet of a slot comes back.
+-- If no interleaving frame is lost and a packet that is not kept is the canonical null packet, the packet of a slot
+-- comes back.
 abbrev pub NoneLost : Type 0
 NoneLost = (c : Config) (plp ticks : ℕ) (at : ℕ → List ℕ) (k : ℕ) → (plp_keeps c plp at k ≡ false → at k ≡ null_packet)
     → recovered c plp ticks at [] k ≡ at k
 
--- A slot is due exactly if it was not over one interleaving frame before the first frame begins, and its packet is given out once
--- the last one has ended.
+-- A slot is due exactly if it was not over one interleaving frame before the first frame begins, and its packet is
+-- given out once the last one has ended.
 abbrev pub DueReleased : Type 0
 DueReleased = (c : Config) (plp first count last slot : ℕ) → AllRules c → plp < length c.plps → first + count ≡ last + 1
     → Contains (due_slots c plp first count) slot
     ↔ ((slots_by c plp ((first - spread c.plps plp) * c.ticks) ≤ slot) × IsReleased c plp last slot)
 
--- With spread 1 a slot is due that was not over when the frame in front of the first one begins, and the lost interleaving frames
--- are the muted frames and those before the first one.
+-- With spread 1 a slot is due that was not over when the frame in front of the first one begins, and the lost
+-- interleaving frames are the muted frames and those before the first one.
 pub record RecoversByFrames (c : Config) (plp : ℕ) (muted : ℕ → Bool) (first count : ℕ) : Type 0 where
   pub due : due_slots c plp first count
       ≡ range_with_len (slots_by c plp ((first - 1) * c.ticks))

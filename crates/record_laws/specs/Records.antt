@@ -13,8 +13,8 @@ abbrev pub numbers_from : ℕ → Option ℕ → List ℕ
 numbers_from end None = []
 numbers_from end (Some first) = range_with_len first (end - first)
 
--- the frames that have a record: from the first whole one that begins a superframe (FRAME_IDX 0) to the last one of which a
--- packet is left, which is the one before `end`
+-- the frames that have a record: from the first whole one that begins a superframe (FRAME_IDX 0) to the last one of
+-- which a packet is left, which is the one before `end`
 abbrev pub record_numbers : Config → (ℕ → Bool) → ℕ → List ℕ
 record_numbers c whole end = numbers_from end (find (λ n. whole n && (n % c.frames == 0)) (range_with_len 0 end))
 

@@ -1,4 +1,5 @@
--- What a receiver gives back of frames of a run, some of which are muted: the packet of each slot that is due, or a null packet.
+-- What a receiver gives back of frames of a run, some of which are muted: the packet of each slot that is due, or a
+-- null packet.
 use Rattle.std.specs.Prelude.{ℕ, ◌+◌, ◌-◌, ◌*◌, ◌&&◌, nat_le, nat_lt, not, Bool, List, map, filter, if◌then◌else◌}
 use Rattle.std.specs.List.{range_with_len, list_all, list_any}
 use Rattle.ts_packet.specs.Null.{null_packet}
@@ -11,8 +12,8 @@ use Rattle.mode_adapt.specs.Blocks.{rates_of, plp_keeps}
 
 -- In each slot of the PLP is the packet that `at` tells.
 
--- the slots that are due after so many frames from one on: those that were not over one interleaving frame before the first one
--- begins, and whose delay has passed at the end of the last one
+-- the slots that are due after so many frames from one on: those that were not over one interleaving frame before the
+-- first one begins, and whose delay has passed at the end of the last one
 abbrev pub due_slots : Config → ℕ → ℕ → ℕ → List ℕ
 due_slots c plp first count =
     range_with_len (slots_by c plp ((first - spread c.plps plp) * c.ticks))
@@ -28,11 +29,12 @@ abbrev pub is_touched : Rates → (ℕ → Bool) → List ℕ → ℕ → Bool
 is_touched r keeps ms k =
     list_any (λ m. list_any (is_carried r keeps m) (range_with_len (up_place r.up_len keeps k) r.up_len)) ms
 
--- the packet of slot k, if these interleaving frames, of so many ticks, are lost: it is given back if it is kept and none of them
--- carries a byte of its user packet
+-- the packet of slot k, if these interleaving frames, of so many ticks, are lost: it is given back if it is kept and
+-- none of them carries a byte of its user packet
 abbrev pub recovered : Config → ℕ → ℕ → (ℕ → List ℕ) → List ℕ → ℕ → List ℕ
 recovered c plp ticks at lost k =
-    if plp_keeps c plp at k && not (is_touched (rates_of c plp ticks) (plp_keeps c plp at) lost k) then at k else null_packet
+    if plp_keeps c plp at k && not (is_touched (rates_of c plp ticks) (plp_keeps c plp at) lost k) then
+    at k else null_packet
 
 -- whether interleaving frame m of the PLP is there: each of its frames is one of so many from one on, and is not muted
 abbrev pub is_there : Config → ℕ → (ℕ → Bool) → ℕ → ℕ → ℕ → Bool
@@ -42,7 +44,8 @@ is_there c plp muted first count m =
 
 -- those that are not; no interleaving frame that the frames carry has a greater number than they have
 abbrev pub lost_frames : Config → ℕ → (ℕ → Bool) → ℕ → ℕ → List ℕ
-lost_frames c plp muted first count = filter (λ m. not (is_there c plp muted first count m)) (range_with_len 0 (first + count))
+lost_frames c plp muted first count = filter (λ m. not (is_there c plp muted first count m))
+    (range_with_len 0 (first + count))
 
 -- what so many frames from one on give back
 abbrev pub recover : Config → ℕ → (ℕ → List ℕ) → (ℕ → Bool) → ℕ → ℕ → List (List ℕ)

@@ -1,5 +1,6 @@
 // Laws of the definitions. Their functions do nothing.
-ghost use Rattle.record_laws.specs.Laws.{FrameLength, BlockStands, OrdinalCounts, CellStands, FewBlocks, EveryFrameFits};
+ghost use Rattle.record_laws.specs.Laws.{FrameLength, BlockStands, OrdinalCounts, CellStands, FewBlocks};
+ghost use Rattle.record_laws.specs.Laws.{EveryFrameFits};
 ghost use Rattle.record_laws.specs.Laws.{MutedFits, ToldCountsFit};
 ghost use Rattle.record_laws.specs.Laws.{FrameFits, AloneLaw, RangeFits, RecordsOnGrid, RecordsFit, AllWhole, NoneLost};
 ghost use Rattle.record_laws.specs.Laws.{DueReleased, RecoverAlone};

@@ -1,5 +1,6 @@
 -- The blocks of a frame with those of one PLP replaced.
-use Rattle.std.proofs.Common.{◌≡◌, ◌⊎◌, ℕ, zero, suc, ◌+◌, ◌-◌, ◌<◌, ◌≤◌, ◌==◌, ◌||◌, Bool, true, false, List, [], ◌∷◌, ◌++◌}
+use Rattle.std.proofs.Common.{◌≡◌, ◌⊎◌, ℕ, zero, suc, ◌+◌, ◌-◌, ◌<◌, ◌≤◌, ◌==◌, ◌||◌, Bool, true, false, List, [], ◌∷◌}
+use Rattle.std.proofs.Common.{◌++◌}
 use Rattle.std.proofs.Common.{map, length, refl, ap, ap₂, sym, ◌∙◌, inl, inr, arith, append-nil, append_assoc}
 use Rattle.std.specs.List.{filter, flat_map, range_with_len}
 use Rattle.std.proofs.lemmas.Bool.{cases_eq, cond-true, cond-false, eq-eqb, ne_eqb}
@@ -27,9 +28,11 @@ among_in : (c : Config) (count from j : ℕ) → from ≤ j → j < from + count
 among_in c zero from j le lt = absurd (omega (arith, le, lt))
 among_in c (suc count) from j le lt =
     elim (cases_eq from j) [
-      | inl same ↦ ap (λ (b : Bool). b || is_among c (from + 1) count (id_of c j)) (eq-eqb (id_of c from) (id_of c j) (ap (id_of c) same))
+      | inl same ↦ ap (λ (b : Bool). b || is_among c (from + 1) count (id_of c j))
+          (eq-eqb (id_of c from) (id_of c j) (ap (id_of c) same))
       | inr differ ↦ ap (λ (b : Bool). (id_of c from == id_of c j) || b)
-          (among_in c count (from + 1) j (omega (arith, le, differ)) (omega (arith, lt))) ∙ or_true (id_of c from == id_of c j)
+          (among_in c count (from + 1) j (omega (arith, le, differ)) (omega (arith, lt)))
+          ∙ or_true (id_of c from == id_of c j)
     ]
 
 among_out : (c : Config) → IsPlan c → (count from j : ℕ) → from + count ≤ length c.plps → j < length c.plps
@@ -52,14 +55,16 @@ kept : (c : Config) (from count j : ℕ) (blocks : List (List Bool)) → is_amon
     → blocks_among c from count (map (sent_block c j) blocks) ≡ map (sent_block c j) blocks
 kept c from count j [] t = refl
 kept c from count j (b ∷ blocks) t =
-    cond-true (is_among c from count (id_of c j)) _ _ t ∙ ap (λ (l : List Block). sent_block c j b ∷ l) (kept c from count j blocks t)
+    cond-true (is_among c from count (id_of c j)) _ _ t ∙ ap (λ (l : List Block). sent_block c j b ∷ l)
+    (kept c from count j blocks t)
 
 gone : (c : Config) (from count j : ℕ) (blocks : List (List Bool)) → is_among c from count (id_of c j) ≡ false
     → blocks_among c from count (map (sent_block c j) blocks) ≡ []
 gone c from count j [] t = refl
 gone c from count j (b ∷ blocks) t = cond-false (is_among c from count (id_of c j)) _ _ t ∙ gone c from count j blocks t
 
-flat_kept : (test : Block → Bool) (f : ℕ → List Block) (k a : ℕ) → ((j : ℕ) → a ≤ j → j < a + k → filter test (f j) ≡ f j)
+flat_kept : (test : Block → Bool) (f : ℕ → List Block) (k a : ℕ) → ((j : ℕ) → a ≤ j → j < a + k
+    → filter test (f j) ≡ f j)
     → filter test (flat_map f (range_with_len a k)) ≡ flat_map f (range_with_len a k)
 flat_kept test f zero a h = refl
 flat_kept test f (suc k) a h =
@@ -67,7 +72,8 @@ flat_kept test f (suc k) a h =
     ∙ ap₂ (λ (x y : List Block). x ++ y) (h a (omega arith) (omega arith))
     (flat_kept test f k (a + 1) (λ j le lt. h j (omega (arith, le)) (omega (arith, lt))))
 
-flat_gone : (test : Block → Bool) (f : ℕ → List Block) (k a : ℕ) → ((j : ℕ) → a ≤ j → j < a + k → filter test (f j) ≡ [])
+flat_gone : (test : Block → Bool) (f : ℕ → List Block) (k a : ℕ) → ((j : ℕ) → a ≤ j → j < a + k
+    → filter test (f j) ≡ [])
     → filter test (flat_map f (range_with_len a k)) ≡ []
 flat_gone test f zero a h = refl
 flat_gone test f (suc k) a h =
@@ -85,7 +91,8 @@ three from count rest =
     (ap (λ (a : ℕ). range_with_len a (count + rest)) e ∙ range_append from count rest)
 
 flat_three : (f : ℕ → List Block) (from count rest : ℕ) → flat_map f (range_with_len 0 (from + (count + rest)))
-    ≡ flat_map f (range_with_len 0 from) ++ (flat_map f (range_with_len from count) ++ flat_map f (range_with_len (from + count) rest))
+    ≡ flat_map f (range_with_len 0 from) ++ (flat_map f (range_with_len from count) ++ flat_map f
+    (range_with_len (from + count) rest))
 flat_three f from count rest =
     ap (flat_map f) (three from count rest)
     ∙ flat_map-append f (range_with_len 0 from) (range_with_len from count ++ range_with_len (from + count) rest)
@@ -111,7 +118,8 @@ module _ (c : Config) (plan : IsPlan c) (blocks : ℕ → List (List Bool)) wher
       (flat_gone test of_plp from 0
       (λ j le lt. gone c from count j (blocks j)
       (among_out c plan count from j (omega (arith, all)) (omega (arith, lt, all)) (inl (omega (arith, lt))))))
-      (filter-append test (flat_map of_plp (range_with_len from count)) (flat_map of_plp (range_with_len (from + count) rest))
+      (filter-append test (flat_map of_plp (range_with_len from count))
+      (flat_map of_plp (range_with_len (from + count) rest))
       ∙ ap₂ (λ (x y : List Block). x ++ y)
       (flat_kept test of_plp count from (λ j le lt. kept c from count j (blocks j) (among_in c count from j le lt)))
       (flat_gone test of_plp rest (from + count)
@@ -130,12 +138,16 @@ replaced_is c plan plp inside was is others =
     let last : length c.plps ≡ plp + 1 + (rest + 0) = omega (arith, inside) in
     let old : ℕ → List Block = λ j. map (sent_block c j) (was j) in
     let new : ℕ → List Block = λ j. map (sent_block c j) (is j) in
-    append_assoc (blocks_among c 0 plp (sent_blocks c was)) (new plp) (blocks_among c (plp + 1) rest (sent_blocks c was))
+    append_assoc (blocks_among c 0 plp (sent_blocks c was)) (new plp) (blocks_among c (plp + 1) rest
+    (sent_blocks c was))
     ∙ ap₂ (λ (x y : List Block). x ++ (new plp ++ y))
     (among_flat c plan was 0 plp (1 + rest) first
-    ∙ flat_same old new 0 plp (λ j le lt. ap (map (sent_block c j)) (sym (others j (λ e. absurd (omega (arith, lt, e)))))))
+    ∙ flat_same old new 0 plp (λ j le lt. ap (map (sent_block c j))
+    (sym (others j (λ e. absurd (omega (arith, lt, e)))))))
     (among_flat c plan was (plp + 1) rest 0 last
-    ∙ flat_same old new (plp + 1) rest (λ j le lt. ap (map (sent_block c j)) (sym (others j (λ e. absurd (omega (arith, le, e)))))))
+    ∙ flat_same old new (plp + 1) rest (λ j le lt. ap (map (sent_block c j))
+    (sym (others j (λ e. absurd (omega (arith, le, e)))))))
     ∙ sym (ap (λ (k : ℕ). flat_map new (range_with_len 0 k)) all ∙ flat_three new plp 1 rest
-    ∙ ap (λ (l : List Block). flat_map new (range_with_len 0 plp) ++ (l ++ flat_map new (range_with_len (plp + 1) rest)))
+    ∙ ap (λ (l : List Block). flat_map new (range_with_len 0 plp)
+    ++ (l ++ flat_map new (range_with_len (plp + 1) rest)))
     (append-nil (new plp)))

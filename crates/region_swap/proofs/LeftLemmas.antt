@@ -1,5 +1,6 @@
 -- The packets that are left of a frame of which a PLP is replaced, one by one.
-use Rattle.std.proofs.Common.{◌≡◌, ℕ, ◌%◌, ◌<◌, ◌≤◌, ◌==◌, Bool, true, false, List, [], ◌∷◌, length, refl, ap, sym, subst, ◌∙◌, arith}
+use Rattle.std.proofs.Common.{◌≡◌, ℕ, ◌%◌, ◌<◌, ◌≤◌, ◌==◌, Bool, true, false, List, [], ◌∷◌, length, refl, ap, sym}
+use Rattle.std.proofs.Common.{subst, ◌∙◌, arith}
 use Rattle.std.proofs.Common.{inl, inr}
 use Rattle.std.specs.Prelude.{slice_index_or, if◌then◌else◌}
 use Rattle.std.proofs.lemmas.Bool.{cases_eq, cases_lt}
@@ -34,26 +35,32 @@ list_own f plp h e =
     ap (λ (k : ℕ). slice_index_or (lists_in f) k []) e
     ∙ get_or-set_same f.frame.now.blocks.now.lists f.list (own_list f.sends f.region.now f.list) [] h.list
 
-pub list_other : (f : SwappedFrame) (plp : ℕ) → (plp ≡ f.list → ⊥) → slice_index_or (lists_in f) plp [] ≡ list_at f.frame.now.blocks.now plp
+pub list_other : (f : SwappedFrame) (plp : ℕ) → (plp ≡ f.list → ⊥) → slice_index_or (lists_in f) plp
+    [] ≡ list_at f.frame.now.blocks.now plp
 list_other f plp differ =
     get_or-set_other f.frame.now.blocks.now.lists f.list plp (own_list f.sends f.region.now f.list) [] differ
 
 -- no block of a list of short ones is longer
-pub short_at : (blocks : List (List ℕ)) (place : ℕ) → AreShort blocks → length (slice_index_or blocks place []) ≤ MOST_BLOCK_BYTES
+pub short_at : (blocks : List (List ℕ)) (place : ℕ) → AreShort blocks
+    → length (slice_index_or blocks place []) ≤ MOST_BLOCK_BYTES
 short_at blocks place short =
     elim (cases_lt place (length blocks)) [
       | inl lt ↦ All-get_or (λ (block : List ℕ). length block ≤ MOST_BLOCK_BYTES) blocks place [] lt short
-      | inr le ↦ subst (λ (l : List ℕ). length l ≤ MOST_BLOCK_BYTES) (sym (get_or_past blocks place [] le)) (omega arith)
+      | inr le ↦ subst (λ (l : List ℕ). length l ≤ MOST_BLOCK_BYTES) (sym (get_or_past blocks place [] le))
+          (omega arith)
     ]
 
 -- nor one that is sent
-pub all_short : (c : Config) (f : SwappedFrame) → HasLists f → CanBeSent c f.frame.now → AreShort (list_at f.region.now f.list)
+pub all_short : (c : Config) (f : SwappedFrame) → HasLists f → CanBeSent c f.frame.now
+    → AreShort (list_at f.region.now f.list)
     → (plp place : ℕ) → length (slice_index_or (slice_index_or (lists_in f) plp []) place []) ≤ MOST_BLOCK_BYTES
 all_short c f h can short plp place =
     elim (cases_eq plp f.list) [
-      | inl same ↦ subst (λ (l : List (List ℕ)). length (slice_index_or l place []) ≤ MOST_BLOCK_BYTES) (sym (list_own f plp h same))
+      | inl same ↦ subst (λ (l : List (List ℕ)). length (slice_index_or l place []) ≤ MOST_BLOCK_BYTES)
+          (sym (list_own f plp h same))
           (own f.sends)
-      | inr differ ↦ subst (λ (l : List (List ℕ)). length (slice_index_or l place []) ≤ MOST_BLOCK_BYTES) (sym (list_other f plp differ))
+      | inr differ ↦ subst (λ (l : List (List ℕ)). length (slice_index_or l place []) ≤ MOST_BLOCK_BYTES)
+          (sym (list_other f plp differ))
           (can.short plp place)
     ]
   where
@@ -62,8 +69,10 @@ all_short c f h can short plp place =
     own false = omega arith
 
 -- so it has what its packets carry
-pub can_build : (c : Config) (s : SwapSource) (f : SwappedFrame) → s.place.number ≤ MOST_FRAMES → s.place.plp ≤ length c.plps
-    → CanBeSent c f.frame.now → length f.dynamic.now ≤ MOST_DYN_BITS → f.list < length c.plps → length f.region.now.lists ≡ length c.plps
+pub can_build : (c : Config) (s : SwapSource) (f : SwappedFrame) → s.place.number ≤ MOST_FRAMES
+    → s.place.plp ≤ length c.plps
+    → CanBeSent c f.frame.now → length f.dynamic.now ≤ MOST_DYN_BITS → f.list < length c.plps
+    → length f.region.now.lists ≡ length c.plps
     → AllShort f.region.now → HasWalks s f → CanBuild s f c
 can_build c s f early inside can dynamic list region short walks =
     let plps = can.plps in
@@ -81,7 +90,8 @@ can_build c s f early inside can dynamic list region short walks =
 -- ---- from the first packet on
 
 first_is : (c : Config) (n : ℕ) (signal : Body) (rest : List Body) (t : Bool)
-    → from_step c n (if t then step.Stamp else step.Signal) signal rest ≡ (if t then Timestamp (stamp_of c n) ∷ signal ∷ rest else signal ∷ rest)
+    → from_step c n (if t then step.Stamp else step.Signal) signal rest ≡ (if t then Timestamp (stamp_of c n)
+    ∷ signal ∷ rest else signal ∷ rest)
 first_is c n signal rest true = refl
 first_is c n signal rest false = refl
 
@@ -96,5 +106,6 @@ all_left c n pre conf dynamic lists =
 -- nothing is left of a place that is over
 pub over_left : (c : Config) (p : SwapPlace) (pre conf dynamic : List Bool) (lists : List (List (List ℕ))) → IsOver p
     → left_by c p pre conf dynamic lists ≡ []
-over_left c p pre conf dynamic lists over = ap (λ (step : FrameStep). from_step c p.number step (l1_body c p.number pre conf dynamic)
+over_left c p pre conf dynamic lists over = ap (λ (step : FrameStep). from_step c p.number step
+    (l1_body c p.number pre conf dynamic)
     (blocks_left c (p.number % c.frames) p.plp p.place lists)) over

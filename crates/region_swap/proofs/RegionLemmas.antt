@@ -29,7 +29,8 @@ use Rattle.gateway_core.specs.declared.input.Input.{Input}
 -- ---- inputs that continue
 
 -- an input that wants a packet has not ended
-pub still : (i : Input) (c : Config) (plp : ℕ) (t : Told) (early : List (List Bool)) → 0 < cond (is_some i.total) 0 (i.due - i.slot)
+pub still : (i : Input) (c : Config) (plp : ℕ) (t : Told) (early : List (List Bool))
+    → 0 < cond (is_some i.total) 0 (i.due - i.slot)
     → IsFed i c plp t early → t.ended ≡ false
 still i c plp t early some h = (wants i.total t.ended (length t.packets) (i.due - i.slot) some h.total_is).still
 
@@ -38,7 +39,8 @@ still i c plp t early some h = (wants i.total t.ended (length t.packets) (i.due 
 none_fits : (c : Config) (plp : ℕ) (blocks : List (List ℕ)) → blocks ≡ [] → ListFits c plp blocks
 none_fits c plp blocks e = subst (ListFits c plp) (sym e) (record { few = omega arith; short = All-nil _ })
 
-pub has_place : (i : Input) (pool : State) (sends : Bool) (next count : ℕ) (c : Config) (plp : ℕ) → Serves i pool sends next count c plp
+pub has_place : (i : Input) (pool : State) (sends : Bool) (next count : ℕ) (c : Config) (plp : ℕ)
+    → Serves i pool sends next count c plp
     → HasPlace c plp pool plp
 has_place i pool sends next count c plp s = record {
   enough = (let e = s.chunks in omega (arith, e));
@@ -59,7 +61,8 @@ supplied i pool sends next count c plp free s = ∥∥₁_map s.told (λ (h : Ha
 })
 
 -- the same with one list changed
-pub serves_on : (i j : Input) (was is : State) (sends b : Bool) (next m count n : ℕ) (c : Config) (plp : ℕ) → Others was is plp
+pub serves_on : (i j : Input) (was is : State) (sends b : Bool) (next m count n : ℕ) (c : Config) (plp : ℕ)
+    → Others was is plp
     → (AllShort was → AllShort is) → most j ≡ most i → n ≤ (plp_at c.plps plp).blocks → ∥ HasTold j is b m n c plp ∥₁
     → Serves i was sends next count c plp → Serves j is b m n c plp
 serves_on i j was is sends b next m count n c plp o short same few told s = record {
@@ -78,16 +81,19 @@ same_lists pool plp = record { lists = λ other differ. refl; count = refl; open
 
 -- ---- one packet more, or the end
 
-pub supplies_offer : (i j : Input) (was is : State) (sends : Bool) (next count : ℕ) (c : Config) (plp : ℕ) (t : Told) (packet : List ℕ)
+pub supplies_offer : (i j : Input) (was is : State) (sends : Bool) (next count : ℕ) (c : Config) (plp : ℕ)
+    (t : Told) (packet : List ℕ)
     → sends ≡ false → 0 < cond (is_some i.total) 0 (i.due - i.slot)
     → (IsFed i c plp t (bits_in was plp) → IsFed j c plp (with_packet t packet) (bits_in is plp))
     → Supplies i was sends next count c plp t → Supplies j is sends next count c plp (with_packet t packet)
 supplies_offer i j was is sends next count c plp t packet free some fed s =
-    let here : IsFed i c plp t (bits_in was plp) = subst (λ (b : Bool). IsFed i c plp t (early_in b was plp)) free s.fed in
+    let here : IsFed i c plp t (bits_in was plp) = subst (λ (b : Bool). IsFed i c plp t (early_in b was plp))
+    free s.fed in
     record {
       fed = subst (λ (b : Bool). IsFed j c plp (with_packet t packet) (early_in b is plp)) (sym free) (fed here);
       next_is = s.next_is;
-      stays = λ input more off. s.stays input (cont_packet t packet input (still i c plp t (bits_in was plp) some here) more) off;
+      stays = λ input more off. s.stays input (cont_packet t packet input (still i c plp t (bits_in was plp) some here)
+          more) off;
     }
 
 pub supplies_end : (i j : Input) (pool : State) (sends : Bool) (next count : ℕ) (c : Config) (plp : ℕ) (t : Told)
@@ -102,7 +108,8 @@ supplies_end i j pool sends next count c plp t fed s = record {
 -- ---- the end of a frame
 
 -- a frame that goes on with an interleaving frame tells its blocks
-pub told_same : (c : Config) (plp n : ℕ) (input : List (List ℕ)) → 1 ≤ spread c.plps plp → is_first c plp (n + 1) ≡ false
+pub told_same : (c : Config) (plp n : ℕ) (input : List (List ℕ)) → 1 ≤ spread c.plps plp
+    → is_first c plp (n + 1) ≡ false
     → told_count c (λ _. input) (n + 1) plp ≡ told_count c (λ _. input) n plp
 told_same c plp n input some off =
     ap (λ (m : ℕ). length (plp_blocks c (λ _. input) m plp)) (same_number c plp n some off)
@@ -111,11 +118,13 @@ own_here : (c : Config) (plp n : ℕ) (input : List (List ℕ)) → is_first c p
     → own_blocks c (λ _. input) n plp ≡ plp_blocks c (λ _. input) (interleaving_frame c plp n) plp
 own_here c plp n input on = rw on refl
 
-own_none : (c : Config) (plp n : ℕ) (input : List (List ℕ)) → is_first c plp n ≡ false → own_blocks c (λ _. input) n plp ≡ []
+own_none : (c : Config) (plp n : ℕ) (input : List (List ℕ)) → is_first c plp n ≡ false
+    → own_blocks c (λ _. input) n plp ≡ []
 own_none c plp n input off = rw off refl
 
 pub gives_cut : (j : Input) (pool : State) (c : Config) (plp : ℕ) (t : Told) (count : ℕ) (input : List (List ℕ))
-    → is_first c plp t.frame ≡ true → HasCut j c plp t pool count → Continues t input → Gives pool true count c plp t.frame input
+    → is_first c plp t.frame ≡ true → HasCut j c plp t pool count → Continues t input
+    → Gives pool true count c plp t.frame input
 gives_cut j pool c plp t count input on h more = record {
   blocks = h.blocks input more ∙ sym (own_here c plp t.frame input on);
   count_is = h.count_is ∙ sym (length-map (list_at pool plp) bits_of) ∙ ap length (h.blocks input more);
@@ -129,7 +138,8 @@ gives_pass i pool next count c plp t input off s more = record {
   count_is = s.stays input more off;
 }
 
-pub supplies_cut : SpreadDividesFrames → (j : Input) (pool : State) (next count : ℕ) (c : Config) (plp : ℕ) (t : Told) → IsPlan c
+pub supplies_cut : SpreadDividesFrames → (j : Input) (pool : State) (next count : ℕ) (c : Config) (plp : ℕ) (t : Told)
+    → IsPlan c
     → plp < length c.plps → is_first c plp t.frame ≡ true → next ≡ t.frame → HasCut j c plp t pool count
     → Supplies j pool true (next + 1) count c plp (in_next t)
 supplies_cut spreads j pool next count c plp t plan lt on e h = record {
@@ -140,7 +150,8 @@ supplies_cut spreads j pool next count c plp t plan lt on e h = record {
       ∙ sym (told_same c plp t.frame input (spreads c plp plan.rules lt).0 off);
 }
 
-pub supplies_pass : SpreadDividesFrames → (i j : Input) (pool : State) (sends : Bool) (next count : ℕ) (c : Config) (plp : ℕ) (t : Told)
+pub supplies_pass : SpreadDividesFrames → (i j : Input) (pool : State) (sends : Bool) (next count : ℕ)
+    (c : Config) (plp : ℕ) (t : Told)
     → IsPlan c → plp < length c.plps → is_first c plp t.frame ≡ false
     → (IsFed i c plp t (early_in sends pool plp) → IsFed j c plp (in_next t) (early_in sends pool plp))
     → Supplies i pool sends next count c plp t → Supplies j pool sends (next + 1) count c plp (in_next t)

@@ -1,5 +1,6 @@
 -- A frame that is held is sent with a PLP replaced as its record says.
-use Rattle.std.proofs.Common.{◌≡◌, ℕ, suc, ◌+◌, ◌-◌, ◌%◌, ◌<◌, ◌==◌, Bool, true, false, List, [], ◌∷◌, ◌++◌, length, map, None, refl, ap, ap₂, sym, subst}
+use Rattle.std.proofs.Common.{◌≡◌, ℕ, suc, ◌+◌, ◌-◌, ◌%◌, ◌<◌, ◌==◌, Bool, true, false, List, [], ◌∷◌, ◌++◌, length}
+use Rattle.std.proofs.Common.{map, None, refl, ap, ap₂, sym, subst}
 use Rattle.std.proofs.Common.{◌∙◌, ⊎_elim, arith}
 use Rattle.std.specs.Prelude.{slice_index_or, slice_set, if◌then◌else◌}
 use Rattle.std.specs.List.{flat_map, range_with_len}
@@ -65,10 +66,12 @@ all_sent c frame_idx blocks a (l ∷ lists) h =
     (all_sent c frame_idx blocks (a + 1) lists (λ j lt.
     let there : a + suc j ≡ a + 1 + j = omega arith in h (suc j) (omega (arith, lt)) ∙ ap blocks there))
 
-held_back : (c : Config) (plp : ℕ) (blocks : List (List Bool)) → AreLong c plp blocks → map bits_of (map held_bytes blocks) ≡ blocks
+held_back : (c : Config) (plp : ℕ) (blocks : List (List Bool)) → AreLong c plp blocks
+    → map bits_of (map held_bytes blocks) ≡ blocks
 held_back c plp [] long = refl
 held_back c plp (b ∷ blocks) long =
-    ap₂ (λ (x : List Bool) (l : List (List Bool)). x ∷ l) (bits_of-bytes_of b (block_bytes c plp) long.0) (held_back c plp blocks long.1)
+    ap₂ (λ (x : List Bool) (l : List (List Bool)). x ∷ l) (bits_of-bytes_of b (block_bytes c plp) long.0)
+    (held_back c plp blocks long.1)
 
 -- ---- the L1-current
 
@@ -77,9 +80,12 @@ signal_sent : (c : Config) (n : ℕ) (pre conf dynamic : List Bool) → pre ≡ 
 unfolding pre_part conf_part
 signal_sent c n pre conf dynamic p q = ap₂ (λ (x y : List Bool). l1_body c n x y dynamic) p q
 
-module _ (numbers : BitCounts) (back : ScramblesBack) (law : PreBitsLength) (field : FieldRange) (knows : Knows) (c : Config) (plp n : ℕ)
-    (view : RecordView) (f : PoolFrame) (input : List (List ℕ)) (dynamic : List Bool) (own : List (List ℕ)) (plan : IsPlan c)
-    (inside : plp < length c.plps) (h : IsHeld c n view f) (made : IsMade c n plp (told_count c (λ _. input) n plp) f.dynamic dynamic)
+module _ (numbers : BitCounts) (back : ScramblesBack) (law : PreBitsLength) (field : FieldRange) (knows : Knows)
+    (c : Config) (plp n : ℕ)
+    (view : RecordView) (f : PoolFrame) (input : List (List ℕ)) (dynamic : List Bool) (own : List (List ℕ))
+    (plan : IsPlan c)
+    (inside : plp < length c.plps) (h : IsHeld c n view f) (made : IsMade c n plp (told_count c (λ _. input) n plp)
+    f.dynamic dynamic)
     (same : map bits_of own ≡ own_blocks c (λ _. input) n plp) where
   abbrev right : ℕ → List (List Bool)
   right j = right_blocks c j h.packets
@@ -110,7 +116,8 @@ module _ (numbers : BitCounts) (back : ScramblesBack) (law : PreBitsLength) (fie
   lists_are : (j : ℕ) → j < length lists → map bits_of (slice_index_or lists j []) ≡ now j
   lists_are j lt = ⊎_elim
       (λ (e : j ≡ plp). subst (λ (k : ℕ). map bits_of (slice_index_or lists k []) ≡ now k) (sym e)
-      (ap (map bits_of) (get_or-set_same f.blocks.now.lists plp own [] (let k = h.shows.plps in omega (arith, k, inside)))
+      (ap (map bits_of) (get_or-set_same f.blocks.now.lists plp own [] (let k = h.shows.plps in omega
+      (arith, k, inside)))
       ∙ same ∙ sym now_own))
       (λ (e : j ≡ plp → ⊥). ap (map bits_of) (get_or-set_other f.blocks.now.lists plp j own [] e
       ∙ h.shows.blocks j (let k = count in omega (arith, lt, k))) ∙ held_back c j (right j) (right_long c j h.packets)
@@ -123,7 +130,8 @@ module _ (numbers : BitCounts) (back : ScramblesBack) (law : PreBitsLength) (fie
       let whole : length lists ≡ length c.plps - 0 = (let k = count in omega (arith, k)) in
       ap₂ (λ (l1 : Body) (l : List Body). with_stamp c n (l1 ∷ l)) (signal_sent c n f.pre f.conf dynamic h.pre h.conf)
       (all_sent c (n % c.frames) now 0 lists (λ j lt. let e : j ≡ 0 + j = omega arith in lists_are j lt ∙ ap now e)
-      ∙ ap (λ (k : ℕ). flat_map (λ j. sent_bodies (n % c.frames) (plp_at c.plps j).id true (now j)) (range_with_len 0 k)) whole)
+      ∙ ap (λ (k : ℕ). flat_map (λ j. sent_bodies (n % c.frames) (plp_at c.plps j).id true (now j))
+      (range_with_len 0 k)) whole)
 
   -- its record
   abbrev passes : Passed c n h.packets
@@ -142,10 +150,12 @@ module _ (numbers : BitCounts) (back : ScramblesBack) (law : PreBitsLength) (fie
   counts_same = ap (counts_told c) (dynamic_there c f.dynamic knows.conf_size own_size)
 
   dynamic_made : dyn_part c n (swapped_counts c plp input n post) ≡ dynamic
-  dynamic_made = ap (λ (l : List ℕ). dyn_part c n (slice_set l plp (told_count c (λ _. input) n plp))) counts_same ∙ sym made.is
+  dynamic_made = ap (λ (l : List ℕ). dyn_part c n (slice_set l plp (told_count c (λ _. input) n plp))) counts_same
+      ∙ sym made.is
 
   post_made : post_with_counts c n (swapped_counts c plp input n post) post ≡ post_with c dynamic
-  post_made = ap₂ (λ (x y : List Bool). crc_behind true (x ++ y)) (conf_there c f.dynamic knows.conf_size own_size) dynamic_made
+  post_made = ap₂ (λ (x y : List Bool). crc_behind true (x ++ y)) (conf_there c f.dynamic knows.conf_size own_size)
+      dynamic_made
 
   blocks_made : replaced c plp (input_blocks c plp input n) (sent_blocks c right) ≡ sent_blocks c now
   blocks_made =
@@ -157,8 +167,10 @@ module _ (numbers : BitCounts) (back : ScramblesBack) (law : PreBitsLength) (fie
       ap (λ (v : RecordView). view_bodies c n (swapped_view c plp input n v)) h.is
       ∙ ap (λ (d : List Bool). with_stamp c n (signal_of c n (l1_pre c)
       (post_with_counts c n (swapped_counts c plp input n (post_with c d)) (post_with c d))
-      ∷ record_bodies (n % c.frames) None (replaced c plp (input_blocks c plp input n) (sent_blocks c right)))) (sym h.shows.dynamic_is)
-      ∙ ap₂ (λ (x : List Bool) (l : List Block). with_stamp c n (signal_of c n (l1_pre c) x ∷ record_bodies (n % c.frames) None l))
+      ∷ record_bodies (n % c.frames) None (replaced c plp (input_blocks c plp input n) (sent_blocks c right))))
+      (sym h.shows.dynamic_is)
+      ∙ ap₂ (λ (x : List Bool) (l : List Block). with_stamp c n (signal_of c n (l1_pre c) x ∷ record_bodies
+      (n % c.frames) None l))
       post_made blocks_made
       ∙ made_carries numbers back law knows.conf_size c n plan dynamic now made.size now_long
 

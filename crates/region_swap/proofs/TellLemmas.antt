@@ -1,9 +1,11 @@
 -- What a dynamic part tells is what was read of it.
-use Rattle.std.proofs.Common.{◌≡◌, ℕ, Bool, true, false, List, [], Option, Some, None, cond, refl, ap, sym, ◌∙◌, is_some, arith}
+use Rattle.std.proofs.Common.{◌≡◌, ℕ, Bool, true, false, List, [], Option, Some, None, cond, refl, ap, sym, ◌∙◌}
+use Rattle.std.proofs.Common.{is_some, arith}
 use Rattle.std.specs.Prelude.{option_map, slice_index}
 use Rattle.std.specs.Option.{option_map_or}
 use Rattle.std.proofs.lemmas.Bool.{true≢false}
-use Rattle.terms.proofs.OptionLemmas.{none_some, some_injective}
+use Rattle.std.proofs.lemmas.Option.{same_Some}
+use Rattle.terms.proofs.OptionLemmas.{none_some}
 use Rattle.scheduler.specs.Shape.{FrameShape}
 use Rattle.l1_signal.specs.L1Of.{told_shape}
 use Rattle.l1_signal.specs.declared.dynamic.L1Dyn.{L1Dyn}
@@ -14,7 +16,8 @@ use Rattle.region_swap.specs.Laws.{HeldTells}
 use Rattle.region_swap.specs.Telling.{told_by}
 
 -- it was read
-pub reads : (o : Option L1Dyn) (b : Bool) (rows : L1Dyn) → o ≡ cond b (Some rows) None → is_some o ≡ true → o ≡ Some rows
+pub reads : (o : Option L1Dyn) (b : Bool) (rows : L1Dyn) → o ≡ cond b (Some rows) None → is_some o ≡ true
+    → o ≡ Some rows
 reads o true rows e some = e
 reads o false rows e some = absurd (true≢false (sym some ∙ ap is_some e))
 
@@ -26,7 +29,7 @@ some_told (Some d) s e = refl
 pub from_told : (o : Option L1Dyn) (s : FrameShape) → option_map told_shape o ≡ Some s
     → option_map_or (λ (d : L1Dyn). (told_shape d).counts) o [] ≡ s.counts
 from_told None s e = none_some s e
-from_told (Some d) s e = ap (λ (t : FrameShape). t.counts) (some_injective (told_shape d) s e)
+from_told (Some d) s e = ap (λ (t : FrameShape). t.counts) (same_Some (told_shape d) s e)
 
 pub held_tells : MapPasses → HeldTells
 held_tells map_test c n view f plan h =
@@ -39,5 +42,10 @@ held_tells map_test c n view f plan h =
     let counts = from_told (told_by c f.dynamic) p.l1.shape told in
     record {
       reads = some_told (told_by c f.dynamic) p.l1.shape told;
-      few = λ plp lt. (let few = fits.counts plp lt in omega (arith, few, ap (λ (l : List ℕ). slice_index l plp) counts));
+      few = λ plp lt. (let few = fits.counts plp lt in omega (
+        arith,
+        few,
+        ap (λ (l : List ℕ). slice_index l plp)
+            counts,
+      ));
     }

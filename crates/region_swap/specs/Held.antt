@@ -10,7 +10,8 @@ use Rattle.open_group.specs.Written.{packets_view}
 use Rattle.frame_writer.specs.Signalling.{pre_part, conf_part}
 use Rattle.frame_writer.specs.declared.frame.PoolFrame.{PoolFrame}
 
--- It shows packets that pass the tests as frame n and make this record, and has the parts of L1 that all frames of the network share.
+-- It shows packets that pass the tests as frame n and make this record, and has the parts of L1 that all frames of the
+-- network share.
 pub record IsHeld (c : Config) (n : ℕ) (view : RecordView) (f : PoolFrame) : Type 0 where
   pub packets : List Packet
   pub past : List Numbered

@@ -13,9 +13,10 @@ use Rattle.region_swap.specs.declared.region.Region.{Region}
 abbrev pub next_by : Bool → ℕ → ℕ
 next_by begun number = if begun then number + 1 else number
 
--- The region and the dynamic part are of the network; the frame under way may be, and the last one begun; between frames nothing is
--- left to build, and the list is free.
-pub record AreParts (c : Config) (plp : ℕ) (region : Region) (dynamic : Dynamic) (dry : Bool) (place : SwapPlace) (number : ℕ)
+-- The region and the dynamic part are of the network; the frame under way may be, and the last one begun; between
+-- frames nothing is left to build, and the list is free.
+pub record AreParts (c : Config) (plp : ℕ) (region : Region) (dynamic : Dynamic) (dry : Bool) (place : SwapPlace)
+    (number : ℕ)
     (begun : Bool) : Type 0 where
   pub region_is : IsRegionOf region c plp
   pub plps : plps_in dynamic ≡ length c.plps

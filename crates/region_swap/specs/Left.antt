@@ -25,7 +25,8 @@ lists_in f = slice_set f.frame.now.blocks.now.lists f.list (own_list f.sends f.r
 -- what is left of a frame with these parts of L1 and these blocks
 abbrev pub left_by : Config → SwapPlace → List Bool → List Bool → List Bool → List (List (List ℕ)) → List Body
 left_by c p pre conf dynamic lists =
-    from_step c p.number p.step (l1_body c p.number pre conf dynamic) (blocks_left c (p.number % c.frames) p.plp p.place lists)
+    from_step c p.number p.step (l1_body c p.number pre conf dynamic) (blocks_left c (p.number % c.frames)
+    p.plp p.place lists)
 
 abbrev pub left_of : Config → SwapPlace → SwappedFrame → List Body
 left_of c p f = left_by c p f.frame.now.pre f.frame.now.conf f.dynamic.now (lists_in f)

@@ -12,7 +12,8 @@ use Rattle.gateway_core.specs.IsFed.{IsFed, most}
 use Rattle.gateway_core.specs.declared.input.Input.{Input}
 use Rattle.region_swap.specs.declared.region.Region.{Region}
 
--- the blocks that the chain put already of a later interleaving frame: none while the list holds those of the frame before
+-- the blocks that the chain put already of a later interleaving frame: none while the list holds those of the frame
+-- before
 abbrev pub early_in : Bool → State → ℕ → List (List Bool)
 early_in sends pool plp = if sends then [] else bits_in pool plp
 
@@ -21,10 +22,12 @@ abbrev pub sent_in : Bool → State → ℕ → List (List Bool)
 sent_in sends pool plp = if sends then bits_in pool plp else []
 
 -- Its input was told this; the count of the interleaving frame that goes on in the next frame stands.
-pub record Supplies (i : Input) (pool : State) (sends : Bool) (next count : ℕ) (c : Config) (plp : ℕ) (t : Told) : Type 0 where
+pub record Supplies (i : Input) (pool : State) (sends : Bool) (next count : ℕ) (c : Config) (plp : ℕ)
+    (t : Told) : Type 0 where
   pub fed : IsFed i c plp t (early_in sends pool plp)
   pub next_is : next ≡ t.frame
-  pub stays : (input : List (List ℕ)) → Continues t input → is_first c plp t.frame ≡ false → count ≡ told_count c (λ _. input) t.frame plp
+  pub stays : (input : List (List ℕ)) → Continues t input → is_first c plp t.frame ≡ false
+      → count ≡ told_count c (λ _. input) t.frame plp
 
 abbrev pub RegionStandsFor : Region → Config → ℕ → Told → Type 0
 RegionStandsFor r c plp t = Supplies r.input r.blocks r.sends r.next r.count c plp t
@@ -53,7 +56,8 @@ abbrev pub IsRegionOf : Region → Config → ℕ → Type 0
 IsRegionOf r c plp = Serves r.input r.blocks r.sends r.next r.count c plp
 
 -- The frame before is frame n of whatever input continues: its blocks and its count.
-pub record Gives (pool : State) (sends : Bool) (count : ℕ) (c : Config) (plp n : ℕ) (input : List (List ℕ)) : Type 0 where
+pub record Gives (pool : State) (sends : Bool) (count : ℕ) (c : Config) (plp n : ℕ) (input : List (List ℕ)) :
+    Type 0 where
   pub blocks : sent_in sends pool plp ≡ own_blocks c (λ _. input) n plp
   pub count_is : count ≡ told_count c (λ _. input) n plp
 

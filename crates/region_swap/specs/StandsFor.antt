@@ -1,5 +1,6 @@
 -- What a swapper stands for.
-use Rattle.std.specs.Prelude.{◌≡◌, ◌≢◌, ◌≤◌, ℕ, ◌+◌, ◌-◌, ◌*◌, Bool, true, false, List, [], ◌++◌, drop, length, slice_set, if◌then◌else◌}
+use Rattle.std.specs.Prelude.{◌≡◌, ◌≢◌, ◌≤◌, ℕ, ◌+◌, ◌-◌, ◌*◌, Bool, true, false, List, [], ◌++◌, drop, length}
+use Rattle.std.specs.Prelude.{slice_set, if◌then◌else◌}
 use Rattle.plp_config.specs.SlotTime.{slots_by}
 use Rattle.plp_config.specs.declared.config.Config.{Config}
 use Rattle.ts_packet.specs.TsFile.{joined}
@@ -26,15 +27,16 @@ use Rattle.region_swap.specs.declared.swapper.Swapper.{Swapper}
 abbrev pub none_told : Told
 none_told = record { packets = []; ended = false; frame = 0 }
 
--- how many packets the frame under way wants: those of the slots that are over when it begins, without those offered; none from an
--- input that ended
+-- how many packets the frame under way wants: those of the slots that are over when it begins, without those offered;
+-- none from an input that ended
 abbrev pub wants_by : Config → ℕ → Told → ℕ
 wants_by c plp t = if t.ended then 0 else slots_by c plp (t.frame * c.ticks) - length t.packets
 
 -- what is left of the frame under way, by its parts of L1 and its blocks
 abbrev pub left_with : Swapper → List Bool → List Bool → List (List (List ℕ)) → List Body
 left_with s pre conf lists =
-    left_by s.plan.now s.place pre conf s.dynamic.bits (slice_set lists s.list (own_list s.region.sends s.region.blocks s.list))
+    left_by s.plan.now s.place pre conf s.dynamic.bits
+    (slice_set lists s.list (own_list s.region.sends s.region.blocks s.list))
 
 abbrev pub left_in : Swapper → PoolFrame → List Body
 left_in s f = left_with s f.pre f.conf f.blocks.now.lists
@@ -43,10 +45,11 @@ left_in s f = left_with s f.pre f.conf f.blocks.now.lists
 abbrev pub left_for : Swapper → List (List (List ℕ)) → List Body
 left_for s lists = left_with s (pre_part s.plan.now) (conf_part s.plan.now) lists
 
--- These packets were offered; these frames were begun, by the records that they make, and of the last one these bodies are left; and
--- for every input that continues what was offered, the packets of the frames with the PLP replaced have come so far, and so many units
--- were given.
-pub record Swaps (c : Config) (plp : ℕ) (region : Region) (flow : Flow) (place : SwapPlace) (number : ℕ) (begun : Bool) (t : Told)
+-- These packets were offered; these frames were begun, by the records that they make, and of the last one these bodies
+-- are left; and for every input that continues what was offered, the packets of the frames with the PLP replaced have
+-- come so far, and so many units were given.
+pub record Swaps (c : Config) (plp : ℕ) (region : Region) (flow : Flow) (place : SwapPlace) (number : ℕ)
+    (begun : Bool) (t : Told)
     (left : List Body) (frames : List NumberedView) (given : ℕ) : Type 0 where
   pub supplied : RegionStandsFor region c plp (region_told begun t)
   pub number_is : number ≡ t.frame
@@ -58,8 +61,8 @@ abbrev pub IsAsTold : Swapper → Told → List Body → List NumberedView → �
 IsAsTold s t left frames given =
     Swaps s.plan.now s.list s.region s.flow s.place s.number s.begun t left frames given
 
--- Its configuration and the place of the PLP; the packets offered, whether they ended and the frame under way; what is left of the last
--- frame that was begun; the frames begun, in turn; and how many units it gave.
+-- Its configuration and the place of the PLP; the packets offered, whether they ended and the frame under way; what is
+-- left of the last frame that was begun; the frames begun, in turn; and how many units it gave.
 unfoldable pub SwapperStandsFor : Swapper → Config → ℕ → Told → List Body → List NumberedView → ℕ → Type 0
 SwapperStandsFor s c plp t left frames given = (s.plan.now ≡ c) × (s.list ≡ plp) × IsAsTold s t left frames given
 
@@ -79,8 +82,8 @@ has_unit s = gives_unit s.flow.outlet
 abbrev pub is_fed : Swapper → Bool
 is_fed s = s.flow.dry
 
--- what a caller sees of it beside its wants: its network, the place of the PLP, the frame under way and whether it was begun, and
--- whether no more frames come
+-- what a caller sees of it beside its wants: its network, the place of the PLP, the frame under way and whether it was
+-- begun, and whether no more frames come
 pub record Status : Type 0 where
   pub network : Config
   pub plp : ℕ
@@ -89,7 +92,14 @@ pub record Status : Type 0 where
   pub finished : Bool
 
 abbrev pub status_of : Swapper → Status
-status_of s = record { network = s.plan.now; plp = s.list; frame = s.number; begun = s.begun; finished = s.flow.finished }
+status_of s = record {
+  network = s.plan.now;
+  plp = s.list;
+  frame = s.number;
+  begun = s.begun;
+  finished =
+      s.flow.finished;
+}
 
 -- that of one that was opened
 abbrev pub new_status : Config → ℕ → Status

@@ -18,7 +18,7 @@ use Rattle.open_group.specs.Written.{content_view}
 use Rattle.frame_groups.specs.Readable.{told_dynamic}
 use Rattle.record_laws.specs.Frames.{sent_block, frame_cells}
 use Rattle.gateway_core.specs.Signalling.{dyn_part}
-use Rattle.stream_laws.specs.Remade.{NumberedView}
+use Rattle.stream_laws.specs.Remade.{NumberedView, numbered}
 
 -- one of so many PLPs, from a place on, has this identifier (PLP_ID)
 abbrev pub is_among : Config → ℕ → ℕ → ℕ → Bool
@@ -28,13 +28,14 @@ is_among c from count id = list_any (λ plp. (plp_at c.plps plp).id == id) (rang
 abbrev pub blocks_among : Config → ℕ → ℕ → List Block → List Block
 blocks_among c from count blocks = filter (λ b. is_among c from count b.plp_id) blocks
 
--- blocks with those of the PLP at a place replaced: those of the PLPs before it, its own, and those of the PLPs behind it
+-- blocks with those of the PLP at a place replaced: those of the PLPs before it, its own, and those of the PLPs behind
+-- it
 abbrev pub replaced : Config → ℕ → List Block → List Block → List Block
 replaced c plp own blocks =
     blocks_among c 0 plp blocks ++ own ++ blocks_among c (plp + 1) (length c.plps - (plp + 1)) blocks
 
--- the blocks of a PLP that are sent in frame n, if its packets are these: those of the interleaving frame that begins in n, if one
--- does
+-- the blocks of a PLP that are sent in frame n, if its packets are these: those of the interleaving frame that begins
+-- in n, if one does
 abbrev pub input_blocks : Config → ℕ → List (List ℕ) → ℕ → List Block
 input_blocks c plp input n = map (sent_block c plp) (own_blocks c (λ _. input) n plp)
 
@@ -46,7 +47,8 @@ counts_in c post = option_map_or (λ dynamic. (told_shape dynamic).counts) (told
 abbrev pub swapped_counts : Config → ℕ → List (List ℕ) → ℕ → List Bool → List ℕ
 swapped_counts c plp input n post = slice_set (counts_in c post) plp (told_count c (λ _. input) n plp)
 
--- L1-post of frame n with these counts: its configurable part stands, its dynamic part and the CRC_32 are made anew (clause 7.2.3)
+-- L1-post of frame n with these counts: its configurable part stands, its dynamic part and the CRC_32 are made anew
+-- (clause 7.2.3)
 abbrev pub post_with_counts : Config → ℕ → List ℕ → List Bool → List Bool
 post_with_counts c n counts post = crc_behind true (take (conf_len (length c.plps)) post ++ dyn_part c n counts)
 
@@ -57,10 +59,6 @@ swapped_view c plp input n (Frame moment pre post blocks cells) =
     (replaced c plp (input_blocks c plp input n) blocks)
     (frame_cells c (shape_of c (swapped_counts c plp input n post)) (n % c.frames))
 swapped_view c plp input n (MutedRecord moment) = MutedRecord moment
-
--- a frame by its number
-abbrev pub numbered : ℕ → RecordView → NumberedView
-numbered n view = record { number = n; view = view }
 
 -- the frame of a record, if it is not muted
 abbrev pub frame_in : Config → ℕ → Content → List NumberedView

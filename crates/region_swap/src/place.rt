@@ -108,8 +108,8 @@ impl SwapPlace {
     }
 }
 
-/// A place among the packets of a frame, and walks over both pools that have its blocks. So the block behind the last one
-/// is found without going over those before it.
+/// A place among the packets of a frame, and walks over both pools that have its blocks. So the block behind the last
+/// one is found without going over those before it.
 #[derive(Drop)]
 pub struct SwapSource<'b> {
     pub place: SwapPlace,
@@ -161,7 +161,8 @@ impl<'b> SwapSource<'b> {
     ) -> bool
         requires of { CanBuild self.old frame.now plan.now }
         requires step { self.old.place.step ≡ step.Blocks }
-        ensures some { result ≡ true → Builds plan.now self.old.place.number packet_count (left_of plan.now self.old.place frame.now)
+        ensures some { result ≡ true → Builds plan.now self.old.place.number packet_count
+            (left_of plan.now self.old.place frame.now)
             (left_of plan.now self.new.place frame.now) out.new }
         ensures none { result ≡ false → left_of plan.now self.old.place frame.now ≡ [] }
         ensures over { result ≡ false → self.new.place.step ≡ step.Over }

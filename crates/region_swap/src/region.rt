@@ -8,15 +8,15 @@ use plp_config::{Plan, spread_law};
 use std::alloc::Global;
 use ts_packet::TsPacket;
 
-/// The packets that replace those of a PLP, and the blocks that its chain made of them: take the packets that the next frame wants,
-/// end it, and leave its blocks.
+/// The packets that replace those of a PLP, and the blocks that its chain made of them: take the packets that the next
+/// frame wants, end it, and leave its blocks.
 #[derive(Drop)]
 pub struct Region {
     input: Input,
     // A list for each PLP, of which only that of the PLP replaced ever has blocks.
     pub blocks: Pool,
-    // Whether the list holds the blocks of the frame before the next one. Else it holds those that the chain put already of a later
-    // interleaving frame.
+    // Whether the list holds the blocks of the frame before the next one. Else it holds those that the chain put
+    // already of a later interleaving frame.
     pub sends: bool,
     // The frame whose packets are taken.
     pub next: u64,
@@ -35,7 +35,8 @@ impl Region {
     /// No packets yet, for the PLP at a place of a plan. No later call takes memory.
     pub fn open(alloc: Global, plan: &Plan, plp: usize) -> Result<Region, OutOfMemory>
         requires { plp < length plan.now.plps }
-        ensures stands { IfOk result (λ r. RegionStandsFor r plan.now plp (record { packets = []; ended = false; frame = 0 })) }
+        ensures stands { IfOk result (λ r. RegionStandsFor r plan.now plp
+            (record { packets = []; ended = false; frame = 0 })) }
         ensures of { IfOk result (λ r. IsRegionOf r plan.now plp) }
         ensures free { IfOk result (λ r. r.sends ≡ false) }
         ensures next { IfOk result (λ r. r.next ≡ 0) }
@@ -80,7 +81,8 @@ impl Region {
     /// No more packets come: null packets follow.
     pub fn end(&mut self, plan: &Plan, list: u32)
         requires of { IsRegionOf self.old plan.now list }
-        ensures stands { (t : Told) → RegionStandsFor self.old plan.now list t → RegionStandsFor self.new plan.now list (at_end t) }
+        ensures stands { (t : Told) → RegionStandsFor self.old plan.now list t
+            → RegionStandsFor self.new plan.now list (at_end t) }
         ensures of { IsRegionOf self.new plan.now list }
         ensures wanted { wanted self.new.input ≡ 0 }
         ensures kept { kept_of self.new ≡ kept_of self.old }
@@ -95,8 +97,10 @@ impl Region {
         requires wanted { wanted self.old.input ≡ 0 }
         requires free { self.old.sends ≡ false }
         requires early { self.old.next ≤ MOST_FRAMES }
-        ensures stands { (t : Told) → RegionStandsFor self.old plan.now list t → RegionStandsFor self.new plan.now list (in_next t) }
-        ensures gives { (t : Told) → RegionStandsFor self.old plan.now list t → (input : List (List ℕ)) → Continues t input
+        ensures stands { (t : Told) → RegionStandsFor self.old plan.now list t
+            → RegionStandsFor self.new plan.now list (in_next t) }
+        ensures gives { (t : Told) → RegionStandsFor self.old plan.now list t → (input : List (List ℕ))
+            → Continues t input
             → GivesFrame self.new plan.now list t.frame input }
         ensures of { IsRegionOf self.new plan.now list }
         ensures next { self.new.next ≡ self.old.next + 1 }
@@ -129,8 +133,10 @@ impl Region {
         requires free { self.old.sends ≡ false }
         requires early { self.old.next ≤ MOST_FRAMES }
         requires first { is_first plan.now list self.old.next ≡ true }
-        ensures stands { (t : Told) → RegionStandsFor self.old plan.now list t → RegionStandsFor self.new plan.now list (in_next t) }
-        ensures gives { (t : Told) → RegionStandsFor self.old plan.now list t → (input : List (List ℕ)) → Continues t input
+        ensures stands { (t : Told) → RegionStandsFor self.old plan.now list t
+            → RegionStandsFor self.new plan.now list (in_next t) }
+        ensures gives { (t : Told) → RegionStandsFor self.old plan.now list t → (input : List (List ℕ))
+            → Continues t input
             → GivesFrame self.new plan.now list t.frame input }
         ensures of { IsRegionOf self.new plan.now list }
         ensures next { self.new.next ≡ self.old.next + 1 }
@@ -149,8 +155,10 @@ impl Region {
         requires free { self.old.sends ≡ false }
         requires early { self.old.next ≤ MOST_FRAMES }
         requires later { is_first plan.now list self.old.next ≡ false }
-        ensures stands { (t : Told) → RegionStandsFor self.old plan.now list t → RegionStandsFor self.new plan.now list (in_next t) }
-        ensures gives { (t : Told) → RegionStandsFor self.old plan.now list t → (input : List (List ℕ)) → Continues t input
+        ensures stands { (t : Told) → RegionStandsFor self.old plan.now list t
+            → RegionStandsFor self.new plan.now list (in_next t) }
+        ensures gives { (t : Told) → RegionStandsFor self.old plan.now list t → (input : List (List ℕ))
+            → Continues t input
             → GivesFrame self.new plan.now list t.frame input }
         ensures of { IsRegionOf self.new plan.now list }
         ensures next { self.new.next ≡ self.old.next + 1 }
@@ -165,7 +173,8 @@ impl Region {
     /// The blocks of the frame before were sent, or are not to be.
     pub fn leave(&mut self, plan: &Plan, list: u32)
         requires of { IsRegionOf self.old plan.now list }
-        ensures stands { (t : Told) → RegionStandsFor self.old plan.now list t → RegionStandsFor self.new plan.now list t }
+        ensures stands { (t : Told) → RegionStandsFor self.old plan.now list t
+            → RegionStandsFor self.new plan.now list t }
         ensures of { IsRegionOf self.new plan.now list }
         ensures wanted { wanted self.new.input ≡ wanted self.old.input }
         ensures free { self.new.sends ≡ false }

@@ -67,7 +67,8 @@ fn pass_region(region: &mut Region, plan: &Plan, list: u32, begun: bool)
 }
 
 impl<'p> Swapper<'p> {
-    ghost use Rattle.std.specs.Prelude.{◌≡◌, ◌<◌, ◌≤◌, ◌+◌, ◌*◌, ◌++◌, ◌∷◌, ℕ, List, [], true, false, length, take, Some, slice_get, IfOk};
+    ghost use Rattle.std.specs.Prelude.{◌≡◌, ◌<◌, ◌≤◌, ◌+◌, ◌*◌, ◌++◌, ◌∷◌, ℕ, List, [], true, false, length, take};
+    ghost use Rattle.std.specs.Prelude.{Some, slice_get, IfOk};
     ghost use Rattle.plp_config.specs.declared.config.Config.{Config};
     ghost use Rattle.plp_config.specs.declared.moment.TheConstants.{MOST_FRAMES};
     ghost use Rattle.ts_packet.specs.declared.sizes.TheConstants.{SIZE};
@@ -80,11 +81,12 @@ impl<'p> Swapper<'p> {
     ghost use Rattle.gateway_core.specs.InputSoFar.{Told, with_packet, at_end, in_next, Continues};
     ghost use Rattle.region_swap.specs.Held.{IsHeld, HasRecord};
     ghost use Rattle.region_swap.specs.Swapped.{swapped, swapped_view};
-    ghost use Rattle.region_swap.specs.StandsFor.{SwapperStandsFor, GivesUnits, wants_of, wants_by, frame_of, has_unit, is_fed};
+    ghost use Rattle.region_swap.specs.StandsFor.{SwapperStandsFor, GivesUnits, wants_of, wants_by, frame_of, has_unit};
+    ghost use Rattle.region_swap.specs.StandsFor.{is_fed};
     ghost use Rattle.region_swap.specs.StandsFor.{status_of, new_status, none_told, left_in, bytes_left};
 
-    /// A swapper to which nothing was given, for the PLP at a place of a plan. Frame 0 is under way. It takes all the memory that it
-    /// needs.
+    /// A swapper to which nothing was given, for the PLP at a place of a plan. Frame 0 is under way. It takes all the
+    /// memory that it needs.
     pub fn open(alloc: Global, plan: &'p Plan, plp: usize) -> Result<Swapper<'p>, OutOfMemory>
         requires { plp < length plan.now.plps }
         ensures stands { IfOk result (λ s. SwapperStandsFor s plan.now plp none_told [] [] 0) }
@@ -105,7 +107,8 @@ impl<'p> Swapper<'p> {
         })
     }
 
-    /// How many packets the frame under way still wants: those of the slots that are over when it begins; 0 from an input that ended.
+    /// How many packets the frame under way still wants: those of the slots that are over when it begins; 0 from an
+    /// input that ended.
     pub fn wants(&self) -> u64
         ensures value { result ≡ wants_of self.now }
         ensures answer { (c : Config) (plp : ℕ) (t : Told) (left : List Body) (frames : List NumberedView) (given : ℕ)
@@ -135,7 +138,8 @@ impl<'p> Swapper<'p> {
     /// The input has ended: null packets follow. A second time nothing changes.
     pub fn end_input(&mut self)
         ensures stands { (c : Config) (plp : ℕ) (t : Told) (left : List Body) (frames : List NumberedView) (given : ℕ)
-            → SwapperStandsFor self.old c plp t left frames given → SwapperStandsFor self.new c plp (at_end t) left frames given }
+            → SwapperStandsFor self.old c plp t left frames given → SwapperStandsFor self.new c plp (at_end t)
+            left frames given }
         ensures none { wants_of self.new ≡ 0 }
         ensures unit { has_unit self.new ≡ has_unit self.old }
         ensures fed { is_fed self.new ≡ is_fed self.old }
@@ -154,14 +158,16 @@ impl<'p> Swapper<'p> {
         requires open { (status_of self.old).finished ≡ false }
         ensures stands { (c : Config) (plp : ℕ) (t : Told) (frames : List NumberedView) (given : ℕ) (view : RecordView)
             → IsHeld c (frame_of self.old) view frame.now → SwapperStandsFor self.old c plp t [] frames given
-            → SwapperStandsFor self.new c plp t (left_in self.new frame.now) (frames ++ record { number = frame_of self.old; view = view } ∷ [])
+            → SwapperStandsFor self.new c plp t (left_in self.new frame.now)
+            (frames ++ record { number = frame_of self.old; view = view } ∷ [])
             given }
         // It has no more to give than its packets have bytes, and what was left.
         ensures more { (c : Config) (plp : ℕ) (t : Told) (frames : List NumberedView) (given : ℕ) (view : RecordView)
             → IsHeld c (frame_of self.old) view frame.now → SwapperStandsFor self.old c plp t [] frames given
             → (input : List (List ℕ)) → Continues t input
             → bytes_left self.new (left_in self.new frame.now) ≤ bytes_left self.old []
-            + packet_bound * length (view_bodies c (frame_of self.old) (swapped_view c plp input (frame_of self.old) view)) }
+            + packet_bound * length (view_bodies c (frame_of self.old) (swapped_view c plp input (frame_of self.old)
+            view)) }
         ensures wants { wants_of self.new ≡ 0 }
         ensures status { status_of self.new ≡ record (status_of self.old) { begun = true } }
     {
@@ -222,18 +228,22 @@ impl<'p> Swapper<'p> {
         (len, full)
     }
 
-    /// Goes on to the next frame: the frame under way wants no more packets, its number is below `plp_config::MOST_FRAMES`, and if it was
-    /// begun, all its complete units were taken.
+    /// Goes on to the next frame: the frame under way wants no more packets, its number is below
+    /// `plp_config::MOST_FRAMES`, and if it was begun, all its complete units were taken.
     pub fn pass(&mut self)
         requires wanted { wants_of self.old ≡ 0 }
         requires early { frame_of self.old < MOST_FRAMES }
         requires given { (status_of self.old).begun ≡ true → has_unit self.old ≡ false }
         ensures stands { (c : Config) (plp : ℕ) (t : Told) (left : List Body) (frames : List NumberedView) (given : ℕ)
-            → SwapperStandsFor self.old c plp t left frames given → SwapperStandsFor self.new c plp (in_next t) left frames given }
+            → SwapperStandsFor self.old c plp t left frames given → SwapperStandsFor self.new c plp (in_next t)
+            left frames given }
         ensures unit { has_unit self.new ≡ has_unit self.old }
         ensures fed { is_fed self.new ≡ is_fed self.old }
         ensures left { (left : List Body) → bytes_left self.new left ≡ bytes_left self.old left }
-        ensures status { status_of self.new ≡ record (status_of self.old) { frame = frame_of self.old + 1; begun = false } }
+        ensures status { status_of self.new ≡ record (status_of self.old) {
+          frame = frame_of self.old + 1;
+          begun = false;
+        } }
     {
         pass_region(&mut self.region, self.plan, self.list, self.begun);
         self.begun = false;
@@ -245,7 +255,8 @@ impl<'p> Swapper<'p> {
         requires given { has_unit self.old ≡ false }
         requires open { (status_of self.old).finished ≡ false }
         ensures stands { (c : Config) (plp : ℕ) (t : Told) (left : List Body) (frames : List NumberedView) (given : ℕ)
-            → SwapperStandsFor self.old c plp t left frames given → SwapperStandsFor self.new c plp t left frames given }
+            → SwapperStandsFor self.old c plp t left frames given → SwapperStandsFor self.new c plp t
+            left frames given }
         ensures fed { is_fed self.new ≡ true }
         ensures left { (left : List Body) → bytes_left self.new left ≡ bytes_left self.old left }
         ensures wants { wants_of self.new ≡ wants_of self.old }
@@ -262,7 +273,8 @@ impl<'p> Swapper<'p> {
             → SwapperStandsFor self.old c plp t [] frames given → (input : List (List ℕ)) → Continues t input
             → slice_get (pipe c.pid (remade_packets c (swapped c plp input frames))) given ≡ Some out.new }
         ensures stands { result ≡ true → (c : Config) (plp : ℕ) (t : Told) (frames : List NumberedView) (given : ℕ)
-            → SwapperStandsFor self.old c plp t [] frames given → SwapperStandsFor self.new c plp t [] frames (given + 1) }
+            → SwapperStandsFor self.old c plp t [] frames given → SwapperStandsFor self.new c plp t []
+            frames (given + 1) }
         ensures none { result ≡ false → (c : Config) (plp : ℕ) (t : Told) (frames : List NumberedView) (given : ℕ)
             → SwapperStandsFor self.old c plp t [] frames given → (input : List (List ℕ)) → Continues t input
             → length (pipe c.pid (remade_packets c (swapped c plp input frames))) ≡ given }

@@ -1,5 +1,6 @@
 -- The PLPs of a shape stand one behind the other.
-use Rattle.std.proofs.Common.{◌≡◌, ℕ, zero, suc, ◌+◌, ◌-◌, ◌*◌, ◌%◌, ◌<◌, ◌≤◌, ◌==◌, Bool, true, false, not, List, length, map}
+use Rattle.std.proofs.Common.{◌≡◌, ℕ, zero, suc, ◌+◌, ◌-◌, ◌*◌, ◌%◌, ◌<◌, ◌≤◌, ◌==◌, Bool, true, false, not, List}
+use Rattle.std.proofs.Common.{length, map}
 use Rattle.std.proofs.Common.{filter}
 use Rattle.std.proofs.Common.{sum_by, refl, ap, sym, ◌∙◌, subst, arith}
 use Rattle.std.specs.Prelude.{slice_index}
@@ -11,11 +12,12 @@ use Rattle.std.proofs.lemmas.Nat.{le-div}
 use Rattle.std.proofs.Math.Nat.{div-mul-le_self}
 use Rattle.terms.proofs.NatLemmas.{cut_parts}
 use Rattle.plp_config.specs.Capacity.{IsPlan, block_cells, EvenParts}
-use Rattle.plp_config.specs.Plps.{plp_at, is_type2, has_type2, no_plp, spread}
+use Rattle.plp_config.specs.Plps.{is_type2, has_type2, no_plp, spread}
 use Rattle.plp_config.specs.Rules.{SubSlices, SpreadDivides}
 use Rattle.plp_config.specs.declared.config.Config.{Config}
 use Rattle.scheduler.specs.Laws.{ShapeStandsInOrder}
-use Rattle.scheduler.specs.Shape.{cells_of, slice_of, in_type2, type1_before, type2_before, type2_start_of, interval_of, start_of}
+use Rattle.scheduler.specs.Shape.{cells_of, slice_of, in_type2, type1_before, type2_before, type2_start_of, interval_of}
+use Rattle.scheduler.specs.Shape.{start_of}
 use Rattle.scheduler.specs.Shape.{shape_of}
 use Rattle.scheduler.proofs.SumLemmas.{sum-more, sum-rises, cells_fit}
 use Rattle.terms.proofs.CaseLemmas.{bool_cases}
@@ -59,7 +61,8 @@ sub_slices-some c is = bool_cases (has_type2 c.plps)
 
 -- one sub-slice each, so many times, are all cells of type 2
 slices_of_cells : (c : Config) (counts : List ℕ) (place : ℕ) → IsPlan c → place ≤ length c.plps
-    → c.sub_slices * sum_by (slice_of c counts) (type2_before c place) ≡ sum_by (cells_of c counts) (type2_before c place)
+    → c.sub_slices * sum_by (slice_of c counts) (type2_before c place) ≡ sum_by (cells_of c counts)
+    (type2_before c place)
 slices_of_cells c counts zero is inside = omega arith
 slices_of_cells c counts (suc place) is inside =
     let here : place < length c.plps = omega arith in
@@ -74,7 +77,8 @@ slices_of_cells c counts (suc place) is inside =
     rw t at (is.tests EvenParts place here) in
     let some : 0 < spread c.plps place = (is.rules SpreadDivides place here).0 in
     let one : c.sub_slices * slice_of c counts place ≡ cells_of c counts place =
-    cut_parts (slice_index counts place) (block_cells c place) c.sub_slices (spread c.plps place) (sub_slices-some c is) some
+    cut_parts (slice_index counts place) (block_cells c place) c.sub_slices (spread c.plps place) (sub_slices-some c is)
+    some
     even in
     let a' = rw t at a in
     let b' = rw t at b in
@@ -103,14 +107,16 @@ intervals_within c counts = div-mul-le_self (sum_by (cells_of c counts) (type2_b
 -- a start is read
 started : (c : Config) (counts : List ℕ) (plp : ℕ) → plp < length c.plps
     → slice_index (map (start_of c counts) (range_with_len 0 (length c.plps))) plp ≡ start_of c counts plp
-started c counts plp inside = get_or-map-range_with_len (start_of c counts) 0 (length c.plps) plp plp 0 inside (omega arith)
+started c counts plp inside = get_or-map-range_with_len (start_of c counts) 0 (length c.plps) plp plp
+    0 inside (omega arith)
 
 -- where the PLPs of either type stand
 pub record Stands1 (c : Config) (counts : List ℕ) (plp start : ℕ) : Type 0 where
   pub is : start ≡ sum_by (cells_of c counts) (type1_before c plp)
   pub upto : (j : ℕ) → plp < j → start + cells_of c counts plp ≤ sum_by (cells_of c counts) (type1_before c j)
 
-stands1 : (c : Config) (counts : List ℕ) (plp : ℕ) → plp < length c.plps → 0 < slice_index counts plp → in_type2 c plp ≡ false
+stands1 : (c : Config) (counts : List ℕ) (plp : ℕ) → plp < length c.plps → 0 < slice_index counts plp
+    → in_type2 c plp ≡ false
     → Stands1 c counts plp (slice_index (map (start_of c counts) (range_with_len 0 (length c.plps))) plp)
 stands1 c counts plp inside some plp_type =
     let is = started c counts plp inside ∙ start_type1 c counts plp some plp_type in
@@ -121,11 +127,14 @@ stands1 c counts plp inside some plp_type =
     }
 
 pub record Stands2 (c : Config) (counts : List ℕ) (plp start : ℕ) : Type 0 where
-  pub is : start ≡ sum_by (cells_of c counts) (type1_before c (length c.plps)) + sum_by (slice_of c counts) (type2_before c plp)
-  pub upto : (j : ℕ) → plp < j → start + slice_of c counts plp ≤ sum_by (cells_of c counts) (type1_before c (length c.plps))
+  pub is : start ≡ sum_by (cells_of c counts) (type1_before c (length c.plps)) + sum_by (slice_of c counts)
+      (type2_before c plp)
+  pub upto : (j : ℕ) → plp < j → start + slice_of c counts plp ≤ sum_by (cells_of c counts)
+      (type1_before c (length c.plps))
       + sum_by (slice_of c counts) (type2_before c j)
 
-stands2 : (c : Config) (counts : List ℕ) (plp : ℕ) → plp < length c.plps → 0 < slice_index counts plp → in_type2 c plp ≡ true
+stands2 : (c : Config) (counts : List ℕ) (plp : ℕ) → plp < length c.plps → 0 < slice_index counts plp
+    → in_type2 c plp ≡ true
     → Stands2 c counts plp (slice_index (map (start_of c counts) (range_with_len 0 (length c.plps))) plp)
 stands2 c counts plp inside some plp_type =
     let first = type2_start_is c counts plp inside plp_type in
@@ -142,9 +151,21 @@ stands_in_order c counts is fit =
     let all = cells_fit c counts n is fit (omega arith) in
     let some = sub_slices-some c is in
     record {
-      type1 = λ i j less a b. omega (arith, (stands1 c counts i a.0 a.1 a.2).upto j less, (stands1 c counts j b.0 b.1 b.2).is);
-      types = λ i j a b. omega (arith, (stands1 c counts i a.0 a.1 a.2).upto n a.0, (stands2 c counts j b.0 b.1 b.2).is);
-      type2 = λ i j less a b. omega (arith, (stands2 c counts i a.0 a.1 a.2).upto j less, (stands2 c counts j b.0 b.1 b.2).is);
+      type1 = λ i j less a b. omega (
+        arith,
+        (stands1 c counts i a.0 a.1 a.2).upto j less,
+        (stands1 c counts j b.0 b.1 b.2).is,
+      );
+      types = λ i j a b. omega (
+        arith,
+        (stands1 c counts i a.0 a.1 a.2).upto n a.0,
+        (stands2 c counts j b.0 b.1 b.2).is,
+      );
+      type2 = λ i j less a b. omega (
+        arith,
+        (stands2 c counts i a.0 a.1 a.2).upto j less,
+        (stands2 c counts j b.0 b.1 b.2).is,
+      );
       interval = λ i j a b. omega (
         arith,
         (stands2 c counts i a.0 a.1 a.2).is,
@@ -153,7 +174,8 @@ stands_in_order c counts is fit =
       );
       end1 = λ i a. omega (arith, (stands1 c counts i a.0 a.1 a.2).upto n a.0, all);
       end2 = λ i a.
-          let last : (c.sub_slices - 1) * interval_of c counts + interval_of c counts ≡ interval_of c counts * c.sub_slices =
+          let last : (c.sub_slices - 1) * interval_of c counts + interval_of c counts ≡ interval_of c
+          counts * c.sub_slices =
           (let e : c.sub_slices - 1 + 1 ≡ c.sub_slices = omega arith in
           omega (arith, ap (λ (k : ℕ). k * interval_of c counts) e)) in
           omega (arith, (stands2 c counts i a.0 a.1 a.2).upto n a.0, within, last, whole, all);

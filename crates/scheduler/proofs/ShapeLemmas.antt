@@ -1,10 +1,12 @@
 -- The shape, PLP by PLP.
-use Rattle.std.proofs.Common.{◌≡◌, ◌≢◌, ℕ, ◌+◌, ◌<◌, ◌≤◌, ◌==◌, Bool, true, false, cond, List, [], ◌∷◌, ◌++◌, length, take, drop}
+use Rattle.std.proofs.Common.{◌≡◌, ◌≢◌, ℕ, ◌+◌, ◌<◌, ◌≤◌, ◌==◌, Bool, true, false, cond, List, [], ◌∷◌, ◌++◌, length}
+use Rattle.std.proofs.Common.{take, drop}
 use Rattle.std.proofs.Common.{map, set, get_or, sum_by, refl, ap, sym, ◌∙◌, inl, inr, arith}
 use Rattle.std.specs.Prelude.{slice_index}
 use Rattle.std.specs.List.{range_with_len}
 use Rattle.std.proofs.lemmas.Bool.{cases_lt}
-use Rattle.std.proofs.lemmas.List.{append_assoc, drop_more, set_at, get_or_past, length-take-le, take_more, take_all, drop_all}
+use Rattle.std.proofs.lemmas.List.{append_assoc, drop_more, set_at, get_or_past, length-take-le, take_more, take_all}
+use Rattle.std.proofs.lemmas.List.{drop_all}
 use Rattle.std.proofs.lemmas.List.{append-nil}
 use Rattle.std.proofs.lemmas.List.FromFn.{get_or-map-range_with_len, length-map-range_with_len, map-range_with_len_more}
 use Rattle.std.proofs.Math.Nat.{div-le_self}
@@ -15,7 +17,8 @@ use Rattle.plp_config.specs.declared.config.Config.{Config}
 use Rattle.scheduler.specs.Steps.{AreBefore, AreNext, shape_until}
 use Rattle.scheduler.specs.declared.frame.Cells.{Cells}
 use Rattle.scheduler.specs.Laws.{CountsFit, ShapeFitsL1}
-use Rattle.scheduler.specs.Shape.{FrameShape, with_plp, cells_of, slice_of, in_type2, type1_before, type2_before, type2_start_of}
+use Rattle.scheduler.specs.Shape.{FrameShape, with_plp, cells_of, slice_of, in_type2, type1_before, type2_before}
+use Rattle.scheduler.specs.Shape.{type2_start_of}
 use Rattle.scheduler.specs.Shape.{interval_of, start_of, shape_of}
 use Rattle.scheduler.proofs.SumLemmas.{cells_fit, slices_fit, adds_type1, adds_type2}
 use Rattle.terms.proofs.CaseLemmas.{bool_cases}
@@ -41,9 +44,15 @@ type2_start-le c counts = if-le (has_type2 c.plps) (sum_by (cells_of c counts) (
 -- where type 2 goes on is within a frame
 pub next_type2-le : (c : Config) (counts : List ℕ) (place : ℕ) → IsPlan c → CountsFit c counts → place ≤ length c.plps
     → type2_start_of c counts + sum_by (slice_of c counts) (type2_before c place) ≤ c.cells
-next_type2-le c counts place is fit inside = omega (arith, type2_start-le c counts, slices_fit c counts place is fit inside)
+next_type2-le c counts place is fit inside = omega (
+  arith,
+  type2_start-le c counts,
+  slices_fit c counts
+      place is fit inside,
+)
 
-start-le : (c : Config) (counts : List ℕ) (plp : ℕ) → IsPlan c → CountsFit c counts → plp < length c.plps → start_of c counts plp
+start-le : (c : Config) (counts : List ℕ) (plp : ℕ) → IsPlan c → CountsFit c counts → plp < length c.plps
+    → start_of c counts plp
     ≤ c.cells
 unfolding start_of
 start-le c counts plp is fit inside =
@@ -100,7 +109,8 @@ more_type2 c counts plp cells before is fit inside are e plp_type =
     let few : c.cells ≤ 4194303 = is.tests CellAddresses in
     let adds = adds_type2 c (cells_of c counts) plp plp_type in
     let all = cells_fit c counts (plp + 1) is fit (omega arith) in
-    let first : before.type1 ≡ sum_by (cells_of c counts) (type1_before c (plp + 1)) = omega (arith, are.type1, adds.type1_sum) in
+    let first : before.type1 ≡ sum_by (cells_of c counts) (type1_before c (plp + 1)) = omega
+    (arith, are.type1, adds.type1_sum) in
     let second : before.type2 + cells ≡ sum_by (cells_of c counts) (type2_before c (plp + 1)) =
     omega (arith, are.type2, adds.type2_sum, e) in
     record {
@@ -140,7 +150,8 @@ next_type2 c counts plp slice next is fit inside are e plp_type =
     let slices = adds_type2 c (slice_of c counts) plp plp_type in
     let all = cells_fit c counts (plp + 1) is fit (omega arith) in
     let all2 = next_type2-le c counts (plp + 1) is fit (omega arith) in
-    let first : next.type1 ≡ sum_by (cells_of c counts) (type1_before c (plp + 1)) = omega (arith, are.type1, cells.type1_sum) in
+    let first : next.type1 ≡ sum_by (cells_of c counts) (type1_before c (plp + 1)) = omega
+    (arith, are.type1, cells.type1_sum) in
     let second : next.type2 + slice ≡ type2_start_of c counts + sum_by (slice_of c counts) (type2_before c (plp + 1)) =
     omega (arith, are.type2, slices.type2_sum, e) in
     record {
@@ -169,7 +180,8 @@ next_type1 c counts plp cells next is fit inside are e plp_type =
 
 -- with type 2 there are two sub-slices or more
 pub several : (c : Config) → IsPlan c → has_type2 c.plps ≡ true → c.sub_slices ≢ 1
-several c is h = let range : (2 ≤ c.sub_slices) × (c.sub_slices ≤ 6480) = rw h at (is.rules SubSlices) in omega (arith, range)
+several c is h = let range : (2 ≤ c.sub_slices) × (c.sub_slices ≤ 6480) = rw h at (is.rules SubSlices) in
+    omega (arith, range)
 
 pub single : (c : Config) → IsPlan c → has_type2 c.plps ≡ false → c.sub_slices ≡ 1
 single c is h = rw h at (is.rules SubSlices)
@@ -182,7 +194,8 @@ type2_start-single c counts is one = bool_cases (has_type2 c.plps) (λ e. absurd
 pub type2_start-several : (c : Config) (counts : List ℕ) → IsPlan c → c.sub_slices ≢ 1
     → sum_by (cells_of c counts) (type1_before c (length c.plps)) ≡ type2_start_of c counts
 unfolding type2_start_of
-type2_start-several c counts is many = bool_cases (has_type2 c.plps) (λ e. rw e refl) (λ e. absurd (many (single c is e)))
+type2_start-several c counts is many = bool_cases (has_type2 c.plps) (λ e. rw e refl)
+    (λ e. absurd (many (single c is e)))
 
 -- one PLP more has its numbers
 pub until-more : (c : Config) (counts : List ℕ) (old : FrameShape) (place count start : ℕ)
@@ -225,11 +238,13 @@ pub until-all : (c : Config) (counts : List ℕ) (old : FrameShape) (place : ℕ
 unfolding shape_of
 until-all c counts old place fit same whole e =
     let a : take place counts ++ drop place old.counts ≡ counts =
-    ap (λ (xs : List ℕ). take place counts ++ xs) (drop_all place old.counts (omega arith)) ∙ append-nil (take place counts)
+    ap (λ (xs : List ℕ). take place counts ++ xs) (drop_all place old.counts (omega arith))
+    ∙ append-nil (take place counts)
     ∙ take_all place counts (omega arith) in
     let b : map (start_of c counts) (range_with_len 0 place) ++ drop place old.starts
     ≡ map (start_of c counts) (range_with_len 0 (length c.plps)) =
-    ap (λ (xs : List ℕ). map (start_of c counts) (range_with_len 0 place) ++ xs) (drop_all place old.starts (omega arith))
+    ap (λ (xs : List ℕ). map (start_of c counts) (range_with_len 0 place) ++ xs)
+    (drop_all place old.starts (omega arith))
     ∙ append-nil (map (start_of c counts) (range_with_len 0 place))
     ∙ ap (λ (n : ℕ). map (start_of c counts) (range_with_len 0 n)) (e ∙ fit) in
     ap (λ (xs : List ℕ). record {

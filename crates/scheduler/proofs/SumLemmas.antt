@@ -1,5 +1,6 @@
 -- Sums over the PLPs before a place stay within the cells of a frame.
-use Rattle.std.proofs.Common.{◌≡◌, ℕ, zero, suc, ◌+◌, ◌-◌, ◌*◌, ◌<◌, ◌≤◌, Bool, true, false, cond, not, List, [], ◌∷◌, length}
+use Rattle.std.proofs.Common.{◌≡◌, ℕ, zero, suc, ◌+◌, ◌-◌, ◌*◌, ◌<◌, ◌≤◌, Bool, true, false, cond, not, List, [], ◌∷◌}
+use Rattle.std.proofs.Common.{length}
 use Rattle.std.proofs.Common.{take, filter, sum_by, refl, ap, sym, ◌∙◌, subst, arith}
 use Rattle.std.specs.Prelude.{slice_index}
 use Rattle.std.specs.List.{range_with_len}
@@ -25,7 +26,8 @@ last f n false = refl
 
 -- a sum over the places that pass a test
 pub sum-more : (f : ℕ → ℕ) (test : ℕ → Bool) (n : ℕ)
-    → sum_by f (filter test (range_with_len 0 (n + 1))) ≡ sum_by f (filter test (range_with_len 0 n)) + cond (test n) (f n) 0
+    → sum_by f (filter test (range_with_len 0 (n + 1))) ≡ sum_by f (filter test (range_with_len 0 n)) + cond
+    (test n) (f n) 0
 sum-more f test n =
     ap (λ (xs : List ℕ). sum_by f (filter test xs)) (places_more n)
     ∙ ap (sum_by f) (filter-append test (range_with_len 0 n) (n ∷ []))
@@ -66,9 +68,11 @@ cells_before-le c counts zero is fit inside = omega arith
 cells_before-le c counts (suc place) is fit inside =
     let here : place < length c.plps = omega arith in
     let e : suc place ≡ place + 1 = omega arith in
-    let a : sum_by (cells_of c counts) (range_with_len 0 (place + 1)) ≡ sum_by (cells_of c counts) (range_with_len 0 place)
+    let a : sum_by (cells_of c counts) (range_with_len 0 (place + 1)) ≡ sum_by (cells_of c counts)
+    (range_with_len 0 place)
     + cells_of c counts place =
-    ap (sum_by (cells_of c counts)) (places_more place) ∙ sum_by_push (cells_of c counts) (range_with_len 0 place) place in
+    ap (sum_by (cells_of c counts)) (places_more place) ∙ sum_by_push (cells_of c counts) (range_with_len 0 place)
+    place in
     let b : sum_by frame_room (take (place + 1) c.plps)
     ≡ sum_by frame_room (take place c.plps) + frame_room (plp_at c.plps place) =
     sum_by_more frame_room c.plps place no_plp here in
@@ -85,8 +89,10 @@ pub cells_fit : (c : Config) (counts : List ℕ) (place : ℕ) → IsPlan c → 
 cells_fit c counts place is fit inside =
     let parts : sum_by (cells_of c counts) (type2_before c place) + sum_by (cells_of c counts) (type1_before c place)
     ≡ sum_by (cells_of c counts) (range_with_len 0 place) =
-    sum_by-filter_both (in_type2 c) (λ plp. not (in_type2 c plp)) (λ _. refl) (cells_of c counts) (range_with_len 0 place) in
-    let most : sum_by frame_room (take place c.plps) ≤ sum_by frame_room c.plps = sum_by-take-le frame_room c.plps place in
+    sum_by-filter_both (in_type2 c) (λ plp. not (in_type2 c plp)) (λ _. refl) (cells_of c counts)
+    (range_with_len 0 place) in
+    let most : sum_by frame_room (take place c.plps) ≤ sum_by frame_room c.plps = sum_by-take-le frame_room
+    c.plps place in
     omega (arith, parts, cells_before-le c counts place is fit inside, most, rooms_fit c is)
 
 -- a sum over more places is larger
@@ -99,7 +105,8 @@ sum-rises f test n (suc more) =
 
 -- what stands before a place of type 2, with all of type 1, is no more than a frame has
 pub slices_fit : (c : Config) (counts : List ℕ) (place : ℕ) → IsPlan c → CountsFit c counts → place ≤ length c.plps
-    → sum_by (cells_of c counts) (type1_before c (length c.plps)) + sum_by (slice_of c counts) (type2_before c place) ≤ c.cells
+    → sum_by (cells_of c counts) (type1_before c (length c.plps)) + sum_by (slice_of c counts)
+    (type2_before c place) ≤ c.cells
 slices_fit c counts place is fit inside =
     let n : ℕ = length c.plps in
     let e : place + (n - place) ≡ n = omega arith in
@@ -109,5 +116,6 @@ slices_fit c counts place is fit inside =
     let rises : sum_by (cells_of c counts) (type2_before c place)
     ≤ sum_by (cells_of c counts) (type2_before c (place + (n - place))) =
     sum-rises (cells_of c counts) (in_type2 c) place (n - place) in
-    let all : sum_by (cells_of c counts) (type2_before c place) ≤ sum_by (cells_of c counts) (type2_before c n) = rw e at rises in
+    let all : sum_by (cells_of c counts) (type2_before c place) ≤ sum_by (cells_of c counts) (type2_before c n) =
+    rw e at rises in
     omega (arith, thin, all, cells_fit c counts n is fit (omega arith))

@@ -27,23 +27,27 @@ IsSent1 c shape plp = (plp < length c.plps) × (0 < slice_index shape.counts plp
 abbrev pub IsSent2 : Config → FrameShape → ℕ → Type 0
 IsSent2 c shape plp = (plp < length c.plps) × (0 < slice_index shape.counts plp) × (in_type2 c plp ≡ true)
 
--- the PLPs with blocks stand one behind the other: those in one slice, and behind them the sub-slices of type 2, which stand
--- within an interval; and the last ends within the frame
+-- the PLPs with blocks stand one behind the other: those in one slice, and behind them the sub-slices of type 2, which
+-- stand within an interval; and the last ends within the frame
 pub record StandsInOrder (c : Config) (shape : FrameShape) : Type 0 where
-  pub type1 : (i j : ℕ) → i < j → IsSent1 c shape i → IsSent1 c shape j → slice_index shape.starts i + cells_of c shape.counts i
+  pub type1 : (i j : ℕ) → i < j → IsSent1 c shape i → IsSent1 c shape j
+      → slice_index shape.starts i + cells_of c shape.counts i
       ≤ slice_index shape.starts j
   pub types : (i j : ℕ) → IsSent1 c shape i → IsSent2 c shape j → slice_index shape.starts i + cells_of c shape.counts i
       ≤ slice_index shape.starts j
-  pub type2 : (i j : ℕ) → i < j → IsSent2 c shape i → IsSent2 c shape j → slice_index shape.starts i + slice_of c shape.counts i
+  pub type2 : (i j : ℕ) → i < j → IsSent2 c shape i → IsSent2 c shape j
+      → slice_index shape.starts i + slice_of c shape.counts i
       ≤ slice_index shape.starts j
-  pub interval : (i j : ℕ) → IsSent2 c shape i → IsSent2 c shape j → slice_index shape.starts j + slice_of c shape.counts j
+  pub interval : (i j : ℕ) → IsSent2 c shape i → IsSent2 c shape j → slice_index shape.starts j + slice_of
+      c shape.counts j
       ≤ slice_index shape.starts i + shape.interval
   pub end1 : (i : ℕ) → IsSent1 c shape i → slice_index shape.starts i + cells_of c shape.counts i ≤ c.cells
   pub end2 : (i : ℕ) → IsSent2 c shape i → slice_index shape.starts i + (c.sub_slices - 1) * shape.interval
       + slice_of c shape.counts i ≤ c.cells
 
 abbrev pub ShapeStandsInOrder : Type 0
-ShapeStandsInOrder = (c : Config) (counts : List ℕ) → IsPlan c → CountsFit c counts → StandsInOrder c (shape_of c counts)
+ShapeStandsInOrder = (c : Config) (counts : List ℕ) → IsPlan c → CountsFit c counts
+    → StandsInOrder c (shape_of c counts)
 
 -- the numbers of blocks are the given ones
 abbrev pub ShapeHasCounts : Type 0

@@ -1,12 +1,14 @@
 -- The shape of a frame: where its PLPs stand (EN 302 755, clause 8). Cells have addresses from 0 on.
-use Rattle.std.specs.Prelude.{ℕ, ◌+◌, ◌*◌, ◌/◌, ◌==◌, Bool, not, List, length, map, filter, replicate, sum_by, slice_index}
+use Rattle.std.specs.Prelude.{ℕ, ◌+◌, ◌*◌, ◌/◌, ◌==◌, Bool, not, List, length, map, filter, replicate, sum_by}
+use Rattle.std.specs.Prelude.{slice_index}
 use Rattle.std.specs.Prelude.{slice_set, if◌then◌else◌}
 use Rattle.std.specs.List.{range_with_len}
 use Rattle.plp_config.specs.Capacity.{block_cells}
 use Rattle.plp_config.specs.Plps.{plp_at, is_type2, has_type2, spread}
 use Rattle.plp_config.specs.declared.config.Config.{Config}
 
--- what L1 tells of it: the blocks of each PLP in its interleaving frame and its first address, and the two numbers of type 2
+-- what L1 tells of it: the blocks of each PLP in its interleaving frame and its first address, and the two numbers of
+-- type 2
 pub record FrameShape : Type 0 where
   pub counts : List ℕ
   pub starts : List ℕ
@@ -34,7 +36,8 @@ cells_of c counts plp = slice_index counts plp * block_cells c plp / spread c.pl
 abbrev pub slice_of : Config → List ℕ → ℕ → ℕ
 slice_of c counts plp = cells_of c counts plp / c.sub_slices
 
--- the PLPs of type 2 before a place, by their places, and the others, common and of type 1, which stand in one slice each
+-- the PLPs of type 2 before a place, by their places, and the others, common and of type 1, which stand in one slice
+-- each
 abbrev pub in_type2 : Config → ℕ → Bool
 in_type2 c plp = is_type2 (plp_at c.plps plp).plp_type
 
@@ -52,7 +55,8 @@ type2_start_of c counts = if has_type2 c.plps then sum_by (cells_of c counts) (t
 unfoldable pub interval_of : Config → List ℕ → ℕ
 interval_of c counts = sum_by (cells_of c counts) (type2_before c (length c.plps)) / c.sub_slices
 
--- PLP_START: behind the cells of the PLPs before it; of type 2, behind the first sub-slices of those of type 2; 0 without a block
+-- PLP_START: behind the cells of the PLPs before it; of type 2, behind the first sub-slices of those of type 2; 0
+-- without a block
 unfoldable pub start_of : Config → List ℕ → ℕ → ℕ
 start_of c counts plp =
     if slice_index counts plp == 0 then 0

@@ -2,7 +2,8 @@
 use Rattle.std.specs.Prelude.{◌≡◌, ℕ, ◌+◌, List, ◌++◌, take, drop, map, sum_by}
 use Rattle.std.specs.List.{range_with_len}
 use Rattle.plp_config.specs.declared.config.Config.{Config}
-use Rattle.scheduler.specs.Shape.{FrameShape, cells_of, slice_of, type1_before, type2_before, type2_start_of, interval_of}
+use Rattle.scheduler.specs.Shape.{FrameShape, cells_of, slice_of, type1_before, type2_before, type2_start_of}
+use Rattle.scheduler.specs.Shape.{interval_of}
 use Rattle.scheduler.specs.Shape.{start_of}
 use Rattle.scheduler.specs.declared.frame.Cells.{Cells}
 

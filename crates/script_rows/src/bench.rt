@@ -11,8 +11,8 @@ use std::mem;
 
 /// A desk in memory, on which commands are run.
 ///
-/// The contracts of the desk and of a command are large, and what calls them has all that they say in its own proof. So a script calls
-/// the methods of a bench, which have no `ensures`, and its model tells nothing.
+/// The contracts of the desk and of a command are large, and what calls them has all that they say in its own proof. So
+/// a script calls the methods of a bench, which have no `ensures`, and its model tells nothing.
 #[derive(Drop)]
 pub(crate) struct Bench {
     alloc: Global,
@@ -99,7 +99,8 @@ impl Bench {
         None
     }
 
-    /// Runs the command that these words name, watched: how it ended, and what people are told. Nothing may have been opened before.
+    /// Runs the command that these words name, watched: how it ended, and what people are told. Nothing may have been
+    /// opened before.
     pub(crate) fn run_watched(&mut self, words: &str) -> Result<(Outcome, String), AllocError> {
         let list = words_of(self.alloc, words)?;
         let plan = self.plan_of(words);

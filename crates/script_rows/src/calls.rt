@@ -1,5 +1,5 @@
-// Commands over devices that fail: each call of a kind in turn, until a run is done. What a run leaves is a front of what it leaves
-// without a fault.
+// Commands over devices that fail: each call of a kind in turn, until a run is done. What a run leaves is a front of
+// what it leaves without a fault.
 use crate::bench::Bench;
 use ports::CallKind;
 use site_top::Outcome;
@@ -58,8 +58,8 @@ fn comes_early(kind: CallKind) -> bool {
     matches!(kind, CallKind::Open | CallKind::Read | CallKind::Create)
 }
 
-// Whether the file that such a run wrote has a front of what it has if nothing fails. It may be absent only if a call failed that can
-// come before it is created. If a second write failed, it has some bytes and not all.
+// Whether the file that such a run wrote has a front of what it has if nothing fails. It may be absent only if a call
+// failed that can come before it is created. If a second write failed, it has some bytes and not all.
 fn writes_front(left: Option<&[u8]>, usual: Option<&[u8]>, kind: CallKind, nth: u64) -> bool {
     let again = kind == CallKind::Write && 1 < nth;
     match (left, usual) {
@@ -173,8 +173,8 @@ fn try_kinds(made: &Bench, bounds: &str, words: &str) -> Result<String, AllocErr
     Ok(told)
 }
 
-/// `calls OPEN,READ,CREATE,WRITE,SAY WORDS`: of each kind of calls, `+` if a command makes as many as its bound says, `N` or
-/// `LEAST-MOST`, and each that fails is told and leaves a front; else `-`.
+/// `calls OPEN,READ,CREATE,WRITE,SAY WORDS`: of each kind of calls, `+` if a command makes as many as its bound says,
+/// `N` or `LEAST-MOST`, and each that fails is told and leaves a front; else `-`.
 pub(crate) fn calls_of(made: &Bench, rest: &str) -> Result<String, AllocError> {
     let (bounds, words) = rest.split_once(' ').unwrap_or((rest, ""));
     try_kinds(made, bounds, words)
@@ -206,8 +206,8 @@ fn is_behind(
     Ok(outcome == Outcome::WriteFault && bench.given(name) <= most)
 }
 
-/// `ahead WRITES NAME ROWS WORDS`: of how many of so many writes, each of which fails in turn, the command has read no more of a file
-/// than rows `BELOW:MOST` say: of those up to the first one of which it is not so.
+/// `ahead WRITES NAME ROWS WORDS`: of how many of so many writes, each of which fails in turn, the command has read no
+/// more of a file than rows `BELOW:MOST` say: of those up to the first one of which it is not so.
 pub(crate) fn ahead_of(made: &Bench, rest: &str) -> Result<String, AllocError> {
     let (writes, rest) = rest.split_once(' ').unwrap_or((rest, ""));
     let (name, rest) = rest.split_once(' ').unwrap_or((rest, ""));

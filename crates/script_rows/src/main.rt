@@ -1,4 +1,5 @@
-//! Plays a script of worked runs: commands over files in memory. What it writes is a page: the rows by their names, each with what came of it.
+//! Plays a script of worked runs: commands over files in memory. What it writes is a page: the rows by their names,
+//! each with what came of it.
 #![tactic(auto)]
 
 mod bench;

@@ -1,5 +1,5 @@
-// The page of a script: a line for each row, its name and what came of it. What a run says in several lines has lines of its own, and
-// each further run of a row begins another line.
+// The page of a script: a line for each row, its name and what came of it. What a run says in several lines has lines
+// of its own, and each further run of a row begins another line.
 use std::alloc::{AllocError, Global};
 
 /// What comes of a line of a script.
@@ -81,7 +81,8 @@ fn behind(place: Place, came: &Came) -> Place {
     }
 }
 
-/// What is written of a line of a script, `## PART`, `# ROW` or another one, of which this came, and where the page goes on.
+/// What is written of a line of a script, `## PART`, `# ROW` or another one, of which this came, and where the page
+/// goes on.
 pub(crate) fn text_of(
     alloc: Global,
     place: Place,

@@ -120,7 +120,8 @@ fn say(heard: &Heard, counts: &RunCounts<'_>, outcome: Outcome) -> io::Result<()
     }
 }
 
-/// Runs a command over a desk that is watched, and gives the desk back, and how the run ended. What people are told is kept.
+/// Runs a command over a desk that is watched, and gives the desk back, and how the run ended. What people are told is
+/// kept.
 pub(crate) fn run_watched<'a>(
     alloc: Global,
     heard: &'a Heard,

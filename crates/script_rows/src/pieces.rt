@@ -1,5 +1,6 @@
-// The bytes of files, as a script writes them: pieces between spaces. A piece is bytes in hexadecimal; a file, `@NAME`, or a part of one,
-// `@NAME:FROM:TO`; transport packets with their numbers, `#FROM:TO`; or words of cells, `%COUNT`. Any of them may stand N times, `PIECE*N`.
+// The bytes of files, as a script writes them: pieces between spaces. A piece is bytes in hexadecimal; a file, `@NAME`,
+// or a part of one, `@NAME:FROM:TO`; transport packets with their numbers, `#FROM:TO`; or words of cells, `%COUNT`. Any
+// of them may stand N times, `PIECE*N`.
 use crate::bench::Files;
 use std::alloc::AllocError;
 

@@ -1,5 +1,6 @@
 -- The bytes of a file of packets decide how a run over it must end.
-use Rattle.std.proofs.Common.{◌≡◌, ◌⊎◌, ℕ, zero, suc, ◌≤◌, inl, inr, ⊎_elim, List, [], ◌∷◌, ◌++◌, length, take, drop, refl, ap}
+use Rattle.std.proofs.Common.{◌≡◌, ◌⊎◌, ℕ, zero, suc, ◌≤◌, inl, inr, ⊎_elim, List, [], ◌∷◌, ◌++◌, length, take, drop}
+use Rattle.std.proofs.Common.{refl, ap}
 use Rattle.std.proofs.Common.{sym, subst, ◌∙◌, arith, length-drop}
 use Rattle.std.specs.Prelude.{Result, Ok, Err}
 use Rattle.std.proofs.lemmas.List.{take-append-drop, length-take-le}
@@ -37,10 +38,12 @@ same_front : OnePacket → (bytes p q : List ℕ) → Begins bytes p → Begins 
 same_front law bytes p q b d =
     let split : (r : List ℕ) → Begins bytes r → r ++ drop (length r) bytes ≡ bytes =
     λ r x. ap (λ (front : List ℕ). front ++ drop (length r) bytes) (sym x.there) ∙ take-append-drop (length r) bytes in
-    (law b.is.0 d.is.0 p q (drop (length p) bytes) (drop (length q) bytes) b.is.1 d.is.1 (split p b ∙ sym (split q d))).1
+    (law b.is.0 d.is.0 p q (drop (length p) bytes) (drop (length q) bytes) b.is.1 d.is.1 (split p b
+    ∙ sym (split q d))).1
 
 -- One list of packets comes before what no packet begins.
-pub same_packets : OnePacket → NoRefusal → PacketLength → (file rest more : List ℕ) (ps qs : List (List ℕ)) → Packs file ps rest
+pub same_packets : OnePacket → NoRefusal → PacketLength → (file rest more : List ℕ) (ps qs : List (List ℕ))
+    → Packs file ps rest
     → Packs file qs more → Stuck rest → Stuck more → (ps ≡ qs) × (rest ≡ more)
 same_packets one none sizes file rest more [] [] h k s t = (refl, sym h ∙ k)
 same_packets one none sizes file rest more [] (q ∷ qs) h k s t =
@@ -54,7 +57,8 @@ same_packets one none sizes file rest more (p ∷ ps) (q ∷ qs) h k s t =
     (ap (λ (r : List ℕ). r ∷ ps) same ∙ ap (λ (rs : List (List ℕ)). q ∷ rs) others.0, others.1)
 
 -- With packets behind which none begins, a file begins with no others: with the first of these.
-pub packs_within : OnePacket → NoRefusal → PacketLength → (file rest more : List ℕ) (ps qs : List (List ℕ)) → Packs file ps rest
+pub packs_within : OnePacket → NoRefusal → PacketLength → (file rest more : List ℕ) (ps qs : List (List ℕ))
+    → Packs file ps rest
     → Packs file qs more → Stuck rest → (others : List (List ℕ)) × (ps ≡ qs ++ others)
 packs_within one none sizes file rest more ps [] h k s = (ps, refl)
 packs_within one none sizes file rest more [] (q ∷ qs) h k s =
@@ -70,12 +74,15 @@ ends_once one none sizes refusal file (Ok count) (Ok number) a b =
     let same = same_packets one none sizes file [] [] a.0 b.0 a.1 b.1 (inl refl) (inl refl) in
     ap Ok (a.2 ∙ ap (λ (ps : List (List ℕ)). length ps) same.0 ∙ sym b.2)
 ends_once one none sizes refusal file (Ok count) (Err (PacketRefused at why)) a b =
-    let same = same_packets one none sizes file [] b.1 a.0 b.0 a.1 b.2 (inl refl) (inr (why, b.3)) in absurd (b.3.0 (sym same.1))
+    let same = same_packets one none sizes file [] b.1 a.0 b.0 a.1 b.2 (inl refl) (inr (why, b.3)) in
+    absurd (b.3.0 (sym same.1))
 ends_once one none sizes refusal file (Err (PacketRefused at why)) (Ok count) a b =
-    let same = same_packets one none sizes file a.1 [] a.0 b.0 a.2 b.1 (inr (why, a.3)) (inl refl) in absurd (a.3.0 same.1)
+    let same = same_packets one none sizes file a.1 [] a.0 b.0 a.2 b.1 (inr (why, a.3)) (inl refl) in
+    absurd (a.3.0 same.1)
 ends_once one none sizes refusal file (Err (PacketRefused at why)) (Err (PacketRefused place other)) a b =
     let same = same_packets one none sizes file a.1 b.1 a.0 b.0 a.2 b.2 (inr (why, a.3)) (inr (other, b.3)) in
-    let faults = refusal b.1 a.3.1.0 b.3.1.0 (subst (λ (bytes : List ℕ). Refuses bytes a.3.1.0) same.1 a.3.1.1) b.3.1.1 in
+    let faults = refusal b.1 a.3.1.0 b.3.1.0 (subst (λ (bytes : List ℕ). Refuses bytes a.3.1.0) same.1 a.3.1.1)
+    b.3.1.1 in
     let place_is : at ≡ place = a.4 ∙ ap bytes_in same.0 ∙ sym b.4 in
     let why_is : why ≡ other = sym a.3.1.2 ∙ ap (λ (f : PacketFault). f.why) faults ∙ b.3.1.2 in
     λ i. Err (PacketRefused (place_is i) (why_is i))
@@ -91,7 +98,11 @@ record Stops (file : List ℕ) : Type 0 where
   pub stuck : Stuck rest
 
 begins_with : (file : List ℕ) (p : Packet) (len : ℕ) → BeginsWith file p len → Begins file (take len file)
-begins_with file p len b = record { is = (p, b.spells); there = ap (λ (n : ℕ). take n file) (length-take-le len file b.inside) }
+begins_with file p len b = record {
+  is = (p, b.spells);
+  there = ap (λ (n : ℕ). take n file)
+      (length-take-le len file b.inside);
+}
 
 one_more : (file packet : List ℕ) → Begins file packet → Stops (drop (length packet) file) → Stops file
 one_more file packet b s = record { packets = packet ∷ s.packets; rest = s.rest; packs = (b, s.packs); stuck = s.stuck }

@@ -31,7 +31,8 @@ line_given Whole told next line text now some is g =
 line_given NoRoom told next line text now some is g =
     (told ++ next, [], append-nil (told ++ next), (is ∙ lines_next told next line text g.0 g.1, refl))
 
-pub gave_line : EventsTell → (start m n : FrameLines) (events : List Event) (bytes : List ℕ) → m.line ≢ [] → bytes ≡ m.line
+pub gave_line : EventsTell → (start m n : FrameLines) (events : List Event) (bytes : List ℕ) → m.line ≢ []
+    → bytes ≡ m.line
     → n.line ≡ [] → n.feed ≡ m.feed → Comes start events m → Comes start (events ++ Gave bytes ∷ []) n
 gave_line law start m n events bytes some is none same c =
     let s = c.shown in
@@ -45,9 +46,11 @@ gave_line law start m n events bytes some is none same c =
         told = g.0;
         next = g.1;
         feed = subst (λ (l : List RecordView). RecordFeedStandsFor n.feed l (fed 0 now) (has_ended 0 now)) (sym g.2)
-            (subst (λ (l : List ℕ). RecordFeedStandsFor n.feed (s.told ++ s.next) l (has_ended 0 now)) (sym (more.fed 0))
+            (subst (λ (l : List ℕ). RecordFeedStandsFor n.feed (s.told ++ s.next) l (has_ended 0 now))
+            (sym (more.fed 0))
             (subst (λ (e : Bool). RecordFeedStandsFor n.feed (s.told ++ s.next) (fed 0 events) e) (sym (more.ended 0))
-            (subst (λ (f : RecordFeed). RecordFeedStandsFor f (s.told ++ s.next) (fed 0 events) (has_ended 0 events)) (sym same) s.feed)));
+            (subst (λ (f : RecordFeed). RecordFeedStandsFor f (s.told ++ s.next) (fed 0 events) (has_ended 0 events))
+            (sym same) s.feed)));
         seen = λ whole. s.seen (ap coming_of (sym same) ∙ whole);
         given = rw (same, none) g.3;
       };

@@ -1,5 +1,6 @@
 -- The lines of records, step by step.
-use Rattle.std.proofs.Common.{◌≡◌, ◌≢◌, ℕ, ◌+◌, Bool, true, List, [], ◌∷◌, ◌++◌, length, refl, ap, sym, subst, ◌∙◌, inl, inr}
+use Rattle.std.proofs.Common.{◌≡◌, ◌≢◌, ℕ, ◌+◌, Bool, true, List, [], ◌∷◌, ◌++◌, length, refl, ap, sym, subst, ◌∙◌, inl}
+use Rattle.std.proofs.Common.{inr}
 use Rattle.std.proofs.Common.{arith, append-nil}
 use Rattle.std.proofs.lemmas.List.{nil_from_length}
 use Rattle.file_run.specs.Events.{Event, Fed, Ended, fed, has_ended, gave}
@@ -42,7 +43,8 @@ pub lines_next : (told next : List RecordView) (line text : List ℕ) → text �
     → line ≡ record_lines (length told) next → text ++ line ≡ record_lines 0 (told ++ next)
 lines_next told next line text is waits =
     let from : 0 + length told ≡ length told = omega arith in
-    rw (is, waits) (ap (λ (k : ℕ). record_lines 0 told ++ record_lines k next) (sym from) ∙ sym (record_lines-append 0 told next))
+    rw (is, waits) (ap (λ (k : ℕ). record_lines 0 told ++ record_lines k next) (sym from)
+    ∙ sym (record_lines-append 0 told next))
 
 -- all lines of the records were given, if none waits and more may follow
 pub all_told : (m : FrameLines) (events : List Event) (s : Shown m events) → m.line ≡ [] → coming_of m.feed ≢ Finished
@@ -53,13 +55,15 @@ all_told m events s none going =
     ∙ lines_next s.told s.next m.line (gave events) g.0 g.1
 
 -- the line of a record by its number
-pub line_numbered : (count number : ℕ) (view : RecordView) → count ≡ number → record_line count view ≡ record_line number view
+pub line_numbered : (count number : ℕ) (view : RecordView) → count ≡ number
+    → record_line count view ≡ record_line number view
 line_numbered count number view is = ap (λ (k : ℕ). record_line k view) is
 
 -- ---- a step
 
 -- no record more was seen
-same_shown : (m n : FrameLines) (events : List Event) (views : List RecordView) → n.line ≡ [] → coming_of n.feed ≢ Finished
+same_shown : (m n : FrameLines) (events : List Event) (views : List RecordView) → n.line ≡ []
+    → coming_of n.feed ≢ Finished
     → coming_of n.feed ≢ Whole → gave events ≡ record_lines 0 views
     → RecordFeedStandsFor n.feed views (fed 0 events) (has_ended 0 events) → Shown n events
 same_shown m n events views none going seen text stands =
@@ -67,7 +71,8 @@ same_shown m n events views none going seen text stands =
     record {
       told = views;
       next = [];
-      feed = subst (λ (l : List RecordView). RecordFeedStandsFor n.feed l (fed 0 events) (has_ended 0 events)) all stands;
+      feed = subst (λ (l : List RecordView). RecordFeedStandsFor n.feed l (fed 0 events) (has_ended 0 events))
+          all stands;
       seen = seen;
       given = given_as (coming_of n.feed) views [] n.line (gave events) going (text, none);
     }
@@ -93,10 +98,12 @@ looked_shown m n events views text (inr r) =
 
 fed_stands : EventsTell → (f : RecordFeed) (m : FrameLines) (events : List Event) (piece : List ℕ) (s : Shown m events)
     → Takes m.feed f piece
-    → RecordFeedStandsFor f (s.told ++ s.next) (fed 0 (events ++ Fed 0 piece ∷ [])) (has_ended 0 (events ++ Fed 0 piece ∷ []))
+    → RecordFeedStandsFor f (s.told ++ s.next) (fed 0 (events ++ Fed 0 piece ∷ []))
+    (has_ended 0 (events ++ Fed 0 piece ∷ []))
 fed_stands law f m events piece s takes =
     let more = law.fed 0 piece events in
-    subst (λ (l : List ℕ). RecordFeedStandsFor f (s.told ++ s.next) l (has_ended 0 (events ++ Fed 0 piece ∷ []))) (sym more.here)
+    subst (λ (l : List ℕ). RecordFeedStandsFor f (s.told ++ s.next) l (has_ended 0 (events ++ Fed 0 piece ∷ [])))
+    (sym more.here)
     (subst (λ (e : Bool). RecordFeedStandsFor f (s.told ++ s.next) (fed 0 events ++ piece) e) (sym (more.ended 0))
     (takes (s.told ++ s.next) (fed 0 events) (has_ended 0 events) s.feed))
 
@@ -119,9 +126,11 @@ fed_some law start m n events input count piece wanted line going seen takes c =
     })
 
 -- bytes came, and the record that is whole was looked at
-pub fed_whole : EventsTell → (start m n : FrameLines) (f : RecordFeed) (events : List Event) (input count : ℕ) (piece : List ℕ)
+pub fed_whole : EventsTell → (start m n : FrameLines) (f : RecordFeed) (events : List Event) (input count : ℕ)
+    (piece : List ℕ)
     → Suffices (next_of m) input count → Takes m.feed f piece
-    → ((views : List RecordView) (came : List ℕ) (ended : Bool) → RecordFeedStandsFor f views came ended → IsLookedAt views came ended n)
+    → ((views : List RecordView) (came : List ℕ) (ended : Bool) → RecordFeedStandsFor f views came ended
+    → IsLookedAt views came ended n)
     → Comes start events m → Comes start (events ++ Fed input piece ∷ []) n
 fed_whole law start m n f events input count piece wanted takes sees c =
     let s = c.shown in
@@ -149,7 +158,8 @@ ended_given Finished views count line text over number is done other =
 
 pub ended : EventsTell → (start m n : FrameLines) (events : List Event) (input : ℕ) (bytes : List ℕ)
     → FallsShort (next_of m) input (length bytes) → IsOver (coming_of n.feed) → coming_of n.feed ≢ Whole
-    → (coming_of n.feed ≡ Finished → n.line ≡ records_line (count_of n.feed)) → (coming_of n.feed ≢ Finished → n.line ≡ m.line)
+    → (coming_of n.feed ≡ Finished → n.line ≡ records_line (count_of n.feed))
+    → (coming_of n.feed ≢ Finished → n.line ≡ m.line)
     → ((views : List RecordView) (came : List ℕ) (over : Bool) → RecordFeedStandsFor m.feed views came over
     → RecordFeedStandsFor n.feed views came true)
     → Comes start events m → Comes start (events ++ Ended input bytes ∷ []) n
@@ -172,7 +182,8 @@ ended law start m n events input bytes wanted over seen done other stands c =
       shown = record {
         told = views;
         next = [];
-        feed = subst (λ (l : List RecordView). RecordFeedStandsFor n.feed l (fed 0 now) (has_ended 0 now)) (sym (append-nil views)) feed;
+        feed = subst (λ (l : List RecordView). RecordFeedStandsFor n.feed l (fed 0 now) (has_ended 0 now))
+            (sym (append-nil views)) feed;
         seen = seen;
         given = ended_given (coming_of n.feed) views (count_of n.feed) n.line (gave now) over feed.number
             (more.gave ∙ all_told m events s w.0.idle (unfinished m.feed w.0.some)) done (λ e. other e ∙ w.0.idle);

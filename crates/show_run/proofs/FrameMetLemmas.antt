@@ -29,7 +29,8 @@ use Rattle.show_run.proofs.FrameWantedLemmas.{unfinished}
 use Rattle.show_run.proofs.PacketMetLemmas.{line_some}
 
 -- the lines of the first records, if a machine has lines still to give
-first_lines : (coming : Coming) (lacks : ℕ) (told next : List RecordView) (line text : List ℕ) → next_from line lacks ≡ Give
+first_lines : (coming : Coming) (lacks : ℕ) (told next : List RecordView) (line text : List ℕ)
+    → next_from line lacks ≡ Give
     → Given coming told next line text → text ≡ record_lines 0 told
 first_lines Head lacks told next line text gives g = g.0
 first_lines Rest lacks told next line text gives g = g.0
@@ -39,7 +40,8 @@ first_lines NoRoom lacks told next line text gives g = g.0
 first_lines Finished lacks told next line text gives (last, inl waits) = waits.1
 first_lines Finished lacks told next line text gives (last, inr given) = absurd (gives_line line lacks gives given.0)
 
-first_of_file : (file : List ℕ) (m : FrameLines) (events : List Event) → StartsWith file (fed 0 events) (has_ended 0 events)
+first_of_file : (file : List ℕ) (m : FrameLines) (events : List Event)
+    → StartsWith file (fed 0 events) (has_ended 0 events)
     → (s : Shown m events) → gave events ≡ record_lines 0 s.told → AreFirstRecords file (gave events)
 first_of_file file m events starts s text =
     let mid = records_first (fed 0 events) s.feed.rest s.told s.next s.feed.records in
@@ -52,7 +54,8 @@ none_first file = ([], file, (refl, refl))
 pub said_first : (start : FrameLines) (file : List ℕ) (early : List Event) (mid : FrameLines)
     → StartsWith file (fed 0 early) (has_ended 0 early) → Comes start early mid → (early ≡ []) ⊎ (next_of mid ≡ Give)
     → AreFirstRecords file (gave early)
-said_first start file early mid starts came (inl none) = subst (λ (l : List Event). AreFirstRecords file (gave l)) (sym none)
+said_first start file early mid starts came (inl none) = subst (λ (l : List Event). AreFirstRecords file (gave l))
+    (sym none)
     (none_first file)
 said_first start file early mid starts came (inr gives) =
     first_of_file file mid early starts came.shown
@@ -60,7 +63,8 @@ said_first start file early mid starts came (inr gives) =
     (gave early) gives came.shown.given)
 
 -- what waits ends within the record that comes
-ends_within : TakesOn → LacksWithin → (m : FrameLines) (events : List Event) (more : List ℕ) (count : ℕ) → 0 < lacks_of m.feed
+ends_within : TakesOn → LacksWithin → (m : FrameLines) (events : List Event) (more : List ℕ) (count : ℕ)
+    → 0 < lacks_of m.feed
     → count ≤ lacks_of m.feed → (s : Shown m events) → EndsWithin (s.feed.rest ++ more) (length s.feed.rest + count)
 ends_within takes within m events more count some few s =
     within s.feed.rest more (lacks_of m.feed) count
@@ -78,7 +82,8 @@ read_behind file m events place count s starts is =
     omega (arith, size, sum, both, inside, is)
 
 -- all records that were seen of a file were told, and what waits ends within the next one
-pub all_met : TakesOn → LacksWithin → (file : List ℕ) (m : FrameLines) (events : List Event) (place count : ℕ) → m.line ≡ []
+pub all_met : TakesOn → LacksWithin → (file : List ℕ) (m : FrameLines) (events : List Event) (place count : ℕ)
+    → m.line ≡ []
     → 0 < lacks_of m.feed → count ≤ lacks_of m.feed → (s : Shown m events)
     → StartsWith file (fed 0 events) (has_ended 0 events) → length (fed 0 events) + count ≡ place
     → SaysMetRecords file place (gave events)
@@ -97,7 +102,8 @@ all_met takes within file m events place count none some near s starts is = (
 -- the next one lacks some bytes, and of the lines of the others the first were said
 pub part_met : TakesOn → LacksWithin → (file : List ℕ) (m : FrameLines) (events : List Event) (place count : ℕ)
     (text unsaid : List ℕ) → m.line ≡ [] → 0 < lacks_of m.feed → count + 1 ≤ lacks_of m.feed → (s : Shown m events)
-    → StartsWith file (fed 0 events) (has_ended 0 events) → length (fed 0 events) + count ≡ place → gave events ≡ text ++ unsaid
+    → StartsWith file (fed 0 events) (has_ended 0 events) → length (fed 0 events) + count ≡ place
+    → gave events ≡ text ++ unsaid
     → length unsaid ≤ most_waiting → LacksFewRecords file place text unsaid
 part_met takes within file m events place count text unsaid none some near s starts is parts few =
     let behind = read_behind file m events place count s starts is in
@@ -134,11 +140,14 @@ ends_idle (c ∷ line) lacks e = absurd (let f : Give ≡ End = e in cc)
 pub behind_at : (m : FrameLines) (events : List Event) (p : Coming) → coming_of m.feed ≡ p → (s : Shown m events)
     → Behind p m.feed.head m.feed.bytes.items m.feed.left s.feed.rest (has_ended 0 events)
 behind_at m events p is s =
-    subst (λ (q : Coming). Behind q m.feed.head m.feed.bytes.items m.feed.left s.feed.rest (has_ended 0 events)) is s.feed.behind
+    subst (λ (q : Coming). Behind q m.feed.head m.feed.bytes.items m.feed.left s.feed.rest (has_ended 0 events))
+    is s.feed.behind
 
-ended_all : (told next : List RecordView) (line text : List ℕ) → line ≡ [] → Given Finished told next line text → (next ≡ [])
+ended_all : (told next : List RecordView) (line text : List ℕ) → line ≡ [] → Given Finished told next line text
+    → (next ≡ [])
     × (text ≡ record_lines 0 told ++ records_line (length told))
-ended_all told next line text none (some, inl waits) = absurd (line_some (codes "records=") (length told) (sym waits.0 ∙ none))
+ended_all told next line text none (some, inl waits) = absurd (line_some (codes "records=") (length told) (sym waits.0
+    ∙ none))
 ended_all told next line text none (some, inr given) = (some, given.1)
 
 pub finished_text : (file : List ℕ) (place : ℕ) (m : FrameLines) (events : List Event) (early : List ℕ) → m.line ≡ []

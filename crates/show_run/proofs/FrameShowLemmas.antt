@@ -1,5 +1,6 @@
 -- What was told of the lines of records is what a file of records asks for.
-use Rattle.std.proofs.Common.{◌≡◌, ◌≢◌, ℕ, ◌+◌, ◌-◌, ◌<◌, List, [], ◌++◌, length, refl, ap, sym, subst, ◌∙◌, inl, inr, arith}
+use Rattle.std.proofs.Common.{◌≡◌, ◌≢◌, ℕ, ◌+◌, ◌-◌, ◌<◌, List, [], ◌++◌, length, refl, ap, sym, subst, ◌∙◌, inl, inr}
+use Rattle.std.proofs.Common.{arith}
 use Rattle.std.proofs.Common.{append-nil, length-append}
 use Rattle.std.specs.Prelude.{◌⊎◌, IfSome, Result, Err}
 use Rattle.std.proofs.lemmas.List.{nil_from_length}
@@ -42,7 +43,8 @@ abbrev shows : State → State → List ℕ → Result ℕ (RunStop ShowStop) �
 shows old new name result = Shows IsRecordText old new name result
 
 -- a run to the end
-pub frames_end : (start now : FrameLines) (old new : State) (name : List ℕ) → TellsAll (Comes start) next_of old new name now
+pub frames_end : (start now : FrameLines) (old new : State) (name : List ℕ)
+    → TellsAll (Comes start) next_of old new name now
     → shows old new name (records_end (coming_of now.feed) (count_of now.feed))
 frames_end start now old new name t = go (coming_of now.feed) refl
   where
@@ -84,7 +86,8 @@ frames_end start now old new name t = go (coming_of now.feed) refl
       reads = (x.opened, t.short);
       grew = x.said;
       lines = IfSome_then old.held x.inputs
-          (λ held f. room_text (bytes_of held.files name) t.place now x.events (gave x.early) idle is x.came.shown f text);
+          (λ held f. room_text (bytes_of held.files name) t.place now x.events (gave x.early) idle is
+          x.came.shown f text);
       counts = t.counts;
     }
     go Finished is = record {
@@ -101,7 +104,8 @@ frames_end start now old new name t = go (coming_of now.feed) refl
 
 -- what was said if not all was
 some_said : (start now : FrameLines) (old new : State) (name : List ℕ) (place : ℕ) (unsaid : List ℕ)
-    (x : Tells (Comes start) next_of old new name now place unsaid) → (unsaid ≡ [] → (now.line ≡ []) × (0 < lacks_of now.feed))
+    (x : Tells (Comes start) next_of old new name now place unsaid) → (unsaid ≡ [] → (now.line ≡ [])
+    × (0 < lacks_of now.feed))
     → IfSome old.held (λ held. AreFirstRecords (bytes_of held.files name) (gave x.early))
 some_said start now old new name place unsaid x wants =
     if_both old.held _ _ _ (λ held f first. go held f first x.going) x.inputs x.first
@@ -152,7 +156,8 @@ none_refused one never file place m events views rest why done f s records refus
     (subst (λ (l : List ℕ). AreRecords file (s.told ++ s.next) l) nothing all) (why, refused.1) stuck_nil).1)
 
 -- if something was not said, what stands behind the records that were is not refused
-not_refused : OneRecord → NoRefusal → (file : List ℕ) (place : ℕ) (m : FrameLines) (events : List Event) (views : List RecordView)
+not_refused : OneRecord → NoRefusal → (file : List ℕ) (place : ℕ) (m : FrameLines) (events : List Event)
+    (views : List RecordView)
     (rest unsaid : List ℕ) (why : RecordWhy) → IsFed file place (fed 0 events) (has_ended 0 events)
     → Shown m events → AreRecords file views rest → gave events ≡ record_lines 0 views ++ unsaid → unsaid ≢ []
     → ¬ (IsNoRecord rest why)
@@ -167,7 +172,8 @@ not_refused one never file place m events views rest unsaid why f s records part
     ]
 
 -- what was said if something was left to say
-some_left : OneRecord → NoRefusal → (start now : FrameLines) (old new : State) (name : List ℕ) (place : ℕ) (unsaid : List ℕ)
+some_left : OneRecord → NoRefusal → (start now : FrameLines) (old new : State) (name : List ℕ) (place : ℕ)
+    (unsaid : List ℕ)
     (x : Tells (Comes start) next_of old new name now place unsaid) → unsaid ≢ []
     → IfSome old.held (λ held. LeavesRecords (bytes_of held.files name) (gave x.early))
 some_left one never start now old new name place unsaid x some =
@@ -175,7 +181,8 @@ some_left one never start now old new name place unsaid x some =
       first.0,
       first.1,
       first.2,
-      (λ why. not_refused one never (bytes_of held.files name) place now x.events first.0 first.1 unsaid why f x.came.shown
+      (λ why. not_refused one never (bytes_of held.files name) place now x.events first.0 first.1 unsaid
+          why f x.came.shown
           first.2.0 (x.parts ∙ ap (λ (l : List ℕ). l ++ unsaid) first.2.1) some),
     )) x.inputs (some_said start now old new name place unsaid x (λ all. absurd (some all)))
 
@@ -192,7 +199,8 @@ frames_none old new name s = record {
   counts = ap (λ (x : State). x.counts) s;
 }
 
-pub frames_stop : OneRecord → NoRefusal → TakesOn → LacksWithin → (start now : FrameLines) (old new : State) (name : List ℕ)
+pub frames_stop : OneRecord → NoRefusal → TakesOn → LacksWithin → (start now : FrameLines) (old new : State)
+    (name : List ℕ)
     (why : RunStop ShowStop) → StopsLines (Comes start) next_of old new name now why → shows old new name (Err why)
 frames_stop one never takes within start now old new name (run.Refused why) s = absurd s
 frames_stop one never takes within start now old new name (run.Files (TooLong input)) s =
@@ -212,7 +220,8 @@ frames_stop one never takes within start now old new name (run.Files (TooLong in
           let ahead = f.ahead in
           let count : ℕ = longest_file - length (fed 0 x.events) in (
             (let w = f.within in w),
-            subst (λ (l : List ℕ). SaysMetRecords (bytes_of held.files name) longest_file l) (x.parts ∙ append-nil (gave x.early))
+            subst (λ (l : List ℕ). SaysMetRecords (bytes_of held.files name) longest_file l) (x.parts
+                ∙ append-nil (gave x.early))
                 (all_met takes within (bytes_of held.files name) now x.events longest_file count r.0.idle r.0.some
                 (omega (arith, lacks, few)) x.came.shown (starts_fed _ _ _ _ f)
                 (omega (arith, ahead))),
@@ -248,7 +257,8 @@ frames_stop one never takes within start now old new name (run.Files (ReadFault 
         reads = (s.0, inr (x.opened, t.short));
         grew = x.said;
         lines = if_both old.held _ _ _ (λ held f first. (
-          part_met takes within (bytes_of held.files name) now x.events t.place (t.place - length (fed 0 x.events)) (gave x.early)
+          part_met takes within (bytes_of held.files name) now x.events t.place (t.place - length (fed 0 x.events))
+              (gave x.early)
               t.unsaid r.0.idle r.0.some (omega (arith, lacks, few)) x.came.shown (starts_fed _ _ _ _ f)
               (let ahead = f.ahead in omega (arith, ahead)) x.parts
               x.waits.few,

@@ -26,13 +26,15 @@ wants_if P give end [] zero p = absurd (end p)
 wants_if P give end [] (suc lacks) p = (refl, omega arith, p)
 wants_if P give end (c ∷ line) lacks p = absurd (give p)
 
-pub short : (m : FrameLines) (input count : ℕ) → FallsShort (next_of m) input count → Wants m.line (lacks_of m.feed) input
+pub short : (m : FrameLines) (input count : ℕ) → FallsShort (next_of m) input count
+    → Wants m.line (lacks_of m.feed) input
     × (count < 1)
 short m input count s =
     let w = wants_if (λ step. FallsShort step input count) (λ e. e) (λ e. e) m.line (lacks_of m.feed) s in
     (record { idle = w.0; only = sym w.2.0; some = w.1 }, w.2.1)
 
-pub enough : (m : FrameLines) (input count : ℕ) → Suffices (next_of m) input count → Wants m.line (lacks_of m.feed) input
+pub enough : (m : FrameLines) (input count : ℕ) → Suffices (next_of m) input count
+    → Wants m.line (lacks_of m.feed) input
     × (0 < count)
 enough m input count s =
     let w = wants_if (λ step. Suffices step input count) (λ e. e) (λ e. e) m.line (lacks_of m.feed) s in

@@ -1,5 +1,5 @@
--- Bytes that hold as many as their header tells: what is refused of them is refused whatever follows, and a packet that they
--- begin with is all of them if they are no more.
+-- Bytes that hold as many as their header tells: what is refused of them is refused whatever follows, and a packet that
+-- they begin with is all of them if they are no more.
 use Rattle.std.proofs.Common.{◌≡◌, ℕ, ◌<◌, ◌≤◌, Bool, true, false, cond, ◌&&◌, Some, None, List, ◌++◌, length, take}
 use Rattle.std.proofs.Common.{zero, suc, refl, ap, sym, subst, ◌∙◌, inl, inr, arith, length-append}
 use Rattle.std.proofs.lemmas.List.{nil_from_length}
@@ -10,7 +10,8 @@ use Rattle.t2mi_packet.specs.declared.fault.PacketWhy.{PacketWhy}
 use Rattle.t2mi_packet.specs.declared.fault.PacketWhy.TheVariants.{Short, Crc, PadBits, PayloadShape}
 use Rattle.t2mi_packet.specs.Laws.{SpellIs}
 use Rattle.t2mi_packet.specs.Spell.{is_complete, is_good, spell}
-use Rattle.t2mi_packet.specs.T2miPacket.{told_len, is_shaped, BeginsWith, Spells, IsShort, HasCrc, HasPad, HasShape, RefusesFor}
+use Rattle.t2mi_packet.specs.T2miPacket.{told_len, is_shaped, BeginsWith, Spells, IsShort, HasCrc, HasPad, HasShape}
+use Rattle.t2mi_packet.specs.T2miPacket.{RefusesFor}
 use Rattle.t2mi_packet.proofs.FrontLemmas.{same, told_on}
 use Rattle.t2mi_packet.proofs.PacketLemmas.{Holds, not_short}
 use Rattle.show_run.specs.PacketFile.{Begins, IsRefused}
@@ -49,11 +50,13 @@ refuses_on front more PayloadShape at w r =
       not_short (front ++ more) (holds_on front more w),
       rw s.len (s.crc ∙ r.1 ∙ ap crc32_of (sym s.counted)),
       rw s.len (s.pad ∙ r.2),
-      λ (has : HasShape (front ++ more)). r.3 (sym (ap (λ (v : PacketView). is_shaped v.packet_type v.payload) s.view) ∙ has),
+      λ (has : HasShape (front ++ more)). r.3 (sym (ap (λ (v : PacketView). is_shaped v.packet_type v.payload) s.view)
+          ∙ has),
       r.4,
     )
 
-pub refused_whole : (front more : List ℕ) (why : PacketWhy) → IsWhole front → IsRefused front why → IsRefused (front ++ more) why
+pub refused_whole : (front more : List ℕ) (why : PacketWhy) → IsWhole front → IsRefused front why
+    → IsRefused (front ++ more) why
 refused_whole front more why w r = (
   (λ e. r.0 (nil_from_length front (let n = ap length e in let m = length-append front more in omega (arith, n, m)))),
   (r.1.0, refuses_on front more r.1.0.why r.1.0.at w r.1.1, r.1.2),
@@ -76,7 +79,8 @@ still_short bytes (suc n) (inl head) some = inl head.0
 still_short bytes (suc n) (inr rest) some = inr (let is = rest.1 in omega (arith, is))
 
 -- no more bytes were taken than were lacking
-pub whole_exact : (bytes piece : List ℕ) (n : ℕ) → IsLacking bytes n → 0 < n → length piece ≤ n → IsWhole (bytes ++ piece)
+pub whole_exact : (bytes piece : List ℕ) (n : ℕ) → IsLacking bytes n → 0 < n → length piece ≤ n
+    → IsWhole (bytes ++ piece)
     → length (bytes ++ piece) ≡ told_len (bytes ++ piece)
 whole_exact bytes piece n (inl head) some few w =
     let sum = head.1 in
@@ -103,6 +107,7 @@ begins_told law bytes packet b =
     sym (some_told (is_complete bytes && is_good bytes) (told_len bytes) (length packet)
     ((law bytes (length packet)).1 (b.is.0, begins)))
 
-pub whole_packet : SpellIs → (bytes packet : List ℕ) → Begins bytes packet → length bytes ≡ told_len bytes → packet ≡ bytes
+pub whole_packet : SpellIs → (bytes packet : List ℕ) → Begins bytes packet → length bytes ≡ told_len bytes
+    → packet ≡ bytes
 whole_packet law bytes packet b whole = sym b.there
     ∙ ap (λ (k : ℕ). take k bytes) (begins_told law bytes packet b ∙ sym whole) ∙ take-length bytes

@@ -24,7 +24,8 @@ use Rattle.show_run.proofs.PacketFileLemmas.{begins_inside, begins_on, packs_mor
 use Rattle.show_run.proofs.PacketFrontLemmas.{whole_packet, lacks_some, lacks_none, whole_exact}
 
 -- what is wanted tells that packets are read, and that no line waits
-reads_idle : (line : List ℕ) (phase : Phase) (input count : ℕ) → Suffices (next_from line phase) input count → (line ≡ [])
+reads_idle : (line : List ℕ) (phase : Phase) (input count : ℕ) → Suffices (next_from line phase) input count
+    → (line ≡ [])
     × (phase ≡ Reads) × (input ≡ 0) × (1 ≤ count)
 reads_idle [] Reads input count s = (refl, refl, sym s.0, s.1)
 reads_idle [] (Refused why) input count s = absurd s
@@ -35,14 +36,16 @@ pub idle : (m : PacketLines) (input count : ℕ) → Suffices (next_of m) input 
     × (input ≡ 0) × (1 ≤ count)
 idle m input count s = reads_idle m.line m.phase input count s
 
-short_idle : (line : List ℕ) (phase : Phase) (input count : ℕ) → FallsShort (next_from line phase) input count → (line ≡ [])
+short_idle : (line : List ℕ) (phase : Phase) (input count : ℕ) → FallsShort (next_from line phase) input count
+    → (line ≡ [])
     × (phase ≡ Reads) × (input ≡ 0) × (count < 1)
 short_idle [] Reads input count s = (refl, refl, sym s.0, s.1)
 short_idle [] (Refused why) input count s = absurd s
 short_idle [] Finished input count s = absurd s
 short_idle (c ∷ line) phase input count s = absurd s
 
-pub falls_idle : (m : PacketLines) (input count : ℕ) → FallsShort (next_of m) input count → (m.line ≡ []) × (m.phase ≡ Reads)
+pub falls_idle : (m : PacketLines) (input count : ℕ) → FallsShort (next_of m) input count → (m.line ≡ [])
+    × (m.phase ≡ Reads)
     × (input ≡ 0) × (count < 1)
 falls_idle m input count s = short_idle m.line m.phase input count s
 
@@ -55,7 +58,8 @@ drop_on : (n : ℕ) (xs ys : List ℕ) → n ≤ length xs → drop n (xs ++ ys)
 drop_on n xs ys h = drop-append-le n xs ys h
 
 -- packets, and then more bytes
-pub packs_on : (file more rest : List ℕ) (ps : List (List ℕ)) → Packs file ps rest → Packs (file ++ more) ps (rest ++ more)
+pub packs_on : (file more rest : List ℕ) (ps : List (List ℕ)) → Packs file ps rest
+    → Packs (file ++ more) ps (rest ++ more)
 packs_on file more rest [] e = ap (λ (l : List ℕ). l ++ more) e
 packs_on file more rest (p ∷ ps) h = (
   begins_on file more p h.0,
@@ -81,7 +85,8 @@ abbrev pub IsOpen : Phase → Type 0
 IsOpen Finished = ⊥
 IsOpen phase = Unit {0}
 
-given_of : (phase : Phase) (told next : List (List ℕ)) (line text : List ℕ) → IsOpen phase → Given phase told next line text
+given_of : (phase : Phase) (told next : List (List ℕ)) (line text : List ℕ) → IsOpen phase
+    → Given phase told next line text
     → (text ≡ lines_of 0 told) × (line ≡ lines_of (bytes_in told) next)
 given_of Reads told next line text o g = g
 given_of (Refused why) told next line text o g = g
@@ -106,7 +111,8 @@ seen_more m n was now packet idle going goes at count s text packs same behind =
       rest = [];
       packs = packs;
       place = at;
-      number = (let c = s.number in let b = length-append (s.told ++ s.next) (packet ∷ []) in omega (arith, count, c, b));
+      number = (let c = s.number in let b = length-append (s.told ++ s.next) (packet ∷ []) in omega
+          (arith, count, c, b));
       behind = behind;
       given = given_as n.phase (s.told ++ s.next) (packet ∷ []) n.line (gave now) goes (
         same ∙ told_all s.told s.next m.line (gave was) idle g.0 g.1,
@@ -143,15 +149,18 @@ packs_fed law m events piece s =
     subst (λ (l : List ℕ). Packs l (s.told ++ s.next) (s.rest ++ piece)) (sym (law.fed 0 piece events).here)
     (packs_on (fed 0 events) piece s.rest (s.told ++ s.next) s.packs)
 
-at_fed : EventsTell → (m n : PacketLines) (events : List Event) (piece : List ℕ) → Shown m events → n.at ≡ m.at + length piece
+at_fed : EventsTell → (m n : PacketLines) (events : List Event) (piece : List ℕ) → Shown m events
+    → n.at ≡ m.at + length piece
     → n.at ≡ length (fed 0 (events ++ Fed 0 piece ∷ []))
 at_fed law m n events piece s at =
-    let more = ap length (law.fed 0 piece events).here in let sum = length-append (fed 0 events) piece in let p = s.place in
+    let more = ap length (law.fed 0 piece events).here in let sum = length-append (fed 0 events) piece in
+    let p = s.place in
     omega (arith, at, more, sum, p)
 
 -- not the last of a packet
 pub took_some : EventsTell → (start m n : PacketLines) (events : List Event) (input : ℕ) (piece : List ℕ) → input ≡ 0
-    → m.line ≡ [] → m.phase ≡ Reads → n.phase ≡ m.phase → n.line ≡ m.line → n.count ≡ m.count → n.at ≡ m.at + length piece
+    → m.line ≡ [] → m.phase ≡ Reads → n.phase ≡ m.phase → n.line ≡ m.line → n.count ≡ m.count
+    → n.at ≡ m.at + length piece
     → n.bytes.items ≡ m.bytes.items ++ piece → IsShort n.bytes.items → Comes start events m
     → Comes start (events ++ Fed input piece ∷ []) n
 took_some law start m n events input piece zero idle reads same quiet count at bytes few c =
@@ -162,7 +171,8 @@ took_some law start m n events input piece zero idle reads same quiet count at b
     subst (λ (k : ℕ). Comes start (events ++ Fed k piece ∷ []) n) (sym zero) (record {
       fresh = c.fresh;
       shown = seen_same m n events (events ++ Fed 0 piece ∷ []) (s.rest ++ piece) idle (quiet ∙ idle)
-          (open_is Reads m.phase reads tt) (open_is Reads n.phase (same ∙ reads) tt) (at_fed law m n events piece s at) count s
+          (open_is Reads m.phase reads tt) (open_is Reads n.phase (same ∙ reads) tt) (at_fed law m n events piece s at)
+          count s
           (packs_fed law m events piece s) more.gave
           (subst (λ (p : Phase). Behind p n.bytes.items (s.rest ++ piece) (has_ended 0 (events ++ Fed 0 piece ∷ [])))
           (sym (same ∙ reads)) (is, subst IsShort (sym is) few, more.ended 0 ∙ b.2));
@@ -174,7 +184,8 @@ took_last : EventsTell → SpellIs → (start m mid n : PacketLines) (events : L
     → mid.at ≡ m.at + length piece → mid.bytes.items ≡ m.bytes.items ++ piece → IsWhole mid.bytes.items
     → length mid.bytes.items ≡ told_len mid.bytes.items → n.at ≡ mid.at → Sees mid n → Comes start events m
     → Comes start (events ++ Fed input piece ∷ []) n
-took_last law spells start m mid n events input piece zero idle reads same quiet count came bytes whole exact at (inl seen) c =
+took_last law spells start m mid n events input piece zero idle reads same quiet count came bytes whole
+    exact at (inl seen) c =
     let s = c.shown in
     let b = under_way m events reads s in
     let more = law.fed 0 piece events in
@@ -200,7 +211,8 @@ took_last law spells start m mid n events input piece zero idle reads same quiet
           (subst (λ (p : Phase). Behind p n.bytes.items [] (has_ended 0 now)) (sym (seen.phase ∙ same ∙ reads))
           (sym seen.bytes, inl (omega arith), more.ended 0 ∙ b.2));
     })
-took_last law spells start m mid n events input piece zero idle reads same quiet count came bytes whole exact at (inr stopped) c =
+took_last law spells start m mid n events input piece zero idle reads same quiet count came bytes whole
+    exact at (inr stopped) c =
     let s = c.shown in
     let b = under_way m events reads s in
     let more = law.fed 0 piece events in
@@ -212,7 +224,8 @@ took_last law spells start m mid n events input piece zero idle reads same quiet
     subst (λ (k : ℕ). Comes start (events ++ Fed k piece ∷ []) n) (sym zero) (record {
       fresh = c.fresh;
       shown = seen_same m n events now (s.rest ++ piece) idle (t.line ∙ quiet ∙ idle) (open_is Reads m.phase reads tt)
-          (open_is (Refused stopped.0) n.phase t.phase tt) (at ∙ at_fed law m mid events piece s came) (t.count ∙ count) s
+          (open_is (Refused stopped.0) n.phase t.phase tt) (at ∙ at_fed law m mid events piece s came) (t.count
+          ∙ count) s
           (packs_fed law m events piece s) more.gave
           (subst (λ (p : Phase). Behind p n.bytes.items (s.rest ++ piece) (has_ended 0 now)) (sym t.phase) (
             is ∙ sym t.bytes,
@@ -227,7 +240,8 @@ pub took_whole : EventsTell → SpellIs → (start m mid n : PacketLines) (event
     → mid.count ≡ m.count → mid.at ≡ m.at + length piece → mid.bytes.items ≡ m.bytes.items ++ piece
     → IsLacking m.bytes.items lacked → length piece ≤ lacked → IsLacking mid.bytes.items left → left ≡ 0 → n.at ≡ mid.at
     → Comes start events m → Comes start (events ++ Fed input piece ∷ []) n
-took_whole law spells start m mid n events input lacked left piece sees zero idle reads same quiet count came bytes before few
+took_whole law spells start m mid n events input lacked left piece sees zero idle reads same quiet count
+    came bytes before few
     after none at c =
     let b = under_way m events reads c.shown in
     let some = lacks_some m.bytes.items lacked before (subst IsShort b.0 b.1) in
@@ -238,7 +252,8 @@ took_whole law spells start m mid n events input lacked left piece sees zero idl
 
 -- the file has ended behind the packets
 pub ended_all : EventsTell → (start m n : PacketLines) (events : List Event) (input : ℕ) (bytes : List ℕ)
-    → FallsShort (next_of m) input (length bytes) → length m.bytes.items ≡ 0 → n.phase ≡ Finished → n.line ≡ count_line m.count
+    → FallsShort (next_of m) input (length bytes) → length m.bytes.items ≡ 0 → n.phase ≡ Finished
+    → n.line ≡ count_line m.count
     → n.at ≡ m.at → n.count ≡ m.count → Comes start events m → Comes start (events ++ Ended input bytes ∷ []) n
 ended_all law start m n events input bytes wanted empty done line at count c =
     let none : m.bytes.items ≡ [] = nil_from_length m.bytes.items empty in
@@ -248,7 +263,8 @@ ended_all law start m n events input bytes wanted empty done line at count c =
     let more = law.ended 0 bytes events in
     let packets : List (List ℕ) = s.told ++ s.next in
     let nothing : bytes ≡ [] = nil_from_length bytes (let k = w.3 in omega (arith, k)) in
-    let same : fed 0 (events ++ Ended 0 bytes ∷ []) ≡ fed 0 events = more.here ∙ ap (λ (l : List ℕ). fed 0 events ++ l) nothing
+    let same : fed 0 (events ++ Ended 0 bytes ∷ []) ≡ fed 0 events = more.here
+    ∙ ap (λ (l : List ℕ). fed 0 events ++ l) nothing
     ∙ append-nil (fed 0 events) in
     let g = given_of m.phase s.told s.next m.line (gave events) (open_is Reads m.phase w.1 tt) s.given in
     let all : gave (events ++ Ended 0 bytes ∷ []) ≡ lines_of 0 packets = more.gave
@@ -259,12 +275,14 @@ ended_all law start m n events input bytes wanted empty done line at count c =
         told = packets;
         next = [];
         rest = [];
-        packs = subst (λ (l : List (List ℕ)). Packs (fed 0 (events ++ Ended 0 bytes ∷ [])) l []) (sym (append-nil packets))
+        packs = subst (λ (l : List (List ℕ)). Packs (fed 0 (events ++ Ended 0 bytes ∷ [])) l [])
+            (sym (append-nil packets))
             (subst (λ (l : List ℕ). Packs l packets []) (sym same)
             (subst (λ (l : List ℕ). Packs (fed 0 events) packets l) (b.0 ∙ none) s.packs));
         place = at ∙ s.place ∙ ap length (sym same);
         number = count ∙ s.number ∙ ap length (sym (append-nil packets));
-        behind = subst (λ (p : Phase). Behind p n.bytes.items [] (has_ended 0 (events ++ Ended 0 bytes ∷ []))) (sym done)
+        behind = subst (λ (p : Phase). Behind p n.bytes.items [] (has_ended 0 (events ++ Ended 0 bytes ∷ [])))
+            (sym done)
             (refl, more.ended);
         given = subst (λ (p : Phase). Given p packets [] n.line (gave (events ++ Ended 0 bytes ∷ []))) (sym done)
             (refl, inl (line ∙ ap count_line s.number, all));
@@ -282,15 +300,18 @@ ended_within law start m n events input bytes wanted some refused quiet held at 
     let b = under_way m events w.1 s in
     let more = law.ended 0 bytes events in
     let nothing : bytes ≡ [] = nil_from_length bytes (let k = w.3 in omega (arith, k)) in
-    let same : fed 0 (events ++ Ended 0 bytes ∷ []) ≡ fed 0 events = more.here ∙ ap (λ (l : List ℕ). fed 0 events ++ l) nothing
+    let same : fed 0 (events ++ Ended 0 bytes ∷ []) ≡ fed 0 events = more.here
+    ∙ ap (λ (l : List ℕ). fed 0 events ++ l) nothing
     ∙ append-nil (fed 0 events) in
     let fault : PacketFault = record { at = length s.rest; why = Short } in
     subst (λ (k : ℕ). Comes start (events ++ Ended k bytes ∷ []) n) (sym w.2) (record {
       fresh = c.fresh;
-      shown = seen_same m n events (events ++ Ended 0 bytes ∷ []) s.rest w.0 (quiet ∙ w.0) (open_is Reads m.phase w.1 tt)
+      shown = seen_same m n events (events ++ Ended 0 bytes ∷ []) s.rest w.0 (quiet ∙ w.0)
+          (open_is Reads m.phase w.1 tt)
           (open_is (Refused Short) n.phase refused tt) (at ∙ s.place ∙ ap length (sym same)) count s
           (subst (λ (l : List ℕ). Packs l (s.told ++ s.next) s.rest) (sym same) s.packs) more.gave
-          (subst (λ (p : Phase). Behind p n.bytes.items s.rest (has_ended 0 (events ++ Ended 0 bytes ∷ []))) (sym refused) (
+          (subst (λ (p : Phase). Behind p n.bytes.items s.rest (has_ended 0 (events ++ Ended 0 bytes ∷ [])))
+          (sym refused) (
             b.0 ∙ sym held,
             ((λ e. let n = ap length (sym b.0 ∙ e) in absurd (omega (arith, n, some))), (fault, (b.1, refl), refl)),
             inl more.ended,
@@ -319,13 +340,15 @@ fits m input count room zero =
     let at = room.came.shown.place in omega (arith, at, few)
 
 -- the packet under way is short
-pub is_short : (m : PacketLines) (input count : ℕ) → HasRoom Comes m input count → m.phase ≡ Reads → IsShort m.bytes.items
+pub is_short : (m : PacketLines) (input count : ℕ) → HasRoom Comes m input count → m.phase ≡ Reads
+    → IsShort m.bytes.items
 is_short m input count room reads =
     let b = under_way m room.events reads room.came.shown in
     subst IsShort b.0 b.1
 
 -- the lines of the next packets go behind
-lines_next : (told next : List (List ℕ)) (line text : List ℕ) → text ≡ lines_of 0 told → line ≡ lines_of (bytes_in told) next
+lines_next : (told next : List (List ℕ)) (line text : List ℕ) → text ≡ lines_of 0 told
+    → line ≡ lines_of (bytes_in told) next
     → text ++ line ≡ lines_of 0 (told ++ next)
 lines_next told next line text is waits =
     let from : 0 + bytes_in told ≡ bytes_in told = omega arith in
@@ -343,8 +366,10 @@ line_given Reads told next line text now some is g =
 line_given (Refused why) told next line text now some is g =
     (told ++ next, [], append-nil (told ++ next), (is ∙ lines_next told next line text g.0 g.1, refl))
 
-pub gave_line : EventsTell → (start m n : PacketLines) (events : List Event) (bytes : List ℕ) → m.line ≢ [] → bytes ≡ m.line
-    → n.line ≡ [] → n.phase ≡ m.phase → n.bytes.items ≡ m.bytes.items → n.at ≡ m.at → n.count ≡ m.count → Comes start events m
+pub gave_line : EventsTell → (start m n : PacketLines) (events : List Event) (bytes : List ℕ) → m.line ≢ []
+    → bytes ≡ m.line
+    → n.line ≡ [] → n.phase ≡ m.phase → n.bytes.items ≡ m.bytes.items → n.at ≡ m.at → n.count ≡ m.count
+    → Comes start events m
     → Comes start (events ++ Gave bytes ∷ []) n
 gave_line law start m n events bytes some is none phase rest at count c =
     let s = c.shown in

@@ -42,7 +42,8 @@ first_lines Finished told next [] text gives g = absurd (let e : End ≡ Give = 
 first_lines Finished told next (c ∷ line) text gives (none, inl waits) = waits.1
 first_lines Finished told next (c ∷ line) text gives (none, inr given) = absurd (let e : c ∷ line ≡ [] = given.0 in cc)
 
-first_of_file : (file : List ℕ) (m : PacketLines) (events : List Event) → StartsWith file (fed 0 events) (has_ended 0 events)
+first_of_file : (file : List ℕ) (m : PacketLines) (events : List Event)
+    → StartsWith file (fed 0 events) (has_ended 0 events)
     → (s : Shown m events) → gave events ≡ lines_of 0 s.told → AreFirst file (gave events)
 first_of_file file m events starts s text =
     let mid = packs_first (fed 0 events) s.rest s.told s.next s.packs in
@@ -71,10 +72,12 @@ fails_only old new f = record {
 }
 
 -- a file that could not be opened, and one that was
-pub closed_counted : (old new : State) → ReadsFail old new → ReadsFailAtLeast old new × (Unopened old new → ReadsFail old new)
+pub closed_counted : (old new : State) → ReadsFail old new → ReadsFailAtLeast old new
+    × (Unopened old new → ReadsFail old new)
 closed_counted old new f = (fails_only old new f, λ closed. f)
 
-pub opened_counted : (old new : State) (name : List ℕ) (given : ℕ) → Opened old new name given → ReadsFailAtLeast old new
+pub opened_counted : (old new : State) (name : List ℕ) (given : ℕ) → Opened old new name given
+    → ReadsFailAtLeast old new
     → ReadsFailAtLeast old new × (Unopened old new → ReadsFail old new)
 opened_counted old new name given o f = (
   f,
@@ -147,7 +150,8 @@ none_met file = (
   omega arith,
 )
 
-pub all_first : (file : List ℕ) (m : PacketLines) (events : List Event) → m.line ≡ [] → m.phase ≡ Reads → (s : Shown m events)
+pub all_first : (file : List ℕ) (m : PacketLines) (events : List Event) → m.line ≡ [] → m.phase ≡ Reads
+    → (s : Shown m events)
     → StartsWith file (fed 0 events) (has_ended 0 events) → AreFirst file (gave events)
 all_first file m events none reads s starts = (
   s.told ++ s.next,
@@ -170,13 +174,15 @@ pub count_some : (count : ℕ) → count_line count ≡ [] → ⊥
 count_some count e = line_some (codes "packets=") count e
 
 -- the end of a file that is nothing but packets
-ended_all : (told next : List (List ℕ)) (line text : List ℕ) → line ≡ [] → Given Finished told next line text → (next ≡ [])
+ended_all : (told next : List (List ℕ)) (line text : List ℕ) → line ≡ [] → Given Finished told next line text
+    → (next ≡ [])
     × (text ≡ lines_of 0 told ++ count_line (length told))
 ended_all told next line text none (some, inl waits) = absurd (count_some (length told) (sym waits.0 ∙ none))
 ended_all told next line text none (some, inr given) = (some, given.1)
 
 pub finished_text : (file : List ℕ) (place : ℕ) (m : PacketLines) (events : List Event) (early : List ℕ) → m.line ≡ []
-    → m.phase ≡ Finished → (s : Shown m events) → IsFed file place (fed 0 events) (has_ended 0 events) → gave events ≡ early
+    → m.phase ≡ Finished → (s : Shown m events) → IsFed file place (fed 0 events) (has_ended 0 events)
+    → gave events ≡ early
     → IsPacketText file place (Ok m.count) early []
 finished_text file place m events early none done s f text =
     let behind = subst (λ (p : Phase). Behind p m.bytes.items s.rest (has_ended 0 events)) done s.behind in
@@ -207,7 +213,8 @@ refused_on front more why ended (inr whole) end r = refused_whole front more why
 pub refused_text : (file : List ℕ) (place : ℕ) (m : PacketLines) (events : List Event) (early : List ℕ)
     (why : PacketWhy) → m.line ≡ [] → m.phase ≡ Refused why → (s : Shown m events)
     → IsFed file place (fed 0 events) (has_ended 0 events)
-    → gave events ≡ early → IsPacketText file place (Err (run.Refused (PacketRefused (m.at - length m.bytes.items) why))) early []
+    → gave events ≡ early → IsPacketText file place
+    (Err (run.Refused (PacketRefused (m.at - length m.bytes.items) why))) early []
 refused_text file place m events early why none refused s f text =
     let behind = subst (λ (p : Phase). Behind p m.bytes.items s.rest (has_ended 0 events)) refused s.behind in
     let size = file_len (fed 0 events) s.rest (s.told ++ s.next) s.packs in

@@ -22,7 +22,8 @@ ends_once one never refusal file (Err (RecordRefused number why)) (Ok count) a b
 ends_once one never refusal file (Err (RecordRefused number why)) (Err (RecordRefused count other)) a b =
     let same = same_records one never file a.1 b.1 a.0 b.0 a.2 b.2 (why, a.3.1) (other, b.3.1) in
     let number_is : number ≡ count = a.4 ∙ ap (λ (vs : List RecordView). length vs) same.0 ∙ sym b.4 in
-    let why_is : why ≡ other = refusal b.1 why other (subst (λ (bytes : List ℕ). Refuses bytes why) same.1 a.3.1) b.3.1 in
+    let why_is : why ≡ other = refusal b.1 why other (subst (λ (bytes : List ℕ). Refuses bytes why) same.1 a.3.1)
+    b.3.1 in
     λ i. Err (RecordRefused (number_is i) (why_is i))
 ends_once one never refusal file (Ok count) (Err other) a b = absurd b
 ends_once one never refusal file (Err (RecordRefused number why)) (Err other) a b = absurd b

@@ -30,7 +30,8 @@ use Rattle.file_run.specs.declared.stop.RunStop.TheVariants as run
 use Rattle.show_run.specs.declared.stop.ShowStop.{ShowStop}
 use Rattle.show_run.proofs.EndLemmas.{packs_within, same_packets}
 use Rattle.show_run.proofs.PacketFileLemmas.{packs_first, lines_of-append}
-use Rattle.show_run.proofs.PacketMetLemmas.{packs_file, none_first, said_first, closed_counted, opened_counted, needs_reads}
+use Rattle.show_run.proofs.PacketMetLemmas.{packs_file, none_first, said_first, closed_counted, opened_counted}
+use Rattle.show_run.proofs.PacketMetLemmas.{needs_reads}
 use Rattle.show_run.proofs.PacketMetLemmas.{short_reads, starts_fed, all_met, some_met, none_met, all_first, ends_idle}
 use Rattle.show_run.proofs.PacketMetLemmas.{finished_text, refused_text}
 
@@ -81,7 +82,8 @@ shows_end start now old new name t = go now.phase refl
 
 -- what was said if not all was
 some_said : (start now : PacketLines) (old new : State) (name : List ℕ) (place : ℕ) (unsaid : List ℕ)
-    (x : Tells (Comes start) next_of old new name now place unsaid) → (unsaid ≡ [] → (now.line ≡ []) × (now.phase ≡ Reads))
+    (x : Tells (Comes start) next_of old new name now place unsaid) → (unsaid ≡ [] → (now.line ≡ [])
+    × (now.phase ≡ Reads))
     → IfSome old.held (λ held. AreFirst (bytes_of held.files name) (gave x.early))
 some_said start now old new name place unsaid x reads =
     if_both old.held _ _ _ (λ held f first. go held f first x.going) x.inputs x.first
@@ -92,7 +94,8 @@ some_said start now old new name place unsaid x reads =
         → AreFirst (bytes_of held.files name) (gave x.early)
     go held f first (inl none) =
         let r = reads none in
-        subst (λ (l : List ℕ). AreFirst (bytes_of held.files name) l) (x.parts ∙ ap (λ (l : List ℕ). gave x.early ++ l) none
+        subst (λ (l : List ℕ). AreFirst (bytes_of held.files name) l) (x.parts
+        ∙ ap (λ (l : List ℕ). gave x.early ++ l) none
         ∙ append-nil (gave x.early))
         (all_first (bytes_of held.files name) now x.events r.0 r.1 x.came.shown
         (starts_fed (bytes_of held.files name) place (fed 0 x.events) (has_ended 0 x.events) f))
@@ -116,7 +119,8 @@ left_behind told others packets unsaid are is =
     nil_from_length unsaid (omega (arith, lines, sum, all, parts))
 
 -- a file that was gone through has no rest that is refused
-none_refused : OnePacket → NoRefusal → PacketLength → (file : List ℕ) (place : ℕ) (m : PacketLines) (events : List Event)
+none_refused : OnePacket → NoRefusal → PacketLength → (file : List ℕ) (place : ℕ) (m : PacketLines)
+    (events : List Event)
     (packets : List (List ℕ)) (rest : List ℕ) (why : PacketWhy) → m.phase ≡ Finished
     → IsFed file place (fed 0 events) (has_ended 0 events)
     → Shown m events → Packs file packets rest → ¬ (IsRefused rest why)
@@ -130,8 +134,10 @@ none_refused one none sizes file place m events packets rest why done f s packs 
 
 -- if something was not said, what stands behind the packets that were is not refused
 not_refused : OnePacket → NoRefusal → PacketLength → (file : List ℕ) (place : ℕ) (m : PacketLines) (events : List Event)
-    (packets : List (List ℕ)) (rest unsaid : List ℕ) (why : PacketWhy) → IsFed file place (fed 0 events) (has_ended 0 events)
-    → Shown m events → Packs file packets rest → gave events ≡ lines_of 0 packets ++ unsaid → unsaid ≢ [] → ¬ (IsRefused rest why)
+    (packets : List (List ℕ)) (rest unsaid : List ℕ) (why : PacketWhy)
+    → IsFed file place (fed 0 events) (has_ended 0 events)
+    → Shown m events → Packs file packets rest → gave events ≡ lines_of 0 packets ++ unsaid → unsaid ≢ []
+    → ¬ (IsRefused rest why)
 not_refused one none sizes file place m events packets rest unsaid why f s packs parts some refused =
     elim (told_lines m.phase s.told s.next m.line (gave events) s.given) [
       | inl told ↦
@@ -143,7 +149,8 @@ not_refused one none sizes file place m events packets rest unsaid why f s packs
     ]
 
 -- what was said if something was left to say
-some_left : OnePacket → NoRefusal → PacketLength → (start now : PacketLines) (old new : State) (name : List ℕ) (place : ℕ)
+some_left : OnePacket → NoRefusal → PacketLength → (start now : PacketLines) (old new : State) (name : List ℕ)
+    (place : ℕ)
     (unsaid : List ℕ) (x : Tells (Comes start) next_of old new name now place unsaid) → unsaid ≢ []
     → IfSome old.held (λ held. LeavesSome (bytes_of held.files name) (gave x.early))
 some_left one none sizes start now old new name place unsaid x some =
@@ -151,7 +158,8 @@ some_left one none sizes start now old new name place unsaid x some =
       first.0,
       first.1,
       first.2,
-      (λ why. not_refused one none sizes (bytes_of held.files name) place now x.events first.0 first.1 unsaid why f x.came.shown
+      (λ why. not_refused one none sizes (bytes_of held.files name) place now x.events first.0 first.1
+          unsaid why f x.came.shown
           first.2 (x.parts ∙ ap (λ (l : List ℕ). l ++ unsaid) first.3) some),
       first.3,
     )) x.inputs (some_said start now old new name place unsaid x (λ all. absurd (some all)))
@@ -236,4 +244,5 @@ shows_stop one none sizes start now old new name (run.Files WriteFault) s =
       lines = some_left one none sizes start now old new name s.1.0 s.1.1 x s.1.3;
       counts = s.0;
     }
-shows_stop one none sizes start now old new name run.OutOfMemory s = shows_none IsPacketText (λ file. refl) old new name s
+shows_stop one none sizes start now old new name run.OutOfMemory s = shows_none IsPacketText (λ file. refl)
+    old new name s

@@ -1,5 +1,6 @@
 -- What of a stream is wanted, and what is known once it has ended.
-use Rattle.std.proofs.Common.{◌≡◌, ℕ, ◌+◌, ◌-◌, ◌/◌, ◌<◌, ◌≤◌, Bool, true, false, cond, List, [], ◌∷◌, ◌++◌, length, take, drop, map}
+use Rattle.std.proofs.Common.{◌≡◌, ℕ, ◌+◌, ◌-◌, ◌/◌, ◌<◌, ◌≤◌, Bool, true, false, cond, List, [], ◌∷◌, ◌++◌, length}
+use Rattle.std.proofs.Common.{take, drop, map}
 use Rattle.std.proofs.Common.{refl, ap, ap₂, sym, subst, ◌∙◌, inl, inr, arith, append_assoc, append-nil, length-append}
 use Rattle.std.specs.Prelude.{◌⊎◌, nat_lt}
 use Rattle.std.proofs.lemmas.List.{length-map, length-take-le, nil_from_length}
@@ -31,8 +32,10 @@ use Rattle.show_run.specs.declared.t2mi_lines.Search.TheVariants.{Seeks, Unpipes
 use Rattle.show_run.proofs.T2miLinesLemmas.{found_as, found_in}
 
 -- the file has ended behind units that tell no PID
-ended_seeking : EventsTell → NoPackets → (start m n : T2miLines) (events : List Event) (bytes : List ℕ) → m.search ≡ Seeks
-    → length bytes < SIZE → n.search ≡ Finished → n.at ≡ m.at + length bytes → n.count ≡ m.count → n.line ≡ count_line m.count
+ended_seeking : EventsTell → NoPackets → (start m n : T2miLines) (events : List Event) (bytes : List ℕ)
+    → m.search ≡ Seeks
+    → length bytes < SIZE → n.search ≡ Finished → n.at ≡ m.at + length bytes → n.count ≡ m.count
+    → n.line ≡ count_line m.count
     → Comes start events m
     → Comes start (events ++ Ended 0 bytes ∷ []) n
 ended_seeking law none start m n events bytes seeks few done at count line c =
@@ -79,21 +82,26 @@ given_all : PacketsBehind → (m : T2miLines) (all text : List ℕ) (ended : Boo
 given_all behind m all text ended f held released =
     let u = f.unpiped in
     let packets = packets_from f.pid (length f.front) f.bytes in
-    let given : length (accepted_of f.pid f.bytes) ≡ m.count = ap (λ (l : List ℕ). length (accepted_of f.pid l)) (sym u.fed_are)
+    let given : length (accepted_of f.pid f.bytes) ≡ m.count = ap (λ (l : List ℕ). length (accepted_of f.pid l))
+    (sym u.fed_are)
     ∙ released f.pid u.events u.stands ∙ u.number in
     let rest : (f.bytes ++ drop m.from m.unit) ++ [] ≡ f.bytes = append-nil (f.bytes ++ drop m.from m.unit)
     ∙ ap (λ (l : List ℕ). f.bytes ++ l) held ∙ append-nil f.bytes in
-    let are : t2mi_packets_in all ≡ packets = ap t2mi_packets_in (sym (append-nil all)) ∙ behind_all behind m all text ended f []
+    let are : t2mi_packets_in all ≡ packets = ap t2mi_packets_in (sym (append-nil all))
+    ∙ behind_all behind m all text ended f []
     ∙ ap (λ (l : List ℕ). map (further (length f.front)) (accepted_of f.pid l)) rest in
     let many : length packets ≡ m.count = length-map (accepted_of f.pid f.bytes) (further (length f.front)) ∙ given in
     let whole : take m.count packets ≡ packets = ap (λ (j : ℕ). take j packets) (sym many) ∙ take-length packets in
     (ap length are ∙ many, f.lines ∙ ap place_lines (whole ∙ sym are))
 
 -- the file has ended behind the unit that told the PID
-ended_unpiping : EventsTell → PacketsBehind → (start m n : T2miLines) (events : List Event) (bytes : List ℕ) → m.search ≡ Unpipes
-    → bytes ≡ [] → drop m.from m.unit ≡ [] → ((p : ℕ) (events : List stream.UnpiperEvent) → UnpiperStandsFor m.unpiper p events
+ended_unpiping : EventsTell → PacketsBehind → (start m n : T2miLines) (events : List Event) (bytes : List ℕ)
+    → m.search ≡ Unpipes
+    → bytes ≡ [] → drop m.from m.unit ≡ [] → ((p : ℕ) (events : List stream.UnpiperEvent)
+    → UnpiperStandsFor m.unpiper p events
     → AllReleased p events)
-    → n.search ≡ Finished → n.at ≡ m.at + length bytes → n.count ≡ m.count → n.line ≡ count_line m.count → Comes start events m
+    → n.search ≡ Finished → n.at ≡ m.at + length bytes → n.count ≡ m.count → n.line ≡ count_line m.count
+    → Comes start events m
     → Comes start (events ++ Ended 0 bytes ∷ []) n
 ended_unpiping law behind start m n events bytes unpipes none held released done at count line c =
     let f = found_in m _ _ _ Unpipes unpipes c.shown.found in
@@ -145,8 +153,15 @@ short_in Unpipes false left line input count s = go (nat_lt 0 left) refl s
     go : (b : Bool) → nat_lt 0 left ≡ b → FallsShort (cond b Give (Read 0 1 BUFFER)) input count → (input ≡ 0)
         × (((Unpipes ≡ Seeks) × (count < SIZE)) ⊎ ((Unpipes ≡ Unpipes) × (false ≡ false) × (left ≡ 0) × (count ≡ 0)))
     go true is s = absurd s
-    go false is s =
-        (sym s.0, inr (refl, refl, (let n = ltb-false 0 left is in omega (arith, n)), (let k = s.1 in omega (arith, k))))
+    go false is s = (
+      sym s.0,
+      inr (
+        refl,
+        refl,
+        (let n = ltb-false 0 left is in omega (arith, n)),
+        (let k = s.1 in omega (arith, k)),
+      ),
+    )
 short_in Finished ready left [] input count s = absurd s
 short_in Finished ready left (c ∷ line) input count s = absurd s
 
@@ -158,7 +173,8 @@ needs_in Seeks ready left line count s = inl (refl, s.1)
 needs_in Unpipes true left line count s = absurd s
 needs_in Unpipes false left line count s = go (nat_lt 0 left) refl s
   where
-    go : (b : Bool) → nat_lt 0 left ≡ b → Needs (cond b Give (Read 0 1 BUFFER)) 0 count → ((Unpipes ≡ Seeks) × (count ≤ SIZE))
+    go : (b : Bool) → nat_lt 0 left ≡ b → Needs (cond b Give (Read 0 1 BUFFER)) 0 count
+        → ((Unpipes ≡ Seeks) × (count ≤ SIZE))
         ⊎ ((Unpipes ≡ Unpipes) × (false ≡ false) × (left ≡ 0) × (count ≤ 1))
     go true is s = absurd s
     go false is s = inr (refl, refl, (let n = ltb-false 0 left is in omega (arith, n)), s.1)
@@ -166,7 +182,8 @@ needs_in Finished ready left [] count s = absurd s
 needs_in Finished ready left (c ∷ line) count s = absurd s
 
 -- if it needs bytes, the lines of all packets in those that came were given
-pub all_given : NoPackets → PacketsBehind → (start m : T2miLines) (events : List Event) (least : ℕ) → length m.unit ≡ SIZE
+pub all_given : NoPackets → PacketsBehind → (start m : T2miLines) (events : List Event) (least : ℕ)
+    → length m.unit ≡ SIZE
     → (is_ready m.unpiper ≡ false → (p : ℕ) (events : List stream.UnpiperEvent) → UnpiperStandsFor m.unpiper p events
     → AllReleased p events)
     → Comes start events m → Needs (next_of m) 0 least → gave events ≡ place_lines (t2mi_packets_in (fed 0 events))
@@ -205,7 +222,8 @@ same_unpiping behind m all text more ended f within =
     ∙ ap (λ (l : List ℕ). map (further (length f.front)) (accepted_of f.pid l)) (append-nil rest))
 
 -- 2^40 bytes end 36 bytes behind a unit, so the last of them, at which nobody may have looked, ends none
-same_needed : NoPackets → PacketsBehind → (start m : T2miLines) (events : List Event) (more : List ℕ) → Comes start events m
+same_needed : NoPackets → PacketsBehind → (start m : T2miLines) (events : List Event) (more : List ℕ)
+    → Comes start events m
     → length (fed 0 events) + length more ≡ longest_file → Needs (next_of m) 0 (length more)
     → t2mi_packets_in (fed 0 events ++ more) ≡ t2mi_packets_in (fed 0 events)
 same_needed none behind start m events more c all s =
@@ -222,7 +240,8 @@ same_needed none behind start m events more c all s =
     ]
 
 -- of a file that could not be read on, only bytes that are no whole unit were not looked at
-same_short : NoPackets → PacketsBehind → (start m : T2miLines) (events : List Event) (more : List ℕ) → Comes start events m
+same_short : NoPackets → PacketsBehind → (start m : T2miLines) (events : List Event) (more : List ℕ)
+    → Comes start events m
     → FallsShort (next_of m) 0 (length more) → t2mi_packets_in (fed 0 events ++ more) ≡ t2mi_packets_in (fed 0 events)
 same_short none behind start m events more c s =
     elim (short_in m.search (is_ready m.unpiper) (SIZE - m.from) m.line 0 (length more) s).1 [
@@ -249,8 +268,10 @@ read_parts file front given ended f =
     )
 
 -- the packets in all that was read of a file that is too long are those in what was fed
-pub read_needed : NoPackets → PacketsBehind → (start m : T2miLines) (events : List Event) (file : List ℕ) → Comes start events m
-    → IsFed file longest_file (fed 0 events) (has_ended 0 events) → Needs (next_of m) 0 (longest_file - length (fed 0 events))
+pub read_needed : NoPackets → PacketsBehind → (start m : T2miLines) (events : List Event) (file : List ℕ)
+    → Comes start events m
+    → IsFed file longest_file (fed 0 events) (has_ended 0 events)
+    → Needs (next_of m) 0 (longest_file - length (fed 0 events))
     → t2mi_packets_in (take longest_file file) ≡ t2mi_packets_in (fed 0 events)
 read_needed none behind start m events file c f s =
     let r = read_parts file (fed 0 events) longest_file (has_ended 0 events) f in
@@ -262,7 +283,8 @@ read_needed none behind start m events file c f s =
 -- and of one that could not be read on
 pub read_short : NoPackets → PacketsBehind → (start m : T2miLines) (events : List Event) (file : List ℕ) (given : ℕ)
     → Comes start events m → IsFed file given (fed 0 events) (has_ended 0 events)
-    → FallsShort (next_of m) 0 (given - length (fed 0 events)) → t2mi_packets_in (take given file) ≡ t2mi_packets_in (fed 0 events)
+    → FallsShort (next_of m) 0 (given - length (fed 0 events)) → t2mi_packets_in (take given file) ≡ t2mi_packets_in
+    (fed 0 events)
 read_short none behind start m events file given c f s =
     let r = read_parts file (fed 0 events) given (has_ended 0 events) f in
     ap t2mi_packets_in r.1 ∙ same_short none behind start m events r.0 c (subst (FallsShort (next_of m) 0) (sym r.2) s)
@@ -274,16 +296,19 @@ short_needs Give count s = absurd s
 short_needs End count s = absurd s
 
 -- the file has ended
-pub ended : EventsTell → NoPackets → PacketsBehind → (start m n : T2miLines) (events : List Event) (input : ℕ) (bytes : List ℕ)
+pub ended : EventsTell → NoPackets → PacketsBehind → (start m n : T2miLines) (events : List Event) (input : ℕ)
+    (bytes : List ℕ)
     → FallsShort (next_of m) input (length bytes) → length m.unit ≡ SIZE
     → (is_ready m.unpiper ≡ false → (p : ℕ) (events : List stream.UnpiperEvent) → UnpiperStandsFor m.unpiper p events
     → AllReleased p events)
-    → n.search ≡ Finished → n.at ≡ m.at + length bytes → n.count ≡ m.count → n.line ≡ count_line m.count → Comes start events m
+    → n.search ≡ Finished → n.at ≡ m.at + length bytes → n.count ≡ m.count → n.line ≡ count_line m.count
+    → Comes start events m
     → Comes start (events ++ Ended input bytes ∷ []) n
 ended law none behind start m n events input bytes s size released done at count line c =
     let w = short_in m.search (is_ready m.unpiper) (SIZE - m.from) m.line input (length bytes) s in
     subst (λ (k : ℕ). Comes start (events ++ Ended k bytes ∷ []) n) (sym w.0) (elim w.1 [
       | inl seeks ↦ ended_seeking law none start m n events bytes seeks.0 seeks.1 done at count line c
       | inr unpipes ↦ ended_unpiping law behind start m n events bytes unpipes.0 (nil_from_length bytes unpipes.3)
-          (drop_of_length-le m.unit (let l = unpipes.2 in omega (arith, l, size))) (released unpipes.1) done at count line c
+          (drop_of_length-le m.unit (let l = unpipes.2 in omega (arith, l, size))) (released unpipes.1)
+          done at count line c
     ])

@@ -1,5 +1,6 @@
 -- Lines of packets in units are given.
-use Rattle.std.proofs.Common.{◌≡◌, ◌≢◌, ℕ, ◌+◌, ◌-◌, ◌^◌, ◌<◌, ◌≤◌, List, [], ◌∷◌, ◌++◌, length, take, drop, map, min, Option}
+use Rattle.std.proofs.Common.{◌≡◌, ℕ, ◌+◌, ◌-◌, ◌^◌, ◌<◌, ◌≤◌, List, [], ◌∷◌, ◌++◌, length, take, drop, map, min}
+use Rattle.std.proofs.Common.{Option}
 use Rattle.std.proofs.Common.{Some, None, refl, ap, ap₂, sym, subst, ◌∙◌, arith, append-nil, length-append}
 use Rattle.std.specs.Prelude.{option_map, slice_get, codes}
 use Rattle.std.proofs.lemmas.List.{length-map, take_more}
@@ -26,7 +27,8 @@ use Rattle.show_run.proofs.T2miLinesLemmas.{found_as, found_in}
 
 given_up : EventsPush → (old new : Unpiper) (pid : ℕ) (bytes : List ℕ) (number : ℕ) →
     ((p : ℕ) (events : List stream.UnpiperEvent) → UnpiperStandsFor old p events
-    → UnpiperStandsFor new p (events ++ Released ∷ [])) → Unpiped old pid bytes number → Unpiped new pid bytes (number + 1)
+    → UnpiperStandsFor new p (events ++ Released ∷ [])) → Unpiped old pid bytes number
+    → Unpiped new pid bytes (number + 1)
 given_up law old new pid bytes number f u = record {
   events = u.events ++ Released ∷ [];
   fed_are = (law u.events).fed_same ∙ u.fed_are;
@@ -37,17 +39,21 @@ given_up law old new pid bytes number f u = record {
 -- the packet that waits, by its number
 waiting_packet : (unpiper : Unpiper) (pid : ℕ) (bytes : List ℕ) (number : ℕ) (u : Unpiped unpiper pid bytes number)
     → next_packet pid u.events ≡ slice_get (accepted_of pid bytes) number
-waiting_packet unpiper pid bytes number u = ap₂ (λ (l : List ℕ) (n : ℕ). slice_get (accepted_of pid l) n) u.fed_are u.number
+waiting_packet unpiper pid bytes number u = ap₂ (λ (l : List ℕ) (n : ℕ). slice_get (accepted_of pid l) n)
+    u.fed_are u.number
 
 known : (o : Option AcceptedPacket) (place : ℕ) (bytes : List ℕ) → option_map (λ a. a.place) o ≡ Some place
     → option_map (λ a. a.bytes) o ≡ Some bytes → (packet : AcceptedPacket) × (o ≡ Some packet) × (packet.place ≡ place)
     × (packet.bytes ≡ bytes)
 known None place bytes e f = let no : None ≡ Some place = e in cc
-known (Some a) place bytes e f = let here : a.place ≡ place = cc in let same : a.bytes ≡ bytes = cc in (a, refl, here, same)
+known (Some a) place bytes e f = let here : a.place ≡ place = cc in let same : a.bytes ≡ bytes = cc in
+    (a, refl, here, same)
 
 -- one packet more was given
-one_more : (packets : List AcceptedPacket) (base count : ℕ) (packet : AcceptedPacket) → slice_get packets count ≡ Some packet
-    → (count < length packets) × (take (count + 1) (map (further base) packets) ≡ take count (map (further base) packets)
+one_more : (packets : List AcceptedPacket) (base count : ℕ) (packet : AcceptedPacket)
+    → slice_get packets count ≡ Some packet
+    → (count < length packets) × (take (count + 1) (map (further base) packets) ≡ take count
+    (map (further base) packets)
     ++ further base packet ∷ [])
 one_more packets base count packet is =
     let inside : count < length packets = slice_get_within packets count packet is in
@@ -72,7 +78,8 @@ pub gave_packet : EventsTell → EventsPush → PacketPlaces → FewPackets
     → ((p : ℕ) (events : List stream.UnpiperEvent) → UnpiperStandsFor m.unpiper p events
     → UnpiperStandsFor n.unpiper p (events ++ Released ∷ [])) → Comes start events m
     → Comes start (events ++ Gave line ∷ []) n
-gave_packet law push places few start m n events place at bytes line unpipes same where_ small base unit from count idle there
+gave_packet law push places few start m n events place at bytes line unpipes same where_ small base unit
+    from count idle there
     text first packet released c =
     let f = found_in m _ _ _ Unpipes unpipes c.shown.found in
     let more = law.given line events in
@@ -106,7 +113,8 @@ gave_packet law push places few start m n events place at bytes line unpipes sam
           more = f.more;
           none = f.none;
           base = base ∙ f.base;
-          parts = more.fed 0 ∙ f.parts ∙ ap₂ (λ (j : ℕ) (l : List ℕ). f.front ++ (f.bytes ++ drop j l)) (sym from) (sym unit);
+          parts = more.fed 0 ∙ f.parts ∙ ap₂ (λ (j : ℕ) (l : List ℕ). f.front ++ (f.bytes ++ drop j l))
+              (sym from) (sym unit);
           begins = ap₂ (λ (j : ℕ) (l : List ℕ). f.bytes ++ drop j l) from unit ∙ f.begins;
           whole = f.whole;
           tells = f.tells;

@@ -1,5 +1,6 @@
 -- The lines of packets in units, step by step.
-use Rattle.std.proofs.Common.{◌≡◌, ℕ, ◌+◌, ◌-◌, ◌≤◌, Bool, false, List, [], ◌∷◌, ◌++◌, length, take, drop, map, Some, None, refl}
+use Rattle.std.proofs.Common.{◌≡◌, ℕ, ◌+◌, ◌-◌, ◌≤◌, Bool, false, List, [], ◌∷◌, ◌++◌, length, take, drop, map, Some}
+use Rattle.std.proofs.Common.{None, refl}
 use Rattle.std.proofs.Common.{ap, ap₂, sym, subst, ◌∙◌, arith, append_assoc, append-nil, length-append, length-drop}
 use Rattle.std.proofs.lemmas.List.{take_all, take-append-drop, take-append-le, length-map, map-append, drop-drop}
 use Rattle.std.proofs.Math.ListN.{drop_of_length-le}
@@ -104,7 +105,8 @@ found law start m n events pid unit seeks size tells unpipes at base is from cou
           tells = tells;
           unpiped = subst (λ (k : ℕ). Unpiped n.unpiper pid [] k) (sym none) (none_fed n.unpiper pid stands);
           few = omega (arith, none);
-          lines = more.gave ∙ f.silent ∙ ap (λ (k : ℕ). place_lines (take k (packets_from pid (length (fed 0 events)) [])))
+          lines = more.gave ∙ f.silent
+              ∙ ap (λ (k : ℕ). place_lines (take k (packets_from pid (length (fed 0 events)) [])))
               (sym none);
           is_open = more.ended 0 ∙ f.is_open;
           idle = line ∙ f.idle;
@@ -168,7 +170,8 @@ unpiping_on law push m n all now text now_text piece left ended took base count 
 }
 
 -- the unpiper took bytes of the unit that told the PID
-pub went_on : EventsTell → AcceptedFront → EventsPush → (start m n : T2miLines) (events : List Event) (k : ℕ) → m.search ≡ Unpipes
+pub went_on : EventsTell → AcceptedFront → EventsPush → (start m n : T2miLines) (events : List Event) (k : ℕ)
+    → m.search ≡ Unpipes
     → n.search ≡ m.search → n.at ≡ m.at → n.base ≡ m.base → n.unit ≡ m.unit → n.from ≡ m.from + k → n.count ≡ m.count
     → n.line ≡ m.line
     → ((p : ℕ) (events : List stream.UnpiperEvent) → UnpiperStandsFor m.unpiper p events
@@ -201,15 +204,18 @@ went_on law front push start m n events k unpipes same at base unit from count l
 pub unpiped : EventsTell → AcceptedFront → EventsPush → (start m n : T2miLines) (events : List Event) (piece : List ℕ)
     → m.search ≡ Unpipes → drop m.from m.unit ≡ [] → n.search ≡ m.search → n.at ≡ m.at + length piece → n.base ≡ m.base
     → n.unit ≡ m.unit → n.from ≡ m.from
-    → n.count ≡ m.count → n.line ≡ m.line → ((p : ℕ) (events : List stream.UnpiperEvent) → UnpiperStandsFor m.unpiper p events
+    → n.count ≡ m.count → n.line ≡ m.line → ((p : ℕ) (events : List stream.UnpiperEvent)
+    → UnpiperStandsFor m.unpiper p events
     → UnpiperStandsFor n.unpiper p (events ++ Took piece ∷ [])) → Comes start events m
     → Comes start (events ++ Fed 0 piece ∷ []) n
 unpiped law front push start m n events piece unpipes none same at base unit from count line took c =
     let f = found_in m _ _ _ Unpipes unpipes c.shown.found in
     let more = law.fed 0 piece events in
     let left : drop n.from n.unit ≡ [] = ap₂ (λ (j : ℕ) (l : List ℕ). drop j l) from unit ∙ none in
-    let before : f.bytes ++ drop m.from m.unit ≡ f.bytes = ap (λ (l : List ℕ). f.bytes ++ l) none ∙ append-nil f.bytes in
-    let after : (f.bytes ++ piece) ++ drop n.from n.unit ≡ f.bytes ++ piece = ap (λ (l : List ℕ). (f.bytes ++ piece) ++ l) left
+    let before : f.bytes ++ drop m.from m.unit ≡ f.bytes = ap (λ (l : List ℕ). f.bytes ++ l) none
+    ∙ append-nil f.bytes in
+    let after : (f.bytes ++ piece) ++ drop n.from n.unit ≡ f.bytes ++ piece = ap (λ (l : List ℕ). (f.bytes ++ piece)
+    ++ l) left
     ∙ append-nil (f.bytes ++ piece) in
     record {
       fresh = c.fresh;
@@ -220,7 +226,8 @@ unpiped law front push start m n events piece unpipes none same at base unit fro
             (subst (λ (b : Bool). Unpiping n (fed 0 (events ++ Fed 0 piece ∷ [])) (gave (events ++ Fed 0 piece ∷ [])) b)
             (sym (more.ended 0))
             (unpiping_on front push m n (fed 0 events) (fed 0 (events ++ Fed 0 piece ∷ [])) (gave events)
-            (gave (events ++ Fed 0 piece ∷ [])) piece (f.more ++ piece) (has_ended 0 events) took base count line more.gave f
+            (gave (events ++ Fed 0 piece ∷ [])) piece (f.more ++ piece) (has_ended 0 events) took base
+            count line more.gave f
             (more.here ∙ ap (λ (l : List ℕ). l ++ piece) (f.parts ∙ ap (λ (l : List ℕ). f.front ++ l) before)
             ∙ append_assoc f.front f.bytes piece ∙ ap (λ (l : List ℕ). f.front ++ l) (sym after))
             (after ∙ ap (λ (l : List ℕ). l ++ piece) (sym before ∙ f.begins) ∙ append_assoc f.first f.more piece)));
@@ -232,4 +239,5 @@ pub held_none : (m : T2miLines) → length m.unit ≡ SIZE → m.from ≡ SIZE �
 held_none m size all = drop_of_length-le m.unit (omega (arith, size, all))
 
 pub held_all : (m : T2miLines) → length m.unit ≡ SIZE → take (SIZE - m.from) (drop m.from m.unit) ≡ drop m.from m.unit
-held_all m size = take_all (SIZE - m.from) (drop m.from m.unit) (let n = length-drop m.from m.unit in omega (arith, n, size))
+held_all m size = take_all (SIZE - m.from) (drop m.from m.unit) (let n = length-drop m.from m.unit in
+    omega (arith, n, size))

@@ -1,5 +1,6 @@
 -- What was told of the lines of packets in units is what a file of units asks for.
-use Rattle.std.proofs.Common.{◌≡◌, ◌≢◌, ℕ, ◌-◌, Bool, true, false, cond, List, [], ◌∷◌, ◌++◌, length, take, drop, map, refl, ap}
+use Rattle.std.proofs.Common.{◌≡◌, ◌≢◌, ℕ, ◌-◌, Bool, true, false, cond, List, [], ◌∷◌, ◌++◌, length, take, drop, map}
+use Rattle.std.proofs.Common.{refl, ap}
 use Rattle.std.proofs.Common.{sym, subst, ◌∙◌, inl, inr, arith, append_assoc, append-nil}
 use Rattle.std.specs.Prelude.{◌⊎◌, nat_lt, IfSome, Result, Ok, Err}
 use Rattle.std.proofs.lemmas.List.{take-append-drop, map-append}
@@ -50,7 +51,8 @@ first_unpiped front behind file m all text ended starts f =
     ap t2mi_packets_in starts.1 ∙ behind_all behind m all text ended f starts.0
     ∙ ap (λ (l : List ℕ). map (further (length f.front)) (accepted_of f.pid l))
     (append_assoc f.bytes (drop m.from m.unit) starts.0)
-    ∙ ap (map (further (length f.front))) more.1 ∙ map-append (further (length f.front)) (accepted_of f.pid f.bytes) more.0 in (
+    ∙ ap (map (further (length f.front))) more.1 ∙ map-append (further (length f.front)) (accepted_of f.pid f.bytes)
+    more.0 in (
       take m.count packets,
       drop m.count packets ++ others,
       is ∙ ap (λ (l : List AcceptedPacket). l ++ others)
@@ -61,11 +63,13 @@ first_unpiped front behind file m all text ended starts f =
 none_first : (packets : List AcceptedPacket) (text : List ℕ) → text ≡ [] → AreFirstLines packets text
 none_first packets text none = ([], packets, refl, none)
 
-first_found : AcceptedFront → PacketsBehind → (file : List ℕ) (m : T2miLines) (search : Search) (all text : List ℕ) (ended : Bool)
+first_found : AcceptedFront → PacketsBehind → (file : List ℕ) (m : T2miLines) (search : Search) (all text : List ℕ)
+    (ended : Bool)
     → (search ≡ Finished → m.line ≢ []) → StartsWith file all ended → Found search m all text ended
     → AreFirstLines (t2mi_packets_in file) text
 first_found front behind file m Seeks all text ended waits starts f = none_first (t2mi_packets_in file) text f.silent
-first_found front behind file m Unpipes all text ended waits starts f = first_unpiped front behind file m all text ended starts f
+first_found front behind file m Unpipes all text ended waits starts f = first_unpiped front behind file
+    m all text ended starts f
 first_found front behind file m Finished all text ended waits starts f =
     let same : file ≡ all = starts.1 ∙ ap (λ (l : List ℕ). all ++ l) (starts.2 f.over) ∙ append-nil all in
     elim f.lines [
@@ -76,7 +80,8 @@ first_found front behind file m Finished all text ended waits starts f =
 first_shown : AcceptedFront → PacketsBehind → (file : List ℕ) (m : T2miLines) (events : List Event)
     → (m.search ≡ Finished → m.line ≢ []) → StartsWith file (fed 0 events) (has_ended 0 events) → Shown m events
     → AreFirstLines (t2mi_packets_in file) (gave events)
-first_shown front behind file m events waits starts s = first_found front behind file m m.search (fed 0 events) (gave events)
+first_shown front behind file m events waits starts s = first_found front behind file m m.search (fed 0 events)
+    (gave events)
     (has_ended 0 events) waits starts s.found
 
 -- a machine that gives or wants bytes has lines still to give, if it has found the end
@@ -102,7 +107,8 @@ short_waits Finished ready left [] count r done = r
 short_waits Finished ready left (c ∷ line) count r done = r
 
 -- at the end all was given
-at_end : (search : Search) (ready : Bool) (left : ℕ) (line : List ℕ) → next_in search ready left line ≡ End → (search ≡ Finished)
+at_end : (search : Search) (ready : Bool) (left : ℕ) (line : List ℕ) → next_in search ready left line ≡ End
+    → (search ≡ Finished)
     × (line ≡ [])
 at_end Seeks ready left line e = absurd (let f : Read 0 SIZE BUFFER ≡ End = e in cc)
 at_end Unpipes true left line e = absurd (let f : Give ≡ End = e in cc)
@@ -117,7 +123,8 @@ at_end Finished ready left (c ∷ line) e = absurd (let f : Give ≡ End = e in 
 abbrev shows : State → State → List ℕ → Result ℕ (RunStop ShowStop) → Type 0
 shows old new name result = Shows IsT2miText old new name result
 
-all_text : (file : List ℕ) (place : ℕ) (m : T2miLines) (events : List Event) (early : List ℕ) → m.search ≡ Finished → m.line ≡ []
+all_text : (file : List ℕ) (place : ℕ) (m : T2miLines) (events : List Event) (early : List ℕ) → m.search ≡ Finished
+    → m.line ≡ []
     → Shown m events → IsFed file place (fed 0 events) (has_ended 0 events) → gave events ≡ early
     → IsT2miText file place (Ok m.count) early []
 all_text file place m events early done none s f text =
@@ -131,7 +138,8 @@ all_text file place m events early done none s f text =
       omega (arith, a, w, n),
     )
 
-pub t2mi_end : (start now : T2miLines) (old new : State) (name : List ℕ) → TellsAll (Comes start) next_of old new name now
+pub t2mi_end : (start now : T2miLines) (old new : State) (name : List ℕ)
+    → TellsAll (Comes start) next_of old new name now
     → shows old new name (Ok now.count)
 t2mi_end start now old new name t =
     let x = t.tells in
@@ -166,7 +174,8 @@ found_due front behind m Finished all text ended f = elim f.lines [
 ]
 
 -- some of it was not said
-leaves : AcceptedFront → PacketsBehind → (file : List ℕ) (place : ℕ) (m : T2miLines) (events : List Event) (text unsaid : List ℕ)
+leaves : AcceptedFront → PacketsBehind → (file : List ℕ) (place : ℕ) (m : T2miLines) (events : List Event)
+    (text unsaid : List ℕ)
     → unsaid ≢ [] → gave events ≡ text ++ unsaid → Shown m events → IsFed file place (fed 0 events) (has_ended 0 events)
     → LeavesLines file place text
 leaves front behind file place m events text unsaid some given s f =
@@ -195,7 +204,8 @@ leaves front behind file place m events text unsaid some given s f =
 
 -- what was said if not all was
 some_said : AcceptedFront → PacketsBehind → (start now : T2miLines) (old new : State) (name : List ℕ) (place : ℕ)
-    (unsaid : List ℕ) (x : Tells (Comes start) next_of old new name now place unsaid) → (unsaid ≡ [] → now.search ≡ Finished → ⊥)
+    (unsaid : List ℕ) (x : Tells (Comes start) next_of old new name now place unsaid)
+    → (unsaid ≡ [] → now.search ≡ Finished → ⊥)
     → IfSome old.held (λ held. AreFirstLines (t2mi_packets_in (bytes_of held.files name)) (gave x.early))
 some_said front behind start now old new name place unsaid x wants =
     if_both old.held _ _ _ (λ held f first. go held f first x.going) x.inputs x.first
@@ -209,7 +219,8 @@ some_said front behind start now old new name place unsaid x wants =
         (x.parts ∙ ap (λ (l : List ℕ). gave x.early ++ l) none ∙ append-nil (gave x.early))
         (first_shown front behind (bytes_of held.files name) now x.events (λ done idle. absurd (wants none done))
         (starts_fed (bytes_of held.files name) place (fed 0 x.events) (has_ended 0 x.events) f) x.came.shown)
-    go held f first (inr (inl none)) = none_first (t2mi_packets_in (bytes_of held.files name)) (gave x.early) (ap gave none)
+    go held f first (inr (inl none)) = none_first (t2mi_packets_in (bytes_of held.files name)) (gave x.early)
+        (ap gave none)
     go held f first (inr (inr gives)) = first_shown front behind (bytes_of held.files name) x.mid x.early
         (gives_waits x.mid.search (is_ready x.mid.unpiper) (SIZE - x.mid.from) x.mid.line gives) first x.met.shown
 
@@ -221,10 +232,12 @@ GivesAll start m = (events : List Event) (least : ℕ) → Comes start events m 
 -- no bytes hold no packet
 no_text : NoPackets → place_lines (t2mi_packets_in []) ≡ []
 no_text law =
-    ap place_lines (law [] [] (record { units = 0; whole = refl; none = λ number lt. absurd (omega (arith, lt)) }) (omega arith))
+    ap place_lines (law [] [] (record { units = 0; whole = refl; none = λ number lt. absurd (omega (arith, lt)) })
+    (omega arith))
 
 pub t2mi_stop : NoPackets → AcceptedFront → PacketsBehind → (start now : T2miLines) (old new : State) (name : List ℕ)
-    (why : RunStop ShowStop) → GivesAll start now → StopsLines (Comes start) next_of old new name now why → shows old new name (Err why)
+    (why : RunStop ShowStop) → GivesAll start now → StopsLines (Comes start) next_of old new name now why
+    → shows old new name (Err why)
 t2mi_stop nothing front behind start now old new name (run.Refused why) all s = absurd s
 t2mi_stop nothing front behind start now old new name (run.Files (TooLong input)) all s =
     let t = s.1 in
@@ -241,7 +254,8 @@ t2mi_stop nothing front behind start now old new name (run.Files (TooLong input)
         (
           f.within,
           sym (x.parts ∙ append-nil (gave x.early)) ∙ all x.events _ x.came t.wants
-              ∙ ap place_lines (sym (read_needed nothing behind start now x.events (bytes_of held.files name) x.came f t.wants)),
+              ∙ ap place_lines (sym (read_needed nothing behind start now x.events (bytes_of held.files name)
+              x.came f t.wants)),
         ),
         first,
       )) x.inputs
@@ -281,7 +295,8 @@ t2mi_stop nothing front behind start now old new name (run.Files (ReadFault inpu
         lines = if_both old.held _ _ _ (λ held f first. (
           (
             f.within,
-            ap place_lines (read_short nothing behind start now x.events (bytes_of held.files name) t.place x.came f t.wants)
+            ap place_lines (read_short nothing behind start now x.events (bytes_of held.files name) t.place
+                x.came f t.wants)
                 ∙ sym (all x.events _ x.came (short_needs (next_of now) _ t.wants)) ∙ x.parts,
             x.waits.few,
           ),
@@ -301,9 +316,11 @@ t2mi_stop nothing front behind start now old new name (run.Files WriteFault) all
       reads = (x.opened, s.1.4);
       grew = x.said;
       lines = if_both old.held _ _ _ (λ held f first. (
-        leaves front behind (bytes_of held.files name) s.1.0 now x.events (gave x.early) s.1.1 s.1.3 x.parts x.came.shown f,
+        leaves front behind (bytes_of held.files name) s.1.0 now x.events (gave x.early) s.1.1 s.1.3
+            x.parts x.came.shown f,
         first,
       )) x.inputs (some_said front behind start now old new name s.1.0 s.1.1 x (λ none. absurd (s.1.3 none)));
       counts = s.0;
     }
-t2mi_stop nothing front behind start now old new name run.OutOfMemory all s = shows_none IsT2miText (λ file. refl) old new name s
+t2mi_stop nothing front behind start now old new name run.OutOfMemory all s = shows_none IsT2miText (λ file. refl)
+    old new name s

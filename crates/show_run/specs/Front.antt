@@ -19,4 +19,5 @@ RefusesFront bytes why = (fault : PacketFault) × Refuses bytes fault × (fault.
 
 -- So many bytes are lacking of the header, or of the packet whose header is there.
 abbrev pub IsLacking : List ℕ → ℕ → Type 0
-IsLacking bytes n = ((length bytes < 6) × (length bytes + n ≡ 6)) ⊎ ((6 ≤ length bytes) × (n ≡ told_len bytes - length bytes))
+IsLacking bytes n = ((length bytes < 6) × (length bytes + n ≡ 6))
+    ⊎ ((6 ≤ length bytes) × (n ≡ told_len bytes - length bytes))

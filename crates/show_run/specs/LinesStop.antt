@@ -9,7 +9,8 @@ use Rattle.file_run.specs.declared.stop.RunStop.TheVariants as run
 use Rattle.show_run.specs.declared.stop.ShowStop.{ShowStop}
 
 -- Why the lines were not told to the end.
-abbrev pub StopsLines : {A : Type 0} → (List Event → A → Type 0) → (A → Step) → State → State → List ℕ → A → RunStop ShowStop
+abbrev pub StopsLines : {A : Type 0} → (List Event → A → Type 0) → (A → Step) → State → State → List ℕ
+    → A → RunStop ShowStop
     → Type 0
 StopsLines Came next old new name now (run.Refused why) = ⊥
 StopsLines Came next old new name now (run.Files fault) = StopsTelling Came next old new name now fault

@@ -12,11 +12,12 @@ use Rattle.site_frame.specs.declared.reading.RecordView.TheVariants.{Frame, Mute
 abbrev pub head_of : List Bool → List ℕ
 head_of bits = take 8 (bytes_of bits)
 
--- the line of what is seen of a packet that stands at a place of a file, which a key names: its packet_type and the head of its
--- payload in hexadecimal, packet_count, superframe_idx, t2mi_stream_id and payload_len in decimal
+-- the line of what is seen of a packet that stands at a place of a file, which a key names: its packet_type and the
+-- head of its payload in hexadecimal, packet_count, superframe_idx, t2mi_stream_id and payload_len in decimal
 unfoldable pub view_line : List ℕ → ℕ → PacketView → List ℕ
 view_line key at v =
-    key ++ decimal at ++ codes " type=" ++ encode_lower (v.packet_type ∷ []) ++ codes " count=" ++ decimal v.packet_count
+    key ++ decimal at ++ codes " type=" ++ encode_lower (v.packet_type ∷ []) ++ codes " count="
+    ++ decimal v.packet_count
     ++ codes " superframe=" ++ decimal v.superframe ++ codes " stream=" ++ decimal v.stream
     ++ codes " bits=" ++ decimal (length v.payload) ++ codes " head=" ++ encode_lower (head_of v.payload) ++ codes "\n"
 
@@ -33,8 +34,8 @@ lines_of at (p ∷ ps) = line_of at p ++ lines_of (at + length p) ps
 abbrev pub count_line : ℕ → List ℕ
 count_line count = codes "packets=" ++ decimal count ++ codes "\n"
 
--- the line of a record, which is the number-th of its file, counted from 0: its kind, its emission, and the numbers of a frame's
--- blocks and cells
+-- the line of a record, which is the number-th of its file, counted from 0: its kind, its emission, and the numbers of
+-- a frame's blocks and cells
 unfoldable pub record_line : ℕ → RecordView → List ℕ
 record_line number (Frame moment pre post blocks cells) =
     codes "record=" ++ decimal number ++ codes " kind=frame seconds=" ++ decimal moment.seconds ++ codes " subseconds="

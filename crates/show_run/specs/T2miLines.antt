@@ -1,5 +1,6 @@
 -- How far the lines of packets have come that stand in units. No public clause cites this module.
-use Rattle.std.specs.Prelude.{◌≡◌, ◌⊎◌, ℕ, ◌+◌, ◌-◌, ◌*◌, ◌≤◌, nat_lt, Bool, true, false, if◌then◌else◌, List, [], ◌∷◌, ◌++◌}
+use Rattle.std.specs.Prelude.{◌≡◌, ◌⊎◌, ℕ, ◌+◌, ◌-◌, ◌*◌, ◌≤◌, nat_lt, Bool, true, false, if◌then◌else◌, List, [], ◌∷◌}
+use Rattle.std.specs.Prelude.{◌++◌}
 use Rattle.std.specs.Prelude.{length, map, take, drop, Some}
 use Rattle.file_run.specs.declared.input.TheConstants.{BUFFER}
 use Rattle.ts_packet.specs.declared.sizes.TheConstants.{SIZE}
@@ -61,8 +62,8 @@ pub record Seeking (m : T2miLines) (front text : List ℕ) (ended : Bool) : Type
   pub number : m.count ≡ 0
   pub idle : m.line ≡ []
 
--- Behind units that tell no PID stands one that tells it, and the unpiper took the bytes from there on but for the last of that
--- unit; the lines of so many packets were given.
+-- Behind units that tell no PID stands one that tells it, and the unpiper took the bytes from there on but for the last
+-- of that unit; the lines of so many packets were given.
 pub record Unpiping (m : T2miLines) (all text : List ℕ) (ended : Bool) : Type 0 where
   pub front : List ℕ
   pub bytes : List ℕ

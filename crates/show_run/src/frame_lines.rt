@@ -37,7 +37,8 @@ impl FrameLines {
     fn see(&mut self)
         requires whole { coming_of self.old.feed ≡ Whole }
         requires idle { self.old.line ≡ [] }
-        ensures sees { (views : List RecordView) (came : List ℕ) (ended : Bool) → RecordFeedStandsFor self.old.feed views came ended
+        ensures sees { (views : List RecordView) (came : List ℕ) (ended : Bool)
+            → RecordFeedStandsFor self.old.feed views came ended
             → IsLookedAt views came ended self.new }
         ensures came { came_of self.new.feed ≡ came_of self.old.feed }
     {

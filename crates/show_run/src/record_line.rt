@@ -23,7 +23,8 @@ const TO_MOMENT: usize = 7 + KEY + 12 + 3 * DIGITS;
 // The line of a record up to its moment, with a key in front of the seconds.
 fn line_to_moment(number: u64, key: &[u8], moment: &Moment) -> Line
     requires { length key.now ≤ KEY }
-    ensures text { result ≡ codes "record=" ++ decimal number ++ key.now ++ decimal moment.now.seconds ++ codes " subseconds="
+    ensures text { result ≡ codes "record=" ++ decimal number ++ key.now ++ decimal moment.now.seconds
+        ++ codes " subseconds="
         ++ decimal moment.now.subseconds }
     ensures len { length result ≤ TO_MOMENT }
 {

@@ -76,8 +76,8 @@ pub fn show_packets<D: Desk>(
     packets_end(&lines)
 }
 
-/// Says a line for each T2-MI packet in the transport packets of a named file, on the PID of the first that tells one, and last
-/// their number: how many.
+/// Says a line for each T2-MI packet in the transport packets of a named file, on the PID of the first that tells one,
+/// and last their number: how many.
 pub fn show_t2mi<D: Desk>(alloc: Global, name: &str, desk: &mut D) -> Result<u64, RunStop<ShowStop>>
     ensures { Shows IsT2miText (D.state desk.old) (D.state desk.new) name.now result }
 {

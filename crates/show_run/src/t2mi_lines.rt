@@ -28,7 +28,8 @@ pub enum Search {
     Finished,
 }
 
-/// A line for each T2-MI packet in the units of a file, on the PID of the first unit that tells one, and last their number.
+/// A line for each T2-MI packet in the units of a file, on the PID of the first unit that tells one, and last their
+/// number.
 #[derive(Drop)]
 pub struct T2miLines {
     pub(crate) search: Search,
@@ -80,7 +81,8 @@ fn front_unit(bytes: &[u8]) -> [u8; SIZE]
 
 // If no packet waits of an unpiper, all were released. It does nothing.
 fn released_law(unpiper: &Unpiper)
-    ensures { is_ready unpiper.now ≡ false → (pid : ℕ) (events : List UnpiperEvent) → UnpiperStandsFor unpiper.now pid events
+    ensures { is_ready unpiper.now ≡ false → (pid : ℕ) (events : List UnpiperEvent)
+        → UnpiperStandsFor unpiper.now pid events
         → AllReleased pid events }
 {
     unpiper.is_ready();
@@ -156,8 +158,8 @@ impl T2miLines {
         }
     }
 
-    // Gives the line of the packet that waits, and gives the packet up. There are no more packets than bytes, and none behind the
-    // last.
+    // Gives the line of the packet that waits, and gives the packet up. There are no more packets than bytes, and none
+    // behind the last.
     fn give_packet(&mut self, out: &mut [u8]) -> usize
         requires unpipes { self.old.search ≡ Unpipes }
         requires ready { is_ready self.old.unpiper ≡ true }

@@ -37,20 +37,36 @@ pub fn warn(rt: &impl Eprint, words: &[Word]) {
     }
 }
 
-// Why words are refused.
-fn why_refused(words: &[Word]) -> &'static str {
+// The first word that is written as an option.
+fn option_in(words: &[Word]) -> Option<&str> {
+    for word in words {
+        if word.as_str().starts_with("--") {
+            return Some(word.as_str());
+        }
+    }
+    None
+}
+
+// Says why words are refused.
+fn say_refused(rt: &impl Eprint, words: &[Word]) -> io::Result<()> {
     if words.iter().any(|word| word.as_str().is_empty()) {
-        "a word is empty or not UTF-8"
-    } else if words.iter().any(|word| word.as_str().starts_with("--")) {
-        "there are no options but --help and --version, and --help asks for a command"
-    } else {
-        why_no_command(words)
+        return eprintln!(rt; "a word is empty or not UTF-8");
+    }
+    match option_in(words) {
+        Some(option) if option == "--help" => eprintln!(rt;
+            "--help asks for a command, and these words name none"
+        ),
+        Some(option) => eprintln!(rt;
+            "{}: there are no options but --help and --version",
+            Shown(option)
+        ),
+        None => eprintln!(rt; "{}", why_no_command(words)),
     }
 }
 
 fn say_usage(rt: &impl Eprint, program: &str, words: &[Word]) -> io::Result<()> {
     let meant = meant_by(words);
-    eprintln!(rt; "{}", why_refused(words))?;
+    say_refused(rt, words)?;
     say_commands(rt, program, words, meant)?;
     match meant {
         Some(_) => eprintln!(rt; "all commands: {program} --help"),
@@ -394,9 +410,10 @@ fn file_of(request: Option<Request<'_>>, outcome: Outcome) -> &str {
     }
 }
 
-/// Says for people, who know the program by this name, why a run over words is not done, and what failed first, if something did;
-/// of a run of `show t2mi` that is done, on which PID it looked, and whether no packet came there: it said the line of their number
-/// alone.
+/// Says for people, who know the program by this name, why a run over words is not done, and what failed first, if
+/// something did;
+/// of a run of `show t2mi` that is done, on which PID it looked, and whether no packet came there: it said the line of
+/// their number alone.
 pub fn advise(
     rt: &(impl Eprint + Files + AllocGlobal),
     program: &str,

@@ -66,8 +66,9 @@ fn answer(rt: &(impl Print + Eprint), program: &str, asked: Asked<'_>) -> Outcom
     }
 }
 
-/// Answers what the words ask for, or carries out the command that they name, over the files of the system, and tells people, who
-/// know the program by this name, why it is not done: how it ended. If it is wanted, a line tells how far it is.
+/// Answers what the words ask for, or carries out the command that they name, over the files of the system, and tells
+/// people, who know the program by this name, why it is not done: how it ended. If it is wanted, a line tells how far
+/// it is.
 pub fn carry_out<R: Files + Print + Eprint + Clock + AllocGlobal>(
     rt: &R,
     program: &str,

@@ -6,7 +6,8 @@ use std::fs::{self, Files};
 use std::io::{self, ErrorKind};
 use std::str;
 
-/// What a named file has of a configuration: as many bytes as one may have. A pipe gives its bytes once, so it is not read again.
+/// What a named file has of a configuration: as many bytes as one may have. A pipe gives its bytes once, so it is not
+/// read again.
 pub fn text_of(rt: &(impl Files + AllocGlobal), name: &str) -> io::Result<Vec<u8>> {
     if fs::metadata(rt, name)?.is_file() {
         front_of(rt, name, LONGEST_TEXT)

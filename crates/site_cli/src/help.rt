@@ -7,8 +7,8 @@ const VERSION: &str = "0.3.0";
 
 const KIT: &str = "rattle-kit-13f";
 
-/// A command: its first word, all its words, what it does, an example, and what its words must be beside their number and an
-/// identifier, if something.
+/// A command: its first word, all its words, what it does, an example, and what its words must be beside their number
+/// and an identifier, if something.
 pub struct Command {
     pub name: &'static str,
     pub words: &'static str,

@@ -45,8 +45,8 @@ fn pids_in(rt: &impl AllocGlobal, bytes: &[u8]) -> io::Result<Vec<u16>> {
     Ok(pids)
 }
 
-/// Says on which PID of a file T2-MI was looked for: the first one in it. If none came there, the others are told. A pipe gives its bytes
-/// once, so nothing is told of it.
+/// Says on which PID of a file T2-MI was looked for: the first one in it. If none came there, the others are told. A
+/// pipe gives its bytes once, so nothing is told of it.
 pub fn say_pids(
     rt: &(impl Eprint + Files + AllocGlobal),
     name: &str,

@@ -1,4 +1,5 @@
-// The program's endings, and what it tells people. Files are real ones; standard output and standard error are kept here.
+// The program's endings, and what it tells people. Files are real ones; standard output and standard error are kept
+// here.
 mod endings;
 mod streams;
 mod watched;
@@ -13,8 +14,8 @@ use std::io::{self, Eprint, ErrorKind, Print};
 use std::process::Abort;
 use std::time::{Clock, Duration};
 
-// A runtime over another one, whose standard output takes all or nothing, whose standard error is kept, and whose clock is a
-// second later each time that it is looked at.
+// A runtime over another one, whose standard output takes all or nothing, whose standard error is kept, and whose clock
+// is a second later each time that it is looked at.
 #[derive(Drop)]
 struct Outside<R> {
     rt: R,

@@ -1,5 +1,6 @@
 -- A row that repeats the row before it.
-use Rattle.std.proofs.Common.{◌≡◌, ℕ, zero, suc, ◌+◌, ◌-◌, ◌*◌, ◌/◌, ◌%◌, ◌<◌, ◌≤◌, ◌^◌, List, ◌++◌, take, drop, Option, refl, ap}
+use Rattle.std.proofs.Common.{◌≡◌, ℕ, zero, suc, ◌+◌, ◌-◌, ◌*◌, ◌/◌, ◌%◌, ◌<◌, ◌≤◌, ◌^◌, List, ◌++◌, take, drop, Option}
+use Rattle.std.proofs.Common.{refl, ap}
 use Rattle.std.proofs.Common.{ap₂, sym, subst, ◌∙◌, arith, append_assoc, take-append-drop}
 use Rattle.std.specs.FinMap.{get}
 use Rattle.std.proofs.lemmas.Nat.{div_below, mod_below, div-add-mod'}
@@ -16,12 +17,13 @@ use Rattle.cell_map.specs.declared.strips.Stretch.TheVariants.{Dummy, Blocks}
 use Rattle.site_frame.specs.Record.{cell_bytes, word_of}
 use Rattle.site_frame.specs.Lines.{FitsStrip, FitsStretch, IsAgain, Follows, IsLast, IsStripOf}
 use Rattle.site_frame.specs.Words.{words}
-use Rattle.site_frame.proofs.LineLemmas.{drop_at}
+use Rattle.std.proofs.lemmas.List.{drop_at}
 use Rattle.site_frame.proofs.WordLemmas.{words_split, words_more, length-words}
 
 -- a word that was written is read back
 pub read_back : (c : Config) (shape : FrameShape) (frame : ℕ) (address n i : ℕ) (out : List ℕ) → i < n
-    → word_of (get (cell_map c shape frame) (address + i)) + 1 < 2 ^ 32 → take (4 * n) out ≡ words c shape frame address n
+    → word_of (get (cell_map c shape frame) (address + i)) + 1 < 2 ^ 32
+    → take (4 * n) out ≡ words c shape frame address n
     → big_number 4 (drop (4 * i) out) ≡ word_of (get (cell_map c shape frame) (address + i))
 read_back c shape frame address n i out l small e =
     let o : Option Cell = get (cell_map c shape frame) (address + i) in
@@ -33,7 +35,8 @@ read_back c shape frame address n i out l small e =
     (words c shape frame address) f
     ∙ words_split c shape frame i (suc m) address in
     let all : out ≡ words c shape frame address i ++ (cell_bytes o ++ (behind ++ rest)) =
-    sym (take-append-drop (4 * n) out) ∙ ap (λ (x : List ℕ). x ++ rest) (e ∙ parts) ∙ append_assoc (words c shape frame address i)
+    sym (take-append-drop (4 * n) out) ∙ ap (λ (x : List ℕ). x ++ rest) (e ∙ parts)
+    ∙ append_assoc (words c shape frame address i)
     (cell_bytes o ++ behind) rest
     ∙ ap (λ (x : List ℕ). words c shape frame address i ++ x) (append_assoc (cell_bytes o) behind rest) in
     ap (big_number 4)
@@ -62,7 +65,8 @@ pub row_on : (c : Config) (shape : FrameShape) (frame : ℕ) (address before wid
     → IsAgain c shape frame (address + before) width → k < width
     → take (4 * (before + width + k)) old ≡ words c shape frame address (before + width + k)
     → word ≡ big_number 4 (drop (4 * before + 4 * k) old)
-    → take (4 * before + 4 * width + 4 * k + 4) new ≡ take (4 * before + 4 * width + 4 * k) old ++ big_bytes 4 (word + 1)
+    → take (4 * before + 4 * width + 4 * k + 4) new ≡ take (4 * before + 4 * width + 4 * k) old
+    ++ big_bytes 4 (word + 1)
     → take (4 * (before + width + (k + 1))) new ≡ words c shape frame address (before + width + (k + 1))
 row_on c shape frame address before width k word old new again l e w p =
     let n : ℕ = before + width + k in
@@ -80,7 +84,8 @@ row_on c shape frame address before width k word old new again l e w p =
     ∙ ap (words c shape frame address) more
 
 -- strips that follow one another
-pub again_of : (c : Config) (shape : FrameShape) (frame : ℕ) (address : ℕ) (old new : Strip) → HasStrip c shape frame address old
+pub again_of : (c : Config) (shape : FrameShape) (frame : ℕ) (address : ℕ) (old new : Strip)
+    → HasStrip c shape frame address old
     → HasStrip c shape frame (address + new.columns * new.blocks) new → Follows old new → FitsStrip new
     → IsAgain c shape frame address (new.columns * new.blocks)
 again_of c shape frame address old new has next f fits = record {
@@ -94,7 +99,8 @@ again_of c shape frame address old new has next f fits = record {
 
     both : (k : ℕ) → k < new.columns * new.blocks
         → (word_of (get (cell_map c shape frame) (address + new.columns * new.blocks + k))
-        ≡ word_of (get (cell_map c shape frame) (address + k)) + 1) × (word_of (get (cell_map c shape frame) (address + k)) + 1
+        ≡ word_of (get (cell_map c shape frame) (address + k)) + 1)
+        × (word_of (get (cell_map c shape frame) (address + k)) + 1
         < 2 ^ 32)
     both k l =
         let n : ℕ = new.columns in
@@ -136,18 +142,22 @@ pub again_here : (c : Config) (shape : FrameShape) (frame : ℕ) (address done :
     → FitsStretch stretch → HasStretch c shape frame (address + done) stretch
     → (0 < last.blocks → IsLast c shape frame address done last) → IsStripOf stretch strip → Follows last strip
     → Again c shape frame address done stretch strip
-again_here c shape frame address done last (Dummy count) strip fits has is of f = absurd (omega (arith, of, f.some, f.blocks))
+again_here c shape frame address done last (Dummy count) strip fits has is of f = absurd
+    (omega (arith, of, f.some, f.blocks))
 again_here c shape frame address done last (Blocks it) strip fits has is of f =
     let l = is f.some in
-    let same : last.columns * last.blocks ≡ strip.columns * strip.blocks = ap₂ (λ (n m : ℕ). n * m) f.columns f.blocks in
+    let same : last.columns * last.blocks ≡ strip.columns * strip.blocks = ap₂ (λ (n m : ℕ). n * m) f.columns
+    f.blocks in
     let width : strip.columns * strip.blocks ≡ it.columns * it.blocks = ap (λ (s : Strip). s.columns * s.blocks) of in
     let before : l.before ≡ done - strip.columns * strip.blocks = omega (arith, l.here, same) in
     let old : HasStrip c shape frame (address + (done - strip.columns * strip.blocks)) last =
     subst (λ (n : ℕ). HasStrip c shape frame (address + n) last) before l.has in
     let at : address + done ≡ address + (done - strip.columns * strip.blocks) + strip.columns * strip.blocks =
     omega (arith, l.here, same) in
-    let new : HasStrip c shape frame (address + (done - strip.columns * strip.blocks) + strip.columns * strip.blocks) strip =
-    subst (λ (n : ℕ). HasStrip c shape frame n strip) at (subst (HasStrip c shape frame (address + done)) (sym of) has) in
+    let new : HasStrip c shape frame (address + (done - strip.columns * strip.blocks) + strip.columns * strip.blocks)
+    strip =
+    subst (λ (n : ℕ). HasStrip c shape frame n strip) at (subst (HasStrip c shape frame (address + done))
+    (sym of) has) in
     record {
       len = sym width;
       within = omega (arith, l.here, same);

@@ -1,5 +1,6 @@
 -- Blocks that stand one behind another.
-use Rattle.std.proofs.Common.{◌≡◌, ℕ, zero, suc, ◌*◌, ◌-◌, ◌<◌, ◌≤◌, Bool, true, false, cond, ltb, List, length, drop, take}
+use Rattle.std.proofs.Common.{◌≡◌, ℕ, zero, suc, ◌*◌, ◌-◌, ◌<◌, ◌≤◌, Bool, true, false, cond, ltb, List, length, drop}
+use Rattle.std.proofs.Common.{take}
 use Rattle.std.proofs.Common.{Option, Some, None, refl, sym, ap, ◌∙◌, arith}
 use Rattle.std.specs.Prelude.{slice_get, IsSome}
 use Rattle.std.proofs.lemmas.Bool.{ltb-false}
@@ -32,7 +33,8 @@ pub one_whole : (bytes rest : List ℕ) → skip_block bytes ≡ Some rest → (
     × (drop (block_len bytes) bytes ≡ rest)
 one_whole bytes rest e = let g = guard_some (ltb (length bytes) (block_len bytes)) _ _ e in (ltb-false _ _ g.0, g.1)
 
-pub first_whole : (n : ℕ) (bytes rest : List ℕ) → skip_blocks (suc n) bytes ≡ Some rest → (block_len bytes ≤ length bytes)
+pub first_whole : (n : ℕ) (bytes rest : List ℕ) → skip_blocks (suc n) bytes ≡ Some rest
+    → (block_len bytes ≤ length bytes)
     × (skip_blocks n (drop (block_len bytes) bytes) ≡ Some rest)
 first_whole n bytes rest e =
     let b = bind_some (skip_block bytes) (skip_blocks n) rest e in

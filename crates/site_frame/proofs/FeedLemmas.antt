@@ -1,5 +1,6 @@
 -- What a feed stands for, step by step.
-use Rattle.std.proofs.Common.{◌≡◌, ℕ, ◌+◌, ◌<◌, ◌≤◌, Bool, true, false, List, [], ◌∷◌, ◌++◌, length, drop, refl, ap, sym, subst}
+use Rattle.std.proofs.Common.{◌≡◌, ℕ, ◌+◌, ◌<◌, ◌≤◌, Bool, true, false, List, [], ◌∷◌, ◌++◌, length, drop, refl, ap}
+use Rattle.std.proofs.Common.{sym, subst}
 use Rattle.std.proofs.Common.{take, take-append-drop, ◌≢◌, ◌∙◌, inl, inr, arith, append-nil, length-append}
 use Rattle.std.specs.Prelude.{Result, Ok}
 use Rattle.site_frame.specs.Laws.{NoRefusal}
@@ -15,7 +16,8 @@ use Rattle.site_frame.specs.FeedStandsFor.{RecordFeedStandsFor}
 use Rattle.site_frame.specs.declared.coming.Coming.{Coming}
 use Rattle.site_frame.specs.declared.coming.Coming.TheVariants.{Head, Rest, Whole, Refused, NoRoom, Finished}
 use Rattle.site_frame.specs.declared.feed.RecordFeed.{RecordFeed}
-use Rattle.site_frame.proofs.RecordFileLemmas.{records_on, records_more, announces_head, announces_on, none_left, whole_len}
+use Rattle.site_frame.proofs.RecordFileLemmas.{records_on, records_more, announces_head, announces_on, none_left}
+use Rattle.site_frame.proofs.RecordFileLemmas.{whole_len}
 use Rattle.site_frame.proofs.RecordFrontLemmas.{refused_whole, short_refused, cut_refused}
 
 -- what stands behind the records, by what comes next
@@ -48,8 +50,10 @@ refused_head head why size r = record {
 -- ---- bytes come
 
 -- behind the same records
-more_stands : (f g : RecordFeed) (views : List RecordView) (came piece : List ℕ) (ended : Bool) (s : RecordFeedStandsFor f views came ended)
-    → g.at ≡ f.at + length piece → g.count ≡ f.count → Behind g.coming g.head g.bytes.items g.left (s.rest ++ piece) ended
+more_stands : (f g : RecordFeed) (views : List RecordView) (came piece : List ℕ) (ended : Bool)
+    (s : RecordFeedStandsFor f views came ended)
+    → g.at ≡ f.at + length piece → g.count ≡ f.count → Behind g.coming g.head g.bytes.items g.left (s.rest ++ piece)
+    ended
     → RecordFeedStandsFor g views (came ++ piece) ended
 more_stands f g views came piece ended s at count behind = record {
   rest = s.rest ++ piece;
@@ -62,7 +66,8 @@ more_stands f g views came piece ended s at count behind = record {
 -- bytes of a head, but not all
 pub head_part : (f g : RecordFeed) (views : List RecordView) (came piece : List ℕ) (ended : Bool) → f.coming ≡ Head
     → g.coming ≡ f.coming → g.at ≡ f.at + length piece → g.count ≡ f.count → g.head ≡ f.head ++ piece
-    → g.left + length piece ≡ f.left → RecordFeedStandsFor f views came ended → RecordFeedStandsFor g views (came ++ piece) ended
+    → g.left + length piece ≡ f.left → RecordFeedStandsFor f views came ended
+    → RecordFeedStandsFor g views (came ++ piece) ended
 head_part f g views came piece ended heads same at count head left s =
     let b = behind_at f views came ended Head heads s in
     let lacks = b.1 in
@@ -74,9 +79,11 @@ head_part f g views came piece ended heads same at count head left s =
     ))
 
 -- the last of them
-pub head_whole : (f g : RecordFeed) (views : List RecordView) (came piece whole : List ℕ) (ended : Bool) → f.coming ≡ Head
+pub head_whole : (f g : RecordFeed) (views : List RecordView) (came piece whole : List ℕ) (ended : Bool)
+    → f.coming ≡ Head
     → g.at ≡ f.at + length piece → g.count ≡ f.count → g.head ≡ [] → whole ≡ f.head ++ piece
-    → Behind g.coming [] g.bytes.items g.left whole false → RecordFeedStandsFor f views came ended → RecordFeedStandsFor g views (came ++ piece) ended
+    → Behind g.coming [] g.bytes.items g.left whole false → RecordFeedStandsFor f views came ended
+    → RecordFeedStandsFor g views (came ++ piece) ended
 head_whole f g views came piece whole ended heads at count none is behind s =
     let b = behind_at f views came ended Head heads s in
     let all : whole ≡ s.rest ++ piece = is ∙ ap (λ (l : List ℕ). l ++ piece) (sym b.0) in
@@ -85,7 +92,8 @@ head_whole f g views came piece whole ended heads at count none is behind s =
     (subst (λ (l : List ℕ). Behind g.coming l g.bytes.items g.left (s.rest ++ piece) false) (sym none)
     (subst (λ (l : List ℕ). Behind g.coming [] g.bytes.items g.left l false) all behind)))
 
-begun_more : (rest piece : List ℕ) (left now : ℕ) → IsBegun rest left → now + length piece ≡ left → IsBegun (rest ++ piece) now
+begun_more : (rest piece : List ℕ) (left now : ℕ) → IsBegun rest left → now + length piece ≡ left
+    → IsBegun (rest ++ piece) now
 begun_more rest piece left now b is = record {
   len = b.len;
   announces = announces_on rest piece b.len b.announces;
@@ -95,7 +103,8 @@ begun_more rest piece left now b is = record {
 -- bytes of a rest, but not all
 pub rest_part : (f g : RecordFeed) (views : List RecordView) (came piece : List ℕ) (ended : Bool) → f.coming ≡ Rest
     → g.coming ≡ f.coming → g.at ≡ f.at + length piece → g.count ≡ f.count → g.bytes.items ≡ f.bytes.items ++ piece
-    → g.left + length piece ≡ f.left → RecordFeedStandsFor f views came ended → RecordFeedStandsFor g views (came ++ piece) ended
+    → g.left + length piece ≡ f.left → RecordFeedStandsFor f views came ended
+    → RecordFeedStandsFor g views (came ++ piece) ended
 rest_part f g views came piece ended rests same at count bytes left s =
     let b = behind_at f views came ended Rest rests s in
     more_stands f g views came piece ended s at count
@@ -163,7 +172,8 @@ refused f g views came ended why whole comes at count none refuses s =
 -- ---- the file ends
 
 -- behind what is refused then
-ends_refused : (rest : List ℕ) (left : ℕ) (why : RecordWhy) → 0 < length rest → Refuses rest why → EndsWithin rest (length rest)
+ends_refused : (rest : List ℕ) (left : ℕ) (why : RecordWhy) → 0 < length rest → Refuses rest why
+    → EndsWithin rest (length rest)
     → StandsRefused why left rest true
 ends_refused rest left why some refuses within = record {
   refuses = λ more end.
@@ -174,8 +184,10 @@ ends_refused rest left why some refuses within = record {
   none = inr refl;
 }
 
-end_stands : (f g : RecordFeed) (views : List RecordView) (came : List ℕ) (ended : Bool) (s : RecordFeedStandsFor f views came ended)
-    → g.at ≡ f.at → g.count ≡ f.count → Behind g.coming g.head g.bytes.items g.left s.rest true → RecordFeedStandsFor g views came true
+end_stands : (f g : RecordFeed) (views : List RecordView) (came : List ℕ) (ended : Bool)
+    (s : RecordFeedStandsFor f views came ended)
+    → g.at ≡ f.at → g.count ≡ f.count → Behind g.coming g.head g.bytes.items g.left s.rest true
+    → RecordFeedStandsFor g views came true
 end_stands f g views came ended s at count behind = record {
   rest = s.rest;
   records = s.records;
@@ -185,8 +197,10 @@ end_stands f g views came ended s at count behind = record {
 }
 
 -- within the rest of a record
-pub ends_in_rest : (f g : RecordFeed) (views : List RecordView) (came : List ℕ) (ended : Bool) → f.coming ≡ Rest → 0 < f.left
-    → g.coming ≡ Refused why.Length → g.at ≡ f.at → g.count ≡ f.count → RecordFeedStandsFor f views came ended → RecordFeedStandsFor g views came true
+pub ends_in_rest : (f g : RecordFeed) (views : List RecordView) (came : List ℕ) (ended : Bool) → f.coming ≡ Rest
+    → 0 < f.left
+    → g.coming ≡ Refused why.Length → g.at ≡ f.at → g.count ≡ f.count → RecordFeedStandsFor f views came ended
+    → RecordFeedStandsFor g views came true
 ends_in_rest f g views came ended rests some comes at count s =
     let b = behind_at f views came ended Rest rests s in
     let lacks = b.1.lacks in
@@ -229,14 +243,16 @@ not_begun never rest view len why r b =
     (subst (λ (l : List ℕ). Refuses l why) (sym (take-append-drop len rest)) r)
 
 -- nor do fewer bytes than a record has
-not_whole : (rest : List ℕ) (view : RecordView) (len left : ℕ) → IsBegun rest left → 0 < left → ¬ (BeginsWith rest view len)
+not_whole : (rest : List ℕ) (view : RecordView) (len left : ℕ) → IsBegun rest left → 0 < left
+    → ¬ (BeginsWith rest view len)
 not_whole rest view len left begun some b =
     let size = whole_len rest view len begun.len begun.announces b in
     let lacks = begun.lacks in
     let inside = b.inside in
     absurd (omega (arith, size, lacks, inside, some))
 
-none_behind : NoRefusal → (f : RecordFeed) (ended : Bool) (rest : List ℕ) (p : Coming) → f.coming ≡ p → p ≢ Whole → p ≢ NoRoom
+none_behind : NoRefusal → (f : RecordFeed) (ended : Bool) (rest : List ℕ) (p : Coming) → f.coming ≡ p
+    → p ≢ Whole → p ≢ NoRoom
     → Behind p f.head f.bytes.items f.left rest ended → (view : RecordView) (len : ℕ) → ¬ (BeginsWith rest view len)
 none_behind never f ended rest Head is seen room b view len =
     let some = (f.lacks is).0 in

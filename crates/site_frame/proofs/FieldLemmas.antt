@@ -1,12 +1,15 @@
 -- What is written is read again, and what is read is written so, section by section.
-use Rattle.std.proofs.Common.{◌≡◌, ℕ, zero, suc, ◌+◌, ◌*◌, ◌/◌, ◌%◌, ◌^◌, ◌<◌, ◌≤◌, ◌==◌, false, ltb, List, [], ◌∷◌, ◌++◌, length}
-use Rattle.std.proofs.Common.{get_or, take, drop, Option, Some, None, refl, sym, ap, ap₂, subst, ◌∙◌, append_assoc, arith, inl}
+use Rattle.std.proofs.Common.{◌≡◌, ℕ, zero, suc, ◌+◌, ◌*◌, ◌/◌, ◌%◌, ◌^◌, ◌<◌, ◌≤◌, ◌==◌, false, ltb, List, [], ◌∷◌}
+use Rattle.std.proofs.Common.{◌++◌, length}
+use Rattle.std.proofs.Common.{get_or, take, drop, Option, Some, None, refl, sym, ap, ap₂, subst, ◌∙◌, append_assoc}
+use Rattle.std.proofs.Common.{arith, inl}
 use Rattle.std.proofs.Common.{inr}
 use Rattle.std.specs.Prelude.{slice_index}
 use Rattle.std.specs.List.{flat_map, AllByRecursion}
 use Rattle.std.proofs.lemmas.Bool.{cases_lt, ltb-false, le-ltb, cond-true, cond-false}
 use Rattle.std.proofs.lemmas.Bool.Decides.{eqb_tells}
-use Rattle.std.proofs.lemmas.List.{take_at, drop_at, take-append-drop, length-append, length-take, length-drop, drop-drop}
+use Rattle.std.proofs.lemmas.List.{take_at, drop_at, take-append-drop, length-append, length-take, length-drop}
+use Rattle.std.proofs.lemmas.List.{drop-drop}
 use Rattle.std.proofs.lemmas.List.{drop_all, append-nil, get_or-drop, get_or-take, get_or_past}
 use Rattle.std.proofs.lemmas.Nat.{be_bytes_2, be_bytes_4, be_bytes_8, div-mul-add, mod-mul-add}
 use Rattle.byteorder.specs.Endian.{big_number, big_bytes}
@@ -14,7 +17,8 @@ use Rattle.byteorder.specs.Numbers.{big_number-reads_back, length-bytes_high_fir
 use Rattle.site_frame.specs.Record.{Block, FitsBlock, FitsCell, block_bytes, blocks_bytes, dummy_word, word_of, cell_of}
 use Rattle.site_frame.specs.Record.{cell_bytes}
 use Rattle.cell_map.specs.declared.places.Cell.{Cell}
-use Rattle.site_frame.specs.Reading.{◌>>=◌, cut, number, block_len, skip_block, skip_blocks, block_at, block_of, blocks_in}
+use Rattle.site_frame.specs.Reading.{◌>>=◌, cut, number, block_len, skip_block, skip_blocks, block_at, block_of}
+use Rattle.site_frame.specs.Reading.{blocks_in}
 use Rattle.site_frame.specs.Reading.{cells_in}
 use Rattle.site_frame.proofs.BlockLemmas.{guard_some, first_whole}
 
@@ -63,9 +67,12 @@ block_again b second rest fits =
     let n : ℕ = length b.bytes in
     let two : length (big_bytes 2 n) ≡ 2 = length-bytes_high_first 2 n in
     let behind2 : drop 2 bytes ≡ big_bytes 2 n ++ (b.bytes ++ rest) = append_assoc (big_bytes 2 n) b.bytes rest in
-    let told : big_number 2 (drop 2 bytes) ≡ n = ap (big_number 2) behind2 ∙ big_number-reads_back 2 n (b.bytes ++ rest) fits.1 in
-    let behind4 : drop 4 bytes ≡ b.bytes ++ rest = ap (drop 2) behind2 ∙ drop_at (big_bytes 2 n) (b.bytes ++ rest) 2 two in
-    let body : take (big_number 2 (drop 2 bytes)) (drop 4 bytes) ≡ b.bytes = rw (told, behind4) (take_at b.bytes rest n refl) in
+    let told : big_number 2 (drop 2 bytes) ≡ n = ap (big_number 2) behind2
+    ∙ big_number-reads_back 2 n (b.bytes ++ rest) fits.1 in
+    let behind4 : drop 4 bytes ≡ b.bytes ++ rest = ap (drop 2) behind2
+    ∙ drop_at (big_bytes 2 n) (b.bytes ++ rest) 2 two in
+    let body : take (big_number 2 (drop 2 bytes)) (drop 4 bytes) ≡ b.bytes = rw (told, behind4)
+    (take_at b.bytes rest n refl) in
     let len : block_len bytes ≡ 4 + n = ap (λ (k : ℕ). 4 + k) told in
     let more : length bytes ≡ 2 + length (drop 2 bytes) = omega arith in
     let behind-len : length (drop 2 bytes) ≡ length (big_bytes 2 n ++ (b.bytes ++ rest)) =
@@ -145,9 +152,11 @@ cells_again [] h = refl
 cells_again (c ∷ cells) h =
     let rest : List ℕ = flat_map cell_bytes cells in
     let w = word_again c h.0 in
-    let first : cell_of (big_number 4 (cell_bytes c ++ rest)) ≡ c = ap cell_of (big_number-reads_back 4 (word_of c) rest w.0)
+    let first : cell_of (big_number 4 (cell_bytes c ++ rest)) ≡ c = ap cell_of
+    (big_number-reads_back 4 (word_of c) rest w.0)
     ∙ w.1 in
-    let behind : drop 4 (cell_bytes c ++ rest) ≡ rest = drop_at (cell_bytes c) rest 4 (length-bytes_high_first 4 (word_of c)) in
+    let behind : drop 4 (cell_bytes c ++ rest) ≡ rest = drop_at (cell_bytes c) rest 4
+    (length-bytes_high_first 4 (word_of c)) in
     ap₂ (λ (x : Option Cell) (xs : List (Option Cell)). x ∷ xs) first (ap (cells_in (length cells)) behind
     ∙ cells_again cells h.1)
 
@@ -219,7 +228,8 @@ pub record NumberTakes (n : ℕ) (bytes : List ℕ) (x : ℕ) (rest : List ℕ) 
   pub parts : bytes ≡ big_bytes n x ++ rest
   pub rest_fits : IsBytes rest
 
-pub number_takes : (n : ℕ) → IsWide n → (bytes : List ℕ) (x : ℕ) (rest : List ℕ) → IsBytes bytes → number n bytes ≡ Some (x, rest)
+pub number_takes : (n : ℕ) → IsWide n → (bytes : List ℕ) (x : ℕ) (rest : List ℕ) → IsBytes bytes
+    → number n bytes ≡ Some (x, rest)
     → NumberTakes n bytes x rest
 number_takes n wide bytes x rest fits e =
     let g = guard_some (ltb (length bytes) n) (big_number n bytes, drop n bytes) (x, rest) e in
@@ -229,13 +239,15 @@ number_takes n wide bytes x rest fits e =
     let w = wide bytes fits long in
     record {
       small = rw (← x-is) w.1;
-      parts = rw (← x-is, ← rest-is) (sym (take-append-drop n bytes) ∙ ap (λ (xs : List ℕ). xs ++ drop n bytes) (sym w.0));
+      parts = rw (← x-is, ← rest-is) (sym (take-append-drop n bytes) ∙ ap (λ (xs : List ℕ). xs ++ drop n bytes)
+          (sym w.0));
       rest_fits = rw (← rest-is) (IsBytes-drop n bytes fits);
     }
 
 -- a block that was read
 block_taken : (bytes : List ℕ) → IsBytes bytes → block_len bytes ≤ length bytes
-    → (bytes ≡ block_bytes (block_at bytes) (slice_index bytes 1) ++ drop (block_len bytes) bytes) × FitsBlock (block_at bytes)
+    → (bytes ≡ block_bytes (block_at bytes) (slice_index bytes 1) ++ drop (block_len bytes) bytes)
+    × FitsBlock (block_at bytes)
 block_taken [] fits long = absurd (omega (arith, long))
 block_taken (x ∷ []) fits long = absurd (omega (arith, long))
 block_taken (x ∷ y ∷ more) fits long =
@@ -246,10 +258,12 @@ block_taken (x ∷ y ∷ more) fits long =
     omega (arith, inside, length-take n (drop 2 more), length-drop {A = ℕ} 2 more) in
     let past : drop (4 + n) (x ∷ y ∷ more) ≡ drop n (drop 2 more) = sym (drop-drop n 4 (x ∷ y ∷ more)) in
     let number-is : take 2 more ≡ big_bytes 2 (length (take n (drop 2 more))) = sym w.0 ∙ ap (big_bytes 2) (sym size) in
-    let whole : more ≡ (big_bytes 2 (length (take n (drop 2 more))) ++ take n (drop 2 more)) ++ drop (4 + n) (x ∷ y ∷ more) =
+    let whole : more ≡ (big_bytes 2 (length (take n (drop 2 more))) ++ take n (drop 2 more))
+    ++ drop (4 + n) (x ∷ y ∷ more) =
     sym (take-append-drop 2 more) ∙ ap₂ (λ (a b : List ℕ). a ++ b) number-is (sym (take-append-drop n (drop 2 more))
     ∙ ap (λ (xs : List ℕ). take n (drop 2 more) ++ xs) (sym past))
-    ∙ sym (append_assoc (big_bytes 2 (length (take n (drop 2 more)))) (take n (drop 2 more)) (drop (4 + n) (x ∷ y ∷ more))) in
+    ∙ sym (append_assoc (big_bytes 2 (length (take n (drop 2 more)))) (take n (drop 2 more))
+    (drop (4 + n) (x ∷ y ∷ more))) in
     (ap (λ (xs : List ℕ). x ∷ y ∷ xs) whole, (fits 0, omega (arith, size, w.1)))
 
 pub record BlocksTake (n : ℕ) (bytes rest : List ℕ) : Type 0 where
@@ -258,7 +272,8 @@ pub record BlocksTake (n : ℕ) (bytes rest : List ℕ) : Type 0 where
   pub fits : AllByRecursion FitsBlock (blocks_in n bytes)
   pub rest_fits : IsBytes rest
 
-pub blocks_take : (n : ℕ) (bytes rest : List ℕ) → IsBytes bytes → skip_blocks n bytes ≡ Some rest → BlocksTake n bytes rest
+pub blocks_take : (n : ℕ) (bytes rest : List ℕ) → IsBytes bytes → skip_blocks n bytes ≡ Some rest
+    → BlocksTake n bytes rest
 blocks_take zero bytes rest fits e =
     let same : bytes ≡ rest = some_same bytes rest e in
     record { ignored = []; parts = same; fits = tt; rest_fits = subst IsBytes same fits }
@@ -282,5 +297,9 @@ cells_take zero bytes fits e = (drop_all 0 bytes (omega (arith, e)), tt)
 cells_take (suc n) bytes fits e =
     let w = wide4 bytes fits (omega (arith, e)) in
     let t = cell_taken (big_number 4 bytes) w.1 in
-    let ih = cells_take n (drop 4 bytes) (IsBytes-drop 4 bytes fits) (omega (arith, e, length-drop {A = ℕ} 4 bytes)) in
-    (sym (take-append-drop 4 bytes) ∙ ap₂ (λ (a b : List ℕ). a ++ b) (sym w.0 ∙ ap (big_bytes 4) (sym t.1)) ih.0, (t.0, ih.1))
+    let ih = cells_take n (drop 4 bytes) (IsBytes-drop 4 bytes fits)
+    (omega (arith, e, length-drop {A = ℕ} 4 bytes)) in (
+      sym (take-append-drop 4 bytes) ∙ ap₂ (λ (a b : List ℕ). a ++ b) (sym w.0 ∙ ap (big_bytes 4) (sym t.1))
+          ih.0,
+      (t.0, ih.1),
+    )

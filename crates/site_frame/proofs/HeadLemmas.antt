@@ -1,5 +1,6 @@
 -- What a head tells does not depend on what follows it.
-use Rattle.std.proofs.Common.{◌≡◌, ◌⊎◌, ℕ, ◌+◌, ◌-◌, ◌*◌, ◌<◌, ◌≤◌, false, List, [], ◌++◌, length, take, drop, replicate, Result}
+use Rattle.std.proofs.Common.{◌≡◌, ◌⊎◌, ℕ, ◌+◌, ◌-◌, ◌*◌, ◌<◌, ◌≤◌, false, List, [], ◌++◌, length, take, drop}
+use Rattle.std.proofs.Common.{replicate, Result}
 use Rattle.std.proofs.Common.{Ok, Err, refl, sym, ap, subst, ◌∙◌, arith, inl, inr}
 use Rattle.std.specs.Prelude.{slice_index, IfOk, IfErr}
 use Rattle.std.proofs.Math.ListN.{get_or-append}
@@ -10,8 +11,10 @@ use Rattle.byteorder.specs.Endian.{big_number}
 use Rattle.byteorder.specs.Numbers.{big_from-append}
 use Rattle.plp_config.specs.declared.moment.Moment.{Moment}
 use Rattle.site_frame.specs.Record.{frame_kind, muted_kind, head_len, head_bytes, FitsMoment}
-use Rattle.site_frame.specs.Whole.{greatest_rest, least_rest, kind_of, moment_of, HasRest, Spells, BeginsWith, written_rest}
-use Rattle.site_frame.specs.Whole.{record_bytes, record_len, FitsRest, FitsRecord, HasHead, HasKind, told_moment, told_len}
+use Rattle.site_frame.specs.Whole.{greatest_rest, least_rest, kind_of, moment_of, HasRest, Spells, BeginsWith}
+use Rattle.site_frame.specs.Whole.{written_rest}
+use Rattle.site_frame.specs.Whole.{record_bytes, record_len, FitsRest, FitsRecord, HasHead, HasKind, told_moment}
+use Rattle.site_frame.specs.Whole.{told_len}
 use Rattle.site_frame.specs.Whole.{told_rest, HasLength, Refuses, CanFollow, Follow, RefusesHead, IsRight, IsRightAlone}
 use Rattle.site_frame.specs.Whole.{HasBadLength, IsWrong}
 use Rattle.site_frame.specs.declared.fault.RecordWhy.{RecordWhy}
@@ -76,7 +79,8 @@ no_rest : (view : RecordView) (rest : List ℕ) → kind_of view ≡ muted_kind 
 no_rest (Frame moment pre post blocks cells) rest muted parts = absurd (omega (arith, muted))
 no_rest (Muted moment) rest muted parts = ap (λ (xs : List ℕ). length xs) parts
 
-some_rest : (view : RecordView) (rest : List ℕ) → kind_of view ≡ frame_kind → HasRest view rest → least_rest ≤ length rest
+some_rest : (view : RecordView) (rest : List ℕ) → kind_of view ≡ frame_kind → HasRest view rest
+    → least_rest ≤ length rest
 some_rest (Frame moment pre post blocks cells) rest frame parts =
     omega (arith, has_len (Frame moment pre post blocks cells) rest parts)
 some_rest (Muted moment) rest frame parts = absurd (omega (arith, frame))
@@ -94,13 +98,18 @@ bad_on head more e (inr (inl muted)) h =
     absurd (omega (arith, none, muted.1, told_on head more (omega (arith, e)), rest_size (head ++ more) h))
 bad_on head more e (inr (inr short)) h =
     let kind : kind_of h.view ≡ frame_kind = h.kind ∙ same_at head more (omega (arith, e)) 4 (omega arith) ∙ short.0 in
-    let some : least_rest ≤ length (told_rest (head ++ more)) = some_rest h.view (told_rest (head ++ more)) kind h.parts in
+    let some : least_rest ≤ length (told_rest (head ++ more)) = some_rest h.view (told_rest (head ++ more))
+    kind h.parts in
     absurd (omega (arith, some, short.1, told_on head more (omega (arith, e)), rest_size (head ++ more) h))
 
 -- the head is refused with anything behind it
 pub refuses_head : (head : List ℕ) (why : RecordWhy) → length head ≡ 24 → IsWrong head why → RefusesHead head why
 refuses_head head Head e w more = λ h. w (head_back head more (omega (arith, e)) h)
-refuses_head head Kind e w more = (head_on head more (omega (arith, e)) w.0, λ h. w.1 (kind_back head more (omega (arith, e)) h))
+refuses_head head Kind e w more = (
+  head_on head more (omega (arith, e)) w.0,
+  λ h. w.1
+      (kind_back head more (omega (arith, e)) h),
+)
 refuses_head head Length e (is, kind, bad) more =
     (head_on head more (omega (arith, e)) is, kind_on head more (omega (arith, e)) kind, bad_on head more e bad)
 refuses_head head Order e w more = w
@@ -123,11 +132,13 @@ written_on head view rest fits e right kind moment size record-fits =
     let begin : take 24 head ≡ head_bytes (slice_index head 4) (told_moment head) (told_len head) =
     head_taken head fits right.head in
     let told : told_len head ≡ length more = omega (arith, right.told, size) in
-    let front : head ≡ head_bytes (kind_of view) (moment_of view) (length more) = sym (take_all 24 head (omega (arith, e)))
+    let front : head ≡ head_bytes (kind_of view) (moment_of view) (length more) = sym
+    (take_all 24 head (omega (arith, e)))
     ∙ begin ∙ rw (kind, moment, told) refl in
     let whole : record_bytes view ≡ head ++ more = ap (λ (xs : List ℕ). xs ++ more) (sym front) in
     let both : length (head ++ more) ≡ 24 + rest = omega (arith, e, size, length-append head more) in
-    let all : take (24 + rest) (head ++ more) ≡ head ++ more = take_all (24 + rest) (head ++ more) (omega (arith, both)) in
+    let all : take (24 + rest) (head ++ more) ≡ head ++ more = take_all (24 + rest) (head ++ more)
+    (omega (arith, both)) in
     record {
       more = more;
       view = view;
@@ -184,15 +195,18 @@ follow head rest fits e alone =
         head_on head more (omega (arith, e)) r.head,
         kind_on head more (omega (arith, e)) r.kind,
         λ h. let never : ⊥ =
-            omega (arith, h.inside, told_on head more (omega (arith, e)), r.told, few, e, length-append head more) in never,
+            omega (arith, h.inside, told_on head more (omega (arith, e)), r.told, few, e, length-append head more) in
+            never,
       );
     }
 
 -- what begins with a record is not refused
-not_both : (bytes : List ℕ) (view : RecordView) (len : ℕ) (why : RecordWhy) → BeginsWith bytes view len → ¬ (Refuses bytes why)
+not_both : (bytes : List ℕ) (view : RecordView) (len : ℕ) (why : RecordWhy) → BeginsWith bytes view len
+    → ¬ (Refuses bytes why)
 not_both bytes view len why b refused =
     let same : take len bytes ++ drop len bytes ≡ bytes = take-append-drop len bytes in
-    no_refusal view (take len bytes) (drop len bytes) why b.spells (subst (λ (xs : List ℕ). Refuses xs why) (sym same) refused)
+    no_refusal view (take len bytes) (drop len bytes) why b.spells (subst (λ (xs : List ℕ). Refuses xs why)
+    (sym same) refused)
 
 -- ---- of an answer
 
@@ -201,7 +215,8 @@ pub ok_follow : (head : List ℕ) (r : Result ℕ RecordWhy) → IsBytes head �
 ok_follow head (Ok rest) fits e h = follow head rest fits e h
 ok_follow head (Err why) fits e h = tt
 
-pub err_head : (head : List ℕ) (r : Result ℕ RecordWhy) → length head ≡ 24 → IfErr r (IsWrong head) → IfErr r (RefusesHead head)
+pub err_head : (head : List ℕ) (r : Result ℕ RecordWhy) → length head ≡ 24 → IfErr r (IsWrong head)
+    → IfErr r (RefusesHead head)
 err_head head (Ok rest) e h = tt
 err_head head (Err why) e h = refuses_head head why e h
 

@@ -1,6 +1,8 @@
 -- Laws of records.
-use Rattle.std.proofs.Common.{◌≡◌, ◌≢◌, ◌⊎◌, ℕ, ◌+◌, ◌-◌, ◌*◌, ◌/◌, ◌%◌, ◌^◌, ◌<◌, ◌≤◌, Bool, false, List, [], ◌∷◌, ◌++◌, length}
-use Rattle.std.proofs.Common.{get_or, take, drop, replicate, Option, Some, None, Result, Ok, Err, refl, sym, ap, ap₂, subst, ◌∙◌}
+use Rattle.std.proofs.Common.{◌≡◌, ◌≢◌, ◌⊎◌, ℕ, ◌+◌, ◌-◌, ◌*◌, ◌/◌, ◌%◌, ◌^◌, ◌<◌, ◌≤◌, Bool, false, List, [], ◌∷◌}
+use Rattle.std.proofs.Common.{◌++◌, length}
+use Rattle.std.proofs.Common.{get_or, take, drop, replicate, Option, Some, None, Result, Ok, Err, refl, sym, ap, ap₂}
+use Rattle.std.proofs.Common.{subst, ◌∙◌}
 use Rattle.std.proofs.Common.{append-nil, arith, inl, inr}
 use Rattle.std.specs.Prelude.{slice_index, map, sum_by, IfOk, IfErr}
 use Rattle.std.specs.List.{concat, flat_map, range_with_len}
@@ -16,10 +18,13 @@ use Rattle.terms.proofs.BitLemmas.{length-bytes_of, number_of-append}
 use Rattle.terms.proofs.PartLemmas.{number_of-zeros}
 use Rattle.site_frame.specs.Record.{Block, head_len, head_bytes, block_bytes, blocks_bytes, cell_bytes}
 use Rattle.site_frame.specs.Rest.{rest_bytes, FitsFrame, IsRest}
-use Rattle.site_frame.specs.Whole.{greatest_rest, kind_of, moment_of, HasRest, Spells, BeginsWith, Refuses, written_rest}
-use Rattle.site_frame.specs.Whole.{block_size, record_len, FitsRest, HasHead, HasKind, told_moment, told_len, told_rest, view_in}
+use Rattle.site_frame.specs.Whole.{greatest_rest, kind_of, moment_of, HasRest, Spells, BeginsWith, Refuses}
+use Rattle.site_frame.specs.Whole.{written_rest}
+use Rattle.site_frame.specs.Whole.{block_size, record_len, FitsRest, HasHead, HasKind, told_moment, told_len, told_rest}
+use Rattle.site_frame.specs.Whole.{view_in}
 use Rattle.site_frame.specs.Whole.{IsRead, IsRefused}
-use Rattle.site_frame.specs.Laws.{WrittenIsRead, OneRecord, NoRefusal, SpelledOrRefused, OneRefusal, SpelledLength, WrittenSpells}
+use Rattle.site_frame.specs.Laws.{WrittenIsRead, OneRecord, NoRefusal, SpelledOrRefused, OneRefusal, SpelledLength}
+use Rattle.site_frame.specs.Laws.{WrittenSpells}
 use Rattle.site_frame.specs.Laws.{HeadLength, WrittenLength, BlocksInOrder}
 use Rattle.site_frame.specs.declared.fault.RecordWhy.{RecordWhy}
 use Rattle.site_frame.specs.declared.fault.RecordWhy.TheVariants.{Head, Kind, Length, Order, OffGrid}
@@ -83,7 +88,8 @@ head_or bytes =
     (and_or (at 1 0x32) (and_or (at 2 0x46) (and_or (at 3 0x52) (and_or (at 5 0) (and_or (at 6 0) (at 7 0)))))))) [
       | inl (w, (a, (b, (c, (d, (x, (y, z))))))) ↦
           inl (record { whole = w; first = a; second = b; third = c; fourth = d; zero0 = x; zero1 = y; zero2 = z })
-      | inr none ↦ inr (λ h. none (h.whole, (h.first, (h.second, (h.third, (h.fourth, (h.zero0, (h.zero1, h.zero2))))))))
+      | inr none ↦ inr (λ h. none
+          (h.whole, (h.first, (h.second, (h.third, (h.fourth, (h.zero0, (h.zero1, h.zero2))))))))
     ]
 
 kind_or : (bytes : List ℕ) → HasKind bytes ⊎ (¬ (HasKind bytes))
@@ -100,7 +106,8 @@ record Taken (bytes : List ℕ) : Type 0 where
   pub len : ℕ
   pub is : IsRead bytes view len
 
-view_or : (bytes : List ℕ) (r : Option RecordView) → view_in (slice_index bytes 4) (told_moment bytes) (told_rest bytes) ≡ r
+view_or : (bytes : List ℕ) (r : Option RecordView) → view_in (slice_index bytes 4) (told_moment bytes)
+    (told_rest bytes) ≡ r
     → HasHead bytes → HasKind bytes → told_len bytes ≤ greatest_rest → 24 + told_len bytes ≤ length bytes
     → Taken bytes ⊎ IsRefused bytes Length
 view_or bytes (Some view) e head kind small inside =
@@ -123,7 +130,8 @@ length_or bytes head kind = elim (cases_lt greatest_rest (told_len bytes)) [
   | inl long ↦ inr (head, kind, inl long)
   | inr small ↦ elim (cases_lt (length bytes) (24 + told_len bytes)) [
     | inl short ↦ inr (head, kind, inr (inl short))
-    | inr inside ↦ view_or bytes (view_in (slice_index bytes 4) (told_moment bytes) (told_rest bytes)) refl head kind small inside
+    | inr inside ↦ view_or bytes (view_in (slice_index bytes 4) (told_moment bytes) (told_rest bytes))
+        refl head kind small inside
   ]
 ]
 
@@ -178,7 +186,8 @@ length-block b second =
 
 blocks_cons : (b : Block) (second : ℕ) (bs : List Block) (more : List ℕ) → length more ≡ sum_by block_size bs
     → length (block_bytes b second ++ more) ≡ sum_by block_size (b ∷ bs)
-blocks_cons b second bs more e = length-append (block_bytes b second) more ∙ ap₂ (λ (m n : ℕ). m + n) (length-block b second) e
+blocks_cons b second bs more e = length-append (block_bytes b second) more
+    ∙ ap₂ (λ (m n : ℕ). m + n) (length-block b second) e
     ∙ sym (sum_by-cons block_size b bs)
 
 length-blocks : (bs : List Block) (ignored : List ℕ) → length (blocks_bytes bs ignored) ≡ sum_by block_size bs
@@ -187,7 +196,8 @@ length-blocks (b ∷ bs) [] = blocks_cons b 0 bs (blocks_bytes bs []) (length-bl
 length-blocks (b ∷ bs) (second ∷ ignored) = blocks_cons b second bs (blocks_bytes bs ignored) (length-blocks bs ignored)
 
 -- the rest of a frame, if L1-post fills so many bytes
-rest_len : (p : FrameParts) (pad : List Bool) (ignored : List ℕ) → length p.pre ≡ 200 → bytes_for (length (p.post ++ pad))
+rest_len : (p : FrameParts) (pad : List Bool) (ignored : List ℕ) → length p.pre ≡ 200
+    → bytes_for (length (p.post ++ pad))
     ≡ bytes_for (length p.post)
     → length (rest_bytes p pad ignored) ≡ 25 + (4 + bytes_for (length p.post)) + (2 + sum_by block_size p.blocks)
     + (4 + 4 * length p.cells)
@@ -234,14 +244,16 @@ filled a b short whole = omega arith
 pub has_len : (view : RecordView) (rest : List ℕ) → HasRest view rest → head_len + length rest ≡ record_len view
 has_len (Frame moment pre post blocks cells) rest h =
     let e : length rest ≡ 25 + (4 + bytes_for (length post)) + (2 + sum_by block_size blocks) + (4 + 4 * length cells) =
-    ap (λ (xs : List ℕ). length xs) h.spelled ∙ rest_len _ h.pad h.ignored h.fits.pre (ap bytes_for (length-append post h.pad)
+    ap (λ (xs : List ℕ). length xs) h.spelled ∙ rest_len _ h.pad h.ignored h.fits.pre
+    (ap bytes_for (length-append post h.pad)
     ∙ filled (length post) (length h.pad) h.short h.whole) in
     omega (arith, e)
 has_len (Muted moment) rest h = ap (λ (xs : List ℕ). head_len + length xs) h
 
 pub spelled_length : SpelledLength
 spelled_length view bytes s =
-    ap (λ (xs : List ℕ). length xs) s.spelled ∙ length-append (head_bytes (kind_of view) (moment_of view) (length s.rest)) s.rest
+    ap (λ (xs : List ℕ). length xs) s.spelled
+    ∙ length-append (head_bytes (kind_of view) (moment_of view) (length s.rest)) s.rest
     ∙ ap (λ (n : ℕ). n + length s.rest) (head_length (kind_of view) (moment_of view) (length s.rest))
     ∙ has_len view s.rest s.parts
 
@@ -295,7 +307,8 @@ zeros_fill post =
     let zeros-len : length (zeros_of post) ≡ n = length-replicate n false in
     let count : bytes_for (length (post ++ zeros_of post)) ≡ bytes_for (length post) =
     omega (arith, length-append post (zeros_of post), zeros-len) in
-    let each : (k : ℕ) → k < length (bytes_of post) → get_or (bytes_of post) k 0 ≡ byte_at (post ++ zeros_of post) k = λ k h.
+    let each : (k : ℕ) → k < length (bytes_of post) → get_or (bytes_of post) k 0 ≡ byte_at (post ++ zeros_of post)
+    k = λ k h.
     get_or-map-range_with_len (byte_at post) 0 (bytes_for (length post)) k k 0 (omega (arith, h, length-bytes_of post))
     (omega arith)
     ∙ sym (zero_byte post n k (omega (arith, h, length-bytes_of post)) (omega arith) (omega arith)

@@ -1,14 +1,15 @@
 -- Lines and strips of words are those of the map.
-use Rattle.std.proofs.Common.{◌≡◌, ℕ, zero, suc, ◌+◌, ◌-◌, ◌*◌, ◌/◌, ◌%◌, ◌<◌, ◌≤◌, ◌==◌, Bool, true, false, List, [], ◌∷◌, ◌++◌}
+use Rattle.std.proofs.Common.{◌≡◌, ℕ, zero, suc, ◌+◌, ◌-◌, ◌*◌, ◌/◌, ◌%◌, ◌<◌, ◌≤◌, ◌==◌, Bool, true, false, List, []}
+use Rattle.std.proofs.Common.{◌∷◌, ◌++◌}
 use Rattle.std.proofs.Common.{length, take, drop, Option, Some}
 use Rattle.std.proofs.Common.{None, refl, ap, ap₂, sym, ◌∙◌, arith, append_assoc, append-nil}
 use Rattle.std.specs.Prelude.{slice_get, unwrap_or, if◌then◌else◌}
 use Rattle.std.specs.FinMap.{get}
 use Rattle.std.specs.List.{flat_map, range_with_len}
 use Rattle.std.proofs.lemmas.Grind.{flat_map-append}
-use Rattle.std.proofs.lemmas.List.{drop-drop}
+use Rattle.std.proofs.lemmas.List.{drop-drop, drop_at}
 use Rattle.std.proofs.lemmas.Bool.{eqb-true}
-use Rattle.std.proofs.lemmas.Nat.{mul-le, div-add-mod'}
+use Rattle.std.proofs.lemmas.Nat.{div-add-mod'}
 use Rattle.byteorder.specs.Endian.{big_bytes, big_number}
 use Rattle.byteorder.specs.Numbers.{big_number-reads_back}
 use Rattle.terms.proofs.RangeLemmas.{places_more}
@@ -36,7 +37,8 @@ flat_more f n =
     ap (flat_map f) (places_more n) ∙ flat_map-append f (range_with_len 0 n) (n ∷ [])
     ∙ ap (λ (l : List ℕ). flat_map f (range_with_len 0 n) ++ l) (append-nil (f n))
 
-pub line_more : (word stride n : ℕ) → line_bytes word stride (n + 1) ≡ line_bytes word stride n ++ big_bytes 4 (word + n * stride)
+pub line_more : (word stride n : ℕ) → line_bytes word stride (n + 1) ≡ line_bytes word stride n
+    ++ big_bytes 4 (word + n * stride)
 line_more word stride n = flat_more (λ z. big_bytes 4 (word + z * stride)) n
 
 pub strip_more : (strip : Strip) (n : ℕ) → strip_bytes strip (n + 1) ≡ strip_bytes strip n
@@ -44,7 +46,8 @@ pub strip_more : (strip : Strip) (n : ℕ) → strip_bytes strip (n + 1) ≡ str
 strip_more strip n = flat_more (λ b. line_bytes (first_word strip b) strip.stride strip.columns) n
 
 -- what was put, and one part more
-pub part_on : (old out new done part all : List ℕ) (at to : ℕ) → take at out ≡ old ++ done → take to new ≡ take at out ++ part
+pub part_on : (old out new done part all : List ℕ) (at to : ℕ) → take at out ≡ old ++ done
+    → take to new ≡ take at out ++ part
     → all ≡ done ++ part → take to new ≡ old ++ all
 part_on old out new done part all at to e f g = f ∙ ap (λ (l : List ℕ). l ++ part) e ∙ append_assoc old done part
     ∙ ap (λ (l : List ℕ). old ++ l) (sym g)
@@ -64,10 +67,12 @@ line_words c shape frame address word stride (suc n) h =
     ∙ ap (line_bytes word stride) (sym e)
 
 -- the cells of a block of a strip
-block_line : (c : Config) (shape : FrameShape) (frame : ℕ) (address : ℕ) (strip : Strip) (b : ℕ) → ((z : ℕ) → z < strip.columns
+block_line : (c : Config) (shape : FrameShape) (frame : ℕ) (address : ℕ) (strip : Strip) (b : ℕ)
+    → ((z : ℕ) → z < strip.columns
     → get (cell_map c shape frame) (address + (strip.columns * b + z))
     ≡ Some (record { ordinal = strip.first.ordinal + b; cell = strip.first.cell + z * strip.stride }))
-    → words c shape frame (address + strip.columns * b) strip.columns ≡ line_bytes (first_word strip b) strip.stride strip.columns
+    → words c shape frame (address + strip.columns * b) strip.columns ≡ line_bytes (first_word strip b)
+    strip.stride strip.columns
 block_line c shape frame address strip b h =
     line_words c shape frame (address + strip.columns * b) (first_word strip b) strip.stride strip.columns
     (λ z l.
@@ -76,7 +81,8 @@ block_line c shape frame address strip b h =
     * strip.stride = omega arith in
     ap (word_at c shape frame) at ∙ ap cell_bytes (h z l) ∙ ap (big_bytes 4) word)
 
-blocks_words : (c : Config) (shape : FrameShape) (frame : ℕ) (address : ℕ) (strip : Strip) (n : ℕ) → ((b z : ℕ) → b < n → z
+blocks_words : (c : Config) (shape : FrameShape) (frame : ℕ) (address : ℕ) (strip : Strip) (n : ℕ)
+    → ((b z : ℕ) → b < n → z
     < strip.columns
     → get (cell_map c shape frame) (address + (strip.columns * b + z))
     ≡ Some (record { ordinal = strip.first.ordinal + b; cell = strip.first.cell + z * strip.stride }))
@@ -88,7 +94,8 @@ blocks_words c shape frame address strip (suc n) h =
     let wide : strip.columns * suc n ≡ strip.columns * n + strip.columns = omega arith in
     ap (words c shape frame address) wide
     ∙ words_split c shape frame (strip.columns * n) strip.columns address
-    ∙ ap₂ (λ (x y : List ℕ). x ++ y) (blocks_words c shape frame address strip n (λ b z p q. h b z (omega (arith, p)) q))
+    ∙ ap₂ (λ (x y : List ℕ). x ++ y) (blocks_words c shape frame address strip n
+    (λ b z p q. h b z (omega (arith, p)) q))
     (block_line c shape frame address strip n (λ z l. h n z (omega arith) l))
     ∙ sym (strip_more strip n)
     ∙ ap (strip_bytes strip) (sym e)
@@ -117,7 +124,8 @@ stretch_fits law c shape frame address (Blocks strip) plan passes some h =
     let last : strip.blocks - 1 < strip.blocks = omega (arith, blocks) in
     let small = λ (b z : ℕ) (p : b < strip.blocks) (q : z < strip.columns).
     law c shape frame (address + (strip.columns * b + z))
-    (record { ordinal = strip.first.ordinal + b; cell = strip.first.cell + z * strip.stride }) plan passes (h b z p q) in
+    (record { ordinal = strip.first.ordinal + b; cell = strip.first.cell + z * strip.stride }) plan passes
+    (h b z p q) in
     let top = small (strip.blocks - 1) 0 last columns in
     let none : 0 * strip.stride ≡ 0 = omega arith in
     record {
@@ -131,17 +139,13 @@ stretch_fits law c shape frame address (Blocks strip) plan passes some h =
     positive a (suc b) h = omega arith
 
 -- ---- what words spell
-fits_at : CellsFit → (c : Config) (shape : FrameShape) (frame : ℕ) (address : ℕ) → IsPlan c → Passes c shape → (o : Option Cell)
+fits_at : CellsFit → (c : Config) (shape : FrameShape) (frame : ℕ) (address : ℕ) → IsPlan c → Passes c shape
+    → (o : Option Cell)
     → get (cell_map c shape frame) address ≡ o → FitsCell o
 fits_at law c shape frame address plan passes None e = tt
 fits_at law c shape frame address plan passes (Some cell) e =
     let small = law c shape frame address cell plan passes e in
     (omega (arith, small), omega (arith, small))
-
-pub drop_at : (xs ys : List ℕ) (n : ℕ) → length xs ≡ n → drop n (xs ++ ys) ≡ ys
-drop_at [] ys n e = let none : n ≡ 0 = sym e in ap (λ (k : ℕ). drop k ys) none
-drop_at (x ∷ xs) ys zero e = absurd (omega (arith, e))
-drop_at (x ∷ xs) ys (suc n) e = drop_at xs ys n (omega (arith, e))
 
 -- the word of a cell, found among them
 word_in : CellsFit → (c : Config) (shape : FrameShape) (frame : ℕ) (address n i : ℕ) → IsPlan c → Passes c shape → i < n
@@ -164,12 +168,14 @@ word_in law c shape frame address n i plan passes l =
 pub agreed : CellsFit → (c : Config) (shape : FrameShape) (frame : ℕ) (address n i : ℕ) (cells : List (Option Cell))
     (bytes buffer : List ℕ)
     → IsPlan c → Passes c shape → i < n → address + n ≤ length cells
-    → cells ≡ cells_in (length cells) bytes → buffer ≡ words c shape frame address n → big_number 4 (drop (4 * i) buffer)
+    → cells ≡ cells_in (length cells) bytes → buffer ≡ words c shape frame address n
+    → big_number 4 (drop (4 * i) buffer)
     ≡ big_number 4 (drop (4 * i) (drop (4 * address) bytes))
     → slice_get cells (address + i) ≡ Some (get (cell_map c shape frame) (address + i))
 agreed law c shape frame address n i cells bytes buffer plan passes l inside e f same =
     let o : Option Cell = get (cell_map c shape frame) (address + i) in
-    let d : drop (4 * i) (drop (4 * address) bytes) ≡ drop (4 * (address + i)) bytes = drop-drop (4 * i) (4 * address) bytes
+    let d : drop (4 * i) (drop (4 * address) bytes) ≡ drop (4 * (address + i)) bytes = drop-drop (4 * i)
+    (4 * address) bytes
     ∙ ap (λ (m : ℕ). drop m bytes) (omega arith) in
     let word : big_number 4 (drop (4 * (address + i)) bytes) ≡ word_of o =
     ap (big_number 4) (sym d) ∙ sym same ∙ ap (λ (l : List ℕ). big_number 4 (drop (4 * i) l)) f
@@ -197,7 +203,8 @@ pub agrees : CellsFit → (c : Config) (shape : FrameShape) (frame : ℕ) (addre
     → big_number 4 (drop (4 * i) buffer) ≡ big_number 4 (drop (4 * i) (drop (4 * address) bytes))
 agrees law c shape frame address n i cells bytes buffer plan passes l inside e f there =
     let o : Option Cell = get (cell_map c shape frame) (address + i) in
-    let d : drop (4 * i) (drop (4 * address) bytes) ≡ drop (4 * (address + i)) bytes = drop-drop (4 * i) (4 * address) bytes
+    let d : drop (4 * i) (drop (4 * address) bytes) ≡ drop (4 * (address + i)) bytes = drop-drop (4 * i)
+    (4 * address) bytes
     ∙ ap (λ (m : ℕ). drop m bytes) (omega arith) in
     let w : ℕ = big_number 4 (drop (4 * (address + i)) bytes) in
     let found : Some (cell_of w) ≡ Some o = sym (cell_at (length cells) (address + i) bytes (omega (arith, l, inside)))

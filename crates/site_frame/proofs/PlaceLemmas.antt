@@ -28,7 +28,8 @@ one_frame law c moment m n rules f g = law c m n rules (sym f.emission-is ∙ g.
 abbrev told : ℕ → Result ℕ RecordWhy
 told frame = Ok frame
 
-pub every_placed : EmissionsDiffer → (c : Config) (expected : Option ℕ) (moment : Moment) (r : Result ℕ RecordWhy) → AllRules c
+pub every_placed : EmissionsDiffer → (c : Config) (expected : Option ℕ) (moment : Moment) (r : Result ℕ RecordWhy)
+    → AllRules c
     → IfOk r (IsPlaced c expected moment) → IfErr r (RefusesPlace c expected moment)
     → (n : ℕ) → IsPlaced c expected moment n → r ≡ Ok n
 every_placed law c expected moment (Ok m) rules ok err n h = ap told (one_frame law c moment m n rules ok.0 h.0)
@@ -39,7 +40,8 @@ every_placed law c expected moment (Err Order) rules ok err n h =
     absurd (err.order (subst (IsExpected expected) (one_frame law c moment n err.frame rules h.0 err.of) h.1))
 every_placed law c expected moment (Err OffGrid) rules ok err n h = absurd (err n h.0.small h.0.emission-is)
 
-pub every_refused : EmissionsDiffer → (c : Config) (expected : Option ℕ) (moment : Moment) (r : Result ℕ RecordWhy) → AllRules c
+pub every_refused : EmissionsDiffer → (c : Config) (expected : Option ℕ) (moment : Moment) (r : Result ℕ RecordWhy)
+    → AllRules c
     → IfOk r (IsPlaced c expected moment) → IfErr r (RefusesPlace c expected moment)
     → (why : RecordWhy) → RefusesPlace c expected moment why → r ≡ Err why
 every_refused law c expected moment r rules ok err Head h = absurd h
@@ -52,9 +54,11 @@ every_refused law c expected moment (Err Head) rules ok err Order h = absurd err
 every_refused law c expected moment (Err Kind) rules ok err Order h = absurd err
 every_refused law c expected moment (Err Length) rules ok err Order h = absurd err
 every_refused law c expected moment (Err Order) rules ok err Order h = refl
-every_refused law c expected moment (Err OffGrid) rules ok err Order h = absurd (err h.frame h.of.small h.of.emission-is)
+every_refused law c expected moment (Err OffGrid) rules ok err Order h = absurd
+    (err h.frame h.of.small h.of.emission-is)
 every_refused law c expected moment (Err Head) rules ok err OffGrid h = absurd err
 every_refused law c expected moment (Err Kind) rules ok err OffGrid h = absurd err
 every_refused law c expected moment (Err Length) rules ok err OffGrid h = absurd err
-every_refused law c expected moment (Err Order) rules ok err OffGrid h = absurd (h err.frame err.of.small err.of.emission-is)
+every_refused law c expected moment (Err Order) rules ok err OffGrid h = absurd
+    (h err.frame err.of.small err.of.emission-is)
 every_refused law c expected moment (Err OffGrid) rules ok err OffGrid h = refl

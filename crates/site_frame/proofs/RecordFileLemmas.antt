@@ -1,5 +1,6 @@
 -- Records one behind another: one more, and the first of them.
-use Rattle.std.proofs.Common.{◌≡◌, ℕ, ◌+◌, ◌≤◌, List, [], ◌∷◌, ◌++◌, length, take, drop, refl, ap, sym, subst, ◌∙◌, arith}
+use Rattle.std.proofs.Common.{◌≡◌, ℕ, ◌+◌, ◌≤◌, List, [], ◌∷◌, ◌++◌, length, take, drop, refl, ap, sym, subst, ◌∙◌}
+use Rattle.std.proofs.Common.{arith}
 use Rattle.std.proofs.Common.{length-append, length-drop}
 use Rattle.std.proofs.lemmas.List.{take-append-le, take-append-drop, drop-append-le}
 use Rattle.std.proofs.Math.ListN.{drop_of_length-le}
@@ -29,15 +30,22 @@ records_on file more rest (v ∷ vs) (len, begins, others) = (
 )
 
 -- the records of a front of a file are its first ones
-pub records_file : (file front more rest : List ℕ) (views : List RecordView) → file ≡ front ++ more → AreRecords front views rest
+pub records_file : (file front more rest : List ℕ) (views : List RecordView) → file ≡ front ++ more
+    → AreRecords front views rest
     → AreRecords file views (rest ++ more)
 records_file file front more rest views is h =
     subst (λ (l : List ℕ). AreRecords l views (rest ++ more)) (sym is) (records_on front more rest views h)
 
 -- one more record began what was left
-pub records_more : (file rest : List ℕ) (views : List RecordView) (view : RecordView) (len : ℕ) → AreRecords file views rest
+pub records_more : (file rest : List ℕ) (views : List RecordView) (view : RecordView) (len : ℕ)
+    → AreRecords file views rest
     → BeginsWith rest view len → AreRecords file (views ++ view ∷ []) (drop len rest)
-records_more file rest [] view len e begins = (len, subst (λ (l : List ℕ). BeginsWith l view len) (sym e) begins, ap (drop len) e)
+records_more file rest [] view len e begins = (
+  len,
+  subst (λ (l : List ℕ). BeginsWith l view len) (sym e)
+      begins,
+  ap (drop len) e,
+)
 records_more file rest (v ∷ vs) view len (first, b, others) begins =
     (first, b, records_more (drop first file) rest vs view len others begins)
 
@@ -45,11 +53,13 @@ records_more file rest (v ∷ vs) view len (first, b, others) begins =
 pub records_first : (file rest : List ℕ) (vs ws : List RecordView) → AreRecords file (vs ++ ws) rest → (mid : List ℕ)
     × AreRecords file vs mid
 records_first file rest [] ws h = (file, refl)
-records_first file rest (v ∷ vs) ws (len, begins, others) = let more = records_first (drop len file) rest vs ws others in
+records_first file rest (v ∷ vs) ws (len, begins, others) = let more = records_first (drop len file)
+    rest vs ws others in
     (more.0, (len, begins, more.1))
 
 -- a rest of a file is no longer than the file
-pub rest_inside : (file rest : List ℕ) (views : List RecordView) → AreRecords file views rest → length rest ≤ length file
+pub rest_inside : (file rest : List ℕ) (views : List RecordView) → AreRecords file views rest
+    → length rest ≤ length file
 rest_inside file rest [] e = omega (arith, ap length e)
 rest_inside file rest (v ∷ vs) (len, begins, others) =
     omega (arith, rest_inside (drop len file) rest vs others, length-drop len file)
@@ -74,7 +84,8 @@ whole_len bytes view len rest a b =
     a.1.exact (drop head_len bytes) view len
     (subst (λ (l : List ℕ). BeginsWith l view len) (sym (take-append-drop head_len bytes)) b)
 
-pub none_left : (bytes : List ℕ) (view : RecordView) (len rest : ℕ) → Announces bytes rest → length bytes ≡ head_len + rest
+pub none_left : (bytes : List ℕ) (view : RecordView) (len rest : ℕ) → Announces bytes rest
+    → length bytes ≡ head_len + rest
     → BeginsWith bytes view len → drop len bytes ≡ []
 none_left bytes view len rest a whole b =
     drop_of_length-le bytes (let e = whole_len bytes view len rest a b in omega (arith, e, whole))

@@ -1,6 +1,8 @@
 -- What is refused of a record that has come whole is refused whatever follows.
-use Rattle.std.proofs.Common.{◌≡◌, ℕ, ◌+◌, ◌^◌, ◌<◌, List, ◌++◌, length, take, drop, sym, ap, subst, ◌∙◌, arith, append_assoc}
-use Rattle.std.proofs.lemmas.List.{take-append-le, take-append-drop, drop-append-le, drop_at, length-append, length-drop}
+use Rattle.std.proofs.Common.{◌≡◌, ℕ, ◌+◌, ◌^◌, ◌<◌, List, ◌++◌, length, take, drop, sym, ap, subst, ◌∙◌, arith}
+use Rattle.std.proofs.Common.{append_assoc}
+use Rattle.std.proofs.lemmas.List.{take-append-le, take-append-drop, drop-append-le, drop_at, length-append}
+use Rattle.std.proofs.lemmas.List.{length-drop}
 use Rattle.std.proofs.lemmas.List.{length-take-le}
 use Rattle.byteorder.specs.Endian.{big_number, big_bytes}
 use Rattle.byteorder.specs.Numbers.{big_number-reads_back, length-bytes_high_first}
@@ -13,7 +15,8 @@ use Rattle.site_frame.specs.declared.fault.RecordWhy.TheVariants.{Head, Kind, Le
 use Rattle.site_frame.specs.RecordFile.{Announces}
 
 -- what a head tells is the length of the rest
-told_in : (kind : ℕ) (moment : Moment) (len : ℕ) (rest : List ℕ) → len < 256 ^ 4 → told_len (head_bytes kind moment len ++ rest)
+told_in : (kind : ℕ) (moment : Moment) (len : ℕ) (rest : List ℕ) → len < 256 ^ 4
+    → told_len (head_bytes kind moment len ++ rest)
     ≡ len
 told_in kind moment len rest small =
     let front : List ℕ = big_bytes 8 moment.seconds ++ big_bytes 4 moment.subseconds in
@@ -31,7 +34,8 @@ told_in kind moment len rest small =
     ∙ append_assoc front (big_bytes 4 len) rest in
     let behind : drop 12 (front ++ (big_bytes 4 len ++ rest)) ≡ big_bytes 4 len ++ rest =
     drop_at front (big_bytes 4 len ++ rest) 12 size in
-    ap (λ (l : List ℕ). big_number 4 (drop 12 l)) parts ∙ ap (big_number 4) behind ∙ big_number-reads_back 4 len rest small
+    ap (λ (l : List ℕ). big_number 4 (drop 12 l)) parts ∙ ap (big_number 4) behind
+    ∙ big_number-reads_back 4 len rest small
 
 head_size : (kind : ℕ) (moment : Moment) (len : ℕ) → length (head_bytes kind moment len) ≡ head_len
 head_size kind moment len =
@@ -54,12 +58,14 @@ follow_told head len size f =
     let bytes : List ℕ = take (head_len + len) whole in
     let s = begins.spells in
     let n = length-take-le (head_len + len) whole begins.inside in
-    let spelled : bytes ≡ head_bytes (kind_of f.some.view) (moment_of f.some.view) (length s.rest) ++ s.rest = s.spelled in
+    let spelled : bytes ≡ head_bytes (kind_of f.some.view) (moment_of f.some.view) (length s.rest)
+    ++ s.rest = s.spelled in
     let sum = ap length spelled in
     let both = length-append (head_bytes (kind_of f.some.view) (moment_of f.some.view) (length s.rest)) s.rest in
     let first = head_size (kind_of f.some.view) (moment_of f.some.view) (length s.rest) in
     let rest : length s.rest ≡ len = omega (arith, n, sum, both, first) in
-    let told : told_len bytes ≡ length s.rest = ap told_len spelled ∙ told_in (kind_of f.some.view) (moment_of f.some.view)
+    let told : told_len bytes ≡ length s.rest = ap told_len spelled ∙ told_in (kind_of f.some.view)
+    (moment_of f.some.view)
     (length s.rest) s.rest (let few = s.small in omega (arith, few)) in
     let front : told_len whole ≡ told_len bytes = ap told_len (sym (take-append-drop (head_len + len) whole))
     ∙ told_on bytes (drop (head_len + len) whole) (omega (arith, n)) in
@@ -69,10 +75,12 @@ follow_told head len size f =
 announced : (bytes : List ℕ) (len : ℕ) → Announces bytes len → told_len bytes ≡ len
 announced bytes len a =
     let n = length-take-le head_len bytes a.0 in
-    ap told_len (sym (take-append-drop head_len bytes)) ∙ told_on (take head_len bytes) (drop head_len bytes) (omega (arith, n))
+    ap told_len (sym (take-append-drop head_len bytes)) ∙ told_on (take head_len bytes) (drop head_len bytes)
+    (omega (arith, n))
     ∙ follow_told (take head_len bytes) len n a.1
 
-length_back : (bytes more : List ℕ) (len : ℕ) → Announces bytes len → length bytes ≡ head_len + len → HasLength (bytes ++ more)
+length_back : (bytes more : List ℕ) (len : ℕ) → Announces bytes len → length bytes ≡ head_len + len
+    → HasLength (bytes ++ more)
     → HasLength bytes
 length_back bytes more len a whole h =
     let told : told_len bytes ≡ len = announced bytes len a in
@@ -90,7 +98,8 @@ length_back bytes more len a whole h =
       parts = subst (HasRest h.view) rest h.parts;
     }
 
-pub refused_whole : (bytes more : List ℕ) (len : ℕ) (why : RecordWhy) → Announces bytes len → length bytes ≡ head_len + len
+pub refused_whole : (bytes more : List ℕ) (len : ℕ) (why : RecordWhy) → Announces bytes len
+    → length bytes ≡ head_len + len
     → Refuses bytes why → Refuses (bytes ++ more) why
 refused_whole bytes more len Head a whole r = λ h. r (head_back bytes more a.0 h)
 refused_whole bytes more len Kind a whole r = (head_on bytes more a.0 r.0, λ h. r.1 (kind_back bytes more a.0 h))
@@ -104,7 +113,8 @@ pub short_refused : (bytes : List ℕ) → length bytes < head_len → Refuses b
 short_refused bytes few = λ h. let w = h.whole in absurd (omega (arith, w, few))
 
 -- and within the bytes that a head tells, none that has them
-pub cut_refused : (bytes : List ℕ) (len : ℕ) → Announces bytes len → length bytes < head_len + len → Refuses bytes Length
+pub cut_refused : (bytes : List ℕ) (len : ℕ) → Announces bytes len → length bytes < head_len + len
+    → Refuses bytes Length
 cut_refused bytes len a few =
     let n = length-drop {A = ℕ} head_len bytes in
     let long = a.0 in

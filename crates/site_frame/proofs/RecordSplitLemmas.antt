@@ -1,5 +1,6 @@
 -- A file of bytes is some records, and then nothing or what is no record; and that in one way.
-use Rattle.std.proofs.Common.{◌≡◌, ◌⊎◌, ℕ, zero, suc, ◌+◌, ◌<◌, ◌≤◌, inl, inr, ⊎_elim, List, [], ◌∷◌, ◌++◌, length, take, drop}
+use Rattle.std.proofs.Common.{◌≡◌, ◌⊎◌, ℕ, zero, suc, ◌+◌, ◌<◌, ◌≤◌, inl, inr, ⊎_elim, List, [], ◌∷◌, ◌++◌, length}
+use Rattle.std.proofs.Common.{take, drop}
 use Rattle.std.proofs.Common.{refl, ap, sym, subst, ◌∙◌, arith, length-drop}
 use Rattle.std.proofs.lemmas.List.{take-append-drop, length-take-le, get_or-drop}
 use Rattle.site_frame.specs.Laws.{OneRecord, NoRefusal, SpelledOrRefused}
@@ -46,7 +47,8 @@ same_records one never file rest more (v ∷ vs) (w ∷ ws) (n, b, left) (m, d, 
     (ap (λ (r : RecordView). r ∷ vs) same.0 ∙ ap (λ (rs : List RecordView). w ∷ rs) others.0, others.1)
 
 -- With records behind which none begins, a file begins with no others: with the first of these.
-pub records_within : OneRecord → NoRefusal → (file rest more : List ℕ) (vs ws : List RecordView) → AreRecords file vs rest
+pub records_within : OneRecord → NoRefusal → (file rest more : List ℕ) (vs ws : List RecordView)
+    → AreRecords file vs rest
     → AreRecords file ws more → Stuck rest → (others : List RecordView) × (vs ≡ ws ++ others)
 records_within one never file rest more vs [] h k s = (vs, refl)
 records_within one never file rest more [] (w ∷ ws) h (len, begins, others) s =

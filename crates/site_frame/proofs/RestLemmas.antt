@@ -1,5 +1,6 @@
 -- The rest of a frame's record is spelled by parts exactly if reading gives them.
-use Rattle.std.proofs.Common.{◌≡◌, ℕ, ◌+◌, ◌*◌, ◌/◌, ◌%◌, ◌<◌, ◌==◌, Bool, List, ◌++◌, length, take, drop, Option, Some, refl}
+use Rattle.std.proofs.Common.{◌≡◌, ℕ, ◌+◌, ◌*◌, ◌/◌, ◌%◌, ◌<◌, ◌==◌, Bool, List, ◌++◌, length, take, drop, Option, Some}
+use Rattle.std.proofs.Common.{refl}
 use Rattle.std.proofs.Common.{sym, ap, ap₂, subst, ◌∙◌, append_assoc, append-nil, arith}
 use Rattle.std.specs.List.{flat_map}
 use Rattle.std.proofs.lemmas.Bool.{eqb-true, eq-eqb, cond-true}
@@ -14,7 +15,8 @@ use Rattle.site_frame.specs.Reading.{◌>>=◌, cut, number, skip_blocks, blocks
 use Rattle.site_frame.specs.Rest.{rest_bytes, FitsFrame, IsRest, all_cells, parts_in}
 use Rattle.site_frame.specs.declared.parts.FrameParts.{FrameParts}
 use Rattle.site_frame.proofs.BlockLemmas.{bind_some, length-blocks_in, length-cells_in}
-use Rattle.site_frame.proofs.FieldLemmas.{IsBytes, some_same, cut_again, number_again, blocks_again, length-cells, cells_again}
+use Rattle.site_frame.proofs.FieldLemmas.{IsBytes, some_same, cut_again, number_again, blocks_again, length-cells}
+use Rattle.site_frame.proofs.FieldLemmas.{cells_again}
 use Rattle.site_frame.proofs.FieldLemmas.{cut_takes, number_takes, wide2, wide4, blocks_take, cells_take}
 
 pad_full : (a b : ℕ) → b < 8 → (a + b) % 8 ≡ 0 → a + b ≡ 8 * ((a + 7) / 8)
@@ -54,7 +56,18 @@ rest_again p pad ignored fits short whole =
     let post-bits : take (length p.post) (bits_of (bytes_of filled)) ≡ p.post =
     ap (take (length p.post)) (bits_of-bytes_of filled (bytes_for (length p.post)) long)
     ∙ take_at p.post pad (length p.post) refl in
-    rw (sections_joined p pad ignored) (rw (pre, bits, post, count, blocks.0, cells, last, pre-bits, post-bits, blocks.1) refl)
+    rw (sections_joined p pad ignored) (rw (
+      pre,
+      bits,
+      post,
+      count,
+      blocks.0,
+      cells,
+      last,
+      pre-bits,
+      post-bits,
+      blocks.1,
+    ) refl)
 
 -- the steps of the reader
 abbrev step6 : List ℕ → ℕ → List ℕ → ℕ → List ℕ → List (Option Cell) → Option FrameParts
@@ -115,7 +128,8 @@ rest_taken rest p fits e =
       cells = cells_in cells.0 cells.1;
     } in
     let is : q ≡ p =
-    ap (λ (ws : List (Option Cell)). the_parts (bits_of pre.0) (take bits.0 (bits_of post.0)) (blocks_in count.0 count.1) ws)
+    ap (λ (ws : List (Option Cell)). the_parts (bits_of pre.0) (take bits.0 (bits_of post.0))
+    (blocks_in count.0 count.1) ws)
     c6.1 ∙ some_same _ p b6.2 in
     let pad : List Bool = drop bits.0 (bits_of post.0) in
     let all : length (bits_of post.0) ≡ 8 * bytes_for bits.0 = length-bits_of post.0 ∙ ap (λ (n : ℕ). 8 * n) t2.long in

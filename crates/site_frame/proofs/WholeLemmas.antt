@@ -1,8 +1,10 @@
 -- Bytes begin with a record exactly if the reader takes it.
-use Rattle.std.proofs.Common.{◌≡◌, ◌⊎◌, ℕ, ◌+◌, ◌^◌, ◌<◌, ◌≤◌, List, [], ◌∷◌, ◌++◌, length, take, drop, Option, Some, Result, Ok}
+use Rattle.std.proofs.Common.{◌≡◌, ◌⊎◌, ℕ, ◌+◌, ◌^◌, ◌<◌, ◌≤◌, List, [], ◌∷◌, ◌++◌, length, take, drop, Option, Some}
+use Rattle.std.proofs.Common.{Result, Ok}
 use Rattle.std.proofs.Common.{Err, refl, sym, ap, ap₂, subst, ◌∙◌, append_assoc, arith, inl, inr}
 use Rattle.std.specs.Prelude.{slice_index, IfOk, IfErr}
-use Rattle.std.proofs.lemmas.List.{take_at, drop_at, take-append-drop, drop-drop, length-append, length-take, length-drop}
+use Rattle.std.proofs.lemmas.List.{take_at, drop_at, take-append-drop, drop-drop, length-append, length-take}
+use Rattle.std.proofs.lemmas.List.{length-drop}
 use Rattle.byteorder.specs.Endian.{big_number, big_bytes}
 use Rattle.byteorder.specs.Numbers.{big_number-reads_back, length-bytes_high_first}
 use Rattle.terms.proofs.PartLemmas.{part-add}
@@ -10,7 +12,8 @@ use Rattle.plp_config.specs.declared.moment.Moment.{Moment}
 use Rattle.site_frame.specs.Record.{head_bytes, FitsMoment}
 use Rattle.site_frame.specs.Reading.{◌>>=◌}
 use Rattle.site_frame.specs.Rest.{IsRest, parts_in}
-use Rattle.site_frame.specs.Whole.{kind_of, moment_of, HasRest, Spells, BeginsWith, HasHead, told_moment, told_len, told_rest}
+use Rattle.site_frame.specs.Whole.{kind_of, moment_of, HasRest, Spells, BeginsWith, HasHead, told_moment, told_len}
+use Rattle.site_frame.specs.Whole.{told_rest}
 use Rattle.site_frame.specs.Whole.{HasLength, Refuses, framed, muted_in, view_in, IsRead, IsBad, IsRefused}
 use Rattle.site_frame.specs.declared.parts.FrameParts.{FrameParts}
 use Rattle.site_frame.specs.declared.fault.RecordWhy.{RecordWhy}
@@ -54,7 +57,8 @@ record Seen (kind : ℕ) (moment : Moment) (rest : List ℕ) (view : RecordView)
   pub moment-is : moment_of view ≡ moment
   pub parts : HasRest view rest
 
-frame_taken : (moment : Moment) (rest : List ℕ) (view : RecordView) → IsBytes rest → (parts_in rest >>= framed moment) ≡ Some view
+frame_taken : (moment : Moment) (rest : List ℕ) (view : RecordView) → IsBytes rest
+    → (parts_in rest >>= framed moment) ≡ Some view
     → Seen 1 moment rest view
 frame_taken moment rest view fits e =
     let b = bind_some (parts_in rest) (framed moment) view e in
@@ -62,7 +66,8 @@ frame_taken moment rest view fits e =
     subst (λ (v : RecordView). Seen 1 moment rest v) (some_same _ view b.2)
     (record { kind-is = refl; moment-is = refl; parts = t })
 
-muted_taken : (moment : Moment) (rest : List ℕ) (view : RecordView) → muted_in moment rest ≡ Some view → Seen 2 moment rest view
+muted_taken : (moment : Moment) (rest : List ℕ) (view : RecordView) → muted_in moment rest ≡ Some view
+    → Seen 2 moment rest view
 muted_taken moment [] view e = subst (λ (v : RecordView). Seen 2 moment [] v) (some_same _ view e)
     (record { kind-is = refl; moment-is = refl; parts = refl })
 muted_taken moment (x ∷ rest) view e = absurd cc
@@ -76,7 +81,8 @@ view_taken kind moment rest view fits (inr is) e =
     let two : view_in 2 moment rest ≡ Some view = subst (λ (k : ℕ). view_in k moment rest ≡ Some view) is e in
     subst (λ (k : ℕ). Seen k moment rest view) (sym is) (muted_taken moment rest view two)
 
-pub begun : (bytes : List ℕ) (view : RecordView) (len : ℕ) → IsBytes bytes → IsRead bytes view len → BeginsWith bytes view len
+pub begun : (bytes : List ℕ) (view : RecordView) (len : ℕ) → IsBytes bytes → IsRead bytes view len
+    → BeginsWith bytes view len
 begun bytes view len fits r =
     let n : ℕ = told_len bytes in
     let rest : List ℕ = told_rest bytes in
@@ -84,7 +90,8 @@ begun bytes view len fits r =
     (IsBytes-take n (drop 24 bytes) (IsBytes-drop 24 bytes fits)) r.kind r.view-is in
     let size : length rest ≡ n = omega (arith, r.inside, length-take n (drop 24 bytes), length-drop {A = ℕ} 24 bytes) in
     let w0 = wide8 (drop 8 bytes) (IsBytes-drop 8 bytes fits) (omega (arith, r.inside, length-drop {A = ℕ} 8 bytes)) in
-    let w1 = wide4 (drop 16 bytes) (IsBytes-drop 16 bytes fits) (omega (arith, r.inside, length-drop {A = ℕ} 16 bytes)) in
+    let w1 = wide4 (drop 16 bytes) (IsBytes-drop 16 bytes fits)
+    (omega (arith, r.inside, length-drop {A = ℕ} 16 bytes)) in
     let moment-fits : FitsMoment (told_moment bytes) = (w0.1, w1.1) in
     let parts : take len bytes ≡ take 24 bytes ++ rest = ap (λ (k : ℕ). take k bytes) r.end ∙ part-add bytes 0 24 n in
     let head : take 24 bytes ≡ head_bytes (kind_of view) (moment_of view) (length rest) =
@@ -126,9 +133,11 @@ told kind moment n more fits small =
     let d8 : drop 8 bytes ≡ s8 ++ ((s4 ++ n4) ++ more) = append_assoc s8 (s4 ++ n4) more in
     let d16 : drop 16 bytes ≡ s4 ++ (n4 ++ more) = sym (drop-drop 8 8 bytes) ∙ ap (drop 8) d8
     ∙ drop_at s8 ((s4 ++ n4) ++ more) 8 l8 ∙ append_assoc s4 n4 more in
-    let d20 : drop 20 bytes ≡ n4 ++ more = sym (drop-drop 4 16 bytes) ∙ ap (drop 4) d16 ∙ drop_at s4 (n4 ++ more) 4 l4 in
+    let d20 : drop 20 bytes ≡ n4 ++ more = sym (drop-drop 4 16 bytes) ∙ ap (drop 4) d16
+    ∙ drop_at s4 (n4 ++ more) 4 l4 in
     let d24 : drop 24 bytes ≡ more = sym (drop-drop 4 20 bytes) ∙ ap (drop 4) d20 ∙ drop_at n4 more 4 ln in
-    let seconds : big_number 8 (drop 8 bytes) ≡ moment.seconds = ap (big_number 8) d8 ∙ big_number-reads_back 8 moment.seconds
+    let seconds : big_number 8 (drop 8 bytes) ≡ moment.seconds = ap (big_number 8) d8
+    ∙ big_number-reads_back 8 moment.seconds
     ((s4 ++ n4) ++ more) fits.0 in
     let subseconds : big_number 4 (drop 16 bytes) ≡ moment.subseconds = ap (big_number 4) d16
     ∙ big_number-reads_back 4 moment.subseconds (n4 ++ more) fits.1 in
@@ -254,7 +263,8 @@ refused bytes Length r = (r.0, r.1, λ h. not_bad bytes h r.2)
 refused bytes Order r = r
 refused bytes OffGrid r = r
 
-not_refused : (bytes : List ℕ) (view : RecordView) (len : ℕ) → IsRead bytes view len → (why : RecordWhy) → ¬ (IsRefused bytes why)
+not_refused : (bytes : List ℕ) (view : RecordView) (len : ℕ) → IsRead bytes view len → (why : RecordWhy)
+    → ¬ (IsRefused bytes why)
 not_refused bytes view len r Head h = h r.head
 not_refused bytes view len r Kind h = h.1 r.kind
 not_refused bytes view len r Length (head, kind, inl long) = absurd (omega (arith, long, r.small))
@@ -265,12 +275,14 @@ not_refused bytes view len r OffGrid h = h
 
 -- ---- of an answer
 
-pub ok_begun : (bytes : List ℕ) (r : Result (RecordView × ℕ) RecordWhy) → IsBytes bytes → IfOk r (λ x. IsRead bytes x.0 x.1)
+pub ok_begun : (bytes : List ℕ) (r : Result (RecordView × ℕ) RecordWhy) → IsBytes bytes
+    → IfOk r (λ x. IsRead bytes x.0 x.1)
     → IfOk r (λ x. BeginsWith bytes x.0 x.1)
 ok_begun bytes (Ok x) fits h = begun bytes x.0 x.1 fits h
 ok_begun bytes (Err e) fits h = tt
 
-pub err_refused : (bytes : List ℕ) (r : Result (RecordView × ℕ) RecordWhy) → IfErr r (IsRefused bytes) → IfErr r (Refuses bytes)
+pub err_refused : (bytes : List ℕ) (r : Result (RecordView × ℕ) RecordWhy) → IfErr r (IsRefused bytes)
+    → IfErr r (Refuses bytes)
 err_refused bytes (Ok x) h = tt
 err_refused bytes (Err e) h = refused bytes e h
 

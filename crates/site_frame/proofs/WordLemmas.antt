@@ -1,5 +1,6 @@
 -- The words of cells, in parts.
-use Rattle.std.proofs.Common.{◌≡◌, ℕ, zero, suc, ◌+◌, ◌*◌, List, ◌++◌, length, refl, ap, ap₂, sym, ◌∙◌, arith, append_assoc}
+use Rattle.std.proofs.Common.{◌≡◌, ℕ, zero, suc, ◌+◌, ◌*◌, List, ◌++◌, length, refl, ap, ap₂, sym, ◌∙◌, arith}
+use Rattle.std.proofs.Common.{append_assoc}
 use Rattle.std.proofs.Common.{append-nil, length-append}
 use Rattle.std.specs.FinMap.{get}
 use Rattle.plp_config.specs.declared.config.Config.{Config}
@@ -27,17 +28,21 @@ words_split c shape frame (suc n) m address =
     ∙ ap (λ (l : List ℕ). word_at c shape frame address ++ l) (words_split c shape frame n m (address + 1))
     ∙ sym (append_assoc (word_at c shape frame address) (words c shape frame (address + 1) n) (words c shape frame
     (address + 1 + n) m))
-    ∙ ap (λ (a : ℕ). (word_at c shape frame address ++ words c shape frame (address + 1) n) ++ words c shape frame a m) f
+    ∙ ap (λ (a : ℕ). (word_at c shape frame address ++ words c shape frame (address + 1) n) ++ words c shape frame a m)
+    f
 
 -- one cell more
 pub words_more : (c : Config) (shape : FrameShape) (frame : ℕ) (n address : ℕ) → words c shape frame address (n + 1)
     ≡ words c shape frame address n
     ++ word_at c shape frame (address + n)
-words_more c shape frame n address = words_split c shape frame n 1 address ∙ ap (λ (l : List ℕ). words c shape frame address n
+words_more c shape frame n address = words_split c shape frame n 1 address
+    ∙ ap (λ (l : List ℕ). words c shape frame address n
     ++ l)
     (append-nil (word_at c shape frame (address + n)))
 
-pub length-words : (c : Config) (shape : FrameShape) (frame : ℕ) (n address : ℕ) → length (words c shape frame address n) ≡ 4 * n
+pub length-words : (c : Config) (shape : FrameShape) (frame : ℕ) (n address : ℕ)
+    → length (words c shape frame address n) ≡ 4 * n
 length-words c shape frame zero address = refl
-length-words c shape frame (suc n) address = length-append (word_at c shape frame address) (words c shape frame (address + 1) n)
+length-words c shape frame (suc n) address = length-append (word_at c shape frame address)
+    (words c shape frame (address + 1) n)
     ∙ (let h = length-words c shape frame n (address + 1) in omega (arith, h))

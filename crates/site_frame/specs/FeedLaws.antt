@@ -14,7 +14,8 @@ Lacks rest left = (length rest + left ≡ head_len) ⊎ IsBegun rest left
 
 -- If a feed takes bytes, they are lacking, and the file has not ended.
 abbrev pub TakesOn : Type 0
-TakesOn = (f : RecordFeed) (views : List RecordView) (came : List ℕ) (ended : Bool) (s : RecordFeedStandsFor f views came ended)
+TakesOn = (f : RecordFeed) (views : List RecordView) (came : List ℕ) (ended : Bool)
+    (s : RecordFeedStandsFor f views came ended)
     → 0 < lacks_of f → Lacks s.rest (lacks_of f) × (ended ≡ false)
 
 -- With no more of the bytes that are lacking, what came ends within the head or within the record.
@@ -24,5 +25,6 @@ LacksWithin = (rest more : List ℕ) (left count : ℕ) → Lacks rest left → 
 
 -- No record is held back: one that has come whole is looked at before more bytes are taken, if there is memory.
 abbrev pub NoneWaits : Type 0
-NoneWaits = (f : RecordFeed) (views : List RecordView) (came : List ℕ) (ended : Bool) (s : RecordFeedStandsFor f views came ended)
+NoneWaits = (f : RecordFeed) (views : List RecordView) (came : List ℕ) (ended : Bool)
+    (s : RecordFeedStandsFor f views came ended)
     → coming_of f ≢ Whole → coming_of f ≢ NoRoom → (view : RecordView) (len : ℕ) → ¬ (BeginsWith s.rest view len)

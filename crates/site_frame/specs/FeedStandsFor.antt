@@ -62,5 +62,6 @@ pub record RecordFeedStandsFor (f : RecordFeed) (views : List RecordView) (came 
 
 -- These bytes more came of the file.
 abbrev pub Takes : RecordFeed → RecordFeed → List ℕ → Type 0
-Takes old new piece = (views : List RecordView) (came : List ℕ) (ended : Bool) → RecordFeedStandsFor old views came ended
+Takes old new piece = (views : List RecordView) (came : List ℕ) (ended : Bool)
+    → RecordFeedStandsFor old views came ended
     → RecordFeedStandsFor new views (came ++ piece) ended

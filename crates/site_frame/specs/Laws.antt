@@ -6,22 +6,26 @@ use Rattle.plp_config.specs.declared.config.Config.{Config}
 use Rattle.plp_config.specs.declared.moment.Moment.{Moment}
 use Rattle.site_frame.specs.Record.{Block, head_len, head_bytes, block_bytes, blocks_bytes}
 use Rattle.site_frame.specs.Placing.{IsFrameOf}
-use Rattle.site_frame.specs.Whole.{Spells, BeginsWith, Refuses, written_rest, record_bytes, record_len, FitsRest, FitsRecord}
+use Rattle.site_frame.specs.Whole.{Spells, BeginsWith, Refuses, written_rest, record_bytes, record_len, FitsRest}
+use Rattle.site_frame.specs.Whole.{FitsRecord}
 use Rattle.site_frame.specs.declared.fault.RecordWhy.{RecordWhy}
 use Rattle.site_frame.specs.declared.reading.RecordView.{RecordView}
 
 -- What was written is read, whatever follows.
 abbrev pub WrittenIsRead : Type 0
-WrittenIsRead = (view : RecordView) (front more : List ℕ) → Spells view front → BeginsWith (front ++ more) view (length front)
+WrittenIsRead = (view : RecordView) (front more : List ℕ) → Spells view front
+    → BeginsWith (front ++ more) view (length front)
 
 -- Bytes begin with one record at most: none is a proper prefix of another, and none is spelled like another.
 abbrev pub OneRecord : Type 0
-OneRecord = (v w : RecordView) (front other more rest : List ℕ) → Spells v front → Spells w other → front ++ more ≡ other ++ rest
+OneRecord = (v w : RecordView) (front other more rest : List ℕ) → Spells v front → Spells w other
+    → front ++ more ≡ other ++ rest
     → (v ≡ w) × (front ≡ other)
 
 -- What begins with a record is not refused, whatever follows.
 abbrev pub NoRefusal : Type 0
-NoRefusal = (view : RecordView) (front more : List ℕ) (why : RecordWhy) → Spells view front → ¬ (Refuses (front ++ more) why)
+NoRefusal = (view : RecordView) (front more : List ℕ) (why : RecordWhy) → Spells view front
+    → ¬ (Refuses (front ++ more) why)
 
 -- Bytes begin with a record or are refused.
 abbrev pub SpelledOrRefused : Type 0
@@ -53,5 +57,6 @@ BlocksInOrder = (blocks : List Block) → blocks_bytes blocks [] ≡ flat_map (�
 
 -- A moment is the emission of one frame at most.
 abbrev pub OneFrame : Type 0
-OneFrame = (c : Config) (moment : Moment) (frame other : ℕ) → AllRules c → IsFrameOf c moment frame → IsFrameOf c moment other
+OneFrame = (c : Config) (moment : Moment) (frame other : ℕ) → AllRules c → IsFrameOf c moment frame
+    → IsFrameOf c moment other
     → frame ≡ other

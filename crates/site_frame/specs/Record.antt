@@ -57,7 +57,8 @@ word_of (Some cell) = cell.ordinal * block_words + cell.cell
 
 -- what a word spells
 abbrev pub cell_of : ℕ → Option Cell
-cell_of word = if word == dummy_word then None else Some (record { ordinal = word / block_words; cell = word % block_words })
+cell_of word = if word == dummy_word then None else Some
+    (record { ordinal = word / block_words; cell = word % block_words })
 
 -- the words of cells
 abbrev pub cell_bytes : Option Cell → List ℕ

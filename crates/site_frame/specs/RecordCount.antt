@@ -13,8 +13,8 @@ Tells head len = Follow head len ⊎ ((len ≡ 0) × ((why : RecordWhy) × Refus
 abbrev pub EndsWithin : List ℕ → ℕ → List ℕ → ℕ → Type 0
 EndsWithin bytes len part left = (part ≡ []) × (0 < left) × (length bytes + left ≡ head_len + len)
 
--- Bytes have so many heads: one at the front, and the others behind the bytes that it tells. Then these bytes came of the next one, or
--- so many are lacking of those that the last one tells.
+-- Bytes have so many heads: one at the front, and the others behind the bytes that it tells. Then these bytes came of
+-- the next one, or so many are lacking of those that the last one tells.
 abbrev pub HasHeads : ℕ → List ℕ → List ℕ → ℕ → Type 0
 HasHeads zero bytes part left = (bytes ≡ part) × (length part < head_len) × (left ≡ 0)
 HasHeads (suc n) bytes part left = (len : ℕ) × (head_len ≤ length bytes) × Tells (take head_len bytes) len

@@ -1,5 +1,6 @@
 -- The rest of a frame's record: how it is spelled, and how it is read from left to right.
-use Rattle.std.specs.Prelude.{◌≡◌, ℕ, ◌+◌, ◌*◌, ◌%◌, ◌<◌, ◌^◌, Bool, List, [], ◌∷◌, ◌++◌, length, take, Option, Some, None, ◌==◌}
+use Rattle.std.specs.Prelude.{◌≡◌, ℕ, ◌+◌, ◌*◌, ◌%◌, ◌<◌, ◌^◌, Bool, List, [], ◌∷◌, ◌++◌, length, take, Option, Some}
+use Rattle.std.specs.Prelude.{None, ◌==◌}
 use Rattle.std.specs.Prelude.{if◌then◌else◌}
 use Rattle.std.specs.List.{concat, flat_map, AllByRecursion}
 use Rattle.byteorder.specs.Endian.{big_bytes}
@@ -9,8 +10,9 @@ use Rattle.site_frame.specs.Record.{pre_len, FitsBlock, FitsCell, blocks_bytes, 
 use Rattle.site_frame.specs.Reading.{◌>>=◌, cut, number, skip_blocks, blocks_in, cells_in}
 use Rattle.site_frame.specs.declared.parts.FrameParts.{FrameParts}
 
--- the sections: L1-pre with its CRC_32; the number of bits of L1-post, and L1-post; the number of blocks, and the blocks; the
--- number of cells, and the cell words. What fills up L1-post, and the second byte of each block, are whatever they are
+-- the sections: L1-pre with its CRC_32; the number of bits of L1-post, and L1-post; the number of blocks, and the
+-- blocks; the number of cells, and the cell words. What fills up L1-post, and the second byte of each block, are
+-- whatever they are
 abbrev pub rest_sections : FrameParts → List Bool → List ℕ → List (List ℕ)
 rest_sections p pad ignored =
     bytes_of p.pre
@@ -54,4 +56,10 @@ parts_in rest = do
   behind ← skip_blocks count.0 count.1
   words ← number 4 behind
   cells ← all_cells words.0 words.1
-  Some (record { pre = bits_of pre.0; post = take bits.0 (bits_of post.0); blocks = blocks_in count.0 count.1; cells = cells })
+  Some (record {
+    pre = bits_of pre.0;
+    post = take bits.0 (bits_of post.0);
+    blocks = blocks_in count.0
+        count.1;
+    cells = cells;
+  })

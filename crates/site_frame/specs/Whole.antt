@@ -1,5 +1,6 @@
 -- Records: how one is spelled, and why bytes begin with none.
-use Rattle.std.specs.Prelude.{◌≡◌, ◌⊎◌, ℕ, ◌+◌, ◌*◌, ◌<◌, ◌≤◌, List, [], ◌∷◌, ◌++◌, length, take, drop, slice_index, sum_by}
+use Rattle.std.specs.Prelude.{◌≡◌, ◌⊎◌, ℕ, ◌+◌, ◌*◌, ◌<◌, ◌≤◌, List, [], ◌∷◌, ◌++◌, length, take, drop, slice_index}
+use Rattle.std.specs.Prelude.{sum_by}
 use Rattle.std.specs.Prelude.{Option, Some, None, ◌==◌, if◌then◌else◌}
 use Rattle.std.specs.List.{concat}
 use Rattle.byteorder.specs.Endian.{big_number}
@@ -76,7 +77,8 @@ record_len (Muted moment) = head_len
 
 -- Each part of a record fits its numbers.
 abbrev pub FitsRest : RecordView → Type 0
-FitsRest (Frame moment pre post blocks cells) = FitsFrame (record { pre = pre; post = post; blocks = blocks; cells = cells })
+FitsRest (Frame moment pre post blocks cells) = FitsFrame
+    (record { pre = pre; post = post; blocks = blocks; cells = cells })
 FitsRest (Muted moment) = Unit {0}
 
 pub record FitsRecord (view : RecordView) : Type 0 where

@@ -29,8 +29,8 @@ fn are_same(one: &[u8], other: &[u8], count: u32) -> bool
     same
 }
 
-/// Whether so many cells of a record from an address on are those of the map of a frame. `buffer` is as long as the words of the
-/// cells, and is written to.
+/// Whether so many cells of a record from an address on are those of the map of a frame. `buffer` is as long as the
+/// words of the cells, and is written to.
 pub fn agree(
     plan: &Plan,
     shape: &Shape,

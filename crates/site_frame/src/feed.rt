@@ -1,5 +1,6 @@
 // The bytes of a file of records, as they come.
-ghost use Rattle.std.specs.Prelude.{◌≡◌, ◌≢◌, ◌↔◌, ◌<◌, ◌≤◌, ◌+◌, ◌^◌, length, take, vec_len, vec_capacity, IsTrue, IfOk};
+ghost use Rattle.std.specs.Prelude.{◌≡◌, ◌≢◌, ◌↔◌, ◌<◌, ◌≤◌, ◌+◌, ◌^◌, length, take, vec_len, vec_capacity, IsTrue};
+ghost use Rattle.std.specs.Prelude.{IfOk};
 ghost use Rattle.std.specs.Prelude.{IfErr, Ok, Err};
 ghost use Rattle.site_frame.specs.declared.head.TheConstants.{HEAD};
 ghost use Rattle.site_frame.specs.declared.coming.Coming.TheVariants.{Head, Rest, Whole, Finished};
@@ -37,7 +38,8 @@ impl RecordFeed {
     ghost use Rattle.site_frame.specs.Whole.{BeginsWith, Refuses};
     ghost use Rattle.site_frame.specs.declared.fault.RecordWhy.{RecordWhy};
     ghost use Rattle.site_frame.specs.declared.reading.RecordView.{RecordView};
-    ghost use Rattle.site_frame.specs.FeedStandsFor.{RecordFeedStandsFor, NeverLacksRoom, coming_of, count_of, came_of, left_of, lacks_of};
+    ghost use Rattle.site_frame.specs.FeedStandsFor.{RecordFeedStandsFor, NeverLacksRoom, coming_of, count_of, came_of};
+    ghost use Rattle.site_frame.specs.FeedStandsFor.{left_of, lacks_of};
     ghost use Rattle.site_frame.specs.FeedStandsFor.{record_of, IsOver, Takes};
 
     /// Nothing came. It takes no memory: that of a record is taken once its head is there.
@@ -182,7 +184,8 @@ impl RecordFeed {
     /// The file has ended behind the bytes that came.
     pub fn finish(&mut self)
         requires wants { 0 < lacks_of self.old }
-        ensures stands { (views : List RecordView) (came : List ℕ) (ended : Bool) → RecordFeedStandsFor self.old views came ended
+        ensures stands { (views : List RecordView) (came : List ℕ) (ended : Bool)
+            → RecordFeedStandsFor self.old views came ended
             → RecordFeedStandsFor self.new views came true }
         ensures over { IsOver (coming_of self.new) }
         ensures whole { coming_of self.new ≢ Whole }
@@ -236,7 +239,8 @@ impl RecordFeed {
     pub fn refuse(&mut self, why: RecordWhy)
         requires whole { coming_of self.old ≡ Whole }
         requires refuses { Refuses (record_of self.old) why }
-        ensures stands { (views : List RecordView) (came : List ℕ) (ended : Bool) → RecordFeedStandsFor self.old views came ended
+        ensures stands { (views : List RecordView) (came : List ℕ) (ended : Bool)
+            → RecordFeedStandsFor self.old views came ended
             → RecordFeedStandsFor self.new views came ended }
         ensures coming { coming_of self.new ≡ Coming.Refused why }
         ensures left { left_of self.new ≡ 0 }

@@ -1,5 +1,6 @@
 // Laws of the definitions. Their functions do nothing.
-ghost use Rattle.site_frame.specs.Laws.{WrittenIsRead, OneRecord, NoRefusal, SpelledOrRefused, OneRefusal, SpelledLength};
+ghost use Rattle.site_frame.specs.Laws.{WrittenIsRead, OneRecord, NoRefusal, SpelledOrRefused, OneRefusal};
+ghost use Rattle.site_frame.specs.Laws.{SpelledLength};
 ghost use Rattle.site_frame.specs.Laws.{WrittenSpells, HeadLength, WrittenLength, BlocksInOrder, OneFrame};
 
 use plp_config::emission_law;

@@ -1,5 +1,5 @@
-//! The records of frames, as they stand in a file: the boundary between head end, modulators and receivers; read whole, as they come
-//! in pieces of any size, and written with the words of all cells.
+//! The records of frames, as they stand in a file: the boundary between head end, modulators and receivers; read whole,
+//! as they come in pieces of any size, and written with the words of all cells.
 #![tactic(auto)]
 
 mod again;

@@ -47,7 +47,8 @@ fn put_blocks(strip: Strip, columns: u32, at: usize, out: &mut [u8])
     requires columns { columns ≡ strip.columns }
     requires fits { FitsStrip strip }
     requires room { at + 4 * (strip.columns * strip.blocks) ≤ length out.old }
-    ensures front { take (at + 4 * (strip.columns * strip.blocks)) out.new ≡ take at out.old ++ strip_bytes strip strip.blocks }
+    ensures front { take (at + 4 * (strip.columns * strip.blocks)) out.new ≡ take at out.old
+        ++ strip_bytes strip strip.blocks }
     ensures len { length out.new ≡ length out.old }
 {
     for b in 0..strip.blocks {
@@ -60,7 +61,8 @@ fn put_blocks(strip: Strip, columns: u32, at: usize, out: &mut [u8])
 fn put_strip(strip: Strip, at: usize, out: &mut [u8])
     requires fits { FitsStrip strip }
     requires room { at + 4 * (strip.columns * strip.blocks) ≤ length out.old }
-    ensures front { take (at + 4 * (strip.columns * strip.blocks)) out.new ≡ take at out.old ++ strip_bytes strip strip.blocks }
+    ensures front { take (at + 4 * (strip.columns * strip.blocks)) out.new ≡ take at out.old
+        ++ strip_bytes strip strip.blocks }
     ensures len { length out.new ≡ length out.old }
 {
     if strip.columns == COLUMNS {
@@ -76,8 +78,10 @@ pub fn put_stretch(stretch: Stretch, at: usize, out: &mut [u8]) -> u32
     requires room { at + 4 * stretch_len stretch ≤ length out.old }
     requires short { length out.old < 2 ^ 34 }
     ensures count { result ≡ stretch_len stretch }
-    ensures front { (c : Config) (shape : FrameShape) (frame_idx address : ℕ) → HasStretch c shape frame_idx address stretch
-        → take (at + 4 * stretch_len stretch) out.new ≡ take at out.old ++ words c shape frame_idx address (stretch_len stretch) }
+    ensures front { (c : Config) (shape : FrameShape) (frame_idx address : ℕ)
+        → HasStretch c shape frame_idx address stretch
+        → take (at + 4 * stretch_len stretch) out.new ≡ take at out.old ++ words c shape frame_idx address
+        (stretch_len stretch) }
     ensures len { length out.new ≡ length out.old }
 {
     match stretch {

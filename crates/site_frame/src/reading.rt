@@ -1,9 +1,11 @@
 // Reading a record.
-ghost use Rattle.std.specs.Prelude.{◌≡◌, ◌↔◌, ℕ, ◌+◌, ◌-◌, ◌<◌, ◌≤◌, ◌^◌, List, ◌++◌, length, IsTrue, IfOk, IfErr, IfSome, Ok};
+ghost use Rattle.std.specs.Prelude.{◌≡◌, ◌↔◌, ℕ, ◌+◌, ◌-◌, ◌<◌, ◌≤◌, ◌^◌, List, ◌++◌, length, IsTrue, IfOk, IfErr};
+ghost use Rattle.std.specs.Prelude.{IfSome, Ok};
 ghost use Rattle.std.specs.Prelude.{Err, take};
 ghost use Rattle.site_frame.specs.Record.{head_len};
 ghost use Rattle.site_frame.specs.Reading.{Gives};
-ghost use Rattle.site_frame.specs.Whole.{HasHead, HasKind, view_in, told_moment, IsRead, IsRefused, BeginsWith, Refuses, Follow};
+ghost use Rattle.site_frame.specs.Whole.{HasHead, HasKind, view_in, told_moment, IsRead, IsRefused, BeginsWith};
+ghost use Rattle.site_frame.specs.Whole.{Refuses, Follow};
 ghost use Rattle.site_frame.specs.Whole.{RefusesHead, IsRight, IsRightAlone, IsWrong};
 ghost use Rattle.site_frame.specs.declared.fault.RecordWhy.{RecordWhy};
 ghost use Rattle.site_frame.specs.declared.reading.RecordView.{RecordView};
@@ -127,7 +129,8 @@ pub fn front_head(bytes: &[u8]) -> [u8; HEAD]
     head
 }
 
-/// How many bytes follow the head of a record, `GREATEST_REST` at most, or why no record begins with this head, whatever follows.
+/// How many bytes follow the head of a record, `GREATEST_REST` at most, or why no record begins with this head,
+/// whatever follows.
 ///
 /// If as many bytes follow, [`read_record`] reads them all or refuses them.
 pub fn rest_len(head: &[u8; HEAD]) -> Result<usize, RecordWhy>

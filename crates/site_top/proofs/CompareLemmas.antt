@@ -1,4 +1,5 @@
--- What holds of two streams that were compared, how the command must end, and that it changes nothing but standard output.
+-- What holds of two streams that were compared, how the command must end, and that it changes nothing but standard
+-- output.
 use Rattle.std.proofs.Common.{◌≡◌, Bool, true, false, ℕ, List, refl, ap, sym, ◌∙◌}
 use Rattle.std.specs.Prelude.{Result, Ok, Err}
 use Rattle.std.proofs.lemmas.Bool.{true≢false}
@@ -26,7 +27,8 @@ use Rattle.compare_run.specs.Laws.{MustRun as CompareMust, OneRun as OneComparis
 use Rattle.compare_run.specs.declared.stop.CompareStop.{CompareStop}
 use Rattle.compare_run.specs.declared.stop.CompareStop.TheVariants as stop
 use Rattle.site_top.specs.declared.outcome.Outcome.{Outcome}
-use Rattle.site_top.specs.declared.outcome.Outcome.TheVariants.{Done, Differs, NoSuperframe, TooLong, ReadFault, WriteFault, OutOfMemory}
+use Rattle.site_top.specs.declared.outcome.Outcome.TheVariants.{Done, Differs, NoSuperframe, TooLong, ReadFault}
+use Rattle.site_top.specs.declared.outcome.Outcome.TheVariants.{WriteFault, OutOfMemory}
 use Rattle.site_top.specs.CompareCommand.{DamageIsAlike, NeverDiffers}
 use Rattle.site_top.specs.Outcomes.{run_outcome, stop_outcome, compare_cause}
 use Rattle.site_top.specs.Runs.{AreShort, CompareMustEnd}
@@ -36,7 +38,8 @@ use Rattle.site_top.specs.Runs.{AreShort, CompareMustEnd}
 pub damage_is_alike : (c : Config) → IsPlan c → TypesFit c → NoneDiffers → DamageIsAlike c
 damage_is_alike c plan types law inputs a b few d =
     ap (λ (l : List ℕ). first_differing (answers c (frames_of c l) (frames_of c b))) d.is_a
-    ∙ ap (λ (l : List ℕ). first_differing (answers c (frames_of c (stream_bytes (run_stream c inputs) d.from_a d.fates_a)) (frames_of c l))) d.is_b
+    ∙ ap (λ (l : List ℕ). first_differing
+    (answers c (frames_of c (stream_bytes (run_stream c inputs) d.from_a d.fates_a)) (frames_of c l))) d.is_b
     ∙ law c inputs (run_length c inputs) d.from_a d.from_b d.fates_a d.fates_b plan types few d.honest_a d.honest_b
 
 -- whether an outcome tells of a frame that differs
@@ -45,13 +48,15 @@ differs_in (Differs frame) = true
 differs_in other = false
 
 -- what the outcome is if a frame differs
-pub never_differs : (c : Config) (mid new : State) (a b : List ℕ) (result : Result Counts (RunStop CompareStop)) (outcome : Outcome)
+pub never_differs : (c : Config) (mid new : State) (a b : List ℕ) (result : Result Counts (RunStop CompareStop))
+    (outcome : Outcome)
     → DamageIsAlike c → Ends (compare_work c) mid new Aloud (names_of a b) result
     → outcome ≡ run_outcome (stop_outcome compare_cause) result → NeverDiffers c mid a b outcome
 never_differs c mid new a b result outcome law ends is = go result ends is
   where
     not_so : (o : Outcome) → outcome ≡ o → differs_in o ≡ false → NeverDiffers c mid a b outcome
-    not_so o e off = if_any mid.held _ (λ h inputs few d frame f. absurd (true≢false (sym (ap differs_in (sym e ∙ f)) ∙ off)))
+    not_so o e off = if_any mid.held _ (λ h inputs few d frame f. absurd (true≢false (sym (ap differs_in (sym e ∙ f))
+        ∙ off)))
 
     go : (result : Result Counts (RunStop CompareStop)) → Ends (compare_work c) mid new Aloud (names_of a b) result
         → outcome ≡ run_outcome (stop_outcome compare_cause) result → NeverDiffers c mid a b outcome
@@ -62,7 +67,8 @@ never_differs c mid new a b result outcome law ends is = go result ends is
         let why = decides (compare_work c) mid new Aloud (names_of a b) (Err (run.Refused (stop.Differs n))) r in
         IfSome_then mid.held why.1 (λ h w. λ inputs few d frame f.
         none_some n (sym (law inputs (bytes_of h.files a) (bytes_of h.files b) few d) ∙ w.2.1.first))
-    go (Err (run.Files (run_fault.TooLong input))) r is = not_so (stop_outcome compare_cause (run.Files (run_fault.TooLong input))) is refl
+    go (Err (run.Files (run_fault.TooLong input))) r is = not_so (stop_outcome compare_cause
+        (run.Files (run_fault.TooLong input))) is refl
     go (Err (run.Files (run_fault.ReadFault input))) r is = not_so ReadFault is refl
     go (Err (run.Files run_fault.WriteFault)) r is = not_so WriteFault is refl
     go (Err run.OutOfMemory) r is = not_so OutOfMemory is refl
@@ -71,7 +77,8 @@ never_differs c mid new a b result outcome law ends is = go result ends is
 
 -- How it must end over a plan, if its inputs are not too long.
 abbrev pub ComparesIfShort : Held → List (List ℕ) → Config → Outcome → Type 0
-ComparesIfShort held ins c outcome = AreShort held ins → (result : Result Counts CompareStop) × CompareMust c (file_at held ins) result
+ComparesIfShort held ins c outcome = AreShort held ins → (result : Result Counts CompareStop)
+    × CompareMust c (file_at held ins) result
     × (outcome ≡ run_outcome compare_cause result)
 
 pub compare_one : OneComparison → (held : Held) (ins : List (List ℕ)) (c : Config) (result outcome : Outcome)

@@ -1,9 +1,10 @@
 -- The output of `gateway` is none of its inputs, and what is told of its run.
-use Rattle.std.proofs.Common.{◌≡◌, ◌≢◌, ℕ, zero, suc, ◌<◌, Bool, true, false, List, [], ◌∷◌, length, refl, sym, subst, inl, inr, arith}
+use Rattle.std.proofs.Common.{◌≡◌, ◌≢◌, ℕ, zero, suc, ◌<◌, Bool, true, false, List, [], ◌∷◌, length, refl, sym, subst}
+use Rattle.std.proofs.Common.{inl, inr, arith}
 use Rattle.std.specs.Prelude.{not, slice_index_or, Result, Ok, Err, IfOk, IfErr}
 use Rattle.std.specs.Str.{bytes_eq}
 use Rattle.std.proofs.lemmas.Slice.Eq.{bytes_eq-Decides}
-use Rattle.terms.proofs.CaseLemmas.{both}
+use Rattle.std.proofs.lemmas.Bool.{and_parts}
 use Rattle.ports.specs.Desk.{State}
 use Rattle.plp_config.specs.declared.config.Config.{Config}
 use Rattle.common_plp.specs.Sharing.{Sharing}
@@ -26,7 +27,7 @@ not_true false e = refl
 pub other_name : (file out : List ℕ) → is_input out file ≡ true → file ≢ out
 other_name file out e same =
     let differs : bytes_eq file out ≡ false =
-    not_true (bytes_eq file out) (both (not (is_empty file)) (not (bytes_eq file out)) e).1 in
+    not_true (bytes_eq file out) (and_parts (not (is_empty file)) (not (bytes_eq file out)) e).1 in
     let equal : bytes_eq file out ≡ true = (bytes_eq-Decides file out).1 same in
     cc
 
@@ -34,12 +35,14 @@ other_name file out e same =
 pub apart : (out : List ℕ) (ins : List (List ℕ)) → are_inputs out ins ≡ true → (plp : ℕ) → plp < length ins
     → slice_index_or ins plp [] ≢ out
 apart out [] e plp inside = absurd (omega arith)
-apart out (file ∷ files) e zero inside = other_name file out (both (is_input out file) (are_inputs out files) e).0
-apart out (file ∷ files) e (suc plp) inside = apart out files (both (is_input out file) (are_inputs out files) e).1 plp
+apart out (file ∷ files) e zero inside = other_name file out (and_parts (is_input out file) (are_inputs out files) e).0
+apart out (file ∷ files) e (suc plp) inside = apart out files (and_parts (is_input out file) (are_inputs out files) e).1
+    plp
     (omega arith)
 
 pub gateway_told : (sharing : Sharing) (out : List ℕ) (ins : List (List ℕ)) (c : Config) (mid after new : State)
-    (run : Result Ran (RunStop GatewayStop)) (outcome : Outcome) → RunEnds (gateway_work sharing c) mid after (Into out) ins run
+    (run : Result Ran (RunStop GatewayStop)) (outcome : Outcome) → RunEnds (gateway_work sharing c) mid
+    after (Into out) ins run
     → IfOk run (λ ran. Tells after new (gateway_line ran) outcome)
     → IfErr run (λ stop. (new ≡ after) × (outcome ≡ stop_outcome gateway_cause stop))
     → RunsAndTells (Ends sharing out ins c) (StopsSo sharing out ins c) gateway_line gateway_cause mid new outcome

@@ -18,15 +18,18 @@ use Rattle.site_top.specs.CommonReceiveCommand.{JoinedComesBack, HoldsWhatIsJoin
 use Rattle.site_top.specs.ReceiveCommand.{ReceivedComesBack}
 use Rattle.site_top.proofs.RecoverLemmas.{FileLaws, packets_back, holds_with}
 
-pub is_joined : FileLaws → CommonComesBack → (c : Config) → IsPlan c → TypesFit c → ReceivedComesBack c → ReceivedIsJoined c
+pub is_joined : FileLaws → CommonComesBack → (c : Config) → IsPlan c → TypesFit c → ReceivedComesBack c
+    → ReceivedIsJoined c
 unfolding JoinedBack
 is_joined laws law c plan types alone plp file bytes views inside records r = record {
   frames = λ shared is inputs whole first count all some small file_is.
       r.bytes_are
       ∙ ap concat (law c shared plp inputs whole first count r.packets plan types inside is all
-      (packets_back laws c plan types plp inside (common_of c plp) file bytes views records r (split c inputs) whole first count some
+      (packets_back laws c plan types plp inside (common_of c plp) file bytes views records r (split c inputs)
+      whole first count some
       small file_is));
-  alone = λ none. alone plp file bytes views inside records (subst (λ (o : Option ℕ). Received o c plp views bytes) none r);
+  alone = λ none. alone plp file bytes views inside records (subst (λ (o : Option ℕ). Received o c plp views bytes)
+      none r);
 }
 
 pub holds_joined : (c : Config) (plp : ℕ) (old new : State) (file out : List ℕ) (ran : Ran) → ReceivedIsJoined c

@@ -1,5 +1,5 @@
 -- What holds of streams that were mended, and how a run over them must end.
-use Rattle.std.proofs.Common.{◌≡◌, ◌≢◌, ◌<◌, ℕ, List, [], ◌∷◌, length, Option, Some, None, refl, ap, sym, ◌∙◌, arith}
+use Rattle.std.proofs.Common.{◌≡◌, ◌≢◌, ℕ, List, [], ◌∷◌, length, Option, Some, None, refl, ap, sym, ◌∙◌, arith}
 use Rattle.std.specs.Prelude.{Result, Ok, Err, IfSome, unwrap_or}
 use Rattle.std.specs.FinMap.{get}
 use Rattle.std.proofs.lemmas.Option.{same_Some}
@@ -10,7 +10,8 @@ use Rattle.plp_config.specs.declared.config.Config.{Config}
 use Rattle.mended_frames.specs.Feeds.{made_of_all, units_of}
 use Rattle.mended_frames.specs.Laws.{MadePass, MadeRise, MadeAreNear}
 use Rattle.mended_frames.specs.Mended.{Made}
-use Rattle.network_laws.specs.FeedsOfRun.{DamagedRunsMended, WholeAmongDamaged}
+use Rattle.network_laws.specs.FeedsOfRun.{DamagedRunsMended, WholeAmongDamaged, CameOfDamagedMade, SurvivorsMended}
+use Rattle.network_laws.specs.FeedsOfRun.{NoneLostMended}
 use Rattle.network_laws.specs.MendedRun.{MendedComesBack, modulated_records}
 use Rattle.stream_laws.specs.Types.{TypesFit}
 use Rattle.file_run.specs.FileRun.{file_at}
@@ -32,6 +33,9 @@ pub record MendLaws : Type 0 where
   pub near : MadeAreNear
   pub comes : MendedComesBack
   pub honest : DamagedRunsMended
+  pub come : CameOfDamagedMade
+  pub survive : SurvivorsMended
+  pub none_lost : NoneLostMended
   pub whole : WholeAmongDamaged
 
 pub are_mended : (c : Config) → IsPlan c → TypesFit c → MendLaws → UnitsAreMended c
@@ -42,7 +46,13 @@ are_mended c plan types laws k files bytes is = record {
   near = laws.near c k files (omega (arith, (plan.rules SuperframeLength).0));
   comes = ap (modulated_records c) is ∙ laws.comes c k files plan types.ids;
   honest = λ inputs few damaged. laws.honest c inputs k files plan types few damaged;
-  whole = λ inputs one few inside there damaged. is ∙ laws.whole c inputs k one files plan types few inside there damaged;
+  come = λ inputs frames few damaged on came n there.
+      laws.come c inputs k files frames plan types few damaged on came n there;
+  survive = λ inputs survivals frames few lossy came n there.
+      laws.survive c inputs k files survivals frames plan types few lossy came n there;
+  none_lost = λ inputs survivals few lossy all. is ∙ laws.none_lost c inputs k files survivals plan types few lossy all;
+  whole = λ inputs one few inside there damaged. is ∙ laws.whole c inputs k one files plan types few
+      inside there damaged;
 }
 
 -- OUT is all units of the frames that are made of the INs.
@@ -59,7 +69,8 @@ holds_mended c old new ins out ran law (counts, d) =
     go (Some x) None w = tt
     go (Some x) (Some y) w =
         law (length ins) (file_at x ins) (bytes_of y.files out)
-        (ap (λ (z : Held). bytes_of z.files out) (same_Some y w.0 w.1) ∙ ap (λ (o : Option (List ℕ)). unwrap_or o []) w.2.1
+        (ap (λ (z : Held). bytes_of z.files out) (same_Some y w.0 w.1)
+        ∙ ap (λ (o : Option (List ℕ)). unwrap_or o []) w.2.1
         ∙ w.2.2.output)
 
 -- ---- how it must end
@@ -79,8 +90,10 @@ mend_ends c k files = go (made_of_all c k files) refl
   where
     go : (made : List Made) → made_of_all c k files ≡ made → (result : Result Ran MendStop) × MustMend c k files result
     go [] is = (Err NoFrame, is)
-    go (x ∷ made) is =
-        (Ok (counted (made_of_all c k files) (length (units_of c k files))), ((λ none. some_is x made (sym is ∙ none)), refl))
+    go (x ∷ made) is = (
+      Ok (counted (made_of_all c k files) (length (units_of c k files))),
+      ((λ none. some_is x made (sym is ∙ none)), refl),
+    )
 
 -- How it must end over a plan, if its inputs are not too long.
 abbrev pub MendsIfShort : Held → List (List ℕ) → Config → Outcome → Type 0
@@ -91,4 +104,5 @@ pub mend_one : (held : Held) (ins : List (List ℕ)) (c : Config) (result outcom
     → MendsIfShort held ins c result → MendMustEnd held ins c outcome → result ≡ outcome
 mend_one held ins c result outcome mine must =
     let r = mine must.0 in
-    r.2 ∙ ap (run_outcome mend_cause) (one_mend c (length ins) (file_at held ins) r.0 must.1.0 r.1 must.1.1) ∙ sym must.1.2
+    r.2 ∙ ap (run_outcome mend_cause) (one_mend c (length ins) (file_at held ins) r.0 must.1.0 r.1 must.1.1)
+    ∙ sym must.1.2

@@ -1,5 +1,6 @@
 -- What holds of two streams that were merged.
-use Rattle.std.proofs.Common.{◌≡◌, ℕ, zero, suc, ◌+◌, ◌-◌, ◌<◌, ◌≤◌, true, List, [], ◌∷◌, ◌++◌, map, max, Option, Some, None, refl}
+use Rattle.std.proofs.Common.{◌≡◌, ℕ, zero, suc, ◌+◌, ◌-◌, ◌<◌, ◌≤◌, true, List, [], ◌∷◌, ◌++◌, map, max, Option, Some}
+use Rattle.std.proofs.Common.{None, refl}
 use Rattle.std.proofs.Common.{ap, ap₂, sym, ◌∙◌, arith, append-nil}
 use Rattle.std.specs.Prelude.{Ok, IsSome, IfSome, unwrap_or, option_map, option_to_list}
 use Rattle.std.specs.FinMap.{get}
@@ -7,9 +8,8 @@ use Rattle.std.specs.List.{flat_map, find, range_with_len}
 use Rattle.std.specs.Option.{option_or}
 use Rattle.std.proofs.lemmas.List.Concat.{flat_map-append}
 use Rattle.std.proofs.lemmas.Option.{same_Some}
-use Rattle.terms.proofs.OptionLemmas.{none_some, some_injective}
+use Rattle.terms.proofs.OptionLemmas.{none_some}
 use Rattle.terms.proofs.RangeLemmas.{range_append}
-use Rattle.merge_run.specs.Sending.{numbered}
 use Rattle.ports.specs.Desk.{State, Held, bytes_of}
 use Rattle.plp_config.specs.Capacity.{IsPlan}
 use Rattle.plp_config.specs.declared.config.Config.{Config}
@@ -20,7 +20,7 @@ use Rattle.frame_groups.specs.Modulated.{FrameRecord}
 use Rattle.record_laws.specs.Frames.{frame_of}
 use Rattle.open_group.specs.Written.{content_view}
 use Rattle.modulator.specs.StandsFor.{records_due}
-use Rattle.stream_laws.specs.Remade.{NumberedView, remade_packets}
+use Rattle.stream_laws.specs.Remade.{NumberedView, remade_packets, numbered}
 use Rattle.stream_laws.specs.SentFrames.{run_length}
 use Rattle.stream_laws.specs.Types.{TypesFit}
 use Rattle.stream_laws.specs.Again.{run_frame, RunSentAgain}
@@ -40,15 +40,17 @@ use Rattle.site_top.specs.MergeCommand.{picked_at, AreDamaged, ComesOfMerged, Ho
 
 -- ---- the frame that is picked of a number
 
-from_number : (c : Config) (feed : Feed) (n : ℕ) (records : List FrameRecord) (p : Picked) → frame_from c feed n records ≡ Some p
+from_number : (c : Config) (feed : Feed) (n : ℕ) (records : List FrameRecord) (p : Picked)
+    → frame_from c feed n records ≡ Some p
     → p.frame.number ≡ n
 from_number c feed n records p e = go (find (test n) records) e
   where
     go : (o : Option FrameRecord)
-        → option_map (λ (x : FrameRecord). record { feed = feed; frame = numbered n (content_view c n x.content) }) o ≡ Some p
+        → option_map (λ (x : FrameRecord). record { feed = feed; frame = numbered n (content_view c n x.content) })
+        o ≡ Some p
         → p.frame.number ≡ n
     go None f = none_some p f
-    go (Some x) f = sym (ap (λ (q : Picked). q.frame.number) (some_injective _ p f))
+    go (Some x) f = sym (ap (λ (q : Picked). q.frame.number) (same_Some _ p f))
 
 either_number : (n : ℕ) (a b : Option Picked) (p : Picked) → ((q : Picked) → a ≡ Some q → q.frame.number ≡ n)
     → ((q : Picked) → b ≡ Some q → q.frame.number ≡ n) → option_or a b ≡ Some p → p.frame.number ≡ n
@@ -56,9 +58,11 @@ either_number n None b p f g e = g p e
 either_number n (Some q) b p f g e = f p e
 
 -- Its number is that one.
-pick_number : (c : Config) (ra rb : List FrameRecord) (n : ℕ) (p : Picked) → pick_of c ra rb n ≡ Some p → p.frame.number ≡ n
+pick_number : (c : Config) (ra rb : List FrameRecord) (n : ℕ) (p : Picked) → pick_of c ra rb n ≡ Some p
+    → p.frame.number ≡ n
 pick_number c ra rb n p e =
-    either_number n (frame_from c A n ra) (frame_from c B n rb) p (λ q. from_number c A n ra q) (λ q. from_number c B n rb q) e
+    either_number n (frame_from c A n ra) (frame_from c B n rb) p (λ q. from_number c A n ra q)
+    (λ q. from_number c B n rb q) e
 
 -- ---- all frames that are picked, if each below a number is and no other
 
@@ -68,8 +72,10 @@ one_frame None rest f fs some is e = cc
 one_frame (Some p) rest f fs some is e = ap₂ (λ (x : NumberedView) (xs : List NumberedView). x ∷ xs) (is p refl) e
 
 each_frame : (pick_by : ℕ → Option Picked) (frame : ℕ → NumberedView) (count from : ℕ)
-    → ((n : ℕ) → n < from + count → IsSome (pick_by n)) → ((n : ℕ) (p : Picked) → pick_by n ≡ Some p → p.frame ≡ frame n)
-    → frames_of (flat_map (λ n. option_to_list (pick_by n)) (range_with_len from count)) ≡ map frame (range_with_len from count)
+    → ((n : ℕ) → n < from + count → IsSome (pick_by n)) → ((n : ℕ) (p : Picked) → pick_by n ≡ Some p
+    → p.frame ≡ frame n)
+    → frames_of (flat_map (λ n. option_to_list (pick_by n)) (range_with_len from count)) ≡ map frame
+    (range_with_len from count)
 each_frame pick_by frame zero from some is = refl
 each_frame pick_by frame (suc count) from some is =
     one_frame (pick_by from) (flat_map (λ n. option_to_list (pick_by n)) (range_with_len (from + 1) count)) (frame from)
@@ -98,13 +104,15 @@ ends_by c ra rb n below =
 
 -- ---- two streams of one run
 
-module _ (c : Config) (plan : IsPlan c) (fit : TypesFit c) (law : PicksAreFrames) (inputs : ℕ → List (List ℕ)) (a b : List ℕ)
+module _ (c : Config) (plan : IsPlan c) (fit : TypesFit c) (law : PicksAreFrames) (inputs : ℕ → List (List ℕ))
+    (a b : List ℕ)
     (short : run_length c inputs ≤ MOST_FRAMES) (damaged : AreDamaged c inputs a b) where
   pub picked_is : (n : ℕ) (p : Picked) → picked_at c a b n ≡ Some p
       → (n < run_length c inputs) × (p.frame.view ≡ frame_of c inputs n)
   picked_is n p e =
       law c inputs (run_length c inputs) damaged.from_a damaged.from_b damaged.fates_a damaged.fates_b plan fit short
-      damaged.honest_a damaged.honest_b n p (sym (ap₂ (λ (x y : List ℕ). picked_at c x y n) damaged.is_a damaged.is_b) ∙ e)
+      damaged.honest_a damaged.honest_b n p (sym (ap₂ (λ (x y : List ℕ). picked_at c x y n) damaged.is_a damaged.is_b)
+      ∙ e)
 
   frame_is : (n : ℕ) (p : Picked) → picked_at c a b n ≡ Some p → p.frame ≡ run_frame c inputs n
   frame_is n p e =
@@ -113,13 +121,17 @@ module _ (c : Config) (plan : IsPlan c) (fit : TypesFit c) (law : PicksAreFrames
   pub all_frames : ((n : ℕ) → n < run_length c inputs → IsSome (picked_at c a b n))
       → merged c a b ≡ map (run_frame c inputs) (range_with_len 0 (run_length c inputs))
   all_frames some =
-      ap frames_of (ends_by c (records_due c true a) (records_due c true b) (run_length c inputs) (λ n p e. (picked_is n p e).0))
-      ∙ each_frame (picked_at c a b) (run_frame c inputs) (run_length c inputs) 0 (λ n below. some n (omega (arith, below)))
+      ap frames_of (ends_by c (records_due c true a) (records_due c true b) (run_length c inputs)
+      (λ n p e. (picked_is n p e).0))
+      ∙ each_frame (picked_at c a b) (run_frame c inputs) (run_length c inputs) 0
+      (λ n below. some n (omega (arith, below)))
       frame_is
 
-pub are_merged : (c : Config) → IsPlan c → TypesFit c → MergedComesBack → PicksAreFrames → RunSentAgain → UnitsAreMerged c
+pub are_merged : (c : Config) → IsPlan c → TypesFit c → MergedComesBack → PicksAreFrames → RunSentAgain
+    → UnitsAreMerged c
 are_merged c plan fit come law again a b bytes early_a early_b is = record {
-  comes = λ spaced. ap (λ (l : List ℕ). map (λ (x : FrameRecord). content_view c x.number x.content) (records_due c true l)) is
+  comes = λ spaced. ap (λ (l : List ℕ). map (λ (x : FrameRecord). content_view c x.number x.content)
+      (records_due c true l)) is
       ∙ come c a b plan fit.ids early_a early_b spaced;
   honest = λ inputs short damaged. picked_is c plan fit law inputs a b short damaged;
   whole = λ inputs short damaged some. is
@@ -145,5 +157,6 @@ holds_merged c old new a b out ran law (counts, d) =
         let all = w.2.2 in
         law (bytes_of x.files a) (bytes_of x.files b) (bytes_of y.files out)
         (all.early 0 (omega arith)) (all.early 1 (omega arith))
-        (ap (λ (z : Held). bytes_of z.files out) (same_Some y w.0 w.1) ∙ ap (λ (o : Option (List ℕ)). unwrap_or o []) w.2.1
+        (ap (λ (z : Held). bytes_of z.files out) (same_Some y w.0 w.1)
+        ∙ ap (λ (o : Option (List ℕ)). unwrap_or o []) w.2.1
         ∙ all.output)

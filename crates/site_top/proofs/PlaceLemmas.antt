@@ -29,7 +29,8 @@ pub place_by : (sharing : Sharing) (c : Config) (id plp : ℕ) → IsPlaceBy sha
 place_by Apart c id plp at = at
 place_by Joint c id plp at = at.place
 
-pub never_by : (sharing : Sharing) (c : Config) (id plp : ℕ) → HasNoPlaceBy sharing c id → IsPlaceBy sharing c id plp → ⊥
+pub never_by : (sharing : Sharing) (c : Config) (id plp : ℕ) → HasNoPlaceBy sharing c id → IsPlaceBy sharing c id plp
+    → ⊥
 never_by Apart c id plp none at = none plp at.inside at.own
 never_by Joint c id plp none at = none plp at.place.inside at.own at.place.own
 

@@ -9,16 +9,19 @@ use Rattle.site_top.specs.PlanCommand.{RunsAndTells}
 use Rattle.site_top.specs.Saying.{Tells}
 
 -- what follows of its end, and of a stop
-pub of_ok : {R E : Type 0} (P : Result R E → Type 0) (Q : R → Type 0) (r : Result R E) → ((x : R) → P (Ok x) → Q x) → P r → IfOk r Q
+pub of_ok : {R E : Type 0} (P : Result R E → Type 0) (Q : R → Type 0) (r : Result R E) → ((x : R) → P (Ok x) → Q x)
+    → P r → IfOk r Q
 of_ok P Q (Ok x) f p = f x p
 of_ok P Q (Err e) f p = tt
 
-pub of_err : {R E : Type 0} (P : Result R E → Type 0) (Q : E → Type 0) (r : Result R E) → ((e : E) → P (Err e) → Q e) → P r → IfErr r Q
+pub of_err : {R E : Type 0} (P : Result R E → Type 0) (Q : E → Type 0) (r : Result R E) → ((e : E) → P (Err e) → Q e)
+    → P r → IfErr r Q
 of_err P Q (Ok x) f p = tt
 of_err P Q (Err e) f p = f e p
 
 -- what was told of it
-pub run_told : {R E : Type 0} (Ends : State → State → R → Type 0) (Stops : State → State → RunStop E → Type 0) (line : R → List ℕ)
+pub run_told : {R E : Type 0} (Ends : State → State → R → Type 0) (Stops : State → State → RunStop E
+    → Type 0) (line : R → List ℕ)
     (cause : E → Outcome) (mid after new : State) (run : Result R (RunStop E)) (outcome : Outcome)
     → IfOk run (Ends mid after) → IfErr run (Stops mid after)
     → IfOk run (λ ran. Tells after new (line ran) outcome)

@@ -1,5 +1,6 @@
 -- What comes back of a file of the records of a run's frames.
-use Rattle.std.proofs.Common.{◌≡◌, ℕ, zero, suc, ◌+◌, ◌*◌, ◌<◌, ◌≤◌, Bool, true, not, List, [], ◌∷◌, ◌++◌, map, length, Option}
+use Rattle.std.proofs.Common.{◌≡◌, ℕ, zero, suc, ◌+◌, ◌*◌, ◌<◌, ◌≤◌, Bool, true, not, List, [], ◌∷◌, ◌++◌, map, length}
+use Rattle.std.proofs.Common.{Option}
 use Rattle.std.proofs.Common.{Some, None, refl, ap, sym, subst, ◌∙◌, arith}
 use Rattle.std.specs.Prelude.{Ok, IfSome, unwrap_or, replicate}
 use Rattle.std.specs.FinMap.{get}
@@ -69,13 +70,15 @@ abbrev first_of : List Moment → Moment → Moment
 first_of [] other = other
 first_of (x ∷ xs) other = x
 
-module _ (laws : FileLaws) (c : Config) (plan : IsPlan c) (types : TypesFit c) (plp : ℕ) (inside : plp < length c.plps) where
+module _ (laws : FileLaws) (c : Config) (plan : IsPlan c) (types : TypesFit c) (plp : ℕ)
+    (inside : plp < length c.plps) where
   -- they are those that are read
   same_views : (file : List ℕ) (views ws : List RecordView) → AreRecords file views [] → AllByRecursion FitsRecord ws
       → file ≡ file_bytes ws → views ≡ ws
   same_views file views ws records all is =
       (same_records laws.one laws.never file [] [] views ws records
-      (subst (λ (bytes : List ℕ). AreRecords bytes ws []) (sym is) (written_back laws.read laws.spells ws all)) stuck_nil
+      (subst (λ (bytes : List ℕ). AreRecords bytes ws []) (sym is) (written_back laws.read laws.spells ws all))
+      stuck_nil
       stuck_nil).0
 
   -- and the first one is of the frame that it was written of
@@ -85,36 +88,43 @@ module _ (laws : FileLaws) (c : Config) (plan : IsPlan c) (types : TypesFit c) (
       let own : moment_of (record_of c inputs whole first) ≡ emission c first =
       cond_both {A = RecordView} (whole first) (frame_of c inputs first) (Muted (emission c first))
       (λ (v : RecordView). moment_of v ≡ emission c first) (λ t. refl) (λ f. refl) in
-      let told : moment_of (record_of c inputs whole first) ≡ emission c n = ap (λ xs. first_of xs (emission c n)) grid.moments in
+      let told : moment_of (record_of c inputs whole first) ≡ emission c n = ap (λ xs. first_of xs (emission c n))
+      grid.moments in
       let few = grid.small in
       laws.frame c (emission c n) n first plan.rules (record { small = omega (arith, few); emission-is = refl })
       (record { small = omega (arith, small); emission-is = sym told ∙ own })
 
   given_back : (joins : Option ℕ) (first : ℕ) (w : RecordView) (ws views : List RecordView) (packets : List (List ℕ))
-      → views ≡ w ∷ ws → joined.GivesBack joins c plp first views packets → JoinedBackWith joins c plp first (w ∷ ws) packets
+      → views ≡ w ∷ ws → joined.GivesBack joins c plp first views packets
+      → JoinedBackWith joins c plp first (w ∷ ws) packets
   given_back joins first w ws views packets is back =
       subst (λ (vs : List RecordView). joined.GivesBack joins c plp first vs packets) is back
 
   -- so they are given back from that frame on
   pub packets_back : (joins : Option ℕ) (file bytes : List ℕ) (views : List RecordView) → AreRecords file views []
-      → (r : joined.Received joins c plp views bytes) → (inputs : ℕ → List (List ℕ)) (whole : ℕ → Bool) (first count : ℕ)
-      → 1 ≤ count → first + count ≤ MOST_FRAMES → file ≡ file_bytes (map (record_of c inputs whole) (range_with_len first count))
+      → (r : joined.Received joins c plp views bytes) → (inputs : ℕ → List (List ℕ)) (whole : ℕ
+      → Bool) (first count : ℕ)
+      → 1 ≤ count → first + count ≤ MOST_FRAMES
+      → file ≡ file_bytes (map (record_of c inputs whole) (range_with_len first count))
       → JoinedBackWith joins c plp first (map (record_of c inputs whole) (range_with_len first count)) r.packets
   packets_back joins file bytes views records r inputs whole first zero some small is = absurd (omega (arith, some))
   packets_back joins file bytes views records r inputs whole first (suc count) some small is =
       let ws : List RecordView = map (record_of c inputs whole) (range_with_len first (suc count)) in
       let same : views ≡ ws =
       same_views file views ws records (laws.fits c inputs whole first (suc count) plan types.ids small) is in
-      let at : r.first ≡ first = first_is inputs whole first count r.first small (subst (IsOnGrid c r.first) same r.successive) in
+      let at : r.first ≡ first = first_is inputs whole first count r.first small
+      (subst (IsOnGrid c r.first) same r.successive) in
       let back : JoinedBackWith joins c plp r.first ws r.packets =
-      given_back joins r.first (record_of c inputs whole first) (map (record_of c inputs whole) (range_with_len (first + 1) count))
+      given_back joins r.first (record_of c inputs whole first) (map (record_of c inputs whole)
+      (range_with_len (first + 1) count))
       views r.packets same r.back in
       subst (λ (n : ℕ). JoinedBackWith joins c plp n ws r.packets) at back
 
   -- of frames in a row
   frames_back : (file bytes : List ℕ) (views : List RecordView) → AreRecords file views [] → Received c plp views bytes
       → (inputs : ℕ → List (List ℕ)) (whole : ℕ → Bool) (first count : ℕ) → AllByRecursion IsPacket (inputs plp)
-      → 1 ≤ count → first + count ≤ MOST_FRAMES → file ≡ file_bytes (map (record_of c inputs whole) (range_with_len first count))
+      → 1 ≤ count → first + count ≤ MOST_FRAMES
+      → file ≡ file_bytes (map (record_of c inputs whole) (range_with_len first count))
       → bytes ≡ concat (recover c plp (packet_at (inputs plp)) (λ m. not (whole m)) first count)
   frames_back file bytes views records r inputs whole first count all some small is =
       r.bytes_are
@@ -139,7 +149,8 @@ module _ (laws : FileLaws) (c : Config) (plan : IsPlan c) (types : TypesFit c) (
       → run_length c inputs ≤ MOST_FRAMES → file ≡ file_bytes (run_frames c inputs) → (nulls : ℕ)
       × (bytes ≡ concat (inputs plp ++ replicate nulls null_packet))
   run_back file bytes views records r inputs all canonical small is =
-      let back : Readback c plp 0 (run_frames c inputs) r.packets = packets_back None file bytes views records r inputs (λ n. true) 0
+      let back : Readback c plp 0 (run_frames c inputs) r.packets = packets_back None file bytes views
+      records r inputs (λ n. true) 0
       (run_length c inputs) (some_frames inputs) (omega (arith, small)) is in
       let b = laws.back c plp inputs r.packets plan types inside all canonical back in
       (b.0, r.bytes_are ∙ ap concat b.1)
@@ -151,7 +162,8 @@ comes_back laws c plan types plp file bytes views inside records r = record {
 }
 
 -- what is so of each file of records and what it gives back is so of IN and OUT
-pub holds_with : (P : List ℕ → List ℕ → Type 0) (joins : Option ℕ) (c : Config) (plp : ℕ) (old new : State) (file out : List ℕ)
+pub holds_with : (P : List ℕ → List ℕ → Type 0) (joins : Option ℕ) (c : Config) (plp : ℕ) (old new : State)
+    (file out : List ℕ)
     (ran : Ran) → ((from bytes : List ℕ) (views : List RecordView) → AreRecords from views []
     → joined.Received joins c plp views bytes → P from bytes)
     → Ends (run.receive_work joins c plp) old new (Into out) (file ∷ []) (Ok ran)
@@ -161,7 +173,8 @@ holds_with P joins c plp old new file out ran law (counts, d) =
   where
     go : (h k : Option Held)
         → IfSome h (λ x. (y : Held) × (k ≡ Some y)
-        × ((bytes : List ℕ) × (get y.files out ≡ Some bytes) × run.HasAll joins c plp ran (bytes_of x.files file) bytes))
+        × ((bytes : List ℕ) × (get y.files out ≡ Some bytes) × run.HasAll joins c plp ran (bytes_of x.files file)
+        bytes))
         → IfSome h (λ x. IfSome k (λ y. P (bytes_of x.files file) (bytes_of y.files out)))
     go None k w = tt
     go (Some x) None w = tt
@@ -169,7 +182,8 @@ holds_with P joins c plp old new file out ran law (counts, d) =
         let here : w.2.0 ≡ bytes_of y.files out =
         sym (ap (λ (z : Held). bytes_of z.files out) (same_Some y w.0 w.1)
         ∙ ap (λ (o : Option (List ℕ)). unwrap_or o []) w.2.1) in
-        subst (P (bytes_of x.files file)) here (law (bytes_of x.files file) w.2.0 w.2.2.views w.2.2.records w.2.2.received)
+        subst (P (bytes_of x.files file)) here (law (bytes_of x.files file) w.2.0 w.2.2.views w.2.2.records
+        w.2.2.received)
 
 pub holds_back : (c : Config) (plp : ℕ) (old new : State) (file out : List ℕ) (ran : Ran) → ReceivedComesBack c
     → plp < length c.plps → Ends (run.receive_work None c plp) old new (Into out) (file ∷ []) (Ok ran)

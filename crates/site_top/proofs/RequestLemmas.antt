@@ -1,5 +1,6 @@
 -- The names of inputs, one by one, and the number that a word names.
-use Rattle.std.proofs.Common.{◌≡◌, ◌≢◌, ℕ, zero, suc, ◌+◌, ◌-◌, ◌<◌, ◌≤◌, ◌^◌, ◌&&◌, Bool, true, false, cond, List, length, drop}
+use Rattle.std.proofs.Common.{◌≡◌, ◌≢◌, ℕ, zero, suc, ◌+◌, ◌-◌, ◌<◌, ◌≤◌, ◌^◌, ◌&&◌, Bool, true, false, cond, List}
+use Rattle.std.proofs.Common.{length, drop}
 use Rattle.std.proofs.Common.{Option, Some, None, refl, ap, sym, subst, ◌∙◌, arith, bytes_eq}
 use Rattle.std.specs.Prelude.{slice_index_or, IfSome, IfNone}
 use Rattle.std.specs.Fmt.{decimal}
@@ -14,9 +15,11 @@ use Rattle.site_top.specs.Commands.{is_input, are_inputs, number_named}
 
 -- one name is taken from the front
 pub next_input : (out : List ℕ) (ins : List (List ℕ)) (at : ℕ) (name : List ℕ) → at < length ins
-    → name ≡ slice_index_or ins at name → are_inputs out (drop at ins) ≡ is_input out name && are_inputs out (drop (at + 1) ins)
+    → name ≡ slice_index_or ins at name → are_inputs out (drop at ins) ≡ is_input out name
+    && are_inputs out (drop (at + 1) ins)
 next_input out ins at name inside is =
-    at_drop_more (are_inputs out) ins at name inside ∙ ap (λ (n : List ℕ). is_input out n && are_inputs out (drop (at + 1) ins))
+    at_drop_more (are_inputs out) ins at name inside
+    ∙ ap (λ (n : List ℕ). is_input out n && are_inputs out (drop (at + 1) ins))
     (sym is)
 
 -- ---- the first of some numbers that passes a test
@@ -36,7 +39,8 @@ only_one : (test : ℕ → Bool) (from count n : ℕ) → from ≤ n → n < fro
 only_one test from zero n least most passes only = absurd (omega (arith, least, most))
 only_one test from (suc count) n least most passes only =
     here_or test from n (find test (range_with_len (from + 1) count)) (test from) refl (only from (omega arith))
-    (λ fails. only_one test (from + 1) count n (let differ = apart test from n passes fails in omega (arith, least, differ))
+    (λ fails. only_one test (from + 1) count n (let differ = apart test from n passes fails in omega
+    (arith, least, differ))
     (omega (arith, most)) passes (λ m below. only m (omega (arith, below))))
 
 -- none does
@@ -44,15 +48,19 @@ none_passes : (test : ℕ → Bool) (from count : ℕ) → ((m : ℕ) → from �
     → find test (range_with_len from count) ≡ None
 none_passes test from zero none = refl
 none_passes test from (suc count) none =
-    cond-false (test from) (Some from) (find test (range_with_len (from + 1) count)) (none from (omega arith) (omega arith))
+    cond-false (test from) (Some from) (find test (range_with_len (from + 1) count))
+    (none from (omega arith) (omega arith))
     ∙ none_passes test (from + 1) count (λ m least below. none m (omega (arith, least)) (omega (arith, below)))
 
 -- a word is the decimal of one number at most
-same_number : (word : List ℕ) (m n : ℕ) → m < 2 ^ 64 → n < 2 ^ 64 → bytes_eq word (decimal m) ≡ true → word ≡ decimal n → m ≡ n
-same_number word m n small short e is = decimal_injective m n small short (sym ((bytes_eq-Decides word (decimal m)).0 e) ∙ is)
+same_number : (word : List ℕ) (m n : ℕ) → m < 2 ^ 64 → n < 2 ^ 64 → bytes_eq word (decimal m) ≡ true
+    → word ≡ decimal n → m ≡ n
+same_number word m n small short e is = decimal_injective m n small short (sym ((bytes_eq-Decides word (decimal m)).0 e)
+    ∙ is)
 
 -- the word is the decimal of a number in the range
-names_number : (word bytes : List ℕ) (least most n : ℕ) → most < 2 ^ 64 → bytes ≡ word → SpellsValue (Number least most) n bytes
+names_number : (word bytes : List ℕ) (least most n : ℕ) → most < 2 ^ 64 → bytes ≡ word
+    → SpellsValue (Number least most) n bytes
     → number_named least most word ≡ Some n
 unfolding number_named
 names_number word bytes least most n short same spells =
@@ -70,12 +78,14 @@ no_test word bytes least most m from below same none false e = refl
 no_test word bytes least most m from below same none true e =
     absurd (none m (same ∙ (bytes_eq-Decides word (decimal m)).0 e, from, below))
 
-names_none : (word bytes : List ℕ) (least most : ℕ) → bytes ≡ word → ((n : ℕ) → SpellsValue (Number least most) n bytes → ⊥)
+names_none : (word bytes : List ℕ) (least most : ℕ) → bytes ≡ word → ((n : ℕ) → SpellsValue (Number least most) n bytes
+    → ⊥)
     → number_named least most word ≡ None
 unfolding number_named
 names_none word bytes least most same none =
     none_passes (λ m. bytes_eq word (decimal m)) least (most + 1 - least)
-    (λ m from below. no_test word bytes least most m from (omega (arith, from, below)) same none (bytes_eq word (decimal m)) refl)
+    (λ m from below. no_test word bytes least most m from (omega (arith, from, below)) same none
+    (bytes_eq word (decimal m)) refl)
 
 -- what a word spells is the number that it names
 pub named : (word bytes : List ℕ) (least most : ℕ) (result : Option ℕ) → most < 2 ^ 64 → bytes ≡ word

@@ -18,7 +18,8 @@ ends_by before after Done other e = absurd (other refl)
 ends_by before after outcome other e = e
 
 -- the last line of a run that is not done
-pub ends_other : (before after : State) (outcome : Outcome) (text : List ℕ) → (outcome ≡ Done → ⊥) → text ≡ last_line outcome
+pub ends_other : (before after : State) (outcome : Outcome) (text : List ℕ) → (outcome ≡ Done → ⊥)
+    → text ≡ last_line outcome
     → SaysLast before after text → MayFailAtLast before.counts after.counts → Ends before after outcome
 ends_other before after outcome text other is said counts =
     ends_by before after outcome other (record { said = subst (SaysLast before after) is said; counts = counts })
@@ -35,11 +36,16 @@ ends_stay : (before after : State) (outcome : Outcome) → Ends before after out
 ends_stay before after Done e =
     record { reads = ap (λ (s : State). s.counts.reads) e; writes = ap (λ (s : State). s.counts.writes) e }
 ends_stay before after outcome e =
-    record { reads = ap (λ counts. counts.reads) e.counts.others; writes = ap (λ counts. counts.writes) e.counts.others }
+    record {
+      reads = ap (λ counts. counts.reads) e.counts.others;
+      writes = ap (λ counts. counts.writes)
+          e.counts.others;
+    }
 
 -- what a command did is complete, and its last line does not change that
 pub run_complete : Completeness → (command : Option Command) (old mid new : State) (result : Outcome)
-    → IfSome command (λ c. Does c old mid result) → Ends mid new result → IfSome command (λ c. IsComplete c old new result)
+    → IfSome command (λ c. Does c old mid result) → Ends mid new result
+    → IfSome command (λ c. IsComplete c old new result)
 run_complete law command old mid new result does ends =
     let stay = ends_stay mid new result ends in
     IfSome_then command does (λ c did. IfSome_then old.held (law c old mid result did) (λ held x. λ outcome must r w.
@@ -47,7 +53,8 @@ run_complete law command old mid new result does ends =
     (subst (λ (n : ℕ). ¬ (Rose old.counts.writes n)) stay.writes w)))
 
 -- what a command did, and then its last line
-pub run_does : (command : Option Command) (old mid new : State) (result : Outcome) → IfSome command (λ c. Does c old mid result)
+pub run_does : (command : Option Command) (old mid new : State) (result : Outcome)
+    → IfSome command (λ c. Does c old mid result)
     → Ends mid new result →
     IfSome command (λ c. (before : State) × Does c old before result × Ends before new result)
 run_does command old mid new result does ends = IfSome_then command does (λ c x. (mid, x, ends))

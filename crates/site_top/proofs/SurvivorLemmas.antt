@@ -24,7 +24,8 @@ must_come : (c : Config) (file bytes : List ℕ) → WrittenMustCome c → Undam
 must_come c file bytes honest undamaged e = record {
   honest = λ inputs from fates short is came. e ∙ ap (bytes_due c true) came
       ∙ honest inputs (run_length c inputs) from fates short is;
-  undamaged = λ inputs from short came. e ∙ ap (bytes_due c true) came ∙ undamaged inputs (run_length c inputs) from short;
+  undamaged = λ inputs from short came. e ∙ ap (bytes_due c true) came
+      ∙ undamaged inputs (run_length c inputs) from short;
 }
 
 holds_so : (c : Config) (old new : State) (file out : List ℕ) {work : (ℕ → List ℕ) → List ℕ → List ℕ → Type 0}
@@ -41,15 +42,19 @@ holds_so c old new file out honest undamaged d is =
     go (Some x) None w = tt
     go (Some x) (Some y) w =
         must_come c (bytes_of x.files file) (bytes_of y.files out) honest undamaged
-        (ap (λ (z : Held). bytes_of z.files out) (same_Some y w.0 w.1) ∙ ap (λ (o : Option (List ℕ)). unwrap_or o []) w.2.1
+        (ap (λ (z : Held). bytes_of z.files out) (same_Some y w.0 w.1)
+        ∙ ap (λ (o : Option (List ℕ)). unwrap_or o []) w.2.1
         ∙ w.2.2)
 
-pub holds_records : (c : Config) (old new : State) (file out : List ℕ) (ran : Ran) → WrittenMustCome c → UndamagedMustCome c
+pub holds_records : (c : Config) (old new : State) (file out : List ℕ) (ran : Ran) → WrittenMustCome c
+    → UndamagedMustCome c
     → Ends (modulate_work c) old new (Into out) (file ∷ []) (Ok ran) → HoldsWhatMustCome c old new file out
-holds_records c old new file out ran honest undamaged (counts, d) = holds_so c old new file out honest undamaged d d.does.1.1.output
+holds_records c old new file out ran honest undamaged (counts, d) = holds_so c old new file out honest
+    undamaged d d.does.1.1.output
 
 -- No record is due of IN, and OUT is empty.
-pub stops_with : (c : Config) (old new : State) (file out : List ℕ) (stop : RunStop ModulateStop) → WrittenMustCome c → UndamagedMustCome c
+pub stops_with : (c : Config) (old new : State) (file out : List ℕ) (stop : RunStop ModulateStop) → WrittenMustCome c
+    → UndamagedMustCome c
     → Ends (modulate_work c) old new (Into out) (file ∷ []) (Err stop) → StopsWith c old new file out stop
 stops_with c old new file out (Refused NoSuperframe) honest undamaged (counts, d) =
     holds_so c old new file out honest undamaged d (d.does.1.1.empty ∙ sym (ap (flat_map (spelled c)) d.does.1.1.none))

@@ -26,7 +26,8 @@ use Rattle.swap_run.specs.SwapRun.{SwapsAll, swap_work}
 use Rattle.swap_run.specs.declared.stop.Ran.{Ran}
 use Rattle.site_top.specs.SwapCommand.{ComesOfSwapped, HoldsSwapped, UnitsAreSwapped}
 
-pub are_swapped : (c : Config) → IsPlan c → TypesFit c → RegionIsOfRun → RegionComesBack → WholeIsReplaced → UnitsAreSwapped c
+pub are_swapped : (c : Config) → IsPlan c → TypesFit c → RegionIsOfRun → RegionComesBack → WholeIsReplaced
+    → UnitsAreSwapped c
 are_swapped c plan fit region back whole plp t2mi file bytes inside is =
     let of_run : (inputs : ℕ → List (List ℕ)) (from : ℕ) (fates : List Fate) → run_length c inputs ≤ MOST_FRAMES
     → Honest (run_stream c inputs) from fates → t2mi ≡ stream_bytes (run_stream c inputs) from fates
@@ -56,12 +57,14 @@ holds_swapped c plp old new t2mi file out ran inside law (counts, d) =
   where
     go : (h k : Option Held)
         → IfSome h (λ x. (y : Held) × (k ≡ Some y)
-        × ((bytes : List ℕ) × (get y.files out ≡ Some bytes) × SwapsAll c plp (file_at x (names_of t2mi file)) ran bytes))
+        × ((bytes : List ℕ) × (get y.files out ≡ Some bytes) × SwapsAll c plp (file_at x (names_of t2mi file))
+        ran bytes))
         → IfSome h (λ x. IfSome k
         (λ y. ComesOfSwapped c plp (bytes_of x.files t2mi) (bytes_of x.files file) (bytes_of y.files out)))
     go None k w = tt
     go (Some x) None w = tt
     go (Some x) (Some y) w =
         law plp (bytes_of x.files t2mi) (bytes_of x.files file) (bytes_of y.files out) inside
-        (ap (λ (z : Held). bytes_of z.files out) (same_Some y w.0 w.1) ∙ ap (λ (o : Option (List ℕ)). unwrap_or o []) w.2.1
+        (ap (λ (z : Held). bytes_of z.files out) (same_Some y w.0 w.1)
+        ∙ ap (λ (o : Option (List ℕ)). unwrap_or o []) w.2.1
         ∙ w.2.2.output)

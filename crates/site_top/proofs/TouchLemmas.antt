@@ -1,5 +1,6 @@
 -- However a command ends, it changes no file but the one that it writes.
-use Rattle.std.proofs.Common.{◌≡◌, ℕ, suc, ◌+◌, ◌≤◌, ⊎_elim, List, [], ◌∷◌, ◌++◌, length, Option, Some, None, refl, ap, sym}
+use Rattle.std.proofs.Common.{◌≡◌, ℕ, suc, ◌+◌, ◌≤◌, ⊎_elim, List, [], ◌∷◌, ◌++◌, length, Option, Some, None, refl, ap}
+use Rattle.std.proofs.Common.{sym}
 use Rattle.std.proofs.Common.{subst, ◌∙◌, arith, append_assoc, append-nil, length-append}
 use Rattle.std.specs.Prelude.{option_map, IfSome, Result, Ok, Err}
 use Rattle.std.proofs.lemmas.Option.{IfSome_then}
@@ -32,7 +33,8 @@ use Rattle.show_run.specs.Shows.{Shows, ReadsFile}
 use Rattle.show_run.specs.declared.stop.ShowStop.{ShowStop}
 use Rattle.site_top.specs.declared.outcome.Outcome.{Outcome}
 use Rattle.site_top.specs.declared.outcome.Outcome.TheVariants as outcome
-use Rattle.site_top.specs.Commands.{Command, ShowPackets, ShowT2mi, ShowFrames, ShowConfig, Plan, Gateway, Modulate, Receive}
+use Rattle.site_top.specs.Commands.{Command, ShowPackets, ShowT2mi, ShowFrames, ShowConfig, Plan, Gateway, Modulate}
+use Rattle.site_top.specs.Commands.{Receive}
 use Rattle.site_top.specs.Commands.{Merge, Mend, Swap, Trial}
 use Rattle.site_top.specs.Commands.{Compare}
 use Rattle.site_top.specs.CompareCommand as compares
@@ -77,7 +79,12 @@ nothing_files out (Some h) new same = (same.0, same.1, λ name apart. ap (λ fil
 
 out_files : (out : List ℕ) (old new : Option Held) → running.OtherFiles out old new → OthersStay (Some out) old new
 out_files out None new e = e
-out_files out (Some h) new same = (same.0, same.1, λ name apart. same.2 name (λ (e : name ≡ out). apart (ap Some (sym e))))
+out_files out (Some h) new same = (
+  same.0,
+  same.1,
+  λ name apart. same.2 name
+      (λ (e : name ≡ out). apart (ap Some (sym e))),
+)
 
 -- nothing was done
 untouched : (out : Option (List ℕ)) (reads : ℕ) (old new : State) → new ≡ old → Touches out reads old new
@@ -101,11 +108,13 @@ then_touched out first second old mid new a none b = record {
   opened = b.opened ∙ ap (λ (l : List ℕ). l ++ b.places) a.opened ∙ append_assoc old.opened a.places b.places;
   few = subst (λ (n : ℕ). n ≤ first + second) (sym (length-append a.places b.places)) (omega (arith, a.few, b.few));
   texts = a.texts ++ b.texts;
-  said = b.said ∙ ap (option_map (λ (said : List (List ℕ)). said ++ b.texts)) a.said ∙ append_twice old.said a.texts b.texts;
+  said = b.said ∙ ap (option_map (λ (said : List (List ℕ)). said ++ b.texts)) a.said
+      ∙ append_twice old.said a.texts b.texts;
 }
 
 -- and then something was said
-then_said : (out : Option (List ℕ)) (reads : ℕ) (old mid new : State) (texts : List (List ℕ)) → Touches out reads old mid
+then_said : (out : Option (List ℕ)) (reads : ℕ) (old mid new : State) (texts : List (List ℕ))
+    → Touches out reads old mid
     → new.held ≡ mid.held → new.created ≡ mid.created → new.opened ≡ mid.opened
     → new.said ≡ option_map (λ (said : List (List ℕ)). said ++ texts) mid.said → Touches out reads old new
 then_said out reads old mid new texts a held created opened said = record {
@@ -118,17 +127,20 @@ then_said out reads old mid new texts a held created opened said = record {
   said = said ∙ ap (option_map (λ (said : List (List ℕ)). said ++ texts)) a.said ∙ append_twice old.said a.texts texts;
 }
 
-told : (out : Option (List ℕ)) (reads : ℕ) (old mid new : State) (text : List ℕ) (result : Outcome) → Touches out reads old mid
+told : (out : Option (List ℕ)) (reads : ℕ) (old mid new : State) (text : List ℕ) (result : Outcome)
+    → Touches out reads old mid
     → Tells mid new text result → Touches out reads old new
 told out reads old mid new text outcome.Done a tells =
     then_said out reads old mid new (text ∷ []) a tells.0.held tells.0.created tells.0.opened tells.0.said
 told out reads old mid new text outcome.WriteFault a tells =
-    then_said out reads old mid new [] a tells.0.held tells.0.created tells.0.opened (tells.0.said ∙ append-none mid.said)
+    then_said out reads old mid new [] a tells.0.held tells.0.created tells.0.opened (tells.0.said
+    ∙ append-none mid.said)
 told out reads old mid new text result a tells = absurd tells
 
 -- a file was opened
 opened_one : (out : Option (List ℕ)) (old new : State) (name : List ℕ) (given : ℕ) (texts : List (List ℕ))
-    → Opened old new name given → new.said ≡ option_map (λ (said : List (List ℕ)). said ++ texts) old.said → Touches out 1 old new
+    → Opened old new name given → new.said ≡ option_map (λ (said : List (List ℕ)). said ++ texts) old.said
+    → Touches out 1 old new
 opened_one out old new name given texts o said = record {
   files = named_files out name old.held new.held o.held;
   created = subst (λ (n : ℕ). n ≤ old.created + outs out) (sym o.created) (omega arith);
@@ -154,19 +166,23 @@ unopened out old new u = record {
 text_read : (out : Option (List ℕ)) (old new : State) (name : List ℕ) → ReadsText old new name → Touches out 1 old new
 text_read out old new name r = opened_one out old new name r.given [] r.opened (r.said ∙ append-none old.said)
 
-text_failed : (out : Option (List ℕ)) (old new : State) (name : List ℕ) → FailsToRead old new name → Touches out 1 old new
+text_failed : (out : Option (List ℕ)) (old new : State) (name : List ℕ) → FailsToRead old new name
+    → Touches out 1 old new
 text_failed out old new name f =
-    ⊎_elim (λ u. unopened out old new u) (λ o. opened_one out old new name o.0 [] o.1 (o.3 ∙ append-none old.said)) f.way
+    ⊎_elim (λ u. unopened out old new u) (λ o. opened_one out old new name o.0 [] o.1 (o.3 ∙ append-none old.said))
+    f.way
 
 gives_none : (out : Option (List ℕ)) (old new : State) (name : List ℕ) (stop : ConfigStop) → GivesNone old new name stop
     → Touches out 1 old new
 gives_none out old new name (config.Refused cause) g = text_read out old new name g.0
 gives_none out old new name config.ReadFault g = text_failed out old new name g
 gives_none out old new name config.OutOfMemory g =
-    ⊎_elim (λ (same : new ≡ old). untouched out 1 old new same) (λ (r : ReadsText old new name). text_read out old new name r) g
+    ⊎_elim (λ (same : new ≡ old). untouched out 1 old new same) (λ (r : ReadsText old new name). text_read
+    out old new name r) g
 gives_none out old new name (config.Lacks fault) g = absurd g
 
-gives_no_plan : (out : Option (List ℕ)) (old new : State) (name : List ℕ) (stop : ConfigStop) → GivesNoPlan old new name stop
+gives_no_plan : (out : Option (List ℕ)) (old new : State) (name : List ℕ) (stop : ConfigStop)
+    → GivesNoPlan old new name stop
     → Touches out 1 old new
 gives_no_plan out old new name (config.Refused cause) g = gives_none out old new name (config.Refused cause) g
 gives_no_plan out old new name config.ReadFault g = gives_none out old new name config.ReadFault g
@@ -192,11 +208,13 @@ fewer out reads old new t = record {
 }
 
 -- a run whose line is told
-runs_touch : {R E : Type 0} (Ends : State → State → R → Type 0) (Stops : State → State → RunStop E → Type 0) (line : R → List ℕ)
+runs_touch : {R E : Type 0} (Ends : State → State → R → Type 0) (Stops : State → State → RunStop E → Type 0) (line : R
+    → List ℕ)
     (cause : E → Outcome) (out : Option (List ℕ)) (reads : ℕ)
     → ((mid new : State) (stop : RunStop E) → Stops mid new stop → Touches out reads mid new)
     → ((mid after : State) (ran : R) → Ends mid after ran → Touches out reads mid after)
-    → (mid new : State) (result : Outcome) → RunsAndTells Ends Stops line cause mid new result → Touches out reads mid new
+    → (mid new : State) (result : Outcome) → RunsAndTells Ends Stops line cause mid new result
+    → Touches out reads mid new
 runs_touch Ends Stops line cause out reads stopped ended mid new result r = ⊎_elim
     (λ s. stopped mid new s.0 s.1)
     (λ a. told out reads mid a.1 new (line a.0) result (ended mid a.1 a.0 a.2) a.3) r
@@ -204,7 +222,8 @@ runs_touch Ends Stops line cause out reads stopped ended mid new result r = ⊎_
 -- a command by the plan of CONFIG
 plan_then : (Follows : Config → State → State → Outcome → Type 0) (out : Option (List ℕ)) (reads : ℕ)
     → ((c : Config) (mid new : State) (result : Outcome) → Follows c mid new result → Touches out reads mid new)
-    → (old new : State) (config : List ℕ) (result : Outcome) → ByPlan old new config Follows result → Touches out (1 + reads) old new
+    → (old new : State) (config : List ℕ) (result : Outcome) → ByPlan old new config Follows result
+    → Touches out (1 + reads) old new
 plan_then Follows out reads follows old new config result b = ⊎_elim
     (λ n. fewer out reads old new (gives_no_plan out old new config n.0 n.1))
     (λ p. behind out reads old p.1 new config p.0 p.2 (follows p.0 p.1 new result p.4)) b
@@ -222,7 +241,8 @@ as_many : (sink : Sink) → creates sink ≡ outs (written_by sink)
 as_many (Into out) = refl
 as_many Aloud = refl
 
-work_touches : {R E : Type 0} (work : Work R E) (sink : Sink) (ins : List (List ℕ)) (old new : State) (result : Result R (RunStop E))
+work_touches : {R E : Type 0} (work : Work R E) (sink : Sink) (ins : List (List ℕ)) (old new : State)
+    (result : Result R (RunStop E))
     → RunEnds work old new sink ins result → Touches (written_by sink) (length ins) old new
 work_touches work sink ins old new result ends =
     let left = leaves_alone work old new sink ins result ends in
@@ -237,21 +257,25 @@ work_touches work sink ins old new result ends =
     }
 
 -- that of a gateway
-gateway_follows : (sharing : Sharing) (out : List ℕ) (ins : List (List ℕ)) (c : Config) (mid new : State) (result : Outcome)
+gateway_follows : (sharing : Sharing) (out : List ℕ) (ins : List (List ℕ)) (c : Config) (mid new : State)
+    (result : Outcome)
     → gateways.Follows sharing out ins c mid new result → Touches (Some out) (length ins) mid new
 gateway_follows sharing out ins c mid new result f =
     let touches = work_touches (gateway_work sharing c) (Into out) ins in
     ⊎_elim
     (λ none. untouched (Some out) (length ins) mid new none.0)
-    (λ all. runs_touch (gateways.Ends sharing out ins c) (gateways.StopsSo sharing out ins c) gateways.gateway_line gateway_cause
-    (Some out) (length ins) (λ a b stop s. touches a b (Err stop) s) (λ a b ran r. touches a b (Ok ran) r) mid new result all.1) f
+    (λ all. runs_touch (gateways.Ends sharing out ins c) (gateways.StopsSo sharing out ins c) gateways.gateway_line
+    gateway_cause
+    (Some out) (length ins) (λ a b stop s. touches a b (Err stop) s) (λ a b ran r. touches a b (Ok ran) r)
+    mid new result all.1) f
 
 -- that of a modulator
 modulate_follows : (file out : List ℕ) (c : Config) (mid new : State) (result : Outcome)
     → modulates.Follows file out c mid new result → Touches (Some out) 1 mid new
 modulate_follows file out c mid new result f =
     let touches = work_touches (modulate_work c) (Into out) (file ∷ []) in
-    runs_touch (modulates.Ends file out c) (modulates.StopsSo file out c) modulates.modulate_line modulate_cause (Some out) 1
+    runs_touch (modulates.Ends file out c) (modulates.StopsSo file out c) modulates.modulate_line modulate_cause
+    (Some out) 1
     (λ a b stop s. touches a b (Err stop) s.0) (λ a b ran r. touches a b (Ok ran) r.0) mid new result f
 
 -- that of a receiver
@@ -261,11 +285,14 @@ receive_follows sharing id file out c mid new result f = ⊎_elim
     (λ none. untouched (Some out) 1 mid new none.1)
     (λ all.
     let touches = work_touches (receive_work (joined_with sharing c all.0) c all.0) (Into out) (file ∷ []) in
-    runs_touch (receives.Ends sharing file out c all.0) (receives.StopsSo sharing file out c all.0) receive_line receive_cause
-    (Some out) 1 (λ a b stop s. touches a b (Err stop) s) (λ a b ran r. touches a b (Ok ran) r.0) mid new result all.2) f
+    runs_touch (receives.Ends sharing file out c all.0) (receives.StopsSo sharing file out c all.0) receive_line
+    receive_cause
+    (Some out) 1 (λ a b stop s. touches a b (Err stop) s) (λ a b ran r. touches a b (Ok ran) r.0) mid new result all.2)
+    f
 
 -- that of a merger
-merge_follows : (a b out : List ℕ) (c : Config) (mid new : State) (result : Outcome) → merges.Follows a b out c mid new result
+merge_follows : (a b out : List ℕ) (c : Config) (mid new : State) (result : Outcome)
+    → merges.Follows a b out c mid new result
     → Touches (Some out) 2 mid new
 merge_follows a b out c mid new result f =
     let touches = work_touches (merge_work c) (Into out) (names_of a b) in
@@ -288,10 +315,12 @@ swap_follows id t2mi file out c mid new result f = ⊎_elim
     (λ all.
     let touches = work_touches (swap_work c all.0) (Into out) (names_of t2mi file) in
     runs_touch (swaps.Ends t2mi file out c all.0) (swaps.StopsSo t2mi file out c all.0) swaps.swap_line swap_cause
-    (Some out) 2 (λ a b stop s. touches a b (Err stop) s) (λ a b ran r. touches a b (Ok ran) r.0) mid new result all.2) f
+    (Some out) 2 (λ a b stop s. touches a b (Err stop) s) (λ a b ran r. touches a b (Ok ran) r.0) mid new result all.2)
+    f
 
 -- that of a comparison
-compare_follows : (a b : List ℕ) (c : Config) (mid new : State) (result : Outcome) → compares.Follows a b c mid new result
+compare_follows : (a b : List ℕ) (c : Config) (mid new : State) (result : Outcome)
+    → compares.Follows a b c mid new result
     → Touches None 2 mid new
 compare_follows a b c mid new result f = work_touches (compare_work c) Aloud (names_of a b) mid new f.0 f.1
 
@@ -309,12 +338,14 @@ file_read old new name given texts (Err (run.Files run_fault.WriteFault)) r said
     opened_one None old new name given texts r.0 said
 file_read old new name given texts (Err run.OutOfMemory) r said = untouched None 1 old new r
 
-shown_touches : {IsText : List ℕ → ℕ → Result ℕ (RunStop ShowStop) → List ℕ → List ℕ → Type 0} (old new : State) (name : List ℕ)
+shown_touches : {IsText : List ℕ → ℕ → Result ℕ (RunStop ShowStop) → List ℕ → List ℕ → Type 0} (old new : State)
+    (name : List ℕ)
     (result : Result ℕ (RunStop ShowStop)) → Shows IsText old new name result → Touches None 1 old new
 shown_touches old new name result s = file_read old new name s.given s.grew.texts result s.reads s.grew.said
 
 -- a configuration that is shown, and a plan
-config_touches : (old new : State) (name : List ℕ) (result : Outcome) → ShowsConfig old new name result → Touches None 1 old new
+config_touches : (old new : State) (name : List ℕ) (result : Outcome) → ShowsConfig old new name result
+    → Touches None 1 old new
 config_touches old new name result s = ⊎_elim
     (λ n. gives_none None old new name n.0 n.1)
     (λ g. told None 1 old g.1 new _ result (text_read None old g.1 name g.2.reads) g.3) s
@@ -325,7 +356,8 @@ plan_touches old new name result s = ⊎_elim
     (λ g. told None 1 old g.2 new _ result (text_read None old g.2 name g.3.reads) g.6) s
 
 -- a trial
-trial_touches : (old new : State) (seed frames : ℕ) (result : Outcome) → Tries old new seed frames result → Touches None 0 old new
+trial_touches : (old new : State) (seed frames : ℕ) (result : Outcome) → Tries old new seed frames result
+    → Touches None 0 old new
 trial_touches old new seed frames result s = ⊎_elim
     (λ n. untouched None 0 old new n.1)
     (λ t. told None 0 old old new _ result (untouched None 0 old old refl) t.2) s
@@ -339,11 +371,13 @@ only_out_changes (Plan config) old new result does = plan_touches old new config
 only_out_changes (Gateway sharing config out ins) old new result does =
     let more : 1 + length ins ≡ suc (length ins) = omega arith in
     subst (λ (n : ℕ). Touches (Some out) n old new) more
-    (plan_then (gateways.Follows sharing out ins) (Some out) (length ins) (gateway_follows sharing out ins) old new config result does)
+    (plan_then (gateways.Follows sharing out ins) (Some out) (length ins) (gateway_follows sharing out ins)
+    old new config result does)
 only_out_changes (Modulate config file out) old new result does =
     plan_then (modulates.Follows file out) (Some out) 1 (modulate_follows file out) old new config result does
 only_out_changes (Receive sharing config id file out) old new result does =
-    plan_then (receives.Follows sharing id file out) (Some out) 1 (receive_follows sharing id file out) old new config result does
+    plan_then (receives.Follows sharing id file out) (Some out) 1 (receive_follows sharing id file out)
+    old new config result does
 only_out_changes (Merge config a b out) old new result does =
     plan_then (merges.Follows a b out) (Some out) 2 (merge_follows a b out) old new config result does
 only_out_changes (Mend config out ins) old new result does =
@@ -357,7 +391,8 @@ only_out_changes (Compare config a b) old new result does =
 only_out_changes (Trial seed frames) old new result does = trial_touches old new seed frames result does
 
 -- its last line changes nothing of that
-touched_at_end : (out : Option (List ℕ)) (reads : ℕ) (old mid new : State) (result : Outcome) → Touches out reads old mid
+touched_at_end : (out : Option (List ℕ)) (reads : ℕ) (old mid new : State) (result : Outcome)
+    → Touches out reads old mid
     → Ends mid new result → Touches out reads old new
 touched_at_end out reads old mid new outcome.Done t e = subst (Touches out reads old) (sym e) t
 touched_at_end out reads old mid new result t e = ⊎_elim

@@ -1,5 +1,6 @@
 -- The commands, and the words that name them.
-use Rattle.std.specs.Prelude.{◌≡◌, ℕ, ◌+◌, ◌-◌, ◌^◌, Bool, true, false, not, ◌&&◌, List, [], ◌∷◌, codes, if◌then◌else◌, Some}
+use Rattle.std.specs.Prelude.{◌≡◌, ℕ, ◌+◌, ◌-◌, ◌^◌, Bool, true, false, not, ◌&&◌, List, [], ◌∷◌, codes, if◌then◌else◌}
+use Rattle.std.specs.Prelude.{Some}
 use Rattle.std.specs.Prelude.{None, length, nat_lt, nat_le}
 use Rattle.std.specs.declared.option.Option.{Option}
 use Rattle.std.specs.Fmt.{decimal}
@@ -49,7 +50,8 @@ is_input out file = not (is_empty file) && not (bytes_eq file out)
 abbrev pub are_inputs : List ℕ → List (List ℕ) → Bool
 are_inputs out files = list_all (is_input out) files
 
--- the command of the words `gateway CONFIG OUT IN..`, and of these behind `common`: the output is none of the files that are read
+-- the command of the words `gateway CONFIG OUT IN..`, and of these behind `common`: the output is none of the files
+-- that are read
 abbrev pub gateway_of : Sharing → List ℕ → List ℕ → List (List ℕ) → Option Command
 gateway_of sharing config out ins =
     if not (is_empty out) && are_inputs out (config ∷ ins) then Some (Gateway sharing config out ins) else None
@@ -85,15 +87,17 @@ common_counted_of what config plp words = None
 abbrev pub common_of : List ℕ → List ℕ → List (List ℕ) → Option Command
 common_of what config [] = None
 common_of what config (first ∷ more) =
-    if bytes_eq what (codes "gateway") then gateway_of Joint config first more else common_counted_of what config first more
+    if bytes_eq what (codes "gateway") then gateway_of Joint config first more else common_counted_of
+    what config first more
 
 -- the command of the words `merge CONFIG A B OUT`: A and B may be one file
 abbrev pub merge_of : List ℕ → List ℕ → List ℕ → List ℕ → Option Command
 merge_of config a b out =
-    if not (is_empty out) && is_input out config && is_input out a && is_input out b then Some (Merge config a b out) else None
+    if not (is_empty out) && is_input out config && is_input out a && is_input out b then Some (Merge config a b out)
+    else None
 
--- the command of the words `mend CONFIG OUT IN..`: one to eight feeds, of which two may be one file; the output is none of the files
--- that are read
+-- the command of the words `mend CONFIG OUT IN..`: one to eight feeds, of which two may be one file; the output is none
+-- of the files that are read
 abbrev pub mend_of : List ℕ → List ℕ → List (List ℕ) → Option Command
 mend_of config out ins =
     if nat_lt 0 (length ins) && nat_le (length ins) MOST_FEEDS && not (is_empty out) && are_inputs out (config ∷ ins)
@@ -102,12 +106,14 @@ mend_of config out ins =
 -- the command of the words `swap CONFIG PLP T2MI IN OUT`: T2MI and IN may be one file
 abbrev pub swap_of : List ℕ → List ℕ → List ℕ → List ℕ → List ℕ → List ℕ → Option Command
 swap_of swap config plp t2mi file out =
-    if bytes_eq swap (codes "swap") && not (is_empty out) && is_input out config && is_input out t2mi && is_input out file
+    if bytes_eq swap (codes "swap") && not (is_empty out) && is_input out config && is_input out t2mi
+    && is_input out file
     then option_map (λ id. Swap config id t2mi file out) (number_named 0 255 plp) else None
 
 -- the command of the words `compare CONFIG A B`: A and B may be one file
 abbrev pub compare_of : List ℕ → List ℕ → List ℕ → Option Command
-compare_of config a b = if not (is_empty config) && not (is_empty a) && not (is_empty b) then Some (Compare config a b) else None
+compare_of config a b = if not (is_empty config) && not (is_empty a) && not (is_empty b) then Some (Compare config a b)
+    else None
 
 -- the command of the words `trial SEED FRAMES`
 abbrev pub trial_of : List ℕ → List ℕ → Option Command
@@ -120,17 +126,20 @@ show_of show what file = if bytes_eq show (codes "show") && not (is_empty file) 
 
 -- the command of three words or more that has a number of words
 abbrev pub counted_of : List ℕ → List ℕ → List ℕ → List (List ℕ) → Option Command
-counted_of first second third [] = if bytes_eq first (codes "trial") then trial_of second third else show_of first second third
+counted_of first second third [] = if bytes_eq first (codes "trial") then trial_of second third else
+    show_of first second third
 counted_of first second third (fourth ∷ []) =
     if bytes_eq first (codes "compare") then compare_of second third fourth else modulate_of first second third fourth
 counted_of first second third (fourth ∷ fifth ∷ []) =
-    if bytes_eq first (codes "merge") then merge_of second third fourth fifth else receive_of first second third fourth fifth
+    if bytes_eq first (codes "merge") then merge_of second third fourth fifth else receive_of first second
+    third fourth fifth
 counted_of first second third (fourth ∷ fifth ∷ sixth ∷ []) = swap_of first second third fourth fifth sixth
 counted_of first second third (fourth ∷ fifth ∷ sixth ∷ more) = None
 
 -- the command that words name; no word of a command is empty
 abbrev pub command_of : List (List ℕ) → Option Command
-command_of (plan ∷ config ∷ []) = if bytes_eq plan (codes "plan") && not (is_empty config) then Some (Plan config) else None
+command_of (plan ∷ config ∷ []) = if bytes_eq plan (codes "plan") && not (is_empty config) then Some
+    (Plan config) else None
 command_of (first ∷ second ∷ third ∷ more) = if bytes_eq first (codes "gateway") then gateway_of Apart second third more
     else if bytes_eq first (codes "mend") then mend_of second third more
     else if bytes_eq first (codes "common") then common_of second third more

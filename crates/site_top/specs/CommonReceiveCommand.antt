@@ -17,14 +17,16 @@ use Rattle.site_top.specs.ReceiveCommand.{ComesBack}
 
 -- These bytes are what a file gives back of the PLP at a place and of the common PLP of its group.
 pub record JoinedComesBack (c : Config) (plp : ℕ) (file bytes : List ℕ) : Type 0 where
-  -- If the file is the records of frames in a row, each as all transmitters send it, or muted, of a run whose streams are those
-  -- into which inputs are split: for each slot that is due the packet of the input, if it is not null and every interleaving frame
-  -- that carries a byte of its user packet is there, in the common PLP if all inputs of the group share it, and else in the PLP's
-  -- own; and else the canonical null packet.
+  -- If the file is the records of frames in a row, each as all transmitters send it, or muted, of a run whose streams
+  -- are those into which inputs are split: for each slot that is due the packet of the input, if it is not null and
+  -- every interleaving frame that carries a byte of its user packet is there, in the common PLP if all inputs of the
+  -- group share it, and else in the PLP's own; and else the canonical null packet.
   pub frames : (shared : ℕ) → common_of c plp ≡ Some shared → (inputs : ℕ → List (List ℕ)) (whole : ℕ → Bool)
-      (first count : ℕ) → ((input : ℕ) → AllByRecursion IsPacket (inputs input)) → 1 ≤ count → first + count ≤ MOST_FRAMES
+      (first count : ℕ) → ((input : ℕ) → AllByRecursion IsPacket (inputs input)) → 1 ≤ count
+      → first + count ≤ MOST_FRAMES
       → file ≡ file_bytes (map (record_of c (split c inputs) whole) (range_with_len first count))
-      → bytes ≡ concat (map (common.comes_back c inputs shared plp (λ m. not (whole m)) first count) (due_slots c plp first count))
+      → bytes ≡ concat (map (common.comes_back c inputs shared plp (λ m. not (whole m)) first count)
+      (due_slots c plp first count))
   -- Without a common PLP, what comes back of the PLP alone.
   pub alone : common_of c plp ≡ None → ComesBack c plp file bytes
 
@@ -35,5 +37,6 @@ HoldsWhatIsJoined c plp old new file out =
 
 -- So it is of every file of records of successive frames, and what they give back.
 abbrev pub ReceivedIsJoined : Config → Type 0
-ReceivedIsJoined c = (plp : ℕ) (file bytes : List ℕ) (views : List RecordView) → plp < length c.plps → AreRecords file views []
+ReceivedIsJoined c = (plp : ℕ) (file bytes : List ℕ) (views : List RecordView) → plp < length c.plps
+    → AreRecords file views []
     → Received (common_of c plp) c plp views bytes → JoinedComesBack c plp file bytes

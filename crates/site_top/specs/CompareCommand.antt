@@ -20,7 +20,8 @@ use Rattle.site_top.specs.PlanCommand.{ByPlan}
 
 -- Of two streams that are what is received of one run of a gateway, with honest damage to either, no frame differs.
 abbrev pub DamageIsAlike : Config → Type 0
-DamageIsAlike c = (inputs : ℕ → List (List ℕ)) (a b : List ℕ) → run_length c inputs ≤ MOST_FRAMES → AreDamaged c inputs a b
+DamageIsAlike c = (inputs : ℕ → List (List ℕ)) (a b : List ℕ) → run_length c inputs ≤ MOST_FRAMES
+    → AreDamaged c inputs a b
     → first_differing (answers c (frames_of c a) (frames_of c b)) ≡ None
 
 -- So two such streams are never told to differ.

@@ -11,8 +11,8 @@ use Rattle.site_top.specs.Outcomes.{config_outcome}
 use Rattle.site_top.specs.PlanLines.{IsPlanText}
 use Rattle.site_top.specs.Saying.{Tells}
 
--- `show config FILE`: the file gives no configuration, and nothing is said; or the text that is written of its configuration is
--- told.
+-- `show config FILE`: the file gives no configuration, and nothing is said; or the text that is written of its
+-- configuration is told.
 abbrev pub ShowsConfig : State → State → List ℕ → Outcome → Type 0
 ShowsConfig old new name outcome =
     ((stop : ConfigStop) × GivesNone old new name stop × (outcome ≡ config_outcome stop))

@@ -31,7 +31,7 @@ Follows sharing out ins c mid new outcome = ((new ≡ mid) × Miscounts sharing 
     ⊎ ((length ins ≡ input_count sharing c)
     × RunsAndTells (Ends sharing out ins c) (StopsSo sharing out ins c) gateway_line gateway_cause mid new outcome)
 
--- The file gives no plan, and nothing else is done; or what follows of the plan. With `common gateway` a common PLP has no input: it
--- carries what the inputs of its group share.
+-- The file gives no plan, and nothing else is done; or what follows of the plan. With `common gateway` a common PLP has
+-- no input: it carries what the inputs of its group share.
 abbrev pub Gateways : Sharing → State → State → List ℕ → List ℕ → List (List ℕ) → Outcome → Type 0
 Gateways sharing old new config out ins outcome = ByPlan old new config (Follows sharing out ins) outcome

@@ -28,15 +28,16 @@ use Rattle.site_top.specs.PlanCommand.{RunsAndTells, ByPlan}
 
 -- the line of a run to its end
 abbrev pub merge_line : Ran → List ℕ
-merge_line ran = codes "merged frames=" ++ decimal ran.frames ++ codes " a=" ++ decimal ran.a ++ codes " b=" ++ decimal ran.b
+merge_line ran = codes "merged frames=" ++ decimal ran.frames ++ codes " a=" ++ decimal ran.a ++ codes " b="
+    ++ decimal ran.b
     ++ codes " units=" ++ decimal ran.units ++ codes "\n"
 
 -- the frame with a number that is picked of two streams
 abbrev pub picked_at : Config → List ℕ → List ℕ → ℕ → Option Picked
 picked_at c a b n = pick_of c (records_due c true a) (records_due c true b) n
 
--- Two streams are what is received of the one that a gateway makes of some inputs, and damage to either is honest, whatever
--- becomes of the units from one on.
+-- Two streams are what is received of the one that a gateway makes of some inputs, and damage to either is honest,
+-- whatever becomes of the units from one on.
 pub record AreDamaged (c : Config) (inputs : ℕ → List (List ℕ)) (a b : List ℕ) : Type 0 where
   pub from_a : ℕ
   pub from_b : ℕ
@@ -49,16 +50,18 @@ pub record AreDamaged (c : Config) (inputs : ℕ → List (List ℕ)) (a b : Lis
 
 -- What holds of bytes that are two streams, merged.
 pub record ComesOfMerged (c : Config) (a b bytes : List ℕ) : Type 0 where
-  -- What a modulator makes of them, if the frames are spaced that are picked, whatever the streams are: from the first of these
-  -- frames to the last, each that is complete, and each other number muted.
+  -- What a modulator makes of them, if the frames are spaced that are picked, whatever the streams are: from the first
+  -- of these frames to the last, each that is complete, and each other number muted.
   pub comes : AreSpaced c (merged c a b)
       → map (λ x. content_view c x.number x.content) (records_due c true bytes) ≡ must_come c (merged c a b)
   -- Of a damaged run each frame that is picked is that of the run.
-  pub honest : (inputs : ℕ → List (List ℕ)) → run_length c inputs ≤ MOST_FRAMES → AreDamaged c inputs a b → (n : ℕ) (p : Picked)
+  pub honest : (inputs : ℕ → List (List ℕ)) → run_length c inputs ≤ MOST_FRAMES → AreDamaged c inputs a b
+      → (n : ℕ) (p : Picked)
       → picked_at c a b n ≡ Some p → (n < run_length c inputs) × (p.frame.view ≡ frame_of c inputs n)
   -- And if each frame of the run is picked, they are what the gateway wrote.
   pub whole : (inputs : ℕ → List (List ℕ)) → run_length c inputs ≤ MOST_FRAMES → AreDamaged c inputs a b
-      → ((n : ℕ) → n < run_length c inputs → IsSome (picked_at c a b n)) → bytes ≡ joined (pipe c.pid (packets_of c inputs))
+      → ((n : ℕ) → n < run_length c inputs → IsSome (picked_at c a b n))
+      → bytes ≡ joined (pipe c.pid (packets_of c inputs))
 
 -- So it is with the bytes of A, B and OUT.
 abbrev pub HoldsMerged : Config → State → State → List ℕ → List ℕ → List ℕ → Type 0
@@ -72,14 +75,16 @@ UnitsAreMerged c = (a b bytes : List ℕ) → AreEarly (records_due c true a) �
 
 -- a run to its end, and one that stops
 abbrev pub Ends : List ℕ → List ℕ → List ℕ → Config → State → State → Ran → Type 0
-Ends a b out c mid after ran = RunEnds (merge_work c) mid after (Into out) (names_of a b) (Ok ran) × HoldsMerged c mid after a b out
+Ends a b out c mid after ran = RunEnds (merge_work c) mid after (Into out) (names_of a b) (Ok ran)
+    × HoldsMerged c mid after a b out
 
 abbrev pub StopsSo : List ℕ → List ℕ → List ℕ → Config → State → State → RunStop MergeStop → Type 0
 StopsSo a b out c mid new stop = RunEnds (merge_work c) mid new (Into out) (names_of a b) (Err stop)
 
 -- the run
 abbrev pub Follows : List ℕ → List ℕ → List ℕ → Config → State → State → Outcome → Type 0
-Follows a b out c mid new outcome = RunsAndTells (Ends a b out c) (StopsSo a b out c) merge_line merge_cause mid new outcome
+Follows a b out c mid new outcome = RunsAndTells (Ends a b out c) (StopsSo a b out c) merge_line merge_cause
+    mid new outcome
 
 -- `merge CONFIG A B OUT`: CONFIG gives no plan, and nothing else is done; or the run follows.
 abbrev pub Merges : State → State → List ℕ → List ℕ → List ℕ → List ℕ → Outcome → Type 0

@@ -24,9 +24,10 @@ abbrev pub modulate_line : Ran → List ℕ
 modulate_line ran = codes "first=" ++ decimal ran.first ++ codes " records=" ++ decimal ran.records ++ codes " muted="
     ++ decimal ran.muted ++ codes "\n"
 
--- If a file is what is received of the stream that a gateway makes of some inputs, these bytes are the records that must come:
--- those of the frames of the run, from the first whole one that begins a superframe to the last one of which a packet survives,
--- each whole frame as all transmitters send it, and each frame that lacks a packet muted.
+-- If a file is what is received of the stream that a gateway makes of some inputs, these bytes are the records that
+-- must come:
+-- those of the frames of the run, from the first whole one that begins a superframe to the last one of which a packet
+-- survives, each whole frame as all transmitters send it, and each frame that lacks a packet muted.
 pub record MustCome (c : Config) (file bytes : List ℕ) : Type 0 where
   -- whatever becomes of the units from one on, if damage is honest
   pub honest : (inputs : ℕ → List (List ℕ)) (from : ℕ) (fates : List Fate) → run_length c inputs ≤ MOST_FRAMES
@@ -60,7 +61,8 @@ StopsSo file out c mid new stop = RunEnds (modulate_work c) mid new (Into out) (
 
 -- the run
 abbrev pub Follows : List ℕ → List ℕ → Config → State → State → Outcome → Type 0
-Follows file out c mid new outcome = RunsAndTells (Ends file out c) (StopsSo file out c) modulate_line modulate_cause mid new outcome
+Follows file out c mid new outcome = RunsAndTells (Ends file out c) (StopsSo file out c) modulate_line
+    modulate_cause mid new outcome
 
 -- `modulate CONFIG IN OUT`: CONFIG gives no plan, and nothing else is done; or the run follows.
 abbrev pub Modulates : State → State → List ℕ → List ℕ → List ℕ → Outcome → Type 0

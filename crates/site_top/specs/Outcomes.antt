@@ -10,7 +10,8 @@ use Rattle.t2mi_packet.specs.declared.fault.PacketWhy.TheVariants.{Short, Crc, P
 use Rattle.site_frame.specs.declared.fault.RecordWhy.{RecordWhy}
 use Rattle.site_frame.specs.declared.fault.RecordWhy.TheVariants.{Head, Kind, Length, Order, OffGrid}
 use Rattle.config_text.specs.declared.fault.TextWhy.{TextWhy}
-use Rattle.config_text.specs.declared.fault.TextWhy.TheVariants.{NotAscii, WrongKey, WrongCount, BadWord, BadNumber, EndsEarly}
+use Rattle.config_text.specs.declared.fault.TextWhy.TheVariants.{NotAscii, WrongKey, WrongCount, BadWord, BadNumber}
+use Rattle.config_text.specs.declared.fault.TextWhy.TheVariants.{EndsEarly}
 use Rattle.config_text.specs.declared.fault.TextWhy.TheVariants.{TooLong as TextTooLong}
 use Rattle.file_run.specs.declared.config_stop.ConfigCause.TheVariants.{Text, Rule}
 use Rattle.file_run.specs.declared.config_stop.ConfigStop.{ConfigStop}
@@ -40,8 +41,10 @@ use Rattle.show_run.specs.declared.stop.ShowStop.TheVariants as show
 use Rattle.trial_run.specs.declared.stop.TrialStop.{TrialStop}
 use Rattle.trial_run.specs.declared.stop.TrialStop.TheVariants as trial
 use Rattle.site_top.specs.declared.outcome.Outcome.{Outcome}
-use Rattle.site_top.specs.declared.outcome.Outcome.TheVariants.{Done, Usage, WrongInputs, ConfigRefused, CapacityRefused}
-use Rattle.site_top.specs.declared.outcome.Outcome.TheVariants.{InputRefused, NoSuperframe, RecordRefused, UnknownPlp, TooLong}
+use Rattle.site_top.specs.declared.outcome.Outcome.TheVariants.{Done, Usage, WrongInputs, ConfigRefused}
+use Rattle.site_top.specs.declared.outcome.Outcome.TheVariants.{CapacityRefused}
+use Rattle.site_top.specs.declared.outcome.Outcome.TheVariants.{InputRefused, NoSuperframe, RecordRefused, UnknownPlp}
+use Rattle.site_top.specs.declared.outcome.Outcome.TheVariants.{TooLong}
 use Rattle.site_top.specs.declared.outcome.Outcome.TheVariants.{PacketRefused, ReadFault, WriteFault, OutOfMemory}
 use Rattle.site_top.specs.declared.outcome.Outcome.TheVariants.{TrialFault}
 use Rattle.site_top.specs.declared.outcome.Outcome.TheVariants.{Differs}
@@ -102,7 +105,8 @@ last_line Usage = codes "refused: usage\n"
 last_line (WrongInputs plps inputs) = codes "refused: usage\n"
 last_line (ConfigRefused (Text line why)) = codes "refused: config line " ++ decimal line ++ codes " why "
     ++ decimal (text_why_number why) ++ codes "\n"
-last_line (ConfigRefused (Rule rule plp)) = codes "refused: config rule " ++ decimal rule ++ codes " plp " ++ place_word plp
+last_line (ConfigRefused (Rule rule plp)) = codes "refused: config rule " ++ decimal rule ++ codes " plp "
+    ++ place_word plp
     ++ codes "\n"
 last_line (CapacityRefused test plp need have) =
     codes "refused: capacity test " ++ decimal test ++ codes " plp " ++ place_word plp ++ codes " need " ++ decimal need
@@ -114,7 +118,8 @@ last_line (RecordRefused number why) = codes "refused: record " ++ decimal numbe
     ++ decimal (record_why_number why) ++ codes "\n"
 last_line (UnknownPlp plp_id) = codes "refused: plp " ++ decimal plp_id ++ codes "\n"
 last_line (TooLong count) = codes "refused: too long " ++ decimal count ++ codes "\n"
-last_line (PacketRefused at why) = codes "refused: packet at " ++ decimal at ++ codes " why " ++ decimal (why_number why)
+last_line (PacketRefused at why) = codes "refused: packet at " ++ decimal at ++ codes " why "
+    ++ decimal (why_number why)
     ++ codes "\n"
 last_line (Differs frame) = codes "refused: frame " ++ decimal frame ++ codes " differs\n"
 last_line ReadFault = codes "fault: read\n"

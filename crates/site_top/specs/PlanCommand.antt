@@ -1,4 +1,5 @@
--- What a command does that runs a machine by the plan of CONFIG, up to its last line. A command adds what follows the plan.
+-- What a command does that runs a machine by the plan of CONFIG, up to its last line. A command adds what follows the
+-- plan.
 use Rattle.std.specs.Prelude.{◌≡◌, ◌⊎◌, List, ℕ}
 use Rattle.ports.specs.Desk.{State}
 use Rattle.plp_config.specs.Capacity.{IsPlan}
@@ -10,9 +11,11 @@ use Rattle.site_top.specs.declared.outcome.Outcome.{Outcome}
 use Rattle.site_top.specs.Outcomes.{config_outcome, stop_outcome}
 use Rattle.site_top.specs.Saying.{Tells}
 
--- By what a run does that comes to its end, and what one does that stops, by the line of the first, and by the outcomes of the
--- machine's own causes: the run stops, and that is the outcome; or it comes to its end, and then its line is told.
-abbrev pub RunsAndTells : {R E : Type 0} → (State → State → R → Type 0) → (State → State → RunStop E → Type 0) → (R → List ℕ)
+-- By what a run does that comes to its end, and what one does that stops, by the line of the first, and by the outcomes
+-- of the machine's own causes: the run stops, and that is the outcome; or it comes to its end, and then its line is
+-- told.
+abbrev pub RunsAndTells : {R E : Type 0} → (State → State → R → Type 0) → (State → State → RunStop E → Type 0)
+    → (R → List ℕ)
     → (E → Outcome) → State → State → Outcome → Type 0
 RunsAndTells {R = R} {E = E} Ends Stops line cause mid new outcome =
     ((stop : RunStop E) × Stops mid new stop × (outcome ≡ stop_outcome cause stop))

@@ -15,11 +15,12 @@ network_line c =
 
 -- of a PLP whose slot lasts n/d ticks: its identifier, the slot, and the delay in ticks
 unfoldable pub slot_part : Config → ℕ → ℕ → ℕ → List ℕ
-slot_part c plp n d = codes "plp=" ++ decimal (plp_at c.plps plp).id ++ codes " slot=" ++ decimal n ++ codes "/" ++ decimal d
+slot_part c plp n d = codes "plp=" ++ decimal (plp_at c.plps plp).id ++ codes " slot=" ++ decimal n ++ codes "/"
+    ++ decimal d
     ++ codes " delay=" ++ decimal (delay c plp)
 
--- bytes of a data field, bytes that the blocks of an interleaving frame carry at most, bytes that it brings, and the cells that the
--- blocks fill in a frame
+-- bytes of a data field, bytes that the blocks of an interleaving frame carry at most, bytes that it brings, and the
+-- cells that the blocks fill in a frame
 unfoldable pub size_part : Config → ℕ → List ℕ
 size_part c plp =
     codes " field=" ++ decimal (field_bytes c plp) ++ codes " capacity=" ++ decimal (capacity c plp) ++ codes " need="
@@ -31,7 +32,8 @@ unfoldable pub count_part : Config → ℕ → List ℕ
 count_part c plp =
     codes " window=" ++ decimal (window c plp) ++ codes " slots=" ++ decimal (slots_by c plp c.ticks) ++ codes ","
     ++ decimal (slots_by c plp (2 * c.ticks))
-    ++ codes "," ++ decimal (slots_by c plp (3 * c.ticks)) ++ codes "," ++ decimal (slots_by c plp (4 * c.ticks)) ++ codes "\n"
+    ++ codes "," ++ decimal (slots_by c plp (3 * c.ticks)) ++ codes "," ++ decimal (slots_by c plp (4 * c.ticks))
+    ++ codes "\n"
 
 -- the line of a PLP
 abbrev pub plp_line : Config → ℕ → ℕ → ℕ → List ℕ

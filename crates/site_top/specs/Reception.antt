@@ -35,9 +35,10 @@ abbrev pub Follows : Sharing → ℕ → List ℕ → List ℕ → Config → St
 Follows sharing id file out c mid new outcome =
     (HasNoPlaceBy sharing c id × (new ≡ mid) × (outcome ≡ UnknownPlp id))
     ⊎ ((plp : ℕ) × IsPlaceBy sharing c id plp
-    × RunsAndTells (Ends sharing file out c plp) (StopsSo sharing file out c plp) receive_line receive_cause mid new outcome)
+    × RunsAndTells (Ends sharing file out c plp) (StopsSo sharing file out c plp) receive_line receive_cause
+    mid new outcome)
 
--- CONFIG gives no plan, and nothing else is done; or what follows does. With `common receive` a common PLP cannot be asked for, and
--- its packets are joined with those of the PLPs of its group.
+-- CONFIG gives no plan, and nothing else is done; or what follows does. With `common receive` a common PLP cannot be
+-- asked for, and its packets are joined with those of the PLPs of its group.
 abbrev pub Receives : Sharing → State → State → List ℕ → ℕ → List ℕ → List ℕ → Outcome → Type 0
 Receives sharing old new config id file out outcome = ByPlan old new config (Follows sharing id file out) outcome

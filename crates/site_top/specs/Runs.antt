@@ -41,7 +41,8 @@ use Rattle.show_run.specs.declared.stop.ShowStop.{ShowStop}
 use Rattle.site_frame.specs.RecordFile.{AreBytes}
 use Rattle.site_top.specs.declared.outcome.Outcome.{Outcome}
 use Rattle.site_top.specs.declared.outcome.Outcome.TheVariants.{Done, UnknownPlp, OutOfMemory, TrialFault}
-use Rattle.site_top.specs.Commands.{Command, ShowPackets, ShowT2mi, ShowFrames, ShowConfig, Plan, Gateway, Modulate, Receive}
+use Rattle.site_top.specs.Commands.{Command, ShowPackets, ShowT2mi, ShowFrames, ShowConfig, Plan, Gateway, Modulate}
+use Rattle.site_top.specs.Commands.{Receive}
 use Rattle.site_top.specs.Commands.{Merge, Mend, Swap, Trial}
 use Rattle.site_top.specs.Commands.{Compare}
 use Rattle.site_top.specs.CompareCommand.{Compares}
@@ -54,11 +55,13 @@ use Rattle.site_top.specs.ModulateCommand.{Modulates}
 use Rattle.site_top.specs.Reception.{Receives}
 use Rattle.site_top.specs.SwapCommand.{Swaps}
 use Rattle.site_top.specs.TrialCommand.{Tries}
-use Rattle.site_top.specs.Outcomes.{run_outcome, stop_outcome, gateway_cause, modulate_cause, receive_cause, merge_cause}
+use Rattle.site_top.specs.Outcomes.{run_outcome, stop_outcome, gateway_cause, modulate_cause, receive_cause}
+use Rattle.site_top.specs.Outcomes.{merge_cause}
 use Rattle.site_top.specs.Outcomes.{mend_cause, swap_cause, show_cause, config_outcome, Miscounts}
 
 -- A file is shown by the text that a definition asks for.
-abbrev pub Shows : (List ℕ → ℕ → Result ℕ (RunStop ShowStop) → List ℕ → List ℕ → Type 0) → State → State → List ℕ → Outcome → Type 0
+abbrev pub Shows : (List ℕ → ℕ → Result ℕ (RunStop ShowStop) → List ℕ → List ℕ → Type 0) → State → State
+    → List ℕ → Outcome → Type 0
 Shows IsText old new file outcome = (result : Result ℕ (RunStop ShowStop)) × show.Shows IsText old new file result
     × (outcome ≡ run_outcome (stop_outcome show_cause) result)
 
@@ -85,7 +88,8 @@ AreShort held ins = (plp : ℕ) → plp < length ins → length (file_at held in
 abbrev pub AreShortFor : Command → Held → Type 0
 AreShortFor (ShowPackets file) held = length (bytes_of held.files file) < longest_file
 AreShortFor (ShowT2mi file) held = length (bytes_of held.files file) < longest_file
-AreShortFor (ShowFrames file) held = (length (bytes_of held.files file) < longest_file) × AreBytes (bytes_of held.files file)
+AreShortFor (ShowFrames file) held = (length (bytes_of held.files file) < longest_file)
+    × AreBytes (bytes_of held.files file)
 AreShortFor (ShowConfig file) held = Unit {0}
 AreShortFor (Plan config) held = Unit {0}
 AreShortFor (Gateway sharing config out ins) held = AreShort held ins
@@ -98,8 +102,8 @@ AreShortFor (Swap config id t2mi file out) held = AreShort held (names_of t2mi f
 AreShortFor (Compare config a b) held = AreShort held (names_of a b)
 AreShortFor (Trial seed frames) held = Unit {0}
 
--- How `gateway` and `common gateway` must end over a plan: with the numbers if there is not one input for each PLP that has one,
--- else as the run does over inputs that are not too long.
+-- How `gateway` and `common gateway` must end over a plan: with the numbers if there is not one input for each PLP that
+-- has one, else as the run does over inputs that are not too long.
 abbrev pub PlanMustEnd : Sharing → Held → List (List ℕ) → Config → Outcome → Type 0
 PlanMustEnd sharing held ins c outcome = Miscounts sharing c ins outcome
     ⊎ ((length ins ≡ input_count sharing c) × AreShort held ins × ((result : Result Ran GatewayStop)
@@ -108,10 +112,11 @@ PlanMustEnd sharing held ins c outcome = Miscounts sharing c ins outcome
 -- How `modulate` must end over a plan: as the run does over an input that is not too long.
 abbrev pub ModulateMustEnd : List ℕ → Config → Outcome → Type 0
 ModulateMustEnd bytes c outcome = (length bytes < longest_file)
-    × ((result : Result Modulated ModulateStop) × ModulateMust c bytes result × (outcome ≡ run_outcome modulate_cause result))
+    × ((result : Result Modulated ModulateStop) × ModulateMust c bytes result
+    × (outcome ≡ run_outcome modulate_cause result))
 
--- How `receive` and `common receive` must end over a plan: with the identifier if no PLP that can be asked for has it, else as the
--- run does over records that are not too long.
+-- How `receive` and `common receive` must end over a plan: with the identifier if no PLP that can be asked for has it,
+-- else as the run does over records that are not too long.
 abbrev pub ReceiveMustEnd : Sharing → List ℕ → ℕ → Config → Outcome → Type 0
 ReceiveMustEnd sharing bytes id c outcome = (HasNoPlaceBy sharing c id × (outcome ≡ UnknownPlp id))
     ⊎ ((plp : ℕ) × IsPlaceBy sharing c id plp × (length bytes < longest_file)
@@ -121,23 +126,28 @@ ReceiveMustEnd sharing bytes id c outcome = (HasNoPlaceBy sharing c id × (outco
 -- How `merge` must end over a plan: as the run does over two inputs that are not too long.
 abbrev pub MergeMustEnd : Held → List (List ℕ) → Config → Outcome → Type 0
 MergeMustEnd held ins c outcome = AreShort held ins
-    × ((result : Result Merged MergeStop) × MergeMust c (file_at held ins) result × (outcome ≡ run_outcome merge_cause result))
+    × ((result : Result Merged MergeStop) × MergeMust c (file_at held ins) result
+    × (outcome ≡ run_outcome merge_cause result))
 
 -- How `mend` must end over a plan: as the run does over inputs that are not too long.
 abbrev pub MendMustEnd : Held → List (List ℕ) → Config → Outcome → Type 0
 MendMustEnd held ins c outcome = AreShort held ins
-    × ((result : Result Mended MendStop) × MustMend c (length ins) (file_at held ins) result × (outcome ≡ run_outcome mend_cause result))
+    × ((result : Result Mended MendStop) × MustMend c (length ins) (file_at held ins) result
+    × (outcome ≡ run_outcome mend_cause result))
 
--- How `swap` must end over a plan: with the identifier if no PLP has it, else as the run does over two inputs that are not too long.
+-- How `swap` must end over a plan: with the identifier if no PLP has it, else as the run does over two inputs that are
+-- not too long.
 abbrev pub SwapMustEnd : Held → List (List ℕ) → ℕ → Config → Outcome → Type 0
 SwapMustEnd held ins id c outcome = (HasNoPlace c id × (outcome ≡ UnknownPlp id))
     ⊎ ((plp : ℕ) × IsPlace c id plp × AreShort held ins
-    × ((result : Result Swapped SwapStop) × SwapMust c plp (file_at held ins) result × (outcome ≡ run_outcome swap_cause result)))
+    × ((result : Result Swapped SwapStop) × SwapMust c plp (file_at held ins) result
+    × (outcome ≡ run_outcome swap_cause result)))
 
 -- How `compare` must end over a plan: as the run does over two inputs that are not too long.
 abbrev pub CompareMustEnd : Held → List (List ℕ) → Config → Outcome → Type 0
 CompareMustEnd held ins c outcome = AreShort held ins
-    × ((result : Result Compared CompareStop) × CompareMust c (file_at held ins) result × (outcome ≡ run_outcome compare_cause result))
+    × ((result : Result Compared CompareStop) × CompareMust c (file_at held ins) result
+    × (outcome ≡ run_outcome compare_cause result))
 
 -- How a command must end whose CONFIG has this text: with its refusal, or as it must over the plan that it gives.
 abbrev pub OverPlan : List ℕ → (Config → Outcome → Type 0) → Outcome → Type 0
@@ -149,11 +159,14 @@ OverPlan text Must outcome =
 -- inputs.
 abbrev pub MustEnd : Command → Held → Outcome → Type 0
 MustEnd (ShowPackets file) held outcome = (length (bytes_of held.files file) < longest_file)
-    × ((result : Result ℕ ShowStop) × PacketsEnd (bytes_of held.files file) result × (outcome ≡ run_outcome show_cause result))
+    × ((result : Result ℕ ShowStop) × PacketsEnd (bytes_of held.files file) result
+    × (outcome ≡ run_outcome show_cause result))
 MustEnd (ShowT2mi file) held outcome = (length (bytes_of held.files file) < longest_file) × (outcome ≡ Done)
 MustEnd (ShowFrames file) held outcome = (length (bytes_of held.files file) < longest_file)
-    × ((result : Result ℕ ShowStop) × RecordsEnd (bytes_of held.files file) result × (outcome ≡ run_outcome show_cause result))
-MustEnd (ShowConfig file) held outcome = (result : Result Config ConfigStop) × GivesConfig (bytes_of held.files file) result
+    × ((result : Result ℕ ShowStop) × RecordsEnd (bytes_of held.files file) result
+    × (outcome ≡ run_outcome show_cause result))
+MustEnd (ShowConfig file) held outcome = (result : Result Config ConfigStop)
+    × GivesConfig (bytes_of held.files file) result
     × (outcome ≡ run_outcome config_outcome result)
 MustEnd (Plan config) held outcome = (result : Result Config ConfigStop) × GivesPlan (bytes_of held.files config) result
     × (outcome ≡ run_outcome config_outcome result)
@@ -163,11 +176,13 @@ MustEnd (Modulate config file out) held outcome =
     OverPlan (bytes_of held.files config) (ModulateMustEnd (bytes_of held.files file)) outcome
 MustEnd (Receive sharing config id file out) held outcome =
     OverPlan (bytes_of held.files config) (ReceiveMustEnd sharing (bytes_of held.files file) id) outcome
-MustEnd (Merge config a b out) held outcome = OverPlan (bytes_of held.files config) (MergeMustEnd held (names_of a b)) outcome
+MustEnd (Merge config a b out) held outcome = OverPlan (bytes_of held.files config) (MergeMustEnd held (names_of a b))
+    outcome
 MustEnd (Mend config out ins) held outcome = OverPlan (bytes_of held.files config) (MendMustEnd held ins) outcome
 MustEnd (Swap config id t2mi file out) held outcome =
     OverPlan (bytes_of held.files config) (SwapMustEnd held (names_of t2mi file) id) outcome
-MustEnd (Compare config a b) held outcome = OverPlan (bytes_of held.files config) (CompareMustEnd held (names_of a b)) outcome
+MustEnd (Compare config a b) held outcome = OverPlan (bytes_of held.files config) (CompareMustEnd held (names_of a b))
+    outcome
 MustEnd (Trial seed frames) held outcome = outcome ≡ Done
 
 -- A trial can show a defect of its own.

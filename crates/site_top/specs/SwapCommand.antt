@@ -34,32 +34,35 @@ swap_line ran = codes "frames=" ++ decimal ran.frames ++ codes " muted=" ++ deci
 
 -- What holds of bytes that are a stream with the PLP at a place replaced by the packets of a file.
 pub record ComesOfSwapped (c : Config) (plp : ℕ) (t2mi file bytes : List ℕ) : Type 0 where
-  -- Of a damaged run they are the units of these frames of the run with the other input, and of no others: those that came whole,
-  -- from the first of a superframe on.
+  -- Of a damaged run they are the units of these frames of the run with the other input, and of no others: those that
+  -- came whole, from the first of a superframe on.
   pub honest : (inputs : ℕ → List (List ℕ)) (from : ℕ) (fates : List Fate) → run_length c inputs ≤ MOST_FRAMES
       → Honest (run_stream c inputs) from fates → t2mi ≡ stream_bytes (run_stream c inputs) from fates
       → bytes ≡ joined (pipe c.pid (remade_packets c (region_of_run c plp inputs (packets_in file) from fates)))
-  -- If these are spaced, what a modulator makes of them: from the first to the last, each that is complete, and each other number
-  -- muted.
+  -- If these are spaced, what a modulator makes of them: from the first to the last, each that is complete, and each
+  -- other number muted.
   pub comes : (inputs : ℕ → List (List ℕ)) (from : ℕ) (fates : List Fate) → run_length c inputs ≤ MOST_FRAMES
       → Honest (run_stream c inputs) from fates → t2mi ≡ stream_bytes (run_stream c inputs) from fates
       → AreSpaced c (region_of_run c plp inputs (packets_in file) from fates)
       → map (λ x. content_view c x.number x.content) (records_due c true bytes)
       ≡ must_come c (region_of_run c plp inputs (packets_in file) from fates)
   -- Of a whole run, if the one with the other input has as many frames, they are what the gateway writes of that.
-  pub whole : (inputs : ℕ → List (List ℕ)) → run_length c inputs ≤ MOST_FRAMES → t2mi ≡ joined (pipe c.pid (packets_of c inputs))
+  pub whole : (inputs : ℕ → List (List ℕ)) → run_length c inputs ≤ MOST_FRAMES
+      → t2mi ≡ joined (pipe c.pid (packets_of c inputs))
       → run_length c (with_input inputs plp (packets_in file)) ≡ run_length c inputs
       → bytes ≡ joined (pipe c.pid (packets_of c (with_input inputs plp (packets_in file))))
 
 -- So it is with the bytes of T2MI, IN and OUT.
 abbrev pub HoldsSwapped : Config → ℕ → State → State → List ℕ → List ℕ → List ℕ → Type 0
 HoldsSwapped c plp old new t2mi file out = IfSome old.held
-    (λ h. IfSome new.held (λ k. ComesOfSwapped c plp (bytes_of h.files t2mi) (bytes_of h.files file) (bytes_of k.files out)))
+    (λ h. IfSome new.held (λ k. ComesOfSwapped c plp (bytes_of h.files t2mi) (bytes_of h.files file)
+    (bytes_of k.files out)))
 
 -- So it is of all units of the frames of any stream, with a PLP replaced.
 abbrev pub UnitsAreSwapped : Config → Type 0
 UnitsAreSwapped c = (plp : ℕ) (t2mi file bytes : List ℕ) → plp < length c.plps
-    → bytes ≡ joined (pipe c.pid (remade_packets c (region_frames c plp (packets_in file) t2mi))) → ComesOfSwapped c plp t2mi file bytes
+    → bytes ≡ joined (pipe c.pid (remade_packets c (region_frames c plp (packets_in file) t2mi)))
+    → ComesOfSwapped c plp t2mi file bytes
 
 -- a run to its end, and one that stops
 abbrev pub Ends : List ℕ → List ℕ → List ℕ → Config → ℕ → State → State → Ran → Type 0

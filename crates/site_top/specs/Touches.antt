@@ -2,7 +2,8 @@
 use Rattle.std.specs.Prelude.{◌≡◌, ◌≢◌, ℕ, ◌+◌, ◌≤◌, List, [], ◌∷◌, ◌++◌, length, Option, None, Some, option_map}
 use Rattle.std.specs.FinMap.{get}
 use Rattle.ports.specs.Desk.{State, Held}
-use Rattle.site_top.specs.Commands.{Command, ShowPackets, ShowT2mi, ShowFrames, ShowConfig, Plan, Gateway, Modulate, Receive}
+use Rattle.site_top.specs.Commands.{Command, ShowPackets, ShowT2mi, ShowFrames, ShowConfig, Plan, Gateway, Modulate}
+use Rattle.site_top.specs.Commands.{Receive}
 use Rattle.site_top.specs.Commands.{Merge, Mend, Swap, Trial}
 use Rattle.site_top.specs.Commands.{Compare}
 
@@ -49,8 +50,8 @@ OthersStay out None new = new ≡ None
 OthersStay out (Some h) new = (k : Held) × (new ≡ Some k)
     × ((name : List ℕ) → out ≢ Some name → get k.files name ≡ get h.files name)
 
--- No file has changed but the one that is written, which is created once at most; no more files were opened than are read; and
--- what was said before stands.
+-- No file has changed but the one that is written, which is created once at most; no more files were opened than are
+-- read; and what was said before stands.
 pub record Touches (out : Option (List ℕ)) (reads : ℕ) (old new : State) : Type 0 where
   pub files : OthersStay out old.held new.held
   pub created : new.created ≤ old.created + outs out

@@ -8,7 +8,8 @@ use Rattle.site_top.specs.declared.outcome.Outcome.{Outcome}
 use Rattle.site_top.specs.Outcomes.{trial_outcome}
 use Rattle.site_top.specs.Saying.{Tells}
 
--- The lines of the trial are told; or memory ran out, or a run of the trial ended otherwise than it must, and nothing was done.
+-- The lines of the trial are told; or memory ran out, or a run of the trial ended otherwise than it must, and nothing
+-- was done.
 abbrev pub Tries : State → State → ℕ → ℕ → Outcome → Type 0
 Tries old new seed frames outcome =
     ((stop : TrialStop) × (new ≡ old) × (outcome ≡ trial_outcome stop))

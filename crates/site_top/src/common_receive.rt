@@ -37,9 +37,9 @@ fn joined_law(plan: &Plan)
     common_law();
 }
 
-/// Gives back the packets of the PLP with an identifier, which is not common, and in its free slots those of the common PLP of its
-/// group, by the named configuration, from the named records of a network's frames, and says the slot at which they begin and how
-/// many there are.
+/// Gives back the packets of the PLP with an identifier, which is not common, and in its free slots those of the common
+/// PLP of its group, by the named configuration, from the named records of a network's frames, and says the slot at
+/// which they begin and how many there are.
 pub fn common_receive<D: Desk>(
     alloc: Global,
     config: &str,

@@ -20,8 +20,8 @@ fn alike_law(plan: &Plan)
     none_differs_law();
 }
 
-/// Compares two T2-MI streams of a network, by the named configuration: says what both make of each frame, and how many frames
-/// there are.
+/// Compares two T2-MI streams of a network, by the named configuration: says what both make of each frame, and how many
+/// frames there are.
 pub fn compare<D: Desk>(alloc: Global, config: &str, a: &str, b: &str, desk: &mut D) -> Outcome
     ensures { Compares (D.state desk.old) (D.state desk.new) config.now a.now b.now result }
 {

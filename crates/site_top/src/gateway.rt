@@ -12,8 +12,8 @@ use file_run::read_plan;
 use ports::{Desk, Word};
 use std::alloc::Global;
 
-/// Makes the T2-MI stream of a network, by the named configuration and one named transport stream for each PLP, and says how many
-/// frames and units it has.
+/// Makes the T2-MI stream of a network, by the named configuration and one named transport stream for each PLP, and
+/// says how many frames and units it has.
 pub fn gateway<D: Desk>(
     alloc: Global,
     config: &str,
@@ -39,8 +39,8 @@ pub fn gateway<D: Desk>(
     tell_run(desk, end)
 }
 
-/// The same with common PLPs: one named transport stream for each PLP that is not common. A packet that all inputs of a group have
-/// in a slot goes once, in the common PLP of the group.
+/// The same with common PLPs: one named transport stream for each PLP that is not common. A packet that all inputs of a
+/// group have in a slot goes once, in the common PLP of the group.
 pub fn common_gateway<D: Desk>(
     alloc: Global,
     config: &str,

@@ -3,7 +3,8 @@ ghost use Rattle.std.specs.Prelude.{◌≡◌, ◌+◌, ◌++◌, ◌≤◌, cod
 ghost use Rattle.file_run.specs.declared.line.TheConstants.{ROOM};
 ghost use Rattle.file_run.specs.declared.config_stop.ConfigCause.TheVariants.{Text, Rule};
 ghost use Rattle.site_top.specs.Outcomes.{last_line as line_of_outcome, place_word, why_number as number_of_why};
-ghost use Rattle.site_top.specs.Outcomes.{record_why_number as number_of_record_why, text_why_number as number_of_text_why};
+ghost use Rattle.site_top.specs.Outcomes.{record_why_number as number_of_record_why};
+ghost use Rattle.site_top.specs.Outcomes.{text_why_number as number_of_text_why};
 
 use crate::outcome::Outcome;
 use config_text::TextWhy;

@@ -54,8 +54,8 @@ pub fn completeness_law()
     one_comparison();
 }
 
-/// However a command ends, it changes no file but the one that it writes, creates it once at most, and opens no more files than
-/// it reads.
+/// However a command ends, it changes no file but the one that it writes, creates it once at most, and opens no more
+/// files than it reads.
 pub fn only_out_changes_law()
     ensures { OnlyOutChanges }
 {}

@@ -8,7 +8,7 @@ use crate::outcome::Outcome;
 use crate::run_end::tell_run;
 use file_run::read_plan;
 use mended_frames::{near_law, pass_law, rise_law};
-use network_laws::{honest_feeds_law, mend_law, whole_feed_law};
+use network_laws::{honest_feeds_law, mend_law, whole_feed_law, woven_frames_law};
 use plp_config::Plan;
 use ports::{Desk, Word};
 use std::alloc::Global;
@@ -26,11 +26,12 @@ fn mended_law(plan: &Plan)
     mend_law();
     honest_feeds_law();
     whole_feed_law();
+    woven_frames_law();
 }
 
-/// Makes one T2-MI stream of one or more of a network, by the named configuration: each frame of which they have every packet together,
-/// at no other instant than its own. Says how many frames there are, how many of them no stream had whole, how many between them are
-/// not, and how many units.
+/// Makes one T2-MI stream of one or more of a network, by the named configuration: each frame of which they have every
+/// packet together, at the instant that its timestamp tells. Says how many frames there are, how many of them no stream
+/// had whole, how many between them are not, and how many units.
 pub fn mend<D: Desk>(alloc: Global, config: &str, out: &str, ins: &[Word], desk: &mut D) -> Outcome
     requires { are_inputs out.now ins.now ≡ true }
     ensures { Mends (D.state desk.old) (D.state desk.new) config.now out.now ins.now result }

@@ -25,8 +25,8 @@ fn merged_law(plan: &Plan)
     again_law();
 }
 
-/// Makes one T2-MI stream of two of a network, by the named configuration: each frame from the first of them that has it. Says
-/// how many frames there are, how many of them from either, and how many units.
+/// Makes one T2-MI stream of two of a network, by the named configuration: each frame from the first of them that has
+/// it. Says how many frames there are, how many of them from either, and how many units.
 pub fn merge<D: Desk>(
     alloc: Global,
     config: &str,

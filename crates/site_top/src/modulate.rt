@@ -11,8 +11,8 @@ use ports::Desk;
 use std::alloc::Global;
 use stream_laws::plan_law;
 
-/// Makes the records of the frames of a network, by the named configuration, from its named T2-MI stream, and says the number of
-/// the first frame, how many records there are, and how many of them are muted.
+/// Makes the records of the frames of a network, by the named configuration, from its named T2-MI stream, and says the
+/// number of the first frame, how many records there are, and how many of them are muted.
 pub fn modulate<D: Desk>(
     alloc: Global,
     config: &str,

@@ -30,14 +30,16 @@ pub enum Outcome {
         need: u64,
         have: u64,
     },
-    /// This packet of this input, both counted from 0, does not begin with the sync byte, or the input ends inside it. No bad
-    /// packet is met in an earlier frame, or in the same frame in an earlier input; of `common gateway`, in the same frame in an earlier
-    /// group, or in the same group in an earlier slot, or in the same slot in an earlier input.
+    /// This packet of this input, both counted from 0, does not begin with the sync byte, or the input ends inside it.
+    /// No bad packet is met in an earlier frame, or in the same frame in an earlier input; of `common gateway`, in the
+    /// same frame in an earlier group, or in the same group in an earlier slot, or in the same slot in an earlier
+    /// input.
     InputRefused {
         input: u8,
         packet: u64,
     },
-    /// The input was read to its end, and no superframe was found to begin with; of `mend`, no frame is whole in the inputs together.
+    /// The input was read to its end, and no superframe was found to begin with; of `mend`, no frame is whole in the
+    /// inputs together.
     NoSuperframe,
     /// No record begins where this one must, counted from 0, or it is not of the frame that is expected there.
     RecordRefused {
@@ -48,7 +50,8 @@ pub enum Outcome {
     UnknownPlp {
         plp_id: u8,
     },
-    /// A file gave as many bytes as no file may have, or a frame comes of which none may have the number; `count` is that number.
+    /// A file gave as many bytes as no file may have, or a frame comes of which none may have the number; `count` is
+    /// that number.
     TooLong {
         count: u64,
     },
@@ -67,7 +70,8 @@ pub enum Outcome {
     WriteFault,
     /// No memory was found.
     OutOfMemory,
-    /// A run inside a trial ended otherwise than it must: the program has a defect, or the losses that were drawn left nothing.
+    /// A run inside a trial ended otherwise than it must: the program has a defect, or the losses that were drawn left
+    /// nothing.
     TrialFault,
 }
 

@@ -33,8 +33,8 @@ pub fn back_law(plan: &Plan)
     whole_law();
 }
 
-/// Gives back the packets of the PLP with an identifier, by the named configuration, from the named records of a network's
-/// frames, and says the slot at which they begin and how many there are.
+/// Gives back the packets of the PLP with an identifier, by the named configuration, from the named records of a
+/// network's frames, and says the slot at which they begin and how many there are.
 pub fn receive<D: Desk>(
     alloc: Global,
     config: &str,

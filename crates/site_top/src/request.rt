@@ -3,10 +3,12 @@ ghost use Rattle.std.specs.Prelude.{◌≡◌, ◌≤◌, ◌∷◌, [], IfSome}
 ghost use Rattle.std.specs.Option.{option_map};
 ghost use Rattle.site_top.specs.Commands.{command_of, shown as shown_by, show_of as show_by, is_input, are_inputs};
 ghost use Rattle.common_plp.specs.Sharing.{Apart, Joint};
-ghost use Rattle.site_top.specs.Commands.{gateway_of as gateway_by, modulate_of as modulate_by, number_named as number_by};
+ghost use Rattle.site_top.specs.Commands.{gateway_of as gateway_by, modulate_of as modulate_by};
+ghost use Rattle.site_top.specs.Commands.{number_named as number_by};
 ghost use Rattle.site_top.specs.Commands.{common_of as common_by, common_receive_of as common_receive_by};
 ghost use Rattle.site_top.specs.Commands.{common_counted_of as common_counted_by, counted_of as counted_by};
-ghost use Rattle.site_top.specs.Commands.{receive_of as receive_by, merge_of as merge_by, trial_of as trial_by, meant, IsApart};
+ghost use Rattle.site_top.specs.Commands.{receive_of as receive_by, merge_of as merge_by, trial_of as trial_by, meant};
+ghost use Rattle.site_top.specs.Commands.{IsApart};
 ghost use Rattle.site_top.specs.Commands.{swap_of as swap_by};
 ghost use Rattle.site_top.specs.Commands.{mend_of as mend_by};
 ghost use Rattle.site_top.specs.Commands.{compare_of as compare_by};
@@ -51,8 +53,8 @@ pub enum Request<'a> {
         out: &'a str,
         ins: &'a [Word],
     },
-    /// Makes the T2-MI stream of a network with common PLPs: its configuration, the stream, and one transport stream for each PLP that
-    /// is not common.
+    /// Makes the T2-MI stream of a network with common PLPs: its configuration, the stream, and one transport stream
+    /// for each PLP that is not common.
     CommonGateway {
         config: &'a str,
         out: &'a str,
@@ -64,37 +66,39 @@ pub enum Request<'a> {
         input: &'a str,
         out: &'a str,
     },
-    /// Gives back the packets of the PLP with an identifier: the configuration of the network, the records of its frames, and the
-    /// transport stream.
+    /// Gives back the packets of the PLP with an identifier: the configuration of the network, the records of its
+    /// frames, and the transport stream.
     Receive {
         config: &'a str,
         plp_id: u8,
         input: &'a str,
         out: &'a str,
     },
-    /// Gives back the packets of the PLP with an identifier, and what goes in the common PLP of its group: the configuration of the
-    /// network, the records of its frames, and the transport stream.
+    /// Gives back the packets of the PLP with an identifier, and what goes in the common PLP of its group: the
+    /// configuration of the network, the records of its frames, and the transport stream.
     CommonReceive {
         config: &'a str,
         plp_id: u8,
         input: &'a str,
         out: &'a str,
     },
-    /// Makes one T2-MI stream of two of a network: its configuration, both streams, which may be one file, and the stream.
+    /// Makes one T2-MI stream of two of a network: its configuration, both streams, which may be one file, and the
+    /// stream.
     Merge {
         config: &'a str,
         a: &'a str,
         b: &'a str,
         out: &'a str,
     },
-    /// Makes one T2-MI stream of one or more of a network: its configuration, the stream, and the feeds, of which two may be one file.
+    /// Makes one T2-MI stream of one or more of a network: its configuration, the stream, and the feeds, of which two
+    /// may be one file.
     Mend {
         config: &'a str,
         out: &'a str,
         ins: &'a [Word],
     },
-    /// Replaces the packets of the PLP with an identifier: the configuration of the network, its T2-MI stream and the transport stream
-    /// of the region, which may be one file, and the stream that is made of them.
+    /// Replaces the packets of the PLP with an identifier: the configuration of the network, its T2-MI stream and the
+    /// transport stream of the region, which may be one file, and the stream that is made of them.
     Swap {
         config: &'a str,
         plp_id: u8,

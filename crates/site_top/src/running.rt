@@ -27,7 +27,8 @@ use std::alloc::Global;
 
 // Does what the words say, but for the last line.
 fn command<D: Desk>(alloc: Global, words: &[Word], desk: &mut D) -> Outcome
-    ensures does { IfSome (command_of words.now) (λ command. Does command (D.state desk.old) (D.state desk.new) result) }
+    ensures does { IfSome (command_of words.now) (λ command. Does command (D.state desk.old) (D.state desk.new)
+        result) }
     ensures refuses { IfNone (command_of words.now) ((result ≡ Outcome.Usage) × (D.state desk.new ≡ D.state desk.old)) }
 {
     match request_of(words) {
@@ -93,8 +94,8 @@ pub fn run<D: Desk>(alloc: Global, words: &[Word], desk: &mut D) -> Outcome
     ensures does { IfSome (command_of words.now) (λ command.
         (before : State) × Does command (D.state desk.old) before result × Ends before (D.state desk.new) result) }
 
-    // However it ends, it changes no file but the one that it writes, creates that once at most, and opens no more files than it
-    // reads.
+    // However it ends, it changes no file but the one that it writes, creates that once at most, and opens no more
+    // files than it reads.
     ensures touches { IfSome (command_of words.now)
         (λ command. Touches (out_of command) (length (ins_of command)) (D.state desk.old) (D.state desk.new)) }
 

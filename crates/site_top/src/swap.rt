@@ -24,9 +24,9 @@ fn swapped_law(plan: &Plan)
     whole_region_law();
 }
 
-/// Sends a T2-MI stream of the network of the named configuration again, with the packets of the PLP with an identifier replaced by
-/// those of another transport stream, each in its slot. Says how many frames were sent, how many were muted and are not, how many
-/// packets were not sent, and how many units were written.
+/// Sends a T2-MI stream of the network of the named configuration again, with the packets of the PLP with an identifier
+/// replaced by those of another transport stream, each in its slot. Says how many frames were sent, how many were muted
+/// and are not, how many packets were not sent, and how many units were written.
 pub fn swap<D: Desk>(
     alloc: Global,
     config: &str,

@@ -19,8 +19,8 @@ fn outcome_of(stop: TrialStop) -> Outcome
     }
 }
 
-/// Tries a whole network, for so many frames, with inputs that are drawn from a number, and says what came of it. No file is
-/// opened.
+/// Tries a whole network, for so many frames, with inputs that are drawn from a number, and says what came of it. No
+/// file is opened.
 pub fn trial<D: Desk>(alloc: Global, seed: u64, frames: u32, desk: &mut D) -> Outcome
     ensures { Tries (D.state desk.old) (D.state desk.new) seed frames result }
 {

@@ -1,12 +1,13 @@
 -- How much a frame that was begun can have left.
-use Rattle.std.proofs.Common.{◌≡◌, ℕ, zero, suc, ◌+◌, ◌*◌, ◌%◌, ◌^◌, ◌==◌, ◌<◌, ◌≤◌, Bool, true, false, List, [], ◌∷◌, ◌++◌, length, refl, ap, arith, length-append}
+use Rattle.std.proofs.Common.{◌≡◌, ℕ, zero, suc, ◌+◌, ◌*◌, ◌%◌, ◌^◌, ◌<◌, ◌≤◌, Bool, true, false, List, [], ◌∷◌, ◌++◌}
+use Rattle.std.proofs.Common.{length, refl, ap, arith, length-append}
 use Rattle.std.specs.Prelude.{slice_index_or}
-use Rattle.terms.proofs.CaseLemmas.{bool_cases}
 use Rattle.plp_config.specs.Plps.{plp_at}
 use Rattle.plp_config.specs.declared.config.Config.{Config}
 use Rattle.t2mi_packet.specs.declared.packet.Body.{Body}
 use Rattle.frame_writer.specs.Carried.{of_frame}
-use Rattle.frame_writer.specs.FramePackets.{with_stamp, l1_body}
+use Rattle.frame_writer.specs.FramePackets.{l1_body}
+use Rattle.frame_writer.proofs.CarriedLemmas.{stamp_count}
 use Rattle.frame_writer.specs.Bodies.{block_bodies, list_bodies}
 use Rattle.spaced_frames.specs.Spaced.{spacers_behind, spacers_between}
 use Rattle.spaced_frames.specs.StandsFor.{Content, bodies_as}
@@ -32,9 +33,6 @@ list_count c frame_idx plp (blocks ∷ lists) few =
       length-append (block_bodies frame_idx id true blocks) (list_bodies c frame_idx (plp + 1) lists),
     )
 
-stamp_count : (c : Config) (n : ℕ) (bodies : List Body) → length (with_stamp c n bodies) ≤ length bodies + 1
-stamp_count c n bodies = bool_cases (n % c.frames == 0) (λ e. rw e (omega arith)) (λ e. rw e (omega arith))
-
 -- a frame of at most 255 PLPs has no more packets than this
 pub few_bodies : (c : Config) (n : ℕ) (x : Content) → length x.lists ≤ 255
     → ((i : ℕ) → i < length x.lists → length (slice_index_or x.lists i []) < 2 ^ 32) → length (bodies_as c n x) < 2 ^ 41
@@ -54,7 +52,8 @@ spacer_count c superframe (suc count) = ap suc (spacer_count c (superframe + 14)
 
 -- so with the spacers before it
 pub few_next : (c : Config) (m t n : ℕ) (bodies : List Body) → t < 2 ^ 31 → length bodies < 2 ^ 41
-    → (length (spacers_behind c m (spacers_between m t) ++ of_frame n bodies) < 2 ^ 41 + 2 ^ 31) × (spacers_between m t < 2 ^ 31)
+    → (length (spacers_behind c m (spacers_between m t) ++ of_frame n bodies) < 2 ^ 41 + 2 ^ 31)
+    × (spacers_between m t < 2 ^ 31)
 few_next c m t n bodies small few = (
   omega (
     arith,
@@ -66,6 +65,3 @@ few_next c m t n bodies small few = (
   ),
   omega (arith, small),
 )
-
-pub few_own : (n : ℕ) (bodies : List Body) → length bodies < 2 ^ 41 → length (of_frame n bodies) < 2 ^ 41
-few_own n bodies few = omega (arith, few, of_count n bodies)

@@ -1,5 +1,6 @@
 -- Spaced frames are near.
-use Rattle.std.proofs.Common.{◌≡◌, ◌<◌, ◌≤◌, ℕ, zero, suc, ◌+◌, ◌*◌, ◌/◌, List, [], ◌∷◌, ◌++◌, length, Some, refl, ap, ◌∙◌, arith}
+use Rattle.std.proofs.Common.{◌≡◌, ◌<◌, ◌≤◌, ℕ, zero, suc, ◌+◌, ◌*◌, ◌/◌, List, [], ◌∷◌, ◌++◌, length, Some, refl, ap}
+use Rattle.std.proofs.Common.{◌∙◌, arith}
 use Rattle.std.specs.List.{AllByRecursion}
 use Rattle.std.proofs.Math.Nat.{mul-div_cancel, mul-le-mul_right, div-mul-le_self, div-add-mod, add-mul, mul_comm}
 use Rattle.std.proofs.lemmas.Nat.{mod_below}
@@ -43,7 +44,8 @@ spacers_near c (suc k) m s n b rest some is le count h =
     let below : (s + 14) * f ≤ n / f * f = mul-le-mul_right f (omega (arith, far)) in
     let within = div-mul-le_self n f in (
       further c m s some is,
-      spacers_near c k ((s + 14) * f) (s + 14) n b rest some (mul-div_cancel (s + 14) some) (omega (arith, below, within)) fewer h,
+      spacers_near c k ((s + 14) * f) (s + 14) n b rest some (mul-div_cancel (s + 14) some)
+          (omega (arith, below, within)) fewer h,
     )
 
 near_behind : (c : Config) (m : ℕ) (frames : List SentFrame) → 0 < c.frames → RiseFrom m frames
@@ -53,7 +55,8 @@ near_behind c m (x ∷ frames) some rise full =
     own x.bodies full.0 (near_behind c x.number frames some rise.1 full.1)
   where
     own : (bodies : List Body) → 0 < length bodies → AreNearFrom c x.number (spaced_behind c (Some x.number) frames)
-        → AreNearFrom c m (spacers c (Some m) x.number ++ (of_frame x.number bodies ++ spaced_behind c (Some x.number) frames))
+        → AreNearFrom c m (spacers c (Some m) x.number ++ (of_frame x.number bodies ++ spaced_behind
+        c (Some x.number) frames))
     own [] l h = absurd (omega (arith, l))
     own (b ∷ bodies) l h =
         spacers_near c (spacers_between (m / c.frames) (x.number / c.frames)) m (m / c.frames) x.number b

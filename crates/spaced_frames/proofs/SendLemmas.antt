@@ -1,6 +1,8 @@
 -- Units of frames.
-use Rattle.std.proofs.Common.{◌≡◌, ◌≢◌, ◌⊎◌, ℕ, suc, ◌+◌, ◌*◌, ◌/◌, ◌<◌, ◌≤◌, Option, Some, None, Bool, true, false, List, [], ◌∷◌, ◌++◌, length, drop}
-use Rattle.std.proofs.Common.{refl, ap, ap₂, sym, subst, ◌∙◌, inl, inr, ⊎_elim, arith, append-nil, append_assoc, length-append}
+use Rattle.std.proofs.Common.{◌≡◌, ◌≢◌, ◌⊎◌, ℕ, suc, ◌+◌, ◌*◌, ◌/◌, ◌<◌, ◌≤◌, Option, Some, None, Bool, true, false}
+use Rattle.std.proofs.Common.{List, [], ◌∷◌, ◌++◌, length, drop}
+use Rattle.std.proofs.Common.{refl, ap, ap₂, sym, subst, ◌∙◌, inl, inr, ⊎_elim, arith, append-nil, append_assoc}
+use Rattle.std.proofs.Common.{length-append}
 use Rattle.std.specs.Prelude.{slice_get}
 use Rattle.std.proofs.lemmas.Bool.{true≢false}
 use Rattle.terms.proofs.ListLemmas.{same_front, next_element, all_of}
@@ -18,8 +20,10 @@ use Rattle.frame_writer.specs.FramePackets.{packets_from}
 use Rattle.frame_writer.specs.Units.{GivesAll, HasCaughtUp}
 use Rattle.frame_writer.specs.declared.flow.Flow.{Flow}
 use Rattle.frame_writer.proofs.CarriedLemmas.{carries_more, packets_append}
-use Rattle.spaced_frames.specs.Spaced.{SentFrame, spacer, spacers, spacers_behind, spacers_between, spaced, spaced_behind, last_behind}
-use Rattle.spaced_frames.specs.StandsFor.{Sends, Content, SenderStandsFor, Continues, sent_as, bodies_as, left_in, number_in}
+use Rattle.spaced_frames.specs.Spaced.{SentFrame, spacer, spacers, spacers_behind, spacers_between, spaced}
+use Rattle.spaced_frames.specs.Spaced.{spaced_behind, last_behind}
+use Rattle.spaced_frames.specs.StandsFor.{Sends, Content, SenderStandsFor, Continues, sent_as, bodies_as, left_in}
+use Rattle.spaced_frames.specs.StandsFor.{number_in}
 use Rattle.spaced_frames.specs.StandsFor.{later_in, Caught, IsAll, stages_in, left_of}
 use Rattle.spaced_frames.specs.declared.sender.Sender.{Sender}
 use Rattle.spaced_frames.specs.declared.stage.Stage.{Stage}
@@ -63,7 +67,8 @@ sends_more c old new n before now full all gave bytes g s =
     }
 
 -- more is begun behind all that was
-pub sends_begun : (c : Config) (old new : Flow) (n m : ℕ) (bodies now : List Body) (all : List (ℕ × Body)) (gave : List ℕ)
+pub sends_begun : (c : Config) (old new : Flow) (n m : ℕ) (bodies now : List Body) (all : List (ℕ × Body))
+    (gave : List ℕ)
     → old.finished ≡ false → new.finished ≡ old.finished → Feeds c old.outlet new.outlet m bodies now
     → Sends c old n [] all gave → Sends c new m now (all ++ of_frame m bodies) gave
 sends_begun c old new n m bodies now all gave going same feeds s =
@@ -74,10 +79,12 @@ sends_begun c old new n m bodies now all gave going same feeds s =
       units = s.units;
       gave_is = s.gave_is;
       flows = feeds.flows (all ++ next) (length s.units)
-          (carries_more (PiperStandsFor old.outlet.piper) (is_finished old.outlet.piper) (rest_of old.outlet) old.outlet.packet_count c n
+          (carries_more (PiperStandsFor old.outlet.piper) (is_finished old.outlet.piper) (rest_of old.outlet)
+          old.outlet.packet_count c n
           m [] bodies all (length s.units) refl s.flows);
       front = λ later _.
-          let p = s.front (packets_from c (0 + length all) next ++ later) (λ on. absurd (true≢false (sym on ∙ going))) in (
+          let p = s.front (packets_from c (0 + length all) next ++ later)
+          (λ on. absurd (true≢false (sym on ∙ going))) in (
             p.0,
             ap (pipe c.pid) (ap (λ (l : List (List ℕ)). l ++ later) more
                 ∙ append_assoc (packets_from c 0 all) (packets_from c (0 + length all) next) later) ∙ p.1,
@@ -91,8 +98,10 @@ sends_begun c old new n m bodies now all gave going same feeds s =
     }
 
 -- the same by other names of the number and the bodies
-pub sends_begun_as : (c : Config) (old new : Flow) (n m number now_number : ℕ) (before bodies now : List Body) (all : List (ℕ × Body))
-    (gave : List ℕ) → old.finished ≡ false → new.finished ≡ old.finished → m ≡ number → before ≡ bodies → now_number ≡ number
+pub sends_begun_as : (c : Config) (old new : Flow) (n m number now_number : ℕ) (before bodies now : List Body)
+    (all : List (ℕ × Body))
+    (gave : List ℕ) → old.finished ≡ false → new.finished ≡ old.finished → m ≡ number → before ≡ bodies
+    → now_number ≡ number
     → Feeds c old.outlet new.outlet m before now → Sends c old n [] all gave
     → Sends c new now_number now (all ++ of_frame number bodies) gave
 sends_begun_as c old new n m number now_number before bodies now all gave going same is_m is_before is_now feeds s =
@@ -110,7 +119,8 @@ one_spacer : (s t : ℕ) → s + 14 < t → spacers_between s t ≡ suc (spacers
 one_spacer s t l = omega (arith, l)
 
 -- the frame comes at once
-pub frame_next : (c : Config) (new : Sender) (x : Content) (superframe t number : ℕ) (bodies : List Body) (all : List (ℕ × Body))
+pub frame_next : (c : Config) (new : Sender) (x : Content) (superframe t number : ℕ) (bodies : List Body)
+    (all : List (ℕ × Body))
     (gave : List ℕ) → t ≤ superframe + 14 → later_in c new.stage new x ≡ []
     → Sends c new.flow (number_in new.stage new) (left_in c new.stage new x) (all ++ of_frame number bodies) gave
     → Continues c new x (spacers_behind c superframe (spacers_between superframe t) ++ of_frame number bodies) all gave
@@ -124,9 +134,11 @@ frame_next c new x superframe t number bodies all gave near none s = record {
 }
 
 -- a spacer comes first
-pub spacer_next : (c : Config) (new : Sender) (x : Content) (superframe t number : ℕ) (bodies : List Body) (all : List (ℕ × Body))
+pub spacer_next : (c : Config) (new : Sender) (x : Content) (superframe t number : ℕ) (bodies : List Body)
+    (all : List (ℕ × Body))
     (gave : List ℕ) → superframe + 14 < t
-    → later_in c new.stage new x ≡ spacers_behind c (superframe + 14) (spacers_between (superframe + 14) t) ++ of_frame number bodies
+    → later_in c new.stage new x ≡ spacers_behind c (superframe + 14) (spacers_between (superframe + 14) t)
+    ++ of_frame number bodies
     → Sends c new.flow (number_in new.stage new) (left_in c new.stage new x) (all ++ spacer c (superframe + 14)) gave
     → Continues c new x (spacers_behind c superframe (spacers_between superframe t) ++ of_frame number bodies) all gave
 spacer_next c new x superframe t number bodies all gave far later s =
@@ -144,14 +156,17 @@ spacer_next c new x superframe t number bodies all gave far later s =
 
 -- ---- one frame more
 
-behind_push : (c : Config) (last : Option ℕ) (frames : List SentFrame) (x : SentFrame) → spaced_behind c last (frames ++ x ∷ [])
+behind_push : (c : Config) (last : Option ℕ) (frames : List SentFrame) (x : SentFrame)
+    → spaced_behind c last (frames ++ x ∷ [])
     ≡ spaced_behind c last frames ++ (spacers c (last_behind last frames) x.number ++ of_frame x.number x.bodies)
-behind_push c last [] x = ap (λ (l : List (ℕ × Body)). spacers c last x.number ++ l) (append-nil (of_frame x.number x.bodies))
+behind_push c last [] x = ap (λ (l : List (ℕ × Body)). spacers c last x.number ++ l)
+    (append-nil (of_frame x.number x.bodies))
 behind_push c last (y ∷ frames) x =
     let own = of_frame y.number y.bodies in
     let rest = spacers c (last_behind (Some y.number) frames) x.number ++ of_frame x.number x.bodies in
     ap (λ (l : List (ℕ × Body)). spacers c last y.number ++ (own ++ l)) (behind_push c (Some y.number) frames x)
-    ∙ ap (λ (l : List (ℕ × Body)). spacers c last y.number ++ l) (sym (append_assoc own (spaced_behind c (Some y.number) frames) rest))
+    ∙ ap (λ (l : List (ℕ × Body)). spacers c last y.number ++ l)
+    (sym (append_assoc own (spaced_behind c (Some y.number) frames) rest))
     ∙ sym (append_assoc (spacers c last y.number) (own ++ spaced_behind c (Some y.number) frames) rest)
 
 spaced_push : (c : Config) (frames : List SentFrame) (x : SentFrame) → spaced c (frames ++ x ∷ [])
@@ -159,12 +174,14 @@ spaced_push : (c : Config) (frames : List SentFrame) (x : SentFrame) → spaced 
 unfolding spaced
 spaced_push c frames x = behind_push c None frames x
 
-last_push : (last : Option ℕ) (frames : List SentFrame) (x : SentFrame) → last_behind last (frames ++ x ∷ []) ≡ Some x.number
+last_push : (last : Option ℕ) (frames : List SentFrame) (x : SentFrame)
+    → last_behind last (frames ++ x ∷ []) ≡ Some x.number
 last_push last [] x = refl
 last_push last (y ∷ frames) x = last_push (Some y.number) frames x
 
 -- a frame is begun
-pub stands_begun : (c : Config) (old new : Sender) (w x : Content) (frames : List SentFrame) (gave : List ℕ) (number : ℕ)
+pub stands_begun : (c : Config) (old new : Sender) (w x : Content) (frames : List SentFrame) (gave : List ℕ)
+    (number : ℕ)
     → old.stage ≡ at.Idle → old.plan.now ≡ c → new.plan.now ≡ c → new.number ≡ number → new.stage ≢ at.Idle
     → ((all : List (ℕ × Body)) → Sends c old.flow old.place.number [] all gave
     → Continues c new x (spacers c old.last number ++ of_frame number (bodies_as c number x)) all gave)
@@ -176,7 +193,8 @@ stands_begun c old new w x frames gave number idle was is number_is busy goes h 
     let total : spaced c frames ≡ h.all =
     h.total ∙ ap (λ (t : Stage). h.all ++ later_in c t old w) idle ∙ append-nil h.all in
     let g : Continues c new x next h.all gave =
-    subst (λ (o : Option ℕ). Continues c new x (spacers c o number ++ of_frame number (bodies_as c number x)) h.all gave) (h.last idle)
+    subst (λ (o : Option ℕ). Continues c new x (spacers c o number ++ of_frame number (bodies_as c number x))
+    h.all gave) (h.last idle)
     (goes h.all sends) in
     record {
       plan = is;
@@ -188,16 +206,20 @@ stands_begun c old new w x frames gave number idle was is number_is busy goes h 
     }
 
 -- what comes behind a spacer
-pub later_spaces : (c : Config) (s : Sender) (x : Content) (superframe number : ℕ) → s.stage ≡ at.Spaces → s.superframe ≡ superframe
+pub later_spaces : (c : Config) (s : Sender) (x : Content) (superframe number : ℕ) → s.stage ≡ at.Spaces
+    → s.superframe ≡ superframe
     → s.number ≡ number → later_in c s.stage s x
-    ≡ spacers_behind c superframe (spacers_between superframe (number / c.frames)) ++ of_frame number (bodies_as c number x)
+    ≡ spacers_behind c superframe (spacers_between superframe (number / c.frames)) ++ of_frame number
+    (bodies_as c number x)
 later_spaces c s x superframe number stage is_super is_number =
     ap (λ (t : Stage). later_in c t s x) stage
-    ∙ ap₂ (λ (m n : ℕ). spacers_behind c m (spacers_between m (n / c.frames)) ++ of_frame n (bodies_as c n x)) is_super is_number
+    ∙ ap₂ (λ (m n : ℕ). spacers_behind c m (spacers_between m (n / c.frames)) ++ of_frame n (bodies_as c n x))
+    is_super is_number
 
 -- the first frame of all
 pub first_continues : (c : Config) (new : Sender) (x : Content) (next all : List (ℕ × Body)) (gave : List ℕ)
-    → later_in c new.stage new x ≡ [] → Sends c new.flow (number_in new.stage new) (left_in c new.stage new x) (all ++ next) gave
+    → later_in c new.stage new x ≡ [] → Sends c new.flow (number_in new.stage new) (left_in c new.stage new x)
+    (all ++ next) gave
     → Continues c new x next all gave
 first_continues c new x next all gave none s = record {
   begun = all ++ next;
@@ -217,7 +239,8 @@ pub spaces_or_idle : at.Spaces ≡ at.Idle → ⊥
 spaces_or_idle e = let z : Unit {0} = tt in cc
 
 -- what is under way is still
-pub given_on : (c : Config) (old new : Sender) (x : Content) (frames : List SentFrame) (gave bytes : List ℕ) (t : Stage) (full : Bool)
+pub given_on : (c : Config) (old new : Sender) (x : Content) (frames : List SentFrame) (gave bytes : List ℕ)
+    (t : Stage) (full : Bool)
     → old.stage ≡ t → new.stage ≡ t → t ≢ at.Idle → new.plan.now ≡ old.plan.now → new.number ≡ old.number
     → later_in c t new x ≡ later_in c t old x → number_in t new ≡ number_in t old
     → GivesAll c old.flow new.flow (number_in t old) (left_in c t old x) (left_in c t new x) full bytes
@@ -225,7 +248,8 @@ pub given_on : (c : Config) (old new : Sender) (x : Content) (frames : List Sent
 given_on c old new x frames gave bytes t full was is busy plan number later same gives h =
     let sends : Sends c old.flow (number_in t old) (left_in c t old x) h.all gave =
     subst (λ (t : Stage). Sends c old.flow (number_in t old) (left_in c t old x) h.all gave) was h.sends in
-    let more = sends_more c old.flow new.flow (number_in t old) (left_in c t old x) (left_in c t new x) full h.all gave bytes gives sends in
+    let more = sends_more c old.flow new.flow (number_in t old) (left_in c t old x) (left_in c t new x)
+    full h.all gave bytes gives sends in
     record {
       plan = plan ∙ h.plan;
       all = h.all;
@@ -234,14 +258,16 @@ given_on c old new x frames gave bytes t full was is busy plan number later same
           ∙ ap (λ (t : Stage). h.all ++ later_in c t old x) was
           ∙ ap (λ (l : List (ℕ × Body)). h.all ++ l) (sym later)
           ∙ ap (λ (t : Stage). h.all ++ later_in c t new x) (sym is);
-      sends = subst (λ (t : Stage). Sends c new.flow (number_in t new) (left_in c t new x) h.all (gave ++ bytes)) (sym is)
+      sends = subst (λ (t : Stage). Sends c new.flow (number_in t new) (left_in c t new x) h.all (gave ++ bytes))
+          (sym is)
           (subst (λ (n : ℕ). Sends c new.flow n (left_in c t new x) h.all (gave ++ bytes)) (sym same) more);
       last = λ e. absurd (busy (sym is ∙ e));
       number = λ _. h.number (λ e. busy (sym was ∙ e)) ∙ ap Some (sym number);
     }
 
 -- what units of a frame went out that is over
-sent_over : (c : Config) (old : Sender) (new : Flow) (x : Content) (frames : List SentFrame) (gave bytes : List ℕ) (now : List Body)
+sent_over : (c : Config) (old : Sender) (new : Flow) (x : Content) (frames : List SentFrame) (gave bytes : List ℕ)
+    (now : List Body)
     (full : Bool) → old.stage ≡ at.Sends → now ≡ []
     → GivesAll c old.flow new old.place.number (left_in c at.Sends old x) now full bytes
     → (h : SenderStandsFor c old x frames gave) → Sends c new old.place.number [] h.all (gave ++ bytes)
@@ -254,8 +280,10 @@ sent_total : (c : Config) (old : Sender) (x : Content) (frames : List SentFrame)
     → (h : SenderStandsFor c old x frames gave) → spaced c frames ≡ h.all
 sent_total c old x frames gave was h = h.total ∙ ap (λ (t : Stage). h.all ++ later_in c t old x) was ∙ append-nil h.all
 
-pub given_over : (c : Config) (old new : Sender) (x : Content) (frames : List SentFrame) (gave bytes : List ℕ) (now : List Body)
-    (full : Bool) → old.stage ≡ at.Sends → new.stage ≡ at.Idle → new.plan.now ≡ old.plan.now → new.last ≡ Some old.number
+pub given_over : (c : Config) (old new : Sender) (x : Content) (frames : List SentFrame) (gave bytes : List ℕ)
+    (now : List Body)
+    (full : Bool) → old.stage ≡ at.Sends → new.stage ≡ at.Idle → new.plan.now ≡ old.plan.now
+    → new.last ≡ Some old.number
     → new.place.number ≡ old.place.number → now ≡ []
     → GivesAll c old.flow new.flow old.place.number (left_in c at.Sends old x) now full bytes
     → SenderStandsFor c old x frames gave → SenderStandsFor c new x frames (gave ++ bytes)
@@ -267,7 +295,8 @@ given_over c old new x frames gave bytes now full was is plan last same none giv
           sent_total c old x frames gave was h
           ∙ sym (append-nil h.all)
           ∙ ap (λ (t : Stage). h.all ++ later_in c t new x) (sym is);
-      sends = subst (λ (t : Stage). Sends c new.flow (number_in t new) (left_in c t new x) h.all (gave ++ bytes)) (sym is)
+      sends = subst (λ (t : Stage). Sends c new.flow (number_in t new) (left_in c t new x) h.all (gave ++ bytes))
+          (sym is)
           (subst (λ (n : ℕ). Sends c new.flow n [] h.all (gave ++ bytes)) (sym same)
           (sent_over c old new.flow x frames gave bytes now full was none gives h));
       last = λ _. last ∙ sym (h.number (sends_is old was));
@@ -287,14 +316,18 @@ sent_all c old new x frames gave bytes now full was going gives caught h =
     let q = complete_law c.pid packets [] in
     let count : length over.units ≡ length (complete_units c.pid packets) =
     caught.all open_yet h.all (length over.units)
-    (subst (λ (l : List Body). Flows new.outlet c old.place.number l h.all (length over.units)) (sym caught.spent) over.flows) in
+    (subst (λ (l : List Body). Flows new.outlet c old.place.number l h.all (length over.units)) (sym caught.spent)
+    over.flows) in
     over.gave_is
     ∙ ap joined (same_front over.units (complete_units c.pid packets) p.0 q.rest (sym p.1 ∙ q.units) count)
-    ∙ ap (λ (l : List (ℕ × Body)). joined (complete_units c.pid (packets_from c 0 l))) (sym (sent_total c old x frames gave was h))
+    ∙ ap (λ (l : List (ℕ × Body)). joined (complete_units c.pid (packets_from c 0 l)))
+    (sym (sent_total c old x frames gave was h))
 
 -- a spacer is over: what comes behind it is begun
-pub spacer_over : (c : Config) (old new : Sender) (mid : Flow) (x : Content) (frames : List SentFrame) (gave bytes : List ℕ)
-    (now : List Body) (full : Bool) → old.stage ≡ at.Spaces → new.stage ≢ at.Idle → new.plan.now ≡ c → new.number ≡ old.number → now ≡ []
+pub spacer_over : (c : Config) (old new : Sender) (mid : Flow) (x : Content) (frames : List SentFrame)
+    (gave bytes : List ℕ)
+    (now : List Body) (full : Bool) → old.stage ≡ at.Spaces → new.stage ≢ at.Idle → new.plan.now ≡ c
+    → new.number ≡ old.number → now ≡ []
     → GivesAll c old.flow mid old.spacer.number (left_in c at.Spaces old x) now full bytes
     → ((n : ℕ) (all : List (ℕ × Body)) (gave : List ℕ) → Sends c mid n [] all gave
     → Continues c new x (later_in c at.Spaces old x) all gave)
@@ -316,7 +349,8 @@ spacer_over c old new mid x frames gave bytes now full was busy plan number none
     }
 
 -- how often units can be asked for, behind a spacer that was begun
-pub spacer_left_of : (c : Config) (old new : Sender) (x : Content) (superframe number : ℕ) → superframe + 14 < number / c.frames
+pub spacer_left_of : (c : Config) (old new : Sender) (x : Content) (superframe number : ℕ)
+    → superframe + 14 < number / c.frames
     → new.stage ≡ at.Spaces → new.superframe ≡ superframe + 14 → new.number ≡ number
     → bytes_bound new.flow.outlet (left_in c new.stage new x)
     ≤ at_hand old.flow.outlet + packet_bound * length (spacer c (superframe + 14))
@@ -350,30 +384,35 @@ going false t idle sends = refl
 
 idle_sends : (c : Config) (s : Sender) (x : Content) (frames : List SentFrame) (gave : List ℕ) → s.stage ≡ at.Idle
     → (h : SenderStandsFor c s x frames gave) → Sends c s.flow s.place.number [] h.all gave
-idle_sends c s x frames gave idle h = subst (λ (t : Stage). Sends c s.flow (number_in t s) (left_in c t s x) h.all gave) idle h.sends
+idle_sends c s x frames gave idle h = subst (λ (t : Stage). Sends c s.flow (number_in t s) (left_in c t s x) h.all gave)
+    idle h.sends
 
 idle_total : (c : Config) (s : Sender) (x : Content) (frames : List SentFrame) (gave : List ℕ) → s.stage ≡ at.Idle
     → (h : SenderStandsFor c s x frames gave) → spaced c frames ≡ h.all
 idle_total c s x frames gave idle h = h.total ∙ ap (λ (t : Stage). h.all ++ later_in c t s x) idle ∙ append-nil h.all
 
 -- with other units that went out
-idle_stands : (c : Config) (old new : Sender) (x : Content) (frames : List SentFrame) (gave more : List ℕ) → old.stage ≡ at.Idle
+idle_stands : (c : Config) (old new : Sender) (x : Content) (frames : List SentFrame) (gave more : List ℕ)
+    → old.stage ≡ at.Idle
     → new.stage ≡ at.Idle → new.plan.now ≡ old.plan.now → new.last ≡ old.last
     → (h : SenderStandsFor c old x frames gave) → Sends c new.flow new.place.number [] h.all more
     → SenderStandsFor c new x frames more
 idle_stands c old new x frames gave more was is plan last h sends = record {
   plan = plan ∙ h.plan;
   all = h.all;
-  total = idle_total c old x frames gave was h ∙ sym (append-nil h.all) ∙ ap (λ (t : Stage). h.all ++ later_in c t new x) (sym is);
+  total = idle_total c old x frames gave was h ∙ sym (append-nil h.all)
+      ∙ ap (λ (t : Stage). h.all ++ later_in c t new x) (sym is);
   sends = subst (λ (t : Stage). Sends c new.flow (number_in t new) (left_in c t new x) h.all more) (sym is) sends;
   last = λ _. last ∙ h.last was;
   number = λ n. absurd (n is);
 }
 
-pub finished_stands : (c : Config) (old : Sender) (flow : Flow) (new : Sender) (x : Content) (frames : List SentFrame) (gave : List ℕ)
+pub finished_stands : (c : Config) (old : Sender) (flow : Flow) (new : Sender) (x : Content) (frames : List SentFrame)
+    (gave : List ℕ)
     → new.flow ≡ flow → old.stage ≡ at.Idle → new.stage ≡ at.Idle → new.plan.now ≡ old.plan.now → new.last ≡ old.last
     → new.place.number ≡ old.place.number → old.flow.finished ≡ false → flow.finished ≡ true
-    → ((c : Config) (n : ℕ) (left : List Body) (all : List (ℕ × Body)) (given : ℕ) → Flows old.flow.outlet c n left all given
+    → ((c : Config) (n : ℕ) (left : List Body) (all : List (ℕ × Body)) (given : ℕ)
+    → Flows old.flow.outlet c n left all given
     → Flows flow.outlet c n left all given)
     → SenderStandsFor c old x frames gave → SenderStandsFor c new x frames gave
 finished_stands c old flow new x frames gave flow_is was is plan last place going over flows h =
@@ -389,7 +428,8 @@ finished_stands c old flow new x frames gave flow_is was is plan last place goin
       whole = λ off. absurd (true≢false (sym over ∙ off));
     })))
 
-pub rest_stands : (c : Config) (old new : Sender) (x : Content) (frames : List SentFrame) (gave unit : List ℕ) → old.stage ≡ at.Idle
+pub rest_stands : (c : Config) (old new : Sender) (x : Content) (frames : List SentFrame) (gave unit : List ℕ)
+    → old.stage ≡ at.Idle
     → new.stage ≡ at.Idle → new.plan.now ≡ old.plan.now → new.last ≡ old.last → new.place.number ≡ old.place.number
     → old.flow.finished ≡ true → new.flow.finished ≡ true
     → ((c : Config) (n : ℕ) (all : List (ℕ × Body)) (given : ℕ) → Flows old.flow.outlet c n [] all given
@@ -434,7 +474,8 @@ rest_all c s x frames gave idle none h =
     ∙ ap joined (sym (units ∙ ap (λ (l : List (List ℕ)). o.units ++ l) over ∙ append-nil o.units))
     ∙ ap (λ (l : List (ℕ × Body)). joined (pipe c.pid (packets_from c 0 l))) (sym (idle_total c s x frames gave idle h))
 
-pub rest_kept : (c : Config) (old new : Sender) (x : Content) (frames : List SentFrame) (gave : List ℕ) → old.stage ≡ at.Idle
+pub rest_kept : (c : Config) (old new : Sender) (x : Content) (frames : List SentFrame) (gave : List ℕ)
+    → old.stage ≡ at.Idle
     → new.stage ≡ at.Idle → new.plan.now ≡ old.plan.now → new.last ≡ old.last → new.place.number ≡ old.place.number
     → new.flow ≡ old.flow → SenderStandsFor c old x frames gave → SenderStandsFor c new x frames gave
 rest_kept c old new x frames gave was is plan last place flow h =

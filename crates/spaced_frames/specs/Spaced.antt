@@ -24,7 +24,8 @@ spacer c superframe = of_frame (first_frame c superframe) (Timestamp (stamp_of c
 -- so many of them, each 14 superframes behind the one before
 abbrev pub spacers_behind : Config → ℕ → ℕ → List (ℕ × Body)
 spacers_behind c superframe zero = []
-spacers_behind c superframe (suc count) = spacer c (superframe + FARTHEST) ++ spacers_behind c (superframe + FARTHEST) count
+spacers_behind c superframe (suc count) = spacer c (superframe + FARTHEST) ++ spacers_behind c (superframe + FARTHEST)
+    count
 
 -- how many there are between two superframes: none of these is further behind the one before
 abbrev pub spacers_between : ℕ → ℕ → ℕ

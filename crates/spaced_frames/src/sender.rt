@@ -13,8 +13,9 @@ use plp_config::Plan;
 use t2mi_stream::complete_law;
 use ts_packet::SIZE;
 
-/// Makes one T2-MI stream of frames, and of superframes of a timestamp alone where a frame is further behind the one before than who
-/// counts them can know: begin a frame, take its units, each with the same frame; behind the last one finish, and take the rest.
+/// Makes one T2-MI stream of frames, and of superframes of a timestamp alone where a frame is further behind the one
+/// before than who counts them can know: begin a frame, take its units, each with the same frame; behind the last one
+/// finish, and take the rest.
 #[derive(Drop)]
 pub struct Sender<'p> {
     plan: &'p Plan,
@@ -66,7 +67,8 @@ fn superframe_of(plan: &Plan, number: u64) -> u64
 }
 
 impl<'p> Sender<'p> {
-    ghost use Rattle.std.specs.Prelude.{◌≡◌, ◌≢◌, ◌<◌, ◌≤◌, ◌+◌, ◌*◌, ◌/◌, ◌%◌, ◌^◌, ◌++◌, ◌∷◌, ℕ, List, [], true, false, length, take, None};
+    ghost use Rattle.std.specs.Prelude.{◌≡◌, ◌≢◌, ◌<◌, ◌≤◌, ◌+◌, ◌*◌, ◌/◌, ◌%◌, ◌^◌, ◌++◌, ◌∷◌, ℕ, List, [], true};
+    ghost use Rattle.std.specs.Prelude.{false, length, take, None};
     ghost use Rattle.plp_config.specs.declared.config.Config.{Config};
     ghost use Rattle.ts_packet.specs.declared.sizes.TheConstants.{SIZE};
     ghost use Rattle.ts_packet.specs.TsFile.{joined};
@@ -75,8 +77,10 @@ impl<'p> Sender<'p> {
     ghost use Rattle.frame_writer.specs.Left.{CanBeSent};
     ghost use Rattle.frame_writer.specs.Carried.{of_frame};
     ghost use Rattle.spaced_frames.specs.Spaced.{SentFrame, spaced, spacer, spacers_behind, spacers_between};
-    ghost use Rattle.spaced_frames.specs.StandsFor.{SenderStandsFor, Content, content_of, bodies_as, is_idle, has_unit, has_finished};
-    ghost use Rattle.spaced_frames.specs.StandsFor.{Begun, GoesOn, sent_as, config_of, Caught, IsAll, left_in, left_of, rest_of, most_left};
+    ghost use Rattle.spaced_frames.specs.StandsFor.{SenderStandsFor, Content, content_of, bodies_as, is_idle, has_unit};
+    ghost use Rattle.spaced_frames.specs.StandsFor.{has_finished};
+    ghost use Rattle.spaced_frames.specs.StandsFor.{Begun, GoesOn, sent_as, config_of, Caught, IsAll, left_in, left_of};
+    ghost use Rattle.spaced_frames.specs.StandsFor.{rest_of, most_left};
     ghost use Rattle.frame_writer.specs.Flowing.{bytes_bound, at_hand, packet_bound};
     ghost use Rattle.spaced_frames.specs.declared.stage.Stage.TheVariants as at;
 
@@ -108,9 +112,11 @@ impl<'p> Sender<'p> {
         requires can { CanBeSent (config_of self.old) frame.now }
         requires early { number < MOST_FRAMES }
         requires open { has_finished self.old ≡ false }
-        ensures begun { Begun self.old self.new (of_frame number (bodies_as (config_of self.old) number (content_of frame.now)))
+        ensures begun { Begun self.old self.new
+            (of_frame number (bodies_as (config_of self.old) number (content_of frame.now)))
             (content_of frame.now) }
-        ensures bound { bytes_bound self.new.flow.outlet (left_in (config_of self.old) self.new.stage self.new (content_of frame.now))
+        ensures bound { bytes_bound self.new.flow.outlet (left_in (config_of self.old) self.new.stage
+            self.new (content_of frame.now))
             ≤ at_hand self.old.flow.outlet
             + packet_bound * length (of_frame number (bodies_as (config_of self.old) number (content_of frame.now))) }
         ensures stage { self.new.stage ≡ at.Sends }
@@ -131,7 +137,8 @@ impl<'p> Sender<'p> {
         requires early { number < MOST_FRAMES }
         requires before { superframe < number / (config_of self.old).frames }
         ensures begun { (x : Content) → Begun self.old self.new (spacer (config_of self.old) superframe) x }
-        ensures bound { (x : Content) → bytes_bound self.new.flow.outlet (left_in (config_of self.old) self.new.stage self.new x)
+        ensures bound { (x : Content) → bytes_bound self.new.flow.outlet (left_in (config_of self.old)
+            self.new.stage self.new x)
             ≤ at_hand self.old.flow.outlet + packet_bound * length (spacer (config_of self.old) superframe) }
         ensures stage { self.new.stage ≡ at.Spaces }
         ensures number { (self.new.number ≡ number) × (self.new.superframe ≡ superframe) }
@@ -197,14 +204,16 @@ impl<'p> Sender<'p> {
         }
     }
 
-    // Gives units as long as a superframe of a timestamp alone is under way, to the front of these bytes: how many bytes.
+    // Gives units as long as a superframe of a timestamp alone is under way, to the front of these bytes: how many
+    // bytes.
     fn give_spacer(&mut self, frame: &PoolFrame<'_>, out: &mut [u8]) -> usize
         requires can { CanBeSent (config_of self.old) frame.now }
         requires spaces { self.old.stage ≡ at.Spaces }
         requires room { SIZE ≤ length out.old }
         ensures stands { (frames : List SentFrame) (gave : List ℕ)
             → SenderStandsFor (config_of self.old) self.old (content_of frame.now) frames gave
-            → SenderStandsFor (config_of self.old) self.new (content_of frame.now) frames (gave ++ take result out.new) }
+            → SenderStandsFor (config_of self.old) self.new (content_of frame.now) frames
+            (gave ++ take result out.new) }
         ensures less { left_of (config_of self.old) self.new (content_of frame.now)
             < left_of (config_of self.old) self.old (content_of frame.now) }
         ensures count { result ≤ length out.old }
@@ -228,7 +237,8 @@ impl<'p> Sender<'p> {
         requires room { SIZE ≤ length out.old }
         ensures stands { (frames : List SentFrame) (gave : List ℕ)
             → SenderStandsFor (config_of self.old) self.old (content_of frame.now) frames gave
-            → SenderStandsFor (config_of self.old) self.new (content_of frame.now) frames (gave ++ take result.0 out.new) }
+            → SenderStandsFor (config_of self.old) self.new (content_of frame.now) frames
+            (gave ++ take result.0 out.new) }
         ensures caught { result.1 ≡ false → (frames : List SentFrame) (gave : List ℕ)
             → SenderStandsFor (config_of self.old) self.old (content_of frame.now) frames gave
             → Caught (config_of self.old) frames (gave ++ take result.0 out.new) }
@@ -255,15 +265,16 @@ impl<'p> Sender<'p> {
         (len, full)
     }
 
-    /// Gives units of the frame that is under way, and of what comes before it, to the front of these bytes: how many bytes, and
-    /// whether the frame is still under way. If not, all complete units of the frames begun were given.
+    /// Gives units of the frame that is under way, and of what comes before it, to the front of these bytes: how many
+    /// bytes, and whether the frame is still under way. If not, all complete units of the frames begun were given.
     pub fn give(&mut self, frame: &PoolFrame<'_>, out: &mut [u8]) -> (usize, bool)
         requires can { CanBeSent (config_of self.old) frame.now }
         requires busy { self.old.stage ≢ at.Idle }
         requires room { SIZE ≤ length out.old }
         ensures stands { (frames : List SentFrame) (gave : List ℕ)
             → SenderStandsFor (config_of self.old) self.old (content_of frame.now) frames gave
-            → SenderStandsFor (config_of self.old) self.new (content_of frame.now) frames (gave ++ take result.0 out.new) }
+            → SenderStandsFor (config_of self.old) self.new (content_of frame.now) frames
+            (gave ++ take result.0 out.new) }
         ensures caught { result.1 ≡ false → (frames : List SentFrame) (gave : List ℕ)
             → SenderStandsFor (config_of self.old) self.old (content_of frame.now) frames gave
             → Caught (config_of self.old) frames (gave ++ take result.0 out.new) }

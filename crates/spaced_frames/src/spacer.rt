@@ -8,7 +8,8 @@ use frame_writer::{FrameSource, write_timestamp};
 use plp_config::{Plan, SUPERFRAME_PERIOD};
 use t2mi_packet::LARGEST;
 
-/// By so many superframes a frame may be behind the one before it: superframe_idx counts 16 superframes (ETSI TS 102 773, clause
+/// By so many superframes a frame may be behind the one before it: superframe_idx counts 16 superframes (ETSI TS 102
+/// 773, clause
 /// 5.1), and who finds it by that knows it then, whether or not it begins its superframe.
 pub const FARTHEST: u64 = 14;
 

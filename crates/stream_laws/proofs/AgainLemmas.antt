@@ -27,7 +27,8 @@ use Rattle.stream_laws.proofs.BackLemmas.{made_carries}
 use Rattle.stream_laws.proofs.MadeLemmas.{made_bodies}
 use Rattle.stream_laws.specs.Again.{run_frame, RunSentAgain}
 
-module _ (numbers : BitCounts) (back : ScramblesBack) (range : FieldRange) (pre : PreBitsLength) (post_size : PostLength)
+module _ (numbers : BitCounts) (back : ScramblesBack) (range : FieldRange) (pre : PreBitsLength)
+    (post_size : PostLength)
     (conf_size : ConfPartLength) (c : Config) (inputs : ℕ → List (List ℕ)) (plan : IsPlan c) where
   abbrev dynamic : ℕ → List Bool
   dynamic n = dyn_part c n (told_counts c inputs n)
@@ -61,11 +62,13 @@ module _ (numbers : BitCounts) (back : ScramblesBack) (range : FieldRange) (pre 
       ∙ made_own n
 
   all_again : (k a : ℕ) → remade_bodies c (map (run_frame c inputs) (range_with_len a k))
-      ≡ flat_map (λ m. map (λ (body : Body). (m, body)) (frame_bodies c m (told_counts c inputs m) (own_blocks c inputs m)))
+      ≡ flat_map (λ m. map (λ (body : Body). (m, body)) (frame_bodies c m (told_counts c inputs m)
+      (own_blocks c inputs m)))
       (range_with_len a k)
   all_again zero a = refl
   all_again (suc k) a =
-      ap₂ (λ (x y : List (ℕ × Body)). x ++ y) (ap (map (λ (body : Body). (a, body))) (frame_again a)) (all_again k (a + 1))
+      ap₂ (λ (x y : List (ℕ × Body)). x ++ y) (ap (map (λ (body : Body). (a, body))) (frame_again a))
+      (all_again k (a + 1))
 
 pub run_sent_again : BitCounts → ScramblesBack → FieldRange → PreBitsLength → PostLength → ConfPartLength → RunSentAgain
 unfolding remade_packets front_packets

@@ -1,5 +1,6 @@
 -- What comes of a run of which all units are kept: the bytes that the gateway writes, and the frames of the run.
-use Rattle.std.proofs.Common.{◌≡◌, ◌≢◌, ◌⊎◌, inl, inr, ℕ, zero, suc, ◌+◌, ◌<◌, ◌≤◌, ◌==◌, Bool, true, List, [], ◌∷◌, ◌++◌, map}
+use Rattle.std.proofs.Common.{◌≡◌, ◌≢◌, ◌⊎◌, inl, inr, ℕ, zero, suc, ◌+◌, ◌<◌, ◌≤◌, ◌==◌, Bool, true, List, [], ◌∷◌}
+use Rattle.std.proofs.Common.{◌++◌, map}
 use Rattle.std.proofs.Common.{length, replicate, Some, None, refl, ap, ap₂, sym, subst, ◌∙◌, ⊎_elim, arith}
 use Rattle.std.proofs.Math.Path.{fun_ext}
 use Rattle.std.specs.List.{items_where_true, last_or, list_all}
@@ -69,20 +70,23 @@ own_or_later k s sent some = ⊎_elim
 last_above : (frames k : ℕ) (b : Sent) (sent : List Sent) → InFrameOrder frames (Some b.frame) sent → (k < b.frame + 1)
     ⊎ (frame_packets k sent ≢ [])
     → k < option_map_or (λ s. s.frame + 1) (last_or (Some b) sent) 0
-last_above frames k b [] o w = ⊎_elim (λ (l : k < b.frame + 1). l) (λ (some : frame_packets k [] ≢ []). absurd (some refl)) w
+last_above frames k b [] o w = ⊎_elim (λ (l : k < b.frame + 1). l) (λ (some : frame_packets k [] ≢ []).
+    absurd (some refl)) w
 last_above frames k b (s ∷ sent) o w = last_above frames k s sent o.2
     (⊎_elim
     (λ (l : k < b.frame + 1). let f = o.1.frame in inl (omega (arith, l, f)))
     (λ (some : frame_packets k (s ∷ sent) ≢ []). own_or_later k s sent some)
     w)
 
-above_each : (frames k : ℕ) (sent : List Sent) → InFrameOrder frames None sent → frame_packets k sent ≢ [] → k < end_of sent
+above_each : (frames k : ℕ) (sent : List Sent) → InFrameOrder frames None sent → frame_packets k sent ≢ []
+    → k < end_of sent
 above_each frames k [] o some = absurd (some refl)
 above_each frames k (s ∷ sent) o some = last_above frames k s sent o.2 (own_or_later k s sent some)
 
 within : (frames n : ℕ) (sent : List Sent) → AreFrames frames n sent → end_of sent ≤ n
 within frames n sent are =
-    subst (λ (l : List Sent). end_of l ≤ n) (all_left sent) (last_below n sent (all_survive sent) None (omega arith) are.below)
+    subst (λ (l : List Sent). end_of l ≤ n) (all_left sent) (last_below n sent (all_survive sent) None
+    (omega arith) are.below)
 
 end_is : (frames n : ℕ) (sent : List Sent) → AreFrames frames n sent → end_of sent ≡ n
 end_is frames zero sent are = let l = within frames 0 sent are in omega (arith, l)
@@ -99,7 +103,8 @@ whole_comes stream undamaged all c inputs plan ids l =
     let is : IsStream s = stream c inputs (frame_count c (λ plp. length (inputs plp))) plan ids l in
     let count : ℕ = length (pipe s.pid s.packets) in
     let fates : List Fate = replicate count Kept in
-    let survive = (undamaged s.pid s.packets 0 fates is.pid is.spelled (none_altered count) (each_kept count)).survive in
+    let survive = (undamaged s.pid s.packets 0 fates is.pid is.spelled (none_altered count)
+    (each_kept count)).survive in
     let a = length-map s.packets packet_of in
     let b = length-map s.sent (λ (x : Sent). x.packet) in
     let told : stream_survival s 0 fates ≡ all_survive s.sent =

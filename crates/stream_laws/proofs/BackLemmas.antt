@@ -1,5 +1,6 @@
 -- What the packets of a written frame carry.
-use Rattle.std.proofs.Common.{◌≡◌, ℕ, zero, suc, ◌+◌, ◌-◌, ◌*◌, ◌%◌, ◌<◌, ◌≤◌, ◌==◌, not, Bool, true, false, List, [], ◌∷◌, ◌++◌}
+use Rattle.std.proofs.Common.{◌≡◌, ℕ, zero, suc, ◌+◌, ◌-◌, ◌*◌, ◌%◌, ◌<◌, ◌≤◌, ◌==◌, not, Bool, true, false, List, []}
+use Rattle.std.proofs.Common.{◌∷◌, ◌++◌}
 use Rattle.std.proofs.Common.{length, map, take, count_by, Option, Some, None, refl, ap, ap₂, sym, ◌∙◌, arith, cond}
 use Rattle.std.specs.List.{filter_map, cons_option, flat_map, range_with_len}
 use Rattle.std.proofs.lemmas.Bool.{cond_both, eq-eqb, ne_eqb}
@@ -81,15 +82,18 @@ module _ (numbers : BitCounts) (back : ScramblesBack) (c : Config) (plan : IsPla
   Earlier a None = Unit {0}
   Earlier a (Some id) = (j : ℕ) × (j < a) × (id ≡ id_of j)
 
-  new_first : (a : ℕ) (before : Option ℕ) → a < length c.plps → Earlier a before → intl_frame_start before (id_of a) ≡ true
+  new_first : (a : ℕ) (before : Option ℕ) → a < length c.plps → Earlier a before
+      → intl_frame_start before (id_of a) ≡ true
   new_first a None l e = refl
   new_first a (Some id) l e =
       let j = e.0 in
       let less = e.1 in
-      ap not (ne_eqb id (id_of a) (λ same. ids_differ c plan j a (omega (arith, less, l)) l (λ is. omega (arith, is, less))
+      ap not (ne_eqb id (id_of a) (λ same. ids_differ c plan j a (omega (arith, less, l)) l
+      (λ is. omega (arith, is, less))
       (sym e.2 ∙ same)))
 
-  later : (a : ℕ) (before : Option ℕ) (blocks : List (List Bool)) → Earlier a before → Earlier (a + 1) (after before (id_of a) blocks)
+  later : (a : ℕ) (before : Option ℕ) (blocks : List (List Bool)) → Earlier a before
+      → Earlier (a + 1) (after before (id_of a) blocks)
   later a None [] e = tt
   later a (Some id) [] e = let less = e.1 in (e.0, omega (arith, less), e.2)
   later a before (b ∷ blocks) e = (a, omega arith, refl)
@@ -115,7 +119,8 @@ module _ (numbers : BitCounts) (back : ScramblesBack) (c : Config) (plan : IsPla
 pub pre_there : PreBitsLength → (c : Config) → take PRE_BITS (l1_pre c) ≡ pre_bits (pre_of c)
 pre_there law c = front_of (pre_bits (pre_of c)) (field 32 (crc32_of (pre_bits (pre_of c)))) PRE_BITS (law (pre_of c))
 
-pub signal_is : PreBitsLength → ConfPartLength → (c : Config) (n : ℕ) (dynamic : List Bool) → length dynamic ≡ dyn_len (length c.plps)
+pub signal_is : PreBitsLength → ConfPartLength → (c : Config) (n : ℕ) (dynamic : List Bool)
+    → length dynamic ≡ dyn_len (length c.plps)
     → signal_of c n (l1_pre c) (post_with c dynamic) ≡ made_l1 c n dynamic
 signal_is law size c n dynamic e =
     ap (λ (bits : List Bool). l1_body c n bits (take (conf_len (length c.plps)) (post_with c dynamic))
@@ -128,13 +133,15 @@ signal_is law size c n dynamic e =
 pub made_carries : BitCounts → ScramblesBack → PreBitsLength → ConfPartLength → (c : Config) (n : ℕ) → IsPlan c
     → (dynamic : List Bool) (blocks : ℕ → List (List Bool)) → length dynamic ≡ dyn_len (length c.plps)
     → ((plp : ℕ) → AreLong c plp (blocks plp))
-    → with_stamp c n (signal_of c n (l1_pre c) (post_with c dynamic) ∷ record_bodies (n % c.frames) None (sent_blocks c blocks))
+    → with_stamp c n (signal_of c n (l1_pre c) (post_with c dynamic) ∷ record_bodies (n % c.frames) None
+    (sent_blocks c blocks))
     ≡ made_bodies c n dynamic blocks
 made_carries numbers back law size c n plan dynamic blocks e long =
     let none : length c.plps ≡ length c.plps - 0 = omega arith in
     ap₂ (λ (l1 : Body) (l : List Body). with_stamp c n (l1 ∷ l)) (signal_is law size c n dynamic e)
     (blocks_back numbers back c plan (n % c.frames) blocks long
-    ∙ ap (λ (k : ℕ). flat_map (λ plp. block_bodies (n % c.frames) (plp_at c.plps plp).id true (blocks plp)) (range_with_len 0 k))
+    ∙ ap (λ (k : ℕ). flat_map (λ plp. block_bodies (n % c.frames) (plp_at c.plps plp).id true (blocks plp))
+    (range_with_len 0 k))
     none)
 
 -- what is sent of the frame that packets make which pass
@@ -157,10 +164,12 @@ counted_one bits rest true k e = omega (arith, e)
 counted_one bits rest false k e = omega (arith, e)
 
 counted_bodies : (id frame_idx : ℕ) (before : Option ℕ) (blocks : List Block)
-    → length (filter_map (body_block id) (record_bodies frame_idx before blocks)) ≡ count_by (λ b. b.plp_id == id) blocks
+    → length (filter_map (body_block id) (record_bodies frame_idx before blocks)) ≡ count_by (λ b. b.plp_id == id)
+    blocks
 counted_bodies id frame_idx before [] = refl
 counted_bodies id frame_idx before (b ∷ blocks) =
-    counted_one (scrambled (bits_of b.bytes)) (filter_map (body_block id) (record_bodies frame_idx (Some b.plp_id) blocks))
+    counted_one (scrambled (bits_of b.bytes)) (filter_map (body_block id) (record_bodies frame_idx (Some b.plp_id)
+    blocks))
     (b.plp_id == id) (count_by (λ x. x.plp_id == id) blocks) (counted_bodies id frame_idx (Some b.plp_id) blocks)
     ∙ sym (sum_by-cons (λ (x : Block). cond {A = ℕ} (x.plp_id == id) 1 0) b blocks)
 

@@ -10,7 +10,8 @@ use Rattle.std.proofs.lemmas.List.FromFn.{length-range_with_len, get_or-range_wi
 use Rattle.bb_frame.specs.Laws.{BitCounts}
 use Rattle.plp_config.specs.Capacity.{IsPlan}
 use Rattle.plp_config.specs.InterleavingFrames.{interleaving_frame, is_first, begin_of}
-use Rattle.plp_config.specs.Laws.{SuperframeBegins, BeginIsFirst, BeginIsLast, BeginByNumber, SpreadDividesFrames, FieldRange}
+use Rattle.plp_config.specs.Laws.{SuperframeBegins, BeginIsFirst, BeginIsLast, BeginByNumber, SpreadDividesFrames}
+use Rattle.plp_config.specs.Laws.{FieldRange}
 use Rattle.plp_config.specs.Places.{places}
 use Rattle.plp_config.specs.Plps.{plp_at, spread}
 use Rattle.plp_config.specs.Rules.{AllRules}
@@ -58,7 +59,8 @@ same_number laws c plp n rules inside =
     ap (λ (k : ℕ). k / spread c.plps plp) (laws.number c plp n)
     ∙ mul-div_cancel (n / spread c.plps plp) (omega (arith, some))
 
-pub begun_own : (laws : Interleaving) (c : Config) (inputs : ℕ → List (List ℕ)) (plp n : ℕ) → AllRules c → plp < length c.plps
+pub begun_own : (laws : Interleaving) (c : Config) (inputs : ℕ → List (List ℕ)) (plp n : ℕ) → AllRules c
+    → plp < length c.plps
     → own_blocks c inputs (begin_of c plp n) plp ≡ plp_blocks c inputs (interleaving_frame c plp n) plp
 begun_own laws c inputs plp n rules inside =
     cond-true {A = List (List Bool)} (is_first c plp (begin_of c plp n))
@@ -76,7 +78,8 @@ pub begun_here : (c : Config) (plp n : ℕ) → is_first c plp n ≡ true → be
 begun_here c plp n e = let none = eqb-true (n % spread c.plps plp) 0 e in omega (arith, none)
 
 -- from the first frame of a superframe on, none began before it
-pub begun_late : (laws : Interleaving) (c : Config) (plp first n : ℕ) → AllRules c → plp < length c.plps → first % c.frames ≡ 0
+pub begun_late : (laws : Interleaving) (c : Config) (plp first n : ℕ) → AllRules c → plp < length c.plps
+    → first % c.frames ≡ 0
     → first ≤ n → first ≤ begin_of c plp n
 begun_late laws c plp first n rules inside begins low = laws.last c plp n first rules inside
     (laws.superframe c plp first rules inside begins) low
@@ -156,7 +159,8 @@ HaveBegun c inputs past n = (plp : ℕ) → plp < length c.plps → is_first c p
     → (blocks_of c plp (packets_at past (begin_of c plp n)) ≡ plp_blocks c inputs (interleaving_frame c plp n) plp)
     × (right_blocks c plp (packets_at past (begin_of c plp n)) ≡ plp_blocks c inputs (interleaving_frame c plp n) plp)
 
-module _ (laws : Interleaving) (c : Config) (plan : IsPlan c) (first m : ℕ) (survivors : List Sent) (past : List Numbered)
+module _ (laws : Interleaving) (c : Config) (plan : IsPlan c) (first m : ℕ) (survivors : List Sent)
+    (past : List Numbered)
     (met : IsMet c.frames first m survivors past) where
   -- the group in which an interleaving frame began is what survives of that frame
   pub begun_met : (plp : ℕ) → plp < length c.plps → is_first c plp m ≡ false

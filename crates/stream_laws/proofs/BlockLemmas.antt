@@ -23,7 +23,8 @@ blocks_long counts law c inputs n plp =
     let at : ℕ → List ℕ = packet_at (inputs plp) in
     let end : ℕ = sent (rates_of c plp (epoch_ticks c plp)) (plp_keeps c plp at) n in
     let slots : ℕ = slots_by c plp (n * epoch_ticks c plp) in
-    all_map (λ b. length b ≡ 8 * block_bytes c plp) (λ from. block_bits c plp at slots from (min (from + field_bytes c plp) end))
+    all_map (λ b. length b ≡ 8 * block_bytes c plp) (λ from. block_bits c plp at slots from
+    (min (from + field_bytes c plp) end))
     (block_places (field_bytes c plp) (sent_before (rates_of c plp (epoch_ticks c plp)) (plp_keeps c plp at) n) end)
     (λ from. length-block counts law c plp at slots from (min (from + field_bytes c plp) end) (omega arith))
 
@@ -37,10 +38,12 @@ pub own_long : BitCounts → FieldRange → (c : Config) (inputs : ℕ → List 
     → AllByRecursion (λ b. length b ≡ 8 * block_bytes c plp) (own_blocks c inputs n plp)
 own_long counts law c inputs n plp =
     let m : ℕ = interleaving_frame c plp n in
-    either_long (is_first c plp n) (8 * block_bytes c plp) (plp_blocks c inputs m plp) (blocks_long counts law c inputs m plp)
+    either_long (is_first c plp n) (8 * block_bytes c plp) (plp_blocks c inputs m plp)
+    (blocks_long counts law c inputs m plp)
 
 -- how many blocks a frame tells of a PLP, among the numbers of all
-pub count_at : (c : Config) (inputs : ℕ → List (List ℕ)) (n plp : ℕ) → plp < length c.plps → slice_index (told_counts c inputs n) plp
+pub count_at : (c : Config) (inputs : ℕ → List (List ℕ)) (n plp : ℕ) → plp < length c.plps
+    → slice_index (told_counts c inputs n) plp
     ≡ told_count c inputs n plp
 count_at c inputs n plp inside = get_or-map-range_with_len (told_count c inputs n) 0 (length c.plps) plp plp 0 inside
     (omega arith)

@@ -65,8 +65,11 @@ module _ (emits : EmissionFits) (bits : PreBitsLength) (range : FieldRange) (kno
       let p : (1 ≤ length c.plps) × (length c.plps ≤ 255) = plan.rules PlpCount in
       let pre = bits (pre_of c) in
       let conf = knows.conf_size c in
-      let l1 : IsFit (made_l1 c n dynamic) =
-      ((idx_fits n, pre, omega (arith, conf, p.1), omega (arith, size, p.1), omega arith), omega (arith, pre, conf, size, p.1)) in
+      let l1 : IsFit (made_l1 c n dynamic) = (
+        (idx_fits n, pre, omega (arith, conf, p.1), omega (arith, size, p.1), omega arith),
+        omega
+            (arith, pre, conf, size, p.1),
+      ) in
       let rest : AllByRecursion IsFit (plp_bodies c n blocks 0) =
       fit_plps (length c.plps) (λ plp. block_bodies (n % c.frames) (plp_at c.plps plp).id true (blocks plp))
       (λ plp inside.
@@ -86,7 +89,8 @@ module _ (emits : EmissionFits) (bits : PreBitsLength) (range : FieldRange) (kno
       (fit_made f.number p.l1.first.dynamic (λ plp. right_blocks c plp packets) w.1
       (dyn_size knows c f.number p.l1.first (told knows c f.number packets p)) (λ plp. right_long c plp packets))
 
-  all_fit : (fs : List NumberedView) → AllByRecursion (IsWrittenFrame c) fs → AllByRecursion PairFits (remade_bodies c fs)
+  all_fit : (fs : List NumberedView) → AllByRecursion (IsWrittenFrame c) fs
+      → AllByRecursion PairFits (remade_bodies c fs)
   all_fit [] h = tt
   all_fit (f ∷ fs) h =
       all_append PairFits (frame_pairs c f) (remade_bodies c fs)
@@ -98,21 +102,25 @@ all_left : (packets : List (List ℕ)) → items_where_true (replicate (length p
 all_left [] = refl
 all_left (p ∷ packets) = ap (λ (l : List (List ℕ)). p ∷ l) (all_left packets)
 
-pub accepted_are : AcceptedSurvive → KeptUndamaged → (pid : ℕ) (packets : List (List ℕ)) → pid < 2 ^ 13 → ArePackets packets
+pub accepted_are : AcceptedSurvive → KeptUndamaged → (pid : ℕ) (packets : List (List ℕ)) → pid < 2 ^ 13
+    → ArePackets packets
     → map (λ (a : AcceptedPacket). a.bytes) (accepted_of pid (joined (pipe pid packets))) ≡ packets
 accepted_are survive undamaged pid packets small are =
     let count : ℕ = length (pipe pid packets) in
     let fates : List Fate = replicate count Kept in
     let u = undamaged pid packets 0 fates small are (none_altered count) (each_kept count) in
-    ap (λ (bytes : List ℕ). map (λ (a : AcceptedPacket). a.bytes) (accepted_of pid bytes)) (sym (left_all (pipe pid packets)))
+    ap (λ (bytes : List ℕ). map (λ (a : AcceptedPacket). a.bytes) (accepted_of pid bytes))
+    (sym (left_all (pipe pid packets)))
     ∙ (survive pid packets 0 fates are u.sent).bytes
-    ∙ ap (λ (flags : List Bool). items_where_true flags packets) (u.survive ∙ all_begun (joined_items packets) 0 packets)
+    ∙ ap (λ (flags : List Bool). items_where_true flags packets) (u.survive
+    ∙ all_begun (joined_items packets) 0 packets)
     ∙ all_left packets
 
 pub remade_arrives : ((w : List Bool) → crc32_of w < 2 ^ 32) → SpellIs → WrittenIsRead → WrittenLength → EmissionFits
     → PreBitsLength → FieldRange → Knows → BitCounts → ScramblesBack → AcceptedSurvive → KeptUndamaged → RemadeArrives
 unfolding remade_packets
-remade_arrives bounded spell_is read len emits bits range knows numbers back survive undamaged c frames plan ids written =
+remade_arrives bounded spell_is read len emits bits range knows numbers back survive undamaged c frames
+    plan ids written =
     let fit = all_fit emits bits range knows numbers back c plan ids frames written in
     let packets : List (List ℕ) = packets_from c 0 (remade_bodies c frames) in
     let are : ArePackets packets = spelled_from bounded spell_is read len c 0 (remade_bodies c frames) fit in

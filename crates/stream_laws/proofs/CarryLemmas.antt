@@ -1,6 +1,7 @@
 -- Packets that carry what a written frame's record says come back as that frame.
-use Rattle.std.proofs.Common.{◌≡◌, ℕ, zero, suc, ◌+◌, ◌*◌, ◌%◌, ◌<◌, ◌≤◌, ◌==◌, ◌&&◌, ◌||◌, not, Bool, true, false, List, []}
-use Rattle.std.proofs.Common.{◌∷◌, ◌++◌, length, map, Option, Some, None, refl, ap, sym, subst, ◌∙◌, ⊎_elim, arith}
+use Rattle.std.proofs.Common.{◌≡◌, ℕ, zero, suc, ◌+◌, ◌*◌, ◌%◌, ◌<◌, ◌≤◌, ◌==◌, ◌&&◌, ◌||◌, not, Bool, true, false}
+use Rattle.std.proofs.Common.{List, []}
+use Rattle.std.proofs.Common.{◌∷◌, length, map, Option, Some, None, refl, ap, sym, subst, ◌∙◌, ⊎_elim, arith}
 use Rattle.std.proofs.Common.{sum_by}
 use Rattle.std.specs.Prelude.{slice_get, slice_index, if◌then◌else◌, nat_le, nat_lt, unwrap_or, option_map}
 use Rattle.std.specs.List.{filter, filter_map, find, range_with_len, list_all, AllByRecursion}
@@ -31,13 +32,17 @@ use Rattle.frame_groups.specs.declared.cause.MuteCause.TheVariants.{PacketMissin
 use Rattle.site_frame.specs.Record.{Block as SentBlock}
 use Rattle.site_frame.specs.declared.reading.RecordView.{RecordView}
 use Rattle.frame_groups.specs.Begun.{is_begin, packets_at}
-use Rattle.frame_groups.specs.Carried.{body_block, blocks_of, has_length, right_blocks, L1Parts, body_l1, l1s_of, body_stamp}
+use Rattle.frame_groups.specs.Carried.{body_block, blocks_of, has_length, right_blocks, L1Parts, body_l1, l1s_of}
+use Rattle.frame_groups.specs.Carried.{body_stamp}
 use Rattle.frame_groups.specs.Carried.{stamps_of}
 use Rattle.frame_groups.specs.TestLaws.{FrameNamed}
 use Rattle.frame_groups.specs.Readable.{told_dynamic}
-use Rattle.frame_groups.specs.Tests.{unless, begins_superframe, body_known, is_known, pool_need, pool_chunks, capped, room_test}
-use Rattle.frame_groups.specs.Tests.{begun_test, pool_test, missing_test, parts_agree, l1s_agree, l1_test, stamp_agrees, disagrees}
-use Rattle.frame_groups.specs.Tests.{time_test, l1_shape, first_shape, has_begun, has_count, has_counts, blocks_test, has_map}
+use Rattle.frame_groups.specs.Tests.{unless, begins_superframe, body_known, is_known, pool_need, pool_chunks, capped}
+use Rattle.frame_groups.specs.Tests.{room_test}
+use Rattle.frame_groups.specs.Tests.{begun_test, pool_test, missing_test, parts_agree, l1s_agree, l1_test, stamp_agrees}
+use Rattle.frame_groups.specs.Tests.{disagrees}
+use Rattle.frame_groups.specs.Tests.{time_test, l1_shape, first_shape, has_begun, has_count, has_counts, blocks_test}
+use Rattle.frame_groups.specs.Tests.{has_map}
 use Rattle.frame_groups.specs.Tests.{map_test, packets_fault}
 use Rattle.frame_groups.proofs.BegunLemmas.{none_fails}
 use Rattle.record_laws.specs.Frames.{sent_block, sent_blocks, frame_view}
@@ -49,7 +54,8 @@ use Rattle.stream_laws.specs.Carrying.{blocks_in, plp_num_blocks, HaveRoom, has_
 use Rattle.stream_laws.specs.Remade.{view_bodies}
 use Rattle.stream_laws.proofs.BackLemmas.{view_carries, counted_view}
 use Rattle.stream_laws.proofs.FormedLemmas.{told, shape_is, right_counts, dynamic_is, view_shape}
-use Rattle.stream_laws.proofs.MadeLemmas.{all_bodies, carried_by, made_parts, made_bodies, frame_l1, frame_stamps, frame_blocks}
+use Rattle.stream_laws.proofs.MadeLemmas.{all_bodies, carried_by, made_parts, made_bodies, frame_l1, frame_stamps}
+use Rattle.stream_laws.proofs.MadeLemmas.{frame_blocks}
 use Rattle.stream_laws.proofs.MadeLemmas.{known_frame, all_right}
 use Rattle.stream_laws.proofs.PassedLemmas.{Passed, passed}
 use Rattle.stream_laws.proofs.FormedSignalLemmas.{Knows, pre_spelled, conf_spelled, told_is, dynamic_read}
@@ -70,7 +76,8 @@ sum_same f g count h a (suc k) l =
 pub each_place : (test : ℕ → Bool) (count : ℕ) → ((plp : ℕ) → plp < count → test plp ≡ true) → (a k : ℕ) → a + k ≤ count
     → list_all test (range_with_len a k) ≡ true
 each_place test count h a zero l = refl
-each_place test count h a (suc k) l = and_from (test a) (list_all test (range_with_len (a + 1) k)) (h a (omega (arith, l)))
+each_place test count h a (suc k) l = and_from (test a) (list_all test (range_with_len (a + 1) k))
+    (h a (omega (arith, l)))
     (each_place test count h (a + 1) k (omega (arith, l)))
 
 pub unless_true : (t : Bool) (cause : MuteCause) → t ≡ true → unless t cause ≡ None
@@ -94,7 +101,8 @@ stamp_passes : (c : Config) (n : ℕ) → stamp_agrees c n (stamp_of c n) ≡ tr
 stamp_passes c n =
     and_from ((bw c.band == bw c.band) && ((emission c n).seconds == (emission c n).seconds))
     ((emission c n).subseconds == (emission c n).subseconds)
-    (and_from (bw c.band == bw c.band) ((emission c n).seconds == (emission c n).seconds) (eq-eqb (bw c.band) (bw c.band) refl)
+    (and_from (bw c.band == bw c.band) ((emission c n).seconds == (emission c n).seconds)
+    (eq-eqb (bw c.band) (bw c.band) refl)
     (eq-eqb (emission c n).seconds (emission c n).seconds refl))
     (eq-eqb (emission c n).subseconds (emission c n).subseconds refl)
 
@@ -106,7 +114,8 @@ none_late c n (s ∷ stamps) h =
     (not_from_true (stamp_agrees c n s) (subst (λ (x : Stamp). stamp_agrees c n x ≡ true) (sym h.0) (stamp_passes c n)))
     ∙ none_late c n stamps h.1
 
-pub time_passes : (c : Config) (n : ℕ) (packets : List Packet) → AllByRecursion (λ s. s ≡ stamp_of c n) (stamps_of packets)
+pub time_passes : (c : Config) (n : ℕ) (packets : List Packet) → AllByRecursion (λ s. s ≡ stamp_of c n)
+    (stamps_of packets)
     → time_test c n packets ≡ None
 unfolding time_test
 time_passes c n packets h = go (begins_superframe c n)
@@ -119,8 +128,10 @@ time_passes c n packets h = go (begins_superframe c n)
 
 -- ---- all of it
 
-module _ (numbers : BitCounts) (back : ScramblesBack) (law : PreBitsLength) (named : FrameNamed) (knows : Knows) (c : Config)
-    (n : ℕ) (plan : IsPlan c) (first : List Packet) (before : List Numbered) (pass : packets_fault c before n first ≡ None)
+module _ (numbers : BitCounts) (back : ScramblesBack) (law : PreBitsLength) (named : FrameNamed) (knows : Knows)
+    (c : Config)
+    (n : ℕ) (plan : IsPlan c) (first : List Packet) (before : List Numbered)
+    (pass : packets_fault c before n first ≡ None)
     (packets : List Packet) (carry : all_bodies packets ≡ view_bodies c n (packets_view c n first)) where
   p : Passed c n first
   p = passed c before n first pass
@@ -206,9 +217,11 @@ module _ (numbers : BitCounts) (back : ScramblesBack) (law : PreBitsLength) (nam
   missing_none : missing_test c n packets ≡ None
   unfolding missing_test
   missing_none =
-      unless_true (nat_lt 0 (length (l1s_of packets)) && (not (begins_superframe c n) || nat_lt 0 (length (stamps_of packets))))
+      unless_true (nat_lt 0 (length (l1s_of packets)) && (not (begins_superframe c n) || nat_lt 0
+      (length (stamps_of packets))))
       PacketMissing
-      (and_from (nat_lt 0 (length (l1s_of packets))) (not (begins_superframe c n) || nat_lt 0 (length (stamps_of packets)))
+      (and_from (nat_lt 0 (length (l1s_of packets))) (not (begins_superframe c n) || nat_lt 0
+      (length (stamps_of packets)))
       (ap (λ (l : List L1Parts). nat_lt 0 (length l)) l1s)
       (ap (λ (l : List Stamp). not (begins_superframe c n) || nat_lt 0 (length l)) stamps
       ∙ stamp_there (begins_superframe c n)))
@@ -240,7 +253,8 @@ module _ (numbers : BitCounts) (back : ScramblesBack) (law : PreBitsLength) (nam
 
   -- test e, by the groups before
   own_counts : (plp : ℕ) → plp < length c.plps → length (blocks_of c plp packets) ≡ own_count c n own plp
-  own_counts plp inside = ap length (blocks plp inside) ∙ sym (right_counts knows c n first p numbers before plan pass plp inside)
+  own_counts plp inside = ap length (blocks plp inside)
+      ∙ sym (right_counts knows c n first p numbers before plan pass plp inside)
 
   abbrev counted : List Numbered → ℕ → Bool
   counted past plp = has_count c past n plp (length (blocks_of c plp packets)) (slice_index own.counts plp)
@@ -251,7 +265,8 @@ module _ (numbers : BitCounts) (back : ScramblesBack) (law : PreBitsLength) (nam
   told_begun : (past : List Numbered) (plp : ℕ) → has_told c n (packets_view c n first) past plp ≡ begun past plp
   told_begun past plp = ap (has_begun c plp (packets_at past (begin_of c plp n))) (num_blocks plp)
 
-  first_counted : (past : List Numbered) (plp : ℕ) → plp < length c.plps → is_first c plp n ≡ true → counted past plp ≡ true
+  first_counted : (past : List Numbered) (plp : ℕ) → plp < length c.plps → is_first c plp n ≡ true
+      → counted past plp ≡ true
   first_counted past plp inside e =
       let k : ℕ = length (blocks_of c plp packets) in
       let t : ℕ = slice_index own.counts plp in
@@ -264,10 +279,12 @@ module _ (numbers : BitCounts) (back : ScramblesBack) (law : PreBitsLength) (nam
       let k : ℕ = length (blocks_of c plp packets) in
       let t : ℕ = slice_index own.counts plp in
       cond-false (is_first c plp n) (k == t) ((k == 0) && begun past plp) e
-      ∙ ap (λ (b : Bool). b && begun past plp) (eq-eqb k 0 (own_counts plp inside ∙ cond-false {A = ℕ} (is_first c plp n) t 0 e))
+      ∙ ap (λ (b : Bool). b && begun past plp) (eq-eqb k 0 (own_counts plp inside
+      ∙ cond-false {A = ℕ} (is_first c plp n) t 0 e))
 
   blocks_none : (past : List Numbered)
-      → ((plp : ℕ) → plp < length c.plps → is_first c plp n ≡ false → has_told c n (packets_view c n first) past plp ≡ true)
+      → ((plp : ℕ) → plp < length c.plps → is_first c plp n ≡ false
+      → has_told c n (packets_view c n first) past plp ≡ true)
       → blocks_test c past n packets ≡ None
   unfolding blocks_test
   blocks_none past has =
@@ -287,13 +304,15 @@ module _ (numbers : BitCounts) (back : ScramblesBack) (law : PreBitsLength) (nam
   unfolding blocks_test
   blocks_lack past plp inside e lacks =
       let some : has_counts c past n packets (Some own) ≡ false =
-      not_all_places c (counted past) plp inside (later_counted past plp inside e ∙ sym (told_begun past plp) ∙ lacks) in
+      not_all_places c (counted past) plp inside (later_counted past plp inside e ∙ sym (told_begun past plp)
+      ∙ lacks) in
       unless_false (has_counts c past n packets (first_shape c packets) && list_all (is_known c) packets) PacketMissing
       (and_left (has_counts c past n packets (first_shape c packets)) (list_all (is_known c) packets)
       (ap (has_counts c past n packets) first_is ∙ some))
 
   passes : (past : List Numbered) → HaveRoom c past n
-      → ((plp : ℕ) → plp < length c.plps → is_first c plp n ≡ false → has_told c n (packets_view c n first) past plp ≡ true)
+      → ((plp : ℕ) → plp < length c.plps → is_first c plp n ≡ false
+      → has_told c n (packets_view c n first) past plp ≡ true)
       → packets_fault c past n packets ≡ None
   unfolding packets_fault
   passes past rooms has = rw (pool_none past rooms, missing_none, l1_none, time_none, blocks_none past has) map_none
@@ -318,7 +337,8 @@ module _ (numbers : BitCounts) (back : ScramblesBack) (law : PreBitsLength) (nam
       (λ plp le lt. ap (map (sent_block c plp)) (rights plp (omega (arith, lt)))) in
       ap (λ (bits : List Bool). frame_view c (emission c n) (n % c.frames) (post_with c bits)
       (sent_blocks c (λ plp. right_blocks c plp packets)) (shape_in c packets)) d
-      ∙ ap (λ (l : List SentBlock). frame_view c (emission c n) (n % c.frames) (post_with c (dynamic_in first)) l (shape_in c packets)) b
+      ∙ ap (λ (l : List SentBlock). frame_view c (emission c n) (n % c.frames) (post_with c (dynamic_in first))
+      l (shape_in c packets)) b
       ∙ ap (frame_view c (emission c n) (n % c.frames) (post_with c (dynamic_in first))
       (sent_blocks c (λ plp. right_blocks c plp first))) s
 
@@ -326,7 +346,8 @@ module _ (numbers : BitCounts) (back : ScramblesBack) (law : PreBitsLength) (nam
       ≡ (blocks_in c plp (packets_view c n first) == told)
   block_counts plp told inside =
       let count : length (blocks_of c plp packets) ≡ blocks_in c plp (packets_view c n first) =
-      ap length (carried_by (body_block (plp_at c.plps plp).id) packets ∙ ap (filter_map (body_block (plp_at c.plps plp).id)) carry)
+      ap length (carried_by (body_block (plp_at c.plps plp).id) packets
+      ∙ ap (filter_map (body_block (plp_at c.plps plp).id)) carry)
       ∙ counted_view c n plp (packets_view c n first) in
       let same : length (right_blocks c plp packets) ≡ length (blocks_of c plp packets) =
       ap length (rights plp inside) ∙ sym (ap length (blocks plp inside)) in
@@ -339,14 +360,15 @@ module _ (numbers : BitCounts) (back : ScramblesBack) (law : PreBitsLength) (nam
     pass = passes;
     lacks = lacks_one;
     is = same_view;
-    names = λ begins small. (named c (record { key = frame_key c.frames n; packets = packets }) n plan.rules).1 (record {
-      stamp = stamp_of c n;
-      first = ap (λ (s : List Stamp). slice_get s 0) (stamps ∙ cond-true {A = List Stamp} (begins_superframe c n)
-          (stamp_of c n ∷ []) [] (eq-eqb (n % c.frames) 0 begins));
-      small = small;
-      emission-is = refl;
-      key = refl;
-    });
+    names = λ begins small. (named c (record { key = frame_key c.frames n; packets = packets }) n plan.rules).1
+        (record {
+          stamp = stamp_of c n;
+          first = ap (λ (s : List Stamp). slice_get s 0) (stamps ∙ cond-true {A = List Stamp} (begins_superframe c n)
+              (stamp_of c n ∷ []) [] (eq-eqb (n % c.frames) 0 begins));
+          small = small;
+          emission-is = refl;
+          key = refl;
+        });
     room = room;
     blocks = block_counts;
   }

@@ -1,18 +1,22 @@
 -- The records of survivors are those that must come.
-use Rattle.std.proofs.Common.{◌≡◌, ◌≢◌, ℕ, zero, suc, ◌+◌, ◌-◌, ◌%◌, ◌<◌, ◌≤◌, ◌==◌, ◌&&◌, ◌||◌, Bool, true, false, List, [], ◌∷◌}
+use Rattle.std.proofs.Common.{◌≡◌, ◌≢◌, ℕ, zero, suc, ◌+◌, ◌-◌, ◌%◌, ◌<◌, ◌≤◌, ◌==◌, ◌&&◌, ◌||◌, Bool, true, false}
+use Rattle.std.proofs.Common.{List, [], ◌∷◌}
 use Rattle.std.proofs.Common.{◌++◌}
-use Rattle.std.proofs.Common.{map, find, Option, Some, None, is_some, refl, ap, ap₂, sym, ◌∙◌, ⊎_elim, arith, append_assoc}
+use Rattle.std.proofs.Common.{map, find, Option, Some, None, is_some, refl, ap, ap₂, sym, ◌∙◌, ⊎_elim, arith}
+use Rattle.std.proofs.Common.{append_assoc}
 use Rattle.std.proofs.Common.{true≢false}
 use Rattle.std.specs.List.{items_where_true, last_or, list_any, range_with_len}
 use Rattle.std.specs.Option.{option_map_or}
-use Rattle.std.proofs.lemmas.Bool.{cases_eq, cases_Bool, cond_both, cond-true, cond-false, and_parts, and_cases, and_left}
+use Rattle.std.proofs.lemmas.Bool.{cases_eq, cases_Bool, cond_both, cond-true, cond-false, and_parts, and_cases}
+use Rattle.std.proofs.lemmas.Bool.{and_left}
 use Rattle.std.proofs.lemmas.Bool.{false_from_ne_true, eqb-true}
 use Rattle.std.proofs.lemmas.List.{map-append}
 use Rattle.t2mi_packet.specs.declared.packet.Packet.{Packet}
 use Rattle.frame_groups.specs.Groups.{Group}
 use Rattle.frame_groups.specs.Laws.{NextIsFound}
 use Rattle.frame_groups.specs.Modulated.{Content, FrameRecord, Numbered, Rules, content_of, group_record, gap_record}
-use Rattle.frame_groups.specs.Modulated.{unless_fault, passing, join_number, past_with, gaps_between, gaps_behind, own_record}
+use Rattle.frame_groups.specs.Modulated.{unless_fault, passing, join_number, past_with, gaps_between, gaps_behind}
+use Rattle.frame_groups.specs.Modulated.{own_record}
 use Rattle.frame_groups.specs.Modulated.{records_from, modulated}
 use Rattle.frame_groups.specs.Modulated.Content.{Whole, Muted}
 use Rattle.frame_groups.specs.Numbers.{frame_key, next_number}
@@ -24,10 +28,12 @@ use Rattle.frame_groups.specs.Begun.{packets_at}
 use Rattle.frame_groups.proofs.BegunLemmas.{at_own, at_other}
 use Rattle.plp_config.specs.Places.{places}
 use Rattle.plp_config.specs.declared.config.Config.{Config}
-use Rattle.stream_laws.specs.Survivors.{is_begun, carries, is_whole, loss_of, sent_content, sent_record, end_of, survivor_records}
+use Rattle.stream_laws.specs.Survivors.{is_begun, carries, is_whole, loss_of, sent_content, sent_record, end_of}
+use Rattle.stream_laws.specs.Survivors.{survivor_records}
 use Rattle.stream_laws.specs.DamageLaws.{Survive, AreMet, IsMet, RulesMeet, ModulatedIsRecords}
 use Rattle.terms.proofs.RangeLemmas.{range_append, map_same}
-use Rattle.stream_laws.proofs.GroupLemmas.{not_empty, Met, group_as, key_groups, with_sent, frame_runs, some_met, frames_met}
+use Rattle.stream_laws.proofs.GroupLemmas.{not_empty, Met, group_as, key_groups, with_sent, frame_runs, some_met}
+use Rattle.stream_laws.proofs.GroupLemmas.{frames_met}
 use Rattle.stream_laws.proofs.GroupLemmas.{order_survivors}
 use Rattle.stream_laws.proofs.GroupLemmas.{below_survivors, runs_met, groups_are_met, Steps, StepsIn, steps_met}
 use Rattle.stream_laws.proofs.WholeLemmas.{whole_is_all}
@@ -47,7 +53,8 @@ find_later test from end e =
     let z : end - from - 1 ≡ end - (from + 1) = omega arith in
     skip_one test from (end - from) e ∙ ap (λ (j : ℕ). find test (range_with_len (from + 1) j)) z
 
-find_here : (test : ℕ → Bool) (from end : ℕ) → from < end → test from ≡ true → find test (range_with_len from (end - from))
+find_here : (test : ℕ → Bool) (from end : ℕ) → from < end → test from ≡ true
+    → find test (range_with_len from (end - from))
     ≡ Some from
 find_here test from end l e =
     let z : end - from ≡ suc (end - (from + 1)) = omega (arith, l) in
@@ -112,7 +119,8 @@ met_one first n survivors past g h is = record {
       (λ (ne : b ≡ n → ⊥). at_other (record { number = n; group = g }) past b (λ e. ne (sym e))
       ∙ h.there b low (omega (arith, high, ne)))
       (cases_eq b n);
-  none = λ b l. at_other (record { number = n; group = g }) past b (λ e. omega (arith, l, e)) ∙ h.none b (omega (arith, l));
+  none = λ b l. at_other (record { number = n; group = g }) past b (λ e. omega (arith, l, e))
+      ∙ h.none b (omega (arith, l));
 }
 
 pub met_first : (n : ℕ) (survivors : List Sent) → AreMet n n survivors []
@@ -144,18 +152,21 @@ module _ (found : NextIsFound) (r : Rules) (count : ℕ) (sent : List Sent) (sur
   same_group : (n : ℕ) → whole n ≡ true → frame_group r.frames ss n ≡ frame_group r.frames sent n
   same_group n w = ap (group_as r.frames n) (own_left n w)
 
-  whole_content : (n : ℕ) → whole n ≡ true → sent_content r.network sent survival n ≡ Whole (frame_group r.frames sent n)
+  whole_content : (n : ℕ) → whole n ≡ true → sent_content r.network sent survival n ≡ Whole
+      (frame_group r.frames sent n)
   whole_content n w = cond-true (whole n) (Whole (frame_group r.network.frames sent n))
       (Muted (loss_of (frame_packets n ss))) w ∙ ap (λ (k : ℕ). Whole (frame_group k sent n)) meet.network
 
-  lost_content : (n : ℕ) → whole n ≡ false → sent_content r.network sent survival n ≡ Muted (loss_of (frame_packets n ss))
+  lost_content : (n : ℕ) → whole n ≡ false → sent_content r.network sent survival n ≡ Muted
+      (loss_of (frame_packets n ss))
   lost_content n w = cond-false (whole n) (Whole (frame_group r.network.frames sent n))
       (Muted (loss_of (frame_packets n ss))) w
 
   -- the record of a frame without a survivor
   gone : (n : ℕ) → n < count → frame_packets n ss ≡ [] → gap_record n ≡ there n
   gone n l none =
-      sym (ap (record_with n) (lost_content n (not_whole n l none) ∙ ap (λ (ps : List Packet). Muted (loss_of ps)) none))
+      sym (ap (record_with n) (lost_content n (not_whole n l none) ∙ ap (λ (ps : List Packet). Muted (loss_of ps))
+      none))
 
   -- the record of a frame with a survivor
   met : (first n : ℕ) (past : List Numbered) → n < count → IsMet r.frames first n ss past
@@ -167,12 +178,15 @@ module _ (found : NextIsFound) (r : Rules) (count : ℕ) (sent : List Sent) (sur
       (meet.passes first n past l is w)
       ∙ sym (ap (record_with n) (whole_content n w)))
       (λ (w : whole n ≡ false).
-      ap (λ (o : Option MuteCause). record_with n (content_of (frame_group r.frames ss n) o)) (meet.lacks first n past l is w)
+      ap (λ (o : Option MuteCause). record_with n (content_of (frame_group r.frames ss n) o))
+      (meet.lacks first n past l is w)
       ∙ sym (ap (record_with n) (lost_content n w ∙ ap Muted (loss_some (frame_packets n ss) is.some))))
       (cases_Bool (whole n))
 
-  met_as : (first n : ℕ) (past : List Numbered) (p : Packet) (ps : List Packet) → n < count → first ≤ n → first % r.frames ≡ 0
-      → AreMet first n ss past → frame_packets n ss ≡ p ∷ ps → group_record r past (group_as r.frames n (p ∷ ps)) n ≡ there n
+  met_as : (first n : ℕ) (past : List Numbered) (p : Packet) (ps : List Packet) → n < count → first ≤ n
+      → first % r.frames ≡ 0
+      → AreMet first n ss past → frame_packets n ss ≡ p ∷ ps → group_record r past (group_as r.frames n (p ∷ ps))
+      n ≡ there n
   met_as first n past p ps l low begins groups is =
       ap (λ (qs : List Packet). group_record r past (group_as r.frames n qs) n) (sym is)
       ∙ met first n past l
@@ -212,9 +226,11 @@ module _ (found : NextIsFound) (r : Rules) (count : ℕ) (sent : List Sent) (sur
       go (p ∷ ps) is ih steps =
           let n : ℕ = b.number in
           let g : Group = group_as r.frames from (p ∷ ps) in
-          let number : next_number r.frames n (frame_key r.frames from) ≡ from = found r.frames n from h.some l steps.1 in
+          let number : next_number r.frames n (frame_key r.frames from) ≡ from = found r.frames n from
+          h.some l steps.1 in
           let rest = ih (record { number = from; group = g }) (b ∷ past) (omega (arith, all_is)) (omega (arith, low, l))
-          (omega arith) (λ m x y. absurd (omega (arith, x, y))) (met_one first from ss (b ∷ past) g are (sym is)) steps.2 in
+          (omega arith) (λ m x y. absurd (omega (arith, x, y))) (met_one first from ss (b ∷ past) g are (sym is))
+          steps.2 in
           let end : ℕ = end_met (from + 1) gs in
           let most : from + 1 ≤ end = end_most r.frames from gs steps.2 in
           let size : end - (n + 1) ≡ from - (n + 1) + suc (end - (from + 1)) = omega (arith, most, l) in
@@ -297,7 +313,8 @@ module _ (found : NextIsFound) (r : Rules) (count : ℕ) (sent : List Sent) (sur
       go : (ps : List Packet) → frame_packets from ss ≡ ps
           → ((end : ℕ) → from + 1 + more ≡ count → end ≤ from + 1 → StepsIn r.frames gs
           → records_from r [] (key_groups r.frames gs)
-          ≡ map there (numbers_from (end_met end gs) (find joins (range_with_len (from + 1) (end_met end gs - (from + 1))))))
+          ≡ map there (numbers_from (end_met end gs)
+          (find joins (range_with_len (from + 1) (end_met end gs - (from + 1))))))
           → StepsIn r.frames (some_met from ps ++ gs)
           → records_from r [] (key_groups r.frames (some_met from ps ++ gs))
           ≡ map there
@@ -307,17 +324,20 @@ module _ (found : NextIsFound) (r : Rules) (count : ℕ) (sent : List Sent) (sur
           let t : joins from ≡ false = and_left (whole from) (from % r.frames == 0)
           (not_whole from (omega (arith, all_is)) is) in
           ih end (omega (arith, all_is)) (omega (arith, low)) steps
-          ∙ ap (λ (o : Option ℕ). map there (numbers_from (end_met end gs) o)) (sym (find_later joins from (end_met end gs) t))
+          ∙ ap (λ (o : Option ℕ). map there (numbers_from (end_met end gs) o))
+          (sym (find_later joins from (end_met end gs) t))
       go (p ∷ ps) is ih steps =
           let g : Group = group_as r.frames from (p ∷ ps) in
           let inside : from < count = omega (arith, all_is) in
           let last : ℕ = end_met (from + 1) gs in
           ⊎_elim
           (λ (t : joins from ≡ true).
-          let begins : from % r.frames ≡ 0 = eqb-true (from % r.frames) 0 (and_parts (whole from) (from % r.frames == 0) t).1 in
+          let begins : from % r.frames ≡ 0 = eqb-true (from % r.frames) 0 (and_parts (whole from) (from % r.frames == 0)
+          t).1 in
           let most : from + 1 ≤ last = end_most r.frames from gs steps in
           let size : last - from ≡ suc (last - (from + 1)) = omega (arith, most) in
-          let rest = after_is from begins more (from + 1) (record { number = from; group = g }) [] (omega (arith, all_is))
+          let rest = after_is from begins more (from + 1) (record { number = from; group = g }) []
+          (omega (arith, all_is))
           (omega arith) (omega arith) (λ m a b. absurd (omega (arith, a, b)))
           (met_one from from ss [] g (met_first from ss) (sym is)) steps in
           ap (λ (o : Option ℕ). (gaps_behind [] o ++ own_record r [] g o) ++ records_from r (past_with [] g o)
@@ -326,7 +346,8 @@ module _ (found : NextIsFound) (r : Rules) (count : ℕ) (sent : List Sent) (sur
           ∙ ap₂ (λ (x : FrameRecord) (l : List FrameRecord). x ∷ l)
           (met_as from from [] p ps inside (omega arith) begins (met_first from ss) is) rest
           ∙ ap (λ (k : ℕ). map there (range_with_len from k)) (sym size)
-          ∙ ap (λ (o : Option ℕ). map there (numbers_from last o)) (sym (find_here joins from last (omega (arith, most)) t)))
+          ∙ ap (λ (o : Option ℕ). map there (numbers_from last o))
+          (sym (find_here joins from last (omega (arith, most)) t)))
           (λ (t : joins from ≡ false).
           ap (λ (o : Option ℕ). (gaps_behind [] o ++ own_record r [] g o) ++ records_from r (past_with [] g o)
           (key_groups r.frames gs))

@@ -1,5 +1,6 @@
 -- Each packet of a run fits its fields.
-use Rattle.std.proofs.Common.{◌≡◌, ℕ, zero, suc, ◌+◌, ◌-◌, ◌*◌, ◌%◌, ◌^◌, ◌<◌, ◌≤◌, ◌==◌, Bool, true, false, List, [], ◌∷◌, map}
+use Rattle.std.proofs.Common.{◌≡◌, ℕ, zero, suc, ◌+◌, ◌-◌, ◌*◌, ◌%◌, ◌^◌, ◌<◌, ◌≤◌, ◌==◌, Bool, true, false, List, []}
+use Rattle.std.proofs.Common.{◌∷◌, map}
 use Rattle.std.proofs.Common.{length, arith, length-append}
 use Rattle.std.specs.List.{flat_map, range_with_len, AllByRecursion}
 use Rattle.std.proofs.lemmas.Bool.{cond_both}
@@ -51,7 +52,8 @@ pub pre_len : PreBitsLength → (c : Config) → length (pre_part c) ≡ PRE_BIT
 unfolding pre_part
 pre_len law c = law (pre_of c)
 
-parts_len : PostLength → (c : Config) (n : ℕ) (counts : List ℕ) → length (conf_part c) + length (dyn_part c n counts) + 32
+parts_len : PostLength → (c : Config) (n : ℕ) (counts : List ℕ)
+    → length (conf_part c) + length (dyn_part c n counts) + 32
     ≡ post_len (length c.plps)
 unfolding conf_part dyn_part post_bits
 parts_len law c n counts =
@@ -61,14 +63,16 @@ parts_len law c n counts =
     let d = length-append (conf_part c) (dyn_part c n counts) in
     omega (arith, a, b, d, length-field 32 (crc32_of (post_front_bits c n (shape_of c counts))))
 
-pub fit_blocks : (size frame_idx id : ℕ) (first : Bool) (blocks : List (List Bool)) → size ≤ 65000 → frame_idx < 2 ^ 8 → id < 2 ^ 8
+pub fit_blocks : (size frame_idx id : ℕ) (first : Bool) (blocks : List (List Bool)) → size ≤ 65000 → frame_idx < 2 ^ 8
+    → id < 2 ^ 8
     → AllByRecursion (λ b. length b ≡ size) blocks
     → AllByRecursion IsFit (block_bodies frame_idx id first blocks)
 fit_blocks size frame_idx id first [] l f i s = tt
 fit_blocks size frame_idx id first (b ∷ blocks) l f i s =
     (((f, i), omega (arith, l, s.0)), fit_blocks size frame_idx id false blocks l f i s.1)
 
-pub fit_plps : (count : ℕ) (bodies : ℕ → List Body) → ((plp : ℕ) → plp < count → AllByRecursion IsFit (bodies plp)) → (a k : ℕ)
+pub fit_plps : (count : ℕ) (bodies : ℕ → List Body) → ((plp : ℕ) → plp < count → AllByRecursion IsFit (bodies plp))
+    → (a k : ℕ)
     → a + k ≤ count → AllByRecursion IsFit (flat_map bodies (range_with_len a k))
 fit_plps count bodies h a zero l = tt
 fit_plps count bodies h a (suc k) l = all_append IsFit (bodies a) (flat_map bodies (range_with_len (a + 1) k))
@@ -92,9 +96,11 @@ all_pairs bodies count from zero l h = tt
 all_pairs bodies count from (suc more) l h =
     all_append PairFits (map (λ (body : Body). (from, body)) (bodies from))
     (flat_map (λ m. map (λ (body : Body). (m, body)) (bodies m)) (range_with_len (from + 1) more))
-    (pairs_fit from (bodies from) (h from (omega (arith, l)))) (all_pairs bodies count (from + 1) more (omega (arith, l)) h)
+    (pairs_fit from (bodies from) (h from (omega (arith, l)))) (all_pairs bodies count (from + 1) more
+    (omega (arith, l)) h)
 
-module _ (emits : EmissionFits) (bits : PreBitsLength) (post : PostLength) (numbers : BitCounts) (range : FieldRange) (c : Config)
+module _ (emits : EmissionFits) (bits : PreBitsLength) (post : PostLength) (numbers : BitCounts) (range : FieldRange)
+    (c : Config)
     (plan : IsPlan c) (ids : HasByteIds c) (inputs : ℕ → List (List ℕ)) where
   frames_range : (2 ≤ c.frames) × (c.frames ≤ 255)
   frames_range = plan.rules SuperframeLength
@@ -106,16 +112,21 @@ module _ (emits : EmissionFits) (bits : PreBitsLength) (post : PostLength) (numb
   fit_l1 n counts =
       let p : (1 ≤ length c.plps) × (length c.plps ≤ 255) = plan.rules PlpCount in
       let parts = parts_len post c n counts in
-      let pre = pre_len bits c in
-      ((frame_idx_fits n, pre, omega (arith, parts, p.1), omega (arith, parts, p.1), omega arith), omega (arith, pre, parts, p.1))
+      let pre = pre_len bits c in (
+        (frame_idx_fits n, pre, omega (arith, parts, p.1), omega (arith, parts, p.1), omega arith),
+        omega
+            (arith, pre, parts, p.1),
+      )
 
-  fit_frame : (n : ℕ) → n < MOST_FRAMES → AllByRecursion IsFit (frame_bodies c n (told_counts c inputs n) (own_blocks c inputs n))
+  fit_frame : (n : ℕ) → n < MOST_FRAMES → AllByRecursion IsFit (frame_bodies c n (told_counts c inputs n)
+      (own_blocks c inputs n))
   fit_frame n l =
       let e = emits c n plan.rules (omega (arith, l)) in
       let utco : c.utco < 8192 = plan.rules UtcOffset in
       let l1 = fit_l1 n (told_counts c inputs n) in
       let blocks : AllByRecursion IsFit (plp_bodies c n (own_blocks c inputs n) 0) =
-      fit_plps (length c.plps) (λ plp. block_bodies (n % c.frames) (plp_at c.plps plp).id true (own_blocks c inputs n plp))
+      fit_plps (length c.plps) (λ plp. block_bodies (n % c.frames) (plp_at c.plps plp).id true
+      (own_blocks c inputs n plp))
       (λ plp inside.
       let r = range c plp in
       fit_blocks (8 * block_bytes c plp) (n % c.frames) (plp_at c.plps plp).id true (own_blocks c inputs n plp)

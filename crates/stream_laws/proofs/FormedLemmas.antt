@@ -6,7 +6,7 @@ use Rattle.std.specs.List.{AllByRecursion}
 use Rattle.std.specs.Option.{option_map_or, option_and_then, unwrap_or}
 use Rattle.std.proofs.lemmas.List.{length-map}
 use Rattle.std.proofs.lemmas.List.FromFn.{get_or-map-range_with_len, length-map-range_with_len}
-use Rattle.terms.proofs.OptionLemmas.{some_injective}
+use Rattle.std.proofs.lemmas.Option.{same_Some}
 use Rattle.bb_frame.specs.Laws.{BitCounts}
 use Rattle.plp_config.specs.Capacity.{IsPlan}
 use Rattle.plp_config.specs.Emission.{emission}
@@ -58,7 +58,7 @@ module _ (knows : Knows) (c : Config) (n : ℕ) (packets : List Packet) (p : Pas
   shape = p.l1.shape
 
   pub shape_is : told_shape told.dynamic ≡ shape
-  shape_is = some_injective (told_shape told.dynamic) shape
+  shape_is = same_Some (told_shape told.dynamic) shape
       (sym (ap (option_map told_shape) (dynamic_read knows c n first told)) ∙ p.l1.told)
 
   pub counts_len : length shape.counts ≡ length c.plps
@@ -82,7 +82,8 @@ module _ (knows : Knows) (c : Config) (n : ℕ) (packets : List Packet) (p : Pas
   abbrev lists : List (List (List ℕ))
   lists = map (λ plp. map held_bytes (right plp)) (places c)
 
-  module _ (numbers : BitCounts) (past : List Numbered) (plan : IsPlan c) (pass : packets_fault c past n packets ≡ None) where
+  module _ (numbers : BitCounts) (past : List Numbered) (plan : IsPlan c) (pass : packets_fault c past
+      n packets ≡ None) where
     pub right_counts : (plp : ℕ) → plp < length c.plps → own_count c n shape plp ≡ length (right plp)
     right_counts plp inside =
         let size : length lists ≡ length c.plps =
@@ -106,7 +107,8 @@ module _ (knows : Knows) (c : Config) (n : ℕ) (packets : List Packet) (p : Pas
       map = (map_test c shape plan).0 p.l1.map;
     }
 
-pub passes_formed : Knows → BitCounts → MapPasses → (c : Config) (past : List Numbered) (n : ℕ) (packets : List Packet) → IsPlan c
+pub passes_formed : Knows → BitCounts → MapPasses → (c : Config) (past : List Numbered) (n : ℕ) (packets : List Packet)
+    → IsPlan c
     → packets_fault c past n packets ≡ None → IsFormed c n (packets_view c n packets)
 passes_formed knows numbers map_test c past n packets plan pass =
     let p = passed c past n packets pass in
@@ -116,7 +118,8 @@ passes_formed knows numbers map_test c past n packets plan pass =
 
 -- ---- the records that are due
 
-module _ (knows : Knows) (numbers : BitCounts) (map_test : MapPasses) (c : Config) (plan : IsPlan c) (gs : List Group) where
+module _ (knows : Knows) (numbers : BitCounts) (map_test : MapPasses) (c : Config) (plan : IsPlan c)
+    (gs : List Group) where
   right_formed : (x : FrameRecord) → IsRight c gs x → IsFormedRecord c x
   right_formed x right g whole =
       let among = right g whole in

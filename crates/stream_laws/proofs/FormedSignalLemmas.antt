@@ -17,7 +17,8 @@ use Rattle.l1_signal.specs.L1Configurable.{conf_bits, conf_read, info_size, Conf
 use Rattle.l1_signal.specs.L1Dynamic.{dyn_read}
 use Rattle.l1_signal.specs.L1Of.{pre_of, conf_of}
 use Rattle.l1_signal.specs.L1Pre.{pre_rows, pre_bits, pre_reading, PreSpells, PreFits}
-use Rattle.l1_signal.specs.Laws.{PreReadBack, PreWritten, ConfWritten, ConfPartLength, DynReadBack, DynLength, crc_behind}
+use Rattle.l1_signal.specs.Laws.{PreReadBack, PreWritten, ConfWritten, ConfPartLength, DynReadBack, DynLength}
+use Rattle.l1_signal.specs.Laws.{crc_behind}
 use Rattle.l1_signal.specs.Lengths.{conf_len, dyn_len, post_len}
 use Rattle.l1_signal.specs.declared.dyn_plp.DynPlp.{DynPlp}
 use Rattle.l1_signal.specs.declared.lengths.TheConstants.{CRC_BITS}
@@ -54,7 +55,8 @@ front_of xs ys n e = take-append-le n xs ys (omega (arith, e)) ∙ take_all n xs
 
 -- ---- L1-post with a dynamic part of the right length
 
-module _ (c : Config) (dynamic : List Bool) (conf_size : ConfPartLength) (dyn_size : length dynamic ≡ dyn_len (length c.plps)) where
+module _ (c : Config) (dynamic : List Bool) (conf_size : ConfPartLength) (dyn_size : length dynamic ≡ dyn_len
+    (length c.plps)) where
   abbrev pub conf_bits_of : List Bool
   conf_bits_of = conf_bits (conf_of c)
 
@@ -86,11 +88,13 @@ module _ (c : Config) (dynamic : List Bool) (conf_size : ConfPartLength) (dyn_si
 
   pub dynamic_there : part whole_post (conf_len (length c.plps)) (dyn_len (length c.plps)) ≡ dynamic
   dynamic_there =
-      part-middle conf_bits_of dynamic (field 32 (crc32_of both_parts)) (conf_len (length c.plps)) (dyn_len (length c.plps))
+      part-middle conf_bits_of dynamic (field 32 (crc32_of both_parts)) (conf_len (length c.plps))
+      (dyn_len (length c.plps))
       (conf_size c) dyn_size
 
   pub crc_there : crc_behind true (take (length whole_post - CRC_BITS) whole_post) ≡ whole_post
-  crc_there = ap (crc_behind true) (front_of both_parts (field 32 (crc32_of both_parts)) (length whole_post - CRC_BITS) parts_long)
+  crc_there = ap (crc_behind true) (front_of both_parts (field 32 (crc32_of both_parts)) (length whole_post - CRC_BITS)
+      parts_long)
 
 -- ---- the dynamic part of an L1-current
 
@@ -134,7 +138,8 @@ module _ (knows : Knows) (c : Config) (n : ℕ) (l1 : L1Parts) (is : IsOfFrame c
 
   -- what the dynamic part tells
   pub told_is : told_dynamic c post ≡ read_dynamic c l1
-  told_is = ap (λ (bits : List Bool). read_whole (dyn_read (length c.plps) bits)) (dynamic_there c dynamic knows.conf_size dyn_size)
+  told_is = ap (λ (bits : List Bool). read_whole (dyn_read (length c.plps) bits))
+      (dynamic_there c dynamic knows.conf_size dyn_size)
 
   pub dynamic_read : read_dynamic c l1 ≡ Some is.dynamic
   dynamic_read =
@@ -159,7 +164,8 @@ module _ (knows : Knows) (c : Config) (n : ℕ) (l1 : L1Parts) (is : IsOfFrame c
   post_is =
       let len : Bool = length post == post_len plps in
       let crc : Bool = pointwise beq post (crc_behind true (take (length post - CRC_BITS) post)) in
-      let right : Bool = conf_agrees c (read_whole (conf_read (info_size (length c.plps)) (take (conf_len plps) post))) in
+      let right : Bool = conf_agrees c
+      (read_whole (conf_read (info_size (length c.plps)) (take (conf_len plps) post))) in
       and_from (len && crc && right) (dyn_agrees c n (told_dynamic c post))
       (and_from (len && crc) right
       (and_from len crc (eq-eqb (length post) (post_len plps) (post_long c dynamic knows.conf_size dyn_size))

@@ -1,5 +1,6 @@
 -- The records that must come of what is received of a run.
-use Rattle.std.proofs.Common.{◌≡◌, ℕ, zero, suc, ◌+◌, ◌-◌, ◌%◌, ◌<◌, ◌≤◌, ◌==◌, ◌&&◌, Bool, true, false, List, [], ◌∷◌, ◌++◌, map}
+use Rattle.std.proofs.Common.{◌≡◌, ℕ, zero, suc, ◌+◌, ◌-◌, ◌%◌, ◌<◌, ◌≤◌, ◌==◌, ◌&&◌, Bool, true, false, List, [], ◌∷◌}
+use Rattle.std.proofs.Common.{◌++◌, map}
 use Rattle.std.proofs.Common.{length, drop, replicate, Option, Some, None, refl, ap, ap₂, sym, ◌∙◌, ⊎_elim, arith}
 use Rattle.std.specs.Prelude.{find, if◌then◌else◌}
 use Rattle.std.specs.List.{flat_map, range_with_len, items_where_true, last_or, AllByRecursion}
@@ -24,7 +25,8 @@ use Rattle.stream_laws.specs.SentPackets.{Sent, frame_packets, frame_group}
 use Rattle.stream_laws.specs.Survivors.{is_whole, loss_of, sent_content, sent_record, end_of}
 use Rattle.stream_laws.specs.UnitLaws.{SurvivalLength, HonestRecords, KeptHonest}
 use Rattle.stream_laws.specs.Streams.{Stream, IsStream, stream_survival}
-use Rattle.stream_laws.specs.FrameLaws.{SentAreFrames, FramesAreStream, TestsMeet, WrittenIsFrame, KeptIsHonest, WrittenMustCome}
+use Rattle.stream_laws.specs.FrameLaws.{SentAreFrames, FramesAreStream, TestsMeet, WrittenIsFrame, KeptIsHonest}
+use Rattle.stream_laws.specs.FrameLaws.{WrittenMustCome}
 use Rattle.stream_laws.specs.FrameLaws.{UndamagedMustCome}
 use Rattle.stream_laws.specs.SentFrames.{sent_frames, frames_stream}
 use Rattle.stream_laws.specs.Types.{TypesFit}
@@ -40,12 +42,14 @@ pub last_below : (n : ℕ) (sent : List Sent) (survival : List Bool) (before : O
     → option_map_or (λ s. s.frame + 1) (last_or before (items_where_true survival sent)) 0 ≤ n
 last_below n sent [] before l h = l
 last_below n [] (b ∷ survival) before l h = l
-last_below n (s ∷ sent) (true ∷ survival) before l h = let k = h.0 in last_below n sent survival (Some s) (omega (arith, k)) h.1
+last_below n (s ∷ sent) (true ∷ survival) before l h = let k = h.0 in last_below n sent survival (Some s)
+    (omega (arith, k)) h.1
 last_below n (s ∷ sent) (false ∷ survival) before l h = last_below n sent survival before l h.1
 
 -- ---- each record is the one that must come
 
-module _ (written : WrittenIsFrame) (c : Config) (inputs : ℕ → List (List ℕ)) (n : ℕ) (plan : IsPlan c) (types : TypesFit c)
+module _ (written : WrittenIsFrame) (c : Config) (inputs : ℕ → List (List ℕ)) (n : ℕ) (plan : IsPlan c)
+    (types : TypesFit c)
     (survival : List Bool) where
   abbrev sent : List Sent
   sent = sent_frames c inputs n
@@ -91,7 +95,8 @@ written_must_come are stream meet written len records c plan types inputs n from
     let end : ℕ = end_of (items_where_true survival s.sent) in
     ap (flat_map (spelled c))
     (records (rules c) s from fates refl is honest (meet c inputs n survival plan types l (len s from fates is)))
-    ∙ numbers_bytes written c inputs n plan types survival end (find (λ m. whole m && (m % c.frames == 0)) (range_with_len 0 end))
+    ∙ numbers_bytes written c inputs n plan types survival end (find (λ m. whole m && (m % c.frames == 0))
+    (range_with_len 0 end))
     (last_below n s.sent survival None (omega arith) (are c inputs n is.some).below)
 
 -- Kept units are not altered.
@@ -104,8 +109,10 @@ each_kept zero n l = absurd (omega (arith, l))
 each_kept (suc count) zero l = refl
 each_kept (suc count) (suc n) l = each_kept count n (omega (arith, l))
 
-pub undamaged_must_come : (c : Config) → IsPlan c → HasByteIds c → KeptIsHonest → WrittenMustCome c → UndamagedMustCome c
+pub undamaged_must_come : (c : Config) → IsPlan c → HasByteIds c → KeptIsHonest → WrittenMustCome c
+    → UndamagedMustCome c
 undamaged_must_come c plan ids kept written inputs n from l =
     let count : ℕ = length (drop from (pipe c.pid (front_packets c inputs n))) in
-    written inputs n from (replicate count Kept) l (kept c inputs n from (replicate count Kept) plan ids l (none_altered count)
+    written inputs n from (replicate count Kept) l (kept c inputs n from (replicate count Kept) plan
+    ids l (none_altered count)
     (each_kept count))

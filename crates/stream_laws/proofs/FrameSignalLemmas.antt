@@ -1,5 +1,6 @@
 -- The L1 signalling of a plan fits its fields, and is read back.
-use Rattle.std.proofs.Common.{◌≡◌, ℕ, ◌%◌, ◌^◌, ◌<◌, ◌≤◌, Bool, true, false, List, [], length, map, get_or, Some, refl, ap}
+use Rattle.std.proofs.Common.{◌≡◌, ℕ, ◌%◌, ◌^◌, ◌<◌, ◌≤◌, Bool, true, false, List, [], length, map, get_or, Some, refl}
+use Rattle.std.proofs.Common.{ap}
 use Rattle.std.proofs.Common.{sym, subst, ◌∙◌, ⊎_elim, arith, append-nil}
 use Rattle.std.specs.Prelude.{min, nat_lt, MatchBool, if◌then◌else◌}
 use Rattle.std.specs.List.{range_with_len}
@@ -130,10 +131,12 @@ divisor_most n s some whole = ⊎_elim
 -- TIME_IL_LENGTH has eight bits
 length_most : (plp : Plp) → plp.interleave ≤ 255 → plp.spread ≤ 255 → il_length_of plp < 2 ^ 8
 length_most plp interleave spread =
-    let most : il_length_of plp ≤ 255 = either_most (nat_lt 1 plp.spread) plp.spread plp.interleave 255 spread interleave in
+    let most : il_length_of plp ≤ 255 = either_most (nat_lt 1 plp.spread) plp.spread plp.interleave 255
+    spread interleave in
     omega (arith, most)
 
-plp_fits : (plp : Plp) → plp.id < 2 ^ 8 → plp.group < 2 ^ 8 → plp.blocks ≤ 1023 → plp.interleave ≤ 255 → plp.spread ≤ 255
+plp_fits : (plp : Plp) → plp.id < 2 ^ 8 → plp.group < 2 ^ 8 → plp.blocks ≤ 1023 → plp.interleave ≤ 255
+    → plp.spread ≤ 255
     → RowsFit conf_plp_rows (conf_plp_of plp)
 unfolding conf_plp_of
 plp_fits plp id group blocks interleave spread =
@@ -174,7 +177,8 @@ conf_fits c plan types =
     (λ k d lt.
     let inside : k < length c.plps = omega (arith, lt, size) in
     let few : (1 ≤ (plp_at c.plps k).blocks) × ((plp_at c.plps k).blocks ≤ 1023) = plan.rules BlockLimit k inside in
-    let short : (plp_at c.plps k).interleave ≤ min (plp_at c.plps k).blocks 255 = plan.rules InterleaverLength k inside in
+    let short : (plp_at c.plps k).interleave ≤ min (plp_at c.plps k).blocks 255 = plan.rules InterleaverLength
+    k inside in
     let frames : (2 ≤ c.frames) × (c.frames ≤ 255) = plan.rules SuperframeLength in
     let whole = plan.rules SpreadDivides k inside in
     let wide : spread c.plps k ≤ c.frames = divisor_most c.frames (spread c.plps k) (omega (arith, frames.0)) whole.1 in
@@ -196,7 +200,8 @@ module _ (c : Config) (plan : IsPlan c) (types : TypesFit c) (n : ℕ) (counts :
   plps_len = length-map-range_with_len (dyn_plp_of c (shape_of c counts)) 0 (length c.plps)
 
   plp_there : (k : ℕ) (d : DynPlp) → k < length c.plps → get_or dynamic_plps k d ≡ dyn_plp_of c (shape_of c counts) k
-  plp_there k d inside = get_or-map-range_with_len (dyn_plp_of c (shape_of c counts)) 0 (length c.plps) k k d inside (omega arith)
+  plp_there k d inside = get_or-map-range_with_len (dyn_plp_of c (shape_of c counts)) 0 (length c.plps)
+      k k d inside (omega arith)
 
   dyn_fits : ShapeFitsL1 → DynFits (dyn_of c n (shape_of c counts))
   dyn_fits law =
@@ -209,7 +214,8 @@ module _ (c : Config) (plan : IsPlan c) (types : TypesFit c) (n : ℕ) (counts :
   unfolding dyn_part dyn_of
   dyn_told back written law =
       let front : List Bool = dyn_bits (dyn_of c n (shape_of c counts)) in
-      let read = back (dyn_of c n (shape_of c counts)) front [] (written (dyn_of c n (shape_of c counts)) (dyn_fits law)) in
+      let read = back (dyn_of c n (shape_of c counts)) front [] (written (dyn_of c n (shape_of c counts))
+      (dyn_fits law)) in
       ap read_whole (ap (λ (k : ℕ). dyn_read k front) (sym plps_len)
       ∙ ap (dyn_read (length dynamic_plps)) (sym (append-nil front)) ∙ read)
 
@@ -233,7 +239,8 @@ module _ (c : Config) (plan : IsPlan c) (types : TypesFit c) (n : ℕ) (counts :
       (λ k lt. sym (ap (λ (plp : DynPlp). plp.plp_start) (plp_there k no_dyn_plp (omega (arith, lt, plps_len)))))
       refl refl
 
-  pub parts_pass : PartsTold → PreWritten → ConfWritten → DynWritten → ShapeFitsL1 → parts_agree c n (l1_parts c n counts) ≡ true
+  pub parts_pass : PartsTold → PreWritten → ConfWritten → DynWritten → ShapeFitsL1
+      → parts_agree c n (l1_parts c n counts) ≡ true
   unfolding pre_part conf_part dyn_part dyn_of
   parts_pass told pre conf dyn law = (told c n (l1_parts c n counts)).1 (record {
     pre = pre (pre_of c) (pre_fits c plan types);
@@ -245,7 +252,8 @@ module _ (c : Config) (plan : IsPlan c) (types : TypesFit c) (n : ℕ) (counts :
   })
 
   parts_shape : DynReadBack → DynWritten → ShapeFitsL1 → l1_shape c (l1_parts c n counts) ≡ Some (shape_of c counts)
-  parts_shape back written law = ap (option_map told_shape) (dyn_told back written law) ∙ ap (λ (shape : FrameShape). Some shape)
+  parts_shape back written law = ap (option_map told_shape) (dyn_told back written law)
+      ∙ ap (λ (shape : FrameShape). Some shape)
       (sym shape_told)
 
 -- ---- the L1-current of a frame of a run

@@ -1,6 +1,7 @@
--- Frames as packets that are sent frame by frame, of which those of other frames are lost; and one more is lost of each frame that is
--- not complete.
-use Rattle.std.proofs.Common.{◌≡◌, ◌≢◌, ℕ, zero, suc, ◌+◌, ◌-◌, ◌%◌, ◌<◌, ◌≤◌, ◌==◌, Bool, true, false, List, [], ◌∷◌, ◌++◌, cond}
+-- Frames as packets that are sent frame by frame, of which those of other frames are lost; and one more is lost of each
+-- frame that is not complete.
+use Rattle.std.proofs.Common.{◌≡◌, ℕ, zero, suc, ◌+◌, ◌-◌, ◌%◌, ◌<◌, ◌≤◌, ◌==◌, Bool, true, false, List, [], ◌∷◌, ◌++◌}
+use Rattle.std.proofs.Common.{cond}
 use Rattle.std.proofs.Common.{length, map, replicate, Option, Some, None, refl, ap, ap₂, sym, subst, ◌∙◌, ⊎_elim, arith}
 use Rattle.std.proofs.Common.{append-nil, length-append}
 use Rattle.std.specs.List.{filter, items_where_true}
@@ -33,7 +34,8 @@ packets_step n s sent false e =
 abbrev pub pairs : ℕ → List Body → List (ℕ × Body)
 pairs n bodies = map (λ (body : Body). (n, body)) bodies
 
-pub sent_append : (c : Config) (number : ℕ) (xs ys : List (ℕ × Body)) → sent_from c number (xs ++ ys) ≡ sent_from c number xs
+pub sent_append : (c : Config) (number : ℕ) (xs ys : List (ℕ × Body))
+    → sent_from c number (xs ++ ys) ≡ sent_from c number xs
     ++ sent_from c (number + length xs) ys
 sent_append c number [] ys = ap (λ (k : ℕ). sent_from c k ys) (let e : number ≡ number + 0 = omega arith in e)
 sent_append c number (x ∷ xs) ys =
@@ -48,24 +50,28 @@ length-sent c number (x ∷ xs) = let e = length-sent c (number + 1) xs in omega
 pub packets_append : (n : ℕ) (xs ys : List Sent) → frame_packets n (xs ++ ys) ≡ frame_packets n xs ++ frame_packets n ys
 packets_append n [] ys = refl
 packets_append n (x ∷ xs) ys = ⊎_elim
-    (λ (e : x.frame ≡ n). packets_step n x (xs ++ ys) true (eq-eqb x.frame n e) ∙ ap (λ (l : List Packet). x.packet ∷ l) (packets_append n xs ys)
+    (λ (e : x.frame ≡ n). packets_step n x (xs ++ ys) true (eq-eqb x.frame n e)
+    ∙ ap (λ (l : List Packet). x.packet ∷ l) (packets_append n xs ys)
     ∙ ap (λ (l : List Packet). l ++ frame_packets n ys) (sym (packets_step n x xs true (eq-eqb x.frame n e))))
     (λ (e : x.frame ≡ n → ⊥). packets_step n x (xs ++ ys) false (ne_eqb x.frame n e) ∙ packets_append n xs ys
     ∙ ap (λ (l : List Packet). l ++ frame_packets n ys) (sym (packets_step n x xs false (ne_eqb x.frame n e))))
     (cases_eq x.frame n)
 
 -- those of one frame
-pub own_here : (c : Config) (n number : ℕ) (bodies : List Body) → all_bodies (frame_packets n (sent_from c number (pairs n bodies)))
+pub own_here : (c : Config) (n number : ℕ) (bodies : List Body)
+    → all_bodies (frame_packets n (sent_from c number (pairs n bodies)))
     ≡ bodies
 own_here c n number [] = refl
 own_here c n number (b ∷ bodies) =
     ap all_bodies (packets_step n _ (sent_from c (number + 1) (pairs n bodies)) true (eq-eqb _ n refl))
     ∙ ap (λ (l : List Body). b ∷ l) (own_here c n (number + 1) bodies)
 
-own_other : (c : Config) (n m number : ℕ) (bodies : List Body) → (m ≡ n → ⊥) → frame_packets n (sent_from c number (pairs m bodies))
+own_other : (c : Config) (n m number : ℕ) (bodies : List Body) → (m ≡ n → ⊥)
+    → frame_packets n (sent_from c number (pairs m bodies))
     ≡ []
 own_other c n m number [] e = refl
-own_other c n m number (b ∷ bodies) e = packets_step n _ (sent_from c (number + 1) (pairs m bodies)) false (ne_eqb _ n e)
+own_other c n m number (b ∷ bodies) e = packets_step n _ (sent_from c (number + 1) (pairs m bodies))
+    false (ne_eqb _ n e)
     ∙ own_other c n m (number + 1) bodies e
 
 -- ---- the list: stand-ins for what is lost
@@ -98,15 +104,18 @@ full c all from number (f ∷ fs) = stand_ins c from (f.number - from)
 abbrev pub kept : Config → List NumberedView → ℕ → List NumberedView → List Bool
 kept c all from [] = []
 kept c all from (f ∷ fs) = replicate (f.number - from) false
-    ++ (replicate (length (frame_pairs c f)) true ++ (replicate (length (lost c all f)) false ++ kept c all (f.number + 1) fs))
+    ++ (replicate (length (frame_pairs c f)) true ++ (replicate (length (lost c all f)) false
+    ++ kept c all (f.number + 1) fs))
 
 -- the numbers of frames, from one on, rise
 abbrev pub RisesFrom : ℕ → List NumberedView → Type 0
 RisesFrom from [] = Unit {0}
 RisesFrom from (f ∷ fs) = (from ≤ f.number) × RisesFrom (f.number + 1) fs
 
--- A frame of this number is there: its packets that are left carry what its record says, and one more is lost if it is not complete.
-pub record Has (c : Config) (all : List NumberedView) (n from number : ℕ) (fs : List NumberedView) (f : NumberedView) : Type 0 where
+-- A frame of this number is there: its packets that are left carry what its record says, and one more is lost if it is
+-- not complete.
+pub record Has (c : Config) (all : List NumberedView) (n from number : ℕ) (fs : List NumberedView) (f : NumberedView) :
+    Type 0 where
   pub number_is : f.number ≡ n
   pub found : at n fs ≡ Some f
   pub carried : all_bodies (frame_packets n (sent_from c number (remade_bodies c fs))) ≡ view_bodies c f.number f.view
@@ -132,7 +141,8 @@ module _ (c : Config) (all : List NumberedView) where
   length-alike zero t = refl
   length-alike (suc k) t = let e = length-alike k t in omega (arith, e)
 
-  pub length-kept : (from number : ℕ) (fs : List NumberedView) → length (kept c all from fs) ≡ length (full c all from number fs)
+  pub length-kept : (from number : ℕ) (fs : List NumberedView) → length (kept c all from fs) ≡ length
+      (full c all from number fs)
   length-kept from number [] = refl
   length-kept from number (f ∷ fs) =
       let k : ℕ = f.number - from in
@@ -164,7 +174,8 @@ module _ (c : Config) (all : List NumberedView) where
   keep_true [] ys ts = refl
   keep_true (x ∷ xs) ys ts = ap (λ (l : List Sent). x ∷ l) (keep_true xs ys ts)
 
-  pub kept_are : (from number : ℕ) (fs : List NumberedView) → items_where_true (kept c all from fs) (full c all from number fs)
+  pub kept_are : (from number : ℕ) (fs : List NumberedView) → items_where_true (kept c all from fs)
+      (full c all from number fs)
       ≡ sent_from c number (remade_bodies c fs)
   kept_are from number [] = refl
   kept_are from number (f ∷ fs) =
@@ -180,7 +191,8 @@ module _ (c : Config) (all : List NumberedView) where
       ∙ ap (λ (i : ℕ). items_where_true (replicate i true ++ more) (own c number f ++ (lost c all f ++ rest)))
       (sym (length-sent c number (frame_pairs c f)))
       ∙ keep_true (own c number f) (lost c all f ++ rest) more
-      ∙ ap (λ (l : List Sent). own c number f ++ l) (skip_false (lost c all f) rest ts ∙ kept_are (f.number + 1) (number + j) fs)
+      ∙ ap (λ (l : List Sent). own c number f ++ l) (skip_false (lost c all f) rest ts
+      ∙ kept_are (f.number + 1) (number + j) fs)
       ∙ sym (sent_append c number (frame_pairs c f) (remade_bodies c fs))
 
   -- ---- of what no stand-in is, nothing is lost
@@ -218,12 +230,14 @@ module _ (c : Config) (all : List NumberedView) where
 
   stand_none : (n from k : ℕ) → (from + k ≤ n) → frame_packets n (stand_ins c from k) ≡ []
   stand_none n from zero b = refl
-  stand_none n from (suc k) b = packets_step n (stand_in c from) (stand_ins c (from + 1) k) false (ne_eqb (stand_in c from).frame n (λ e. omega (arith, e, b)))
+  stand_none n from (suc k) b = packets_step n (stand_in c from) (stand_ins c (from + 1) k) false
+      (ne_eqb (stand_in c from).frame n (λ e. omega (arith, e, b)))
       ∙ stand_none n (from + 1) k (omega (arith, b))
 
   stand_before : (n from k : ℕ) → n < from → frame_packets n (stand_ins c from k) ≡ []
   stand_before n from zero l = refl
-  stand_before n from (suc k) l = packets_step n (stand_in c from) (stand_ins c (from + 1) k) false (ne_eqb (stand_in c from).frame n (λ e. omega (arith, e, l)))
+  stand_before n from (suc k) l = packets_step n (stand_in c from) (stand_ins c (from + 1) k) false
+      (ne_eqb (stand_in c from).frame n (λ e. omega (arith, e, l)))
       ∙ stand_before n (from + 1) k (omega (arith, l))
 
   lost_other : (n m : ℕ) (t : Bool) → (m ≡ n → ⊥) → frame_packets n (lost_by c m t) ≡ []
@@ -261,7 +275,8 @@ module _ (c : Config) (all : List NumberedView) where
       let low = r.0 in
       ap (frame_packets n) (sent_append c number (frame_pairs c f) (remade_bodies c fs))
       ∙ packets_append n (own c number f) (sent_from c (number + length (frame_pairs c f)) (remade_bodies c fs))
-      ∙ ap₂ (λ (x y : List Packet). x ++ y) (own_other c n f.number number (bodies_of f) (λ e. omega (arith, e, low, l)))
+      ∙ ap₂ (λ (x y : List Packet). x ++ y) (own_other c n f.number number (bodies_of f)
+      (λ e. omega (arith, e, low, l)))
       (ss_before n (number + length (frame_pairs c f)) (f.number + 1) fs r.1 (omega (arith, low, l)))
 
   pub full_before : (n from number : ℕ) (fs : List NumberedView) → RisesFrom from fs → n < from
@@ -272,8 +287,10 @@ module _ (c : Config) (all : List NumberedView) where
       let rest : List Sent = full c all (f.number + 1) (number + length (frame_pairs c f)) fs in
       let other : f.number ≡ n → ⊥ = λ e. omega (arith, e, low, l) in
       parts_packets n from number f rest
-      ∙ three (frame_packets n (stand_ins c from (f.number - from))) (frame_packets n (own c number f)) (frame_packets n (lost c all f))
-      (frame_packets n rest) (stand_before n from (f.number - from) l) (own_other c n f.number number (bodies_of f) other)
+      ∙ three (frame_packets n (stand_ins c from (f.number - from))) (frame_packets n (own c number f))
+      (frame_packets n (lost c all f))
+      (frame_packets n rest) (stand_before n from (f.number - from) l) (own_other c n f.number number
+      (bodies_of f) other)
       (lost_other n f.number (is_complete c all f) other)
       ∙ full_before n (f.number + 1) (number + length (frame_pairs c f)) fs r.1 (omega (arith, low, l))
 
@@ -290,16 +307,19 @@ module _ (c : Config) (all : List NumberedView) where
       let later : List Sent = full c all (f.number + 1) (number + j) fs in
       let k : ℕ = f.number - from in
       let own_is : all_bodies (frame_packets n (own c number f)) ≡ bodies_of f =
-      subst (λ (m : ℕ). all_bodies (frame_packets m (own c number f)) ≡ bodies_of f) e (own_here c f.number number (bodies_of f)) in
+      subst (λ (m : ℕ). all_bodies (frame_packets m (own c number f)) ≡ bodies_of f) e
+      (own_here c f.number number (bodies_of f)) in
       let left : frame_packets n (sent_from c number (remade_bodies c (f ∷ fs))) ≡ frame_packets n (own c number f) =
       ap (frame_packets n) (sent_append c number (frame_pairs c f) (remade_bodies c fs))
       ∙ packets_append n (own c number f) rest
       ∙ ap (λ (l : List Packet). frame_packets n (own c number f) ++ l)
       (ss_before n (number + j) (f.number + 1) fs rises (omega (arith, e)))
       ∙ append-nil (frame_packets n (own c number f)) in
-      let whole : frame_packets n (full c all from number (f ∷ fs)) ≡ frame_packets n (own c number f) ++ frame_packets n (lost c all f) =
+      let whole : frame_packets n (full c all from number (f ∷ fs)) ≡ frame_packets n (own c number f)
+      ++ frame_packets n (lost c all f) =
       parts_packets n from number f later
-      ∙ first_none (frame_packets n (stand_ins c from k)) (frame_packets n (own c number f)) (frame_packets n (lost c all f))
+      ∙ first_none (frame_packets n (stand_ins c from k)) (frame_packets n (own c number f))
+      (frame_packets n (lost c all f))
       (frame_packets n later) (stand_none n from k (omega (arith, low, e)))
       (full_before n (f.number + 1) (number + j) fs rises (omega (arith, e))) in
       record {
@@ -315,24 +335,28 @@ module _ (c : Config) (all : List NumberedView) where
   skip_left n number f fs ne =
       ap (frame_packets n) (sent_append c number (frame_pairs c f) (remade_bodies c fs))
       ∙ packets_append n (own c number f) (sent_from c (number + length (frame_pairs c f)) (remade_bodies c fs))
-      ∙ ap (λ (l : List Packet). l ++ frame_packets n (sent_from c (number + length (frame_pairs c f)) (remade_bodies c fs)))
+      ∙ ap (λ (l : List Packet). l ++ frame_packets n (sent_from c (number + length (frame_pairs c f))
+      (remade_bodies c fs)))
       (own_other c n f.number number (bodies_of f) ne)
 
   behind : (n from number : ℕ) (f : NumberedView) (fs : List NumberedView) → from ≤ f.number → (f.number ≡ n → ⊥)
-      → f.number + 1 ≤ n → Look c all n (f.number + 1) (number + length (frame_pairs c f)) fs → Look c all n from number (f ∷ fs)
+      → f.number + 1 ≤ n → Look c all n (f.number + 1) (number + length (frame_pairs c f)) fs
+      → Look c all n from number (f ∷ fs)
   behind n from number f fs low ne l (Found g h) =
       let j : ℕ = length (frame_pairs c f) in
       let later : List Sent = full c all (f.number + 1) (number + j) fs in
       let left = skip_left n number f fs ne in
       Found g (record {
         number_is = h.number_is;
-        found = cond-false {A = Option NumberedView} (f.number == n) (Some f) (at n fs) (ne_eqb f.number n ne) ∙ h.found;
+        found = cond-false {A = Option NumberedView} (f.number == n) (Some f) (at n fs) (ne_eqb f.number n ne)
+            ∙ h.found;
         carried = ap all_bodies left ∙ h.carried;
         more =
             parts_packets n from number f later
             ∙ three (frame_packets n (stand_ins c from (f.number - from))) (frame_packets n (own c number f))
             (frame_packets n (lost c all f)) (frame_packets n later)
-            (stand_none n from (f.number - from) (omega (arith, l, low))) (own_other c n f.number number (bodies_of f) ne)
+            (stand_none n from (f.number - from) (omega (arith, l, low))) (own_other c n f.number number
+            (bodies_of f) ne)
             (lost_other n f.number (is_complete c all f) ne)
             ∙ h.more ∙ ap (λ (x : List Packet). x ++ packets_of (lost c all g)) (sym left);
       })
@@ -345,7 +369,8 @@ module _ (c : Config) (all : List NumberedView) where
   at_before n from [] r l = refl
   at_before n from (f ∷ fs) r l =
       let low = r.0 in
-      cond-false {A = Option NumberedView} (f.number == n) (Some f) (at n fs) (ne_eqb f.number n (λ e. omega (arith, e, low, l)))
+      cond-false {A = Option NumberedView} (f.number == n) (Some f) (at n fs)
+      (ne_eqb f.number n (λ e. omega (arith, e, low, l)))
       ∙ at_before n (f.number + 1) fs r.1 (omega (arith, low, l))
 
   pub look : (n from number : ℕ) (fs : List NumberedView) → RisesFrom from fs → from ≤ n → Look c all n from number fs

@@ -1,7 +1,9 @@
 -- The groups of survivors that are near one another are those of their frames.
-use Rattle.std.proofs.Common.{◌≡◌, ◌≢◌, ℕ, zero, suc, ◌+◌, ◌*◌, ◌/◌, ◌%◌, ◌<◌, ◌≤◌, ◌==◌, Bool, true, false, cond, if◌then◌else◌}
+use Rattle.std.proofs.Common.{◌≡◌, ◌≢◌, ℕ, zero, suc, ◌+◌, ◌*◌, ◌/◌, ◌%◌, ◌<◌, ◌≤◌, ◌==◌, Bool, true, false, cond}
+use Rattle.std.proofs.Common.{if◌then◌else◌}
 use Rattle.std.proofs.Common.{List}
-use Rattle.std.proofs.Common.{[], ◌∷◌, ◌++◌, map, length, Option, Some, None, option_map, refl, ap, ap₂, sym, subst, ◌∙◌, ⊎_elim}
+use Rattle.std.proofs.Common.{[], ◌∷◌, ◌++◌, map, length, Option, Some, None, option_map, refl, ap, ap₂, sym, subst}
+use Rattle.std.proofs.Common.{◌∙◌, ⊎_elim}
 use Rattle.std.proofs.Common.{arith, div-lt_iff_lt-mul, add-mul, mul-le-mul_right}
 use Rattle.std.specs.List.{filter, items_where_true, range_with_len, AllByRecursion}
 use Rattle.std.proofs.lemmas.Bool.{cases_lt, cases_eq, cond_both, cond-true, cond-false, both_ways, and_parts, and_from}
@@ -11,10 +13,12 @@ use Rattle.t2mi_packet.specs.declared.packet.Body.{Body}
 use Rattle.t2mi_packet.specs.declared.packet.Body.TheVariants.{Block, L1Current, Timestamp, Other}
 use Rattle.t2mi_packet.specs.declared.packet.Packet.{Packet}
 use Rattle.frame_groups.specs.declared.key.Key.{Key}
-use Rattle.frame_groups.specs.Groups.{is_same, body_counts, is_counted, body_key, key_behind, Keyed, keyed, Group, in_front}
+use Rattle.frame_groups.specs.Groups.{is_same, body_counts, is_counted, body_key, key_behind, Keyed, keyed, Group}
+use Rattle.frame_groups.specs.Groups.{in_front}
 use Rattle.frame_groups.specs.Groups.{key_runs, groups}
 use Rattle.frame_groups.specs.Numbers.{frame_key}
-use Rattle.stream_laws.specs.SentPackets.{Sent, packets_of, frame_packets, frame_group, IsTimestamp, TellsFrame, Follows, FollowsSome}
+use Rattle.stream_laws.specs.SentPackets.{Sent, packets_of, frame_packets, frame_group, IsTimestamp, TellsFrame}
+use Rattle.stream_laws.specs.SentPackets.{Follows, FollowsSome}
 use Rattle.stream_laws.specs.SentPackets.{InFrameOrder, IsNearSome, AreNear}
 use Rattle.stream_laws.specs.Survivors.{has_packets}
 use Rattle.stream_laws.specs.DamageLaws.{Survive, GroupsAreFrames}
@@ -37,16 +41,23 @@ follows_frame : (before : Option ℕ) (s : Sent) → FollowsSome before s → Be
 follows_frame None s f = tt
 follows_frame (Some k) s f = f.frame
 
-order_below : (frames : ℕ) (before : Option ℕ) (m : ℕ) (ss : List Sent) → Below before m → InFrameOrder frames (Some m) ss
+order_below : (frames : ℕ) (before : Option ℕ) (m : ℕ) (ss : List Sent) → Below before m
+    → InFrameOrder frames (Some m) ss
     → InFrameOrder frames before ss
 order_below frames before m [] b o = tt
 order_below frames before m (s ∷ ss) b o = (o.0, follows_below before m s b o.1, o.2)
 
-pub order_survivors : (frames : ℕ) (before : Option ℕ) (sent : List Sent) (survival : List Bool) → InFrameOrder frames before sent
+pub order_survivors : (frames : ℕ) (before : Option ℕ) (sent : List Sent) (survival : List Bool)
+    → InFrameOrder frames before sent
     → InFrameOrder frames before (items_where_true survival sent)
 order_survivors frames before sent [] o = tt
 order_survivors frames before [] (t ∷ survival) o = tt
-order_survivors frames before (s ∷ sent) (true ∷ survival) o = (o.0, o.1, order_survivors frames (Some s.frame) sent survival o.2)
+order_survivors frames before (s ∷ sent) (true ∷ survival) o = (
+  o.0,
+  o.1,
+  order_survivors frames (Some s.frame)
+      sent survival o.2,
+)
 order_survivors frames before (s ∷ sent) (false ∷ survival) o =
     order_below frames before s.frame (items_where_true survival sent) (follows_frame before s o.1)
     (order_survivors frames (Some s.frame) sent survival o.2)
@@ -75,7 +86,8 @@ all_counted : (frames : ℕ) (before : Option ℕ) (ss : List Sent) → 0 < fram
 all_counted frames before [] some o = refl
 all_counted frames before (s ∷ ss) some o =
     let rest : List Packet = filter (is_counted frames) (packets_of ss) in
-    cond-true (is_counted frames s.packet) (s.packet ∷ rest) rest (body_told frames s.frame s.packet.body some o.0.frame)
+    cond-true (is_counted frames s.packet) (s.packet ∷ rest) rest (body_told frames s.frame s.packet.body
+    some o.0.frame)
     ∙ ap (λ (l : List Packet). s.packet ∷ l) (all_counted frames (Some s.frame) ss some o.2)
 
 -- Each has the key of its frame.
@@ -99,7 +111,8 @@ other_superframe a b l m = ne_eqb (a % 16) (b % 16) (λ e. omega (arith, e, l, m
 abbrev key_with : ℕ → ℕ → Key
 key_with a b = record { superframe = a; frame = b }
 
-key_told : (frames : ℕ) (before : Option ℕ) (n : ℕ) (b : Body) (superframe : ℕ) → 0 < frames → superframe ≡ n / frames % 16
+key_told : (frames : ℕ) (before : Option ℕ) (n : ℕ) (b : Body) (superframe : ℕ) → 0 < frames
+    → superframe ≡ n / frames % 16
     → TellsFrame frames n b → FollowsBody before b n → NearBody frames before b n
     → body_key (option_map (frame_key frames) before) superframe b ≡ frame_key frames n
 key_told frames before n (Block frame_idx plp_id first bits) s some e t fo ne = ap₂ key_with e t
@@ -129,7 +142,8 @@ keys_told : (frames : ℕ) (before : Option ℕ) (ss : List Sent) → 0 < frames
 keys_told frames before [] some o n = refl
 keys_told frames before (s ∷ ss) some o n =
     let k : key_behind (option_map (frame_key frames) before) s.packet ≡ frame_key frames s.frame =
-    key_told frames before s.frame s.packet.body s.packet.superframe some o.0.superframe o.0.frame (follows_body before s o.1)
+    key_told frames before s.frame s.packet.body s.packet.superframe some o.0.superframe o.0.frame
+    (follows_body before s o.1)
     (near_body frames before s n.0) in
     ap (λ (k : Key). record { key = k; packet = s.packet } ∷ keyed (Some k) (packets_of ss)) k
     ∙ ap (λ (l : List Keyed). record { key = frame_key frames s.frame; packet = s.packet } ∷ l)
@@ -154,7 +168,8 @@ key_groups frames (g ∷ gs) = group_as frames g.frame g.packets ∷ key_groups 
 -- Runs with one frame.
 abbrev pub with_sent : Sent → List Met → List Met
 with_sent s [] = met_of s.frame (s.packet ∷ []) ∷ []
-with_sent s (g ∷ gs) = if s.frame == g.frame then met_of s.frame (s.packet ∷ g.packets) ∷ gs else met_of s.frame (s.packet ∷ [])
+with_sent s (g ∷ gs) = if s.frame == g.frame then met_of s.frame (s.packet ∷ g.packets) ∷ gs else met_of
+    s.frame (s.packet ∷ [])
     ∷ g ∷ gs
 
 abbrev pub frame_runs : List Sent → List Met
@@ -166,7 +181,8 @@ abbrev pub Apart : ℕ → ℕ → List Met → Type 0
 Apart frames n [] = Unit {0}
 Apart frames n (g ∷ gs) = (n ≤ g.frame) × (g.frame < n + 16 * frames)
 
-apart_with : (frames n : ℕ) (s : Sent) (gs : List Met) → n ≤ s.frame → s.frame < n + 16 * frames → Apart frames n (with_sent s gs)
+apart_with : (frames n : ℕ) (s : Sent) (gs : List Met) → n ≤ s.frame → s.frame < n + 16 * frames
+    → Apart frames n (with_sent s gs)
 apart_with frames n s [] l m = (l, m)
 apart_with frames n s (g ∷ gs) l m = cond_both (s.frame == g.frame) _ _ (Apart frames n) (λ e. (l, m)) (λ e. (l, m))
 
@@ -202,7 +218,8 @@ one_frame frames n m some l less e f =
     (cases_eq r q))
     (cases_lt q r)
 
-same_frames : (frames n m : ℕ) → 0 < frames → n ≤ m → m < n + 16 * frames → is_same (frame_key frames n) (frame_key frames m)
+same_frames : (frames n m : ℕ) → 0 < frames → n ≤ m → m < n + 16 * frames
+    → is_same (frame_key frames n) (frame_key frames m)
     ≡ (n == m)
 same_frames frames n m some l less = ⊎_elim
     (λ (e : n ≡ m).
@@ -220,12 +237,14 @@ with_same : (frames : ℕ) (s : Sent) (gs : List Met) → 0 < frames → Apart f
     → in_front (record { key = frame_key frames s.frame; packet = s.packet }) (key_groups frames gs)
     ≡ key_groups frames (with_sent s gs)
 with_same frames s [] some a = refl
-with_same frames s (g ∷ gs) some a = go (is_same (frame_key frames s.frame) (frame_key frames g.frame)) (s.frame == g.frame)
+with_same frames s (g ∷ gs) some a = go (is_same (frame_key frames s.frame) (frame_key frames g.frame))
+    (s.frame == g.frame)
     (same_frames frames s.frame g.frame some a.0 a.1)
   where
     go : (t u : Bool) → t ≡ u → cond t (group_as frames s.frame (s.packet ∷ g.packets) ∷ key_groups frames gs)
         (group_as frames s.frame (s.packet ∷ []) ∷ key_groups frames (g ∷ gs))
-        ≡ key_groups frames (cond u (met_of s.frame (s.packet ∷ g.packets) ∷ gs) (met_of s.frame (s.packet ∷ []) ∷ g ∷ gs))
+        ≡ key_groups frames (cond u (met_of s.frame (s.packet ∷ g.packets) ∷ gs)
+        (met_of s.frame (s.packet ∷ []) ∷ g ∷ gs))
     go true true e = refl
     go true false e = absurd (both_ways true e refl)
     go false true e = absurd (both_ways false refl e)
@@ -235,7 +254,8 @@ runs_same : (frames : ℕ) (before : Option ℕ) (ss : List Sent) → 0 < frames
     → AreNear frames before ss → key_runs (frame_keyed frames ss) ≡ key_groups frames (frame_runs ss)
 runs_same frames before [] some o n = refl
 runs_same frames before (s ∷ ss) some o n =
-    ap (in_front (record { key = frame_key frames s.frame; packet = s.packet })) (runs_same frames (Some s.frame) ss some o.2 n.1)
+    ap (in_front (record { key = frame_key frames s.frame; packet = s.packet }))
+    (runs_same frames (Some s.frame) ss some o.2 n.1)
     ∙ with_same frames s (frame_runs ss) some (apart frames s.frame ss o.2 n.1)
 
 -- Frame by frame.
@@ -267,7 +287,8 @@ met_skip : (from count : ℕ) (s : Sent) (ss : List Sent) → s.frame < from →
     ≡ frames_met from count ss
 met_skip from zero s ss l = refl
 met_skip from (suc count) s ss l =
-    ap₂ (λ (ps : List Packet) (gs : List Met). some_met from ps ++ gs) (packets_other from s ss (λ e. omega (arith, e, l)))
+    ap₂ (λ (ps : List Packet) (gs : List Met). some_met from ps ++ gs)
+    (packets_other from s ss (λ e. omega (arith, e, l)))
     (met_skip (from + 1) count s ss (omega (arith, l)))
 
 ahead : (from count : ℕ) (s : Sent) (ss : List Sent) → s.frame < from → with_sent s (frames_met from count ss)
@@ -298,7 +319,8 @@ with_met from (suc count) s ss l m a = ⊎_elim
     (sym (packets_other from s ss e ∙ none)))
     (cases_eq s.frame from)
   where
-    here : (ps : List Packet) → s.frame ≡ from → with_sent s (frames_met (from + 1) count ss) ≡ met_of s.frame (s.packet ∷ [])
+    here : (ps : List Packet) → s.frame ≡ from → with_sent s (frames_met (from + 1) count ss) ≡ met_of
+        s.frame (s.packet ∷ [])
         ∷ frames_met (from + 1) count ss
         → with_sent s (some_met from ps ++ frames_met (from + 1) count ss) ≡ some_met from (s.packet ∷ ps)
         ++ frames_met (from + 1) count ss
@@ -310,7 +332,8 @@ none_met : (from count : ℕ) → frames_met from count [] ≡ []
 none_met from zero = refl
 none_met from (suc count) = none_met (from + 1) count
 
-pub runs_met : (frames count : ℕ) (before : Option ℕ) (ss : List Sent) → InFrameOrder frames before ss → AreBelow count ss
+pub runs_met : (frames count : ℕ) (before : Option ℕ) (ss : List Sent) → InFrameOrder frames before ss
+    → AreBelow count ss
     → frame_runs ss ≡ frames_met 0 count ss
 runs_met frames count before [] o b = sym (none_met 0 count)
 runs_met frames count before (s ∷ ss) o b =
@@ -339,7 +362,8 @@ met_filtered frames from (suc count) ss = go (frame_packets from ss) (met_filter
     rest = filter has_packets (map (frame_group frames ss) (range_with_len (from + 1) count))
 
     go : (ps : List Packet) → key_groups frames (frames_met (from + 1) count ss) ≡ rest
-        → key_groups frames (some_met from ps ++ frames_met (from + 1) count ss) ≡ cond (has_packets (group_as frames from ps))
+        → key_groups frames (some_met from ps ++ frames_met (from + 1) count ss) ≡ cond
+        (has_packets (group_as frames from ps))
         (group_as frames from ps ∷ rest) rest
     go [] ih = ih
     go (p ∷ ps) ih =
@@ -370,10 +394,12 @@ steps_with frames s (g ∷ gs) a h = cond_both (s.frame == g.frame) _ _ (StepsIn
     later : (s.frame == g.frame) ≡ false → s.frame < g.frame
     later e =
         ⊎_elim (λ (l : s.frame < g.frame). l)
-        (λ (l : g.frame ≤ s.frame). absurd (both_ways (s.frame == g.frame) e (eq-eqb s.frame g.frame (omega (arith, l, a.0)))))
+        (λ (l : g.frame ≤ s.frame). absurd (both_ways (s.frame == g.frame) e
+        (eq-eqb s.frame g.frame (omega (arith, l, a.0)))))
         (cases_lt s.frame g.frame)
 
-steps_runs : (frames : ℕ) (before : Option ℕ) (ss : List Sent) → InFrameOrder frames before ss → AreNear frames before ss
+steps_runs : (frames : ℕ) (before : Option ℕ) (ss : List Sent) → InFrameOrder frames before ss
+    → AreNear frames before ss
     → StepsIn frames (frame_runs ss)
 steps_runs frames before [] o n = tt
 steps_runs frames before (s ∷ ss) o n = steps_with frames s (frame_runs ss) (apart frames s.frame ss o.2 n.1)
@@ -384,7 +410,8 @@ pub steps_met : (frames count : ℕ) (sent : List Sent) (survival : List Bool) �
 steps_met frames count sent survival h =
     let o = order_survivors frames None sent survival h.sent_are.order in
     subst (StepsIn frames)
-    (runs_met frames count None (items_where_true survival sent) o (below_survivors count sent survival h.sent_are.below))
+    (runs_met frames count None (items_where_true survival sent) o (below_survivors count sent survival
+    h.sent_are.below))
     (steps_runs frames None (items_where_true survival sent) o h.near)
 
 -- packets of which there is a first one

@@ -1,11 +1,15 @@
 -- What survives of a frame of which a packet is missing, and what the tests say of it.
-use Rattle.std.proofs.Common.{◌≡◌, ℕ, zero, suc, ◌+◌, ◌-◌, ◌%◌, ◌<◌, ◌≤◌, ◌==◌, ◌&&◌, ◌||◌, not, Bool, true, false, cond, List}
-use Rattle.std.proofs.Common.{[], ◌∷◌, map, length, Option, Some, None, refl, ap, sym, subst, ◌∙◌, ◌⊎◌, inl, inr, ⊎_elim, arith}
+use Rattle.std.proofs.Common.{◌≡◌, ℕ, zero, suc, ◌+◌, ◌-◌, ◌%◌, ◌<◌, ◌≤◌, ◌==◌, ◌&&◌, ◌||◌, not, Bool, true, false}
+use Rattle.std.proofs.Common.{cond, List}
+use Rattle.std.proofs.Common.{[], ◌∷◌, map, length, Option, Some, None, refl, ap, sym, subst, ◌∙◌, ◌⊎◌, inl, inr}
+use Rattle.std.proofs.Common.{⊎_elim, arith}
 use Rattle.std.specs.Prelude.{slice_get, slice_index, nat_lt, is_some, count_by}
-use Rattle.std.specs.List.{filter, filter_map, cons_option, flat_map, range_with_len, items_where_true, list_all, list_any}
+use Rattle.std.specs.List.{filter, filter_map, cons_option, flat_map, range_with_len, items_where_true, list_all}
+use Rattle.std.specs.List.{list_any}
 use Rattle.std.specs.List.{AllByRecursion}
 use Rattle.std.specs.Option.{option_or, option_and_then}
-use Rattle.std.proofs.lemmas.Bool.{and_from, and_parts, cases_Bool, cond_both, cond-true, cond-false, eq-eqb, eqb-true, eqb-false}
+use Rattle.std.proofs.lemmas.Bool.{and_from, and_parts, cases_Bool, cond_both, cond-true, cond-false, eq-eqb, eqb-true}
+use Rattle.std.proofs.lemmas.Bool.{eqb-false}
 use Rattle.std.proofs.lemmas.Bool.{ltb-true, true_from_ne_false, true≢false, false≢true}
 use Rattle.std.proofs.lemmas.List.Elements.{All-from_recursion, All-contains}
 use Rattle.std.proofs.lemmas.List.FromFn.{length-range_with_len, get_or-range_with_len}
@@ -28,9 +32,11 @@ use Rattle.frame_groups.specs.Modulated.{Numbered}
 use Rattle.frame_groups.specs.declared.cause.MuteCause.{MuteCause}
 use Rattle.frame_groups.specs.declared.cause.MuteCause.TheVariants.{PacketMissing}
 use Rattle.frame_groups.specs.Begun.{packets_at}
-use Rattle.frame_groups.specs.Carried.{body_block, has_length, blocks_of, right_blocks, L1Parts, body_l1, l1s_of, body_stamp}
+use Rattle.frame_groups.specs.Carried.{body_block, has_length, blocks_of, right_blocks, L1Parts, body_l1, l1s_of}
+use Rattle.frame_groups.specs.Carried.{body_stamp}
 use Rattle.frame_groups.specs.Carried.{stamps_of}
-use Rattle.frame_groups.specs.Tests.{unless, begins_superframe, pool_test, missing_test, l1_test, time_test, l1_shape, first_shape}
+use Rattle.frame_groups.specs.Tests.{unless, begins_superframe, pool_test, missing_test, l1_test, time_test, l1_shape}
+use Rattle.frame_groups.specs.Tests.{first_shape}
 use Rattle.frame_groups.specs.Tests.{has_begun, has_count, has_counts, is_known, blocks_test, map_test, packets_fault}
 use Rattle.frame_writer.specs.FramePackets.{stamp_of}
 use Rattle.gateway_core.specs.Packets.{block_bodies, frame_bodies}
@@ -54,7 +60,8 @@ pub record SomeOf (packets all : List Packet) : Type 0 where
   pub flags : List Bool
   pub are : packets ≡ items_where_true flags all
 
-pub some_left : (n : ℕ) (sent : List Sent) (survival : List Bool) → SomeOf (frame_packets n (items_where_true survival sent))
+pub some_left : (n : ℕ) (sent : List Sent) (survival : List Bool)
+    → SomeOf (frame_packets n (items_where_true survival sent))
     (frame_packets n sent)
 some_left n sent [] = record { flags = []; are = refl }
 some_left n [] (b ∷ survival) = record { flags = []; are = refl }
@@ -90,7 +97,8 @@ all_flagged : {X Y : Type 0} (P : Y → Type 0) (f : X → Option Y) (flags : Li
     → AllByRecursion P (filter_map f xs) → AllByRecursion P (filter_map f (items_where_true flags xs))
 all_flagged P f [] xs h = tt
 all_flagged P f (b ∷ flags) [] h = tt
-all_flagged P f (true ∷ flags) (x ∷ xs) h = keep_all P (f x) (filter_map f (items_where_true flags xs)) (filter_map f xs)
+all_flagged P f (true ∷ flags) (x ∷ xs) h = keep_all P (f x) (filter_map f (items_where_true flags xs))
+    (filter_map f xs)
     (all_flagged P f flags xs) h
 all_flagged P f (false ∷ flags) (x ∷ xs) h = all_flagged P f flags xs (drop_first P (f x) (filter_map f xs) h)
 
@@ -115,25 +123,29 @@ fewer_flagged f [] xs = omega arith
 fewer_flagged f (b ∷ flags) [] = omega arith
 fewer_flagged f (true ∷ flags) (x ∷ xs) = keep_fewer (f x) (filter_map f (items_where_true flags xs)) (filter_map f xs)
     (fewer_flagged f flags xs)
-fewer_flagged f (false ∷ flags) (x ∷ xs) = let a = fewer_flagged f flags xs in let b = more_first (f x) (filter_map f xs) in
+fewer_flagged f (false ∷ flags) (x ∷ xs) = let a = fewer_flagged f flags xs in let b = more_first (f x)
+    (filter_map f xs) in
     omega (arith, a, b)
 
 fewer_of_some : {Y : Type 0} (f : Packet → Option Y) (packets all : List Packet) → SomeOf packets all
     → length (filter_map f packets) ≤ length (filter_map f all)
-fewer_of_some f packets all s = subst (λ (l : List Packet). length (filter_map f l) ≤ length (filter_map f all)) (sym s.are)
+fewer_of_some f packets all s = subst (λ (l : List Packet). length (filter_map f l) ≤ length (filter_map f all))
+    (sym s.are)
     (fewer_flagged f s.flags all)
 
 -- ---- what is lacking
 
--- What survives of frame n, behind groups with numbers, lacks as frame k a timestamp, an L1-current, a block of a PLP of which an
--- interleaving frame begins in k, or one of an interleaving frame that began before.
-pub data Lacks (c : Config) (inputs : ℕ → List (List ℕ)) (past : List Numbered) (n k : ℕ) (left : List Packet) : Type 0 where
+-- What survives of frame n, behind groups with numbers, lacks as frame k a timestamp, an L1-current, a block of a PLP
+-- of which an interleaving frame begins in k, or one of an interleaving frame that began before.
+pub data Lacks (c : Config) (inputs : ℕ → List (List ℕ)) (past : List Numbered) (n k : ℕ) (left : List Packet) :
+    Type 0 where
   NoStamp : begins_superframe c k ≡ true → length (stamps_of left) ≡ 0 → Lacks c inputs past n k left
   NoL1 : length (l1s_of left) ≡ 0 → Lacks c inputs past n k left
   FewBlocks : (plp : ℕ) → plp < length c.plps → is_first c plp k ≡ true
       → length (blocks_of c plp left) < told_count c inputs n plp → Lacks c inputs past n k left
   FewBegun : (plp : ℕ) → plp < length c.plps → is_first c plp k ≡ false
-      → length (blocks_of c plp (packets_at past (begin_of c plp k))) < told_count c inputs n plp → Lacks c inputs past n k left
+      → length (blocks_of c plp (packets_at past (begin_of c plp k))) < told_count c inputs n plp
+      → Lacks c inputs past n k left
 
 -- Frame k begins what frame n does.
 pub record BeginsAll (c : Config) (n k : ℕ) : Type 0 where
@@ -153,7 +165,8 @@ own_begins c inputs n plp some =
     absurd (omega (arith, some, none)))
     (cases_Bool (is_first c plp n))
 
-count_some : {X Y : Type 0} (f : X → Option Y) (xs : List X) → count_by (λ x. is_some (f x)) xs ≡ length (filter_map f xs)
+count_some : {X Y : Type 0} (f : X → Option Y) (xs : List X) → count_by (λ x. is_some (f x)) xs ≡ length
+    (filter_map f xs)
 count_some f [] = refl
 count_some {Y = Y} f (x ∷ xs) = sum_by-cons (λ y. cond (is_some (f y)) 1 0) x xs ∙ go (f x) (count_some f xs)
   where
@@ -222,7 +235,8 @@ module _ (c : Config) (inputs : ℕ → List (List ℕ)) (past : List Numbered) 
   tell_stamp : begins_superframe c n ≡ true → Tells (Timestamp (stamp_of c n))
   tell_stamp begins fewer =
       let l = fewer_by body_stamp (Timestamp (stamp_of c n)) refl fewer in
-      let e = ap length (has.stamps ∙ cond-true {A = List Stamp} (begins_superframe c n) (stamp_of c n ∷ []) [] begins) in
+      let e = ap length (has.stamps ∙ cond-true {A = List Stamp} (begins_superframe c n) (stamp_of c n ∷ [])
+      [] begins) in
       NoStamp (like.superframe begins) (omega (arith, l, e))
 
   tell_all : AllByRecursion Tells (frame_bodies c n (told_counts c inputs n) (own_blocks c inputs n))
@@ -237,10 +251,12 @@ module _ (c : Config) (inputs : ℕ → List (List ℕ)) (past : List Numbered) 
 
 -- ---- the tests of what survives
 
-place_at : (test : ℕ → Bool) (count plp : ℕ) → list_all test (range_with_len 0 count) ≡ true → plp < count → test plp ≡ true
+place_at : (test : ℕ → Bool) (count plp : ℕ) → list_all test (range_with_len 0 count) ≡ true → plp < count
+    → test plp ≡ true
 place_at test count plp e inside =
     let size = length-range_with_len 0 count in
-    let at : slice_index (range_with_len 0 count) plp ≡ plp = get_or-range_with_len 0 count plp 0 inside ∙ omega arith in
+    let at : slice_index (range_with_len 0 count) plp ≡ plp = get_or-range_with_len 0 count plp 0 inside
+    ∙ omega arith in
     subst (λ (j : ℕ). test j ≡ true) at
     (AllPass-from_list_all test (range_with_len 0 count) e plp 0 (omega (arith, inside, size)))
 
@@ -294,7 +310,8 @@ module _ (given : Given) (c : Config) (inputs : ℕ → List (List ℕ)) (past :
       let first = first_left (l1s_of left) (ltb-true 0 (length (l1s_of left)) some) own in
       let each : has_counts c past k left (Some (frame_shape c inputs n)) ≡ true =
       sym (ap (has_counts c past k left) first) ∙ all in
-      place_at (λ plp. has_count c past k plp (length (blocks_of c plp left)) (told plp)) (length c.plps) plp each inside
+      place_at (λ plp. has_count c past k plp (length (blocks_of c plp left)) (told plp)) (length c.plps)
+      plp each inside
 
   -- the L1-current tells too many blocks
   too_few : (plp : ℕ) → plp < length c.plps → is_first c plp k ≡ true
@@ -316,7 +333,8 @@ module _ (given : Given) (c : Config) (inputs : ℕ → List (List ℕ)) (past :
       let both : ((count == 0) && has_begun c plp before (told plp)) ≡ true =
       sym (cond-false (is_first c plp k) (count == told plp) ((count == 0) && has_begun c plp before (told plp)) e)
       ∙ counts_of plp inside some all in
-      let same = (and_parts (length (blocks_of c plp before) == told plp) (length (right_blocks c plp before) == told plp)
+      let same = (and_parts (length (blocks_of c plp before) == told plp) (length (right_blocks c plp before)
+      == told plp)
       (and_parts (count == 0) (has_begun c plp before (told plp)) both).1).0 in
       omega (arith, eqb-true (length (blocks_of c plp before)) (told plp) same, told_is plp inside, fewer)
 
@@ -324,13 +342,15 @@ module _ (given : Given) (c : Config) (inputs : ℕ → List (List ℕ)) (past :
   not_both : Lacks c inputs past n k left → (currents && stamped) ≡ true → counted ≡ true → ⊥
   not_both (NoStamp begins none) some all =
       let there = (and_parts currents stamped some).1 in
-      let l = ltb-true 0 (length (stamps_of left)) (or_right_of (begins_superframe c k) (nat_lt 0 (length (stamps_of left))) there
+      let l = ltb-true 0 (length (stamps_of left)) (or_right_of (begins_superframe c k)
+      (nat_lt 0 (length (stamps_of left))) there
       begins) in
       omega (arith, l, none)
   not_both (NoL1 none) some all = let l = ltb-true 0 (length (l1s_of left)) (and_parts currents stamped some).0 in
       omega (arith, l, none)
   not_both (FewBlocks plp inside e fewer) some all = too_few plp inside e fewer (and_parts currents stamped some).0 all
-  not_both (FewBegun plp inside e fewer) some all = too_few_begun plp inside e fewer (and_parts currents stamped some).0 all
+  not_both (FewBegun plp inside e fewer) some all = too_few_begun plp inside e fewer (and_parts currents stamped some).0
+      all
 
   -- so it does not pass as frame k
   pub fails : Lacks c inputs past n k left → is_some (packets_fault c past k left) ≡ true
@@ -347,7 +367,8 @@ module _ (given : Given) (c : Config) (inputs : ℕ → List (List ℕ)) (past :
       (none_if (counted && list_all (is_known c) left) PacketMissing fifth.0)).0)
 
 -- and as itself it lacks a packet, if it carries nothing else
-pub lacks_packet : (given : Given) (c : Config) (inputs : ℕ → List (List ℕ)) (past : List Numbered) (n : ℕ) (plan : IsPlan c)
+pub lacks_packet : (given : Given) (c : Config) (inputs : ℕ → List (List ℕ)) (past : List Numbered) (n : ℕ)
+    (plan : IsPlan c)
     (types : TypesFit c) (left : List Packet) → AllByRecursion (λ l1. l1 ≡ frame_parts c inputs n) (l1s_of left)
     → HaveRoom c past n → AreFew c left → AllByRecursion (λ s. s ≡ stamp_of c n) (stamps_of left)
     → Lacks c inputs past n n left → packets_fault c past n left ≡ Some PacketMissing
@@ -391,11 +412,14 @@ count_in : (b : ℕ) (test : Packet → Bool) (sent : List Sent)
     → count_by (λ (s : Sent). (s.frame == b) && test s.packet) sent ≡ count_by test (frame_packets b sent)
 count_in b test [] = refl
 count_in b test (s ∷ sent) =
-    sum_by-cons (λ (s : Sent). cond {A = ℕ} ((s.frame == b) && test s.packet) 1 0) s sent ∙ go (s.frame == b) (count_in b test sent)
+    sum_by-cons (λ (s : Sent). cond {A = ℕ} ((s.frame == b) && test s.packet) 1 0) s sent
+    ∙ go (s.frame == b) (count_in b test sent)
   where
-    go : (t : Bool) → count_by (λ (s : Sent). (s.frame == b) && test s.packet) sent ≡ count_by test (frame_packets b sent)
+    go : (t : Bool) → count_by (λ (s : Sent). (s.frame == b) && test s.packet) sent ≡ count_by test
+        (frame_packets b sent)
         → cond (t && test s.packet) 1 0 + count_by (λ (s : Sent). (s.frame == b) && test s.packet) sent
-        ≡ count_by test (packets_of (cond t (s ∷ filter (λ (x : Sent). x.frame == b) sent) (filter (λ (x : Sent). x.frame == b) sent)))
+        ≡ count_by test (packets_of (cond t (s ∷ filter (λ (x : Sent). x.frame == b) sent)
+        (filter (λ (x : Sent). x.frame == b) sent)))
     go true e = ap (λ (k : ℕ). cond (test s.packet) 1 0 + k) e
         ∙ sym (sum_by-cons (λ (p : Packet). cond {A = ℕ} (test p) 1 0) s.packet (frame_packets b sent))
     go false e = omega (arith, e)
@@ -413,7 +437,8 @@ of_sent P n (s ∷ sent) h = let parts = go (s.frame == n) h in (parts.0, of_sen
     go true h = (λ e. h.0, h.1)
     go false h = (λ e. absurd (false≢true e), h)
 
-module _ (c : Config) (sent : List Sent) (survival : List Bool) (n : ℕ) (miss : Misses (carries c n) sent survival) where
+module _ (c : Config) (sent : List Sent) (survival : List Bool) (n : ℕ) (miss : Misses (carries c n)
+    sent survival) where
   -- fewer survive of the packets of the frame in which it was sent
   fewer_left : (b : ℕ) → (miss.packet.frame == b) ≡ true → (test : Packet → Bool) → test miss.packet.packet ≡ true
       → count_by test (frame_packets b (items_where_true survival sent)) < count_by test (frame_packets b sent)
@@ -433,7 +458,8 @@ module _ (c : Config) (sent : List Sent) (survival : List Bool) (n : ℕ) (miss 
       let test : Packet → Bool = λ p. is_some (body_block id p.body) in
       let parts = and_parts (miss.packet.frame == begin_of c plp n) (is_block_of id miss.packet.packet.body) e in
       let l = fewer_left (begin_of c plp n) parts.0 test (block_some id miss.packet.packet.body ∙ parts.1) in
-      let x = count_some (λ (p : Packet). body_block id p.body) (frame_packets (begin_of c plp n) (items_where_true survival sent)) in
+      let x = count_some (λ (p : Packet). body_block id p.body) (frame_packets (begin_of c plp n)
+      (items_where_true survival sent)) in
       let y = count_some (λ (p : Packet). body_block id p.body) (frame_packets (begin_of c plp n) sent) in
       omega (arith, l, x, y)
 
@@ -452,13 +478,14 @@ carried_cases c n s e = go (s.frame == n) refl e
         ⊎_elim
         (λ (f : is_first c one.0 n ≡ true).
         let here = begun_here c one.0 n f in
-        let own = (and_parts (s.frame == begin_of c one.0 n) (is_block_of (plp_at c.plps one.0).id s.packet.body) one.2).0 in
+        let own = (and_parts (s.frame == begin_of c one.0 n) (is_block_of (plp_at c.plps one.0).id s.packet.body)
+        one.2).0 in
         absurd (eqb-false s.frame n is (eqb-true s.frame (begin_of c one.0 n) own ∙ here)))
         (λ (f : is_first c one.0 n ≡ false). inr (one.0, one.1, f, one.2))
         (cases_Bool (is_first c one.0 n))
 
--- What survives of a frame that is not whole lacks something, as a frame that begins what it does: here, or, if this is the frame
--- itself, where an interleaving frame began.
+-- What survives of a frame that is not whole lacks something, as a frame that begins what it does: here, or, if this is
+-- the frame itself, where an interleaving frame began.
 pub not_whole_lacks : NotWholeMisses → FrameCarries → (c : Config) (inputs : ℕ → List (List ℕ)) (count m k : ℕ)
     (survival : List Bool) (past : List Numbered) → BeginsAll c m k → m < count
     → HasFrame c inputs m (frame_packets m (sent_frames c inputs count))
@@ -474,12 +501,14 @@ not_whole_lacks misses carried c inputs count m k survival past like l has w bef
     let miss = misses c sent survival m w in
     let all : List Packet = frame_packets m sent in
     let left : List Packet = frame_packets m (items_where_true survival sent) in
-    let tell = All-from_recursion (λ (s : Sent). (s.frame == m) ≡ true → Tells c inputs past m k like all left has s.packet.body) sent
+    let tell = All-from_recursion (λ (s : Sent). (s.frame == m) ≡ true
+    → Tells c inputs past m k like all left has s.packet.body) sent
     (of_sent (λ (p : Packet). Tells c inputs past m k like all left has p.body) m sent
     (tell_packet c inputs past m k like all left has (carried c inputs count m l))) in
     ⊎_elim
     (λ (here : (miss.packet.frame == m) ≡ true).
-    All-contains (λ (s : Sent). (s.frame == m) ≡ true → Tells c inputs past m k like all left has s.packet.body) sent miss.packet
+    All-contains (λ (s : Sent). (s.frame == m) ≡ true → Tells c inputs past m k like all left has s.packet.body)
+    sent miss.packet
     tell miss.there here
     (λ test e. fewer_left c sent survival m miss m here (λ (p : Packet). test p.body) e))
     (λ (begun : (plp : ℕ) × (plp < length c.plps) × (is_first c plp m ≡ false) × (is_begun c plp m miss.packet ≡ true)).

@@ -1,6 +1,8 @@
 -- What the packets of a frame carry, by its dynamic part and the blocks of each PLP.
-use Rattle.std.proofs.Common.{◌≡◌, ℕ, zero, suc, ◌+◌, ◌-◌, ◌*◌, ◌%◌, ◌<◌, ◌≤◌, ◌==◌, ◌&&◌, Bool, true, false, List, [], ◌∷◌, ◌++◌}
-use Rattle.std.proofs.Common.{length, map, Option, Some, None, refl, ap, ap₂, sym, subst, ◌∙◌, ⊎_elim, arith, append-nil}
+use Rattle.std.proofs.Common.{◌≡◌, ℕ, zero, suc, ◌+◌, ◌-◌, ◌*◌, ◌%◌, ◌<◌, ◌≤◌, ◌==◌, ◌&&◌, Bool, true, false, List, []}
+use Rattle.std.proofs.Common.{◌∷◌, ◌++◌}
+use Rattle.std.proofs.Common.{length, map, Option, Some, None, refl, ap, ap₂, sym, subst, ◌∙◌, ⊎_elim, arith}
+use Rattle.std.proofs.Common.{append-nil}
 use Rattle.std.specs.Prelude.{slice_index, if◌then◌else◌}
 use Rattle.std.specs.List.{filter, filter_map, cons_option, flat_map, range_with_len, list_all}
 use Rattle.std.proofs.lemmas.Bool.{cases_eq, cases_lt, and_from, cond_both, cond-true, cond-false, eq-eqb, ne_eqb}
@@ -29,7 +31,8 @@ abbrev pub all_bodies : List Packet → List Body
 all_bodies packets = map (λ (p : Packet). p.body) packets
 
 -- what packets carry is what their bodies do
-pub carried_by : {Y : Type 0} (f : Body → Option Y) (packets : List Packet) → filter_map (λ (p : Packet). f p.body) packets
+pub carried_by : {Y : Type 0} (f : Body → Option Y) (packets : List Packet)
+    → filter_map (λ (p : Packet). f p.body) packets
     ≡ filter_map f (all_bodies packets)
 carried_by f [] = refl
 carried_by f (p ∷ packets) = ap (cons_option (f p.body)) (carried_by f packets)
@@ -37,7 +40,8 @@ carried_by f (p ∷ packets) = ap (cons_option (f p.body)) (carried_by f packets
 -- ---- the blocks of PLPs
 
 none_blocks : {Y : Type 0} (f : Body → Option Y) (frame_idx id : ℕ)
-    → ((first : Bool) (bits : List Bool) → f (Block frame_idx id first bits) ≡ None) → (first : Bool) (blocks : List (List Bool))
+    → ((first : Bool) (bits : List Bool) → f (Block frame_idx id first bits) ≡ None)
+    → (first : Bool) (blocks : List (List Bool))
     → filter_map f (block_bodies frame_idx id first blocks) ≡ []
 none_blocks f frame_idx id h first [] = refl
 none_blocks {Y = Y} f frame_idx id h first (b ∷ blocks) =
@@ -57,10 +61,14 @@ record Among {Y : Type 0} (f : Body → Option Y) (plp a k : ℕ) (bodies : ℕ 
   pub there : a ≤ plp → plp < a + k → filter_map f (flat_map bodies (range_with_len a k)) ≡ own
   pub behind : plp < a → filter_map f (flat_map bodies (range_with_len a k)) ≡ []
 
-among : {Y : Type 0} (f : Body → Option Y) (count plp : ℕ) (bodies : ℕ → List Body) (own : List Y) → filter_map f (bodies plp)
+among : {Y : Type 0} (f : Body → Option Y) (count plp : ℕ) (bodies : ℕ → List Body) (own : List Y)
+    → filter_map f (bodies plp)
     ≡ own → ((j : ℕ) → j < count → (j ≡ plp → ⊥) → filter_map f (bodies j) ≡ [])
     → (a k : ℕ) → a + k ≤ count → Among f plp a k bodies own
-among f count plp bodies own mine others a zero l = record { there = λ x y. absurd (omega (arith, x, y)); behind = λ x. refl }
+among f count plp bodies own mine others a zero l = record {
+  there = λ x y. absurd (omega (arith, x, y));
+  behind = λ x. refl;
+}
 among {Y = Y} f count plp bodies own mine others a (suc k) l =
     let rest = among f count plp bodies own mine others (a + 1) k (omega (arith, l)) in
     let tail : List Body = flat_map bodies (range_with_len (a + 1) k) in
@@ -75,11 +83,13 @@ among {Y = Y} f count plp bodies own mine others a (suc k) l =
           split ∙ ap (λ (u : List Y). u ++ filter_map f tail) (others a (omega (arith, l)) e)
           ∙ rest.there (omega (arith, x, e)) (omega (arith, y)))
           (cases_eq a plp);
-      behind = λ x. split ∙ ap (λ (u : List Y). u ++ filter_map f tail) (others a (omega (arith, l)) (λ e. omega (arith, e, x)))
+      behind = λ x. split ∙ ap (λ (u : List Y). u ++ filter_map f tail) (others a (omega (arith, l))
+          (λ e. omega (arith, e, x)))
           ∙ rest.behind (omega (arith, x));
     }
 
-none_over : {Y : Type 0} (f : Body → Option Y) (bodies : ℕ → List Body) → ((plp : ℕ) → filter_map f (bodies plp) ≡ []) → (a k : ℕ)
+none_over : {Y : Type 0} (f : Body → Option Y) (bodies : ℕ → List Body) → ((plp : ℕ) → filter_map f (bodies plp) ≡ [])
+    → (a k : ℕ)
     → filter_map f (flat_map bodies (range_with_len a k)) ≡ []
 none_over f bodies h a zero = refl
 none_over {Y = Y} f bodies h a (suc k) =
@@ -87,7 +97,8 @@ none_over {Y = Y} f bodies h a (suc k) =
     ∙ ap (λ (u : List Y). u ++ filter_map f (flat_map bodies (range_with_len (a + 1) k))) (h a)
     ∙ none_over f bodies h (a + 1) k
 
-pub ids_differ : (c : Config) → IsPlan c → (i j : ℕ) → i < length c.plps → j < length c.plps → (i ≡ j → ⊥) → (plp_at c.plps i).id
+pub ids_differ : (c : Config) → IsPlan c → (i j : ℕ) → i < length c.plps → j < length c.plps → (i ≡ j → ⊥)
+    → (plp_at c.plps i).id
     ≡ (plp_at c.plps j).id → ⊥
 ids_differ c plan i j a b apart e = ⊎_elim
     (λ (l : i < j). plan.rules DistinctIds j b i l e)
@@ -97,7 +108,12 @@ ids_differ c plan i j a b apart e = ⊎_elim
 -- ---- a frame
 
 abbrev pub made_parts : Config → List Bool → L1Parts
-made_parts c dynamic = record { pre = pre_bits (pre_of c); conf = conf_bits (conf_of c); dynamic = dynamic; extension = [] }
+made_parts c dynamic = record {
+  pre = pre_bits (pre_of c);
+  conf = conf_bits (conf_of c);
+  dynamic = dynamic;
+  extension = [];
+}
 
 abbrev pub made_l1 : Config → ℕ → List Bool → Body
 made_l1 c n dynamic = l1_body c n (pre_bits (pre_of c)) (conf_bits (conf_of c)) dynamic
@@ -114,7 +130,8 @@ module _ (c : Config) (n : ℕ) (dynamic : List Bool) (blocks : ℕ → List (Li
       → ((id : ℕ) (first : Bool) (bits : List Bool) → f (Block (n % c.frames) id first bits) ≡ None)
       → filter_map f (plp_bodies c n blocks 0) ≡ []
   no_blocks f h =
-      none_over f of_plp (λ plp. none_blocks f (n % c.frames) (plp_at c.plps plp).id (h (plp_at c.plps plp).id) true (blocks plp))
+      none_over f of_plp (λ plp. none_blocks f (n % c.frames) (plp_at c.plps plp).id (h (plp_at c.plps plp).id)
+      true (blocks plp))
       0 (length c.plps - 0)
 
   rest_l1 : filter_map body_l1 (made_l1 c n dynamic ∷ plp_bodies c n blocks 0) ≡ made_parts c dynamic ∷ []
@@ -131,7 +148,8 @@ module _ (c : Config) (n : ℕ) (dynamic : List Bool) (blocks : ℕ → List (Li
       ≡ (if begins_superframe c n then stamp_of c n ∷ [] else [])
   frame_stamps = go (n % c.frames == 0)
     where
-      go : (t : Bool) → filter_map body_stamp (if t then Timestamp (stamp_of c n) ∷ made_l1 c n dynamic ∷ plp_bodies c n blocks 0
+      go : (t : Bool) → filter_map body_stamp (if t then Timestamp (stamp_of c n) ∷ made_l1 c n dynamic
+          ∷ plp_bodies c n blocks 0
           else made_l1 c n dynamic ∷ plp_bodies c n blocks 0) ≡ (if t then stamp_of c n ∷ [] else [])
       go true = ap (λ (l : List Stamp). stamp_of c n ∷ l) rest_stamps
       go false = rest_stamps
@@ -147,7 +165,8 @@ module _ (c : Config) (n : ℕ) (dynamic : List Bool) (blocks : ℕ → List (Li
       (λ first bits. cond-false {A = Option (List Bool)} ((plp_at c.plps j).id == id) (Some bits) None
       (ne_eqb (plp_at c.plps j).id id (ids_differ c plan j plp l inside apart))) true (blocks j))
       0 (length c.plps - 0) (omega arith)).there (omega arith) (omega (arith, inside)) in
-      cond_both {A = List Body} (n % c.frames == 0) _ _ (λ l. filter_map (body_block id) l ≡ blocks plp) (λ t. rest) (λ t. rest)
+      cond_both {A = List Body} (n % c.frames == 0) _ _ (λ l. filter_map (body_block id) l ≡ blocks plp)
+      (λ t. rest) (λ t. rest)
 
 -- ---- each block is one of a PLP, with its length
 
@@ -172,12 +191,14 @@ known_blocks c frame_idx plp first (b ∷ blocks) inside h =
     (known_blocks c frame_idx plp false blocks inside h.1)
 
 known_plps : (c : Config) (bodies : ℕ → List Body)
-    → ((plp : ℕ) → plp < length c.plps → list_all (body_known c) (bodies plp) ≡ true) → (a k : ℕ) → a + k ≤ length c.plps
+    → ((plp : ℕ) → plp < length c.plps → list_all (body_known c) (bodies plp) ≡ true) → (a k : ℕ)
+    → a + k ≤ length c.plps
     → list_all (body_known c) (flat_map bodies (range_with_len a k)) ≡ true
 known_plps c bodies h a zero l = refl
 known_plps c bodies h a (suc k) l =
     list_all-append (body_known c) (bodies a) (flat_map bodies (range_with_len (a + 1) k))
-    ∙ and_from (list_all (body_known c) (bodies a)) (list_all (body_known c) (flat_map bodies (range_with_len (a + 1) k)))
+    ∙ and_from (list_all (body_known c) (bodies a))
+    (list_all (body_known c) (flat_map bodies (range_with_len (a + 1) k)))
     (h a (omega (arith, l))) (known_plps c bodies h (a + 1) k (omega (arith, l)))
 
 pub known_frame : (c : Config) (n : ℕ) (dynamic : List Bool) (blocks : ℕ → List (List Bool))
@@ -185,7 +206,8 @@ pub known_frame : (c : Config) (n : ℕ) (dynamic : List Bool) (blocks : ℕ →
 known_frame c n dynamic blocks long =
     let rest : list_all (body_known c) (plp_bodies c n blocks 0) ≡ true =
     known_plps c (λ plp. block_bodies (n % c.frames) (plp_at c.plps plp).id true (blocks plp))
-    (λ plp inside. known_blocks c (n % c.frames) plp true (blocks plp) inside (long plp)) 0 (length c.plps - 0) (omega arith) in
+    (λ plp inside. known_blocks c (n % c.frames) plp true (blocks plp) inside (long plp)) 0 (length c.plps - 0)
+    (omega arith) in
     cond_both {A = List Body} (n % c.frames == 0) _ _ (λ l. list_all (body_known c) l ≡ true) (λ t. rest) (λ t. rest)
 
 pub all_right : (c : Config) (plp : ℕ) (blocks : List (List Bool)) → AreLong c plp blocks

@@ -1,11 +1,13 @@
 -- Packets of which only those at the front are lost.
-use Rattle.std.proofs.Common.{◌≡◌, ◌≢◌, ℕ, zero, suc, ◌+◌, ◌*◌, ◌/◌, ◌%◌, ◌<◌, ◌≤◌, true, List, [], ◌∷◌, replicate, Option, Some}
+use Rattle.std.proofs.Common.{◌≡◌, ◌≢◌, ℕ, zero, suc, ◌+◌, ◌*◌, ◌/◌, ◌%◌, ◌<◌, ◌≤◌, true, List, [], ◌∷◌, replicate}
+use Rattle.std.proofs.Common.{Option, Some}
 use Rattle.std.proofs.Common.{None, refl, ap, ◌∙◌, ⊎_elim, arith, div-lt_iff_lt-mul, add-mul}
 use Rattle.std.specs.List.{items_where_true}
 use Rattle.std.specs.Prelude.{slice_get}
 use Rattle.std.proofs.lemmas.Bool.{cases_lt}
 use Rattle.std.proofs.lemmas.Nat.{div-add-mod', mod_below}
-use Rattle.stream_laws.specs.SentPackets.{Sent, IsTimestamp, frame_packets, FollowsSome, InFrameOrder, IsNearSome, AreNear}
+use Rattle.stream_laws.specs.SentPackets.{Sent, IsTimestamp, frame_packets, FollowsSome, InFrameOrder, IsNearSome}
+use Rattle.stream_laws.specs.SentPackets.{AreNear}
 use Rattle.stream_laws.specs.Survivors.{later_only}
 use Rattle.stream_laws.specs.DamageLaws.{LaterNear, NearTold}
 use Rattle.stream_laws.proofs.PacketLemmas.{packets_other}
@@ -25,19 +27,25 @@ abbrev Behind : Option ℕ → ℕ → List Sent → Type 0
 Behind None count ss = (n : ℕ) → n < count → frame_packets n ss ≢ []
 Behind (Some m) count ss = (n : ℕ) → m < n → n < count → frame_packets n ss ≢ []
 
-behind_on : (before : Option ℕ) (count : ℕ) (s : Sent) (ss : List Sent) → FollowsSome before s → Behind before count (s ∷ ss)
+behind_on : (before : Option ℕ) (count : ℕ) (s : Sent) (ss : List Sent) → FollowsSome before s
+    → Behind before count (s ∷ ss)
     → Behind (Some s.frame) count ss
 behind_on None count s ss f h n l m none = h n m (packets_other n s ss (λ e. omega (arith, e, l)) ∙ none)
 behind_on (Some k) count s ss f h n l m none =
     h n (let o = f.frame in omega (arith, o, l)) m (packets_other n s ss (λ e. omega (arith, e, l)) ∙ none)
 
-next_some : (frames : ℕ) (before : Option ℕ) (count : ℕ) (s : Sent) (ss : List Sent) → InFrameOrder frames (Some s.frame) ss
+next_some : (frames : ℕ) (before : Option ℕ) (count : ℕ) (s : Sent) (ss : List Sent)
+    → InFrameOrder frames (Some s.frame) ss
     → s.frame < count → Behind before count (s ∷ ss) → NextSome before s
 next_some frames None count s ss o b h = tt
 next_some frames (Some m) count s ss o b h = ⊎_elim
     (λ (l : m + 1 < s.frame).
     absurd (h (m + 1) (omega arith) (omega (arith, l, b))
-    (no_packets (m + 1) s.frame (s ∷ ss) l (let e : s.frame ≤ s.frame = omega arith in e, all_from frames s.frame ss o))))
+    (no_packets (m + 1) s.frame (s ∷ ss) l (
+      let e : s.frame ≤ s.frame = omega arith in e,
+      all_from frames
+          s.frame ss o,
+    ))))
     (λ (l : s.frame ≤ m + 1). l)
     (cases_lt (m + 1) s.frame)
 
@@ -83,7 +91,8 @@ later_near frames count sent lost left some all =
 -- Packets that are near one another two by two are so behind the first.
 near_behind : (frames : ℕ) (s : Sent) (ss : List Sent)
     → ((i : ℕ) (t next : Sent) → slice_get (s ∷ ss) i ≡ Some t → slice_get (s ∷ ss) (i + 1) ≡ Some next
-    → (next.frame < t.frame + 16 * frames) × (IsTimestamp next.packet.body → next.frame / frames < t.frame / frames + 16))
+    → (next.frame < t.frame + 16 * frames) × (IsTimestamp next.packet.body
+    → next.frame / frames < t.frame / frames + 16))
     → AreNear frames (Some s.frame) ss
 near_behind frames s [] h = tt
 near_behind frames s (t ∷ ss) h =
@@ -91,7 +100,8 @@ near_behind frames s (t ∷ ss) h =
       record { frame = p.0; stamp = p.1 },
       near_behind frames t ss
           (λ i u next at behind.
-          h (suc i) u next at (ap (slice_get (s ∷ t ∷ ss)) (let e : suc i + 1 ≡ suc (i + 1) = omega arith in e) ∙ behind)),
+          h (suc i) u next at (ap (slice_get (s ∷ t ∷ ss)) (let e : suc i + 1 ≡ suc (i + 1) = omega arith in e)
+          ∙ behind)),
     )
 
 pub near_told : NearTold

@@ -12,7 +12,8 @@ use Rattle.frame_groups.specs.Modulated.{Numbered, Rules, join_number, past_with
 use Rattle.frame_groups.specs.Numbers.{frame_key, next_number}
 use Rattle.stream_laws.specs.SentPackets.{Sent, frame_packets, frame_group}
 use Rattle.stream_laws.specs.GroupNumbers.{numbers_behind, is_met, number_from, JoinsAt, GroupsNumbered}
-use Rattle.stream_laws.proofs.GroupLemmas.{not_empty, Met, group_as, key_groups, some_met, frames_met, groups_are_met, Steps, StepsIn}
+use Rattle.stream_laws.proofs.GroupLemmas.{not_empty, Met, group_as, key_groups, some_met, frames_met, groups_are_met}
+use Rattle.stream_laws.proofs.GroupLemmas.{Steps, StepsIn}
 use Rattle.stream_laws.proofs.GroupLemmas.{steps_met}
 
 -- the frames of which a packet survives, from one on
@@ -94,7 +95,8 @@ module _ (found : NextIsFound) (r : Rules) (count : ℕ) (ss : List Sent) (first
           let number : join_number r (group_as r.frames from (p ∷ ps)) ≡ Some from =
           ap (λ (qs : List Packet). join_number r (group_as r.frames from qs)) (sym is)
           ∙ ap (λ (n : ℕ). join_number r (frame_group r.frames ss n)) e ∙ joins.number ∙ ap Some (sym e) in
-          ap (λ (o : Option ℕ). o ∷ numbers_behind r (past_with [] (group_as r.frames from (p ∷ ps)) o) (key_groups r.frames gs))
+          ap (λ (o : Option ℕ). o ∷ numbers_behind r (past_with [] (group_as r.frames from (p ∷ ps)) o)
+          (key_groups r.frames gs))
           number
           ∙ ap₂ (λ (x : Option ℕ) (xs : List (Option ℕ)). x ∷ xs) (sym (number_at first from (omega (arith, e))))
           (found_behind found r (record { number = from; group = group_as r.frames from (p ∷ ps) }) [] gs some steps
@@ -104,7 +106,8 @@ module _ (found : NextIsFound) (r : Rules) (count : ℕ) (ss : List Sent) (first
           let number : join_number r (group_as r.frames from (p ∷ ps)) ≡ None =
           ap (λ (qs : List Packet). join_number r (group_as r.frames from qs)) (sym is)
           ∙ joins.before from low (not_empty p ps (frame_packets from ss) is) in
-          ap (λ (o : Option ℕ). o ∷ numbers_behind r (past_with [] (group_as r.frames from (p ∷ ps)) o) (key_groups r.frames gs))
+          ap (λ (o : Option ℕ). o ∷ numbers_behind r (past_with [] (group_as r.frames from (p ∷ ps)) o)
+          (key_groups r.frames gs))
           number
           ∙ ap₂ (λ (x : Option ℕ) (xs : List (Option ℕ)). x ∷ xs) (sym (number_before first from low))
           (ih (omega (arith, low)) (behind r.frames from gs steps)))

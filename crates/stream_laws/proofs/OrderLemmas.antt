@@ -1,5 +1,6 @@
 -- The order of these packets, and how near they are.
-use Rattle.std.proofs.Common.{◌≡◌, ◌≢◌, ℕ, zero, suc, ◌+◌, ◌-◌, ◌%◌, ◌<◌, ◌≤◌, ◌==◌, Bool, true, false, List, [], ◌∷◌, ◌++◌}
+use Rattle.std.proofs.Common.{◌≡◌, ◌≢◌, ℕ, zero, suc, ◌+◌, ◌-◌, ◌%◌, ◌<◌, ◌≤◌, ◌==◌, Bool, true, false, List, [], ◌∷◌}
+use Rattle.std.proofs.Common.{◌++◌}
 use Rattle.std.proofs.Common.{length, Option, Some, None, refl, ap, sym, subst, ◌∙◌, ⊎_elim, arith}
 use Rattle.std.specs.List.{AllByRecursion}
 use Rattle.std.proofs.lemmas.Bool.{cases_eq, cases_lt, cond_both, eqb-true, eq-eqb, ne_eqb}
@@ -9,11 +10,13 @@ use Rattle.t2mi_packet.specs.declared.packet.Body.{Body}
 use Rattle.gateway_core.specs.Packets.{plp_bodies}
 use Rattle.stream_laws.specs.SentPackets.{Sent, frame_packets, IsTimestamp, InFrameOrder, IsNearSome, AreNear}
 use Rattle.stream_laws.specs.SentFrames.{sent_from}
-use Rattle.stream_laws.proofs.SentLemmas.{IsPlain, plain_plps, Earlier, NotLater, earlier_follows, plain_follows, not_later}
+use Rattle.stream_laws.proofs.SentLemmas.{IsPlain, plain_plps, Earlier, NotLater, earlier_follows, plain_follows}
+use Rattle.stream_laws.proofs.SentLemmas.{not_later}
 use Rattle.stream_laws.specs.Remade.{NumberedView, view_bodies, frame_pairs, remade_bodies, IsSpaced, AreSpacedFrom}
 use Rattle.stream_laws.proofs.MadeLemmas.{all_bodies, made_l1, made_bodies}
 use Rattle.stream_laws.specs.Coming.{end_after, is_complete}
-use Rattle.stream_laws.proofs.FullLemmas.{packets_step, pairs, sent_append, stand_in, stand_ins, lost_by, lost, full, RisesFrom, own, own_here}
+use Rattle.stream_laws.proofs.FullLemmas.{packets_step, pairs, sent_append, stand_in, stand_ins, lost_by, lost, full}
+use Rattle.stream_laws.proofs.FullLemmas.{RisesFrom, own, own_here}
 use Rattle.stream_laws.proofs.FullLemmas.{packets_append}
 
 -- The packets of a frame carry what a written frame has.
@@ -41,16 +44,19 @@ order_rest c n before (b ∷ bodies) rest number p l o q = (
   order_rest c n (Some n) bodies rest (number + 1) p.1 (omega arith) q q,
 )
 
-order_l1 : (c : Config) (n : ℕ) (before : Option ℕ) (dynamic : List Bool) (blocks : ℕ → List (List Bool)) (rest : List Sent)
+order_l1 : (c : Config) (n : ℕ) (before : Option ℕ) (dynamic : List Bool) (blocks : ℕ → List (List Bool))
+    (rest : List Sent)
     (number : ℕ) → NotLater before n → InFrameOrder c.frames (Some n) rest
-    → InFrameOrder c.frames before (sent_from c number (pairs n (made_l1 c n dynamic ∷ plp_bodies c n blocks 0)) ++ rest)
+    → InFrameOrder c.frames before (sent_from c number (pairs n (made_l1 c n dynamic ∷ plp_bodies c n blocks 0))
+    ++ rest)
 order_l1 c n before dynamic blocks rest number l o = (
   record { superframe = refl; frame = refl },
   plain_follows before _ (λ t. t) l,
   order_rest c n (Some n) (plp_bodies c n blocks 0) rest (number + 1) (plain_plps c n blocks) (omega arith) o o,
 )
 
-order_made : (c : Config) (n : ℕ) (before : Option ℕ) (dynamic : List Bool) (blocks : ℕ → List (List Bool)) (rest : List Sent)
+order_made : (c : Config) (n : ℕ) (before : Option ℕ) (dynamic : List Bool) (blocks : ℕ → List (List Bool))
+    (rest : List Sent)
     (number : ℕ) → Earlier before n → InFrameOrder c.frames (Some n) rest
     → InFrameOrder c.frames before (sent_from c number (pairs n (made_bodies c n dynamic blocks)) ++ rest)
 order_made c n before dynamic blocks rest number e o =
@@ -84,7 +90,8 @@ order_lost c n false rest o = (
   o,
 )
 
-pub order_full : (c : Config) (all fs : List NumberedView) (from number : ℕ) (before : Option ℕ) → RisesFrom from fs → AllMade c fs
+pub order_full : (c : Config) (all fs : List NumberedView) (from number : ℕ) (before : Option ℕ) → RisesFrom from fs
+    → AllMade c fs
     → Earlier before from → InFrameOrder c.frames before (full c all from number fs)
 order_full c all [] from number before r m e = tt
 order_full c all (f ∷ fs) from number before r m e =
@@ -96,14 +103,16 @@ order_full c all (f ∷ fs) from number before r m e =
     (order_full c all fs (f.number + 1) (number + length (frame_pairs c f)) (Some f.number) r.1 m.1 (omega arith)) in
     order_stand c from (f.number - from) before (own c number f ++ (lost c all f ++ rest)) e
     (λ b l.
-    subst (λ (bodies : List Body). InFrameOrder c.frames b (sent_from c number (pairs f.number bodies) ++ (lost c all f ++ rest)))
+    subst (λ (bodies : List Body). InFrameOrder c.frames b (sent_from c number (pairs f.number bodies)
+    ++ (lost c all f ++ rest)))
     (sym made.is)
     (order_made c f.number b made.dynamic made.blocks (lost c all f ++ rest) number
     (earlier_as b (from + (f.number - from)) f.number (omega (arith, low)) l) more))
 
 -- ---- below the end
 
-below_stand : (c : Config) (count from k : ℕ) → from + k ≤ count → AllByRecursion (λ s. s.frame < count) (stand_ins c from k)
+below_stand : (c : Config) (count from k : ℕ) → from + k ≤ count → AllByRecursion (λ s. s.frame < count)
+    (stand_ins c from k)
 below_stand c count from zero l = tt
 below_stand c count from (suc k) l = (omega (arith, l), below_stand c count (from + 1) k (omega (arith, l)))
 
@@ -120,7 +129,8 @@ pub end_above : (from : ℕ) (fs : List NumberedView) → RisesFrom from fs → 
 end_above from [] r = omega arith
 end_above from (f ∷ fs) r = let low = r.0 in let l = end_above (f.number + 1) fs r.1 in omega (arith, low, l)
 
-pub below_full : (c : Config) (all fs : List NumberedView) (from number count : ℕ) → RisesFrom from fs → end_after from fs ≤ count
+pub below_full : (c : Config) (all fs : List NumberedView) (from number count : ℕ) → RisesFrom from fs
+    → end_after from fs ≤ count
     → AllByRecursion (λ s. s.frame < count) (full c all from number fs)
 below_full c all [] from number count r l = tt
 below_full c all (f ∷ fs) from number count r l =
@@ -145,7 +155,8 @@ none_right : {X : Type 0} (xs ys : List X) → xs ++ ys ≡ [] → ys ≡ []
 none_right [] ys e = e
 none_right (x ∷ xs) ys e = let k = ap length e in absurd (omega (arith, k))
 
-some_made : (c : Config) (n : ℕ) (dynamic : List Bool) (blocks : ℕ → List (List Bool)) → made_bodies c n dynamic blocks ≡ [] → ⊥
+some_made : (c : Config) (n : ℕ) (dynamic : List Bool) (blocks : ℕ → List (List Bool))
+    → made_bodies c n dynamic blocks ≡ [] → ⊥
 some_made c n dynamic blocks =
     cond_both {A = List Body} (n % c.frames == 0) _ _ (λ l. l ≡ [] → ⊥)
     (λ t e. let k = ap length e in omega (arith, k)) (λ t e. let k = ap length e in omega (arith, k))
@@ -157,13 +168,15 @@ stand_some : (c : Config) (n from k : ℕ) → from ≤ n → n < from + k → f
 stand_some c n from zero a b e = omega (arith, a, b)
 stand_some c n from (suc k) a b e = ⊎_elim
     (λ (s : from ≡ n).
-    let z = ap length (sym (packets_step n (stand_in c from) (stand_ins c (from + 1) k) true (eq-eqb (stand_in c from).frame n s)) ∙ e) in absurd (omega (arith, z)))
+    let z = ap length (sym (packets_step n (stand_in c from) (stand_ins c (from + 1) k) true
+    (eq-eqb (stand_in c from).frame n s)) ∙ e) in absurd (omega (arith, z)))
     (λ (s : from ≡ n → ⊥).
     stand_some c n (from + 1) k (omega (arith, a, s)) (omega (arith, b))
     (sym (packets_step n (stand_in c from) (stand_ins c (from + 1) k) false (ne_eqb (stand_in c from).frame n s)) ∙ e))
     (cases_eq from n)
 
-pub some_full : (c : Config) (all : List NumberedView) (n : ℕ) (fs : List NumberedView) (from number : ℕ) → RisesFrom from fs
+pub some_full : (c : Config) (all : List NumberedView) (n : ℕ) (fs : List NumberedView) (from number : ℕ)
+    → RisesFrom from fs
     → AllMade c fs → from ≤ n → n < end_after from fs → frame_packets n (full c all from number fs) ≢ []
 some_full c all n [] from number r m a b e = omega (arith, a, b)
 some_full c all n (f ∷ fs) from number r m a b e =
@@ -177,7 +190,8 @@ some_full c all n (f ∷ fs) from number r m a b e =
     sym (packets_append n mine (lost c all f ++ rest))
     ∙ none_right (frame_packets n (stand_ins c from k)) (frame_packets n (mine ++ (lost c all f ++ rest))) parts in
     let last : frame_packets n (lost c all f) ++ frame_packets n rest ≡ [] =
-    sym (packets_append n (lost c all f) rest) ∙ none_right (frame_packets n mine) (frame_packets n (lost c all f ++ rest)) later in
+    sym (packets_append n (lost c all f) rest) ∙ none_right (frame_packets n mine)
+    (frame_packets n (lost c all f ++ rest)) later in
     ⊎_elim
     (λ (less : n < f.number).
     stand_some c n from k a (omega (arith, less, low)) (none_left (frame_packets n (stand_ins c from k))
@@ -212,7 +226,8 @@ near_some : (c : Config) (before : Option ℕ) (s : Sent) → SpacedSome c befor
 near_some c None s h t = tt
 near_some c (Some m) s h t = record { frame = h.frames; stamp = λ e. h.superframes (t e) }
 
-near_made : (c : Config) (n : ℕ) (before : Option ℕ) (dynamic : List Bool) (blocks : ℕ → List (List Bool)) (rest : List Sent)
+near_made : (c : Config) (n : ℕ) (before : Option ℕ) (dynamic : List Bool) (blocks : ℕ → List (List Bool))
+    (rest : List Sent)
     (number : ℕ) → 0 < c.frames → SpacedSome c before n → AreNear c.frames (Some n) rest
     → AreNear c.frames before (sent_from c number (pairs n (made_bodies c n dynamic blocks)) ++ rest)
 near_made c n before dynamic blocks rest number some spaced h =
@@ -222,7 +237,11 @@ near_made c n before dynamic blocks rest number some spaced h =
       near_some c before _ spaced (λ _. eqb-true (n % c.frames) 0 t),
       near_rest c n (made_l1 c n dynamic ∷ plp_bodies c n blocks 0) rest (number + 1) some h,
     ))
-    (λ t. (near_some c before _ spaced (λ e. absurd e), near_rest c n (plp_bodies c n blocks 0) rest (number + 1) some h))
+    (λ t. (
+      near_some c before _ spaced (λ e. absurd e),
+      near_rest c n (plp_bodies c n blocks 0) rest
+          (number + 1) some h,
+    ))
 
 near_from : (c : Config) (f : NumberedView) (fs : List NumberedView) (before : Option ℕ) (number : ℕ) → 0 < c.frames
     → SpacedSome c before f.number → AreSpacedFrom c f.number fs → AllMade c (f ∷ fs)

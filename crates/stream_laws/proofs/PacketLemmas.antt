@@ -12,7 +12,8 @@ packets_here n s sent e =
     let rest : List Sent = filter (λ (s : Sent). s.frame == n) sent in
     ap packets_of (cond-true (s.frame == n) (s ∷ rest) rest (eq-eqb s.frame n e))
 
-pub packets_other : (n : ℕ) (s : Sent) (sent : List Sent) → s.frame ≢ n → frame_packets n (s ∷ sent) ≡ frame_packets n sent
+pub packets_other : (n : ℕ) (s : Sent) (sent : List Sent) → s.frame ≢ n
+    → frame_packets n (s ∷ sent) ≡ frame_packets n sent
 packets_other n s sent e =
     let rest : List Sent = filter (λ (s : Sent). s.frame == n) sent in
     ap packets_of (cond-false (s.frame == n) (s ∷ rest) rest (ne_eqb s.frame n e))
@@ -24,9 +25,11 @@ told test sent survival = filter (λ p. test p.0) (zip sent survival)
 pub whole_here : (test : Sent → Bool) (s : Sent) (sent : List Sent) (t : Bool) (survival : List Bool) → test s ≡ true
     → all_survive test (s ∷ sent) (t ∷ survival) ≡ (t && all_survive test sent survival)
 whole_here test s sent t survival e =
-    ap (list_all (λ (p : Sent × Bool). p.1)) (cond-true (test s) ((s, t) ∷ told test sent survival) (told test sent survival) e)
+    ap (list_all (λ (p : Sent × Bool). p.1)) (cond-true (test s) ((s, t) ∷ told test sent survival)
+    (told test sent survival) e)
 
 pub whole_other : (test : Sent → Bool) (s : Sent) (sent : List Sent) (t : Bool) (survival : List Bool) → test s ≡ false
     → all_survive test (s ∷ sent) (t ∷ survival) ≡ all_survive test sent survival
 whole_other test s sent t survival e =
-    ap (list_all (λ (p : Sent × Bool). p.1)) (cond-false (test s) ((s, t) ∷ told test sent survival) (told test sent survival) e)
+    ap (list_all (λ (p : Sent × Bool). p.1)) (cond-false (test s) ((s, t) ∷ told test sent survival)
+    (told test sent survival) e)

@@ -1,5 +1,6 @@
 -- The six tests of the packets of a frame, and what they say of fewer.
-use Rattle.std.proofs.Common.{◌≡◌, ℕ, zero, suc, ◌+◌, ◌*◌, ◌/◌, ◌<◌, ◌≤◌, ◌==◌, ◌&&◌, ◌||◌, not, Bool, true, false, List, [], ◌∷◌}
+use Rattle.std.proofs.Common.{◌≡◌, ℕ, zero, suc, ◌+◌, ◌*◌, ◌/◌, ◌<◌, ◌≤◌, ◌==◌, ◌&&◌, ◌||◌, not, Bool, true, false}
+use Rattle.std.proofs.Common.{List, [], ◌∷◌}
 use Rattle.std.proofs.Common.{length, Option, Some, None, refl, ap, sym, subst, ◌∙◌, ⊎_elim, arith, sum_by}
 use Rattle.std.specs.Prelude.{slice_get, slice_index, if◌then◌else◌, nat_le, nat_lt}
 use Rattle.std.specs.Bool.{beq}
@@ -36,10 +37,12 @@ use Rattle.frame_groups.specs.declared.cause.MuteCause.TheVariants.{PacketMissin
 use Rattle.frame_groups.specs.Begun.{is_begin, packets_at}
 use Rattle.frame_groups.specs.Carried.{blocks_of, right_blocks, L1Parts, l1s_of, stamps_of}
 use Rattle.frame_groups.specs.TestLaws.{MapPasses, PartsTold}
-use Rattle.frame_groups.specs.Tests.{begins_superframe, pool_chunks, pool_need, capped, room_test, begun_test, pool_test}
+use Rattle.frame_groups.specs.Tests.{begins_superframe, pool_chunks, pool_need, capped, room_test, begun_test}
+use Rattle.frame_groups.specs.Tests.{pool_test}
 use Rattle.frame_groups.specs.Tests.{missing_test, same_parts, parts_agree, l1s_agree, l1_test}
 use Rattle.frame_groups.specs.Tests.{time_test, l1_shape}
-use Rattle.frame_groups.specs.Tests.{first_shape, has_begun, has_count, has_counts, is_known, blocks_test, has_map, map_test}
+use Rattle.frame_groups.specs.Tests.{first_shape, has_begun, has_count, has_counts, is_known, blocks_test, has_map}
+use Rattle.frame_groups.specs.Tests.{map_test}
 use Rattle.frame_groups.specs.Tests.{packets_fault}
 use Rattle.frame_groups.proofs.BegunLemmas.{none_fails}
 use Rattle.frame_writer.specs.FramePackets.{stamp_of}
@@ -70,7 +73,8 @@ pub record Given : Type 0 where
   pub laws : Interleaving
 
 pub given_by : PartsTold → PreWritten → ConfWritten → DynReadBack → DynWritten → BitCounts → ToldCountsFit → FieldRange
-    → BlockChunks → CellsByFive → BlocksFit → ShapeFitsL1 → ShapeHasCounts → ShapePasses → MapPasses → Interleaving → Given
+    → BlockChunks → CellsByFive → BlocksFit → ShapeFitsL1 → ShapeHasCounts → ShapePasses → MapPasses
+    → Interleaving → Given
 given_by a b d e f g h i j k l m n o p q = record {
   told = a;
   pre_written = b;
@@ -92,7 +96,7 @@ given_by a b d e f g h i j k l m n o p q = record {
 
 -- ---- two L1-current packets with the same parts are the same
 
-bit_same : (x y : Bool) → (beq x y ≡ true → x ≡ y) × (x ≡ y → beq x y ≡ true)
+pub bit_same : (x y : Bool) → (beq x y ≡ true → x ≡ y) × (x ≡ y → beq x y ≡ true)
 bit_same true true = (λ e. refl, λ e. refl)
 bit_same true false = (λ e. absurd (false≢true e), λ e. absurd (true≢false e))
 bit_same false true = (λ e. absurd (false≢true e), λ e. absurd (false≢true e))
@@ -113,7 +117,8 @@ parts_self l1 =
 -- ---- the chunks of a frame
 
 -- a block fills one chunk at least
-chunks_most : BlockChunks → CellsByFive → (c : Config) (plp : ℕ) → 2025 * chunks_for (block_bytes c plp) ≤ 7 * block_cells c plp
+chunks_most : BlockChunks → CellsByFive → (c : Config) (plp : ℕ) → 2025 * chunks_for (block_bytes c plp) ≤ 7
+    * block_cells c plp
 chunks_most law cells c plp =
     let h : div_ceil (block_bytes c plp) 256 ≤ 7 * (block_cells c plp / 2025) = law c plp in
     let some = cells c plp in
@@ -130,7 +135,8 @@ sums_most f g count h a (suc k) l =
     omega (arith, x, y, one, rest)
 
 -- a sum over the PLPs, by their places
-sum_places : (h : Plp → ℕ) (plps : List Plp) → sum_by h plps ≡ sum_by (λ k. h (plp_at plps k)) (range_with_len 0 (length plps))
+sum_places : (h : Plp → ℕ) (plps : List Plp) → sum_by h plps ≡ sum_by (λ k. h (plp_at plps k))
+    (range_with_len 0 (length plps))
 sum_places h plps = ap (sum_by h) (fill_by_all (plp_at plps) plps (length plps) no_plp refl (λ k l. refl))
     ∙ fold-map (λ (sum : ℕ) (plp : Plp). sum + h plp) (plp_at plps) 0 (range_with_len 0 (length plps))
 
@@ -147,7 +153,8 @@ pool_holds law cells room c packets plan few =
     sums_most (λ plp. length (right_blocks c plp packets) * chunks_for (block_bytes c plp))
     (λ plp. (plp_at c.plps plp).blocks * block_cells c plp) n
     (λ plp inside.
-    let m = mul-le (length (right_blocks c plp packets)) (2025 * chunks_for (block_bytes c plp)) (plp_at c.plps plp).blocks
+    let m = mul-le (length (right_blocks c plp packets)) (2025 * chunks_for (block_bytes c plp))
+    (plp_at c.plps plp).blocks
     (7 * block_cells c plp) (few plp inside) (chunks_most law cells c plp) in omega (arith, m)) 0 n (omega arith) in
     let sum = sum_places (λ plp. plp.blocks * cells_per_block plp.fec plp.modulation) c.plps in
     let need = room c plan in
@@ -171,7 +178,8 @@ module _ (given : Given) (c : Config) (inputs : ℕ → List (List ℕ)) (n : �
   own_few plp inside =
       let all : List (List Bool) = plp_blocks c inputs (interleaving_frame c plp n) plp in
       let a : length (own_blocks c inputs n plp) ≤ told_count c inputs n plp =
-      cond_both (is_first c plp n) all [] (λ blocks. length blocks ≤ length all) (λ e. omega arith) (λ e. omega arith) in
+      cond_both (is_first c plp n) all [] (λ blocks. length blocks ≤ length all) (λ e. omega arith)
+      (λ e. omega arith) in
       let b = count_at c inputs n plp inside in
       let most = fit.within plp inside in
       omega (arith, a, b, most)
@@ -180,7 +188,8 @@ module _ (given : Given) (c : Config) (inputs : ℕ → List (List ℕ)) (n : �
   room_passes : (packets : List Packet) → AreFew c packets → room_test c packets ≡ None
   unfolding room_test
   room_passes packets few =
-      unless_true (nat_le (pool_need c packets) (pool_chunks c)) (PoolFull (capped (pool_need c packets)) (pool_chunks c))
+      unless_true (nat_le (pool_need c packets) (pool_chunks c)) (PoolFull (capped (pool_need c packets))
+      (pool_chunks c))
       (le-leb (pool_need c packets) (pool_chunks c) (pool_holds given.chunks given.cells given.room c packets plan few))
 
   begun_passes : (past : List Numbered) (k b : ℕ) → (is_begin c k b ≡ true → AreFew c (packets_at past b))
@@ -202,14 +211,16 @@ module _ (given : Given) (c : Config) (inputs : ℕ → List (List ℕ)) (n : �
 
   -- c, if all L1-current packets are the frame's
   agree : parts_agree c n (frame_parts c inputs n) ≡ true
-  agree = parts_pass c plan types n counts fit given.told given.pre_written given.conf_written given.dyn_written given.fits
+  agree = parts_pass c plan types n counts fit given.told given.pre_written given.conf_written given.dyn_written
+      given.fits
 
   same_all : (l1s : List L1Parts) → AllByRecursion (λ l1. l1 ≡ frame_parts c inputs n) l1s
       → list_all (same_parts (frame_parts c inputs n)) l1s ≡ true
   same_all [] h = refl
   same_all (l1 ∷ l1s) h =
       and_from (same_parts (frame_parts c inputs n) l1) (list_all (same_parts (frame_parts c inputs n)) l1s)
-      (subst (λ (x : L1Parts). same_parts (frame_parts c inputs n) x ≡ true) (sym h.0) (parts_self (frame_parts c inputs n)))
+      (subst (λ (x : L1Parts). same_parts (frame_parts c inputs n) x ≡ true) (sym h.0)
+      (parts_self (frame_parts c inputs n)))
       (same_all l1s h.1)
 
   l1s_pass : (l1s : List L1Parts) → AllByRecursion (λ l1. l1 ≡ frame_parts c inputs n) l1s → l1s_agree c n l1s ≡ true
@@ -237,7 +248,8 @@ module _ (given : Given) (c : Config) (inputs : ℕ → List (List ℕ)) (n : �
 
     pool_none : pool_test c past n packets ≡ None
     pool_none = pool_passes past n packets rooms
-        (λ plp inside. let e = ap length (has.right plp inside) in let most = own_few plp inside in omega (arith, e, most))
+        (λ plp inside. let e = ap length (has.right plp inside) in let most = own_few plp inside in omega
+        (arith, e, most))
 
     stamp_there : (t : Bool) → (not t || nat_lt 0 (length (if t then stamp_of c n ∷ [] else []))) ≡ true
     stamp_there true = refl
@@ -246,9 +258,11 @@ module _ (given : Given) (c : Config) (inputs : ℕ → List (List ℕ)) (n : �
     missing_none : missing_test c n packets ≡ None
     unfolding missing_test
     missing_none =
-        unless_true (nat_lt 0 (length (l1s_of packets)) && (not (begins_superframe c n) || nat_lt 0 (length (stamps_of packets))))
+        unless_true (nat_lt 0 (length (l1s_of packets)) && (not (begins_superframe c n) || nat_lt 0
+        (length (stamps_of packets))))
         PacketMissing
-        (and_from (nat_lt 0 (length (l1s_of packets))) (not (begins_superframe c n) || nat_lt 0 (length (stamps_of packets)))
+        (and_from (nat_lt 0 (length (l1s_of packets))) (not (begins_superframe c n) || nat_lt 0
+        (length (stamps_of packets)))
         (ap (λ (l : List L1Parts). nat_lt 0 (length l)) has.l1s)
         (ap (λ (l : List Stamp). not (begins_superframe c n) || nat_lt 0 (length l)) has.stamps
         ∙ stamp_there (begins_superframe c n)))
@@ -268,7 +282,8 @@ module _ (given : Given) (c : Config) (inputs : ℕ → List (List ℕ)) (n : �
     told_is plp inside = ap (λ (l : List ℕ). slice_index l plp) (given.counts c counts) ∙ count_at c inputs n plp inside
 
     has_one : (plp : ℕ) → plp < length c.plps
-        → has_count c past n plp (length (blocks_of c plp packets)) (slice_index (frame_shape c inputs n).counts plp) ≡ true
+        → has_count c past n plp (length (blocks_of c plp packets)) (slice_index (frame_shape c inputs n).counts plp)
+        ≡ true
     has_one plp inside =
         let own : ℕ = length (blocks_of c plp packets) in
         let told : ℕ = slice_index (frame_shape c inputs n).counts plp in
@@ -283,16 +298,19 @@ module _ (given : Given) (c : Config) (inputs : ℕ → List (List ℕ)) (n : �
         (λ (e : is_first c plp n ≡ false).
         cond-false (is_first c plp n) (own == told) ((own == 0) && has_begun c plp before told) e
         ∙ and_from (own == 0) (has_begun c plp before told)
-        (eq-eqb own 0 (own_is ∙ ap (λ (l : List (List Bool)). length l) (cond-false (is_first c plp n) (carried plp) [] e)))
+        (eq-eqb own 0 (own_is ∙ ap (λ (l : List (List Bool)). length l) (cond-false (is_first c plp n)
+        (carried plp) [] e)))
         (and_from (length (blocks_of c plp before) == told) (length (right_blocks c plp before) == told)
         (eq-eqb (length (blocks_of c plp before)) told (ap length (begun plp inside e).0 ∙ sym (told_is plp inside)))
-        (eq-eqb (length (right_blocks c plp before)) told (ap length (begun plp inside e).1 ∙ sym (told_is plp inside)))))
+        (eq-eqb (length (right_blocks c plp before)) told (ap length (begun plp inside e).1
+        ∙ sym (told_is plp inside)))))
         (cases_Bool (is_first c plp n))
 
     has_each : has_counts c past n packets (Some (frame_shape c inputs n)) ≡ true
     has_each =
         each_place
-        (λ plp. has_count c past n plp (length (blocks_of c plp packets)) (slice_index (frame_shape c inputs n).counts plp))
+        (λ plp. has_count c past n plp (length (blocks_of c plp packets)) (slice_index (frame_shape c inputs n).counts
+        plp))
         (length c.plps) has_one 0 (length c.plps) (omega arith)
 
     blocks_none : blocks_test c past n packets ≡ None

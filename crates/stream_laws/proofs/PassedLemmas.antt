@@ -13,8 +13,10 @@ use Rattle.frame_groups.specs.declared.cause.MuteCause.{MuteCause}
 use Rattle.frame_groups.specs.declared.cause.MuteCause.TheVariants.{L1Refused, MapRefused}
 use Rattle.frame_groups.specs.Carried.{L1Parts, l1s_of}
 use Rattle.frame_groups.specs.MapTest.{map_passes}
-use Rattle.frame_groups.specs.Tests.{begun_test, first_failure, room_test, pool_test, missing_test, same_parts, parts_agree}
-use Rattle.frame_groups.specs.Tests.{l1s_agree, l1_test, time_test, l1_shape, first_shape, blocks_test, has_map, map_test}
+use Rattle.frame_groups.specs.Tests.{begun_test, first_failure, room_test, pool_test, missing_test, same_parts}
+use Rattle.frame_groups.specs.Tests.{parts_agree}
+use Rattle.frame_groups.specs.Tests.{l1s_agree, l1_test, time_test, l1_shape, first_shape, blocks_test, has_map}
+use Rattle.frame_groups.specs.Tests.{map_test}
 use Rattle.frame_groups.specs.Tests.{packets_fault}
 use Rattle.open_group.proofs.GivenLemmas.{map_none}
 use Rattle.open_group.proofs.RoomLemmas.{none_first, none_behind}
@@ -28,12 +30,14 @@ pub record FirstTold (c : Config) (n : ℕ) (o : Option L1Parts) : Type 0 where
   pub told : l1_shape c first ≡ Some shape
   pub map : map_passes c shape ≡ true
 
--- Packets pass the tests: the right blocks have room, and the first L1-current is the frame's and tells a shape with a cell map.
+-- Packets pass the tests: the right blocks have room, and the first L1-current is the frame's and tells a shape with a
+-- cell map.
 pub record Passed (c : Config) (n : ℕ) (packets : List Packet) : Type 0 where
   pub room : room_test c packets ≡ None
   pub l1 : FirstTold c n (slice_get (l1s_of packets) 0)
 
-has_shape : (c : Config) (n : ℕ) (l1 : L1Parts) → parts_agree c n l1 ≡ true → (o : Option FrameShape) → l1_shape c l1 ≡ o
+has_shape : (c : Config) (n : ℕ) (l1 : L1Parts) → parts_agree c n l1 ≡ true → (o : Option FrameShape)
+    → l1_shape c l1 ≡ o
     → has_map c o ≡ true → FirstTold c n (Some l1)
 has_shape c n l1 agrees None e m = absurd (false≢true m)
 has_shape c n l1 agrees (Some shape) e m =
@@ -45,7 +49,8 @@ first_told c n [] a m = absurd (false≢true m)
 first_told c n (l1 ∷ more) a m =
     has_shape c n l1 (and_parts (list_all (same_parts l1) more) (parts_agree c n l1) a).1 (l1_shape c l1) refl m
 
-l1_held : (c : Config) (n : ℕ) (packets : List Packet) → l1_test c n packets ≡ None → l1s_agree c n (l1s_of packets) ≡ true
+l1_held : (c : Config) (n : ℕ) (packets : List Packet) → l1_test c n packets ≡ None
+    → l1s_agree c n (l1s_of packets) ≡ true
 unfolding l1_test
 l1_held c n packets e = none_if (l1s_agree c n (l1s_of packets)) L1Refused e
 
@@ -56,7 +61,8 @@ map_held c packets e = none_if (has_map c (first_shape c packets)) MapRefused e
 room_held : (c : Config) (past : List Numbered) (n : ℕ) (packets : List Packet) → pool_test c past n packets ≡ None
     → room_test c packets ≡ None
 unfolding pool_test
-room_held c past n packets e = none_behind (first_failure (begun_test c past n) (range_with_len 0 n)) (room_test c packets) e
+room_held c past n packets e = none_behind (first_failure (begun_test c past n) (range_with_len 0 n))
+    (room_test c packets) e
 
 pub passed : (c : Config) (past : List Numbered) (n : ℕ) (packets : List Packet) → packets_fault c past n packets ≡ None
     → Passed c n packets

@@ -1,5 +1,6 @@
 -- The bytes of a run read as its packets.
-use Rattle.std.proofs.Common.{◌≡◌, ℕ, ◌+◌, ◌^◌, ◌<◌, Bool, List, [], ◌∷◌, ◌++◌, map, length, Some, refl, ap, ap₂, subst, ◌∙◌}
+use Rattle.std.proofs.Common.{◌≡◌, ℕ, ◌+◌, ◌^◌, ◌<◌, Bool, List, [], ◌∷◌, ◌++◌, map, length, Some, refl, ap, ap₂, subst}
+use Rattle.std.proofs.Common.{◌∙◌}
 use Rattle.std.proofs.Common.{arith, append-nil}
 use Rattle.std.specs.List.{AllByRecursion}
 use Rattle.terms.specs.Bits.{bits_of, bytes_of}
@@ -38,7 +39,8 @@ fits_with c number b h = record {
   payload = h.1;
 }
 
-module _ (bounded : (w : List Bool) → crc32_of w < 2 ^ 32) (spell_is : SpellIs) (read : WrittenIsRead) (len : WrittenLength) where
+module _ (bounded : (w : List Bool) → crc32_of w < 2 ^ 32) (spell_is : SpellIs) (read : WrittenIsRead)
+    (len : WrittenLength) where
   written : (p : Packet) → Fits p → Written p (bytes_of (written_bits p))
   written p fits =
       let front : List ℕ = bytes_of (written_bits p) in
@@ -47,7 +49,8 @@ module _ (bounded : (w : List Bool) → crc32_of w < 2 ^ 32) (spell_is : SpellIs
       let none : front ++ [] ≡ front = append-nil front in
       let begins : BeginsWith front p (packet_len p) =
       subst (λ (l : List ℕ). BeginsWith l p (packet_len p)) none (read p front [] fits bits) in
-      let size : packet_len p ≡ length front = let e = ap length bits in omega (arith, e, whole, length-bits_of front) in
+      let size : packet_len p ≡ length front = let e = ap length bits in omega
+      (arith, e, whole, length-bits_of front) in
       record {
         spelled = (spell_is front (packet_len p)).1 (p, begins) ∙ ap Some size;
         is = (begun bounded front p (packet_len p) begins).is;
@@ -56,17 +59,22 @@ module _ (bounded : (w : List Bool) → crc32_of w < 2 ^ 32) (spell_is : SpellIs
   pub spelled_from : (c : Config) (number : ℕ) (bodies : List (ℕ × Body)) → AllByRecursion PairFits bodies
       → ArePackets (packets_from c number bodies)
   spelled_from c number [] h = tt
-  spelled_from c number (b ∷ bodies) h =
-      ((written (packet_with c number b.0 b.1) (fits_with c number b h.0)).spelled, spelled_from c (number + 1) bodies h.1)
+  spelled_from c number (b ∷ bodies) h = (
+    (written (packet_with c number b.0 b.1) (fits_with c number b h.0)).spelled,
+    spelled_from c (number + 1)
+        bodies h.1,
+  )
 
   pub reads_from : (c : Config) (number : ℕ) (bodies : List (ℕ × Body)) → AllByRecursion PairFits bodies
       → map packet_of (packets_from c number bodies) ≡ packets_of (sent_from c number bodies)
   reads_from c number [] h = refl
   reads_from c number (b ∷ bodies) h =
-      ap₂ (λ (p : Packet) (l : List Packet). p ∷ l) (written (packet_with c number b.0 b.1) (fits_with c number b h.0)).is
+      ap₂ (λ (p : Packet) (l : List Packet). p ∷ l) (written (packet_with c number b.0 b.1)
+      (fits_with c number b h.0)).is
       (reads_from c (number + 1) bodies h.1)
 
-  pub frames_are_stream : EmissionFits → PreBitsLength → PostLength → BitCounts → FieldRange → SentAreFrames → FramesAreStream
+  pub frames_are_stream : EmissionFits → PreBitsLength → PostLength → BitCounts → FieldRange → SentAreFrames
+      → FramesAreStream
   unfolding front_packets
   frames_are_stream emits bits post numbers range are c inputs n plan ids l =
       let r = plan_range c plan in

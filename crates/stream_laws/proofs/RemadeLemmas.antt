@@ -1,16 +1,19 @@
 -- What comes of frames that were sent again.
 use Rattle.std.proofs.Common.{◌≡◌, ℕ, zero, suc, ◌+◌, ◌-◌, ◌%◌, ◌<◌, ◌≤◌, ◌==◌, ◌&&◌, ◌||◌, Bool, true, false, List, []}
-use Rattle.std.proofs.Common.{◌∷◌, ◌++◌, length, map, find, get_or, count_by, Option, Some, None, refl, ap, ap₂, sym, subst, ◌∙◌}
+use Rattle.std.proofs.Common.{◌∷◌, ◌++◌, length, map, find, get_or, count_by, Option, Some, None, refl, ap, ap₂, sym}
+use Rattle.std.proofs.Common.{subst, ◌∙◌}
 use Rattle.std.proofs.Common.{⊎_elim, arith, append-nil, length-append}
 use Rattle.std.specs.Prelude.{if◌then◌else◌, nat_le}
 use Rattle.std.specs.List.{filter, range_with_len, items_where_true, last_or, list_all, list_any, AllByRecursion}
 use Rattle.std.specs.Option.{option_map_or}
-use Rattle.std.proofs.lemmas.Bool.{cases_Bool, cases_lt, cond-true, cond-false, and_from, and_left, eq-eqb, or_parts, or_left}
+use Rattle.std.proofs.lemmas.Bool.{cases_Bool, cases_lt, cond-true, cond-false, and_from, and_left, eq-eqb, or_parts}
+use Rattle.std.proofs.lemmas.Bool.{or_left}
 use Rattle.std.proofs.lemmas.Bool.{le-leb, true≢false}
 use Rattle.std.proofs.lemmas.List.{length-map}
 use Rattle.std.proofs.lemmas.List.FromFn.{length-range_with_len, get_or-range_with_len}
 use Rattle.std.proofs.lemmas.List.Sums.{length-filter, AllPass-from_list_all}
-use Rattle.terms.proofs.OptionLemmas.{some_injective, none_some}
+use Rattle.std.proofs.lemmas.Option.{same_Some}
+use Rattle.terms.proofs.OptionLemmas.{none_some}
 use Rattle.bb_frame.specs.Laws.{BitCounts, ScramblesBack}
 use Rattle.plp_config.specs.Capacity.{IsPlan}
 use Rattle.plp_config.specs.Emission.{emission}
@@ -43,12 +46,15 @@ use Rattle.stream_laws.specs.Remade.{NumberedView, view_bodies, frame_pairs, rem
 use Rattle.stream_laws.proofs.BackLemmas.{view_carries}
 use Rattle.stream_laws.proofs.PassedLemmas.{passed}
 use Rattle.stream_laws.proofs.FormedSignalLemmas.{Knows}
-use Rattle.stream_laws.specs.Coming.{remade_sent, frame_at, blocks_at, is_complete, complete_view, view_at, end_after, IsWrittenFrame}
+use Rattle.stream_laws.specs.Coming.{remade_sent, frame_at, blocks_at, is_complete, complete_view, view_at, end_after}
+use Rattle.stream_laws.specs.Coming.{IsWrittenFrame}
 use Rattle.stream_laws.specs.Coming.{RemadeComesBack}
-use Rattle.stream_laws.proofs.FullLemmas.{pairs, sent_append, stand_in, full, kept, length-kept, kept_are, filter_full, lost_by}
+use Rattle.stream_laws.proofs.FullLemmas.{pairs, sent_append, stand_in, full, kept, length-kept, kept_are, filter_full}
+use Rattle.stream_laws.proofs.FullLemmas.{lost_by}
 use Rattle.stream_laws.proofs.FullLemmas.{RisesFrom, Has, Look, look, at_before}
 use Rattle.stream_laws.proofs.FullLemmas.Look.{Found, Missing}
-use Rattle.stream_laws.proofs.OrderLemmas.{Made, AllMade, order_full, below_full, end_above, some_full, some_bodies, near_all}
+use Rattle.stream_laws.proofs.OrderLemmas.{Made, AllMade, order_full, below_full, end_above, some_full, some_bodies}
+use Rattle.stream_laws.proofs.OrderLemmas.{near_all}
 
 -- ---- frames that a modulator wrote
 
@@ -63,7 +69,8 @@ written_made numbers back law knows c plan f w =
       is = ap (view_bodies c f.number) w.0.is ∙ view_carries numbers back law knows c f.number plan packets p;
     }
 
-pub all_made : BitCounts → ScramblesBack → PreBitsLength → (knows : Knows) (c : Config) → IsPlan c → (fs : List NumberedView)
+pub all_made : BitCounts → ScramblesBack → PreBitsLength → (knows : Knows) (c : Config) → IsPlan c
+    → (fs : List NumberedView)
     → AllByRecursion (IsWrittenFrame c) fs → AllMade c fs
 all_made numbers back law knows c plan [] h = tt
 all_made numbers back law knows c plan (f ∷ fs) h =
@@ -74,7 +81,8 @@ all_found : (P : NumberedView → Type 0) (n : ℕ) (fs : List NumberedView) (g 
 all_found P n [] g h e = none_some g e
 all_found P n (f ∷ fs) g h e = ⊎_elim
     (λ (t : (f.number == n) ≡ true).
-    subst P (some_injective f g (sym (cond-true {A = Option NumberedView} (f.number == n) (Some f) (frame_at n fs) t) ∙ e)) h.0)
+    subst P (same_Some f g (sym (cond-true {A = Option NumberedView} (f.number == n) (Some f) (frame_at n fs) t)
+    ∙ e)) h.0)
     (λ (t : (f.number == n) ≡ false).
     all_found P n fs g h.1 (sym (cond-false {A = Option NumberedView} (f.number == n) (Some f) (frame_at n fs) t) ∙ e))
     (cases_Bool (f.number == n))
@@ -122,11 +130,13 @@ find_first test m passes (suc k) from a b fails = ⊎_elim
     (λ (t : test from ≡ true).
     let same : from ≡ m = ⊎_elim (λ (l : from < m). absurd (true≢false (sym t ∙ fails from (omega arith) l)))
     (λ (l : m ≤ from). omega (arith, l, a)) (cases_lt from m) in
-    cond-true {A = Option ℕ} (test from) (Some from) (find test (range_with_len (from + 1) k)) t ∙ ap (λ (i : ℕ). Some i) same)
+    cond-true {A = Option ℕ} (test from) (Some from) (find test (range_with_len (from + 1) k)) t
+    ∙ ap (λ (i : ℕ). Some i) same)
     (λ (t : test from ≡ false).
     let next : from ≡ m → ⊥ = λ e. true≢false (sym passes ∙ ap test (sym e) ∙ t) in
     cond-false {A = Option ℕ} (test from) (Some from) (find test (range_with_len (from + 1) k)) t
-    ∙ find_first test m passes k (from + 1) (omega (arith, a, next)) (omega (arith, b)) (λ n l r. fails n (omega (arith, l)) r))
+    ∙ find_first test m passes k (from + 1) (omega (arith, a, next)) (omega (arith, b))
+    (λ n l r. fails n (omega (arith, l)) r))
     (cases_Bool (test from))
 
 -- ---- tests of all PLPs
@@ -140,11 +150,13 @@ and_false true = refl
 and_false false = refl
 
 -- each PLP passes what all pass
-all_place : (c : Config) (test : ℕ → Bool) (plp : ℕ) → list_all test (places c) ≡ true → plp < length c.plps → test plp ≡ true
+all_place : (c : Config) (test : ℕ → Bool) (plp : ℕ) → list_all test (places c) ≡ true → plp < length c.plps
+    → test plp ≡ true
 all_place c test plp passes inside =
     let there : get_or (places c) plp 0 ≡ plp = let e = get_or-range_with_len 0 (length c.plps) plp 0 inside in
     omega (arith, e) in
-    let within : plp < length (places c) = let size = length-range_with_len 0 (length c.plps) in omega (arith, size, inside) in
+    let within : plp < length (places c) = let size = length-range_with_len 0 (length c.plps) in omega
+    (arith, size, inside) in
     subst (λ (j : ℕ). test j ≡ true) there (AllPass-from_list_all test (places c) passes plp 0 within)
 
 all_pass : (test : ℕ → Bool) (a k : ℕ) → ((plp : ℕ) → a ≤ plp → plp < a + k → test plp ≡ true)
@@ -186,7 +198,8 @@ counted n sent =
 
 -- ---- all of it
 
-module _ (law : ModulatedIsRecords) (all : WholeIsAll) (misses : NotWholeMisses) (named : FrameNamed) (laws : Interleaving)
+module _ (law : ModulatedIsRecords) (all : WholeIsAll) (misses : NotWholeMisses) (named : FrameNamed)
+    (laws : Interleaving)
     (back : FrameComesBack) (c : Config) (f : NumberedView) (fs : List NumberedView) (plan : IsPlan c)
     (written : AllByRecursion (IsWrittenFrame c) (f ∷ fs)) (made : AllMade c (f ∷ fs)) (rises : RisesFrom 0 (f ∷ fs))
     (spaced : AreSpacedFrom c f.number fs) (begins : f.number % c.frames ≡ 0) where
@@ -238,13 +251,15 @@ module _ (law : ModulatedIsRecords) (all : WholeIsAll) (misses : NotWholeMisses)
   -- all packets of a complete frame are left
   all_left : (n : ℕ) (g : NumberedView) → There n g → complete g ≡ true → frame_packets n sent ≡ frame_packets n ss
   all_left n g h e =
-      h.more ∙ ap (λ (t : Bool). frame_packets n ss ++ packets_of (lost_by c g.number t)) e ∙ append-nil (frame_packets n ss)
+      h.more ∙ ap (λ (t : Bool). frame_packets n ss ++ packets_of (lost_by c g.number t)) e
+      ∙ append-nil (frame_packets n ss)
 
   no_block : (plp n m : ℕ) → is_begun c plp n (stand_in c m) ≡ false
   no_block plp n m = and_false ((stand_in c m).frame == begin_of c plp n)
 
   -- and what it carries besides
-  begun_left : (plp n : ℕ) → count_by (is_begun c plp n) sent ≡ count_by (is_begun c plp n) (items_where_true survival sent)
+  begun_left : (plp n : ℕ) → count_by (is_begun c plp n) sent ≡ count_by (is_begun c plp n)
+      (items_where_true survival sent)
   begun_left plp n =
       sym (length-filter (is_begun c plp n) sent)
       ∙ ap length (filter_full c frames (is_begun c plp n) (no_block plp n) 0 0 frames)
@@ -252,7 +267,8 @@ module _ (law : ModulatedIsRecords) (all : WholeIsAll) (misses : NotWholeMisses)
       ∙ sym (ap (count_by (is_begun c plp n)) left)
 
   own_left : (n : ℕ) (g : NumberedView) → There n g → complete g ≡ true
-      → count_by (λ (s : Sent). s.frame == n) sent ≡ count_by (λ (s : Sent). s.frame == n) (items_where_true survival sent)
+      → count_by (λ (s : Sent). s.frame == n) sent ≡ count_by (λ (s : Sent). s.frame == n)
+      (items_where_true survival sent)
   own_left n g h e =
       counted n sent ∙ ap length (all_left n g h e) ∙ sym (counted n ss)
       ∙ sym (ap (count_by (λ (s : Sent). s.frame == n)) left)
@@ -297,7 +313,8 @@ module _ (law : ModulatedIsRecords) (all : WholeIsAll) (misses : NotWholeMisses)
           (λ (e : complete g ≡ true). (g, h, e))
           (λ (e : complete g ≡ false). absurd (one_more g h e))
           (cases_Bool (complete g))
-      go (Missing h) = absurd (some_full c frames n frames 0 0 rises made (omega arith) l (sym (whole_left n w) ∙ h.gone))
+      go (Missing h) = absurd (some_full c frames n frames 0 0 rises made (omega arith) l (sym (whole_left n w)
+          ∙ h.gone))
 
   -- what is to be said of a frame that is not whole: it is there and not complete, or it is not there
   not_complete : (n : ℕ) (g : NumberedView) → whole n ≡ false → There n g → complete g ≡ false
@@ -333,7 +350,8 @@ module _ (law : ModulatedIsRecords) (all : WholeIsAll) (misses : NotWholeMisses)
           ap (λ (l : List Packet). has_begun c plp l told) h.gone ∙ twice (0 == told)
           ∙ sym (ap (λ (o : Option NumberedView). option_map_or (λ f. blocks_in c plp f.view) o 0 == told) h.none)
 
-  module _ (first n : ℕ) (past : List Numbered) (met : IsMet c.frames first n (items_where_true survival sent) past) where
+  module _ (first n : ℕ) (past : List Numbered) (met : IsMet c.frames first n (items_where_true survival sent)
+      past) where
     rooms : HaveRoom c past n
     rooms b below e =
         ap (room_test c) (begin_met laws c plan first n (items_where_true survival sent) past met b below e
@@ -350,7 +368,8 @@ module _ (law : ModulatedIsRecords) (all : WholeIsAll) (misses : NotWholeMisses)
 
     -- a frame is complete, by the PLPs, if it is there
     abbrev place_complete : NumberedView → ℕ → ℕ → Bool
-    place_complete g k plp = is_first c plp k || (blocks_at c plp frames (begin_of c plp k) == plp_num_blocks c plp g.view)
+    place_complete g k plp = is_first c plp k || (blocks_at c plp frames (begin_of c plp k) == plp_num_blocks
+        c plp g.view)
 
     passes : whole n ≡ true → n < end → packets_fault c past n (frame_packets n sent) ≡ None
     passes w l =
@@ -366,7 +385,8 @@ module _ (law : ModulatedIsRecords) (all : WholeIsAll) (misses : NotWholeMisses)
         ∙ or_right (is_first c plp n) (blocks_at c plp frames (begin_of c plp n) == plp_num_blocks c plp g.view)
         (all_place c (place_complete g n) plp each inside) e)
 
-    lacks : whole n ≡ false → packets_fault c past n (frame_packets n (items_where_true survival sent)) ≡ Some PacketMissing
+    lacks : whole n ≡ false → packets_fault c past n (frame_packets n (items_where_true survival sent)) ≡ Some
+        PacketMissing
     lacks w = go (look c frames n 0 0 frames rises (omega arith))
       where
         found_lacks : (g : NumberedView) → There n g → packets_fault c past n (frame_packets n ss) ≡ Some PacketMissing
@@ -389,12 +409,15 @@ module _ (law : ModulatedIsRecords) (all : WholeIsAll) (misses : NotWholeMisses)
   begins_complete : (n : ℕ) (g : NumberedView) → There n g → n % c.frames ≡ 0 → complete g ≡ true
   begins_complete n g h b =
       subst (λ (k : ℕ).
-      list_all (λ plp. is_first c plp k || (blocks_at c plp frames (begin_of c plp k) == plp_num_blocks c plp g.view)) (places c)
+      list_all (λ plp. is_first c plp k || (blocks_at c plp frames (begin_of c plp k) == plp_num_blocks c plp g.view))
+      (places c)
       ≡ true)
       (sym h.number_is)
-      (all_pass (λ plp. is_first c plp n || (blocks_at c plp frames (begin_of c plp n) == plp_num_blocks c plp g.view)) 0
+      (all_pass (λ plp. is_first c plp n || (blocks_at c plp frames (begin_of c plp n) == plp_num_blocks c plp g.view))
+      0
       (length c.plps)
-      (λ plp low high. or_left (is_first c plp n) (blocks_at c plp frames (begin_of c plp n) == plp_num_blocks c plp g.view)
+      (λ plp low high. or_left (is_first c plp n) (blocks_at c plp frames (begin_of c plp n) == plp_num_blocks
+      c plp g.view)
       (laws.superframe c plp n plan.rules (omega (arith, high)) b)))
 
   gone_first : (n : ℕ) → n % c.frames ≡ 0 → whole n ≡ false → frame_packets n ss ≡ []
@@ -412,7 +435,8 @@ module _ (law : ModulatedIsRecords) (all : WholeIsAll) (misses : NotWholeMisses)
         let x = whole_found n l w in
         let small = (all_found (IsWrittenFrame c) n frames x.0 written x.1.found).1 in
         let same = x.1.number_is in
-        subst (λ (packets : List Packet). (rules c).named (record { key = (frame_group c.frames sent n).key; packets = packets })
+        subst (λ (packets : List Packet). (rules c).named
+        (record { key = (frame_group c.frames sent n).key; packets = packets })
         ≡ Some n)
         (sym (all_left n x.0 x.1 x.2)) ((comes n x.0 x.1).names b (omega (arith, small, same)));
     passes = λ first n past l met w. passes first n past met w l;
@@ -438,7 +462,7 @@ module _ (law : ModulatedIsRecords) (all : WholeIsAll) (misses : NotWholeMisses)
           (eq-eqb f.number f.number refl)
 
       go : Look c frames f.number 0 0 frames → There f.number f
-      go (Found g h) = subst (There f.number) (some_injective g f (sym h.found ∙ at)) h
+      go (Found g h) = subst (There f.number) (same_Some g f (sym h.found ∙ at)) h
       go (Missing h) = none_some f (sym h.none ∙ at)
 
   first_whole : whole f.number ≡ true
@@ -494,17 +518,21 @@ module _ (law : ModulatedIsRecords) (all : WholeIsAll) (misses : NotWholeMisses)
   views (suc k) a l = ap₂ (λ (v : RecordView) (l : List RecordView). v ∷ l) (one_view a (omega (arith, l)))
       (views k (a + 1) (omega (arith, l)))
 
-  pub come_back : map (λ (x : FrameRecord). content_view c x.number x.content) (modulated (rules c) (packets_of (remade_sent c (f ∷ fs))))
+  pub come_back : map (λ (x : FrameRecord). content_view c x.number x.content)
+      (modulated (rules c) (packets_of (remade_sent c (f ∷ fs))))
       ≡ map (view_at c (f ∷ fs)) (range_with_len f.number (end_after 0 (f ∷ fs) - f.number))
   come_back =
       let above = last_above in
       ap (map view) records
-      ∙ ap (λ (e : ℕ). map view (map (sent_record c sent survival) (numbers_from e (find joins (range_with_len 0 e))))) end_is
+      ∙ ap (λ (e : ℕ). map view (map (sent_record c sent survival) (numbers_from e (find joins (range_with_len 0 e)))))
+      end_is
       ∙ ap (λ (o : Option ℕ). map view (map (sent_record c sent survival) (numbers_from end o))) first
       ∙ views (end - f.number) f.number (omega (arith, above))
 
-pub remade_comes_back : BitCounts → ScramblesBack → PreBitsLength → Knows → ModulatedIsRecords → WholeIsAll → NotWholeMisses
+pub remade_comes_back : BitCounts → ScramblesBack → PreBitsLength → Knows → ModulatedIsRecords → WholeIsAll
+    → NotWholeMisses
     → FrameNamed → Interleaving → FrameComesBack → RemadeComesBack
 remade_comes_back numbers scr pre knows law all misses named laws back c f fs plan written rise spaced begins =
-    come_back law all misses named laws back c f fs plan written (all_made numbers scr pre knows c plan (f ∷ fs) written)
+    come_back law all misses named laws back c f fs plan written (all_made numbers scr pre knows c plan
+    (f ∷ fs) written)
     (omega arith, rises_from f.number fs rise) spaced begins

@@ -1,5 +1,6 @@
 -- The packets of a run, frame by frame.
-use Rattle.std.proofs.Common.{◌≡◌, ℕ, zero, suc, ◌+◌, ◌-◌, ◌%◌, ◌<◌, ◌≤◌, ◌==◌, Bool, true, false, cond, List, [], ◌∷◌, ◌++◌, map}
+use Rattle.std.proofs.Common.{◌≡◌, ℕ, zero, suc, ◌+◌, ◌-◌, ◌%◌, ◌<◌, ◌≤◌, ◌==◌, Bool, true, false, cond, List, [], ◌∷◌}
+use Rattle.std.proofs.Common.{◌++◌, map}
 use Rattle.std.proofs.Common.{length, Option, Some, None, refl, ap, ap₂, sym, ◌∙◌, ⊎_elim, arith, append-nil}
 use Rattle.std.specs.List.{filter, flat_map, range_with_len, AllByRecursion}
 use Rattle.std.proofs.lemmas.Bool.{cases_eq, cond_both, cond-true, cond-false, eqb-true, eq-eqb, ne_eqb}
@@ -16,7 +17,8 @@ use Rattle.frame_writer.specs.FramePackets.{l1_body, packet_with}
 use Rattle.gateway_core.specs.Packets.{block_bodies, plp_bodies, frame_bodies, bodies_before}
 use Rattle.frame_writer.specs.Signalling.{pre_part, conf_part}
 use Rattle.gateway_core.specs.Signalling.{dyn_part}
-use Rattle.stream_laws.specs.SentPackets.{Sent, packets_of, frame_packets, IsTimestamp, TellsFrame, FollowsSome, InFrameOrder}
+use Rattle.stream_laws.specs.SentPackets.{Sent, packets_of, frame_packets, IsTimestamp, TellsFrame, FollowsSome}
+use Rattle.stream_laws.specs.SentPackets.{InFrameOrder}
 use Rattle.stream_laws.specs.SentFrames.{sent_from}
 use Rattle.stream_laws.specs.FrameLaws.{SentAreFrames, FrameCarries}
 
@@ -30,7 +32,8 @@ of_frames bodies from count = flat_map (λ n. of_frame n (bodies n)) (range_with
 abbrev own_bodies : ℕ → List (ℕ × Body) → List Body
 own_bodies m bodies = map (λ (b : ℕ × Body). b.1) (filter (λ (b : ℕ × Body). b.0 == m) bodies)
 
-carried_own : (c : Config) (m number : ℕ) (bodies : List (ℕ × Body)) → all_bodies (frame_packets m (sent_from c number bodies))
+carried_own : (c : Config) (m number : ℕ) (bodies : List (ℕ × Body))
+    → all_bodies (frame_packets m (sent_from c number bodies))
     ≡ own_bodies m bodies
 carried_own c m number [] = refl
 carried_own c m number (b ∷ bodies) = go (b.0 == m) (carried_own c m (number + 1) bodies)
@@ -48,7 +51,8 @@ carried_own c m number (b ∷ bodies) = go (b.0 == m) (carried_own c m (number +
 own_append : (m : ℕ) (xs ys : List (ℕ × Body)) → own_bodies m (xs ++ ys) ≡ own_bodies m xs ++ own_bodies m ys
 own_append m xs ys =
     ap (map (λ (b : ℕ × Body). b.1)) (filter-append (λ (b : ℕ × Body). b.0 == m) xs ys)
-    ∙ map-append (λ (b : ℕ × Body). b.1) (filter (λ (b : ℕ × Body). b.0 == m) xs) (filter (λ (b : ℕ × Body). b.0 == m) ys)
+    ∙ map-append (λ (b : ℕ × Body). b.1) (filter (λ (b : ℕ × Body). b.0 == m) xs)
+    (filter (λ (b : ℕ × Body). b.0 == m) ys)
 
 same_frame : (m : ℕ) (bodies : List Body) → own_bodies m (of_frame m bodies) ≡ bodies
 same_frame m [] = refl
@@ -67,7 +71,8 @@ later_none bodies m from (suc count) l =
     ∙ ap₂ (λ (x y : List Body). x ++ y) (other_frame m from (bodies from) (λ e. omega (arith, e, l)))
     (later_none bodies m (from + 1) count (omega (arith, l)))
 
-own_there : (bodies : ℕ → List Body) (m from count : ℕ) → from ≤ m → m < from + count → own_bodies m (of_frames bodies from count)
+own_there : (bodies : ℕ → List Body) (m from count : ℕ) → from ≤ m → m < from + count
+    → own_bodies m (of_frames bodies from count)
     ≡ bodies m
 own_there bodies m from zero a b = absurd (omega (arith, a, b))
 own_there bodies m from (suc count) a b =
@@ -84,7 +89,8 @@ own_there bodies m from (suc count) a b =
 pub frame_carries : FrameCarries
 frame_carries c inputs n m l =
     carried_own c m 0 (bodies_before c inputs n)
-    ∙ own_there (λ k. frame_bodies c k (told_counts c inputs k) (own_blocks c inputs k)) m 0 n (omega arith) (omega (arith, l))
+    ∙ own_there (λ k. frame_bodies c k (told_counts c inputs k) (own_blocks c inputs k)) m 0 n (omega arith)
+    (omega (arith, l))
 
 -- ---- their order
 
@@ -97,13 +103,16 @@ plain_blocks : (c : Config) (n id : ℕ) (first : Bool) (blocks : List (List Boo
 plain_blocks c n id first [] = tt
 plain_blocks c n id first (b ∷ blocks) = ((refl, λ t. t), plain_blocks c n id false blocks)
 
-plain_all : (c : Config) (n : ℕ) (bodies : ℕ → List Body) → ((plp : ℕ) → AllByRecursion (IsPlain c n) (bodies plp)) → (a k : ℕ)
+plain_all : (c : Config) (n : ℕ) (bodies : ℕ → List Body) → ((plp : ℕ) → AllByRecursion (IsPlain c n) (bodies plp))
+    → (a k : ℕ)
     → AllByRecursion (IsPlain c n) (flat_map bodies (range_with_len a k))
 plain_all c n bodies h a zero = tt
-plain_all c n bodies h a (suc k) = all_append (IsPlain c n) (bodies a) (flat_map bodies (range_with_len (a + 1) k)) (h a)
+plain_all c n bodies h a (suc k) = all_append (IsPlain c n) (bodies a) (flat_map bodies (range_with_len (a + 1) k))
+    (h a)
     (plain_all c n bodies h (a + 1) k)
 
-pub plain_plps : (c : Config) (n : ℕ) (blocks : ℕ → List (List Bool)) → AllByRecursion (IsPlain c n) (plp_bodies c n blocks 0)
+pub plain_plps : (c : Config) (n : ℕ) (blocks : ℕ → List (List Bool))
+    → AllByRecursion (IsPlain c n) (plp_bodies c n blocks 0)
 plain_plps c n blocks = plain_all c n (λ plp. block_bodies (n % c.frames) (plp_at c.plps plp).id true (blocks plp))
     (λ plp. plain_blocks c n (plp_at c.plps plp).id true (blocks plp)) 0 (length c.plps - 0)
 
@@ -120,7 +129,8 @@ pub earlier_follows : (before : Option ℕ) (s : Sent) → Earlier before s.fram
 earlier_follows None s e = tt
 earlier_follows (Some m) s e = record { frame = omega (arith, e); stamp = λ t. e }
 
-pub plain_follows : (before : Option ℕ) (s : Sent) → (IsTimestamp s.packet.body → ⊥) → NotLater before s.frame → FollowsSome before s
+pub plain_follows : (before : Option ℕ) (s : Sent) → (IsTimestamp s.packet.body → ⊥) → NotLater before s.frame
+    → FollowsSome before s
 plain_follows None s p e = tt
 plain_follows (Some m) s p e = record { frame = e; stamp = λ t. absurd (p t) }
 
@@ -146,7 +156,8 @@ order_rest c n before (b ∷ bodies) rest p l o q = λ number. (
 abbrev pub l1_of : Config → ℕ → List ℕ → Body
 l1_of c n counts = l1_body c n (pre_part c) (conf_part c) (dyn_part c n counts)
 
-order_l1 : (c : Config) (n : ℕ) (before : Option ℕ) (counts : List ℕ) (blocks : ℕ → List (List Bool)) (rest : List (ℕ × Body))
+order_l1 : (c : Config) (n : ℕ) (before : Option ℕ) (counts : List ℕ) (blocks : ℕ → List (List Bool))
+    (rest : List (ℕ × Body))
     → NotLater before n → AreOrdered c (Some n) rest
     → AreOrdered c before (of_frame n (l1_of c n counts ∷ plp_bodies c n blocks 0) ++ rest)
 order_l1 c n before counts blocks rest l o = λ number. (
@@ -155,7 +166,8 @@ order_l1 c n before counts blocks rest l o = λ number. (
   order_rest c n (Some n) (plp_bodies c n blocks 0) rest (plain_plps c n blocks) (omega arith) o o (number + 1),
 )
 
-order_frame : (c : Config) (n : ℕ) (before : Option ℕ) (counts : List ℕ) (blocks : ℕ → List (List Bool)) (rest : List (ℕ × Body))
+order_frame : (c : Config) (n : ℕ) (before : Option ℕ) (counts : List ℕ) (blocks : ℕ → List (List Bool))
+    (rest : List (ℕ × Body))
     → Earlier before n → AreOrdered c (Some n) rest
     → AreOrdered c before (of_frame n (frame_bodies c n counts blocks) ++ rest)
 order_frame c n before counts blocks rest e o =
@@ -167,7 +179,8 @@ order_frame c n before counts blocks rest e o =
     ))
     (λ t. order_l1 c n before counts blocks rest (not_later before n e) o)
 
-order_frames : (c : Config) (counts : ℕ → List ℕ) (blocks : ℕ → ℕ → List (List Bool)) (from count : ℕ) (before : Option ℕ)
+order_frames : (c : Config) (counts : ℕ → List ℕ) (blocks : ℕ → ℕ → List (List Bool)) (from count : ℕ)
+    (before : Option ℕ)
     → Earlier before from → AreOrdered c before (of_frames (λ n. frame_bodies c n (counts n) (blocks n)) from count)
 order_frames c counts blocks from zero before e = λ number. tt
 order_frames c counts blocks from (suc count) before e =
@@ -179,7 +192,8 @@ order_frames c counts blocks from (suc count) before e =
 abbrev AreBelow : Config → ℕ → List (ℕ × Body) → Type 0
 AreBelow c count bodies = (number : ℕ) → AllByRecursion (λ s. s.frame < count) (sent_from c number bodies)
 
-below_frame : (c : Config) (n count : ℕ) (bodies : List Body) (rest : List (ℕ × Body)) → n < count → AreBelow c count rest
+below_frame : (c : Config) (n count : ℕ) (bodies : List Body) (rest : List (ℕ × Body)) → n < count
+    → AreBelow c count rest
     → AreBelow c count (of_frame n bodies ++ rest)
 below_frame c n count [] rest l h = h
 below_frame c n count (b ∷ bodies) rest l h = λ number. (l, below_frame c n count bodies rest l h (number + 1))
@@ -187,11 +201,13 @@ below_frame c n count (b ∷ bodies) rest l h = λ number. (l, below_frame c n c
 below_frames : (c : Config) (bodies : ℕ → List Body) (from more count : ℕ) → from + more ≤ count
     → AreBelow c count (of_frames bodies from more)
 below_frames c bodies from zero count l = λ number. tt
-below_frames c bodies from (suc more) count l = below_frame c from count (bodies from) (of_frames bodies (from + 1) more)
+below_frames c bodies from (suc more) count l = below_frame c from count (bodies from)
+    (of_frames bodies (from + 1) more)
     (omega (arith, l)) (below_frames c bodies (from + 1) more count (omega (arith, l)))
 
 -- a frame has a packet
-some_bodies : (c : Config) (n : ℕ) (counts : List ℕ) (blocks : ℕ → List (List Bool)) → frame_bodies c n counts blocks ≡ [] → ⊥
+some_bodies : (c : Config) (n : ℕ) (counts : List ℕ) (blocks : ℕ → List (List Bool))
+    → frame_bodies c n counts blocks ≡ [] → ⊥
 some_bodies c n counts blocks =
     cond_both {A = List Body} (n % c.frames == 0) _ _ (λ l. l ≡ [] → ⊥)
     (λ t e. let k = ap length e in omega (arith, k)) (λ t e. let k = ap length e in omega (arith, k))

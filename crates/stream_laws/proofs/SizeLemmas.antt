@@ -1,5 +1,6 @@
 -- The blocks of a frame have the sizes that are told of them.
-use Rattle.std.proofs.Common.{◌≡◌, ℕ, zero, suc, ◌+◌, ◌*◌, ◌<◌, ◌≤◌, ◌==◌, Bool, true, false, List, [], ◌∷◌, ◌++◌, length, map}
+use Rattle.std.proofs.Common.{◌≡◌, ℕ, zero, suc, ◌+◌, ◌*◌, ◌<◌, ◌≤◌, ◌==◌, Bool, true, false, List, [], ◌∷◌, ◌++◌}
+use Rattle.std.proofs.Common.{length, map}
 use Rattle.std.proofs.Common.{filter, replicate, refl, sym, subst, arith, eq-eqb}
 use Rattle.std.specs.Prelude.{slice_index}
 use Rattle.std.specs.Cmp.Lexicographic.{pointwise}
@@ -35,7 +36,8 @@ AreLong c plp blocks = AllByRecursion (λ b. length b ≡ 8 * block_bytes c plp)
 sent_size : BitCounts → (c : Config) (plp : ℕ) (bits : List Bool) → length bits ≡ 8 * block_bytes c plp
     → has_size (sent_block c plp bits) (size_of c plp) ≡ true
 sent_size counts c plp bits e =
-    and_from ((plp_at c.plps plp).id == (plp_at c.plps plp).id) (length (sent_block c plp bits).bytes == block_bytes c plp)
+    and_from ((plp_at c.plps plp).id == (plp_at c.plps plp).id) (length (sent_block c plp bits).bytes
+    == block_bytes c plp)
     (eq-eqb (plp_at c.plps plp).id (plp_at c.plps plp).id refl)
     (eq-eqb (length (sent_block c plp bits).bytes) (block_bytes c plp) (let s = block_len counts c plp bits e in
     omega (arith, s)))
@@ -62,13 +64,15 @@ all_sizes counts c told blocks long (suc k) a h =
     (flat_map (λ plp. replicate (slice_index told plp) (size_of c plp)) (range_with_len (a + 1) k))
     (subst (λ (n : ℕ). pointwise has_size (map (sent_block c a) (blocks a)) (replicate n (size_of c a)) ≡ true)
     (sym (h a (omega arith) (omega arith))) (plp_sizes counts c a (blocks a) (long a)))
-    (all_sizes counts c told blocks long k (a + 1) (λ plp from below. h plp (omega (arith, from)) (omega (arith, below))))
+    (all_sizes counts c told blocks long k (a + 1) (λ plp from below. h plp (omega (arith, from))
+    (omega (arith, below))))
 
 -- the blocks that have the length of their PLP
 filter_long : (c : Config) (plp : ℕ) (blocks : List (List Bool)) → AreLong c plp (filter (has_length c plp) blocks)
 filter_long c plp [] = tt
 filter_long c plp (b ∷ blocks) =
-    cond_both {A = List (List Bool)} (has_length c plp b) (b ∷ filter (has_length c plp) blocks) (filter (has_length c plp) blocks)
+    cond_both {A = List (List Bool)} (has_length c plp b) (b ∷ filter (has_length c plp) blocks)
+    (filter (has_length c plp) blocks)
     (AreLong c plp)
     (λ e. (eqb-true (length b) (8 * block_bytes c plp) e, filter_long c plp blocks)) (λ e. filter_long c plp blocks)
 

@@ -1,5 +1,6 @@
 -- From the bytes of a stream to its packets.
-use Rattle.std.proofs.Common.{◌≡◌, ℕ, suc, ◌+◌, ◌<◌, ◌≤◌, Bool, true, false, List, [], ◌∷◌, ◌++◌, map, length, slice_get, Option}
+use Rattle.std.proofs.Common.{◌≡◌, ℕ, suc, ◌+◌, ◌<◌, ◌≤◌, Bool, true, false, List, [], ◌∷◌, ◌++◌, map, length}
+use Rattle.std.proofs.Common.{slice_get, Option}
 use Rattle.std.proofs.Common.{Some, None, refl, ap, sym, subst, ◌∙◌}
 use Rattle.std.specs.List.{items_where_true}
 use Rattle.std.proofs.lemmas.List.{length-map}
@@ -17,7 +18,8 @@ use Rattle.stream_laws.specs.SentPackets.{Sent, AreNear}
 use Rattle.stream_laws.specs.DamageLaws.{Survive, GroupsAreFrames, ModulatedIsRecords, WholeTold, LaterNear}
 use Rattle.stream_laws.specs.Streams.{Stream, IsStream, stream_survival, Honest}
 use Rattle.stream_laws.specs.GroupNumbers.{numbers_behind, GroupsNumbered}
-use Rattle.stream_laws.specs.UnitLaws.{SurvivalLength, ReadAreSurvivors, HonestGroups, HonestNumbers, HonestRecords, KeptHonest}
+use Rattle.stream_laws.specs.UnitLaws.{SurvivalLength, ReadAreSurvivors, HonestGroups, HonestNumbers, HonestRecords}
+use Rattle.stream_laws.specs.UnitLaws.{KeptHonest}
 use Rattle.stream_laws.specs.UnitLaws.{KeptWhole}
 
 map-items_where_true : {X Y : Type 0} (f : X → Y) (tests : List Bool) (xs : List X) → map f (items_where_true tests xs)
@@ -88,7 +90,8 @@ kept_whole survives told whole c s from fates n is altered carried =
     one : (before after : List (List ℕ)) (packet : List ℕ) (first last : ℕ) (packets : List (List ℕ)) (i : ℕ)
         → packets ≡ before ++ packet ∷ after → length before ≡ i → ArePackets packets
         → Carry packets before packet (from + first) (from + last)
-        → ((n : ℕ) → first ≤ n → n < last → fate_of fates n ≡ Some Kept) → slice_get (survival s.pid packets from fates) i
+        → ((n : ℕ) → first ≤ n → n < last → fate_of fates n ≡ Some Kept)
+        → slice_get (survival s.pid packets from fates) i
         ≡ Some true
     one before after packet first last packets i parts count spelled carry kept =
         subst (λ (l : List (List ℕ)). slice_get (survival s.pid l from fates) i ≡ Some true) (sym parts)

@@ -29,7 +29,8 @@ tests_meet given carries all misses named c inputs n survival plan types l len =
     let survivors : List Sent = items_where_true survival sent in
     let own : ℕ → List Packet = λ m. frame_packets m sent in
     let left : ℕ → List Packet = λ m. frame_packets m survivors in
-    let has : (m : ℕ) → m < n → HasFrame c inputs m (own m) = λ m k. has_frame given.numbers given.field c inputs m (own m) plan
+    let has : (m : ℕ) → m < n → HasFrame c inputs m (own m) = λ m k. has_frame given.numbers given.field
+    c inputs m (own m) plan
     (carries c inputs n m k) in
     let is : (m : ℕ) → m < n → IsLeft c inputs m (left m) =
     λ m k. is_left c inputs m (own m) (left m) (has m k) (some_left m sent survival) in
@@ -38,12 +39,15 @@ tests_meet given carries all misses named c inputs n survival plan types l len =
     let a = (is m k).few plp inside in
     let most = own_few given c inputs m plan types plp inside in
     omega (arith, a, most) in
-    let rooms : (first m : ℕ) (past : List Numbered) → m < n → IsMet c.frames first m survivors past → HaveRoom c past m =
-    λ first m past k met b below e. subst (AreFew c) (sym (begin_met given.laws c plan first m survivors past met b below e))
+    let rooms : (first m : ℕ) (past : List Numbered) → m < n → IsMet c.frames first m survivors past
+    → HaveRoom c past m =
+    λ first m past k met b below e. subst (AreFew c)
+    (sym (begin_met given.laws c plan first m survivors past met b below e))
     (few b (omega (arith, below, k))) in
     let begun : (first m : ℕ) (past : List Numbered) → m < n → IsMet c.frames first m survivors past
     → is_whole c sent survival m ≡ true → HaveBegun c inputs past m =
-    λ first m past k met w. have_begun given.numbers given.field all given.laws c inputs plan n first m survival past len met w
+    λ first m past k met w. have_begun given.numbers given.field all given.laws c inputs plan n first
+    m survival past len met w
     (λ b below. has b (omega (arith, below, k))) in
     let itself : (m : ℕ) → BeginsAll c m m = λ m. record { superframe = λ e. e; plps = λ plp inside e. e } in
     record {
@@ -51,7 +55,8 @@ tests_meet given carries all misses named c inputs n survival plan types l len =
       key = λ g m e. ((named c g m plan.rules).0 e).key;
       names = λ m k begins w. (named c (frame_group c.frames sent m) m plan.rules).1 (record {
         stamp = stamp_of c m;
-        first = ap (λ (s : List Stamp). slice_get s 0) ((has m k).stamps ∙ cond-true {A = List Stamp} (begins_superframe c m)
+        first = ap (λ (s : List Stamp). slice_get s 0) ((has m k).stamps
+            ∙ cond-true {A = List Stamp} (begins_superframe c m)
             (stamp_of c m ∷ []) [] (eq-eqb (m % c.frames) 0 begins));
         small = omega (arith, k, l);
         emission-is = refl;
@@ -65,7 +70,8 @@ tests_meet given carries all misses named c inputs n survival plan types l len =
           (λ plp inside e fewer.
           let met_is = ap (λ (packets : List Packet). length (blocks_of c plp packets))
           (begun_met given.laws c plan first m survivors past met plp inside e) in
-          let sent_is = ap length ((has (begin_of c plp m) (omega (arith, begun_before c plp m e, k))).blocks plp inside)
+          let sent_is = ap length ((has (begin_of c plp m) (omega (arith, begun_before c plp m e, k))).blocks
+          plp inside)
           ∙ ap length (begun_own given.laws c inputs plp m plan.rules inside) in
           FewBegun plp inside e (omega (arith, met_is, sent_is, fewer))));
       fails = λ m j k begins same w some.

@@ -29,13 +29,16 @@ pub whole_told : WholeTold
 whole_told c sent survival n h = all_told (carries c n) sent survival h
 
 -- what is among packets that all survive
-passed : (test : Sent → Bool) (s : Sent) (sent : List Sent) → test s ≡ true → filter test (s ∷ sent) ≡ s ∷ filter test sent
+passed : (test : Sent → Bool) (s : Sent) (sent : List Sent) → test s ≡ true
+    → filter test (s ∷ sent) ≡ s ∷ filter test sent
 passed test s sent e = cond-true (test s) (s ∷ filter test sent) (filter test sent) e
 
-left_out : (test : Sent → Bool) (s : Sent) (sent : List Sent) → test s ≡ false → filter test (s ∷ sent) ≡ filter test sent
+left_out : (test : Sent → Bool) (s : Sent) (sent : List Sent) → test s ≡ false
+    → filter test (s ∷ sent) ≡ filter test sent
 left_out test s sent e = cond-false (test s) (s ∷ filter test sent) (filter test sent) e
 
-among_all : (all test : Sent → Bool) (sent : List Sent) (survival : List Bool) → ((s : Sent) → test s ≡ true → all s ≡ true)
+among_all : (all test : Sent → Bool) (sent : List Sent) (survival : List Bool)
+    → ((s : Sent) → test s ≡ true → all s ≡ true)
     → length survival ≡ length sent → all_survive all sent survival ≡ true
     → filter test (items_where_true survival sent) ≡ filter test sent
 among_all all test [] [] sub l w = refl
@@ -69,7 +72,8 @@ counted : (test : Sent → Bool) (s : Sent) (sent : List Sent) → count_by test
     + count_by test sent
 counted test s sent = sum_by-cons (λ (s : Sent). cond {A = ℕ} (test s) 1 0) s sent
 
-count_survivors : (test : Sent → Bool) (sent : List Sent) (survival : List Bool) → count_by test (items_where_true survival sent)
+count_survivors : (test : Sent → Bool) (sent : List Sent) (survival : List Bool)
+    → count_by test (items_where_true survival sent)
     ≤ count_by test sent
 count_survivors test sent [] = let none : count_by test (items_where_true [] sent) ≡ 0 = refl in omega (arith, none)
 count_survivors test [] (t ∷ survival) = let none : count_by test (items_where_true (t ∷ survival) []) ≡ 0 = refl in
@@ -130,14 +134,16 @@ not_all_misses : (all : Sent → Bool) (sent : List Sent) (survival : List Bool)
     → Misses all sent survival
 not_all_misses all [] survival w = absurd (true≢false w)
 not_all_misses all (s ∷ sent) [] w = absurd (true≢false w)
-not_all_misses all (s ∷ sent) (true ∷ survival) w = misses_kept all s sent survival (not_all_misses all sent survival (⊎_elim
+not_all_misses all (s ∷ sent) (true ∷ survival) w = misses_kept all s sent survival
+    (not_all_misses all sent survival (⊎_elim
     (λ (e : all s ≡ true). sym (whole_here all s sent true survival e) ∙ w)
     (λ (e : all s ≡ false). sym (whole_other all s sent true survival e) ∙ w)
     (cases_Bool (all s))))
 not_all_misses all (s ∷ sent) (false ∷ survival) w = ⊎_elim
     (λ (e : all s ≡ true). misses_here all s sent survival e)
     (λ (e : all s ≡ false).
-    misses_lost all s sent survival (not_all_misses all sent survival (sym (whole_other all s sent false survival e) ∙ w)))
+    misses_lost all s sent survival (not_all_misses all sent survival (sym (whole_other all s sent false survival e)
+    ∙ w)))
     (cases_Bool (all s))
 
 pub not_whole_misses : NotWholeMisses

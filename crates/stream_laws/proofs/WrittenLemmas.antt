@@ -1,5 +1,5 @@
 -- What is written of the packets of a frame is the frame.
-use Rattle.std.proofs.Common.{◌≡◌, ℕ, ◌+◌, ◌%◌, ◌<◌, ◌≤◌, Bool, List, [], ◌++◌, length, Option, refl, ap}
+use Rattle.std.proofs.Common.{◌≡◌, ℕ, ◌%◌, Bool, List, [], length, Option, refl, ap}
 use Rattle.std.proofs.Common.{◌∙◌, arith, map}
 use Rattle.std.specs.Prelude.{slice_get, unwrap_or}
 use Rattle.std.specs.Option.{option_map_or, option_and_then}
@@ -29,11 +29,13 @@ use Rattle.stream_laws.specs.SentFrames.{sent_frames}
 use Rattle.stream_laws.proofs.CarriedLemmas.{HasFrame, has_frame}
 use Rattle.stream_laws.proofs.FrameSignalLemmas.{frame_told}
 
-same_view : (c : Config) (moment : Moment) (frame_idx : ℕ) (p q : List Bool) (x y : List Block) (s t : FrameShape) → p ≡ q
+same_view : (c : Config) (moment : Moment) (frame_idx : ℕ) (p q : List Bool) (x y : List Block) (s t : FrameShape)
+    → p ≡ q
     → x ≡ y → s ≡ t → frame_view c moment frame_idx p x s ≡ frame_view c moment frame_idx q y t
 same_view c moment frame_idx p q x y s t e f g = rw (e, f, g) refl
 
-pub post_is : (c : Config) (n : ℕ) (counts : List ℕ) → post_with c (dyn_part c n counts) ≡ post_bits c n (shape_of c counts)
+pub post_is : (c : Config) (n : ℕ) (counts : List ℕ) → post_with c (dyn_part c n counts) ≡ post_bits
+    c n (shape_of c counts)
 unfolding post_bits dyn_part
 post_is c n counts = refl
 
@@ -43,10 +45,12 @@ written_is_frame numbers field counted back written law carries c inputs n m pla
     let packets : List Packet = frame_packets m (sent_frames c inputs n) in
     let has : HasFrame c inputs m packets = has_frame numbers field c inputs m packets plan (carries c inputs n m l) in
     let counts : List ℕ = told_counts c inputs m in
-    same_view c (emission c m) (m % c.frames) (post_with c (dynamic_in packets)) (post_bits c m (frame_shape c inputs m))
+    same_view c (emission c m) (m % c.frames) (post_with c (dynamic_in packets))
+    (post_bits c m (frame_shape c inputs m))
     (sent_blocks c (λ plp. right_blocks c plp packets)) (sent_blocks c (own_blocks c inputs m)) (shape_in c packets)
     (frame_shape c inputs m)
-    (ap (λ (s : List L1Parts). post_with c (option_map_or (λ l1. l1.dynamic) (slice_get s 0) [])) has.l1s ∙ post_is c m counts)
+    (ap (λ (s : List L1Parts). post_with c (option_map_or (λ l1. l1.dynamic) (slice_get s 0) [])) has.l1s
+    ∙ post_is c m counts)
     (flat_same (λ plp. map (sent_block c plp) (right_blocks c plp packets))
     (λ plp. map (sent_block c plp) (own_blocks c inputs m plp)) 0 (length c.plps)
     (λ plp le lt. ap (map (sent_block c plp)) (has.right plp (omega (arith, lt)))))

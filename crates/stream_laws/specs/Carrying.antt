@@ -1,5 +1,6 @@
 -- Packets that carry what the record of a frame says.
-use Rattle.std.specs.Prelude.{◌≡◌, ℕ, ◌%◌, ◌<◌, ◌==◌, true, false, Bool, List, [], length, map, count_by, slice_index, Some, None}
+use Rattle.std.specs.Prelude.{◌≡◌, ℕ, ◌%◌, ◌<◌, ◌==◌, true, false, Bool, List, [], length, map, count_by, slice_index}
+use Rattle.std.specs.Prelude.{Some, None}
 use Rattle.std.specs.Option.{option_map_or}
 use Rattle.plp_config.specs.Capacity.{IsPlan}
 use Rattle.plp_config.specs.InterleavingFrames.{is_first, begin_of}
@@ -19,7 +20,8 @@ use Rattle.frame_groups.specs.Tests.{room_test, has_begun, packets_fault, named_
 use Rattle.open_group.specs.Written.{packets_view}
 use Rattle.stream_laws.specs.Remade.{view_bodies}
 
--- A record is the frame that packets make, which pass the tests as frame n behind some groups: it is one that a modulator wrote.
+-- A record is the frame that packets make, which pass the tests as frame n behind some groups: it is one that a
+-- modulator wrote.
 pub record IsWritten (c : Config) (n : ℕ) (view : RecordView) : Type 0 where
   pub packets : List Packet
   pub past : List Numbered

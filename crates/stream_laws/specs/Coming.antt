@@ -1,5 +1,6 @@
 -- What comes of frames that were sent again.
-use Rattle.std.specs.Prelude.{◌≡◌, true, ℕ, ◌+◌, ◌-◌, ◌%◌, ◌==◌, ◌||◌, ◌<◌, Bool, List, [], ◌∷◌, map, Option, Some, None}
+use Rattle.std.specs.Prelude.{◌≡◌, true, ℕ, ◌+◌, ◌-◌, ◌%◌, ◌==◌, ◌||◌, ◌<◌, Bool, List, [], ◌∷◌, map, Option, Some}
+use Rattle.std.specs.Prelude.{None}
 use Rattle.std.specs.Prelude.{if◌then◌else◌}
 use Rattle.std.specs.List.{range_with_len, list_all, AllByRecursion}
 use Rattle.std.specs.Option.{option_map_or}
@@ -39,7 +40,8 @@ blocks_at c plp frames n = option_map_or (λ f. blocks_in c plp f.view) (frame_a
 -- of each PLP whose interleaving frame began in an earlier frame, that one has as many blocks as this one tells
 abbrev pub is_complete : Config → List NumberedView → NumberedView → Bool
 is_complete c frames f = list_all
-    (λ plp. is_first c plp f.number || (blocks_at c plp frames (begin_of c plp f.number) == plp_num_blocks c plp f.view)) (places c)
+    (λ plp. is_first c plp f.number || (blocks_at c plp frames (begin_of c plp f.number) == plp_num_blocks
+    c plp f.view)) (places c)
 
 -- the record that must come of number n: that of the frame, if it is there and complete, or a muted one
 abbrev pub complete_view : Config → List NumberedView → ℕ → Option NumberedView → RecordView
@@ -58,8 +60,8 @@ end_after from (f ∷ frames) = end_after (f.number + 1) frames
 abbrev pub IsWrittenFrame : Config → NumberedView → Type 0
 IsWrittenFrame c f = IsWritten c f.number f.view × (f.number < MOST_FRAMES)
 
--- If a modulator wrote frames, their numbers rise and are spaced, and the first begins a superframe, then what comes of their
--- packets runs from the first to the last: each of them that is complete, and every other number muted.
+-- If a modulator wrote frames, their numbers rise and are spaced, and the first begins a superframe, then what comes of
+-- their packets runs from the first to the last: each of them that is complete, and every other number muted.
 abbrev pub RemadeComesBack : Type 0
 RemadeComesBack = (c : Config) (f : NumberedView) (fs : List NumberedView) → IsPlan c
     → AllByRecursion (IsWrittenFrame c) (f ∷ fs) → Rise (f ∷ fs) → AreSpaced c (f ∷ fs) → f.number % c.frames ≡ 0
@@ -68,5 +70,7 @@ RemadeComesBack = (c : Config) (f : NumberedView) (fs : List NumberedView) → I
 
 -- The packets that are accepted of the units of such frames are theirs, so the same comes of the bytes.
 abbrev pub RemadeArrives : Type 0
-RemadeArrives = (c : Config) (frames : List NumberedView) → IsPlan c → HasByteIds c → AllByRecursion (IsWrittenFrame c) frames
-    → records_due c true (joined (pipe c.pid (remade_packets c frames))) ≡ modulated (rules c) (packets_of (remade_sent c frames))
+RemadeArrives = (c : Config) (frames : List NumberedView) → IsPlan c → HasByteIds c
+    → AllByRecursion (IsWrittenFrame c) frames
+    → records_due c true (joined (pipe c.pid (remade_packets c frames))) ≡ modulated (rules c)
+    (packets_of (remade_sent c frames))

@@ -1,5 +1,6 @@
 -- Laws of frames of which packets are lost.
-use Rattle.std.specs.Prelude.{◌≡◌, ◌≢◌, ◌%◌, ℕ, ◌<◌, ◌≤◌, true, false, Bool, List, [], length, slice_get, Some, None, is_some}
+use Rattle.std.specs.Prelude.{◌≡◌, ◌≢◌, ◌%◌, ℕ, ◌<◌, ◌≤◌, true, false, Bool, List, [], length, slice_get, Some, None}
+use Rattle.std.specs.Prelude.{is_some}
 use Rattle.std.specs.Prelude.{count_by, ◌+◌, ◌*◌, ◌/◌, ◌==◌}
 use Rattle.std.specs.List.{filter, items_where_true, Contains}
 use Rattle.plp_config.specs.Places.{FramesStandAlone}
@@ -22,7 +23,8 @@ pub record Survive (frames count : ℕ) (sent : List Sent) (survival : List Bool
 -- Then the groups are, in order, the survivors of those frames that have one.
 abbrev pub GroupsAreFrames : Type 0
 GroupsAreFrames = (frames count : ℕ) (sent : List Sent) (survival : List Bool) → Survive frames count sent survival
-    → groups frames (packets_of (items_where_true survival sent)) ≡ groups_met frames count (items_where_true survival sent)
+    → groups frames (packets_of (items_where_true survival sent)) ≡ groups_met frames count
+    (items_where_true survival sent)
 
 -- Groups that have numbers are what survives of the frames from one on up to another.
 pub record AreMet (first n : ℕ) (survivors : List Sent) (past : List Numbered) : Type 0 where
@@ -57,9 +59,11 @@ pub record RulesMeet (r : Rules) (count : ℕ) (sent : List Sent) (survival : Li
       → is_whole r.network sent survival n ≡ false → frame_packets n (items_where_true survival sent) ≢ []
       → is_some (r.fault [] (frame_group r.frames (items_where_true survival sent) n) m) ≡ true
 
--- Then the records of the survivors are those that must come: each whole frame from the join on, and why each other one is muted.
+-- Then the records of the survivors are those that must come: each whole frame from the join on, and why each other one
+-- is muted.
 abbrev pub ModulatedIsRecords : Type 0
-ModulatedIsRecords = (r : Rules) (count : ℕ) (sent : List Sent) (survival : List Bool) → Survive r.frames count sent survival
+ModulatedIsRecords = (r : Rules) (count : ℕ) (sent : List Sent) (survival : List Bool)
+    → Survive r.frames count sent survival
     → RulesMeet r count sent survival
     → modulated r (packets_of (items_where_true survival sent)) ≡ survivor_records r.network sent survival
 
@@ -81,7 +85,8 @@ pub record Misses (passes : Sent → Bool) (sent : List Sent) (survival : List B
   pub packet : Sent
   pub there : Contains sent packet
   pub passing : passes packet ≡ true
-  pub fewer : (test : Sent → Bool) → test packet ≡ true → count_by test (items_where_true survival sent) < count_by test sent
+  pub fewer : (test : Sent → Bool) → test packet ≡ true → count_by test (items_where_true survival sent) < count_by
+      test sent
 
 -- In a frame that is not whole a packet that it carries is missing.
 abbrev pub NotWholeMisses : Type 0
@@ -102,5 +107,6 @@ LaterNear = (frames count : ℕ) (sent : List Sent) (lost left : ℕ) → 0 < fr
 abbrev pub NearTold : Type 0
 NearTold = (frames : ℕ) (sent : List Sent)
     → ((i : ℕ) (s next : Sent) → slice_get sent i ≡ Some s → slice_get sent (i + 1) ≡ Some next
-    → (next.frame < s.frame + 16 * frames) × (IsTimestamp next.packet.body → next.frame / frames < s.frame / frames + 16))
+    → (next.frame < s.frame + 16 * frames) × (IsTimestamp next.packet.body
+    → next.frame / frames < s.frame / frames + 16))
     → AreNear frames None sent

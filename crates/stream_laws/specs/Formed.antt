@@ -19,12 +19,13 @@ pub record Forms (c : Config) (n : ℕ) (moment : Moment) (pre post : List Bool)
   pub leaves : moment ≡ emission c n
   -- L1-pre is the configuration's, with its CRC_32.
   pub pre_is : pre_agrees c (read_whole (pre_reading true pre)) ≡ true
-  -- L1-post has its length and its CRC_32, the configuration's configurable part, and a dynamic part with FRAME_IDX of n and the
-  -- PLPs in order.
+  -- L1-post has its length and its CRC_32, the configuration's configurable part, and a dynamic part with FRAME_IDX of
+  -- n and the PLPs in order.
   pub post_is : post_agrees c n post ≡ true
   pub shape : FrameShape
   pub told : option_map told_shape (told_dynamic c post) ≡ Some shape
-  -- PLP by PLP there are as many blocks as it tells of those whose interleaving frame begins in n, each with the PLP's length.
+  -- PLP by PLP there are as many blocks as it tells of those whose interleaving frame begins in n, each with the PLP's
+  -- length.
   pub sizes : pointwise has_size blocks (block_sizes c (coming c n shape)) ≡ true
   pub map : Passes c shape
 

@@ -24,7 +24,8 @@ use Rattle.stream_laws.specs.Types.{TypesFit}
 
 -- The packets of a run are sent frame by frame: each frame has one, and they tell their frames.
 abbrev pub SentAreFrames : Type 0
-SentAreFrames = (c : Config) (inputs : ℕ → List (List ℕ)) (n : ℕ) → 0 < c.frames → AreFrames c.frames n (sent_frames c inputs n)
+SentAreFrames = (c : Config) (inputs : ℕ → List (List ℕ)) (n : ℕ) → 0 < c.frames
+    → AreFrames c.frames n (sent_frames c inputs n)
 
 -- The packets of a frame carry what the frame has.
 abbrev pub FrameCarries : Type 0
@@ -39,7 +40,8 @@ FramesAreStream = (c : Config) (inputs : ℕ → List (List ℕ)) (n : ℕ) → 
 
 -- The six tests make of it what they must, whatever survives.
 abbrev pub TestsMeet : Type 0
-TestsMeet = (c : Config) (inputs : ℕ → List (List ℕ)) (n : ℕ) (survival : List Bool) → IsPlan c → TypesFit c → n ≤ MOST_FRAMES
+TestsMeet = (c : Config) (inputs : ℕ → List (List ℕ)) (n : ℕ) (survival : List Bool) → IsPlan c → TypesFit c
+    → n ≤ MOST_FRAMES
     → length survival ≡ length (sent_frames c inputs n)
     → RulesMeet (rules c) n (sent_frames c inputs n) survival
 
@@ -62,7 +64,8 @@ WholeArrives = (c : Config) (inputs : ℕ → List (List ℕ)) → joined (pipe 
 
 -- And the records that must come of a plan's run are its frames.
 abbrev pub WholeComes : Type 0
-WholeComes = (c : Config) (inputs : ℕ → List (List ℕ)) → IsPlan c → HasByteIds c → frame_count c (λ plp. length (inputs plp))
+WholeComes = (c : Config) (inputs : ℕ → List (List ℕ)) → IsPlan c → HasByteIds c
+    → frame_count c (λ plp. length (inputs plp))
     ≤ MOST_FRAMES
     → run_records c inputs 0 (all_kept (run_stream c inputs) 0) ≡ run_frames c inputs
 
@@ -70,7 +73,8 @@ WholeComes = (c : Config) (inputs : ℕ → List (List ℕ)) → IsPlan c → Ha
 abbrev pub WrittenMustCome : Config → Type 0
 WrittenMustCome c = (inputs : ℕ → List (List ℕ)) (n from : ℕ) (fates : List Fate) → n ≤ MOST_FRAMES
     → Honest (frames_stream c inputs n) from fates
-    → bytes_due c true (stream_bytes (frames_stream c inputs n) from fates) ≡ file_bytes (left_records c inputs n from fates)
+    → bytes_due c true (stream_bytes (frames_stream c inputs n) from fates) ≡ file_bytes
+    (left_records c inputs n from fates)
 
 -- So it is if all units from one on came as they were sent.
 abbrev pub UndamagedMustCome : Config → Type 0

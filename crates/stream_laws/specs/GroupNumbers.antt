@@ -27,10 +27,11 @@ number_from first n = if nat_le first n then Some n else None
 pub record JoinsAt (r : Rules) (survivors : List Sent) (first : ℕ) : Type 0 where
   pub some : frame_packets first survivors ≢ []
   pub number : join_number r (frame_group r.frames survivors first) ≡ Some first
-  pub before : (n : ℕ) → n < first → frame_packets n survivors ≢ [] → join_number r (frame_group r.frames survivors n) ≡ None
+  pub before : (n : ℕ) → n < first → frame_packets n survivors ≢ []
+      → join_number r (frame_group r.frames survivors n) ≡ None
 
--- Then the groups from there on have, in order, the numbers of the frames of which a packet survives, whatever the tests say of
--- them.
+-- Then the groups from there on have, in order, the numbers of the frames of which a packet survives, whatever the
+-- tests say of them.
 abbrev pub GroupsNumbered : Type 0
 GroupsNumbered = (r : Rules) (count : ℕ) (sent : List Sent) (survival : List Bool) (first : ℕ)
     → Survive r.frames count sent survival → JoinsAt r (items_where_true survival sent) first

@@ -1,5 +1,6 @@
 -- Frames as T2-MI packets again (ETSI TS 102 773, clause 5).
-use Rattle.std.specs.Prelude.{◌≡◌, ℕ, ◌+◌, ◌*◌, ◌/◌, ◌%◌, ◌<◌, ◌==◌, not, Bool, true, List, [], ◌∷◌, length, map, take, Option}
+use Rattle.std.specs.Prelude.{◌≡◌, ℕ, ◌+◌, ◌*◌, ◌/◌, ◌%◌, ◌<◌, ◌==◌, not, Bool, true, List, [], ◌∷◌, length, map, take}
+use Rattle.std.specs.Prelude.{Option}
 use Rattle.std.specs.Prelude.{Some, None}
 use Rattle.std.specs.List.{flat_map}
 use Rattle.terms.specs.Bits.{bits_of, part}
@@ -19,6 +20,9 @@ use Rattle.frame_writer.specs.FramePackets.{l1_body, with_stamp, packets_from}
 pub record NumberedView : Type 0 where
   pub number : ℕ
   pub view : RecordView
+
+abbrev pub numbered : ℕ → RecordView → NumberedView
+numbered n view = record { number = n; view = view }
 
 -- the L1-current of frame n, by L1-pre and L1-post of its record: both without their CRC_32, and without an extension
 abbrev pub signal_of : Config → ℕ → List Bool → List Bool → Body
@@ -55,8 +59,8 @@ remade_bodies c frames = flat_map (frame_pairs c) frames
 unfoldable pub remade_packets : Config → List NumberedView → List (List ℕ)
 remade_packets c frames = packets_from c 0 (remade_bodies c frames)
 
--- One frame is behind another, by less than the frames after which keys come again; and if it begins a superframe, by less than
--- the superframes after which superframe_idx does.
+-- One frame is behind another, by less than the frames after which keys come again; and if it begins a superframe, by
+-- less than the superframes after which superframe_idx does.
 pub record IsSpaced (c : Config) (m n : ℕ) : Type 0 where
   pub frames : n < m + superframe_period * c.frames
   pub superframes : n % c.frames ≡ 0 → n / c.frames < m / c.frames + superframe_period

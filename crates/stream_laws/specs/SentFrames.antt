@@ -17,7 +17,8 @@ use Rattle.stream_laws.specs.Survivors.{is_whole, end_of}
 -- packets with these numbers and the next ones, each with its frame
 abbrev pub sent_from : Config → ℕ → List (ℕ × Body) → List Sent
 sent_from c number [] = []
-sent_from c number (b ∷ bodies) = record { frame = b.0; packet = packet_with c number b.0 b.1 } ∷ sent_from c (number + 1) bodies
+sent_from c number (b ∷ bodies) = record { frame = b.0; packet = packet_with c number b.0 b.1 } ∷ sent_from
+    c (number + 1) bodies
 
 -- the packets of the frames below n
 abbrev pub sent_frames : Config → (ℕ → List (List ℕ)) → ℕ → List Sent
@@ -26,7 +27,14 @@ sent_frames c inputs n = sent_from c 0 (bodies_before c inputs n)
 -- their stream
 abbrev pub frames_stream : Config → (ℕ → List (List ℕ)) → ℕ → Stream
 frames_stream c inputs n =
-    record { pid = c.pid; frames = c.frames; count = n; sent = sent_frames c inputs n; packets = front_packets c inputs n }
+    record {
+      pid = c.pid;
+      frames = c.frames;
+      count = n;
+      sent = sent_frames c inputs n;
+      packets = front_packets
+          c inputs n;
+    }
 
 -- how many frames a run has, and its stream
 abbrev pub run_length : Config → (ℕ → List (List ℕ)) → ℕ
@@ -43,8 +51,8 @@ stream_bytes s from fates = received (pipe s.pid s.packets) from fates
 abbrev pub all_kept : Stream → ℕ → List Fate
 all_kept s from = replicate (length (drop from (pipe s.pid s.packets))) Kept
 
--- the records that must come of the frames below n: from the first whole frame that begins a superframe to the last one of which
--- a packet survives, each whole frame, and each other one muted
+-- the records that must come of the frames below n: from the first whole frame that begins a superframe to the last one
+-- of which a packet survives, each whole frame, and each other one muted
 abbrev pub left_records : Config → (ℕ → List (List ℕ)) → ℕ → ℕ → List Fate → List RecordView
 left_records c inputs n from fates =
     records c inputs (is_whole c (sent_frames c inputs n) (stream_survival (frames_stream c inputs n) from fates))

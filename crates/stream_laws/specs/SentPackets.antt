@@ -41,7 +41,8 @@ pub record IsOfFrame (frames : ℕ) (s : Sent) : Type 0 where
   pub superframe : s.packet.superframe ≡ s.frame / frames % superframe_period
   pub frame : TellsFrame frames s.frame s.packet.body
 
--- A packet comes behind one of frame m: no frame comes before another, and a timestamp is the first packet of its frame.
+-- A packet comes behind one of frame m: no frame comes before another, and a timestamp is the first packet of its
+-- frame.
 pub record Follows (m : ℕ) (s : Sent) : Type 0 where
   pub frame : m ≤ s.frame
   pub stamp : IsTimestamp s.packet.body → m < s.frame
@@ -53,7 +54,8 @@ FollowsSome (Some m) s = Follows m s
 -- Packets are in the order of their frames, behind one of a frame, or behind none.
 abbrev pub InFrameOrder : ℕ → Option ℕ → List Sent → Type 0
 InFrameOrder frames before [] = Unit {0}
-InFrameOrder frames before (s ∷ sent) = IsOfFrame frames s × FollowsSome before s × InFrameOrder frames (Some s.frame) sent
+InFrameOrder frames before (s ∷ sent) = IsOfFrame frames s × FollowsSome before s
+    × InFrameOrder frames (Some s.frame) sent
 
 -- The packets are those of so many frames, in their order, each of which has one at least.
 pub record AreFrames (frames count : ℕ) (sent : List Sent) : Type 0 where
@@ -61,8 +63,8 @@ pub record AreFrames (frames count : ℕ) (sent : List Sent) : Type 0 where
   pub below : AllByRecursion (λ s. s.frame < count) sent
   pub some : (n : ℕ) → n < count → frame_packets n sent ≢ []
 
--- A packet is near one of frame m: by less than the frames after which keys come again, and a timestamp by less than the
--- superframes after which superframe_idx does.
+-- A packet is near one of frame m: by less than the frames after which keys come again, and a timestamp by less than
+-- the superframes after which superframe_idx does.
 pub record IsNear (frames m : ℕ) (s : Sent) : Type 0 where
   pub frame : s.frame < m + superframe_period * frames
   pub stamp : IsTimestamp s.packet.body → s.frame / frames < m / frames + superframe_period

@@ -34,6 +34,6 @@ stream_survivors s from fates = items_where_true (stream_survival s from fates) 
 pub record Honest (s : Stream) (from : ℕ) (fates : List Fate) : Type 0 where
   -- Every accepted packet stands at the place of a sent packet's first byte and equals that packet.
   pub sent : AreSent (received_packets s.pid s.packets from fates) (sent_packets s.packets from fates)
-  -- The frames of two successive survivors are less than 16 superframes apart, and so are their superframes if the later one is a
-  -- timestamp.
+  -- The frames of two successive survivors are less than 16 superframes apart, and so are their superframes if the
+  -- later one is a timestamp.
   pub near : AreNear s.frames None (stream_survivors s from fates)

@@ -1,5 +1,6 @@
 -- Sent packets of which some survive, and the records that must come of them.
-use Rattle.std.specs.Prelude.{ℕ, ◌+◌, ◌==◌, ◌&&◌, ◌||◌, Bool, true, false, List, [], ◌∷◌, ◌++◌, map, length, replicate, None}
+use Rattle.std.specs.Prelude.{ℕ, ◌+◌, ◌==◌, ◌&&◌, ◌||◌, Bool, true, false, List, [], ◌∷◌, ◌++◌, map, length, replicate}
+use Rattle.std.specs.Prelude.{None}
 use Rattle.std.specs.Prelude.{if◌then◌else◌}
 use Rattle.std.specs.List.{filter, list_all, list_any, items_where_true, last_or, range_with_len, zip}
 use Rattle.std.specs.Option.{option_map_or}
@@ -69,7 +70,8 @@ end_of survivors = option_map_or (λ s. s.frame + 1) (last_or None survivors) 0
 -- the records that must come, by the packets that survive
 abbrev pub survivor_records : Config → List Sent → List Bool → List FrameRecord
 survivor_records c sent survival =
-    map (sent_record c sent survival) (record_numbers c (is_whole c sent survival) (end_of (items_where_true survival sent)))
+    map (sent_record c sent survival) (record_numbers c (is_whole c sent survival)
+    (end_of (items_where_true survival sent)))
 
 -- Some packets at the front are lost, and all others survive.
 abbrev pub later_only : ℕ → ℕ → List Bool

@@ -17,7 +17,8 @@ use Rattle.stream_laws.specs.Streams.{Stream, IsStream, stream_survival, stream_
 
 -- Of each sent packet it is told whether it survives.
 abbrev pub SurvivalLength : Type 0
-SurvivalLength = (s : Stream) (from : ℕ) (fates : List Fate) → IsStream s → length (stream_survival s from fates) ≡ length s.sent
+SurvivalLength = (s : Stream) (from : ℕ) (fates : List Fate) → IsStream s
+    → length (stream_survival s from fates) ≡ length s.sent
 
 -- The packets that are read are, in order, those that survive.
 abbrev pub ReadAreSurvivors : Type 0
@@ -32,12 +33,15 @@ HonestGroups = (s : Stream) (from : ℕ) (fates : List Fate) → IsStream s → 
 
 -- The records of what is received are those that must come.
 abbrev pub HonestRecords : Type 0
-HonestRecords = (r : Rules) (s : Stream) (from : ℕ) (fates : List Fate) → r.frames ≡ s.frames → IsStream s → Honest s from fates
+HonestRecords = (r : Rules) (s : Stream) (from : ℕ) (fates : List Fate) → r.frames ≡ s.frames → IsStream s
+    → Honest s from fates
     → RulesMeet r s.count s.sent (stream_survival s from fates)
-    → modulated r (modulating.packets_of (received_packets s.pid s.packets from fates)) ≡ survivor_records r.network s.sent
+    → modulated r (modulating.packets_of (received_packets s.pid s.packets from fates)) ≡ survivor_records
+    r.network s.sent
     (stream_survival s from fates)
 
--- Once a group of what is received is the join, with the number of its frame, each later group has the number of its frame.
+-- Once a group of what is received is the join, with the number of its frame, each later group has the number of its
+-- frame.
 abbrev pub HonestNumbers : Type 0
 HonestNumbers = (r : Rules) (s : Stream) (from : ℕ) (fates : List Fate) (first : ℕ) → r.frames ≡ s.frames → IsStream s
     → Honest s from fates → JoinsAt r (stream_survivors s from fates) first

@@ -1,5 +1,6 @@
 // Laws of the definitions. Their functions do nothing.
-ghost use Rattle.stream_laws.specs.DamageLaws.{GroupsAreFrames, ModulatedIsRecords, WholeTold, WholeIsAll, NotWholeMisses, LaterNear};
+ghost use Rattle.stream_laws.specs.DamageLaws.{GroupsAreFrames, ModulatedIsRecords, WholeTold, WholeIsAll};
+ghost use Rattle.stream_laws.specs.DamageLaws.{NotWholeMisses, LaterNear};
 ghost use Rattle.stream_laws.specs.DamageLaws.{CarriesAlone, NearTold};
 ghost use Rattle.stream_laws.specs.GroupNumbers.{GroupsNumbered};
 
@@ -18,15 +19,16 @@ pub fn record_law()
     next_law();
 }
 
-/// If survivors are near one another, and one of their groups is the join, with the number of its frame, each later group has the
-/// number of its frame.
+/// If survivors are near one another, and one of their groups is the join, with the number of its frame, each later
+/// group has the number of its frame.
 pub fn number_law()
     ensures { GroupsNumbered }
 {
     next_law();
 }
 
-/// What survives of a whole frame, and of one that is not; and what a frame carries if interleaving frames are single frames.
+/// What survives of a whole frame, and of one that is not; and what a frame carries if interleaving frames are single
+/// frames.
 pub fn whole_law()
     ensures told { WholeTold }
     ensures all { WholeIsAll }
@@ -36,8 +38,8 @@ pub fn whole_law()
     interleaving_law();
 }
 
-/// Which packets are near one another: those of which each next one is, and those that are left if only packets at the front are
-/// lost.
+/// Which packets are near one another: those of which each next one is, and those that are left if only packets at the
+/// front are lost.
 pub fn near_law()
     ensures told { NearTold }
     ensures later { LaterNear }

@@ -21,8 +21,9 @@ pub fn formed_law()
     bit_counts_law();
 }
 
-/// If packets carry what the record of a frame says that a modulator wrote, that frame comes back of them, behind groups that have
-/// the blocks of the interleaving frames that began before it; behind other groups a packet is missing.
+/// If packets carry what the record of a frame says that a modulator wrote, that frame comes back of them, behind
+/// groups that have the blocks of the interleaving frames that began before it; behind other groups a packet is
+/// missing.
 pub fn back_law()
     ensures { FrameComesBack }
 {

@@ -1,5 +1,6 @@
 // Laws of the definitions. Their functions do nothing.
-ghost use Rattle.stream_laws.specs.FrameLaws.{SentAreFrames, FrameCarries, FramesAreStream, TestsMeet, WrittenIsFrame, KeptIsHonest};
+ghost use Rattle.stream_laws.specs.FrameLaws.{SentAreFrames, FrameCarries, FramesAreStream, TestsMeet, WrittenIsFrame};
+ghost use Rattle.stream_laws.specs.FrameLaws.{KeptIsHonest};
 ghost use Rattle.stream_laws.specs.FrameLaws.{WholeArrives, WholeComes};
 
 use crate::damage_laws::whole_law;
@@ -43,8 +44,8 @@ pub fn undamaged_law()
     kept_law();
 }
 
-/// If all units of a run are kept, what is received is what the gateway writes, and the records that must come are the run's
-/// frames.
+/// If all units of a run are kept, what is received is what the gateway writes, and the records that must come are the
+/// run's frames.
 pub fn run_law()
     ensures arrives { WholeArrives }
     ensures records { WholeComes }

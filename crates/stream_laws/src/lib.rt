@@ -1,5 +1,5 @@
-//! The packets of a run as they are sent frame by frame, what is written of them if units are lost or altered, and what comes of
-//! frames of records that are sent again (EN 302 755, ETSI TS 102 773). It has no code.
+//! The packets of a run as they are sent frame by frame, what is written of them if units are lost or altered, and what
+//! comes of frames of records that are sent again (EN 302 755, ETSI TS 102 773). It has no code.
 #![tactic(auto)]
 
 mod damage_laws;

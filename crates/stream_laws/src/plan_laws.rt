@@ -50,8 +50,8 @@ pub fn type_law(plan: &Plan)
     numbers_fit(plan);
 }
 
-/// If damage is honest, or if all units from one on came as they were sent, what is written of what is received of a run of a
-/// plan are the records that must come.
+/// If damage is honest, or if all units from one on came as they were sent, what is written of what is received of a
+/// run of a plan are the records that must come.
 pub fn plan_law(plan: &Plan)
     ensures honest { WrittenMustCome plan.now }
     ensures undamaged { UndamagedMustCome plan.now }

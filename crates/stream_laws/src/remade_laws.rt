@@ -12,8 +12,8 @@ use plp_config::{block_law, emission_law, interleaving_law, spread_law};
 use t2mi_packet::{spell_law, written_law};
 use t2mi_stream::{survivor_law, undamaged_law};
 
-/// If frames that a modulator wrote are sent again, spaced and from one on that begins a superframe, then what comes of their
-/// packets runs from the first to the last: each of them that is complete, and every other number muted.
+/// If frames that a modulator wrote are sent again, spaced and from one on that begins a superframe, then what comes of
+/// their packets runs from the first to the last: each of them that is complete, and every other number muted.
 pub fn remade_law()
     ensures { RemadeComesBack }
 {

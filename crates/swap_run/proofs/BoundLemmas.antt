@@ -1,5 +1,6 @@
 -- How many bytes a frame gives with the PLP replaced.
-use Rattle.std.proofs.Common.{◌≡◌, ℕ, ◌+◌, ◌-◌, ◌*◌, ◌%◌, ◌==◌, ◌<◌, ◌≤◌, Bool, true, false, cond, List, [], ◌∷◌, ◌++◌, length, None}
+use Rattle.std.proofs.Common.{◌≡◌, ℕ, ◌+◌, ◌-◌, ◌*◌, ◌%◌, ◌==◌, ◌<◌, ◌≤◌, Bool, true, false, cond, List, [], ◌∷◌, ◌++◌}
+use Rattle.std.proofs.Common.{length, None}
 use Rattle.std.proofs.Common.{arith, length-append}
 use Rattle.std.specs.Prelude.{nat_le, nat_lt, ◌&&◌}
 use Rattle.std.specs.List.{filter}
@@ -25,16 +26,19 @@ use Rattle.frame_writer.specs.FramePackets.{with_stamp}
 use Rattle.stream_laws.specs.Formed.{IsFormed}
 use Rattle.stream_laws.specs.Remade.{record_bodies, view_bodies, signal_of}
 use Rattle.stream_laws.proofs.BlockLemmas.{count_at}
-use Rattle.feed_merge.proofs.BoundLemmas.{few_bodies, bodies_count, stamp_count}
+use Rattle.frame_writer.proofs.CarriedLemmas.{stamp_count}
+use Rattle.feed_merge.proofs.BoundLemmas.{few_bodies, bodies_count}
 use Rattle.region_swap.specs.StandsFor.{has_unit, bytes_left}
-use Rattle.region_swap.specs.Swapped.{swapped_view, swapped_counts, post_with_counts, replaced, blocks_among, input_blocks, is_among}
+use Rattle.region_swap.specs.Swapped.{swapped_view, swapped_counts, post_with_counts, replaced, blocks_among}
+use Rattle.region_swap.specs.Swapped.{input_blocks, is_among}
 use Rattle.region_swap.specs.declared.swapper.Swapper.{Swapper}
 use Rattle.swap_run.specs.Shown.{frame_bytes}
 
 -- if no unit is complete, fewer bytes wait than one has
 pub idle_left : (s : Swapper) → has_unit s ≡ false → bytes_left s [] < 184
 idle_left s idle =
-    let off = or_parts (nat_le PAYLOAD (at_hand s.flow.outlet)) (is_finished s.flow.outlet.piper && nat_lt 0 (piper_waiting s.flow.outlet.piper))
+    let off = or_parts (nat_le PAYLOAD (at_hand s.flow.outlet)) (is_finished s.flow.outlet.piper
+    && nat_lt 0 (piper_waiting s.flow.outlet.piper))
     idle in
     less (at_hand s.flow.outlet) off.0
   where
@@ -61,12 +65,14 @@ own_few told c plp n input plan lt =
     let less = fewer (is_first c plp n) in
     omega (arith, size, most, at, limit.1, less)
   where
-    fewer : (b : Bool) → length (cond b (plp_blocks c (λ _. input) (interleaving_frame c plp n) plp) []) ≤ told_count c (λ _. input) n plp
+    fewer : (b : Bool) → length (cond b (plp_blocks c (λ _. input) (interleaving_frame c plp n) plp) []) ≤ told_count
+        c (λ _. input) n plp
     fewer true = omega arith
     fewer false = omega arith
 
 -- so a frame has no more packets than so many
-pub few_swapped : FieldRange → ToldCountsFit → (c : Config) (plp n : ℕ) (input : List (List ℕ)) (view : RecordView) → IsPlan c
+pub few_swapped : FieldRange → ToldCountsFit → (c : Config) (plp n : ℕ) (input : List (List ℕ)) (view : RecordView)
+    → IsPlan c
     → plp < length c.plps → IsFormed c n view
     → packet_bound * length (view_bodies c n (swapped_view c plp input n view)) + 1000 ≤ frame_bytes
 few_swapped field told c plp n input (Muted moment) plan lt formed = absurd formed
@@ -78,7 +84,8 @@ few_swapped field told c plp n input (Frame moment pre post blocks cells) plan l
     let front : List Block = blocks_among c 0 plp blocks in
     let behind : List Block = blocks_among c (plp + 1) (length c.plps - (plp + 1)) blocks in
     let post_now : List _ = post_with_counts c n (swapped_counts c plp input n post) post in
-    let most = stamp_count c n (signal_of c n pre post_now ∷ record_bodies (n % c.frames) None (replaced c plp own blocks)) in
+    let most = stamp_count c n (signal_of c n pre post_now ∷ record_bodies (n % c.frames) None
+    (replaced c plp own blocks)) in
     let now = bodies_count (n % c.frames) None (replaced c plp own blocks) in
     let a = length-append front own in
     let b = length-append (front ++ own) behind in

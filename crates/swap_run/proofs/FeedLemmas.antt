@@ -11,7 +11,8 @@ use Rattle.feed_merge.specs.declared.feed.FrameFeed.{FrameFeed}
 use Rattle.feed_merge.specs.Fed.{IsFedWith}
 use Rattle.feed_merge.proofs.StepLemmas.{IsIdle}
 
-module _ (tell : EventsTell) (c : Config) (f g : FrameFeed) (events : List Event) (piece : List ℕ) (given : List FrameRecord)
+module _ (tell : EventsTell) (c : Config) (f g : FrameFeed) (events : List Event) (piece : List ℕ)
+    (given : List FrameRecord)
     (idle : IsIdle (waiting_of f) (feed.has_ended f)) (config : feed.config_of g ≡ feed.config_of f)
     (h : IsFedWith c f (fed 0 events) (has_ended 0 events) given) where
   off : has_ended 0 events ≡ false
@@ -34,10 +35,12 @@ module _ (tell : EventsTell) (c : Config) (f g : FrameFeed) (events : List Event
       → IsFedWith c g (fed 0 (events ++ Fed 0 piece ∷ [])) (has_ended 0 (events ++ Fed 0 piece ∷ [])) given
   fed_one stands =
       let t = tell.fed 0 piece events in
-      now (events ++ Fed 0 piece ∷ []) (fed 0 events ++ piece) false t.here (t.ended 0 ∙ off) (stands (fed 0 events) given was)
+      now (events ++ Fed 0 piece ∷ []) (fed 0 events ++ piece) false t.here (t.ended 0 ∙ off)
+      (stands (fed 0 events) given was)
 
   pub ended_one : length piece ≡ 0
-      → ((bytes : List ℕ) (given : List FrameRecord) → FrameFeedStandsFor f bytes false given → FrameFeedStandsFor g bytes true given)
+      → ((bytes : List ℕ) (given : List FrameRecord) → FrameFeedStandsFor f bytes false given
+      → FrameFeedStandsFor g bytes true given)
       → IsFedWith c g (fed 0 (events ++ Ended 0 piece ∷ [])) (has_ended 0 (events ++ Ended 0 piece ∷ [])) given
   ended_one none stands =
       let t = tell.ended 0 piece events in

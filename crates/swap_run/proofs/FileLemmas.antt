@@ -1,5 +1,6 @@
 -- What is known of two files by what was fed of them.
-use Rattle.std.proofs.Common.{◌≡◌, ◌≢◌, ◌⊎◌, ℕ, ◌+◌, ◌-◌, ◌*◌, ◌<◌, ◌≤◌, Bool, true, false, List, [], ◌∷◌, ◌++◌, length, take, Option, Some, None}
+use Rattle.std.proofs.Common.{◌≡◌, ◌≢◌, ◌⊎◌, ℕ, ◌+◌, ◌-◌, ◌*◌, ◌<◌, ◌≤◌, Bool, true, false, List, [], ◌∷◌, ◌++◌, length}
+use Rattle.std.proofs.Common.{take, Option, Some, None}
 use Rattle.std.proofs.Common.{refl, ap, sym, subst, ◌∙◌, inl, inr, arith, append-nil, append_assoc, length-append}
 use Rattle.std.specs.Prelude.{slice_index}
 use Rattle.std.proofs.lemmas.Bool.{true≢false}
@@ -42,10 +43,13 @@ use Rattle.feed_merge.proofs.HeldLemmas.{all_of}
 use Rattle.t2mi_stream.proofs.CompleteLemmas.{shorter_front}
 use Rattle.region_swap.specs.StandsFor.{Status, status_of, wants_of}
 use Rattle.region_swap.specs.Swapped.{frames_in, swapped}
-use Rattle.swap_run.specs.Shown.{Read, Shown, HasCaughtUp, WereGiven, IsIn, IsDone, IsBehindAll, IsWanted, begun_in, finished_in}
+use Rattle.swap_run.specs.Shown.{Read, Shown, HasCaughtUp, WereGiven, IsIn, IsDone, IsBehindAll, IsWanted, begun_in}
+use Rattle.swap_run.specs.Shown.{finished_in}
 use Rattle.swap_run.specs.Shown as shown
-use Rattle.swap_run.specs.SwapRun.{packets_of, units_of, complete_of, slots_of, counted, WantBad, SwapsAll, HasNone, MeetsBad}
-use Rattle.swap_run.specs.SwapRun.{ReadsNoFurther, TakesNoFurther, HasLate, HasSwapped, WantsMore, AreWritten, MayWrite, ReadsAhead}
+use Rattle.swap_run.specs.SwapRun.{packets_of, units_of, complete_of, slots_of, counted, WantBad, SwapsAll, HasNone}
+use Rattle.swap_run.specs.SwapRun.{MeetsBad}
+use Rattle.swap_run.specs.SwapRun.{ReadsNoFurther, TakesNoFurther, HasLate, HasSwapped, WantsMore, AreWritten, MayWrite}
+use Rattle.swap_run.specs.SwapRun.{ReadsAhead}
 use Rattle.swap_run.specs.Steps.{step_in, step_of, wanted_in, input_reach, drained}
 use Rattle.swap_run.specs.declared.phase.Phase.{Phase}
 use Rattle.swap_run.specs.declared.phase.Phase.TheVariants as phase
@@ -58,7 +62,8 @@ use Rattle.swap_run.proofs.PacketLemmas.{file_continues, none_wanted, few_taken,
 use Rattle.swap_run.proofs.SendLemmas.{frames_append, more_packets, gave_complete, gave_all}
 use Rattle.swap_run.proofs.ShownLemmas.{of_in, in_records, in_packets, in_units, in_drains, in_rests, has_wanted}
 
-nothing_piped : (c : Config) (plp : ℕ) (input : List (List ℕ)) → pipe c.pid (remade_packets c (swapped c plp input []) ++ []) ≡ []
+nothing_piped : (c : Config) (plp : ℕ) (input : List (List ℕ))
+    → pipe c.pid (remade_packets c (swapped c plp input []) ++ []) ≡ []
 unfolding remade_packets units_in
 nothing_piped c plp input = refl
 
@@ -68,9 +73,11 @@ ran_same r f m u n a b d e =
     subst (λ (x : ℕ). r ≡ (let y : Ran = record { frames = x; muted = m; unsent = u; units = n } in y)) a
     (subst (λ (x : ℕ). r ≡ (let y : Ran = record { frames = r.frames; muted = x; unsent = u; units = n } in y)) b
     (subst (λ (x : ℕ). r ≡ (let y : Ran = record { frames = r.frames; muted = r.muted; unsent = x; units = n } in y)) d
-    (subst (λ (x : ℕ). r ≡ (let y : Ran = record { frames = r.frames; muted = r.muted; unsent = r.unsent; units = x } in y)) e refl)))
+    (subst (λ (x : ℕ). r ≡ (let y : Ran = record { frames = r.frames; muted = r.muted; unsent = r.unsent; units = x } in
+    y)) e refl)))
 
-module _ (front : DueFront) (follow : DueFollow) (law : CompleteLaw) (rises : CountRises) (slot : SlotLength) (c : Config) (plp : ℕ)
+module _ (front : DueFront) (follow : DueFollow) (law : CompleteLaw) (rises : CountRises) (slot : SlotLength)
+    (c : Config) (plp : ℕ)
     (m : SwapMachine) (events : List Event) (s : Shown c plp events m) (files : ℕ → List ℕ) (places : List ℕ)
     (are : AreFed 2 files places events) where
   abbrev r : Read
@@ -89,10 +96,12 @@ module _ (front : DueFront) (follow : DueFollow) (law : CompleteLaw) (rises : Co
   fed_input = are 1 (omega arith)
 
   cont : Continues r.told input
-  cont = file_continues (files 1) (slice_index places 1) (fed 1 events) (has_ended 1 events) fed_input r.told r.rest r.tail m.taken m.ended s.of_input
+  cont = file_continues (files 1) (slice_index places 1) (fed 1 events) (has_ended 1 events) fed_input
+      r.told r.rest r.tail m.taken m.ended s.of_input
 
   all_given : NoneComes m.feed → records_of c (files 0) ≡ r.given
-  all_given none = all_of front follow c m.feed (files 0) (slice_index places 0) (fed 0 events) (has_ended 0 events) r.given fed_t2mi
+  all_given none = all_of front follow c m.feed (files 0) (slice_index places 0) (fed 0 events) (has_ended 0 events)
+      r.given fed_t2mi
       (begun_in m.phase) s.of_feed none
 
   -- the records that are due begin with those that were given, the last one with a frame under way or not
@@ -108,7 +117,8 @@ module _ (front : DueFront) (follow : DueFollow) (law : CompleteLaw) (rises : Co
   behind_given : IsPrefix r.given (records_of c (files 0))
   behind_given =
       let due = given_first (begun_in m.phase) s.of_feed in
-      let all = front_due front c (has_ended 0 events) (files 0) (fed 0 events) fed_t2mi.more fed_t2mi.parts fed_t2mi.end in
+      let all = front_due front c (has_ended 0 events) (files 0) (fed 0 events) fed_t2mi.more fed_t2mi.parts
+      fed_t2mi.end in
       (due.0 ++ all.0, all.1 ∙ ap (λ (l : List FrameRecord). l ++ all.0) due.1 ∙ append_assoc r.given due.0 all.0)
 
   -- the record that waits is the next
@@ -118,32 +128,39 @@ module _ (front : DueFront) (follow : DueFollow) (law : CompleteLaw) (rises : Co
     parts : records_of c (files 0) ≡ r.given ++ next ∷ later
     number : next.number ≡ w.frame
 
-  follows : IsFedWith c m.feed (fed 0 events) (has_ended 0 events) r.given → (w : Waiting) → waiting_of m.feed ≡ Some w → Follows w
+  follows : IsFedWith c m.feed (fed 0 events) (has_ended 0 events) r.given → (w : Waiting) → waiting_of m.feed ≡ Some w
+      → Follows w
   follows of w waits = go d.later (subst (λ (o : Option Waiting). IsFirst o d.later) waits d.first)
-      (split.behind front follow c m.feed (files 0) (slice_index places 0) (fed 0 events) (has_ended 0 events) r.given fed_t2mi of)
+      (split.behind front follow c m.feed (files 0) (slice_index places 0) (fed 0 events) (has_ended 0 events)
+      r.given fed_t2mi of)
     where
       d : IsDue c m.feed (fed 0 events) (has_ended 0 events) r.given
       d = due_of c m.feed (fed 0 events) (has_ended 0 events) r.given of
 
       more : List FrameRecord
-      more = (front_due front c (has_ended 0 events) (files 0) (fed 0 events) fed_t2mi.more fed_t2mi.parts fed_t2mi.end).0
+      more = (front_due front c (has_ended 0 events) (files 0) (fed 0 events) fed_t2mi.more fed_t2mi.parts
+          fed_t2mi.end).0
 
-      go : (later : List FrameRecord) → IsFirst (Some w) later → records_of c (files 0) ≡ r.given ++ (later ++ more) → Follows w
+      go : (later : List FrameRecord) → IsFirst (Some w) later → records_of c (files 0) ≡ r.given ++ (later ++ more)
+          → Follows w
       go [] first is = absurd first
       go (x ∷ later) first is = record { next = x; later = later ++ more; parts = is; number = first.0 }
 
   unwanted : ¬ (WantBad c plp (files 1) r.given)
-  unwanted = none_wanted (files 1) (slice_index places 1) (fed 1 events) (has_ended 1 events) fed_input r.told r.rest r.tail m.taken m.ended s.of_input
+  unwanted = none_wanted (files 1) (slice_index places 1) (fed 1 events) (has_ended 1 events) fed_input
+      r.told r.rest r.tail m.taken m.ended s.of_input
       (slots_of c plp r.given) s.had
 
   few : length (r.told.packets ++ r.rest) ≤ length input
-  few = few_taken (files 1) (slice_index places 1) (fed 1 events) (has_ended 1 events) fed_input r.told r.rest r.tail m.taken m.ended s.of_input
+  few = few_taken (files 1) (slice_index places 1) (fed 1 events) (has_ended 1 events) fed_input r.told
+      r.rest r.tail m.taken m.ended s.of_input
 
   -- the complete units of the frames were given
   complete : HasCaughtUp c plp m.swapper r.told frames m.ran.units → (status_of m.swapper).finished ≡ false
       → gave events ≡ joined (complete_of c plp files r.given)
   complete caught going =
-      gave_complete law c plp m.swapper r.told _ frames m.ran.units (gave events) input cont going (caught.complete input cont) s.sends
+      gave_complete law c plp m.swapper r.told _ frames m.ran.units (gave events) input cont going
+      (caught.complete input cont) s.sends
 
   finished_is : (p : Phase) → m.phase ≡ p → (status_of m.swapper).finished ≡ finished_in p
   finished_is p e = ap (λ (x : Status). x.finished) s.status ∙ ap finished_in e
@@ -163,7 +180,8 @@ module _ (front : DueFront) (follow : DueFollow) (law : CompleteLaw) (rises : Co
   slots_told b over whole = bool_cases r.told.ended on off
     where
       total : length input ≡ length (r.told.packets ++ r.rest)
-      total = ap length (all_taken (files 1) (slice_index places 1) (fed 1 events) (has_ended 1 events) fed_input r.told r.rest r.tail m.taken
+      total = ap length (all_taken (files 1) (slice_index places 1) (fed 1 events) (has_ended 1 events)
+          fed_input r.told r.rest r.tail m.taken
           m.ended s.of_input over whole)
 
       on : r.told.ended ≡ true → m.ran.unsent ≡ length input - slots_of c plp r.given
@@ -202,12 +220,17 @@ module _ (front : DueFront) (follow : DueFollow) (law : CompleteLaw) (rises : Co
       record {
         some = behind_some i.behind;
         early = subst AreEarly (sym all) (early_below (behind_above i.behind));
-        whole = nothing_bad (files 1) (slice_index places 1) (fed 1 events) (has_ended 1 events) fed_input r.told r.rest r.tail m.taken m.ended
+        whole = nothing_bad (files 1) (slice_index places 1) (fed 1 events) (has_ended 1 events) fed_input
+            r.told r.rest r.tail m.taken m.ended
             s.of_input i.over i.whole;
-        output = gave_all c plp m.swapper r.told _ frames m.ran.units (gave events) input cont (i.all input cont) s.sends ∙ ap joined (sym units);
-        ran_is = subst (λ (l : List FrameRecord). m.ran ≡ counted c plp l input (length (units_of c plp files))) (sym all)
-            (ran_same m.ran (length frames) (length r.given - length frames) (length input - slots_of c plp r.given) (length (units_of c plp files))
-            frames_is (omega (arith, frames_is, muted_is)) (slots_told i.behind i.over i.whole) (sym (i.all input cont) ∙ ap length (sym units)));
+        output = gave_all c plp m.swapper r.told _ frames m.ran.units (gave events) input cont (i.all input cont)
+            s.sends ∙ ap joined (sym units);
+        ran_is = subst (λ (l : List FrameRecord). m.ran ≡ counted c plp l input (length (units_of c plp files)))
+            (sym all)
+            (ran_same m.ran (length frames) (length r.given - length frames) (length input - slots_of c plp r.given)
+            (length (units_of c plp files))
+            frames_is (omega (arith, frames_is, muted_is)) (slots_told i.behind i.over i.whole) (sym (i.all input cont)
+            ∙ ap length (sym units)));
       }
 
   -- ---- it stopped
@@ -218,7 +241,8 @@ module _ (front : DueFront) (follow : DueFollow) (law : CompleteLaw) (rises : Co
       let p = s.sends.front input cont [] (λ _. refl) in
       let empty : frames ≡ [] = ap (frames_in c) i.nothing in
       let nothing : s.sends.units ++ p.0 ≡ [] =
-      sym p.1 ∙ ap (λ (l : List NumberedView). pipe c.pid (remade_packets c (swapped c plp input l) ++ [])) empty ∙ nothing_piped c plp input in
+      sym p.1 ∙ ap (λ (l : List NumberedView). pipe c.pid (remade_packets c (swapped c plp input l) ++ [])) empty
+      ∙ nothing_piped c plp input in
       record {
         none = all_given i.none ∙ i.nothing;
         empty = s.sends.gave_is ∙ ap joined (none_of s.sends.units p.0 nothing);
@@ -229,14 +253,16 @@ module _ (front : DueFront) (follow : DueFollow) (law : CompleteLaw) (rises : Co
       none_of (x ∷ xs) ys is = absurd (let n = ap length is in omega (arith, n))
 
   -- the next frame wants so many packets
-  module _ (of : IsFedWith c m.feed (fed 0 events) (has_ended 0 events) r.given) (w : Waiting) (waits : waiting_of m.feed ≡ Some w)
+  module _ (of : IsFedWith c m.feed (fed 0 events) (has_ended 0 events) r.given) (w : Waiting)
+      (waits : waiting_of m.feed ≡ Some w)
       (early : w.frame < MOST_FRAMES) (behind : m.number ≤ w.frame) where
     early_next : AreEarly (r.given ++ take 1 ((follows of w waits).next ∷ (follows of w waits).later))
     early_next =
         let f = follows of w waits in
         let above = waits_above follow c m.feed (fed 0 events) (has_ended 0 events) r.given of w waits in
         let number = f.number in
-        below_append MOST_FRAMES r.given (f.next ∷ []) (early_below (omega (arith, above, early))) (omega (arith, number, early), tt)
+        below_append MOST_FRAMES r.given (f.next ∷ []) (early_below (omega (arith, above, early)))
+        (omega (arith, number, early), tt)
 
     some_next : records_of c (files 0) ≢ []
     some_next none =
@@ -244,15 +270,18 @@ module _ (front : DueFront) (follow : DueFollow) (law : CompleteLaw) (rises : Co
         let n = ap length (sym f.parts ∙ none) in
         absurd (omega (arith, n, length-append r.given (f.next ∷ f.later)))
 
-    slots_next : slots_by c plp (m.number * c.ticks) ≤ slots_of c plp (r.given ++ take 1 ((follows of w waits).next ∷ (follows of w waits).later))
+    slots_next : slots_by c plp (m.number * c.ticks) ≤ slots_of c plp
+        (r.given ++ take 1 ((follows of w waits).next ∷ (follows of w waits).later))
     slots_next =
         let f = follows of w waits in
         let number = f.number in
         let above = above_append r.given (f.next ∷ []) in
-        slots_rise rises slot c plp m.number (above_all (r.given ++ f.next ∷ []) - 1) s.base.rules s.base.place (omega (arith, above, number, behind))
+        slots_rise rises slot c plp m.number (above_all (r.given ++ f.next ∷ []) - 1) s.base.rules s.base.place
+        (omega (arith, above, number, behind))
 
   -- by fewer bytes of the first file than were taken, no record is due but those that were given
-  takes_no_further : IsFedWith c m.feed (fed 0 events) (has_ended 0 events) r.given → slice_index places 0 ≤ feed.fed_of m.feed + read_ahead
+  takes_no_further : IsFedWith c m.feed (fed 0 events) (has_ended 0 events) r.given
+      → slice_index places 0 ≤ feed.fed_of m.feed + read_ahead
       → TakesNoFurther c places files r.given
   takes_no_further of near taken lt =
       let count = of.stands.count in
@@ -260,7 +289,8 @@ module _ (front : DueFront) (follow : DueFollow) (law : CompleteLaw) (rises : Co
       let same : take taken (files 0) ≡ take taken (fed 0 events) =
       ap (take taken) fed_t2mi.parts ∙ take-append-le taken (fed 0 events) fed_t2mi.more (omega (arith, inside)) in
       subst (λ (l : List ℕ). IsPrefix (records_due c false l) r.given) (sym same)
-      (subst (λ (k : Config). IsPrefix (records_due k false (take taken (fed 0 events))) r.given) of.network (of.stands.front taken inside))
+      (subst (λ (k : Config). IsPrefix (records_due k false (take taken (fed 0 events))) r.given) of.network
+      (of.stands.front taken inside))
 
   pub has_late : slice_index places 0 ≤ feed.fed_of m.feed + read_ahead → slice_index places 1 ≤ input_reach m
       → m.phase ≡ phase.Stopped TooManyFrames → (has : HasLate c plp files (gave events))
@@ -289,7 +319,8 @@ module _ (front : DueFront) (follow : DueFollow) (law : CompleteLaw) (rises : Co
         takes_no_further of close,
       )
 
-  pub meets_bad : slice_index places 0 ≤ feed.fed_of m.feed + read_ahead → slice_index places 1 ≤ input_reach m → (n : ℕ)
+  pub meets_bad : slice_index places 0 ≤ feed.fed_of m.feed + read_ahead → slice_index places 1 ≤ input_reach m
+      → (n : ℕ)
       → m.phase ≡ phase.Stopped (InputRefused n)
       → (meets : MeetsBad c plp files n (gave events)) × ReadsNoFurther c plp places meets.before meets.after
       × TakesNoFurther c places files meets.before
@@ -302,10 +333,12 @@ module _ (front : DueFront) (follow : DueFollow) (law : CompleteLaw) (rises : Co
       of = of_in c plp events m s (phase.Stopped (InputRefused n)) e
 
       next : NextIsBad (files 1) (r.told.packets ++ r.rest)
-      next = bad_next (files 1) (slice_index places 1) (fed 1 events) (has_ended 1 events) fed_input r.told r.rest r.tail m.taken m.ended s.of_input
+      next = bad_next (files 1) (slice_index places 1) (fed 1 events) (has_ended 1 events) fed_input
+          r.told r.rest r.tail m.taken m.ended s.of_input
           i.some i.bad i.cut
 
-      go : IsWanted c plp m.feed m.number m.draining r.told.packets r.rest ⊎ IsBehindAll c plp m.feed m.number r.given r.told.packets
+      go : IsWanted c plp m.feed m.number m.draining r.told.packets r.rest
+          ⊎ IsBehindAll c plp m.feed m.number r.given r.told.packets
           → (meets : MeetsBad c plp files n (gave events)) × ReadsNoFurther c plp places meets.before meets.after
           × TakesNoFurther c places files meets.before
       go (inl w) =
@@ -350,8 +383,10 @@ module _ (front : DueFront) (follow : DueFollow) (law : CompleteLaw) (rises : Co
 
   -- ---- an input is to be read on
 
-  pub has_swapped : slice_index places 1 ≤ input_reach m → (taken : ℕ) → m.phase ≡ phase.Records → waiting_of m.feed ≡ None
-      → feed.has_ended m.feed ≡ false → taken ≡ length (fed 0 events) → HasSwapped c plp places taken files (gave events)
+  pub has_swapped : slice_index places 1 ≤ input_reach m → (taken : ℕ) → m.phase ≡ phase.Records
+      → waiting_of m.feed ≡ None
+      → feed.has_ended m.feed ≡ false → taken ≡ length (fed 0 events)
+      → HasSwapped c plp places taken files (gave events)
   has_swapped near taken e none going is =
       let i = in_records c plp events m s e in
       let next = i.next in
@@ -361,15 +396,19 @@ module _ (front : DueFront) (follow : DueFollow) (law : CompleteLaw) (rises : Co
       record {
         early = subst AreEarly (sym due_is) (early_below (omega (arith, next, early)));
         unwanted = subst (λ (l : List FrameRecord). ¬ (WantBad c plp (files 1) l)) (sym due_is) unwanted;
-        no_further = subst (λ (l : List FrameRecord). slice_index places 1 ≤ SIZE * slots_of c plp l) (sym due_is) (omega (arith, read, slots));
-        output = complete i.caught (finished_is phase.Records e) ∙ ap (λ (l : List FrameRecord). joined (complete_of c plp files l)) (sym due_is);
+        no_further = subst (λ (l : List FrameRecord). slice_index places 1 ≤ SIZE * slots_of c plp l)
+            (sym due_is) (omega (arith, read, slots));
+        output = complete i.caught (finished_is phase.Records e)
+            ∙ ap (λ (l : List FrameRecord). joined (complete_of c plp files l)) (sym due_is);
       }
     where
       due_is : records_due c false (take taken (files 0)) ≡ r.given
       due_is =
           ap (λ (k : ℕ). records_due c false (take k (files 0))) is
-          ∙ ap (records_due c false) (ap (take (length (fed 0 events))) fed_t2mi.parts ∙ take_at (fed 0 events) fed_t2mi.more (length (fed 0 events)) refl)
-          ∙ due_given c m.feed (fed 0 events) (has_ended 0 events) r.given none going (of_in c plp events m s phase.Records e)
+          ∙ ap (records_due c false) (ap (take (length (fed 0 events))) fed_t2mi.parts
+          ∙ take_at (fed 0 events) fed_t2mi.more (length (fed 0 events)) refl)
+          ∙ due_given c m.feed (fed 0 events) (has_ended 0 events) r.given none going
+          (of_in c plp events m s phase.Records e)
 
   -- the frames of the records that were given want no more than was read
   had_read : (place : ℕ) → r.told.ended ≡ false → SIZE * m.taken ≤ place → SIZE * slots_of c plp r.given ≤ place
@@ -379,7 +418,8 @@ module _ (front : DueFront) (follow : DueFollow) (law : CompleteLaw) (rises : Co
       let sum = length-append r.told.packets r.rest in
       omega (arith, had, count, sum, read)
 
-  pub wants_packets : slice_index places 0 ≤ feed.fed_of m.feed + read_ahead → slice_index places 1 ≤ input_reach m → (place : ℕ) → (e : m.phase ≡ phase.Packets) → 0 < wants_of m.swapper
+  pub wants_packets : slice_index places 0 ≤ feed.fed_of m.feed + read_ahead → slice_index places 1 ≤ input_reach m
+      → (place : ℕ) → (e : m.phase ≡ phase.Packets) → 0 < wants_of m.swapper
       → SIZE * m.taken ≤ place → place < SIZE * (m.taken + 1) → WantsMore c plp places place files (gave events)
   wants_packets at reach place e some read near =
       let i = in_packets c plp events m s e in
@@ -408,7 +448,8 @@ module _ (front : DueFront) (follow : DueFollow) (law : CompleteLaw) (rises : Co
         output = complete i.caught (finished_is phase.Packets e);
       }
 
-  pub wants_rest : slice_index places 0 ≤ feed.fed_of m.feed + read_ahead → (place : ℕ) → (e : m.phase ≡ phase.Drains) → m.ended ≡ false → SIZE * m.taken ≤ place → place < SIZE * (m.taken + 1)
+  pub wants_rest : slice_index places 0 ≤ feed.fed_of m.feed + read_ahead → (place : ℕ) → (e : m.phase ≡ phase.Drains)
+      → m.ended ≡ false → SIZE * m.taken ≤ place → place < SIZE * (m.taken + 1)
       → WantsMore c plp places place files (gave events)
   wants_rest at place e going read near =
       let i = in_drains c plp events m s e in
@@ -447,7 +488,8 @@ module _ (front : DueFront) (follow : DueFollow) (law : CompleteLaw) (rises : Co
       by (phase.Stopped TooManyFrames) e i = let n = i.next in let e = s.bound.early in omega (arith, n, e)
       by (phase.Stopped (InputRefused n)) e i = met i.met
         where
-          met : IsWanted c plp m.feed m.number m.draining r.told.packets r.rest ⊎ IsBehindAll c plp m.feed m.number r.given r.told.packets
+          met : IsWanted c plp m.feed m.number m.draining r.told.packets r.rest
+              ⊎ IsBehindAll c plp m.feed m.number r.given r.told.packets
               → above_all r.given ≤ MOST_FRAMES
           met (inl w) =
               let a = waits_above follow c m.feed (fed 0 events) (has_ended 0 events) r.given
@@ -488,7 +530,8 @@ module _ (front : DueFront) (follow : DueFollow) (law : CompleteLaw) (rises : Co
           let all = all_given o.none in
           let p = s.sends.front input cont [] (λ _. refl) in
           let units : s.sends.units ++ p.0 ≡ units_of c plp files =
-          sym p.1 ∙ ap (pipe c.pid) (append-nil packets) ∙ ap (λ (l : List FrameRecord). pipe c.pid (packets_of c plp input l)) (sym all) in (
+          sym p.1 ∙ ap (pipe c.pid) (append-nil packets)
+          ∙ ap (λ (l : List FrameRecord). pipe c.pid (packets_of c plp input l)) (sym all) in (
             joined p.0,
             record {
               before = r.given;
@@ -498,7 +541,8 @@ module _ (front : DueFront) (follow : DueFollow) (law : CompleteLaw) (rises : Co
               unwanted = unwanted;
               output = inr (
                 refl,
-                nothing_bad (files 1) (slice_index places 1) (fed 1 events) (has_ended 1 events) fed_input r.told r.rest r.tail m.taken m.ended
+                nothing_bad (files 1) (slice_index places 1) (fed 1 events) (has_ended 1 events) fed_input
+                    r.told r.rest r.tail m.taken m.ended
                     s.of_input o.over o.whole,
                 gave_more p.0 ∙ ap joined units,
               );
@@ -511,7 +555,8 @@ module _ (front : DueFront) (follow : DueFollow) (law : CompleteLaw) (rises : Co
           let l = law c.pid packets [] in
           let count = s.sends.count_is in
           let whole = s.sends.whole off input cont in
-          let f = shorter_front s.sends.units (complete_units c.pid packets) p.0 l.rest (sym p.1 ∙ l.units) (omega (arith, count, whole)) in (
+          let f = shorter_front s.sends.units (complete_units c.pid packets) p.0 l.rest (sym p.1 ∙ l.units)
+          (omega (arith, count, whole)) in (
             joined f.0,
             record {
               before = r.given;
@@ -535,7 +580,8 @@ module _ (front : DueFront) (follow : DueFollow) (law : CompleteLaw) (rises : Co
       let more = more_packets c plp input (frames_in c records) (frames_in c u.0) in
       let sent_as : packets_of c plp input sent ≡ few ++ more.0 =
       ap (packets_of c plp input) u.1
-      ∙ ap (λ (l : List NumberedView). remade_packets c (swapped c plp input l)) (frames_append c records u.0) ∙ more.1 in
+      ∙ ap (λ (l : List NumberedView). remade_packets c (swapped c plp input l)) (frames_append c records u.0)
+      ∙ more.1 in
       let behind = more_packets c plp input (frames_in c sent) (frames_in c rest) in
       let packets : packets_of c plp input r.given ≡ (few ++ more.0) ++ behind.0 =
       ap (packets_of c plp input) given_as
@@ -543,7 +589,8 @@ module _ (front : DueFront) (follow : DueFollow) (law : CompleteLaw) (rises : Co
       ∙ ap (λ (l : List (List ℕ)). l ++ behind.0) sent_as in
       let p = s.sends.front input cont [] (λ _. refl) in
       let count = s.sends.count_is in
-      let done = subst (λ (l : List (List ℕ)). length (complete_units c.pid l) ≤ m.ran.units) sent_as (given_all input cont) in
+      let done = subst (λ (l : List (List ℕ)). length (complete_units c.pid l) ≤ m.ran.units) sent_as
+      (given_all input cont) in
       let f = given_front law c.pid few more.0 behind.0 s.sends.units p.0 (omega (arith, done, count))
       (ap (pipe c.pid) (sym packets ∙ sym (append-nil (packets_of c plp input r.given))) ∙ p.1) in
       let above = above_append records (u.0 ++ rest) in
@@ -557,17 +604,20 @@ module _ (front : DueFront) (follow : DueFollow) (law : CompleteLaw) (rises : Co
       early_of : (xs : List FrameRecord) → above_all xs ≤ MOST_FRAMES → AreEarly xs
       early_of xs le = below_of MOST_FRAMES xs le
 
-  pub since : (taken : ℕ) → taken < length (fed 0 events) → AreWritten c plp files (gave events) (records_due c false (take taken (files 0)))
+  pub since : (taken : ℕ) → taken < length (fed 0 events) → AreWritten c plp files (gave events)
+      (records_due c false (take taken (files 0)))
   since taken lt =
       let same : take taken (files 0) ≡ take taken (fed 0 events) =
       ap (take taken) fed_t2mi.parts ∙ take-append-le taken (fed 0 events) fed_t2mi.more (omega (arith, lt)) in
       subst (λ (l : List ℕ). AreWritten c plp files (gave events) (records_due c false l)) (sym same)
-      (written_front s.live.sent s.live.part.0 s.live.part.1 s.live.done (records_due c false (take taken (fed 0 events))) (s.live.due taken lt))
+      (written_front s.live.sent s.live.part.0 s.live.part.1 s.live.done
+      (records_due c false (take taken (fed 0 events))) (s.live.due taken lt))
 
   -- ---- and how far the other
 
   -- these are all before the one whose frame is under way
-  written_before : (before rest : List FrameRecord) → r.given ≡ before ++ rest → WereGiven c plp r.told before m.ran.units
+  written_before : (before rest : List FrameRecord) → r.given ≡ before ++ rest
+      → WereGiven c plp r.told before m.ran.units
       → AreWritten c plp files (gave events) before
   written_before before rest parts done = written_front before rest parts done before ([], sym (append-nil before))
 
@@ -581,7 +631,8 @@ module _ (front : DueFront) (follow : DueFollow) (law : CompleteLaw) (rises : Co
   slots_more : (xs ys : List FrameRecord) → slots_of c plp xs ≤ slots_of c plp (xs ++ ys)
   slots_more xs ys =
       let above = above_append xs ys in
-      slots_rise rises slot c plp (above_all xs - 1) (above_all (xs ++ ys) - 1) s.base.rules s.base.place (omega (arith, above))
+      slots_rise rises slot c plp (above_all xs - 1) (above_all (xs ++ ys) - 1) s.base.rules s.base.place
+      (omega (arith, above))
 
   pub ahead : slice_index places 1 ≤ input_reach m → step_of m ≡ Give → ReadsAhead c plp places files (gave events)
   ahead near gives = by m.phase refl gives
@@ -629,7 +680,8 @@ module _ (front : DueFront) (follow : DueFollow) (law : CompleteLaw) (rises : Co
           let i = in_units c plp events m s e in
           let read = read_to near i.quiet.calm phase.Units e in
           let next = i.next in
-          let slots = slots_rise rises slot c plp m.number (above_all r.given - 1) s.base.rules s.base.place (omega (arith, next)) in
+          let slots = slots_rise rises slot c plp m.number (above_all r.given - 1) s.base.rules s.base.place
+          (omega (arith, next)) in
           let same = ap (slots_of c plp) i.parts in
           record {
             before = i.before;

@@ -1,12 +1,14 @@
 -- A feed and a swapper go on: from record to record, from frame to frame, from unit to unit.
-use Rattle.std.proofs.Common.{◌≡◌, ◌≢◌, ℕ, ◌+◌, ◌-◌, ◌*◌, ◌^◌, ◌<◌, ◌≤◌, Bool, true, false, List, [], ◌∷◌, ◌++◌, drop, length}
+use Rattle.std.proofs.Common.{◌≡◌, ◌≢◌, ℕ, ◌+◌, ◌-◌, ◌*◌, ◌^◌, ◌<◌, ◌≤◌, Bool, true, false, List, [], ◌∷◌, ◌++◌, drop}
+use Rattle.std.proofs.Common.{length}
 use Rattle.std.proofs.Common.{Option, Some, None, refl, ap, ap₂, sym, subst, ◌∙◌, arith, append-nil, length-append}
 use Rattle.std.specs.Prelude.{slice_get, nat_lt, slice_set}
 use Rattle.std.specs.List.{AllByRecursion}
 use Rattle.std.proofs.Math.Nat.{mul-le-mul_right}
 use Rattle.std.proofs.lemmas.Bool.{true≢false, lt-ltb}
+use Rattle.std.proofs.lemmas.Option.{same_Some}
 use Rattle.terms.proofs.ListLemmas.{drop_some}
-use Rattle.terms.proofs.OptionLemmas.{some_injective, none_some}
+use Rattle.terms.proofs.OptionLemmas.{none_some}
 use Rattle.gateway_core.proofs.InputsLemmas.{cont_next}
 use Rattle.plp_config.specs.Capacity.{IsPlan}
 use Rattle.plp_config.specs.Laws.{CountRises, SlotLength, FieldRange}
@@ -31,7 +33,7 @@ use Rattle.frame_writer.specs.Signalling.{pre_part, conf_part}
 use Rattle.frame_writer.specs.declared.frame.PoolFrame.{PoolFrame}
 use Rattle.stream_laws.specs.Formed.{IsFormed}
 use Rattle.stream_laws.specs.FormedLaws.{FramesAreFormed, IsFormedRecord}
-use Rattle.stream_laws.specs.Remade.{NumberedView, remade_packets, view_bodies}
+use Rattle.stream_laws.specs.Remade.{NumberedView, remade_packets, view_bodies, numbered}
 use Rattle.frame_writer.specs.Flowing.{packet_bound}
 use Rattle.file_run.specs.Events.{Event, fed, has_ended, gave}
 use Rattle.feed_merge.specs.Frames.{IsFrameOf, dynamic_of, lists_of}
@@ -48,9 +50,10 @@ use Rattle.feed_merge.proofs.NumberLemmas.{above_append}
 use Rattle.record_laws.specs.Laws.{ToldCountsFit}
 use Rattle.region_swap.specs.Held.{IsHeld, HasRecord}
 use Rattle.region_swap.specs.Left.{left_by, own_list}
-use Rattle.region_swap.specs.StandsFor.{SwapperStandsFor, GivesUnits, Status, status_of, wants_of, frame_of, has_unit, is_fed}
+use Rattle.region_swap.specs.StandsFor.{SwapperStandsFor, GivesUnits, Status, status_of, wants_of, frame_of, has_unit}
+use Rattle.region_swap.specs.StandsFor.{is_fed}
 use Rattle.region_swap.specs.StandsFor.{left_in, left_for, bytes_left}
-use Rattle.region_swap.specs.Swapped.{numbered, frame_in, frames_in, swapped, swapped_view}
+use Rattle.region_swap.specs.Swapped.{frame_in, frames_in, swapped, swapped_view}
 use Rattle.region_swap.specs.declared.swapper.Swapper.{Swapper}
 use Rattle.swap_run.specs.Shown.{ReadsPackets, Sends, HasCaughtUp, Read, IsIn, ShownAt, Shown, IsBound}
 use Rattle.swap_run.specs.Shown.{begun_in, left_at, more_units, next_in, status_in, frame_bytes}
@@ -62,7 +65,8 @@ use Rattle.swap_run.specs.declared.machine.SwapMachine.{SwapMachine}
 use Rattle.swap_run.proofs.BoundLemmas.{idle_left, few_swapped}
 use Rattle.swap_run.proofs.PacketLemmas.{reads_same}
 use Rattle.swap_run.proofs.SendLemmas.{frames_push, sends_told, caught_told, sends_begun, sends_units, sends_over}
-use Rattle.swap_run.proofs.ShownLemmas.{Same, feed_same, bound_as, in_records, in_packets, in_units, in_drains, in_rests, all_there}
+use Rattle.swap_run.proofs.ShownLemmas.{Same, feed_same, bound_as, in_records, in_packets, in_units, in_drains}
+use Rattle.swap_run.proofs.ShownLemmas.{in_rests, all_there}
 use Rattle.swap_run.proofs.ShownLemmas.{feed_network, of_in, sends_in, status_at, bound_at}
 use Rattle.swap_run.proofs.LiveLemmas.{live_on, live_push}
 
@@ -77,10 +81,12 @@ slots_rise rises slot c plp a b plan lt le =
 left_same : (s : Swapper) (f : FrameFeed) (frame : PoolFrame) → IsFrameOf f frame → feed.config_of f ≡ s.plan.now
     → left_in s frame ≡ left_for s (lists_of f)
 left_same s f frame is network =
-    let lists : List (List (List ℕ)) → List (List (List ℕ)) = λ l. slice_set l s.list (own_list s.region.sends s.region.blocks s.list) in
+    let lists : List (List (List ℕ)) → List (List (List ℕ)) = λ l. slice_set l s.list
+    (own_list s.region.sends s.region.blocks s.list) in
     ap₂ (λ (x y : List Bool). left_by s.plan.now s.place x y s.dynamic.bits (lists frame.blocks.now.lists))
     (is.pre ∙ ap pre_part network) (is.conf ∙ ap conf_part network)
-    ∙ ap (λ (l : List (List (List ℕ))). left_by s.plan.now s.place (pre_part s.plan.now) (conf_part s.plan.now) s.dynamic.bits (lists l)) is.lists
+    ∙ ap (λ (l : List (List (List ℕ))). left_by s.plan.now s.place (pre_part s.plan.now) (conf_part s.plan.now)
+    s.dynamic.bits (lists l)) is.lists
 
 -- a swapper goes on to the next frame
 pub record Passes (p q : Swapper) : Type 0 where
@@ -121,15 +127,18 @@ module _ (c : Config) (plp : ℕ) (events : List Event) (m : SwapMachine) (s : S
   }
 
   -- a record waits that may have its number
-  pub shown_met : DueFollow → CountRises → SlotLength → m.phase ≡ phase.Records → (w : Waiting) → waiting_of m.feed ≡ Some w → w.frame < MOST_FRAMES
+  pub shown_met : DueFollow → CountRises → SlotLength → m.phase ≡ phase.Records → (w : Waiting)
+      → waiting_of m.feed ≡ Some w → w.frame < MOST_FRAMES
       → Shown c plp events (record m { phase = phase.Packets })
   shown_met follow rises slot e w waits early =
       let i = in_records c plp events m s e in
       let above = waits_above follow c m.feed _ _ r.given (of_in c plp events m s phase.Records e) w waits in
       let next = i.next in
       let few = i.few in
-      let up = slots_rise rises slot c plp (above_all r.given - 1) m.number s.base.rules s.base.place (omega (arith, next)) in
-      shown_phase phase.Packets m.draining (of_in c plp events m s phase.Records e) (sends_in c plp events m s phase.Records e)
+      let up = slots_rise rises slot c plp (above_all r.given - 1) m.number s.base.rules s.base.place
+      (omega (arith, next)) in
+      shown_phase phase.Packets m.draining (of_in c plp events m s phase.Records e)
+      (sends_in c plp events m s phase.Records e)
       (status_at c plp events m s phase.Records e) (bound_at c plp events m s phase.Records e) (record {
         caught = i.caught;
         waiting = w;
@@ -146,9 +155,11 @@ module _ (c : Config) (plp : ℕ) (events : List Event) (m : SwapMachine) (s : S
       → Shown c plp events (record m { phase = phase.Stopped TooManyFrames })
   shown_late e w waits late =
       let i = in_records c plp events m s e in
-      shown_phase (phase.Stopped TooManyFrames) m.draining (of_in c plp events m s phase.Records e) (sends_in c plp events m s phase.Records e)
+      shown_phase (phase.Stopped TooManyFrames) m.draining (of_in c plp events m s phase.Records e)
+      (sends_in c plp events m s phase.Records e)
       (status_at c plp events m s phase.Records e)
-      (bound_as m.number m.number m.ran.units 184 0 r.given (omega arith) (bound_at c plp events m s phase.Records e)) (record {
+      (bound_as m.number m.number m.ran.units 184 0 r.given (omega arith) (bound_at c plp events m s phase.Records e))
+      (record {
         caught = i.caught;
         waiting = w;
         waits = waits;
@@ -166,16 +177,20 @@ module _ (c : Config) (plp : ℕ) (events : List Event) (m : SwapMachine) (s : S
       go (x ∷ xs) e = absurd (true≢false (sym (lt-ltb 0 (length (x ∷ xs)) (omega arith)) ∙ e))
 
   some_given : m.joined ≡ true → r.given ≢ []
-  some_given on e = absurd (true≢false (sym on ∙ s.counted.joined_is ∙ ap (λ (l : List FrameRecord). nat_lt 0 (length l)) e))
+  some_given on e = absurd (true≢false (sym on ∙ s.counted.joined_is
+      ∙ ap (λ (l : List FrameRecord). nat_lt 0 (length l)) e))
 
-  pub shown_nothing : m.phase ≡ phase.Records → waiting_of m.feed ≡ None → feed.has_ended m.feed ≡ true → m.joined ≡ false
+  pub shown_nothing : m.phase ≡ phase.Records → waiting_of m.feed ≡ None → feed.has_ended m.feed ≡ true
+      → m.joined ≡ false
       → Shown c plp events (record m { phase = phase.Stopped NoSuperframe })
   shown_nothing e none over off =
       let i = in_records c plp events m s e in
       let empty = none_given off in
-      shown_phase (phase.Stopped NoSuperframe) m.draining (of_in c plp events m s phase.Records e) (sends_in c plp events m s phase.Records e)
+      shown_phase (phase.Stopped NoSuperframe) m.draining (of_in c plp events m s phase.Records e)
+      (sends_in c plp events m s phase.Records e)
       (status_at c plp events m s phase.Records e)
-      (bound_as m.number m.number m.ran.units 184 0 r.given (omega arith) (bound_at c plp events m s phase.Records e)) (record {
+      (bound_as m.number m.number m.ran.units 184 0 r.given (omega arith) (bound_at c plp events m s phase.Records e))
+      (record {
         none = record { none = none; ended = over };
         nothing = empty;
         first = i.next ∙ ap above_all empty;
@@ -189,7 +204,12 @@ module _ (c : Config) (plp : ℕ) (events : List Event) (m : SwapMachine) (s : S
       shown_phase phase.Drains true (of_in c plp events m s phase.Records e) (sends_in c plp events m s phase.Records e)
       (status_at c plp events m s phase.Records e) (bound_at c plp events m s phase.Records e) (record {
         caught = i.caught;
-        behind = record { none = record { none = none; ended = over }; some = some_given on; next = i.next; few = i.few };
+        behind = record {
+          none = record { none = none; ended = over };
+          some = some_given on;
+          next = i.next;
+          few = i.few;
+        };
         whole = i.quiet.tail_is;
         drains = refl;
       })
@@ -204,13 +224,15 @@ module _ (c : Config) (plp : ℕ) (events : List Event) (m : SwapMachine) (s : S
   back input cont = cont_next r.told input cont
 
   -- the number of the record that waits
-  same_frame : (e : m.phase ≡ phase.Packets) (w : Waiting) → waiting_of m.feed ≡ Some w → w.frame ≡ (in_packets c plp events m s e).waiting.frame
+  same_frame : (e : m.phase ≡ phase.Packets) (w : Waiting) → waiting_of m.feed ≡ Some w
+      → w.frame ≡ (in_packets c plp events m s e).waiting.frame
   same_frame e w waits =
       let i = in_packets c plp events m s e in
-      ap (λ (x : Waiting). x.frame) (some_injective w i.waiting (sym waits ∙ i.waits))
+      ap (λ (x : Waiting). x.frame) (same_Some w i.waiting (sym waits ∙ i.waits))
 
   -- one that has no record
-  pub shown_pass : CountRises → SlotLength → (q : Swapper) (w : Waiting) → m.phase ≡ phase.Packets → waiting_of m.feed ≡ Some w → m.number < w.frame
+  pub shown_pass : CountRises → SlotLength → (q : Swapper) (w : Waiting) → m.phase ≡ phase.Packets
+      → waiting_of m.feed ≡ Some w → m.number < w.frame
       → Passes m.swapper q → Shown c plp events (record m { swapper = q; number = m.number + 1 })
   shown_pass rises slot q w e waits less n =
       let i = in_packets c plp events m s e in
@@ -230,11 +252,18 @@ module _ (c : Config) (plp : ℕ) (events : List Event) (m : SwapMachine) (s : S
         of_input = read_next s.of_input;
         frame = ap (λ (n : ℕ). n + 1) s.frame;
         had = s.had;
-        sends = sends_told c plp m.swapper q r.told (in_next r.told) [] [] frames m.ran.units (gave events) (gave events) refl back
+        sends = sends_told c plp m.swapper q r.told (in_next r.told) [] [] frames m.ran.units (gave events)
+            (gave events) refl back
             (ap (λ (x : Status). x.finished) n.status) (n.stands c plp r.told [] frames m.ran.units sends.stands) sends;
-        status = n.status ∙ ap (λ (x : Status). record x { frame = x.frame + 1; begun = false }) (status_at c plp events m s phase.Packets e);
+        status = n.status ∙ ap (λ (x : Status). record x { frame = x.frame + 1; begun = false })
+            (status_at c plp events m s phase.Packets e);
         counted = s.counted;
-        bound = record { few = omega (arith, given); early = omega (arith, early, less, same); most = omega (arith, most) };
+        bound = record {
+          few = omega (arith, given);
+          early = omega (arith, early, less, same);
+          most =
+              omega (arith, most);
+        };
         live = live_on c plp _ _ r.told (in_next r.told) r.given m.ran.units m.ran.units refl back (omega arith) s.live;
         is_in = record {
           caught = caught_told c plp m.swapper q r.told (in_next r.told) frames m.ran.units back n.unit i.caught;
@@ -251,7 +280,8 @@ module _ (c : Config) (plp : ℕ) (events : List Event) (m : SwapMachine) (s : S
   -- ---- a record is taken
 
   -- the number behind it
-  above_push : (w : Waiting) (x : FrameRecord) → m.phase ≡ phase.Packets → waiting_of m.feed ≡ Some w → w.frame ≤ m.number → x.number ≡ w.frame
+  above_push : (w : Waiting) (x : FrameRecord) → m.phase ≡ phase.Packets → waiting_of m.feed ≡ Some w
+      → w.frame ≤ m.number → x.number ≡ w.frame
       → above_all (r.given ++ x ∷ []) ≡ m.number + 1
   above_push w x e waits here number =
       let i = in_packets c plp events m s e in
@@ -265,7 +295,8 @@ module _ (c : Config) (plp : ℕ) (events : List Event) (m : SwapMachine) (s : S
   slots_push x e = ap (λ (n : ℕ). slots_by c plp (n * c.ticks)) (omega (arith, e))
 
   -- of a muted frame
-  pub shown_skip : (g : FrameFeed) (q : Swapper) (w : Waiting) → m.phase ≡ phase.Packets → waiting_of m.feed ≡ Some w → w.frame ≤ m.number
+  pub shown_skip : (g : FrameFeed) (q : Swapper) (w : Waiting) → m.phase ≡ phase.Packets → waiting_of m.feed ≡ Some w
+      → w.frame ≤ m.number
       → (w.mute ≡ None → ⊥) → wants_of m.swapper ≡ 0 → feed.config_of g ≡ feed.config_of m.feed
       → ((given : List FrameRecord) → FrameFeedStandsFor m.feed (fed 0 events) (has_ended 0 events) given
       → Skipped m.feed g (fed 0 events) (has_ended 0 events) given) → Passes m.swapper q
@@ -279,7 +310,8 @@ module _ (c : Config) (plp : ℕ) (events : List Event) (m : SwapMachine) (s : S
       })
   shown_skip g q w e waits here mute none config skips n =
       let i = in_packets c plp events m s e in
-      let of : IsFedWith c m.feed (fed 0 events) (has_ended 0 events) r.given = of_in c plp events m s phase.Packets e in
+      let of : IsFedWith c m.feed (fed 0 events) (has_ended 0 events) r.given = of_in c plp events m
+      s phase.Packets e in
       let took = skips r.given of.stands in
       let x : FrameRecord = took.next in
       let first = subst (λ (o : Option Waiting). IsFirst o (x ∷ [])) waits took.waited in
@@ -304,21 +336,31 @@ module _ (c : Config) (plp : ℕ) (events : List Event) (m : SwapMachine) (s : S
         of_input = read_next s.of_input;
         frame = ap (λ (n : ℕ). n + 1) s.frame;
         had = λ off. let h = all_there c plp events m s none off in omega (arith, h, slots);
-        sends = subst (λ (l : List NumberedView). Sends c plp q (in_next r.told) [] l m.ran.units (gave events)) (sym same_frames)
-            (sends_told c plp m.swapper q r.told (in_next r.told) [] [] frames m.ran.units (gave events) (gave events) refl back
-            (ap (λ (y : Status). y.finished) n.status) (n.stands c plp r.told [] frames m.ran.units sends.stands) sends);
-        status = n.status ∙ ap (λ (y : Status). record y { frame = y.frame + 1; begun = false }) (status_at c plp events m s phase.Packets e);
+        sends = subst (λ (l : List NumberedView). Sends c plp q (in_next r.told) [] l m.ran.units (gave events))
+            (sym same_frames)
+            (sends_told c plp m.swapper q r.told (in_next r.told) [] [] frames m.ran.units (gave events)
+            (gave events) refl back
+            (ap (λ (y : Status). y.finished) n.status) (n.stands c plp r.told [] frames m.ran.units sends.stands)
+            sends);
+        status = n.status ∙ ap (λ (y : Status). record y { frame = y.frame + 1; begun = false })
+            (status_at c plp events m s phase.Packets e);
         counted = record {
           frames_is = s.counted.frames_is ∙ sym (ap length same_frames);
           muted_is = omega (arith, muted_count, longer);
           unsent_is = s.counted.unsent_is;
           joined_is = sym (lt-ltb 0 (length (r.given ++ x ∷ [])) (omega (arith, longer)));
         };
-        bound = record { few = omega (arith, given, longer); early = omega (arith, early, same, here); most = omega (arith, most) };
-        live = live_on c plp _ _ r.told (in_next r.told) (r.given ++ x ∷ []) m.ran.units m.ran.units refl back (omega arith)
+        bound = record {
+          few = omega (arith, given, longer);
+          early = omega (arith, early, same, here);
+          most = omega (arith, most);
+        };
+        live = live_on c plp _ _ r.told (in_next r.told) (r.given ++ x ∷ []) m.ran.units m.ran.units
+            refl back (omega arith)
             (live_push c plp (fed 0 events) r.told r.given x m.ran.units s.live);
         is_in = record {
-          caught = subst (λ (l : List NumberedView). HasCaughtUp c plp q (in_next r.told) l m.ran.units) (sym same_frames)
+          caught = subst (λ (l : List NumberedView). HasCaughtUp c plp q (in_next r.told) l m.ran.units)
+              (sym same_frames)
               (caught_told c plp m.swapper q r.told (in_next r.told) frames m.ran.units back n.unit i.caught);
           next = sym above;
           few = omega (arith, few, slots);
@@ -342,10 +384,13 @@ module _ (c : Config) (plp : ℕ) (events : List Event) (m : SwapMachine) (s : S
     pub sent : frames_in c (r.given ++ one ∷ []) ≡ frames ++ numbered m.number view ∷ []
 
   pub is_frame : DuePass → FramesAreFormed → (f : PoolFrame) → IsFrameOf m.feed f
-      → ((bytes : List ℕ) (ended : Bool) (given : List FrameRecord) → FrameFeedStandsFor m.feed bytes ended given → (x : FrameRecord)
-      (later : List FrameRecord) → records_due (feed.config_of m.feed) ended bytes ≡ given ++ x ∷ later → (g : Group) → x.content ≡ Whole g
+      → ((bytes : List ℕ) (ended : Bool) (given : List FrameRecord) → FrameFeedStandsFor m.feed bytes ended given
+      → (x : FrameRecord)
+      (later : List FrameRecord) → records_due (feed.config_of m.feed) ended bytes ≡ given ++ x ∷ later
+      → (g : Group) → x.content ≡ Whole g
       → Shows (feed.config_of m.feed) g.packets (dynamic_of m.feed) (lists_of m.feed))
-      → (w : Waiting) → m.phase ≡ phase.Packets → waiting_of m.feed ≡ Some w → w.frame ≤ m.number → w.mute ≡ None → IsFrame f
+      → (w : Waiting) → m.phase ≡ phase.Packets → waiting_of m.feed ≡ Some w → w.frame ≤ m.number → w.mute ≡ None
+      → IsFrame f
   is_frame pass formed_law f is shows w e waits here mute =
       go d.later d.all (subst (λ (o : Option Waiting). IsFirst o d.later) waits d.first)
     where
@@ -358,14 +403,16 @@ module _ (c : Config) (plp : ℕ) (events : List Event) (m : SwapMachine) (s : S
       gs : List Group
       gs = groups c.frames (packets_of (accepted_of c.pid (fed 0 events)))
 
-      whole : (x : FrameRecord) (later : List FrameRecord) → records_due c (has_ended 0 events) (fed 0 events) ≡ r.given ++ x ∷ later
+      whole : (x : FrameRecord) (later : List FrameRecord) → records_due c (has_ended 0 events) (fed 0 events) ≡ r.given
+          ++ x ∷ later
           → x.number ≡ w.frame → mute_of x.content ≡ w.mute → (k : Content) → x.content ≡ k → IsFrame f
       whole x later due number muted (Whole g) content =
           let i = in_packets c plp events m s e in
           let same = same_frame e w waits in
           let behind = i.behind in
           let at : x.number ≡ m.number = omega (arith, number, here, behind, same) in
-          let p = one_of (IsRight c gs) r.given x later (subst (AllByRecursion (IsRight c gs)) due (pass c (has_ended 0 events) (fed 0 events)))
+          let p = one_of (IsRight c gs) r.given x later (subst (AllByRecursion (IsRight c gs)) due
+          (pass c (has_ended 0 events) (fed 0 events)))
           g content in
           let formed = one_of (IsFormedRecord c) r.given x later (subst (AllByRecursion (IsFormedRecord c)) due
           (formed_law c (has_ended 0 events) (fed 0 events) s.base.rules)) g content in
@@ -398,9 +445,11 @@ module _ (c : Config) (plp : ℕ) (events : List Event) (m : SwapMachine) (s : S
             sent = frames_push c r.given x ∙ ap (λ (l : List NumberedView). frames ++ l)
                 (ap (frame_in c x.number) content ∙ ap (λ (n : ℕ). numbered n view ∷ []) at);
           }
-      whole x later due number muted (Muted z) content = absurd (none_some z (sym (sym (ap mute_of content) ∙ muted ∙ mute)))
+      whole x later due number muted (Muted z) content = absurd
+          (none_some z (sym (sym (ap mute_of content) ∙ muted ∙ mute)))
 
-      go : (later : List FrameRecord) → records_due c (has_ended 0 events) (fed 0 events) ≡ r.given ++ later → IsFirst (Some w) later
+      go : (later : List FrameRecord) → records_due c (has_ended 0 events) (fed 0 events) ≡ r.given ++ later
+          → IsFirst (Some w) later
           → IsFrame f
       go [] due first = absurd first
       go (x ∷ later) due first = whole x later due first.0 first.1 x.content refl
@@ -408,7 +457,8 @@ module _ (c : Config) (plp : ℕ) (events : List Event) (m : SwapMachine) (s : S
   pub held_there : (f : PoolFrame) → IsFrame f → HasRecord (status_of m.swapper).network (frame_of m.swapper) f
   held_there f x = record {
     view = x.view;
-    held = subst (λ (k : Config). IsHeld k (frame_of m.swapper) x.view f) (sym (ap (λ (y : Status). y.network) s.status))
+    held = subst (λ (k : Config). IsHeld k (frame_of m.swapper) x.view f)
+        (sym (ap (λ (y : Status). y.network) s.status))
         (subst (λ (n : ℕ). IsHeld c n x.view f) (sym (ap (λ (y : Status). y.frame) s.status)) x.held);
   }
 
@@ -421,11 +471,13 @@ module _ (c : Config) (plp : ℕ) (events : List Event) (m : SwapMachine) (s : S
         → IsHeld c (frame_of m.swapper) view f → SwapperStandsFor m.swapper c plp t [] frames given
         → (input : List (List ℕ)) → Continues t input
         → bytes_left q (left_in q f) ≤ bytes_left m.swapper []
-        + packet_bound * length (view_bodies c (frame_of m.swapper) (swapped_view c plp input (frame_of m.swapper) view))
+        + packet_bound * length (view_bodies c (frame_of m.swapper) (swapped_view c plp input (frame_of m.swapper)
+        view))
     pub status : status_of q ≡ record (status_of m.swapper) { begun = true }
 
   -- it has no more units than so many
-  module _ (field : FieldRange) (told : ToldCountsFit) (q : Swapper) (f : PoolFrame) (is : IsFrameOf m.feed f) (e : m.phase ≡ phase.Packets)
+  module _ (field : FieldRange) (told : ToldCountsFit) (q : Swapper) (f : PoolFrame) (is : IsFrameOf m.feed f)
+      (e : m.phase ≡ phase.Packets)
       (x : IsFrame f) (b : Begins q f) where
     at : frame_of m.swapper ≡ m.number
     at = ap (λ (y : Status). y.frame) (status_at c plp events m s phase.Packets e)
@@ -443,8 +495,13 @@ module _ (c : Config) (plp : ℕ) (events : List Event) (m : SwapMachine) (s : S
     pub begun_few : more_units phase.Units q m.feed + 600 ≤ frame_bytes
     begun_few =
         let i = in_packets c plp events m s e in
-        let here_now : Continues r.told r.told.packets = record { rest = []; front = sym (append-nil r.told.packets); whole = λ _. refl } in
-        let bound = b.more c plp r.told frames m.ran.units x.view held_at (sends_in c plp events m s phase.Packets e).stands r.told.packets
+        let here_now : Continues r.told r.told.packets = record {
+          rest = [];
+          front = sym (append-nil r.told.packets);
+          whole = λ _. refl;
+        } in
+        let bound = b.more c plp r.told frames m.ran.units x.view held_at (sends_in c plp events m s
+        phase.Packets e).stands r.told.packets
         here_now in
         let bodies = few_swapped field told c plp m.number r.told.packets x.view s.base.rules s.base.place x.formed in
         let body_same = ap (λ (n : ℕ). length (view_bodies c n (swapped_view c plp r.told.packets n x.view))) at in
@@ -452,7 +509,8 @@ module _ (c : Config) (plp : ℕ) (events : List Event) (m : SwapMachine) (s : S
         let same = ap (bytes_left q) left_now in
         omega (arith, bound, bodies, body_same, idle, same)
 
-    pub shown_begin : (w : Waiting) → waiting_of m.feed ≡ Some w → w.frame ≤ m.number → w.mute ≡ None → wants_of m.swapper ≡ 0
+    pub shown_begin : (w : Waiting) → waiting_of m.feed ≡ Some w → w.frame ≤ m.number → w.mute ≡ None
+        → wants_of m.swapper ≡ 0
         → Shown c plp events (record m {
           swapper = q;
           joined = true;
@@ -477,9 +535,12 @@ module _ (c : Config) (plp : ℕ) (events : List Event) (m : SwapMachine) (s : S
         let frames_count = s.counted.frames_is in
         let muted_count = s.counted.muted_is in
         let units = begun_few in
-        let stands : SwapperStandsFor q c plp r.told (left_for q (lists_of m.feed)) (frames ++ numbered m.number x.view ∷ []) m.ran.units =
-        subst (λ (n : ℕ). SwapperStandsFor q c plp r.told (left_for q (lists_of m.feed)) (frames ++ numbered n x.view ∷ []) m.ran.units) at
-        (subst (λ (l : List Body). SwapperStandsFor q c plp r.told l (frames ++ numbered (frame_of m.swapper) x.view ∷ []) m.ran.units) left_now
+        let stands : SwapperStandsFor q c plp r.told (left_for q (lists_of m.feed))
+        (frames ++ numbered m.number x.view ∷ []) m.ran.units =
+        subst (λ (n : ℕ). SwapperStandsFor q c plp r.told (left_for q (lists_of m.feed))
+        (frames ++ numbered n x.view ∷ []) m.ran.units) at
+        (subst (λ (l : List Body). SwapperStandsFor q c plp r.told l (frames ++ numbered (frame_of m.swapper)
+        x.view ∷ []) m.ran.units) left_now
         (b.stands c plp r.told frames m.ran.units x.view held_at sends.stands)) in
         record {
           base = s.base;
@@ -496,8 +557,10 @@ module _ (c : Config) (plp : ℕ) (events : List Event) (m : SwapMachine) (s : S
           of_input = s.of_input;
           frame = s.frame;
           had = λ off. let h = all_there c plp events m s none off in omega (arith, h, slots);
-          sends = subst (λ (l : List NumberedView). Sends c plp q r.told (left_for q (lists_of m.feed)) l m.ran.units (gave events)) (sym x.sent)
-              (sends_begun c plp m.swapper q r.told (left_for q (lists_of m.feed)) frames (numbered m.number x.view) m.ran.units (gave events)
+          sends = subst (λ (l : List NumberedView). Sends c plp q r.told (left_for q (lists_of m.feed))
+              l m.ran.units (gave events)) (sym x.sent)
+              (sends_begun c plp m.swapper q r.told (left_for q (lists_of m.feed)) frames (numbered m.number x.view)
+              m.ran.units (gave events)
               (ap (λ (y : Status). y.finished) (status_at c plp events m s phase.Packets e)) stands sends);
           status = status_now;
           counted = record {
@@ -542,13 +605,16 @@ module _ (c : Config) (plp : ℕ) (events : List Event) (m : SwapMachine) (s : S
       most_next phase.Done = omega arith
       most_next (phase.Stopped why) = omega arith
 
-  module _ (e : m.phase ≡ phase.Units) (f : PoolFrame) (is : IsFrameOf m.feed f) (p : Swapper) (full : Bool) (bytes : List ℕ)
+  module _ (e : m.phase ≡ phase.Units) (f : PoolFrame) (is : IsFrameOf m.feed f) (p : Swapper) (full : Bool)
+      (bytes : List ℕ)
       (g : GivesUnits m.swapper p f full bytes) (status : status_of p ≡ status_of m.swapper) where
     old_same : left_in m.swapper f ≡ left_for m.swapper (lists_of m.feed)
-    old_same = left_same m.swapper m.feed f is (feed_network c plp events m s ∙ sym (ap (λ (y : Status). y.network) s.status))
+    old_same = left_same m.swapper m.feed f is (feed_network c plp events m s
+        ∙ sym (ap (λ (y : Status). y.network) s.status))
 
     rest_same : left_in p f ≡ left_for p (lists_of m.feed)
-    rest_same = left_same p m.feed f is (feed_network c plp events m s ∙ sym (ap (λ (y : Status). y.network) (status ∙ s.status)))
+    rest_same = left_same p m.feed f is (feed_network c plp events m s
+        ∙ sym (ap (λ (y : Status). y.network) (status ∙ s.status)))
 
     abbrev pub count : ℕ
     count = m.ran.units + length g.units
@@ -573,7 +639,8 @@ module _ (c : Config) (plp : ℕ) (events : List Event) (m : SwapMachine) (s : S
     was = subst (λ (l : List Body). SwapperStandsFor m.swapper c plp r.told l frames m.ran.units) (sym old_same)
         (sends_in c plp events m s phase.Units e).stands
 
-    module _ (more : List Event) (zero : Same 0 events more) (one : Same 1 events more) (gave_is : gave more ≡ gave events ++ bytes) where
+    module _ (more : List Event) (zero : Same 0 events more) (one : Same 1 events more)
+        (gave_is : gave more ≡ gave events ++ bytes) where
       sends_now : Sends c plp p r.told (left_in p f) frames count (gave more)
       sends_now =
           sends_units c plp m.swapper p r.told _ _ frames m.ran.units g.units (gave events) (gave more)
@@ -592,7 +659,8 @@ module _ (c : Config) (plp : ℕ) (events : List Event) (m : SwapMachine) (s : S
           subst (ShownAt c plp more (record m { swapper = p; ran = record m.ran { units = count } })) (sym e) (record {
             base = s.base;
             read = r;
-            of_feed = feed_same true c m.feed _ _ _ _ r.given zero.fed_is zero.ended_is (of_in c plp events m s phase.Units e);
+            of_feed = feed_same true c m.feed _ _ _ _ r.given zero.fed_is zero.ended_is
+                (of_in c plp events m s phase.Units e);
             of_input = reads_same _ _ _ _ r.told r.rest r.tail m.taken m.ended one.fed_is one.ended_is s.of_input;
             frame = s.frame;
             had = s.had;
@@ -600,7 +668,8 @@ module _ (c : Config) (plp : ℕ) (events : List Event) (m : SwapMachine) (s : S
             status = status ∙ status_at c plp events m s phase.Units e;
             counted = s.counted;
             bound = record { few = bound.few; early = bound.early; most = omega (arith, most, same) };
-            live = live_on c plp _ _ r.told r.told r.given m.ran.units count zero.fed_is (λ _ cont. cont) (omega arith) s.live;
+            live = live_on c plp _ _ r.told r.told r.given m.ran.units count zero.fed_is (λ _ cont. cont)
+                (omega arith) s.live;
             is_in = record {
               before = i.before;
               last = i.last;
@@ -618,7 +687,8 @@ module _ (c : Config) (plp : ℕ) (events : List Event) (m : SwapMachine) (s : S
           })
 
       -- or all were given: the next frame is under way
-      pub shown_behind : (k : FrameFeed) (q : Swapper) → full ≡ false → has_unit p ≡ false → feed.config_of k ≡ feed.config_of m.feed
+      pub shown_behind : (k : FrameFeed) (q : Swapper) → full ≡ false → has_unit p ≡ false
+          → feed.config_of k ≡ feed.config_of m.feed
           → ((given : List FrameRecord) → FrameFeedStandsFor m.feed (fed 0 events) (has_ended 0 events) given
           → Skipped m.feed k (fed 0 events) (has_ended 0 events) given) → Passes p q
           → Shown c plp more (record m {
@@ -641,7 +711,11 @@ module _ (c : Config) (plp : ℕ) (events : List Event) (m : SwapMachine) (s : S
           feed_left true c m.feed k (fed 0 events) (has_ended 0 events) r.given config (λ z. absurd (true≢false z))
           (λ given st.
           let x = skips given st in
-          record { records = x.next ∷ []; are = record { one = x.next; only = refl; first = x.waited }; stands = x.stands })
+          record {
+            records = x.next ∷ [];
+            are = record { one = x.next; only = refl; first = x.waited };
+            stands = x.stands;
+          })
           (of_in c plp events m s phase.Units e) in
           record {
             base = s.base;
@@ -650,16 +724,20 @@ module _ (c : Config) (plp : ℕ) (events : List Event) (m : SwapMachine) (s : S
             of_input = record { parts = o.parts; each = o.each; count = o.count; end = o.end; told = o.told };
             frame = ap (λ (n : ℕ). n + 1) s.frame;
             had = s.had;
-            sends = sends_told c plp p q r.told (in_next r.told) (left_in p f) [] frames count (gave more) (gave more) refl back
+            sends = sends_told c plp p q r.told (in_next r.told) (left_in p f) [] frames count (gave more)
+                (gave more) refl back
                 (ap (λ (y : Status). y.finished) n.status) (n.stands c plp r.told [] frames count stands) sends_now;
-            status = n.status ∙ ap (λ (y : Status). record y { frame = y.frame + 1; begun = false }) (status ∙ status_is);
+            status = n.status ∙ ap (λ (y : Status). record y { frame = y.frame + 1; begun = false }) (status
+                ∙ status_is);
             counted = s.counted;
             bound = record { few = bound.few; early = omega (arith, early); most = omega (arith, most) };
-            live = live_on c plp _ _ r.told (in_next r.told) r.given m.ran.units count zero.fed_is back (omega arith) s.live;
+            live = live_on c plp _ _ r.told (in_next r.told) r.given m.ran.units count zero.fed_is back
+                (omega arith) s.live;
             is_in = record {
               caught = record {
                 idle = n.unit ∙ idle;
-                complete = λ input cont. g.all off (ap (λ (y : Status). y.finished) status_is) c plp r.told frames m.ran.units was input
+                complete = λ input cont. g.all off (ap (λ (y : Status). y.finished) status_is) c plp
+                    r.told frames m.ran.units was input
                     (back input cont);
               };
               next = i.next;
@@ -673,7 +751,8 @@ module _ (c : Config) (plp : ℕ) (events : List Event) (m : SwapMachine) (s : S
   pub shown_finish : (q : Swapper) → m.phase ≡ phase.Drains → m.ended ≡ true
       → ((c : Config) (plp : ℕ) (t : Told) (left : List Body) (frames : List NumberedView) (given : ℕ)
       → SwapperStandsFor m.swapper c plp t left frames given → SwapperStandsFor q c plp t left frames given)
-      → is_fed q ≡ true → bytes_left q [] ≡ bytes_left m.swapper [] → status_of q ≡ record (status_of m.swapper) { finished = true }
+      → is_fed q ≡ true → bytes_left q [] ≡ bytes_left m.swapper []
+      → status_of q ≡ record (status_of m.swapper) { finished = true }
       → Shown c plp events (record m { swapper = q; phase = phase.Rests })
   shown_finish q e over stands all_fed left status =
       let i = in_drains c plp events m s e in
@@ -689,7 +768,8 @@ module _ (c : Config) (plp : ℕ) (events : List Event) (m : SwapMachine) (s : S
         of_input = s.of_input;
         frame = s.frame;
         had = s.had;
-        sends = sends_over c plp m.swapper q r.told [] frames m.ran.units (gave events) (ap (λ (y : Status). y.finished) status_is)
+        sends = sends_over c plp m.swapper q r.told [] frames m.ran.units (gave events)
+            (ap (λ (y : Status). y.finished) status_is)
             (stands c plp r.told [] frames m.ran.units sends.stands) sends;
         status = status ∙ ap (λ (y : Status). record y { finished = true }) status_is;
         counted = s.counted;
@@ -704,11 +784,15 @@ module _ (c : Config) (plp : ℕ) (events : List Event) (m : SwapMachine) (s : S
         };
       }
 
-  pub shown_rest : (q : Swapper) (unit : List ℕ) (more : List Event) → m.phase ≡ phase.Rests → Same 0 events more → Same 1 events more
+  pub shown_rest : (q : Swapper) (unit : List ℕ) (more : List Event) → m.phase ≡ phase.Rests → Same 0 events more
+      → Same 1 events more
       → gave more ≡ gave events ++ unit
-      → ((c : Config) (plp : ℕ) (t : Told) (frames : List NumberedView) (given : ℕ) → SwapperStandsFor m.swapper c plp t [] frames given
-      → (input : List (List ℕ)) → Continues t input → slice_get (pipe c.pid (remade_packets c (swapped c plp input frames))) given ≡ Some unit)
-      → ((c : Config) (plp : ℕ) (t : Told) (frames : List NumberedView) (given : ℕ) → SwapperStandsFor m.swapper c plp t [] frames given
+      → ((c : Config) (plp : ℕ) (t : Told) (frames : List NumberedView) (given : ℕ)
+      → SwapperStandsFor m.swapper c plp t [] frames given
+      → (input : List (List ℕ)) → Continues t input
+      → slice_get (pipe c.pid (remade_packets c (swapped c plp input frames))) given ≡ Some unit)
+      → ((c : Config) (plp : ℕ) (t : Told) (frames : List NumberedView) (given : ℕ)
+      → SwapperStandsFor m.swapper c plp t [] frames given
       → SwapperStandsFor q c plp t [] frames (given + 1))
       → is_fed q ≡ true → bytes_left q [] < bytes_left m.swapper [] → status_of q ≡ status_of m.swapper
       → Shown c plp more (record m { swapper = q; ran = record m.ran { units = m.ran.units + 1 } })
@@ -719,20 +803,25 @@ module _ (c : Config) (plp : ℕ) (events : List Event) (m : SwapMachine) (s : S
       let bound = bound_at c plp events m s phase.Rests e in
       let most = bound.most in
       let over_is : (status_of m.swapper).finished ≡ true = ap (λ (y : Status). y.finished) status_is in
-      subst (ShownAt c plp more (record m { swapper = q; ran = record m.ran { units = m.ran.units + 1 } })) (sym e) (record {
+      subst (ShownAt c plp more (record m { swapper = q; ran = record m.ran { units = m.ran.units + 1 } }))
+      (sym e) (record {
         base = s.base;
         read = r;
-        of_feed = feed_same false c m.feed _ _ _ _ r.given zero.fed_is zero.ended_is (of_in c plp events m s phase.Rests e);
+        of_feed = feed_same false c m.feed _ _ _ _ r.given zero.fed_is zero.ended_is
+            (of_in c plp events m s phase.Rests e);
         of_input = reads_same _ _ _ _ r.told r.rest r.tail m.taken m.ended one.fed_is one.ended_is s.of_input;
         frame = s.frame;
         had = s.had;
         sends = sends_units c plp m.swapper q r.told [] [] frames m.ran.units (unit ∷ []) (gave events) (gave more)
-            (gave_is ∙ ap (λ (l : List ℕ). gave events ++ l) (sym (append-nil unit))) (ap (λ (y : Status). y.finished) status)
+            (gave_is ∙ ap (λ (l : List ℕ). gave events ++ l) (sym (append-nil unit)))
+            (ap (λ (y : Status). y.finished) status)
             (λ input cont later over.
             let all : List (List ℕ) = pipe c.pid (remade_packets c (swapped c plp input frames) ++ later) in
             let at : slice_get all m.ran.units ≡ Some unit =
-            ap (λ (l : List (List ℕ)). slice_get (pipe c.pid (remade_packets c (swapped c plp input frames) ++ l)) m.ran.units) (over over_is)
-            ∙ ap (λ (l : List (List ℕ)). slice_get (pipe c.pid l) m.ran.units) (append-nil (remade_packets c (swapped c plp input frames)))
+            ap (λ (l : List (List ℕ)). slice_get (pipe c.pid (remade_packets c (swapped c plp input frames) ++ l))
+            m.ran.units) (over over_is)
+            ∙ ap (λ (l : List (List ℕ)). slice_get (pipe c.pid l) m.ran.units)
+            (append-nil (remade_packets c (swapped c plp input frames)))
             ∙ next c plp r.told frames m.ran.units sends.stands input cont in
             (drop (m.ran.units + 1) all, drop_some all m.ran.units unit at))
             (λ off. absurd (true≢false (sym over_is ∙ off)))
@@ -740,7 +829,8 @@ module _ (c : Config) (plp : ℕ) (events : List Event) (m : SwapMachine) (s : S
         status = status ∙ status_is;
         counted = s.counted;
         bound = record { few = bound.few; early = bound.early; most = omega (arith, most, less) };
-        live = live_on c plp _ _ r.told r.told r.given m.ran.units (m.ran.units + 1) zero.fed_is (λ _ cont. cont) (omega arith) s.live;
+        live = live_on c plp _ _ r.told r.told r.given m.ran.units (m.ran.units + 1) zero.fed_is (λ _ cont. cont)
+            (omega arith) s.live;
         is_in = record {
           all_fed = all_fed;
           done = λ input cont. let d = i.done input cont in omega (arith, d);
@@ -752,9 +842,12 @@ module _ (c : Config) (plp : ℕ) (events : List Event) (m : SwapMachine) (s : S
 
   pub shown_done : (q : Swapper) (more : List Event) → m.phase ≡ phase.Rests → Same 0 events more → Same 1 events more
       → gave more ≡ gave events
-      → ((c : Config) (plp : ℕ) (t : Told) (frames : List NumberedView) (given : ℕ) → SwapperStandsFor m.swapper c plp t [] frames given
-      → (input : List (List ℕ)) → Continues t input → length (pipe c.pid (remade_packets c (swapped c plp input frames))) ≡ given)
-      → ((c : Config) (plp : ℕ) (t : Told) (frames : List NumberedView) (given : ℕ) → SwapperStandsFor m.swapper c plp t [] frames given
+      → ((c : Config) (plp : ℕ) (t : Told) (frames : List NumberedView) (given : ℕ)
+      → SwapperStandsFor m.swapper c plp t [] frames given
+      → (input : List (List ℕ)) → Continues t input
+      → length (pipe c.pid (remade_packets c (swapped c plp input frames))) ≡ given)
+      → ((c : Config) (plp : ℕ) (t : Told) (frames : List NumberedView) (given : ℕ)
+      → SwapperStandsFor m.swapper c plp t [] frames given
       → SwapperStandsFor q c plp t [] frames given)
       → status_of q ≡ status_of m.swapper
       → Shown c plp more (record m { swapper = q; phase = phase.Done })
@@ -764,16 +857,20 @@ module _ (c : Config) (plp : ℕ) (events : List Event) (m : SwapMachine) (s : S
       record {
         base = s.base;
         read = r;
-        of_feed = feed_same false c m.feed _ _ _ _ r.given zero.fed_is zero.ended_is (of_in c plp events m s phase.Rests e);
+        of_feed = feed_same false c m.feed _ _ _ _ r.given zero.fed_is zero.ended_is
+            (of_in c plp events m s phase.Rests e);
         of_input = reads_same _ _ _ _ r.told r.rest r.tail m.taken m.ended one.fed_is one.ended_is s.of_input;
         frame = s.frame;
         had = s.had;
-        sends = sends_told c plp m.swapper q r.told r.told [] [] frames m.ran.units (gave events) (gave more) gave_is (λ input cont. cont)
+        sends = sends_told c plp m.swapper q r.told r.told [] [] frames m.ran.units (gave events) (gave more)
+            gave_is (λ input cont. cont)
             (ap (λ (y : Status). y.finished) status) (stands c plp r.told frames m.ran.units sends.stands) sends;
         status = status ∙ status_at c plp events m s phase.Rests e;
         counted = s.counted;
-        bound = bound_as m.number m.number m.ran.units _ 0 r.given (omega arith) (bound_at c plp events m s phase.Rests e);
-        live = live_on c plp _ _ r.told r.told r.given m.ran.units m.ran.units zero.fed_is (λ _ cont. cont) (omega arith) s.live;
+        bound = bound_as m.number m.number m.ran.units _ 0 r.given (omega arith)
+            (bound_at c plp events m s phase.Rests e);
+        live = live_on c plp _ _ r.told r.told r.given m.ran.units m.ran.units zero.fed_is (λ _ cont. cont)
+            (omega arith) s.live;
         is_in = record {
           all = λ input cont. all c plp r.told frames m.ran.units sends.stands input cont;
           behind = i.behind;

@@ -1,5 +1,6 @@
 -- Two files decide how a run over them ends.
-use Rattle.std.proofs.Common.{◌≡◌, ◌≢◌, ◌⊎◌, ℕ, ◌-◌, ◌<◌, ◌≤◌, List, [], ◌∷◌, ◌++◌, length, take, refl, ap, ap₂, sym, subst, ◌∙◌}
+use Rattle.std.proofs.Common.{◌≡◌, ◌≢◌, ◌⊎◌, ℕ, ◌-◌, ◌<◌, ◌≤◌, List, [], ◌∷◌, ◌++◌, length, take, refl, ap, ap₂, sym}
+use Rattle.std.proofs.Common.{subst, ◌∙◌}
 use Rattle.std.proofs.Common.{inl, inr, arith, append-nil, append_assoc}
 use Rattle.std.specs.Prelude.{Result, Ok, Err}
 use Rattle.std.proofs.lemmas.Bool.{cases_lt}
@@ -15,7 +16,8 @@ use Rattle.feed_merge.specs.Picks.{above_all}
 use Rattle.feed_merge.specs.Fed.{AreEarly}
 use Rattle.feed_merge.proofs.NumberLemmas.{above_append, below_append}
 use Rattle.swap_run.specs.Laws.{MustRun, OneRun, RunEnds}
-use Rattle.swap_run.specs.SwapRun.{WantBad, SwapsAll, HasNone, MeetsBad, HasLate, slots_of, units_of, complete_of, counted}
+use Rattle.swap_run.specs.SwapRun.{WantBad, SwapsAll, HasNone, MeetsBad, HasLate, slots_of, units_of, complete_of}
+use Rattle.swap_run.specs.SwapRun.{counted}
 use Rattle.swap_run.specs.declared.stop.Ran.{Ran}
 use Rattle.swap_run.specs.declared.stop.SwapStop.{SwapStop}
 use Rattle.swap_run.specs.declared.stop.SwapStop.TheVariants.{NoSuperframe, InputRefused, TooManyFrames}
@@ -26,11 +28,13 @@ use Rattle.feed_merge.proofs.EarlyLemmas.{some_is}
 -- ---- records that are early, and one that is late
 
 -- one of those that stand below a number
-below_at : (n : ℕ) (xs : List FrameRecord) (y : FrameRecord) (ys : List FrameRecord) → AllBelow n (xs ++ y ∷ ys) → y.number < n
+below_at : (n : ℕ) (xs : List FrameRecord) (y : FrameRecord) (ys : List FrameRecord) → AllBelow n (xs ++ y ∷ ys)
+    → y.number < n
 below_at n [] y ys all = all.0
 below_at n (x ∷ xs) y ys all = below_at n xs y ys all.1
 
-not_late : (xs : List FrameRecord) (y : FrameRecord) (ys : List FrameRecord) → AreEarly (xs ++ y ∷ ys) → MOST_FRAMES ≤ y.number → ⊥
+not_late : (xs : List FrameRecord) (y : FrameRecord) (ys : List FrameRecord) → AreEarly (xs ++ y ∷ ys)
+    → MOST_FRAMES ≤ y.number → ⊥
 not_late xs y ys early late = let less = below_at MOST_FRAMES xs y ys early in absurd (omega (arith, less, late))
 
 abbrev first_of : FrameRecord → List FrameRecord → FrameRecord
@@ -42,7 +46,8 @@ behind_first [] = []
 behind_first (x ∷ xs) = xs
 
 -- Early records at the front of a list stand before one that is late.
-in_front : (xs ys bs : List FrameRecord) (l : FrameRecord) (ls : List FrameRecord) → AreEarly xs → MOST_FRAMES ≤ l.number
+in_front : (xs ys bs : List FrameRecord) (l : FrameRecord) (ls : List FrameRecord) → AreEarly xs
+    → MOST_FRAMES ≤ l.number
     → xs ++ ys ≡ bs ++ l ∷ ls → (more : List FrameRecord) × (bs ≡ xs ++ more)
 in_front [] ys bs l ls early late e = (bs, refl)
 in_front (x ∷ xs) ys [] l ls early late e =
@@ -98,7 +103,8 @@ module _ (rises : CountRises) (slot : SlotLength) (c : Config) (plp : ℕ) (file
   all_none : (ran : Ran) (bytes other : List ℕ) → SwapsAll c plp files ran bytes → HasNone c files other → ⊥
   all_none ran bytes other a n = a.some n.none
 
-  all_bad : (ran : Ran) (packet : ℕ) (bytes other : List ℕ) → SwapsAll c plp files ran bytes → MeetsBad c plp files packet other → ⊥
+  all_bad : (ran : Ran) (packet : ℕ) (bytes other : List ℕ) → SwapsAll c plp files ran bytes
+      → MeetsBad c plp files packet other → ⊥
   all_bad ran packet bytes other a m = a.whole m.bad
 
   all_late : (ran : Ran) (bytes other : List ℕ) → SwapsAll c plp files ran bytes → HasLate c plp files other → ⊥
@@ -124,7 +130,8 @@ module _ (rises : CountRises) (slot : SlotLength) (c : Config) (plp : ℕ) (file
       go (x ∷ after) parts early wanted =
           let f = in_front (m.before ++ x ∷ []) after h.before h.late h.after early h.number
           (append_assoc m.before (x ∷ []) after ∙ sym parts ∙ h.parts) in
-          h.unwanted (want_more rises slot c plp (files 1) (m.before ++ x ∷ []) h.before f.0 plan lt f.1 (wanted (some_is x after)))
+          h.unwanted (want_more rises slot c plp (files 1) (m.before ++ x ∷ []) h.before f.0 plan lt
+          f.1 (wanted (some_is x after)))
 
   one : (result other : Result Ran SwapStop) → MustRun c plp files result → MustRun c plp files other → result ≡ other
   one (Ok ran) (Ok other) a b = ap Ok (a.1.ran_is ∙ sym b.1.ran_is)
@@ -156,7 +163,8 @@ HasEnd c plp files = (result : Result Ran SwapStop) × MustRun c plp files resul
 -- all were sent
 sent : (c : Config) (plp : ℕ) (files : ℕ → List ℕ) (before : List FrameRecord) → records_of c (files 0) ≢ []
     → records_of c (files 0) ≡ before → AreEarly before → ¬ (WantBad c plp (files 1) before) → HasEnd c plp files
-sent c plp files before some parts early unwanted = elim (bad_or_not (files 1)) [ inl bad ↦ refuses bad | inr none ↦ ends none ]
+sent c plp files before some parts early unwanted = elim (bad_or_not (files 1))
+    [ inl bad ↦ refuses bad | inr none ↦ ends none ]
   where
     refuses : HasBad (files 1) → HasEnd c plp files
     refuses bad =
@@ -186,7 +194,8 @@ sent c plp files before some parts early unwanted = elim (bad_or_not (files 1)) 
         (Ok ran, (bytes, all))
 
 -- a frame wants the bad packet
-refused : (c : Config) (plp : ℕ) (files : ℕ → List ℕ) (before : List FrameRecord) (x : FrameRecord) (after : List FrameRecord)
+refused : (c : Config) (plp : ℕ) (files : ℕ → List ℕ) (before : List FrameRecord) (x : FrameRecord)
+    (after : List FrameRecord)
     → records_of c (files 0) ≢ [] → records_of c (files 0) ≡ before ++ x ∷ after → AreEarly (before ++ x ∷ [])
     → ¬ (WantBad c plp (files 1) before) → WantBad c plp (files 1) (before ++ x ∷ []) → HasEnd c plp files
 refused c plp files before x after some parts early unwanted want =
@@ -208,7 +217,8 @@ refused c plp files before x after some parts early unwanted want =
     (Err (InputRefused packet), (bytes, meets))
 
 -- no frame may have its number
-late_at : (c : Config) (plp : ℕ) (files : ℕ → List ℕ) (before : List FrameRecord) (x : FrameRecord) (after : List FrameRecord)
+late_at : (c : Config) (plp : ℕ) (files : ℕ → List ℕ) (before : List FrameRecord) (x : FrameRecord)
+    (after : List FrameRecord)
     → records_of c (files 0) ≡ before ++ x ∷ after → AreEarly before → ¬ (WantBad c plp (files 1) before)
     → MOST_FRAMES ≤ x.number → HasEnd c plp files
 late_at c plp files before x after parts early unwanted number =
@@ -228,14 +238,16 @@ late_at c plp files before x after parts early unwanted number =
 
 -- record by record
 walk : (c : Config) (plp : ℕ) (files : ℕ → List ℕ) → records_of c (files 0) ≢ [] → (before after : List FrameRecord)
-    → records_of c (files 0) ≡ before ++ after → AreEarly before → ¬ (WantBad c plp (files 1) before) → HasEnd c plp files
+    → records_of c (files 0) ≡ before ++ after → AreEarly before → ¬ (WantBad c plp (files 1) before)
+    → HasEnd c plp files
 walk c plp files some before [] parts early unwanted =
     sent c plp files before some (parts ∙ append-nil before) early unwanted
 walk c plp files some before (x ∷ after) parts early unwanted =
     elim (cases_lt x.number MOST_FRAMES) [
       | inr more ↦ late_at c plp files before x after parts early unwanted more
       | inl less ↦ elim (want_or_not c plp (files 1) (before ++ x ∷ [])) [
-        | inl want ↦ refused c plp files before x after some parts (below_append MOST_FRAMES before (x ∷ []) early (less, tt))
+        | inl want ↦ refused c plp files before x after some parts (below_append MOST_FRAMES before (x ∷ [])
+            early (less, tt))
             unwanted want
         | inr none ↦ walk c plp files some (before ++ x ∷ []) after (parts ∙ sym (append_assoc before (x ∷ []) after))
             (below_append MOST_FRAMES before (x ∷ []) early (less, tt)) none
@@ -248,4 +260,5 @@ run_ends none slot c plp files plan lt = go (records_of c (files 0)) refl
     go : (records : List FrameRecord) → records_of c (files 0) ≡ records → HasEnd c plp files
     go [] e = let has : HasNone c files [] = record { none = e; empty = refl } in (Err NoSuperframe, ([], has))
     go (x ∷ xs) e =
-        walk c plp files (λ empty. some_is x xs (sym e ∙ empty)) [] (x ∷ xs) e tt (nobody_wants none slot c plp (files 1) plan lt)
+        walk c plp files (λ empty. some_is x xs (sym e ∙ empty)) [] (x ∷ xs) e tt
+        (nobody_wants none slot c plp (files 1) plan lt)

@@ -1,5 +1,6 @@
 -- What is left to give, how far an input may be read, and what is known of a machine that came.
-use Rattle.std.proofs.Common.{◌≡◌, ◌≢◌, ℕ, ◌+◌, ◌-◌, ◌*◌, ◌/◌, ◌<◌, ◌≤◌, Bool, true, false, List, [], ◌∷◌, ◌++◌, length, take, Option, Some, None}
+use Rattle.std.proofs.Common.{◌≡◌, ◌≢◌, ℕ, ◌+◌, ◌-◌, ◌*◌, ◌/◌, ◌<◌, ◌≤◌, Bool, true, false, List, [], ◌∷◌, ◌++◌, length}
+use Rattle.std.proofs.Common.{take, Option, Some, None}
 use Rattle.std.proofs.Common.{refl, ap, sym, subst, ◌∙◌, arith, length-append, append-nil}
 use Rattle.plp_config.specs.Laws.{CountRises, SlotLength}
 use Rattle.plp_config.specs.SlotTime.{slots_by}
@@ -8,6 +9,7 @@ use Rattle.plp_config.specs.declared.moment.TheConstants.{MOST_FRAMES}
 use Rattle.std.specs.Prelude.{IsSome, is_some, not, ◌==◌}
 use Rattle.std.proofs.lemmas.Bool.{true≢false}
 use Rattle.std.proofs.lemmas.List.{length-take-le}
+use Rattle.std.proofs.lemmas.Option.{same_Some}
 use Rattle.ts_packet.specs.declared.sizes.TheConstants.{SIZE}
 use Rattle.frame_groups.specs.declared.cause.MuteCause.{MuteCause}
 use Rattle.frame_groups.specs.declared.waiting.Waiting.{Waiting}
@@ -17,7 +19,7 @@ use Rattle.feed_merge.specs.FeedStandsFor.{fed_of, is_whole}
 use Rattle.feed_merge.specs.FeedStandsFor as feed
 use Rattle.feed_merge.proofs.BothCameLemmas.{test_of, most_of, less_of, number_of, nothing_of}
 use Rattle.terms.proofs.CaseLemmas.{bool_cases}
-use Rattle.terms.proofs.OptionLemmas.{some_injective, none_some}
+use Rattle.terms.proofs.OptionLemmas.{none_some}
 use Rattle.feed_merge.specs.Reading.{is_idle}
 use Rattle.frame_writer.specs.Left.{CanBeSent}
 use Rattle.frame_writer.specs.declared.frame.PoolFrame.{PoolFrame}
@@ -37,7 +39,8 @@ use Rattle.swap_run.proofs.ShownLemmas.{Same, feed_same, feed_network, in_packet
 
 -- ---- events
 
-pub fed_same : EventsTell → (input other : ℕ) (bytes : List ℕ) (events : List Event) → other ≢ input → Same other events (events ++ Fed input bytes ∷ [])
+pub fed_same : EventsTell → (input other : ℕ) (bytes : List ℕ) (events : List Event) → other ≢ input
+    → Same other events (events ++ Fed input bytes ∷ [])
 fed_same tell input other bytes events differ =
     let t = tell.fed input bytes events in
     record { fed_is = t.others other differ; ended_is = t.ended other }
@@ -48,7 +51,8 @@ ended_same tell input other bytes events differ =
     let t = tell.ended input bytes events in
     record { fed_is = t.others other differ; ended_is = t.others_ended other differ }
 
-pub gave_same : EventsTell → (input : ℕ) (bytes : List ℕ) (events : List Event) → Same input events (events ++ Gave bytes ∷ [])
+pub gave_same : EventsTell → (input : ℕ) (bytes : List ℕ) (events : List Event)
+    → Same input events (events ++ Gave bytes ∷ [])
 gave_same tell input bytes events =
     let t = tell.given bytes events in
     record { fed_is = t.fed input; ended_is = t.ended input }
@@ -61,7 +65,8 @@ one_zero e = absurd (omega (arith, e))
 
 -- ---- how far an input may be read
 
-pub reach_by : (m n : SwapMachine) → fed_of m.feed ≤ fed_of n.feed → input_reach m ≤ input_reach n → (other : ℕ) → reach_of m other ≤ reach_of n other
+pub reach_by : (m n : SwapMachine) → fed_of m.feed ≤ fed_of n.feed → input_reach m ≤ input_reach n → (other : ℕ)
+    → reach_of m other ≤ reach_of n other
 reach_by m n a b other = bool_cases (other == 0) (λ e. rw e (omega (arith, a))) (λ e. rw e b)
 
 -- the slots that are over when a frame begins
@@ -76,7 +81,8 @@ pub slots_in : (m : SwapMachine) (p : Phase) → m.phase ≡ p → slots_at m �
 slots_in m p e = ap (λ (x : Phase). slots_before m (wanted_in x m.number)) e
 
 pub reach_on : (m n : SwapMachine) → fed_of m.feed ≤ fed_of n.feed → slots_at m ≤ slots_at n
-    → drained m.draining m.ran.unsent ≤ drained n.draining n.ran.unsent → (other : ℕ) → reach_of m other ≤ reach_of n other
+    → drained m.draining m.ran.unsent ≤ drained n.draining n.ran.unsent → (other : ℕ)
+    → reach_of m other ≤ reach_of n other
 reach_on m n f s d = reach_by m n f (omega (arith, s, d))
 
 -- what the configuration counts of them
@@ -91,7 +97,8 @@ pub reach_refused : (m : SwapMachine) (p : Phase) → m.phase ≡ p → wanted_i
     → reach_of m other ≤ reach_of (record m { phase = phase.Stopped (InputRefused m.taken) }) other
 reach_refused m p e same =
     let was = slots_in m p e ∙ ap (slots_before m) same in
-    reach_on m (record m { phase = phase.Stopped (InputRefused m.taken) }) (omega arith) (omega (arith, was)) (omega arith)
+    reach_on m (record m { phase = phase.Stopped (InputRefused m.taken) }) (omega arith) (omega (arith, was))
+    (omega arith)
 
 pub drained_more : (b : Bool) (n : ℕ) → drained b n ≤ drained true n
 drained_more true n = omega arith
@@ -108,7 +115,8 @@ slots_status m q frame e =
     omega (arith, s)
 
 pub slots_next : CountRises → SlotLength → (m : SwapMachine) (q : Swapper) (a b : ℕ) → ∥ HasShown m ∥₁ → a ≤ b
-    → (status_of q).plp ≡ (status_of m.swapper).plp → slots_before m a ≤ slots_by m.plan.now (status_of q).plp (b * m.plan.now.ticks)
+    → (status_of q).plp ≡ (status_of m.swapper).plp → slots_before m a ≤ slots_by m.plan.now (status_of q).plp
+    (b * m.plan.now.ticks)
 slots_next rises slot m q a b came le e = most_of _ _ came (λ (h : HasShown m). go h)
   where
     go : HasShown m → slots_before m a ≤ slots_by m.plan.now (status_of q).plp (b * m.plan.now.ticks)
@@ -119,7 +127,8 @@ slots_next rises slot m q a b came le e = most_of _ _ came (λ (h : HasShown m).
         let here = ap (λ (p : ℕ). slots_by c p (a * c.ticks)) plp in
         let there = ap (λ (p : ℕ). slots_by c p (b * c.ticks)) (e ∙ plp) in
         let up = slots_rise rises slot c h.plp a b s.base.rules s.base.place le in
-        subst (λ (k : Config). slots_by k (status_of m.swapper).plp (a * k.ticks) ≤ slots_by k (status_of q).plp (b * k.ticks))
+        subst (λ (k : Config). slots_by k (status_of m.swapper).plp (a * k.ticks) ≤ slots_by k (status_of q).plp
+        (b * k.ticks))
         (sym s.base.config) (omega (arith, up, here, there))
 
 -- behind a frame its own packets are those that were wanted last
@@ -134,7 +143,8 @@ slots_behind m q p e here plp =
 
 -- ---- what is left to give
 
-pub left_by : (m : SwapMachine) (p : Phase) → m.phase ≡ p → left_of m ≡ left_in p (feed.left_of m.feed) m.number m.swapper m.feed
+pub left_by : (m : SwapMachine) (p : Phase) → m.phase ≡ p → left_of m ≡ left_in p (feed.left_of m.feed)
+    m.number m.swapper m.feed
 left_by m p e = ap (λ (x : Phase). left_in x (feed.left_of m.feed) m.number m.swapper m.feed) e
 
 -- ---- what is known of a machine that came
@@ -201,14 +211,16 @@ module _ (m : SwapMachine) (came : ∥ HasShown m ∥₁) where
   pub packets_early : m.phase ≡ phase.Packets → (w : Waiting) → feed.waiting_of m.feed ≡ Some w → w.frame < MOST_FRAMES
   packets_early e w waits = less_of _ _ came (λ (h : HasShown m).
       let i = in_packets h.network h.plp h.events m h.shown e in
-      let same : w.frame ≡ i.waiting.frame = ap (λ (x : Waiting). x.frame) (some_injective w i.waiting (sym waits ∙ i.waits)) in
+      let same : w.frame ≡ i.waiting.frame = ap (λ (x : Waiting). x.frame) (same_Some w i.waiting (sym waits
+      ∙ i.waits)) in
       let early = i.early in
       omega (arith, same, early))
 
   pub packets_behind : m.phase ≡ phase.Packets → (w : Waiting) → feed.waiting_of m.feed ≡ Some w → m.number ≤ w.frame
   packets_behind e w waits = most_of _ _ came (λ (h : HasShown m).
       let i = in_packets h.network h.plp h.events m h.shown e in
-      let same : w.frame ≡ i.waiting.frame = ap (λ (x : Waiting). x.frame) (some_injective w i.waiting (sym waits ∙ i.waits)) in
+      let same : w.frame ≡ i.waiting.frame = ap (λ (x : Waiting). x.frame) (same_Some w i.waiting (sym waits
+      ∙ i.waits)) in
       let behind = i.behind in
       omega (arith, same, behind))
 
@@ -235,12 +247,14 @@ module _ (m : SwapMachine) (came : ∥ HasShown m ∥₁) where
       ap is_whole i.waits ∙ ap (λ (o : Option MuteCause). not (is_some o)) i.whole)
 
   pub units_waits : m.phase ≡ phase.Units → IsSome (feed.waiting_of m.feed)
-  units_waits e = test_of _ _ came (λ (h : HasShown m). ap is_some (in_units h.network h.plp h.events m h.shown e).waits)
+  units_waits e = test_of _ _ came (λ (h : HasShown m). ap is_some (in_units h.network h.plp h.events
+      m h.shown e).waits)
 
   pub units_at : m.phase ≡ phase.Units → (w : Waiting) → feed.waiting_of m.feed ≡ Some w → w.frame < MOST_FRAMES
   units_at e w waits = less_of _ _ came (λ (h : HasShown m).
       let i = in_units h.network h.plp h.events m h.shown e in
-      let same : w.frame ≡ i.waiting.frame = ap (λ (x : Waiting). x.frame) (some_injective w i.waiting (sym waits ∙ i.waits)) in
+      let same : w.frame ≡ i.waiting.frame = ap (λ (x : Waiting). x.frame) (same_Some w i.waiting (sym waits
+      ∙ i.waits)) in
       let here = i.here in
       let early = i.early in
       omega (arith, same, here, early))
@@ -304,7 +318,8 @@ shown_still tell c plp m events s =
       status = s.status;
       counted = s.counted;
       bound = s.bound;
-      live = live_on c plp _ _ r.told r.told r.given m.ran.units m.ran.units zero.fed_is (λ _ cont. cont) (omega arith) s.live;
+      live = live_on c plp _ _ r.told r.told r.given m.ran.units m.ran.units zero.fed_is (λ _ cont. cont)
+          (omega arith) s.live;
       is_in = subst (λ (b : Bool). IsIn c plp m r b m.phase) (sym one.ended_is) s.is_in;
     }
 

@@ -1,5 +1,6 @@
 -- What was taken of the input of the region, event by event.
-use Rattle.std.proofs.Common.{◌≡◌, ◌≢◌, ◌⊎◌, ℕ, ◌+◌, ◌<◌, ◌≤◌, Bool, true, false, List, [], ◌∷◌, ◌++◌, length, refl, ap, sym, subst, ◌∙◌}
+use Rattle.std.proofs.Common.{◌≡◌, ◌≢◌, ◌⊎◌, ℕ, ◌+◌, ◌<◌, ◌≤◌, Bool, true, false, List, [], ◌∷◌, ◌++◌, length, refl, ap}
+use Rattle.std.proofs.Common.{sym, subst, ◌∙◌}
 use Rattle.std.proofs.Common.{arith, append-nil, append_assoc, length-append}
 use Rattle.std.specs.Prelude.{slice_index}
 use Rattle.std.proofs.lemmas.Bool.{true≢false}
@@ -20,7 +21,8 @@ none_with : (packets rest : List (List ℕ)) → rest ≡ [] → packets ++ rest
 none_with packets rest e = ap (λ (l : List (List ℕ)). packets ++ l) e ∙ append-nil packets
 
 -- a packet is offered
-pub reads_offer : (bytes now p : List ℕ) (ended is : Bool) (t : Told) (rest : List (List ℕ)) (tail : List ℕ) (taken : ℕ) (over : Bool)
+pub reads_offer : (bytes now p : List ℕ) (ended is : Bool) (t : Told) (rest : List (List ℕ)) (tail : List ℕ)
+    (taken : ℕ) (over : Bool)
     → now ≡ bytes ++ p → is ≡ ended → rest ≡ [] → tail ≡ [] → t.ended ≡ false → length p ≡ SIZE → slice_index p 0 ≡ SYNC
     → ReadsPackets bytes ended t rest tail taken over → ReadsPackets now is (with_packet t p) rest tail (taken + 1) over
 reads_offer bytes now p ended is t rest tail taken over e f none whole off long sync r =
@@ -29,7 +31,8 @@ reads_offer bytes now p ended is t rest tail taken over e f none whole off long 
     record {
       parts = e ∙ ap (λ (l : List ℕ). l ++ p) (r.parts ∙ ap (λ (l : List ℕ). joined (t.packets ++ rest) ++ l) whole
           ∙ append-nil (joined (t.packets ++ rest)) ∙ ap joined old)
-          ∙ sym (joined_push t.packets p) ∙ sym (ap joined new) ∙ sym (append-nil (joined ((t.packets ++ p ∷ []) ++ rest)))
+          ∙ sym (joined_push t.packets p) ∙ sym (ap joined new)
+          ∙ sym (append-nil (joined ((t.packets ++ p ∷ []) ++ rest)))
           ∙ ap (λ (l : List ℕ). joined ((t.packets ++ p ∷ []) ++ rest) ++ l) (sym whole);
       each = subst ArePackets (sym new) (packets_push t.packets p (subst ArePackets old r.each) long sync);
       count = (let n = r.count in let a = ap length old in let b = ap length new in
@@ -39,11 +42,13 @@ reads_offer bytes now p ended is t rest tail taken over e f none whole off long 
     }
 
 -- or not
-pub reads_drain : (bytes now p : List ℕ) (ended is : Bool) (t : Told) (rest : List (List ℕ)) (tail : List ℕ) (taken : ℕ) (over : Bool)
+pub reads_drain : (bytes now p : List ℕ) (ended is : Bool) (t : Told) (rest : List (List ℕ)) (tail : List ℕ)
+    (taken : ℕ) (over : Bool)
     → now ≡ bytes ++ p → is ≡ ended → tail ≡ [] → over ≡ false → length p ≡ SIZE → slice_index p 0 ≡ SYNC
     → ReadsPackets bytes ended t rest tail taken over → ReadsPackets now is t (rest ++ p ∷ []) tail (taken + 1) over
 reads_drain bytes now p ended is t rest tail taken over e f whole off long sync r =
-    let new : t.packets ++ (rest ++ p ∷ []) ≡ (t.packets ++ rest) ++ p ∷ [] = sym (append_assoc t.packets rest (p ∷ [])) in
+    let new : t.packets ++ (rest ++ p ∷ []) ≡ (t.packets ++ rest) ++ p ∷ [] = sym
+    (append_assoc t.packets rest (p ∷ [])) in
     record {
       parts = e ∙ ap (λ (l : List ℕ). l ++ p) (r.parts ∙ ap (λ (l : List ℕ). joined (t.packets ++ rest) ++ l) whole
           ∙ append-nil (joined (t.packets ++ rest)))
@@ -51,13 +56,20 @@ reads_drain bytes now p ended is t rest tail taken over e f whole off long sync 
           ∙ sym (append-nil (joined (t.packets ++ (rest ++ p ∷ []))))
           ∙ ap (λ (l : List ℕ). joined (t.packets ++ (rest ++ p ∷ [])) ++ l) (sym whole);
       each = subst ArePackets (sym new) (packets_push (t.packets ++ rest) p r.each long sync);
-      count = (let n = r.count in let b = ap length new in omega (arith, n, b, length-append (t.packets ++ rest) (p ∷ [])));
+      count = (let n = r.count in let b = ap length new in omega (
+        arith,
+        n,
+        b,
+        length-append (t.packets ++ rest)
+            (p ∷ []),
+      ));
       end = λ z. f ∙ r.end z;
       told = λ on. absurd (true≢false (sym (r.told on).0 ∙ off));
     }
 
 -- a tail came
-pub reads_tail : (bytes now p : List ℕ) (ended is : Bool) (t : Told) (rest : List (List ℕ)) (tail : List ℕ) (taken : ℕ) (over : Bool)
+pub reads_tail : (bytes now p : List ℕ) (ended is : Bool) (t : Told) (rest : List (List ℕ)) (tail : List ℕ)
+    (taken : ℕ) (over : Bool)
     → now ≡ bytes ++ p → tail ≡ [] → p ≢ [] → over ≡ false → ReadsPackets bytes ended t rest tail taken over
     → ReadsPackets now is t rest p taken over
 reads_tail bytes now p ended is t rest tail taken over e whole some off r = record {
@@ -70,7 +82,8 @@ reads_tail bytes now p ended is t rest tail taken over e whole some off r = reco
 }
 
 -- the input ended behind whole packets, for the swapper or not
-pub reads_end : (bytes now : List ℕ) (ended : Bool) (t : Told) (rest : List (List ℕ)) (tail : List ℕ) (taken : ℕ) (over : Bool)
+pub reads_end : (bytes now : List ℕ) (ended : Bool) (t : Told) (rest : List (List ℕ)) (tail : List ℕ)
+    (taken : ℕ) (over : Bool)
     → now ≡ bytes → rest ≡ [] → tail ≡ [] → ReadsPackets bytes ended t rest tail taken over
     → ReadsPackets now true (at_end t) rest tail taken true
 reads_end bytes now ended t rest tail taken over e none whole r = record {
@@ -81,7 +94,8 @@ reads_end bytes now ended t rest tail taken over e none whole r = record {
   told = λ _. (refl, none, whole);
 }
 
-pub reads_over : (bytes now : List ℕ) (ended : Bool) (t : Told) (rest : List (List ℕ)) (tail : List ℕ) (taken : ℕ) (over : Bool)
+pub reads_over : (bytes now : List ℕ) (ended : Bool) (t : Told) (rest : List (List ℕ)) (tail : List ℕ)
+    (taken : ℕ) (over : Bool)
     → now ≡ bytes → tail ≡ [] → over ≡ false → ReadsPackets bytes ended t rest tail taken over
     → ReadsPackets now true t rest tail taken true
 reads_over bytes now ended t rest tail taken over e whole off r = record {
@@ -93,8 +107,10 @@ reads_over bytes now ended t rest tail taken over e whole off r = record {
 }
 
 -- nothing came
-pub reads_same : (bytes now : List ℕ) (ended is : Bool) (t : Told) (rest : List (List ℕ)) (tail : List ℕ) (taken : ℕ) (over : Bool)
-    → now ≡ bytes → is ≡ ended → ReadsPackets bytes ended t rest tail taken over → ReadsPackets now is t rest tail taken over
+pub reads_same : (bytes now : List ℕ) (ended is : Bool) (t : Told) (rest : List (List ℕ)) (tail : List ℕ)
+    (taken : ℕ) (over : Bool)
+    → now ≡ bytes → is ≡ ended → ReadsPackets bytes ended t rest tail taken over
+    → ReadsPackets now is t rest tail taken over
 reads_same bytes now ended is t rest tail taken over e f r = record {
   parts = e ∙ r.parts;
   each = r.each;
@@ -110,11 +126,14 @@ front_empty (x ∷ xs) ys e = absurd (let n = ap length e in omega (arith, n))
 -- ---- what is known of the file
 
 module _ (file : List ℕ) (place : ℕ) (bytes : List ℕ) (ended : Bool) (fed : IsFed file place bytes ended) (t : Told)
-    (rest : List (List ℕ)) (tail : List ℕ) (taken : ℕ) (over : Bool) (r : ReadsPackets bytes ended t rest tail taken over) where
+    (rest : List (List ℕ)) (tail : List ℕ) (taken : ℕ) (over : Bool) (r : ReadsPackets bytes ended t
+    rest tail taken over) where
   -- with all that was taken
-  pub all_read : (e : Bool) → (e ≡ true → (over ≡ true) × (tail ≡ [])) → IsRead file (t.packets ++ rest) e (tail ++ fed.more)
+  pub all_read : (e : Bool) → (e ≡ true → (over ≡ true) × (tail ≡ []))
+      → IsRead file (t.packets ++ rest) e (tail ++ fed.more)
   all_read e ends = record {
-    parts = fed.parts ∙ ap (λ (l : List ℕ). l ++ fed.more) r.parts ∙ append_assoc (joined (t.packets ++ rest)) tail fed.more;
+    parts = fed.parts ∙ ap (λ (l : List ℕ). l ++ fed.more) r.parts ∙ append_assoc (joined (t.packets ++ rest))
+        tail fed.more;
     each = r.each;
     end = λ on.
         let x = ends on in
@@ -122,15 +141,18 @@ module _ (file : List ℕ) (place : ℕ) (bytes : List ℕ) (ended : Bool) (fed 
   }
 
   -- with what was offered
-  rest_front : (e : Bool) → (e ≡ true → (over ≡ true) × (rest ≡ []) × (tail ≡ [])) → IsRead file t.packets e (joined rest ++ (tail ++ fed.more))
+  rest_front : (e : Bool) → (e ≡ true → (over ≡ true) × (rest ≡ []) × (tail ≡ []))
+      → IsRead file t.packets e (joined rest ++ (tail ++ fed.more))
   rest_front e ends = record {
-    parts = fed.parts ∙ ap (λ (l : List ℕ). l ++ fed.more) r.parts ∙ append_assoc (joined (t.packets ++ rest)) tail fed.more
+    parts = fed.parts ∙ ap (λ (l : List ℕ). l ++ fed.more) r.parts ∙ append_assoc (joined (t.packets ++ rest))
+        tail fed.more
         ∙ ap (λ (l : List ℕ). l ++ (tail ++ fed.more)) (joined_append t.packets rest)
         ∙ append_assoc (joined t.packets) (joined rest) (tail ++ fed.more);
     each = front_packets t.packets rest r.each;
     end = λ on.
         let x = ends on in
-        ap (λ (l : List (List ℕ)). joined l ++ (tail ++ fed.more)) x.1 ∙ ap (λ (l : List ℕ). l ++ fed.more) x.2 ∙ fed.end (r.end x.2 ∙ x.0);
+        ap (λ (l : List (List ℕ)). joined l ++ (tail ++ fed.more)) x.1 ∙ ap (λ (l : List ℕ). l ++ fed.more) x.2
+        ∙ fed.end (r.end x.2 ∙ x.0);
   }
     where
       front_packets : (xs ys : List (List ℕ)) → ArePackets (xs ++ ys) → ArePackets xs
@@ -142,12 +164,14 @@ module _ (file : List ℕ) (place : ℕ) (bytes : List ℕ) (ended : Bool) (fed 
   file_continues = continues file t.packets t.ended _ t.frame (rest_front t.ended r.told)
 
   -- no frame wants a bad packet of which all packets were there
-  pub none_wanted : (slots : ℕ) → (t.ended ≡ false → slots ≤ length t.packets) → ¬ (HasBad file × length (packets_in file) < slots)
+  pub none_wanted : (slots : ℕ) → (t.ended ≡ false → slots ≤ length t.packets)
+      → ¬ (HasBad file × length (packets_in file) < slots)
   none_wanted slots had = not_wanted file t.packets t.ended _ slots (rest_front t.ended r.told) had
 
   -- as many packets are there as were taken
   pub few_taken : length (t.packets ++ rest) ≤ length (packets_in file)
-  few_taken = taken_few file (t.packets ++ rest) false _ (all_read false (λ on. absurd (let z : false ≡ true = on in cc)))
+  few_taken = taken_few file (t.packets ++ rest) false _
+      (all_read false (λ on. absurd (let z : false ≡ true = on in cc)))
 
   -- and if it ended, no others
   pub all_taken : over ≡ true → tail ≡ [] → packets_in file ≡ t.packets ++ rest
@@ -160,5 +184,6 @@ module _ (file : List ℕ) (place : ℕ) (bytes : List ℕ) (ended : Bool) (fed 
   pub bad_next : tail ≢ [] → begins_with_packet tail ≡ false → (slice_index tail 0 ≢ SYNC) ⊎ (ended ≡ true)
       → NextIsBad file (t.packets ++ rest)
   bad_next some bad cut =
-      next_bad file (t.packets ++ rest) false (tail ++ fed.more) (all_read false (λ on. absurd (let z : false ≡ true = on in cc)))
+      next_bad file (t.packets ++ rest) false (tail ++ fed.more)
+      (all_read false (λ on. absurd (let z : false ≡ true = on in cc)))
       (λ z. some (front_empty tail fed.more z)) (still_bad tail fed.more ended some bad cut fed.end)

@@ -1,5 +1,6 @@
 -- What a swapper sends, from call to call.
-use Rattle.std.proofs.Common.{◌≡◌, ℕ, ◌≢◌, ◌+◌, ◌≤◌, true, false, List, [], ◌∷◌, ◌++◌, length, drop, refl, ap, sym, subst, ◌∙◌, arith}
+use Rattle.std.proofs.Common.{◌≡◌, ℕ, ◌≢◌, ◌+◌, ◌≤◌, true, false, List, [], ◌∷◌, ◌++◌, length, drop, refl, ap, sym}
+use Rattle.std.proofs.Common.{subst, ◌∙◌, arith}
 use Rattle.std.proofs.Common.{append-nil, append_assoc, length-append}
 use Rattle.std.proofs.lemmas.Bool.{true≢false}
 use Rattle.std.proofs.lemmas.Grind.{flat_map-append}
@@ -43,7 +44,8 @@ more_packets c plp input frames more =
 
 -- ---- inputs that continue
 
-pub sends_told : (c : Config) (plp : ℕ) (s q : Swapper) (t u : Told) (left rest : List Body) (frames : List NumberedView) (count : ℕ)
+pub sends_told : (c : Config) (plp : ℕ) (s q : Swapper) (t u : Told) (left rest : List Body)
+    (frames : List NumberedView) (count : ℕ)
     (gave now : List ℕ) → now ≡ gave → ((input : List (List ℕ)) → Continues u input → Continues t input)
     → (status_of q).finished ≡ (status_of s).finished → SwapperStandsFor q c plp u rest frames count
     → Sends c plp s t left frames count gave → Sends c plp q u rest frames count now
@@ -66,8 +68,10 @@ caught_told c plp s q t u frames count back unit h = record {
 
 -- ---- a frame is begun
 
-pub sends_begun : (c : Config) (plp : ℕ) (s q : Swapper) (t : Told) (left : List Body) (frames : List NumberedView) (f : NumberedView)
-    (count : ℕ) (gave : List ℕ) → (status_of s).finished ≡ false → SwapperStandsFor q c plp t left (frames ++ f ∷ []) count
+pub sends_begun : (c : Config) (plp : ℕ) (s q : Swapper) (t : Told) (left : List Body) (frames : List NumberedView)
+    (f : NumberedView)
+    (count : ℕ) (gave : List ℕ) → (status_of s).finished ≡ false → SwapperStandsFor q c plp t left (frames ++ f ∷ [])
+    count
     → Sends c plp s t [] frames count gave → Sends c plp q t left (frames ++ f ∷ []) count gave
 sends_begun c plp s q t left frames f count gave going stands h = record {
   stands = stands;
@@ -77,7 +81,8 @@ sends_begun c plp s q t left frames f count gave going stands h = record {
   front = λ input cont later _.
       let more = more_packets c plp input frames (f ∷ []) in
       subst (λ (l : List (List ℕ)). IsPrefix h.units (pipe c.pid l))
-      (sym (append_assoc (remade_packets c (swapped c plp input frames)) more.0 later) ∙ ap (λ (l : List (List ℕ)). l ++ later) (sym more.1))
+      (sym (append_assoc (remade_packets c (swapped c plp input frames)) more.0 later)
+      ∙ ap (λ (l : List (List ℕ)). l ++ later) (sym more.1))
       (h.front input cont (more.0 ++ later) (λ over. absurd (true≢false (sym over ∙ going))));
   whole = λ _ input cont.
       let more = more_packets c plp input frames (f ∷ []) in
@@ -85,14 +90,24 @@ sends_begun c plp s q t left frames f count gave going stands h = record {
       let size = ap length l.complete in
       let same = ap (λ (l : List (List ℕ)). length (complete_units c.pid l)) more.1 in
       let few = h.whole going input cont in
-      omega (arith, size, same, few, length-append (complete_units c.pid (remade_packets c (swapped c plp input frames))) l.others);
+      omega (
+        arith,
+        size,
+        same,
+        few,
+        length-append
+            (complete_units c.pid (remade_packets c (swapped c plp input frames))) l.others,
+      );
 }
 
 -- ---- units
 
-pub sends_units : (c : Config) (plp : ℕ) (s q : Swapper) (t : Told) (left rest : List Body) (frames : List NumberedView) (count : ℕ)
-    (units : List (List ℕ)) (gave now : List ℕ) → now ≡ gave ++ joined units → (status_of q).finished ≡ (status_of s).finished
-    → ((input : List (List ℕ)) → Continues t input → (more : List (List ℕ)) → ((status_of s).finished ≡ true → more ≡ [])
+pub sends_units : (c : Config) (plp : ℕ) (s q : Swapper) (t : Told) (left rest : List Body) (frames : List NumberedView)
+    (count : ℕ)
+    (units : List (List ℕ)) (gave now : List ℕ) → now ≡ gave ++ joined units
+    → (status_of q).finished ≡ (status_of s).finished
+    → ((input : List (List ℕ)) → Continues t input → (more : List (List ℕ))
+    → ((status_of s).finished ≡ true → more ≡ [])
     → IsPrefix units (drop count (pipe c.pid (remade_packets c (swapped c plp input frames) ++ more))))
     → ((status_of s).finished ≡ false → units ≢ [] → (input : List (List ℕ)) → Continues t input
     → count + length units ≤ length (complete_units c.pid (remade_packets c (swapped c plp input frames))))
@@ -105,27 +120,36 @@ sends_units c plp s q t left rest frames count units gave now is finished next c
   count_is = (let e = h.count_is in omega (arith, e, length-append h.units units));
   front = λ input cont more over.
       let going : (status_of s).finished ≡ true → more ≡ [] = λ on. over (finished ∙ on) in
-      front_then h.units units (pipe c.pid (remade_packets c (swapped c plp input frames) ++ more)) (h.front input cont more going)
-      (subst (λ (k : ℕ). IsPrefix units (drop k (pipe c.pid (remade_packets c (swapped c plp input frames) ++ more)))) h.count_is
+      front_then h.units units (pipe c.pid (remade_packets c (swapped c plp input frames) ++ more))
+      (h.front input cont more going)
+      (subst (λ (k : ℕ). IsPrefix units (drop k (pipe c.pid (remade_packets c (swapped c plp input frames) ++ more))))
+      h.count_is
       (next input cont more going));
   whole = λ off input cont.
-      more_within count _ units (h.whole (sym finished ∙ off) input cont) (λ some. complete (sym finished ∙ off) some input cont);
+      more_within count _ units (h.whole (sym finished ∙ off) input cont) (λ some. complete (sym finished
+      ∙ off) some input cont);
 }
 
 -- all complete units, as bytes
-pub gave_complete : CompleteLaw → (c : Config) (plp : ℕ) (s : Swapper) (t : Told) (left : List Body) (frames : List NumberedView)
+pub gave_complete : CompleteLaw → (c : Config) (plp : ℕ) (s : Swapper) (t : Told) (left : List Body)
+    (frames : List NumberedView)
     (count : ℕ) (gave : List ℕ) (input : List (List ℕ)) → Continues t input → (status_of s).finished ≡ false
-    → count ≡ length (complete_units c.pid (remade_packets c (swapped c plp input frames))) → Sends c plp s t left frames count gave
+    → count ≡ length (complete_units c.pid (remade_packets c (swapped c plp input frames)))
+    → Sends c plp s t left frames count gave
     → gave ≡ joined (complete_units c.pid (remade_packets c (swapped c plp input frames)))
 gave_complete law c plp s t left frames count gave input cont going all h =
     let packets : List (List ℕ) = remade_packets c (swapped c plp input frames) in
     let p = h.front input cont [] (λ over. absurd (true≢false (sym over ∙ going))) in
     let l = law c.pid packets [] in
-    h.gave_is ∙ ap joined (same_front h.units (complete_units c.pid packets) p.0 l.rest (sym p.1 ∙ l.units) (sym h.count_is ∙ all))
+    h.gave_is ∙ ap joined (same_front h.units (complete_units c.pid packets) p.0 l.rest (sym p.1 ∙ l.units)
+    (sym h.count_is ∙ all))
 
-pub gave_all : (c : Config) (plp : ℕ) (s : Swapper) (t : Told) (left : List Body) (frames : List NumberedView) (count : ℕ) (gave : List ℕ)
-    (input : List (List ℕ)) → Continues t input → length (pipe c.pid (remade_packets c (swapped c plp input frames))) ≡ count
-    → Sends c plp s t left frames count gave → gave ≡ joined (pipe c.pid (remade_packets c (swapped c plp input frames)))
+pub gave_all : (c : Config) (plp : ℕ) (s : Swapper) (t : Told) (left : List Body) (frames : List NumberedView)
+    (count : ℕ) (gave : List ℕ)
+    (input : List (List ℕ)) → Continues t input → length (pipe c.pid (remade_packets c (swapped c plp input frames)))
+    ≡ count
+    → Sends c plp s t left frames count gave
+    → gave ≡ joined (pipe c.pid (remade_packets c (swapped c plp input frames)))
 gave_all c plp s t left frames count gave input cont all h =
     let packets : List (List ℕ) = remade_packets c (swapped c plp input frames) in
     let p = h.front input cont [] (λ _. refl) in
@@ -134,7 +158,8 @@ gave_all c plp s t left frames count gave input cont all h =
     h.gave_is ∙ ap joined (sym (units ∙ ap (λ (l : List (List ℕ)). h.units ++ l) none ∙ append-nil h.units))
 
 -- it is finished
-pub sends_over : (c : Config) (plp : ℕ) (s q : Swapper) (t : Told) (left : List Body) (frames : List NumberedView) (count : ℕ)
+pub sends_over : (c : Config) (plp : ℕ) (s q : Swapper) (t : Told) (left : List Body) (frames : List NumberedView)
+    (count : ℕ)
     (gave : List ℕ) → (status_of s).finished ≡ false → SwapperStandsFor q c plp t left frames count
     → Sends c plp s t left frames count gave → Sends c plp q t left frames count gave
 sends_over c plp s q t left frames count gave going stands h = record {

@@ -1,5 +1,6 @@
 -- What is shown of bytes that came, and of their end.
-use Rattle.std.proofs.Common.{◌≡◌, ◌≢◌, ◌⊎◌, ℕ, ◌+◌, ◌-◌, ◌*◌, ◌<◌, ◌≤◌, Bool, true, false, cond, List, [], ◌∷◌, ◌++◌, length}
+use Rattle.std.proofs.Common.{◌≡◌, ◌≢◌, ◌⊎◌, ℕ, ◌+◌, ◌-◌, ◌*◌, ◌<◌, ◌≤◌, Bool, true, false, cond, List, [], ◌∷◌, ◌++◌}
+use Rattle.std.proofs.Common.{length}
 use Rattle.std.proofs.Math.Logic.{∥∥₁_map}
 use Rattle.std.proofs.Common.{refl, ap, sym, subst, ◌∙◌, arith, length-append, inl, inr}
 use Rattle.std.specs.Prelude.{slice_index}
@@ -25,8 +26,10 @@ use Rattle.region_swap.specs.Swapped.{frames_in}
 use Rattle.region_swap.specs.declared.swapper.Swapper.{Swapper}
 use Rattle.region_swap.proofs.SwapLemmas.{wants_told}
 use Rattle.swap_run.specs.AsMachine.{Becomes}
-use Rattle.swap_run.specs.Shown.{HasShown, ReadsPackets, Sends, HasCaughtUp, Read, InRecords, InPackets, InUnits, InDrains, InRests}
-use Rattle.swap_run.specs.Shown.{IsBehindAll, IsWanted, IsIn, ShownAt, Shown, IsBound, begun_in, next_in, left_at, more_units, status_in}
+use Rattle.swap_run.specs.Shown.{HasShown, ReadsPackets, Sends, HasCaughtUp, Read, InRecords, InPackets, InUnits}
+use Rattle.swap_run.specs.Shown.{InDrains, InRests}
+use Rattle.swap_run.specs.Shown.{IsBehindAll, IsWanted, IsIn, ShownAt, Shown, IsBound, begun_in, next_in, left_at}
+use Rattle.swap_run.specs.Shown.{more_units, status_in}
 use Rattle.swap_run.specs.declared.phase.Phase.{Phase}
 use Rattle.swap_run.specs.declared.phase.Phase.TheVariants as phase
 use Rattle.swap_run.specs.declared.stop.SwapStop.TheVariants.{InputRefused}
@@ -45,15 +48,18 @@ has_shown m came = ∥∥₁_map came (λ (h : HasCome Becomes m). record {
   shown = h.came;
 })
 
-pub becomes_itself : (m : SwapMachine) (plp : ℕ) → (status_of m.swapper).plp ≡ plp → Shown m.plan.now plp [] m → Becomes m [] m
+pub becomes_itself : (m : SwapMachine) (plp : ℕ) → (status_of m.swapper).plp ≡ plp → Shown m.plan.now plp [] m
+    → Becomes m [] m
 becomes_itself m plp is s = subst (λ (p : ℕ). Shown m.plan.now p [] m) (sym is) s
 
 -- ---- by one event more
 
-pub feed_same : (held : Bool) (c : Config) (f : FrameFeed) (bytes now : List ℕ) (ended is : Bool) (given : List FrameRecord) → now ≡ bytes
+pub feed_same : (held : Bool) (c : Config) (f : FrameFeed) (bytes now : List ℕ) (ended is : Bool)
+    (given : List FrameRecord) → now ≡ bytes
     → is ≡ ended → OfFeed held c f bytes ended given → OfFeed held c f now is given
 feed_same held c f bytes now ended is given e d h =
-    subst (λ (x : Bool). OfFeed held c f now x given) (sym d) (subst (λ (l : List ℕ). OfFeed held c f l ended given) (sym e) h)
+    subst (λ (x : Bool). OfFeed held c f now x given) (sym d) (subst (λ (l : List ℕ). OfFeed held c f l ended given)
+    (sym e) h)
 
 -- The inputs have these bytes, and so much was given, as before but for an input.
 pub record Same (input : ℕ) (events more : List Event) : Type 0 where
@@ -74,9 +80,14 @@ none_wanted true slots len e off = absurd (true≢false off)
 none_wanted false slots len e off = omega (arith, e)
 
 -- the same of what is bound in a phase that tells nothing of units
-pub bound_as : (next number units more less : ℕ) (given : List FrameRecord) → less ≤ more → IsBound next number units more given
+pub bound_as : (next number units more less : ℕ) (given : List FrameRecord) → less ≤ more
+    → IsBound next number units more given
     → IsBound next number units less given
-bound_as next number units more less given le b = let m = b.most in record { few = b.few; early = b.early; most = omega (arith, m, le) }
+bound_as next number units more less given le b = let m = b.most in record {
+  few = b.few;
+  early = b.early;
+  most = omega (arith, m, le);
+}
 
 module _ (c : Config) (plp : ℕ) (events : List Event) (m : SwapMachine) (s : Shown c plp events m) where
   abbrev pub r : Read
@@ -97,15 +108,18 @@ module _ (c : Config) (plp : ℕ) (events : List Event) (m : SwapMachine) (s : S
     pub of_in : OfFeed (begun_in p) c m.feed (fed 0 events) (has_ended 0 events) r.given
     of_in = subst (λ (x : Phase). OfFeed (begun_in x) c m.feed (fed 0 events) (has_ended 0 events) r.given) e s.of_feed
 
-    pub sends_in : Sends c plp m.swapper r.told (left_at p m.swapper m.feed) (frames_in c r.given) m.ran.units (gave events)
-    sends_in = subst (λ (x : Phase). Sends c plp m.swapper r.told (left_at x m.swapper m.feed) (frames_in c r.given) m.ran.units (gave events)) e
+    pub sends_in : Sends c plp m.swapper r.told (left_at p m.swapper m.feed) (frames_in c r.given) m.ran.units
+        (gave events)
+    sends_in = subst (λ (x : Phase). Sends c plp m.swapper r.told (left_at x m.swapper m.feed) (frames_in c r.given)
+        m.ran.units (gave events)) e
         s.sends
 
     pub status_at : status_of m.swapper ≡ status_in c plp m.number p
     status_at = s.status ∙ ap (status_in c plp m.number) e
 
     pub bound_at : IsBound (next_in p m.number) m.number m.ran.units (more_units p m.swapper m.feed) r.given
-    bound_at = subst (λ (x : Phase). IsBound (next_in x m.number) m.number m.ran.units (more_units x m.swapper m.feed) r.given) e s.bound
+    bound_at = subst (λ (x : Phase). IsBound (next_in x m.number) m.number m.ran.units (more_units x m.swapper m.feed)
+        r.given) e s.bound
 
     pub is_at : IsIn c plp m r (has_ended 1 events) p
     is_at = subst (IsIn c plp m r (has_ended 1 events)) e s.is_in
@@ -129,20 +143,24 @@ module _ (c : Config) (plp : ℕ) (events : List Event) (m : SwapMachine) (s : S
   pub wants_is : wants_of m.swapper ≡ wants_by c plp r.told
   wants_is = wants_told m.swapper c plp r.told _ (frames_in c r.given) m.ran.units s.sends.stands
 
-  pub has_wanted : 0 < wants_of m.swapper → HasWanted r.told.ended (slots_by c plp (m.number * c.ticks)) (length r.told.packets)
+  pub has_wanted : 0 < wants_of m.swapper → HasWanted r.told.ended (slots_by c plp (m.number * c.ticks))
+      (length r.told.packets)
   has_wanted lt =
       subst (λ (n : ℕ). HasWanted r.told.ended (slots_by c plp (n * c.ticks)) (length r.told.packets)) s.frame
       (wanted_more r.told.ended (slots_by c plp (r.told.frame * c.ticks)) (length r.told.packets)
       (let e = wants_is in omega (arith, lt, e)))
 
-  pub all_there : wants_of m.swapper ≡ 0 → r.told.ended ≡ false → slots_by c plp (m.number * c.ticks) ≤ length r.told.packets
+  pub all_there : wants_of m.swapper ≡ 0 → r.told.ended ≡ false → slots_by c plp (m.number * c.ticks) ≤ length
+      r.told.packets
   all_there none off =
       subst (λ (n : ℕ). slots_by c plp (n * c.ticks) ≤ length r.told.packets) s.frame
-      (none_wanted r.told.ended (slots_by c plp (r.told.frame * c.ticks)) (length r.told.packets) (sym wants_is ∙ none) off)
+      (none_wanted r.told.ended (slots_by c plp (r.told.frame * c.ticks)) (length r.told.packets) (sym wants_is
+      ∙ none) off)
 
   -- ---- bytes of the T2-MI stream came, or its end
 
-  pub shown_feed : (g : FrameFeed) (more : List Event) → m.phase ≡ phase.Records → Same 1 events more → gave more ≡ gave events
+  pub shown_feed : (g : FrameFeed) (more : List Event) → m.phase ≡ phase.Records → Same 1 events more
+      → gave more ≡ gave events
       → IsFedWith c g (fed 0 more) (has_ended 0 more) r.given → Shown c plp more (record m { feed = g })
   shown_feed g more e one gave_is fed_is =
       let i = in_records e in
@@ -153,7 +171,8 @@ module _ (c : Config) (plp : ℕ) (events : List Event) (m : SwapMachine) (s : S
         of_input = reads_same _ _ _ _ r.told r.rest r.tail m.taken m.ended one.fed_is one.ended_is s.of_input;
         frame = s.frame;
         had = s.had;
-        sends = subst (Sends c plp m.swapper r.told [] (frames_in c r.given) m.ran.units) (sym gave_is) (sends_in phase.Records e);
+        sends = subst (Sends c plp m.swapper r.told [] (frames_in c r.given) m.ran.units) (sym gave_is)
+            (sends_in phase.Records e);
         status = status_at phase.Records e;
         counted = s.counted;
         bound = bound_at phase.Records e;
@@ -163,30 +182,36 @@ module _ (c : Config) (plp : ℕ) (events : List Event) (m : SwapMachine) (s : S
 
   -- ---- a packet was offered
 
-  pub shown_offer : (q : Swapper) (p : List ℕ) (more : List Event) → m.phase ≡ phase.Packets → 0 < wants_of m.swapper → Same 0 events more
+  pub shown_offer : (q : Swapper) (p : List ℕ) (more : List Event) → m.phase ≡ phase.Packets → 0 < wants_of m.swapper
+      → Same 0 events more
       → fed 1 more ≡ fed 1 events ++ p → has_ended 1 more ≡ has_ended 1 events → gave more ≡ gave events
       → length p ≡ SIZE → slice_index p 0 ≡ SYNC
       → ((c : Config) (plp : ℕ) (t : Told) (left : List Body) (frames : List NumberedView) (given : ℕ)
-      → SwapperStandsFor m.swapper c plp t left frames given → SwapperStandsFor q c plp (with_packet t p) left frames given)
+      → SwapperStandsFor m.swapper c plp t left frames given → SwapperStandsFor q c plp (with_packet t p)
+      left frames given)
       → has_unit q ≡ has_unit m.swapper → status_of q ≡ status_of m.swapper
       → Shown c plp more (record m { swapper = q; taken = m.taken + 1 })
   shown_offer q p more e some zero here ended gave_is long sync stands unit status =
       let w = has_wanted some in
       let i = in_packets e in
       let t : Told = with_packet r.told p in
-      let back : (input : List (List ℕ)) → Continues t input → Continues r.told input = λ input cont. cont_packet r.told p input w.off cont in
+      let back : (input : List (List ℕ)) → Continues t input → Continues r.told input = λ input cont.
+      cont_packet r.told p input w.off cont in
       let longer = length-append r.told.packets (p ∷ []) in
       let less = w.less in
       subst (ShownAt c plp more (record m { swapper = q; taken = m.taken + 1 })) (sym e) (record {
         base = s.base;
         read = record { given = r.given; told = t; rest = r.rest; tail = r.tail };
         of_feed = feed_same false c m.feed _ _ _ _ r.given zero.fed_is zero.ended_is (of_in phase.Packets e);
-        of_input = reads_offer _ _ p _ _ r.told r.rest r.tail m.taken m.ended here ended i.quiet.rest_is i.quiet.tail_is w.off long sync s.of_input;
+        of_input = reads_offer _ _ p _ _ r.told r.rest r.tail m.taken m.ended here ended i.quiet.rest_is
+            i.quiet.tail_is w.off long sync s.of_input;
         frame = s.frame;
         had = λ off. let h = s.had w.off in omega (arith, h, longer);
-        sends = sends_told c plp m.swapper q r.told t [] [] (frames_in c r.given) m.ran.units (gave events) (gave more) gave_is back
+        sends = sends_told c plp m.swapper q r.told t [] [] (frames_in c r.given) m.ran.units (gave events)
+            (gave more) gave_is back
             (ap (λ (x : Status). x.finished) status)
-            (stands c plp r.told [] (frames_in c r.given) m.ran.units (sends_in phase.Packets e).stands) (sends_in phase.Packets e);
+            (stands c plp r.told [] (frames_in c r.given) m.ran.units (sends_in phase.Packets e).stands)
+            (sends_in phase.Packets e);
         status = status ∙ status_at phase.Packets e;
         counted = s.counted;
         bound = bound_at phase.Packets e;
@@ -205,7 +230,8 @@ module _ (c : Config) (plp : ℕ) (events : List Event) (m : SwapMachine) (s : S
 
   -- ---- the input ended before the frame under way
 
-  pub shown_end : (q : Swapper) (more : List Event) → m.phase ≡ phase.Packets → Same 0 events more → fed 1 more ≡ fed 1 events
+  pub shown_end : (q : Swapper) (more : List Event) → m.phase ≡ phase.Packets → Same 0 events more
+      → fed 1 more ≡ fed 1 events
       → has_ended 1 more ≡ true → gave more ≡ gave events
       → ((c : Config) (plp : ℕ) (t : Told) (left : List Body) (frames : List NumberedView) (given : ℕ)
       → SwapperStandsFor m.swapper c plp t left frames given → SwapperStandsFor q c plp (at_end t) left frames given)
@@ -214,7 +240,8 @@ module _ (c : Config) (plp : ℕ) (events : List Event) (m : SwapMachine) (s : S
   shown_end q more e zero here ended gave_is stands unit status =
       let i = in_packets e in
       let t : Told = at_end r.told in
-      let back : (input : List (List ℕ)) → Continues t input → Continues r.told input = λ input cont. cont_end r.told input cont in
+      let back : (input : List (List ℕ)) → Continues t input → Continues r.told input = λ input cont.
+      cont_end r.told input cont in
       subst (ShownAt c plp more (record m { swapper = q; ended = true })) (sym e) (record {
         base = s.base;
         read = record { given = r.given; told = t; rest = r.rest; tail = r.tail };
@@ -223,9 +250,11 @@ module _ (c : Config) (plp : ℕ) (events : List Event) (m : SwapMachine) (s : S
             (reads_end _ _ _ r.told r.rest r.tail m.taken m.ended here i.quiet.rest_is i.quiet.tail_is s.of_input);
         frame = s.frame;
         had = λ off. absurd (true≢false off);
-        sends = sends_told c plp m.swapper q r.told t [] [] (frames_in c r.given) m.ran.units (gave events) (gave more) gave_is back
+        sends = sends_told c plp m.swapper q r.told t [] [] (frames_in c r.given) m.ran.units (gave events)
+            (gave more) gave_is back
             (ap (λ (x : Status). x.finished) status)
-            (stands c plp r.told [] (frames_in c r.given) m.ran.units (sends_in phase.Packets e).stands) (sends_in phase.Packets e);
+            (stands c plp r.told [] (frames_in c r.given) m.ran.units (sends_in phase.Packets e).stands)
+            (sends_in phase.Packets e);
         status = status ∙ status_at phase.Packets e;
         counted = s.counted;
         bound = bound_at phase.Packets e;
@@ -257,10 +286,12 @@ module _ (c : Config) (plp : ℕ) (events : List Event) (m : SwapMachine) (s : S
         base = s.base;
         read = record { given = r.given; told = r.told; rest = r.rest ++ p ∷ []; tail = r.tail };
         of_feed = feed_same false c m.feed _ _ _ _ r.given zero.fed_is zero.ended_is (of_in phase.Drains e);
-        of_input = reads_drain _ _ p _ _ r.told r.rest r.tail m.taken m.ended here ended i.whole off long sync s.of_input;
+        of_input = reads_drain _ _ p _ _ r.told r.rest r.tail m.taken m.ended here ended i.whole off
+            long sync s.of_input;
         frame = s.frame;
         had = s.had;
-        sends = subst (Sends c plp m.swapper r.told [] (frames_in c r.given) m.ran.units) (sym gave_is) (sends_in phase.Drains e);
+        sends = subst (Sends c plp m.swapper r.told [] (frames_in c r.given) m.ran.units) (sym gave_is)
+            (sends_in phase.Drains e);
         status = status_at phase.Drains e;
         counted = record {
           frames_is = s.counted.frames_is;
@@ -269,7 +300,8 @@ module _ (c : Config) (plp : ℕ) (events : List Event) (m : SwapMachine) (s : S
           joined_is = s.counted.joined_is;
         };
         bound = bound_at phase.Drains e;
-        live = live_on c plp _ _ r.told r.told r.given m.ran.units m.ran.units zero.fed_is (λ _ cont. cont) (omega arith) s.live;
+        live = live_on c plp _ _ r.told r.told r.given m.ran.units m.ran.units zero.fed_is (λ _ cont. cont)
+            (omega arith) s.live;
         is_in = record {
           caught = i.caught;
           behind = i.behind;
@@ -278,7 +310,8 @@ module _ (c : Config) (plp : ℕ) (events : List Event) (m : SwapMachine) (s : S
         };
       })
 
-  pub shown_over : (more : List Event) → m.phase ≡ phase.Drains → m.ended ≡ false → Same 0 events more → fed 1 more ≡ fed 1 events
+  pub shown_over : (more : List Event) → m.phase ≡ phase.Drains → m.ended ≡ false → Same 0 events more
+      → fed 1 more ≡ fed 1 events
       → has_ended 1 more ≡ true → gave more ≡ gave events → Shown c plp more (record m { ended = true })
   shown_over more e off zero here ended gave_is =
       let i = in_drains e in
@@ -291,11 +324,13 @@ module _ (c : Config) (plp : ℕ) (events : List Event) (m : SwapMachine) (s : S
             (reads_over _ _ _ r.told r.rest r.tail m.taken m.ended here i.whole off s.of_input);
         frame = s.frame;
         had = s.had;
-        sends = subst (Sends c plp m.swapper r.told [] (frames_in c r.given) m.ran.units) (sym gave_is) (sends_in phase.Drains e);
+        sends = subst (Sends c plp m.swapper r.told [] (frames_in c r.given) m.ran.units) (sym gave_is)
+            (sends_in phase.Drains e);
         status = status_at phase.Drains e;
         counted = s.counted;
         bound = bound_at phase.Drains e;
-        live = live_on c plp _ _ r.told r.told r.given m.ran.units m.ran.units zero.fed_is (λ _ cont. cont) (omega arith) s.live;
+        live = live_on c plp _ _ r.told r.told r.given m.ran.units m.ran.units zero.fed_is (λ _ cont. cont)
+            (omega arith) s.live;
         is_in = record {
           caught = i.caught;
           behind = i.behind;
@@ -311,7 +346,8 @@ module _ (c : Config) (plp : ℕ) (events : List Event) (m : SwapMachine) (s : S
     pub caught : HasCaughtUp c plp m.swapper r.told (frames_in c r.given) m.ran.units
     pub whole : r.tail ≡ []
     pub going : m.ended ≡ false
-    pub met : IsWanted c plp m.feed m.number m.draining r.told.packets r.rest ⊎ IsBehindAll c plp m.feed m.number r.given r.told.packets
+    pub met : IsWanted c plp m.feed m.number m.draining r.told.packets r.rest
+        ⊎ IsBehindAll c plp m.feed m.number r.given r.told.packets
     pub of_feed : IsFedWith c m.feed (fed 0 events) (has_ended 0 events) r.given
     pub sends : Sends c plp m.swapper r.told [] (frames_in c r.given) m.ran.units (gave events)
     pub status : status_of m.swapper ≡ status_in c plp m.number phase.Drains
@@ -355,7 +391,8 @@ module _ (c : Config) (plp : ℕ) (events : List Event) (m : SwapMachine) (s : S
       }
 
   pub shown_refuse : (p : List ℕ) (more : List Event) → CanRefuse → Same 0 events more → fed 1 more ≡ fed 1 events ++ p
-      → gave more ≡ gave events → p ≢ [] → begins_with_packet p ≡ false → (slice_index p 0 ≢ SYNC) ⊎ (has_ended 1 more ≡ true)
+      → gave more ≡ gave events → p ≢ [] → begins_with_packet p ≡ false → (slice_index p 0 ≢ SYNC)
+      ⊎ (has_ended 1 more ≡ true)
       → Shown c plp more (record m { phase = phase.Stopped (InputRefused m.taken) })
   shown_refuse p more can zero here gave_is some bad cut =
       let now : SwapMachine = record m { phase = phase.Stopped (InputRefused m.taken) } in
@@ -370,7 +407,8 @@ module _ (c : Config) (plp : ℕ) (events : List Event) (m : SwapMachine) (s : S
         status = can.status;
         counted = s.counted;
         bound = bound_as m.number m.number m.ran.units 184 0 r.given (omega arith) can.bound;
-        live = live_on c plp _ _ r.told r.told r.given m.ran.units m.ran.units zero.fed_is (λ _ cont. cont) (omega arith) s.live;
+        live = live_on c plp _ _ r.told r.told r.given m.ran.units m.ran.units zero.fed_is (λ _ cont. cont)
+            (omega arith) s.live;
         is_in = record {
           caught = can.caught;
           number = s.of_input.count;

@@ -1,5 +1,6 @@
 -- What a feed and a swapper want next.
-use Rattle.std.proofs.Common.{◌≡◌, ℕ, ◌*◌, ◌<◌, ◌≤◌, ◌==◌, min, Bool, true, false, cond, Option, None, refl, subst, arith}
+use Rattle.std.proofs.Common.{◌≡◌, ℕ, ◌*◌, ◌<◌, ◌≤◌, ◌==◌, min, Bool, true, false, cond, Option, None, refl, subst}
+use Rattle.std.proofs.Common.{arith}
 use Rattle.std.proofs.lemmas.Bool.{eqb-true, eqb-false}
 use Rattle.frame_groups.specs.declared.waiting.Waiting.{Waiting}
 use Rattle.ts_packet.specs.declared.sizes.TheConstants.{SIZE}
@@ -57,7 +58,8 @@ module _ (Asks : Step → ℕ → ℕ → Type 0) (not_give : (input count : ℕ
   asks_rest false input count h = (refl, h)
 
   -- in no other phase is it asked
-  asks_else : (p : Phase) (idle : Bool) (wants : ℕ) (ended : Bool) (input count : ℕ) → Asks (step_in p idle wants ended) input count
+  asks_else : (p : Phase) (idle : Bool) (wants : ℕ) (ended : Bool) (input count : ℕ)
+      → Asks (step_in p idle wants ended) input count
       → (p ≡ phase.Records → ⊥) → (p ≡ phase.Packets → ⊥) → p ≡ phase.Drains
   asks_else phase.Records idle wants ended input count h r q = absurd (r refl)
   asks_else phase.Packets idle wants ended input count h r q = absurd (q refl)
@@ -70,7 +72,8 @@ module _ (Asks : Step → ℕ → ℕ → Type 0) (not_give : (input count : ℕ
   in_phase : (m : SwapMachine) (p : Phase) (input count : ℕ) → m.phase ≡ p → Asks (step_of m) input count
       → Asks (step_in p (is_idle (waiting_of m.feed) (has_ended m.feed)) (wants_of m.swapper) m.ended) input count
   in_phase m p input count e h =
-      subst (λ (x : Phase). Asks (step_in x (is_idle (waiting_of m.feed) (has_ended m.feed)) (wants_of m.swapper) m.ended) input count) e h
+      subst (λ (x : Phase). Asks (step_in x (is_idle (waiting_of m.feed) (has_ended m.feed)) (wants_of m.swapper)
+      m.ended) input count) e h
 
 record_read : (o : Option Waiting) (e : Bool) (input : ℕ) → is_idle o e ≡ true → 0 ≡ input → ReadsRecord o e input
 record_read o e input i at = let p = idle_is o e i in record { none = p.0; going = p.1; at = at }
@@ -100,7 +103,8 @@ enough_rest m input count e h =
 pub enough_else : (m : SwapMachine) (input count : ℕ) → Suffices (step_of m) input count → (m.phase ≡ phase.Records → ⊥)
     → (m.phase ≡ phase.Packets → ⊥) → m.phase ≡ phase.Drains
 enough_else m input count h r q =
-    asks_else Suffices (λ i k n. n) (λ i k n. n) m.phase (is_idle (waiting_of m.feed) (has_ended m.feed)) (wants_of m.swapper) m.ended input count h r q
+    asks_else Suffices (λ i k n. n) (λ i k n. n) m.phase (is_idle (waiting_of m.feed) (has_ended m.feed))
+    (wants_of m.swapper) m.ended input count h r q
 
 -- or too few
 pub short_records : (m : SwapMachine) (input count : ℕ) → m.phase ≡ phase.Records → FallsShort (step_of m) input count
@@ -124,18 +128,22 @@ short_rest m input count e h =
     (in_phase FallsShort (λ i k n. n) (λ i k n. n) m phase.Drains input count e h) in
     (record { going = a.0; at = a.1.0 }, a.1.1)
 
-pub short_else : (m : SwapMachine) (input count : ℕ) → FallsShort (step_of m) input count → (m.phase ≡ phase.Records → ⊥)
+pub short_else : (m : SwapMachine) (input count : ℕ) → FallsShort (step_of m) input count
+    → (m.phase ≡ phase.Records → ⊥)
     → (m.phase ≡ phase.Packets → ⊥) → m.phase ≡ phase.Drains
 short_else m input count h r q =
-    asks_else FallsShort (λ i k n. n) (λ i k n. n) m.phase (is_idle (waiting_of m.feed) (has_ended m.feed)) (wants_of m.swapper) m.ended input count h r q
+    asks_else FallsShort (λ i k n. n) (λ i k n. n) m.phase (is_idle (waiting_of m.feed) (has_ended m.feed))
+    (wants_of m.swapper) m.ended input count h r q
 
 -- ---- it gives
 
 gives_in : (m : SwapMachine) (p : Phase) → m.phase ≡ p → step_of m ≡ Give
     → step_in p (is_idle (waiting_of m.feed) (has_ended m.feed)) (wants_of m.swapper) m.ended ≡ Give
-gives_in m p e h = subst (λ (x : Phase). step_in x (is_idle (waiting_of m.feed) (has_ended m.feed)) (wants_of m.swapper) m.ended ≡ Give) e h
+gives_in m p e h = subst (λ (x : Phase). step_in x (is_idle (waiting_of m.feed) (has_ended m.feed)) (wants_of m.swapper)
+    m.ended ≡ Give) e h
 
-pub gives_record : (m : SwapMachine) → m.phase ≡ phase.Records → step_of m ≡ Give → is_idle (waiting_of m.feed) (has_ended m.feed) ≡ false
+pub gives_record : (m : SwapMachine) → m.phase ≡ phase.Records → step_of m ≡ Give
+    → is_idle (waiting_of m.feed) (has_ended m.feed) ≡ false
 gives_record m e h = go (is_idle (waiting_of m.feed) (has_ended m.feed)) (gives_in m phase.Records e h)
   where
     go : (b : Bool) → record_step b ≡ Give → b ≡ false
@@ -145,7 +153,8 @@ gives_record m e h = go (is_idle (waiting_of m.feed) (has_ended m.feed)) (gives_
 pub gives_packet : (m : SwapMachine) → m.phase ≡ phase.Packets → step_of m ≡ Give → wants_of m.swapper ≡ 0
 gives_packet m e h = go (wants_of m.swapper == 0) refl (gives_in m phase.Packets e h)
   where
-    go : (b : Bool) → (wants_of m.swapper == 0) ≡ b → cond b Give (Read 1 SIZE (SIZE * min (wants_of m.swapper) most_packets)) ≡ Give
+    go : (b : Bool) → (wants_of m.swapper == 0) ≡ b
+        → cond b Give (Read 1 SIZE (SIZE * min (wants_of m.swapper) most_packets)) ≡ Give
         → wants_of m.swapper ≡ 0
     go true i h = eqb-true (wants_of m.swapper) 0 i
     go false i h = absurd (let z : Read 1 SIZE (SIZE * min (wants_of m.swapper) most_packets) ≡ Give = h in cc)
@@ -161,7 +170,8 @@ pub rests_at : (m : SwapMachine) → step_of m ≡ Give → (m.phase ≡ phase.R
     → (m.phase ≡ phase.Drains → ⊥) → (m.phase ≡ phase.Units → ⊥) → m.phase ≡ phase.Rests
 rests_at m h a b d u = go m.phase refl h
   where
-    go : (p : Phase) → m.phase ≡ p → step_in p (is_idle (waiting_of m.feed) (has_ended m.feed)) (wants_of m.swapper) m.ended ≡ Give
+    go : (p : Phase) → m.phase ≡ p → step_in p (is_idle (waiting_of m.feed) (has_ended m.feed)) (wants_of m.swapper)
+        m.ended ≡ Give
         → m.phase ≡ phase.Rests
     go phase.Records is h = absurd (a is)
     go phase.Packets is h = absurd (b is)
@@ -175,11 +185,13 @@ pub packets_apart : phase.Packets ≡ phase.Records → ⊥
 packets_apart e = absurd (let z : phase.Packets ≡ phase.Records = e in cc)
 
 -- another input is read where records are not
-pub enough_one : (m : SwapMachine) (input count : ℕ) → Suffices (step_of m) input count → (m.phase ≡ phase.Records → ⊥) → 1 ≡ input
+pub enough_one : (m : SwapMachine) (input count : ℕ) → Suffices (step_of m) input count → (m.phase ≡ phase.Records → ⊥)
+    → 1 ≡ input
 enough_one m input count h off = go m.phase refl h
   where
     go : (p : Phase) → m.phase ≡ p
-        → Suffices (step_in p (is_idle (waiting_of m.feed) (has_ended m.feed)) (wants_of m.swapper) m.ended) input count → 1 ≡ input
+        → Suffices (step_in p (is_idle (waiting_of m.feed) (has_ended m.feed)) (wants_of m.swapper) m.ended) input count
+        → 1 ≡ input
     go phase.Records is h = absurd (off is)
     go phase.Packets is h = (asks_packet Suffices (λ i k n. n) (λ i k n. n) (wants_of m.swapper) input count h).1.0
     go phase.Units is h = absurd h
@@ -195,7 +207,8 @@ pub data HowRead (m : SwapMachine) (input : ℕ) : Type 0 where
   OfPackets : m.phase ≡ phase.Packets → ReadsPacket (wants_of m.swapper) input → HowRead m input
   OfRest : m.phase ≡ phase.Drains → ReadsRest m.ended input → HowRead m input
 
-pub needs_read : (m : SwapMachine) (input count : ℕ) → Needs (step_of m) input count → HowRead m input × (count ≤ least_of input)
+pub needs_read : (m : SwapMachine) (input count : ℕ) → Needs (step_of m) input count → HowRead m input
+    × (count ≤ least_of input)
 needs_read m input count h = go m.phase refl h
   where
     go : (p : Phase) → m.phase ≡ p
@@ -220,7 +233,8 @@ pub short_read : (m : SwapMachine) (input count : ℕ) → FallsShort (step_of m
 short_read m input count h = go m.phase refl h
   where
     go : (p : Phase) → m.phase ≡ p
-        → FallsShort (step_in p (is_idle (waiting_of m.feed) (has_ended m.feed)) (wants_of m.swapper) m.ended) input count
+        → FallsShort (step_in p (is_idle (waiting_of m.feed) (has_ended m.feed)) (wants_of m.swapper) m.ended)
+        input count
         → HowRead m input × (0 ≡ input → count ≡ 0) × (count < SIZE)
     go phase.Records is h =
         let a = asks_record FallsShort (λ i k n. n) (λ i k n. n) (waiting_of m.feed) (has_ended m.feed) input count h in

@@ -1,5 +1,6 @@
 -- What a feed and a swapper want can be read.
-use Rattle.std.proofs.Common.{◌≡◌, ℕ, ◌+◌, ◌-◌, ◌*◌, ◌^◌, ◌<◌, ◌≤◌, ◌==◌, min, Bool, true, false, cond, List, [], ◌++◌, length}
+use Rattle.std.proofs.Common.{◌≡◌, ℕ, ◌+◌, ◌-◌, ◌*◌, ◌^◌, ◌<◌, ◌≤◌, ◌==◌, min, Bool, true, false, cond, List, [], ◌++◌}
+use Rattle.std.proofs.Common.{length}
 use Rattle.std.proofs.Common.{refl, ap, sym, subst, ◌∙◌, arith, length-append}
 use Rattle.std.proofs.lemmas.Bool.{eqb-false}
 use Rattle.std.proofs.Math.Nat.{min-le_left, le-min}
@@ -38,7 +39,8 @@ use Rattle.swap_run.proofs.NextLemmas.{slots_in, slots_is}
 use Rattle.swap_run.proofs.ShownLemmas.{feed_end, feed_count, in_packets, in_drains, has_wanted, wants_is}
 use Rattle.swap_run.proofs.StepLemmas.{enough_records, enough_one}
 
-pub taken_length : (bytes : List ℕ) (ended : Bool) (t : Told) (rest : List (List ℕ)) (tail : List ℕ) (taken : ℕ) (over : Bool)
+pub taken_length : (bytes : List ℕ) (ended : Bool) (t : Told) (rest : List (List ℕ)) (tail : List ℕ)
+    (taken : ℕ) (over : Bool)
     → ReadsPackets bytes ended t rest tail taken over → length bytes ≡ SIZE * taken + length tail
 taken_length bytes ended t rest tail taken over r =
     let a = ap length r.parts in
@@ -51,8 +53,10 @@ wants_open : (b : Bool) (x : ℕ) → b ≡ false → cond b 0 x ≡ x
 wants_open true x e = absurd (let z : true ≡ false = e in cc)
 wants_open false x e = refl
 
-module _ (rises : CountRises) (slot : SlotLength) (c : Config) (plp : ℕ) (events : List Event) (m : SwapMachine) (s : Shown c plp events m) where
-  records : (b : Bool) → is_idle (waiting_of m.feed) (feed.has_ended m.feed) ≡ b → IsWanted 2 events (reach_of m) (record_step b)
+module _ (rises : CountRises) (slot : SlotLength) (c : Config) (plp : ℕ) (events : List Event) (m : SwapMachine)
+    (s : Shown c plp events m) where
+  records : (b : Bool) → is_idle (waiting_of m.feed) (feed.has_ended m.feed) ≡ b
+      → IsWanted 2 events (reach_of m) (record_step b)
   records true on = record {
     place = omega arith;
     is_open = sym (feed_end c plp events m s) ∙ (idle_is (waiting_of m.feed) (feed.has_ended m.feed) on).1;
@@ -104,7 +108,8 @@ module _ (rises : CountRises) (slot : SlotLength) (c : Config) (plp : ℕ) (even
       let tail = ap length i.whole in
       let few = i.behind.few in
       let next = i.behind.next in
-      let up = slots_rise rises slot c plp (above_all s.read.given - 1) m.number s.base.rules s.base.place (omega (arith, next)) in
+      let up = slots_rise rises slot c plp (above_all s.read.given - 1) m.number s.base.rules s.base.place
+      (omega (arith, next)) in
       let slots = slots_in m phase.Drains e ∙ slots_is c plp events m s m.number in
       let drains = ap (λ (b : Bool). drained b m.ran.unsent) i.drains in
       record {
@@ -120,7 +125,8 @@ module _ (rises : CountRises) (slot : SlotLength) (c : Config) (plp : ℕ) (even
   wanted_by = by m.phase refl
     where
       by : (p : Phase) → m.phase ≡ p
-          → IsWanted 2 events (reach_of m) (step_in p (is_idle (waiting_of m.feed) (feed.has_ended m.feed)) (wants_of m.swapper) m.ended)
+          → IsWanted 2 events (reach_of m) (step_in p (is_idle (waiting_of m.feed) (feed.has_ended m.feed))
+          (wants_of m.swapper) m.ended)
       by phase.Records e = records (is_idle (waiting_of m.feed) (feed.has_ended m.feed)) refl
       by phase.Packets e = packets e (wants_of m.swapper == 0) refl
       by phase.Units e = tt
@@ -130,7 +136,8 @@ module _ (rises : CountRises) (slot : SlotLength) (c : Config) (plp : ℕ) (even
       by (phase.Stopped why) e = tt
 
 -- so many bytes have room
-pub room_of : (c : Config) (plp : ℕ) (events : List Event) (m : SwapMachine) (input count : ℕ) → Shown c plp events m → Suffices (step_of m) input count
+pub room_of : (c : Config) (plp : ℕ) (events : List Event) (m : SwapMachine) (input count : ℕ) → Shown c plp events m
+    → Suffices (step_of m) input count
     → length (fed input events) + count ≤ longest_file → m.phase ≡ phase.Records → fed_of m.feed + count < 2 ^ 60
 room_of c plp events m input count s wanted few e =
     let w = (enough_records m input count e wanted).0 in
@@ -138,7 +145,8 @@ room_of c plp events m input count s wanted few e =
     let n = feed_count c plp events m s in
     omega (arith, l, n)
 
-pub few_of : (c : Config) (plp : ℕ) (events : List Event) (m : SwapMachine) (input count : ℕ) → Shown c plp events m → Suffices (step_of m) input count
+pub few_of : (c : Config) (plp : ℕ) (events : List Event) (m : SwapMachine) (input count : ℕ) → Shown c plp events m
+    → Suffices (step_of m) input count
     → length (fed input events) + count ≤ longest_file → (m.phase ≡ phase.Records → ⊥) → m.taken < 2 ^ 60
 few_of c plp events m input count s wanted few off =
     let at = enough_one m input count wanted off in
@@ -148,7 +156,8 @@ few_of c plp events m input count s wanted few off =
 
 -- ---- at the opening
 
-pub none_complete : (c : Config) (plp : ℕ) (input : List (List ℕ)) → 0 ≡ length (complete_units c.pid (remade_packets c (swapped c plp input [])))
+pub none_complete : (c : Config) (plp : ℕ) (input : List (List ℕ))
+    → 0 ≡ length (complete_units c.pid (remade_packets c (swapped c plp input [])))
 unfolding remade_packets complete_in
 none_complete c plp input = refl
 

@@ -27,7 +27,8 @@ use Rattle.region_swap.specs.StandsFor.{status_of, wants_of}
 use Rattle.swap_run.specs.AsMachine.{Becomes, ending_in, ending_of}
 use Rattle.swap_run.specs.Shown.{Shown, IsIn, IsDone}
 use Rattle.swap_run.specs.Shown as shown
-use Rattle.swap_run.specs.Steps.{step_in, step_of, reach_of, input_reach, drained, record_step, packet_step, drain_step, most_packets}
+use Rattle.swap_run.specs.Steps.{step_in, step_of, reach_of, input_reach, drained, record_step, packet_step, drain_step}
+use Rattle.swap_run.specs.Steps.{most_packets}
 use Rattle.swap_run.specs.SwapRun.{HasNone, HasWritten, AreWritten, MayWrite, HasSome, swap_work}
 use Rattle.swap_run.specs.declared.machine.SwapMachine.{SwapMachine}
 use Rattle.swap_run.specs.declared.phase.Phase.{Phase}
@@ -35,7 +36,8 @@ use Rattle.swap_run.specs.declared.phase.Phase.TheVariants as phase
 use Rattle.swap_run.specs.declared.stop.SwapStop.TheVariants.{NoSuperframe, InputRefused, TooManyFrames}
 use Rattle.swap_run.specs.declared.machine.SwapMachine.{SwapMachine}
 use Rattle.swap_run.proofs.PacketLemmas.{front_empty}
-use Rattle.swap_run.proofs.FileLemmas.{swaps_all, has_none, has_late, meets_bad, has_swapped, wants_packets, wants_rest, gave_front, since, ahead}
+use Rattle.swap_run.proofs.FileLemmas.{swaps_all, has_none, has_late, meets_bad, has_swapped, wants_packets, wants_rest}
+use Rattle.swap_run.proofs.FileLemmas.{gave_front, since, ahead}
 use Rattle.swap_run.proofs.ShownLemmas.{feed_end, feed_count, in_packets, in_drains}
 use Rattle.swap_run.proofs.StepLemmas.{needs_read, short_read, HowRead, OfRecords, OfPackets, OfRest}
 use Rattle.swap_run.proofs.NextLemmas.{slots_in, slots_is}
@@ -57,7 +59,8 @@ network_of start = start.plan.now
 abbrev pub plp_of : SwapMachine → ℕ
 plp_of start = (status_of start.swapper).plp
 
-module _ (law : Laws) (start m : SwapMachine) (files : ℕ → List ℕ) (places : List ℕ) (events : List Event) (all : length places ≡ 2)
+module _ (law : Laws) (start m : SwapMachine) (files : ℕ → List ℕ) (places : List ℕ) (events : List Event)
+    (all : length places ≡ 2)
     (are : AreFed 2 files places events) (within : AreWithin 2 places (reach_of m))
     (s : Shown (network_of start) (plp_of start) events m) where
   abbrev k : Config
@@ -120,13 +123,19 @@ module _ (law : Laws) (start m : SwapMachine) (files : ℕ → List ℕ) (places
   ends_in phase.Units is end = absurd (let z : Give ≡ End = end in cc)
   ends_in phase.Drains is end = absurd (no_rest m.ended end)
   ends_in phase.Rests is end = absurd (let z : Give ≡ End = end in cc)
-  ends_in phase.Done is end = (whole is, swaps_all law.front law.follow law.complete law.rises law.slot k plp m events s files places are is)
+  ends_in phase.Done is end = (
+    whole is,
+    swaps_all law.front law.follow law.complete law.rises law.slot
+        k plp m events s files places are is,
+  )
   ends_in (phase.Stopped NoSuperframe) is end = finds_none is
   ends_in (phase.Stopped (InputRefused n)) is end =
-      meets_bad law.front law.follow law.complete law.rises law.slot k plp m events s files places are (within 0 (omega arith))
+      meets_bad law.front law.follow law.complete law.rises law.slot k plp m events s files places are
+      (within 0 (omega arith))
       (within 1 (omega arith)) n is
   ends_in (phase.Stopped TooManyFrames) is end =
-      has_late law.front law.follow law.complete law.rises law.slot k plp m events s files places are (within 0 (omega arith))
+      has_late law.front law.follow law.complete law.rises law.slot k plp m events s files places are
+      (within 0 (omega arith))
       (within 1 (omega arith)) is
 
   -- what is written when an input is to be read on
@@ -143,24 +152,29 @@ module _ (law : Laws) (start m : SwapMachine) (files : ℕ → List ℕ) (places
 
       bytes : m.phase ≡ phase.Packets ⊎ (m.phase ≡ phase.Drains) → length (fed 1 events) ≡ SIZE * m.taken
       bytes (inl e) =
-          let n = taken_length (fed 1 events) (has_ended 1 events) s.read.told s.read.rest s.read.tail m.taken m.ended s.of_input in
+          let n = taken_length (fed 1 events) (has_ended 1 events) s.read.told s.read.rest s.read.tail
+          m.taken m.ended s.of_input in
           let tail = ap length (in_packets k plp events m s e).quiet.tail_is in
           omega (arith, n, tail)
       bytes (inr e) =
-          let n = taken_length (fed 1 events) (has_ended 1 events) s.read.told s.read.rest s.read.tail m.taken m.ended s.of_input in
+          let n = taken_length (fed 1 events) (has_ended 1 events) s.read.told s.read.rest s.read.tail
+          m.taken m.ended s.of_input in
           let tail = ap length (in_drains k plp events m s e).whole in
           omega (arith, n, tail)
 
       go : HowRead m place → HasWritten k plp places place taken at files (gave events)
       go (OfRecords e w) = subst (λ (p : ℕ). HasWritten k plp places p taken at files (gave events)) w.at
-          (has_swapped law.front law.follow law.complete law.rises law.slot k plp m events s files places are near taken e w.none w.going
+          (has_swapped law.front law.follow law.complete law.rises law.slot k plp m events s files places
+          are near taken e w.none w.going
           (first w.at))
       go (OfPackets e w) = subst (λ (p : ℕ). HasWritten k plp places p taken at files (gave events)) w.at
-          (wants_packets law.front law.follow law.complete law.rises law.slot k plp m events s files places are close near at e w.some
+          (wants_packets law.front law.follow law.complete law.rises law.slot k plp m events s files
+          places are close near at e w.some
           (let n = (second w.at).0 in let b = bytes (inl e) in omega (arith, n, b))
           (let n = (second w.at).1 in let b = bytes (inl e) in omega (arith, n, b)))
       go (OfRest e w) = subst (λ (p : ℕ). HasWritten k plp places p taken at files (gave events)) w.at
-          (wants_rest law.front law.follow law.complete law.rises law.slot k plp m events s files places are close at e w.going
+          (wants_rest law.front law.follow law.complete law.rises law.slot k plp m events s files places
+          are close at e w.going
           (let n = (second w.at).0 in let b = bytes (inr e) in omega (arith, n, b))
           (let n = (second w.at).1 in let b = bytes (inr e) in omega (arith, n, b)))
 
@@ -188,9 +202,11 @@ module _ (law : Laws) (start m : SwapMachine) (files : ℕ → List ℕ) (places
       let ahead = (are input lt).ahead in
       written input (slice_index places input) (slice_index places input) w.0
       (λ e. let n = ap (λ (n : ℕ). length (fed n events)) e in let few = w.1 e in omega (arith, n, ahead, few))
-      (λ e. let n = ap (λ (n : ℕ). length (fed n events)) e in let few = w.2 in (omega (arith, n, ahead), omega (arith, n, few)))
+      (λ e. let n = ap (λ (n : ℕ). length (fed n events)) e in let few = w.2 in
+      (omega (arith, n, ahead), omega (arith, n, few)))
 
-unwritten : Laws → (start now : SwapMachine) (files : ℕ → List ℕ) (places : List ℕ) (events : List Event) (bytes : List ℕ)
+unwritten : Laws → (start now : SwapMachine) (files : ℕ → List ℕ) (places : List ℕ) (events : List Event)
+    (bytes : List ℕ)
     → AreFed 2 files places events
     → GaveSome reach_of step_of (Becomes start) 2 places events now bytes
     → HasSome (network_of start) (plp_of start) places files bytes
@@ -198,7 +214,8 @@ unwritten law start now files places events bytes are g =
     let k : Config = network_of start in
     let plp : ℕ = plp_of start in
     let mid : SwapMachine = g.mid in
-    let p = gave_front law.front law.follow law.complete law.rises law.slot k plp now (events ++ g.late) g.came_late files places
+    let p = gave_front law.front law.follow law.complete law.rises law.slot k plp now (events ++ g.late)
+    g.came_late files places
     (fed_since 2 files places events g.late g.only are) in
     record {
       more = g.more ++ p.0;
@@ -223,11 +240,16 @@ unwritten law start now files places events bytes are g =
     }
   where
     -- so it is with a front of more
-    more_written : {records : List FrameRecord} → AreWritten (network_of start) (plp_of start) files (gave events) records
+    more_written : {records : List FrameRecord} → AreWritten (network_of start) (plp_of start) files
+        (gave events) records
         → AreWritten (network_of start) (plp_of start) files bytes records
     more_written w = record {
       early = w.early;
-      front = (w.front.0 ++ g.front, g.is ∙ ap (λ (l : List ℕ). l ++ g.front) w.front.1 ∙ append_assoc _ w.front.0 g.front);
+      front = (
+        w.front.0 ++ g.front,
+        g.is ∙ ap (λ (l : List ℕ). l ++ g.front) w.front.1
+            ∙ append_assoc _ w.front.0 g.front,
+      );
     }
 
 pub swap_does : Laws → (start : SwapMachine) → DoesWork (swap_work (network_of start) (plp_of start)) 2

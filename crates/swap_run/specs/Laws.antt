@@ -16,7 +16,8 @@ MustRun c plp files (Err TooManyFrames) = (bytes : List ℕ) × HasLate c plp fi
 
 -- Two files decide how a run of a PLP of a plan over them must end.
 abbrev pub OneRun : Type 0
-OneRun = (c : Config) (plp : ℕ) (files : ℕ → List ℕ) (result other : Result Ran SwapStop) → IsPlan c → plp < length c.plps
+OneRun = (c : Config) (plp : ℕ) (files : ℕ → List ℕ) (result other : Result Ran SwapStop) → IsPlan c
+    → plp < length c.plps
     → MustRun c plp files result → MustRun c plp files other → result ≡ other
 
 -- A run over two files has an ending.

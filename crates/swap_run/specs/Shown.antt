@@ -1,5 +1,6 @@
 -- What was done to a feed and the swapper of its frames. No public clause cites this module.
-use Rattle.std.specs.Prelude.{◌≡◌, ◌≢◌, ◌⊎◌, ℕ, ◌+◌, ◌*◌, ◌^◌, ◌<◌, ◌≤◌, nat_lt, Bool, true, false, List, [], ◌∷◌, ◌++◌, length, take, Some, None}
+use Rattle.std.specs.Prelude.{◌≡◌, ◌≢◌, ◌⊎◌, ℕ, ◌+◌, ◌*◌, ◌^◌, ◌<◌, ◌≤◌, nat_lt, Bool, true, false, List, [], ◌∷◌, ◌++◌}
+use Rattle.std.specs.Prelude.{length, take, Some, None}
 use Rattle.std.specs.Prelude.{slice_index, if◌then◌else◌}
 use Rattle.plp_config.specs.Capacity.{IsPlan}
 use Rattle.plp_config.specs.SlotTime.{slots_by}
@@ -34,8 +35,8 @@ use Rattle.swap_run.specs.declared.stop.SwapStop.{SwapStop}
 use Rattle.swap_run.specs.declared.stop.SwapStop.TheVariants.{NoSuperframe, InputRefused, TooManyFrames}
 use Rattle.swap_run.specs.declared.machine.SwapMachine.{SwapMachine}
 
--- Of an input these packets were offered, and then others taken, so many in all; a tail is no packet. If it ended for the swapper, it
--- did.
+-- Of an input these packets were offered, and then others taken, so many in all; a tail is no packet. If it ended for
+-- the swapper, it did.
 pub record ReadsPackets (bytes : List ℕ) (ended : Bool) (t : Told) (rest : List (List ℕ)) (tail : List ℕ) (taken : ℕ)
     (over : Bool) : Type 0 where
   pub parts : bytes ≡ joined (t.packets ++ rest) ++ tail
@@ -44,21 +45,24 @@ pub record ReadsPackets (bytes : List ℕ) (ended : Bool) (t : Told) (rest : Lis
   pub end : tail ≡ [] → ended ≡ over
   pub told : t.ended ≡ true → (over ≡ true) × (rest ≡ []) × (tail ≡ [])
 
--- Of these frames, with the PLP replaced, units were given, the first ones whatever packets follow, and before the end only complete
--- ones. Of the last one these bodies are left.
-pub record Sends (c : Config) (plp : ℕ) (s : Swapper) (t : Told) (left : List Body) (frames : List NumberedView) (count : ℕ)
+-- Of these frames, with the PLP replaced, units were given, the first ones whatever packets follow, and before the end
+-- only complete ones. Of the last one these bodies are left.
+pub record Sends (c : Config) (plp : ℕ) (s : Swapper) (t : Told) (left : List Body) (frames : List NumberedView)
+    (count : ℕ)
     (gave : List ℕ) : Type 0 where
   pub stands : SwapperStandsFor s c plp t left frames count
   pub units : List (List ℕ)
   pub gave_is : gave ≡ joined units
   pub count_is : count ≡ length units
-  pub front : (input : List (List ℕ)) → Continues t input → (more : List (List ℕ)) → ((status_of s).finished ≡ true → more ≡ [])
+  pub front : (input : List (List ℕ)) → Continues t input → (more : List (List ℕ))
+      → ((status_of s).finished ≡ true → more ≡ [])
       → IsPrefix units (pipe c.pid (remade_packets c (swapped c plp input frames) ++ more))
   pub whole : (status_of s).finished ≡ false → (input : List (List ℕ)) → Continues t input
       → count ≤ length (complete_units c.pid (remade_packets c (swapped c plp input frames)))
 
 -- All complete units were given.
-pub record HasCaughtUp (c : Config) (plp : ℕ) (s : Swapper) (t : Told) (frames : List NumberedView) (count : ℕ) : Type 0 where
+pub record HasCaughtUp (c : Config) (plp : ℕ) (s : Swapper) (t : Told) (frames : List NumberedView) (count : ℕ) :
+    Type 0 where
   pub idle : has_unit s ≡ false
   pub complete : (input : List (List ℕ)) → Continues t input
       → count ≡ length (complete_units c.pid (remade_packets c (swapped c plp input frames)))
@@ -68,9 +72,10 @@ abbrev pub WereGiven : Config → ℕ → Told → List FrameRecord → ℕ → 
 WereGiven c plp t records count = (input : List (List ℕ)) → Continues t input
     → length (complete_units c.pid (remade_packets c (swapped c plp input (frames_in c records)))) ≤ count
 
--- These are the first of the records that were given: all that are due by fewer bytes than were fed. Of their frames, with the PLP
--- replaced, all complete units were given.
-pub record IsLive (c : Config) (plp : ℕ) (bytes : List ℕ) (t : Told) (given : List FrameRecord) (count : ℕ) : Type 0 where
+-- These are the first of the records that were given: all that are due by fewer bytes than were fed. Of their frames,
+-- with the PLP replaced, all complete units were given.
+pub record IsLive (c : Config) (plp : ℕ) (bytes : List ℕ) (t : Told) (given : List FrameRecord) (count : ℕ) :
+    Type 0 where
   pub sent : List FrameRecord
   pub part : IsPrefix sent given
   pub due : (k : ℕ) → k < length bytes → IsPrefix (records_due c false (take k bytes)) sent
@@ -170,7 +175,8 @@ pub record StopsAtLate (c : Config) (plp : ℕ) (m : SwapMachine) (r : Read) : T
   pub quiet : IsQuiet m.draining m.ended r.told.ended r.rest r.tail
 
 -- A frame up to that of the record that waits wants the next packet.
-pub record IsWanted (c : Config) (plp : ℕ) (f : FrameFeed) (number : ℕ) (draining : Bool) (packets rest : List (List ℕ)) : Type 0 where
+pub record IsWanted (c : Config) (plp : ℕ) (f : FrameFeed) (number : ℕ) (draining : Bool)
+    (packets rest : List (List ℕ)) : Type 0 where
   pub waiting : Waiting
   pub waits : waiting_of f ≡ Some waiting
   pub early : waiting.frame < MOST_FRAMES
@@ -187,7 +193,8 @@ pub record StopsAtBad (c : Config) (plp : ℕ) (m : SwapMachine) (r : Read) (ove
   pub bad : begins_with_packet r.tail ≡ false
   -- It is none for its first byte, or since nothing follows.
   pub cut : (slice_index r.tail 0 ≢ SYNC) ⊎ (over ≡ true)
-  pub met : IsWanted c plp m.feed m.number m.draining r.told.packets r.rest ⊎ IsBehindAll c plp m.feed m.number r.given r.told.packets
+  pub met : IsWanted c plp m.feed m.number m.draining r.told.packets r.rest
+      ⊎ IsBehindAll c plp m.feed m.number r.given r.told.packets
 
 abbrev pub StopsFor : Config → ℕ → SwapMachine → Read → Bool → SwapStop → Type 0
 StopsFor c plp m r over NoSuperframe = StopsWithNone c plp m r
@@ -292,7 +299,8 @@ pub record ShownAt (c : Config) (plp : ℕ) (events : List Event) (m : SwapMachi
   pub frame : read.told.frame ≡ m.number
   -- All that the frames of the records wanted was offered, unless the input ended.
   pub had : read.told.ended ≡ false → slots_of c plp read.given ≤ length read.told.packets
-  pub sends : Sends c plp m.swapper read.told (left_at at m.swapper m.feed) (frames_in c read.given) m.ran.units (gave events)
+  pub sends : Sends c plp m.swapper read.told (left_at at m.swapper m.feed) (frames_in c read.given)
+      m.ran.units (gave events)
   pub status : status_of m.swapper ≡ status_in c plp m.number at
   pub counted : IsCounted m.ran.frames m.ran.muted m.ran.unsent m.joined read.given read.rest (frames_in c read.given)
   pub bound : IsBound (next_in at m.number) m.number m.ran.units (more_units at m.swapper m.feed) read.given

@@ -56,8 +56,8 @@ wanted_in (Stopped NoSuperframe) number = number - 1
 wanted_in (Stopped (InputRefused packet)) number = number
 wanted_in (Stopped TooManyFrames) number = number - 1
 
--- how far an input may have been read: the T2-MI stream some bytes further than was fed; the other no further than the packets of the
--- frame that wanted some last, and once all frames were sent some bytes further than was taken
+-- how far an input may have been read: the T2-MI stream some bytes further than was fed; the other no further than the
+-- packets of the frame that wanted some last, and once all frames were sent some bytes further than was taken
 abbrev pub drained : Bool → ℕ → ℕ
 drained draining unsent = if draining then SIZE * unsent + read_ahead else 0
 
@@ -69,7 +69,8 @@ input_reach m =
 abbrev pub reach_of : SwapMachine → ℕ → ℕ
 reach_of m input = if input == 0 then fed_of m.feed + read_ahead else input_reach m
 
--- It gives no more often before it wants bytes: so many records may come, and each has frames that are passed and a frame's units.
+-- It gives no more often before it wants bytes: so many records may come, and each has frames that are passed and a
+-- frame's units.
 abbrev pub left_in : Phase → ℕ → ℕ → Swapper → FrameFeed → ℕ
 left_in Records records number s f = records * (2 * frame_bytes) + 2 * (MOST_FRAMES + 1 - number) + frame_bytes
 left_in Packets records number s f = records * (2 * frame_bytes) + 2 * (MOST_FRAMES + 1 - number) + (frame_bytes - 1)

@@ -1,5 +1,5 @@
--- What a run of the swapper does, by the bytes of its two files: the T2-MI stream is input 0, and the transport stream of the region
--- input 1.
+-- What a run of the swapper does, by the bytes of its two files: the T2-MI stream is input 0, and the transport stream
+-- of the region input 1.
 use Rattle.std.specs.Prelude.{◌≡◌, ◌≢◌, ◌⊎◌, ℕ, zero, suc, ◌+◌, ◌-◌, ◌*◌, ◌<◌, ◌≤◌, false, List, [], ◌∷◌, ◌++◌, length}
 use Rattle.std.specs.Prelude.{take, slice_index, Ok, Err}
 use Rattle.plp_config.specs.SlotTime.{slots_by}
@@ -44,7 +44,8 @@ complete_of c plp files records = complete_units c.pid (packets_of c plp (packet
 abbrev pub slots_of : Config → ℕ → List FrameRecord → ℕ
 slots_of c plp records = slots_by c plp ((above_all records - 1) * c.ticks)
 
--- what a run counts: frames, muted records, the packets of the slots that are not over when the last frame begins, and units
+-- what a run counts: frames, muted records, the packets of the slots that are not over when the last frame begins, and
+-- units
 abbrev pub counted : Config → ℕ → List FrameRecord → List (List ℕ) → ℕ → Ran
 counted c plp records packets units = record {
   frames = length (frames_in c records);
@@ -59,7 +60,8 @@ counted c plp records packets units = record {
 abbrev pub WantBad : Config → ℕ → List ℕ → List FrameRecord → Type 0
 WantBad c plp file records = HasBad file × (length (packets_in file) < slots_of c plp records)
 
--- The first file has a record and no late one, the second no bad packet; the output is all units, and these are the numbers.
+-- The first file has a record and no late one, the second no bad packet; the output is all units, and these are the
+-- numbers.
 pub record SwapsAll (c : Config) (plp : ℕ) (files : ℕ → List ℕ) (ran : Ran) (bytes : List ℕ) : Type 0 where
   pub some : records_of c (files 0) ≢ []
   pub early : AreEarly (records_of c (files 0))
@@ -72,17 +74,20 @@ pub record HasNone (c : Config) (files : ℕ → List ℕ) (bytes : List ℕ) : 
   pub none : records_of c (files 0) ≡ []
   pub empty : bytes ≡ []
 
--- Of the second file no more was read than the first of some records wants, behind others; if there is none, the rest may be read.
+-- Of the second file no more was read than the first of some records wants, behind others; if there is none, the rest
+-- may be read.
 abbrev pub ReadsNoFurther : Config → ℕ → List ℕ → List FrameRecord → List FrameRecord → Type 0
-ReadsNoFurther c plp places before after = after ≢ [] → slice_index places 1 ≤ SIZE * slots_of c plp (before ++ take 1 after)
+ReadsNoFurther c plp places before after = after ≢ [] → slice_index places 1 ≤ SIZE * slots_of c plp
+    (before ++ take 1 after)
 
 -- The first file was read by no more than is read ahead behind bytes by which a record is due that is none of these.
 abbrev pub TakesNoFurther : Config → List ℕ → (ℕ → List ℕ) → List FrameRecord → Type 0
 TakesNoFurther c places files before = (taken : ℕ) → taken + read_ahead < slice_index places 0
     → IsPrefix (records_due c false (take taken (files 0))) before
 
--- The first file has a record, and the first bad packet of the second is this: the first of some records wants it, whose frame may have
--- its number, or all were sent and the rest has it. The output is the complete units of the frames before.
+-- The first file has a record, and the first bad packet of the second is this: the first of some records wants it,
+-- whose frame may have its number, or all were sent and the rest has it. The output is the complete units of the frames
+-- before.
 pub record MeetsBad (c : Config) (plp : ℕ) (files : ℕ → List ℕ) (packet : ℕ) (bytes : List ℕ) : Type 0 where
   pub some : records_of c (files 0) ≢ []
   pub bad : HasBad (files 1)
@@ -95,8 +100,8 @@ pub record MeetsBad (c : Config) (plp : ℕ) (files : ℕ → List ℕ) (packet 
   pub wanted : after ≢ [] → WantBad c plp (files 1) (before ++ take 1 after)
   pub output : bytes ≡ joined (complete_of c plp files before)
 
--- The first file has a record whose number none may have, no frame before wants a bad packet, and the output is the complete units of
--- the frames before it.
+-- The first file has a record whose number none may have, no frame before wants a bad packet, and the output is the
+-- complete units of the frames before it.
 pub record HasLate (c : Config) (plp : ℕ) (files : ℕ → List ℕ) (bytes : List ℕ) : Type 0 where
   pub before : List FrameRecord
   pub late : FrameRecord
@@ -107,18 +112,20 @@ pub record HasLate (c : Config) (plp : ℕ) (files : ℕ → List ℕ) (bytes : 
   pub unwanted : ¬ (WantBad c plp (files 1) before)
   pub output : bytes ≡ joined (complete_of c plp files before)
 
--- These are the records that are due by so many bytes of the first file. All may have their numbers, none wants a bad packet, of the
--- second file no more was read than they want, and the output is the complete units of their frames.
-pub record HasSwapped (c : Config) (plp : ℕ) (places : List ℕ) (taken : ℕ) (files : ℕ → List ℕ) (bytes : List ℕ) : Type 0 where
+-- These are the records that are due by so many bytes of the first file. All may have their numbers, none wants a bad
+-- packet, of the second file no more was read than they want, and the output is the complete units of their frames.
+pub record HasSwapped (c : Config) (plp : ℕ) (places : List ℕ) (taken : ℕ) (files : ℕ → List ℕ) (bytes : List ℕ) :
+    Type 0 where
   pub early : AreEarly (records_due c false (take taken (files 0)))
   pub unwanted : ¬ (WantBad c plp (files 1) (records_due c false (take taken (files 0))))
   pub no_further : slice_index places 1 ≤ SIZE * slots_of c plp (records_due c false (take taken (files 0)))
   pub output : bytes ≡ joined (complete_of c plp files (records_due c false (take taken (files 0))))
 
--- The next frame is the first that wants more of the second file than so many bytes, and no more was read than it wants, or all frames
--- were sent; of the first file no more was read than its record wants; in these bytes no bad packet is whole. The output is the complete
--- units of the frames before.
-pub record WantsMore (c : Config) (plp : ℕ) (places : List ℕ) (place : ℕ) (files : ℕ → List ℕ) (bytes : List ℕ) : Type 0 where
+-- The next frame is the first that wants more of the second file than so many bytes, and no more was read than it
+-- wants, or all frames were sent; of the first file no more was read than its record wants; in these bytes no bad
+-- packet is whole. The output is the complete units of the frames before.
+pub record WantsMore (c : Config) (plp : ℕ) (places : List ℕ) (place : ℕ) (files : ℕ → List ℕ) (bytes : List ℕ) :
+    Type 0 where
   pub before : List FrameRecord
   pub after : List FrameRecord
   pub parts : records_of c (files 0) ≡ before ++ after
@@ -131,8 +138,8 @@ pub record WantsMore (c : Config) (plp : ℕ) (places : List ℕ) (place : ℕ) 
   pub unread : ReadsNoBad (files 1) place
   pub output : bytes ≡ joined (complete_of c plp files before)
 
--- what is written when an input is to be read on: they were read to these places, of the first so many bytes were taken, and of the
--- second so many are looked at
+-- what is written when an input is to be read on: they were read to these places, of the first so many bytes were
+-- taken, and of the second so many are looked at
 abbrev pub HasWritten : Config → ℕ → List ℕ → ℕ → ℕ → ℕ → (ℕ → List ℕ) → List ℕ → Type 0
 HasWritten c plp places zero taken place files bytes = HasSwapped c plp places taken files bytes
 HasWritten c plp places (suc input) taken place files bytes = WantsMore c plp places place files bytes
@@ -143,12 +150,13 @@ least_of zero = 1
 least_of (suc input) = SIZE
 
 -- These records may have their numbers, and of their frames all complete units are written.
-pub record AreWritten (c : Config) (plp : ℕ) (files : ℕ → List ℕ) (bytes : List ℕ) (records : List FrameRecord) : Type 0 where
+pub record AreWritten (c : Config) (plp : ℕ) (files : ℕ → List ℕ) (bytes : List ℕ) (records : List FrameRecord) :
+    Type 0 where
   pub early : AreEarly records
   pub front : IsPrefix (joined (complete_of c plp files records)) bytes
 
--- What may be written: the complete units of the frames of the first records, none of which wants a bad packet; and if they are all, and
--- the second file has no bad packet, all units.
+-- What may be written: the complete units of the frames of the first records, none of which wants a bad packet; and if
+-- they are all, and the second file has no bad packet, all units.
 pub record MayWrite (c : Config) (plp : ℕ) (files : ℕ → List ℕ) (bytes : List ℕ) : Type 0 where
   pub before : List FrameRecord
   pub after : List FrameRecord
@@ -158,8 +166,8 @@ pub record MayWrite (c : Config) (plp : ℕ) (files : ℕ → List ℕ) (bytes :
   pub output : (bytes ≡ joined (complete_of c plp files before))
       ⊎ ((after ≡ []) × (¬ (HasBad (files 1))) × (bytes ≡ joined (units_of c plp files)))
 
--- Of the frames of some first records all complete units are written, and no more of the second file was read than that of the next
--- wants.
+-- Of the frames of some first records all complete units are written, and no more of the second file was read than that
+-- of the next wants.
 pub record ReadsAhead (c : Config) (plp : ℕ) (places : List ℕ) (files : ℕ → List ℕ) (bytes : List ℕ) : Type 0 where
   pub before : List FrameRecord
   pub after : List FrameRecord
@@ -167,8 +175,9 @@ pub record ReadsAhead (c : Config) (plp : ℕ) (places : List ℕ) (files : ℕ 
   pub written : AreWritten c plp files bytes before
   pub no_further : ReadsNoFurther c plp places before after
 
--- These bytes are the first of what may be written, but not all; and so the records are written that are due by fewer bytes of the T2-MI
--- stream than were read by more than are read ahead, and those before the one whose frame wants what was read of the second file.
+-- These bytes are the first of what may be written, but not all; and so the records are written that are due by fewer
+-- bytes of the T2-MI stream than were read by more than are read ahead, and those before the one whose frame wants what
+-- was read of the second file.
 pub record HasSome (c : Config) (plp : ℕ) (places : List ℕ) (files : ℕ → List ℕ) (bytes : List ℕ) : Type 0 where
   pub more : List ℕ
   pub some : more ≢ []
@@ -184,8 +193,9 @@ pub record HasNearly (c : Config) (plp input : ℕ) (files : ℕ → List ℕ) (
   pub within : taken ≤ longest_file
   pub has : HasWritten c plp places input taken taken files bytes
 
--- What a run tells, by its cause. A record that none may have waits, or a bad packet was met: then of the second file no more was read
--- than the frame wants that comes next, or those before the record, and of the first no more than its record wants.
+-- What a run tells, by its cause. A record that none may have waits, or a bad packet was met: then of the second file
+-- no more was read than the frame wants that comes next, or those before the record, and of the first no more than its
+-- record wants.
 abbrev pub swap_work : Config → ℕ → Work Ran SwapStop
 swap_work c plp files (Ok ran) places bytes = AreWhole files places × SwapsAll c plp files ran bytes
 swap_work c plp files (Err (Refused NoSuperframe)) places bytes =

@@ -10,8 +10,8 @@ use region_swap::Swapper;
 use std::alloc::Global;
 use ts_packet::SIZE;
 
-/// A swapper that is fed with the bytes of two inputs and gives the bytes of its units: a feed of the frames of a T2-MI stream, and
-/// what makes them anew with the packets of a region.
+/// A swapper that is fed with the bytes of two inputs and gives the bytes of its units: a feed of the frames of a T2-MI
+/// stream, and what makes them anew with the packets of a region.
 #[derive(Drop)]
 pub struct SwapMachine<'p> {
     pub plan: &'p Plan,
@@ -118,7 +118,8 @@ impl<'p> SwapMachine<'p> {
     ghost use Rattle.region_swap.specs.StandsFor.{status_of};
     ghost use Rattle.swap_run.specs.AsMachine.{Becomes};
 
-    /// A swapper to which nothing was fed, for the PLP at a place of a plan, and all its memory. Its one refusal is want of memory.
+    /// A swapper to which nothing was fed, for the PLP at a place of a plan, and all its memory. Its one refusal is
+    /// want of memory.
     pub fn open(alloc: Global, plan: &'p Plan, plp: usize) -> Result<SwapMachine<'p>, OutOfMemory>
         requires { plp < length plan.now.plps }
         ensures plan { IfOk result (λ m. m.plan.now ≡ plan.now) }

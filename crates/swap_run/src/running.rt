@@ -13,10 +13,11 @@ use ports::{Desk, Word};
 use std::alloc::Global;
 use t2mi_stream::complete_law;
 
-/// Runs the swapper of a plan for the PLP at a place: opens the T2-MI stream and the transport stream that replaces it, which may be
-/// one file, creates the output, and goes record by record through the stream; of the input it reads the packets of the slots that are
-/// over when the frame of that record begins, and behind the last frame the rest, which is tested and not sent. All units that are
-/// complete are written before it reads on. All memory is taken before the first input is opened.
+/// Runs the swapper of a plan for the PLP at a place: opens the T2-MI stream and the transport stream that replaces it,
+/// which may be one file, creates the output, and goes record by record through the stream; of the input it reads the
+/// packets of the slots that are over when the frame of that record begins, and behind the last frame the rest, which
+/// is tested and not sent. All units that are complete are written before it reads on. All memory is taken before the
+/// first input is opened.
 pub fn run<D: Desk>(
     alloc: Global,
     plan: &Plan,
@@ -29,7 +30,8 @@ pub fn run<D: Desk>(
     requires place { plp < length plan.now.plps }
     requires apart_t2mi { t2mi.now ≢ out.now }
     requires apart_input { input.now ≢ out.now }
-    ensures ends { Ends (swap_work plan.now plp) (D.state desk.old) (D.state desk.new) (Into out.now) (names_of t2mi.now input.now) result }
+    ensures ends { Ends (swap_work plan.now plp) (D.state desk.old) (D.state desk.new) (Into out.now)
+        (names_of t2mi.now input.now) result }
 {
     due_records_law();
     complete_law();

@@ -181,7 +181,8 @@ impl<'p> SwapMachine<'p> {
         requires came { ∥ HasShown self.old ∥₁ }
         requires records { self.old.phase ≡ phase.Records }
         requires busy { is_idle (waiting_of self.old.feed) (has_ended self.old.feed) ≡ false }
-        ensures shown { (c : Config) (plp : ℕ) (events : List Event) → Shown c plp events self.old → Shown c plp events self.new }
+        ensures shown { (c : Config) (plp : ℕ) (events : List Event) → Shown c plp events self.old
+            → Shown c plp events self.new }
         ensures left { left_of self.new < left_of self.old }
         ensures reach { (other : ℕ) → reach_of self.old other ≤ reach_of self.new other }
     {
@@ -196,7 +197,8 @@ impl<'p> SwapMachine<'p> {
         requires came { ∥ HasShown self.old ∥₁ }
         requires records { self.old.phase ≡ phase.Records }
         requires waits { waiting_of self.old.feed ≡ Some waiting }
-        ensures shown { (c : Config) (plp : ℕ) (events : List Event) → Shown c plp events self.old → Shown c plp events self.new }
+        ensures shown { (c : Config) (plp : ℕ) (events : List Event) → Shown c plp events self.old
+            → Shown c plp events self.new }
         ensures left { left_of self.new < left_of self.old }
         ensures reach { (other : ℕ) → reach_of self.old other ≤ reach_of self.new other }
     {
@@ -216,7 +218,8 @@ impl<'p> SwapMachine<'p> {
         requires records { self.old.phase ≡ phase.Records }
         requires none { waiting_of self.old.feed ≡ None }
         requires over { has_ended self.old.feed ≡ true }
-        ensures shown { (c : Config) (plp : ℕ) (events : List Event) → Shown c plp events self.old → Shown c plp events self.new }
+        ensures shown { (c : Config) (plp : ℕ) (events : List Event) → Shown c plp events self.old
+            → Shown c plp events self.new }
         ensures left { left_of self.new < left_of self.old }
         ensures reach { (other : ℕ) → reach_of self.old other ≤ reach_of self.new other }
     {
@@ -235,7 +238,8 @@ impl<'p> SwapMachine<'p> {
         requires came { ∥ HasShown self.old ∥₁ }
         requires packets { self.old.phase ≡ phase.Packets }
         requires wanted { wants_of self.old.swapper ≡ 0 }
-        ensures shown { (c : Config) (plp : ℕ) (events : List Event) → Shown c plp events self.old → Shown c plp events self.new }
+        ensures shown { (c : Config) (plp : ℕ) (events : List Event) → Shown c plp events self.old
+            → Shown c plp events self.new }
         ensures left { left_of self.new < left_of self.old }
         ensures reach { (other : ℕ) → reach_of self.old other ≤ reach_of self.new other }
     {
@@ -254,7 +258,8 @@ impl<'p> SwapMachine<'p> {
         requires wanted { wants_of self.old.swapper ≡ 0 }
         requires waits { waiting_of self.old.feed ≡ Some waiting }
         requires before { self.old.number < waiting.frame }
-        ensures shown { (c : Config) (plp : ℕ) (events : List Event) → Shown c plp events self.old → Shown c plp events self.new }
+        ensures shown { (c : Config) (plp : ℕ) (events : List Event) → Shown c plp events self.old
+            → Shown c plp events self.new }
         ensures left { left_of self.new < left_of self.old }
         ensures reach { (other : ℕ) → reach_of self.old other ≤ reach_of self.new other }
     {
@@ -271,7 +276,8 @@ impl<'p> SwapMachine<'p> {
         requires wanted { wants_of self.old.swapper ≡ 0 }
         requires waits { waiting_of self.old.feed ≡ Some waiting }
         requires here { waiting.frame ≤ self.old.number }
-        ensures shown { (c : Config) (plp : ℕ) (events : List Event) → Shown c plp events self.old → Shown c plp events self.new }
+        ensures shown { (c : Config) (plp : ℕ) (events : List Event) → Shown c plp events self.old
+            → Shown c plp events self.new }
         ensures left { left_of self.new < left_of self.old }
         ensures reach { (other : ℕ) → reach_of self.old other ≤ reach_of self.new other }
     {
@@ -325,7 +331,8 @@ impl<'p> SwapMachine<'p> {
         requires came { ∥ HasShown self.old ∥₁ }
         requires drains { self.old.phase ≡ phase.Drains }
         requires over { self.old.ended ≡ true }
-        ensures shown { (c : Config) (plp : ℕ) (events : List Event) → Shown c plp events self.old → Shown c plp events self.new }
+        ensures shown { (c : Config) (plp : ℕ) (events : List Event) → Shown c plp events self.old
+            → Shown c plp events self.new }
         ensures left { left_of self.new < left_of self.old }
         ensures reach { (other : ℕ) → reach_of self.old other ≤ reach_of self.new other }
     {

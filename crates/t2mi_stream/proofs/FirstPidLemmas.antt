@@ -1,5 +1,6 @@
 -- The PID that a file tells, and the packets that are accepted on it.
-use Rattle.std.proofs.Common.{◌≡◌, ℕ, zero, suc, ◌+◌, ◌*◌, ◌/◌, ◌==◌, ◌<◌, ◌≤◌, ⊎_elim, Bool, true, false, cond, List, ◌++◌}
+use Rattle.std.proofs.Common.{◌≡◌, ℕ, zero, suc, ◌+◌, ◌*◌, ◌/◌, ◌==◌, ◌<◌, ◌≤◌, ⊎_elim, Bool, true, false, cond, List}
+use Rattle.std.proofs.Common.{◌++◌}
 use Rattle.std.proofs.Common.{length, take, Option, Some, None, refl, ap, sym, subst, ◌∙◌, arith, length-append}
 use Rattle.std.specs.Prelude.{slice_get, option_to_list, flat_map, nat_lt, not, ◌&&◌}
 use Rattle.std.specs.List.{range_with_len}
@@ -10,7 +11,8 @@ use Rattle.ts_packet.specs.FieldsIn.{fields_in}
 use Rattle.t2mi_stream.specs.Skipping.{CarriesNothing, SkipLaw}
 use Rattle.t2mi_stream.specs.Units.{points_inside, PipedUnit, piped_unit_of, carried, unit_at}
 use Rattle.t2mi_stream.proofs.SkippingLemmas.{unit_before, unit_behind}
-use Rattle.t2mi_stream.specs.FirstPid.{pid_of, pid_at, pid_in, accepted_on, TellsNone, TellsNoneOn, PacketsBehind, NoPackets}
+use Rattle.t2mi_stream.specs.FirstPid.{pid_of, pid_at, pid_in, accepted_on, TellsNone, TellsNoneOn, PacketsBehind}
+use Rattle.t2mi_stream.specs.FirstPid.{NoPackets}
 
 first_of : (o : Option ℕ) (rest : List ℕ) (pid : ℕ) → o ≡ Some pid → slice_get (option_to_list o ++ rest) 0 ≡ Some pid
 first_of None rest pid e = cc
@@ -30,7 +32,8 @@ told_first f pid a (suc n) zero none some h =
 told_first f pid a (suc n) (suc m) none some h =
     let here : a + 0 ≡ a = omega arith in
     let next : a + 1 + m ≡ a + suc m = omega arith in
-    first_behind (f a) (flat_map (λ k. option_to_list (f k)) (range_with_len (a + 1) n)) (sym (ap f here) ∙ none 0 (omega arith))
+    first_behind (f a) (flat_map (λ k. option_to_list (f k)) (range_with_len (a + 1) n)) (sym (ap f here)
+    ∙ none 0 (omega arith))
     ∙ told_first f pid (a + 1) n m (λ k l. (let behind : a + 1 + k ≡ a + suc k = omega arith in ap f behind)
     ∙ none (suc k) (omega arith)) (ap f next ∙ some) (omega arith)
 
@@ -39,7 +42,8 @@ told_none : (f : ℕ → Option ℕ) (a n : ℕ) → ((k : ℕ) → k < n → f 
 told_none f a zero none = refl
 told_none f a (suc n) none =
     let here : a + 0 ≡ a = omega arith in
-    first_behind (f a) (flat_map (λ k. option_to_list (f k)) (range_with_len (a + 1) n)) (sym (ap f here) ∙ none 0 (omega arith))
+    first_behind (f a) (flat_map (λ k. option_to_list (f k)) (range_with_len (a + 1) n)) (sym (ap f here)
+    ∙ none 0 (omega arith))
     ∙ told_none f (a + 1) n (λ k l. (let behind : a + 1 + k ≡ a + suc k = omega arith in ap f behind)
     ∙ none (suc k) (omega arith))
 
@@ -69,7 +73,8 @@ no_piped_unit pid place unit (Some f) other none = go (f.pid == pid) (nat_lt 0 (
     go false some is h = refl
     go true true is h =
         let same : f.pid ≡ pid = eqb-true f.pid pid is in
-        absurd (both_ways (pid == 0x1FFF) other (subst (λ (n : ℕ). (n == 0x1FFF) ≡ true) same (null (f.pid == 0x1FFF) refl h)))
+        absurd (both_ways (pid == 0x1FFF) other (subst (λ (n : ℕ). (n == 0x1FFF) ≡ true) same
+        (null (f.pid == 0x1FFF) refl h)))
     go true false is h = left_out (f.error) (f.scrambling == 0)
       where
         left_out : (e s : Bool) → cond {A = Option PipedUnit} (true && not e && s && false && points_inside f)
@@ -94,7 +99,8 @@ next_unit front rest units whole =
     ap (λ (u : List ℕ). pid_of (fields_in u)) (ap (unit_at (front ++ rest)) last ∙ unit_behind front rest units 0 whole)
 
 -- units that tell no PID, and then one that tells it
-tells : (front rest : List ℕ) (pid : ℕ) → TellsNone front → 188 ≤ length rest → pid_of (fields_in (take 188 rest)) ≡ Some pid
+tells : (front rest : List ℕ) (pid : ℕ) → TellsNone front → 188 ≤ length rest
+    → pid_of (fields_in (take 188 rest)) ≡ Some pid
     → pid_in (front ++ rest) ≡ Some pid
 unfolding pid_in
 tells front rest pid t many some =
@@ -102,7 +108,8 @@ tells front rest pid t many some =
     let size = length-append front rest in
     let from : 0 + t.units ≡ t.units = omega arith in
     told_first (pid_at (front ++ rest)) pid 0 (length (front ++ rest) / 188) t.units
-    (λ k h. (let same : 0 + k ≡ k = omega arith in ap (pid_at (front ++ rest)) same) ∙ ap (λ (u : List ℕ). pid_of (fields_in u))
+    (λ k h. (let same : 0 + k ≡ k = omega arith in ap (pid_at (front ++ rest)) same)
+    ∙ ap (λ (u : List ℕ). pid_of (fields_in u))
     (unit_before front rest t.units k t.whole h) ∙ t.none k h)
     (ap (pid_at (front ++ rest)) from ∙ next_unit front rest t.units t.whole ∙ some)
     (omega arith)
@@ -141,7 +148,8 @@ tells_none front unit t size none =
           (unit_before front unit t.units number t.whole before) ∙ t.none number before)
           (λ (at : t.units ≤ number).
           let last : number ≡ t.units = omega arith in
-          ap (pid_at (front ++ unit)) last ∙ next_unit front unit t.units t.whole ∙ ap (λ (u : List ℕ). pid_of (fields_in u))
+          ap (pid_at (front ++ unit)) last ∙ next_unit front unit t.units t.whole
+          ∙ ap (λ (u : List ℕ). pid_of (fields_in u))
           (take_all 188 unit (omega (arith, size))) ∙ none)
           (cases_lt number t.units);
     }

@@ -1,6 +1,8 @@
 -- Units that are kept go on with a run, and each byte of it that begins a packet begins whole packets up to the end.
-use Rattle.std.proofs.Common.{◌≡◌, ℕ, zero, suc, ◌+◌, ◌-◌, ◌*◌, ◌%◌, ◌^◌, ◌<◌, ◌≤◌, Bool, true, false, List, [], ◌∷◌, ◌++◌}
-use Rattle.std.proofs.Common.{length, take, drop, Option, Some, refl, ap, sym, subst, ◌∙◌, inl, inr, ⊎_elim, arith, append_assoc}
+use Rattle.std.proofs.Common.{◌≡◌, ℕ, zero, suc, ◌+◌, ◌-◌, ◌*◌, ◌%◌, ◌^◌, ◌<◌, ◌≤◌, Bool, true, false, List, [], ◌∷◌}
+use Rattle.std.proofs.Common.{◌++◌}
+use Rattle.std.proofs.Common.{length, take, drop, Option, Some, refl, ap, sym, subst, ◌∙◌, inl, inr, ⊎_elim, arith}
+use Rattle.std.proofs.Common.{append_assoc}
 use Rattle.std.proofs.Common.{append-nil, length-append, length-drop, eq-eqb, take-add}
 use Rattle.std.specs.Prelude.{option_to_list, option_map, flat_map}
 use Rattle.std.proofs.lemmas.List.{drop-drop, drop_at, take_all, drop_all}
@@ -22,7 +24,8 @@ use Rattle.t2mi_stream.proofs.FitLemmas.{Fits, fits_append}
 use Rattle.t2mi_stream.proofs.ReadsLemmas.{UnitLaws, unit_reads, carried_fits}
 
 -- one more unit behind whole units
-pub one_unit : (w : UnitLaws) (pid counter number : ℕ) (bytes : List ℕ) (xs : List JoinedByte) → pid < 2 ^ 13 → counter < 16
+pub one_unit : (w : UnitLaws) (pid counter number : ℕ) (bytes : List ℕ) (xs : List JoinedByte) → pid < 2 ^ 13
+    → counter < 16
     → 0 < length xs → length bytes ≡ 188 * number →
     runs pid (bytes ++ unit pid counter xs) ≡ with_piped_unit (runs pid bytes)
     (record { counter = counter; bytes = carried_in (188 * number) xs })
@@ -33,13 +36,15 @@ one_unit w pid counter number bytes xs p n some whole =
     ∙ take_all 188 (unit pid counter xs) (omega (arith, r.whole)) in
     runs_unit pid bytes (unit pid counter xs) number (omega (arith, whole)) (length-append bytes (unit pid counter xs)
     ∙ omega (arith, whole, r.whole))
-    ∙ ap (λ (u : List ℕ). cut_from (runs pid bytes) (option_to_list (piped_unit_of pid (188 * number) u (fields_in u)))) at
+    ∙ ap (λ (u : List ℕ). cut_from (runs pid bytes) (option_to_list (piped_unit_of pid (188 * number) u (fields_in u))))
+    at
     ∙ ap (λ (o : Option PipedUnit). cut_from (runs pid bytes) (option_to_list o)) r.piped_unit
 
 -- a piped unit in a run
 pub entered : (cut : Cut) (c : PipedUnit) → (front : List Byte) × ((with_piped_unit cut c).run ≡ front ++ c.bytes)
     × ((with_piped_unit cut c).last ≡ Some c.counter)
-entered cut c = cond_both {A = Cut} (goes_on cut.last c.counter) _ _ (λ k. (front : List Byte) × (k.run ≡ front ++ c.bytes)
+entered cut c = cond_both {A = Cut} (goes_on cut.last c.counter) _ _ (λ k. (front : List Byte)
+    × (k.run ≡ front ++ c.bytes)
     × (k.last ≡ Some c.counter))
     (λ _. (cut.run, refl, refl)) (λ _. ([], refl, refl))
 
@@ -66,13 +71,15 @@ none_along pid count bytes = record {
 -- one unit, and then others
 along : (pid : ℕ) (bytes u : List ℕ) (units : List (List ℕ)) (more carried : List Byte)
     → (runs pid ((bytes ++ u) ++ flat_map (λ u. u) units)).run ≡ (runs pid (bytes ++ u)).run ++ more →
-    (runs pid (bytes ++ u)).run ≡ (runs pid bytes).run ++ carried → (runs pid (bytes ++ flat_map (λ u. u) (u ∷ units))).run
+    (runs pid (bytes ++ u)).run ≡ (runs pid bytes).run ++ carried
+    → (runs pid (bytes ++ flat_map (λ u. u) (u ∷ units))).run
     ≡ (runs pid bytes).run ++ (carried ++ more)
 along pid bytes u units more carried rest one =
     ap (λ (l : List ℕ). (runs pid l).run) (sym (append_assoc bytes u (flat_map (λ u. u) units)))
     ∙ rest ∙ ap (λ (l : List Byte). l ++ more) one ∙ append_assoc (runs pid bytes).run carried more
 
-pub goes_along : (w : UnitLaws) (pid count steps counter last number : ℕ) (bytes : List ℕ) (xs : List JoinedByte) → pid < 2 ^ 13
+pub goes_along : (w : UnitLaws) (pid count steps counter last number : ℕ) (bytes : List ℕ) (xs : List JoinedByte)
+    → pid < 2 ^ 13
     → length bytes ≡ 188 * number → (runs pid bytes).last ≡ Some last →
     counter ≡ (last + 1) % 16 → length xs ≤ steps → GoesOn pid bytes (take count (units_in pid steps counter xs)) xs
     (carried_len count xs)
@@ -84,7 +91,8 @@ goes_along w pid zero steps counter last number bytes xs p whole is n enough = r
 }
 goes_along w pid (suc count) zero counter last number bytes [] p whole is n enough = none_along pid (suc count) bytes
 goes_along w pid (suc count) zero counter last number bytes (x ∷ xs) p whole is n enough = absurd (omega arith)
-goes_along w pid (suc count) (suc steps) counter last number bytes [] p whole is n enough = none_along pid (suc count) bytes
+goes_along w pid (suc count) (suc steps) counter last number bytes [] p whole is n enough = none_along
+    pid (suc count) bytes
 goes_along w pid (suc count) (suc steps) counter last number bytes (x ∷ xs) p whole is n enough =
     let all : List JoinedByte = x ∷ xs in
     let u : List ℕ = unit pid counter all in
@@ -115,7 +123,8 @@ goes_along w pid (suc count) (suc steps) counter last number bytes (x ∷ xs) p 
     }
 
 -- units that are kept, one behind another
-pub kept_front : (units : List (List ℕ)) (fates : List Fate) (count : ℕ) → ((n : ℕ) → n < count → fate_of fates n ≡ Some Kept) →
+pub kept_front : (units : List (List ℕ)) (fates : List Fate) (count : ℕ)
+    → ((n : ℕ) → n < count → fate_of fates n ≡ Some Kept) →
     (others : List ℕ) × (left_of units fates ≡ flat_map (λ u. u) (take count units) ++ others)
 kept_front units fates zero kept = (left_of units fates, refl)
 kept_front [] fates (suc count) kept = ([], refl)
@@ -140,14 +149,16 @@ among_right x (y ∷ xs) ys h = inr (among_right x xs ys h)
 
 -- Each byte that begins a packet begins whole packets up to the end.
 abbrev pub Whole : List JoinedByte → Type 0
-Whole xs = (t : ℕ) → is_first (drop t xs) ≡ true → (packets : List (List ℕ)) × (drop t xs ≡ joined packets) × ArePackets packets
+Whole xs = (t : ℕ) → is_first (drop t xs) ≡ true → (packets : List (List ℕ)) × (drop t xs ≡ joined packets)
+    × ArePackets packets
 
 pub whole_drop : (n : ℕ) (xs : List JoinedByte) → Whole xs → Whole (drop n xs)
 whole_drop n xs h t first =
     let e = drop-drop t n xs in
     let r = h (n + t) (ap is_first (sym e) ∙ first) in (r.0, e ∙ r.1, r.2)
 
-pub plain_first : (c : List ℕ) (t : ℕ) (more : List JoinedByte) → t < length c → is_first (drop t (items false c ++ more)) ≡ false
+pub plain_first : (c : List ℕ) (t : ℕ) (more : List JoinedByte) → t < length c
+    → is_first (drop t (items false c ++ more)) ≡ false
 plain_first [] t more l = absurd (omega arith)
 plain_first (b ∷ c) zero more l = refl
 plain_first (b ∷ c) (suc t) more l = plain_first c t more (omega arith)
@@ -182,7 +193,8 @@ first_take (suc n) zero (x ∷ xs) l = refl
 first_take (suc n) (suc t) [] l = refl
 first_take (suc n) (suc t) (x ∷ xs) l = first_take n t xs (omega arith)
 
-pub first_append : (t : ℕ) (xs ys : List JoinedByte) → t < length xs → is_first (drop t (xs ++ ys)) ≡ is_first (drop t xs)
+pub first_append : (t : ℕ) (xs ys : List JoinedByte) → t < length xs
+    → is_first (drop t (xs ++ ys)) ≡ is_first (drop t xs)
 first_append t [] ys l = absurd (omega arith)
 first_append zero (x ∷ xs) ys l = refl
 first_append (suc t) (x ∷ xs) ys l = first_append t xs ys (omega arith)
@@ -215,10 +227,12 @@ pub place_at : (place at named t : ℕ) (bytes : List ℕ) (more : List Byte) �
     → (packet_of (drop t (bytes_from place at named bytes ++ more))).place ≡ place + (at + t)
 place_at place at named t [] more l = absurd (omega arith)
 place_at place at named zero (b ∷ bytes) more l = omega arith
-place_at place at named (suc t) (b ∷ bytes) more l = place_at place (at + 1) named t bytes more (omega arith) ∙ omega arith
+place_at place at named (suc t) (b ∷ bytes) more l = place_at place (at + 1) named t bytes more (omega arith)
+    ∙ omega arith
 
 -- The packets of what stands between the first start and a packet.
-pub between : (pre : List JoinedByte) (f : ℕ) → Whole pre → f ≤ length pre → (f < length pre → is_first (drop f pre) ≡ true)
+pub between : (pre : List JoinedByte) (f : ℕ) → Whole pre → f ≤ length pre
+    → (f < length pre → is_first (drop f pre) ≡ true)
     → (packets : List (List ℕ)) × (drop f pre ≡ joined packets) × ArePackets packets
 between pre f whole l first = ⊎_elim
     (λ (less : f < length pre). whole f (first less))

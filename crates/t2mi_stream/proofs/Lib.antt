@@ -24,3 +24,4 @@ pub mod RiseLemmas
 pub mod SurvivorLemmas
 pub mod OneRunLemmas
 pub mod UndamagedLemmas
+pub mod NextLemmas

@@ -1,7 +1,8 @@
 -- Units that are kept, one behind another, are one run, and each start of it begins a packet.
 use Rattle.std.proofs.Common.{◌≡◌, ℕ, zero, suc, ◌+◌, ◌-◌, ◌*◌, ◌%◌, ◌^◌, ◌<◌, ◌≤◌, true, false, List, [], ◌∷◌}
 use Rattle.std.proofs.Common.{◌++◌, length, take, drop, Option, Some, option_map, refl, ap, sym, subst}
-use Rattle.std.proofs.Common.{◌∙◌, inl, inr, ⊎_elim, arith, append_assoc, append-nil, length-append, length-drop, eq-eqb}
+use Rattle.std.proofs.Common.{◌∙◌, inl, inr, ⊎_elim, arith, append_assoc, append-nil, length-append, length-drop}
+use Rattle.std.proofs.Common.{eq-eqb}
 use Rattle.std.proofs.Common.{take-append-drop}
 use Rattle.std.specs.Prelude.{flat_map}
 use Rattle.std.proofs.lemmas.List.{drop-drop, drop_at, drop_all, length-take-le}
@@ -9,7 +10,8 @@ use Rattle.std.proofs.lemmas.List.Concat.{flat_map-append}
 use Rattle.std.proofs.lemmas.Bool.{cond-true, cases_lt, both_ways}
 use Rattle.std.proofs.lemmas.Option.{none-some, same_Some}
 use Rattle.t2mi_packet.specs.Spell.{spell}
-use Rattle.t2mi_stream.specs.Accepted.{Byte, AcceptedPacket, values, is_marked, packet_of, accepted_len, front_packet, accepted}
+use Rattle.t2mi_stream.specs.Accepted.{Byte, AcceptedPacket, values, is_marked, packet_of, accepted_len, front_packet}
+use Rattle.t2mi_stream.specs.Accepted.{accepted}
 use Rattle.t2mi_stream.specs.Candidate.{placed}
 use Rattle.t2mi_stream.specs.Units.{PipedUnit, Cut, goes_on, runs}
 use Rattle.t2mi_stream.specs.Pipe.{JoinedByte, values as joined_values, items, joined, part, unit, units_in, carried_in}
@@ -50,9 +52,11 @@ same_run pid bytes =
           (append-nil bytes) ∙ sym (append-nil (runs pid bytes).run);
     }
 
-pub one_run : (w : UnitLaws) (pid steps counter number : ℕ) (bytes : List ℕ) (xs : List JoinedByte) → pid < 2 ^ 13 → counter < 16
+pub one_run : (w : UnitLaws) (pid steps counter number : ℕ) (bytes : List ℕ) (xs : List JoinedByte) → pid < 2 ^ 13
+    → counter < 16
     → length bytes ≡ 188 * number → goes_on (runs pid bytes).last counter ≡ true →
-    OneRun (runs pid (bytes ++ flat_map (λ u. u) (units_in pid steps counter xs))) (runs pid bytes) (carried_all steps number xs)
+    OneRun (runs pid (bytes ++ flat_map (λ u. u) (units_in pid steps counter xs))) (runs pid bytes)
+    (carried_all steps number xs)
 unfolding units_in
 one_run w pid zero counter number bytes xs p small whole goes = same_run pid bytes
 one_run w pid (suc steps) counter number bytes [] p small whole goes = same_run pid bytes
@@ -78,7 +82,8 @@ one_run w pid (suc steps) counter number bytes (x ∷ xs) p small whole goes =
     record {
       ended = ap (λ (l : List ℕ). (runs pid l).ended) (sym parts) ∙ h.ended ∙ ap (λ (k : Cut). k.ended) cut;
       run = ap (λ (l : List ℕ). (runs pid l).run) (sym parts) ∙ h.run
-          ∙ ap (λ (k : Cut). k.run ++ carried_all steps (number + 1) rest) cut ∙ append_assoc (runs pid bytes).run c.bytes
+          ∙ ap (λ (k : Cut). k.run ++ carried_all steps (number + 1) rest) cut
+          ∙ append_assoc (runs pid bytes).run c.bytes
           (carried_all steps (number + 1) rest);
     }
 
@@ -90,7 +95,8 @@ all_fits (suc steps) number (x ∷ xs) l =
     let n : ℕ = (part (x ∷ xs)).size in
     let size = part_size (x ∷ xs) (omega arith) in
     subst (Fits (carried_all (suc steps) number (x ∷ xs))) (take-append-drop n (x ∷ xs))
-    (fits_append (carried_in (188 * number) (x ∷ xs)) (carried_all steps (number + 1) (drop n (x ∷ xs))) (take n (x ∷ xs))
+    (fits_append (carried_in (188 * number) (x ∷ xs)) (carried_all steps (number + 1) (drop n (x ∷ xs)))
+    (take n (x ∷ xs))
     (drop n (x ∷ xs)) (carried_fits (188 * number) (x ∷ xs) (omega arith))
     (all_fits steps (number + 1) (drop n (x ∷ xs)) (omega (arith, length-drop n (x ∷ xs), size.0, l))))
 
@@ -103,13 +109,15 @@ pub place_in_run : (v steps number : ℕ) (xs : List JoinedByte) (t : ℕ) → l
     → (packet_of (drop t (carried_all steps number xs))).place ≡ 188 * (number + v) + offset_in v xs t
 place_in_run v zero number [] t l h = let n = carried_nil (suc v) in absurd (let w = h.within in omega (arith, n, w))
 place_in_run v zero number (x ∷ xs) t l h = absurd (omega arith)
-place_in_run v (suc steps) number [] t l h = let n = carried_nil (suc v) in absurd (let w = h.within in omega (arith, n, w))
+place_in_run v (suc steps) number [] t l h = let n = carried_nil (suc v) in absurd
+    (let w = h.within in omega (arith, n, w))
 place_in_run zero (suc steps) number (x ∷ xs) t l h =
     let size = part_size (x ∷ xs) (omega arith) in
     let vals : length (joined_values (take (part (x ∷ xs)).size (x ∷ xs))) ≡ (part (x ∷ xs)).size =
     length-values (take (part (x ∷ xs)).size (x ∷ xs)) ∙ length-take-le (part (x ∷ xs)).size (x ∷ xs) size.1 in
     place_at (188 * number) (188 - length (joined_values (take (part (x ∷ xs)).size (x ∷ xs)))) _ t
-    (joined_values (take (part (x ∷ xs)).size (x ∷ xs))) (carried_all steps (number + 1) (drop (part (x ∷ xs)).size (x ∷ xs)))
+    (joined_values (take (part (x ∷ xs)).size (x ∷ xs))) (carried_all steps (number + 1)
+    (drop (part (x ∷ xs)).size (x ∷ xs)))
     (let w = h.within in omega (arith, vals, w))
     ∙ ap (λ (k : ℕ). 188 * number + (188 - k + t)) vals ∙ omega arith
 place_in_run (suc v) (suc steps) number (x ∷ xs) t l h =
@@ -118,7 +126,8 @@ place_in_run (suc v) (suc steps) number (x ∷ xs) t l h =
     let rest : List JoinedByte = drop n (x ∷ xs) in
     let begins = h.begins in
     let passed : n ≤ t = omega (arith, begins) in
-    let count : length (carried_in (188 * number) (x ∷ xs)) ≡ n = fits_len (carried_in (188 * number) (x ∷ xs)) (take n (x ∷ xs))
+    let count : length (carried_in (188 * number) (x ∷ xs)) ≡ n = fits_len (carried_in (188 * number) (x ∷ xs))
+    (take n (x ∷ xs))
     (carried_fits (188 * number) (x ∷ xs) (omega arith)) ∙ length-take-le n (x ∷ xs) size.1 in
     let skip : drop t (carried_in (188 * number) (x ∷ xs) ++ carried_all steps (number + 1) rest)
     ≡ drop (t - n) (carried_all steps (number + 1) rest) =
@@ -154,7 +163,8 @@ all_left (u ∷ units) (f ∷ fates) k =
     ap (λ (f : Fate). left_of (u ∷ units) (f ∷ fates)) (same_Some f Kept (k 0 (omega arith)))
     ∙ ap (λ (l : List ℕ). u ++ l) (all_left units fates (λ n l. k (suc n) (omega arith)))
 
-pub kept_number : (n : ℕ) (fates : List Fate) → ((m : ℕ) → m ≤ n → fate_of fates m ≡ Some Kept) → left_number fates n ≡ Some n
+pub kept_number : (n : ℕ) (fates : List Fate) → ((m : ℕ) → m ≤ n → fate_of fates m ≡ Some Kept)
+    → left_number fates n ≡ Some n
 kept_number n [] k = absurd (none-some Kept (k 0 (omega arith)))
 kept_number zero (f ∷ fates) k = ap (λ (f : Fate). left_number (f ∷ fates) 0) (same_Some f Kept (k 0 (omega arith)))
 kept_number (suc n) (f ∷ fates) k =
@@ -171,7 +181,8 @@ pub record Begins (packets : List (List ℕ)) (t : ℕ) : Type 0 where
   pub at : length (joined before) ≡ t
   pub spelled : spell packet ≡ Some (length packet)
 
-pub begins : (packets : List (List ℕ)) (t : ℕ) → ArePackets packets → is_first (drop t (joined packets)) ≡ true → Begins packets t
+pub begins : (packets : List (List ℕ)) (t : ℕ) → ArePackets packets → is_first (drop t (joined packets)) ≡ true
+    → Begins packets t
 begins [] t all first = let none : List JoinedByte = [] in
     absurd (both_ways false refl (ap is_first (sym (drop_all t none (omega arith))) ∙ first))
 begins (c ∷ packets) zero all first =
@@ -228,14 +239,16 @@ placed_there place at p (b ∷ before) after packet e =
 module _ (g : SpellLaws) (packets : List (List ℕ)) (all : ArePackets packets) (gone : ℕ) (run : List Byte)
     (fits : Fits run (drop gone (joined packets))) where
   fits_at : (s : ℕ) → Fits (drop s run) (drop (gone + s) (joined packets))
-  fits_at s = subst (Fits (drop s run)) (drop-drop s gone (joined packets)) (fits_drop s run (drop gone (joined packets)) fits)
+  fits_at s = subst (Fits (drop s run)) (drop-drop s gone (joined packets))
+      (fits_drop s run (drop gone (joined packets)) fits)
 
   marked_first : (xs : List Byte) (ys : List JoinedByte) → Fits xs ys → is_marked xs ≡ true → is_first ys ≡ true
   marked_first [] ys h m = absurd (both_ways false refl m)
   marked_first (x ∷ xs) [] h m = absurd h
   marked_first (x ∷ xs) (y ∷ ys) h m = h.1 m
 
-  first_item : (p : List ℕ) (more : List JoinedByte) → spell p ≡ Some (length p) → is_first (items true p ++ more) ≡ true
+  first_item : (p : List ℕ) (more : List JoinedByte) → spell p ≡ Some (length p)
+      → is_first (items true p ++ more) ≡ true
   first_item [] more s = let r = (g.range [] 0 s).0 in absurd (omega (arith, r))
   first_item (b ∷ p) more s = refl
 
@@ -249,7 +262,8 @@ module _ (g : SpellLaws) (packets : List (List ℕ)) (all : ArePackets packets) 
   behind_first [] a l = absurd (omega arith)
   behind_first (c ∷ after) a l = first_item c (joined after) a.0
 
-  tail_packets : (before : List (List ℕ)) (packet : List ℕ) (after : List (List ℕ)) → ArePackets (before ++ packet ∷ after)
+  tail_packets : (before : List (List ℕ)) (packet : List ℕ) (after : List (List ℕ))
+      → ArePackets (before ++ packet ∷ after)
       → ArePackets after
   tail_packets [] packet after h = h.1
   tail_packets (c ∷ before) packet after h = tail_packets before packet after h.1
@@ -259,7 +273,8 @@ module _ (g : SpellLaws) (packets : List (List ℕ)) (all : ArePackets packets) 
   starts_first (suc fuel) s l start =
       let o = (starts_law g run).only s start in
       ⊎_elim
-      (λ (m : is_marked (drop s run) ≡ true). marked_first (drop s run) (drop (gone + s) (joined packets)) (fits_at s) m)
+      (λ (m : is_marked (drop s run) ≡ true). marked_first (drop s run) (drop (gone + s) (joined packets))
+      (fits_at s) m)
       (λ (e : EndsAt run s).
       let end = e.end in
       let b = begins packets (gone + e.place) all
@@ -267,7 +282,8 @@ module _ (g : SpellLaws) (packets : List (List ℕ)) (all : ArePackets packets) 
       let t = there e.place b in
       let size : length b.packet ≡ e.size = same_Some (length b.packet) e.size (sym t.len ∙ e.packet) in
       let next : drop (gone + s) (joined packets) ≡ joined b.after =
-      ap (λ (k : ℕ). drop k (joined packets)) (let q : gone + s ≡ gone + e.place + length b.packet = omega (arith, end, size) in
+      ap (λ (k : ℕ). drop k (joined packets)) (let q : gone + s ≡ gone + e.place + length b.packet =
+      omega (arith, end, size) in
       q)
       ∙ sym (drop-drop (length b.packet) (gone + e.place) (joined packets))
       ∙ ap (drop (length b.packet)) (from_there packets (gone + e.place) b)

@@ -1,5 +1,6 @@
 -- Each accepted packet stands at a start of a run.
-use Rattle.std.proofs.Common.{◌≡◌, ℕ, List, [], ◌∷◌, ◌++◌, length, drop, Option, Some, None, ◌⊎◌, inl, inr, ⊎_elim, ap, ◌∙◌, refl}
+use Rattle.std.proofs.Common.{◌≡◌, ℕ, List, [], ◌∷◌, ◌++◌, length, drop, Option, Some, None, ◌⊎◌, inl, inr, ⊎_elim, ap}
+use Rattle.std.proofs.Common.{◌∙◌, refl}
 use Rattle.std.specs.Prelude.{option_to_list, flat_map}
 use Rattle.t2mi_stream.specs.Accepted.{Byte, AcceptedPacket, front_packet, starts, packets_at, accepted}
 use Rattle.t2mi_stream.specs.Units.{runs}
@@ -10,7 +11,8 @@ use Rattle.t2mi_stream.proofs.KeptUnitsLemmas.{among_left, among_right}
 among_either : {X : Type 0} (x : X) (xs ys : List X) → Among x (xs ++ ys) → Among x xs ⊎ Among x ys
 among_either x [] ys h = inr h
 among_either x (y ∷ xs) ys (inl e) = inl (inl e)
-among_either x (y ∷ xs) ys (inr h) = ⊎_elim (λ (l : Among x xs). inl (inr l)) (λ (r : Among x ys). inr r) (among_either x xs ys h)
+among_either x (y ∷ xs) ys (inr h) = ⊎_elim (λ (l : Among x xs). inl (inr l)) (λ (r : Among x ys). inr r)
+    (among_either x xs ys h)
 
 -- a packet at one of some starts
 pub record AtOne (run : List Byte) (qs : List ℕ) (p : AcceptedPacket) : Type 0 where
@@ -53,11 +55,13 @@ accepted_stand pid bytes p h = ⊎_elim
     let o = of_one (runs pid bytes).ended p k in
     stands o.run (among_left o.run (runs pid bytes).ended ((runs pid bytes).run ∷ []) o.is_one) o.there)
     (λ (k : Among p (accepted (runs pid bytes).run)).
-    stands (runs pid bytes).run (among_right (runs pid bytes).run (runs pid bytes).ended ((runs pid bytes).run ∷ []) (inl refl))
+    stands (runs pid bytes).run (among_right (runs pid bytes).run (runs pid bytes).ended ((runs pid bytes).run ∷ [])
+    (inl refl))
     k)
     (among_either p (flat_map accepted (runs pid bytes).ended) (accepted (runs pid bytes).run) h)
   where
-    stands : (run : List Byte) → Among run ((runs pid bytes).ended ++ (runs pid bytes).run ∷ []) → Among p (accepted run)
+    stands : (run : List Byte) → Among run ((runs pid bytes).ended ++ (runs pid bytes).run ∷ [])
+        → Among p (accepted run)
         → StandsAtStart pid bytes p
     stands run is k = let a = at_start run p k in
         record { run = run; is_run = is; start = a.start; is_start = a.is_one; packet = a.packet }

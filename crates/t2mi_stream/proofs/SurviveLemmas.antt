@@ -22,8 +22,10 @@ use Rattle.t2mi_stream.proofs.PipeLemmas.{length-values, part_size, carried_add,
 use Rattle.t2mi_stream.proofs.StartsLemmas.{starts_law}
 use Rattle.t2mi_stream.proofs.FitLemmas.{Fits, fits_append, fits_drop, fits_len, chain, stands_there}
 use Rattle.t2mi_stream.proofs.ReadsLemmas.{UnitLaws, unit_reads, carried_fits, carried_mark}
-use Rattle.t2mi_stream.proofs.KeptUnitsLemmas.{one_unit, entered, GoesOn, goes_along, kept_front, among_left, among_right, Whole}
-use Rattle.t2mi_stream.proofs.KeptUnitsLemmas.{whole_drop, whole_joined, take_over, first_take, first_append, Least, least_first}
+use Rattle.t2mi_stream.proofs.KeptUnitsLemmas.{one_unit, entered, GoesOn, goes_along, kept_front, among_left}
+use Rattle.t2mi_stream.proofs.KeptUnitsLemmas.{among_right, Whole}
+use Rattle.t2mi_stream.proofs.KeptUnitsLemmas.{whole_drop, whole_joined, take_over, first_take, first_append, Least}
+use Rattle.t2mi_stream.proofs.KeptUnitsLemmas.{least_first}
 use Rattle.t2mi_stream.proofs.KeptUnitsLemmas.{place_at, between}
 
 -- A packet that begins in the first of the units, and whose units are kept.
@@ -39,7 +41,8 @@ module _ (g : SpellLaws) (w : UnitLaws) (front : AcceptedFront) (pid : ℕ) (fit
       go [] l = absurd (omega arith)
       go (b ∷ q) l = refl
 
-  module _ (steps counter number count : ℕ) (bytes : List ℕ) (x : JoinedByte) (xs pre : List JoinedByte) (fates : List Fate)
+  module _ (steps counter number count : ℕ) (bytes : List ℕ) (x : JoinedByte) (xs pre : List JoinedByte)
+      (fates : List Fate)
       (small : counter < 16) (units : length bytes ≡ 188 * number) (all_is : x ∷ xs ≡ pre ++ (items true p ++ z))
       (whole : Whole pre) (here : length pre < (part (x ∷ xs)).size)
       (reach : length pre + length p ≤ carried_len (suc count) (x ∷ xs)) (enough : length xs ≤ steps)
@@ -112,7 +115,8 @@ module _ (g : SpellLaws) (w : UnitLaws) (front : AcceptedFront) (pid : ℕ) (fit
     at_run t = sym (drop-drop t base (e.0 ++ mine)) ∙ ap (drop t) (drop_at e.0 mine base refl)
 
     first_at : is_first (drop s all) ≡ true
-    first_at = ap (λ (l : List JoinedByte). is_first (drop s l)) all_is ∙ ap is_first (drop_at pre (items true p ++ z) s refl)
+    first_at = ap (λ (l : List JoinedByte). is_first (drop s l)) all_is
+        ∙ ap is_first (drop_at pre (items true p ++ z) s refl)
         ∙ first_item z
 
     least : Least (take (part all).size all) s
@@ -139,7 +143,8 @@ module _ (g : SpellLaws) (w : UnitLaws) (front : AcceptedFront) (pid : ℕ) (fit
         let mark : is_marked (drop (base + f) (e.0 ++ mine)) ≡ true = ap is_marked (at_run f)
         ∙ carried_mark (188 * number) f all further.more (omega arith) least.least in
         let start : IsStart (e.0 ++ mine) (base + f) =
-        (starts_law g (e.0 ++ mine)).marked (base + f) (omega (arith, n, m, o, q, b, ten, length-append e.0 mine)) mark in
+        (starts_law g (e.0 ++ mine)).marked (base + f) (omega (arith, n, m, o, q, b, ten, length-append e.0 mine))
+        mark in
         let from_f : Fits (drop (base + f) (e.0 ++ mine)) (joined packets.0 ++ (items true p ++ z')) =
         subst (λ (l : List Byte). Fits l (joined packets.0 ++ (items true p ++ z'))) (sym (at_run f))
         (subst (Fits (drop f mine)) (drop-append-le f pre (items true p ++ z') b
@@ -148,7 +153,8 @@ module _ (g : SpellLaws) (w : UnitLaws) (front : AcceptedFront) (pid : ℕ) (fit
         let to_p : base + f + length (joined packets.0) ≡ base + s = let k = ap length packets.1 in
         omega (arith, k, length-drop f pre, b) in
         let at_p : IsStart (e.0 ++ mine) (base + s) =
-        subst (IsStart (e.0 ++ mine)) to_p (chain g (e.0 ++ mine) (base + f) packets.0 p z' start packets.2 spelled from_f) in
+        subst (IsStart (e.0 ++ mine)) to_p (chain g (e.0 ++ mine) (base + f) packets.0 p z' start packets.2
+        spelled from_f) in
         let from_p : Fits (drop (base + s) (e.0 ++ mine)) (items true p ++ z') =
         subst (λ (l : List Byte). Fits l (items true p ++ z')) (sym (at_run s))
         (subst (Fits (drop s mine)) (drop_at pre (items true p ++ z') s refl)
@@ -158,7 +164,8 @@ module _ (g : SpellLaws) (w : UnitLaws) (front : AcceptedFront) (pid : ℕ) (fit
         ∙ place_at (188 * number) (188 - length (values (take (part all).size all))) _ s
         (values (take (part all).size all)) further.more (omega (arith, vals, here))
         ∙ ap (λ (n : ℕ). 188 * number + (188 - n + s)) vals in
-        stands_there g (e.0 ++ mine) (base + s) (188 * number + (188 - (part all).size + s)) p z' at_p spelled from_p place
+        stands_there g (e.0 ++ mine) (base + s) (188 * number + (188 - (part all).size + s)) p z' at_p
+        spelled from_p place
 
     pub begun_here : Among (placed (188 * number + (188 - (part all).size + s)) p)
         (accepted_of pid (bytes ++ (u ++ left_of (units_in pid steps next rest) fates)))
@@ -181,10 +188,12 @@ module _ (g : SpellLaws) (w : UnitLaws) (front : AcceptedFront) (pid : ℕ) (fit
       (fates : List Fate) : Type 0 where
     pub left : ℕ
     pub number_is : left_number fates i ≡ Some left
-    pub there : Among (placed (188 * (number + left) + offset_in i xs place) p) (accepted_of pid (bytes ++ left_of units fates))
+    pub there : Among (placed (188 * (number + left) + offset_in i xs place) p)
+        (accepted_of pid (bytes ++ left_of units fates))
 
   -- by what becomes of the unit before
-  behind_unit : (i number : ℕ) (bytes u : List ℕ) (x : JoinedByte) (xs : List JoinedByte) (place : ℕ) (units : List (List ℕ))
+  behind_unit : (i number : ℕ) (bytes u : List ℕ) (x : JoinedByte) (xs : List JoinedByte) (place : ℕ)
+      (units : List (List ℕ))
       (f : Fate)
       (fates : List Fate) → length bytes ≡ 188 * number → length u ≡ 188 →
       (part (x ∷ xs)).size ≤ place → AlteredWhole (f ∷ fates) →
@@ -202,7 +211,8 @@ module _ (g : SpellLaws) (w : UnitLaws) (front : AcceptedFront) (pid : ℕ) (fit
       same : offset_in i rest (place - size) ≡ offset_in (suc i) (x ∷ xs) place
       same = omega (arith, l)
 
-      one_more : (other : List ℕ) → length other ≡ 188 → Found i (number + 1) (bytes ++ other) rest (place - size) units fates →
+      one_more : (other : List ℕ) → length other ≡ 188 → Found i (number + 1) (bytes ++ other) rest (place - size)
+          units fates →
           (k : ℕ) × (left_number fates i ≡ Some k)
           × Among (placed (188 * (number + (1 + k)) + offset_in (suc i) (x ∷ xs) place) p)
           (accepted_of pid (bytes ++ (other ++ left_of units fates)))
@@ -228,7 +238,8 @@ module _ (g : SpellLaws) (w : UnitLaws) (front : AcceptedFront) (pid : ℕ) (fit
             left = h.left;
             number_is = h.number_is;
             there = subst
-                (λ (m : ℕ). Among (placed (188 * (number + h.left) + m) p) (accepted_of pid (bytes ++ left_of units fates))) same
+                (λ (m : ℕ). Among (placed (188 * (number + h.left) + m) p)
+                (accepted_of pid (bytes ++ left_of units fates))) same
                 h.there;
           }
 
@@ -236,13 +247,15 @@ module _ (g : SpellLaws) (w : UnitLaws) (front : AcceptedFront) (pid : ℕ) (fit
   first_kept : (number : ℕ) (bytes u : List ℕ) (xs : List JoinedByte) (place : ℕ) (units : List (List ℕ)) (f : Fate)
       (fates : List Fate)
       → f ≡ Kept →
-      Among (placed (188 * (number + 0) + offset_in 0 xs place) p) (accepted_of pid (bytes ++ (u ++ left_of units fates)))
+      Among (placed (188 * (number + 0) + offset_in 0 xs place) p)
+      (accepted_of pid (bytes ++ (u ++ left_of units fates)))
       → Found 0 number bytes xs place (u ∷ units) (f ∷ fates)
   first_kept number bytes u xs place units f fates e h =
       subst (λ (f : Fate). Found 0 number bytes xs place (u ∷ units) (f ∷ fates)) (sym e)
       (record { left = 0; number_is = refl; there = h })
 
-  walk : (i steps counter number : ℕ) (bytes : List ℕ) (xs pre : List JoinedByte) (fates : List Fate) (last : ℕ) → counter < 16
+  walk : (i steps counter number : ℕ) (bytes : List ℕ) (xs pre : List JoinedByte) (fates : List Fate) (last : ℕ)
+      → counter < 16
       → length bytes ≡ 188 * number → xs ≡ pre ++ (items true p ++ z) → Whole pre →
       carried_len i xs ≤ length pre → length pre < carried_len (suc i) xs → length pre + length p ≤ carried_len last xs
       → length xs ≤ steps →
@@ -254,13 +267,17 @@ module _ (g : SpellLaws) (w : UnitLaws) (front : AcceptedFront) (pid : ℕ) (fit
       omega (arith, n, length-append pre (items true p ++ z), length-append (items true p) z, length-items true p, ten))
   walk i zero counter number bytes (x ∷ xs) pre fates last small units is whole begins within ends enough kept altered =
       absurd (omega arith)
-  walk zero (suc steps) counter number bytes (x ∷ xs) pre fates zero small units is whole begins within ends enough kept altered =
+  walk zero (suc steps) counter number bytes (x ∷ xs) pre fates zero small units is whole begins within
+      ends enough kept altered =
       absurd (let t = ten in omega arith)
-  walk zero (suc steps) counter number bytes (x ∷ xs) pre [] (suc last) small units is whole begins within ends enough kept
+  walk zero (suc steps) counter number bytes (x ∷ xs) pre [] (suc last) small units is whole begins within
+      ends enough kept
       altered = absurd (none-some Kept (kept 0 (omega arith) (omega arith)))
-  walk zero (suc steps) counter number bytes (x ∷ xs) pre (f ∷ fates) (suc last) small units is whole begins within ends enough
+  walk zero (suc steps) counter number bytes (x ∷ xs) pre (f ∷ fates) (suc last) small units is whole
+      begins within ends enough
       kept altered =
-      let here = begun_here steps counter number last bytes x xs pre fates small units is whole (omega (arith, within)) ends
+      let here = begun_here steps counter number last bytes x xs pre fates small units is whole (omega (arith, within))
+      ends
       (omega (arith, enough)) (λ n l. kept (suc n) (omega arith) (omega arith)) in
       first_kept number bytes (unit pid counter (x ∷ xs)) (x ∷ xs) (length pre)
       (units_in pid steps ((counter + 1) % 16) (drop (part (x ∷ xs)).size (x ∷ xs))) f fates
@@ -269,14 +286,19 @@ module _ (g : SpellLaws) (w : UnitLaws) (front : AcceptedFront) (pid : ℕ) (fit
       Among (placed m p)
       (accepted_of pid
       (bytes ++ (unit pid counter (x ∷ xs)
-      ++ left_of (units_in pid steps ((counter + 1) % 16) (drop (part (x ∷ xs)).size (x ∷ xs))) fates)))) (omega arith) here)
-  walk (suc i) (suc steps) counter number bytes (x ∷ xs) pre fates zero small units is whole begins within ends enough kept
+      ++ left_of (units_in pid steps ((counter + 1) % 16) (drop (part (x ∷ xs)).size (x ∷ xs))) fates))))
+      (omega arith) here)
+  walk (suc i) (suc steps) counter number bytes (x ∷ xs) pre fates zero small units is whole begins within
+      ends enough kept
       altered = absurd (let t = ten in omega arith)
-  walk (suc i) (suc steps) counter number bytes (x ∷ xs) pre [] (suc last) small units is whole begins within ends enough kept
+  walk (suc i) (suc steps) counter number bytes (x ∷ xs) pre [] (suc last) small units is whole begins
+      within ends enough kept
       altered = absurd (none-some Kept (kept (suc i) (omega arith)
-      (⊎_elim (λ (l : suc i < suc last). l) (λ (l : suc last ≤ suc i). let m = carried_mono (suc last) (suc i) (x ∷ xs) l in
+      (⊎_elim (λ (l : suc i < suc last). l) (λ (l : suc last ≤ suc i). let m = carried_mono (suc last)
+      (suc i) (x ∷ xs) l in
       absurd (let t = ten in omega (arith, m, begins, ends, t))) (cases_lt (suc i) (suc last)))))
-  walk (suc i) (suc steps) counter number bytes (x ∷ xs) pre (f ∷ fates) (suc last) small units is whole begins within ends enough
+  walk (suc i) (suc steps) counter number bytes (x ∷ xs) pre (f ∷ fates) (suc last) small units is whole
+      begins within ends enough
       kept altered =
       let all : List JoinedByte = x ∷ xs in
       let n : ℕ = (part all).size in
@@ -286,12 +308,15 @@ module _ (g : SpellLaws) (w : UnitLaws) (front : AcceptedFront) (pid : ℕ) (fit
       let left : length (drop n pre) ≡ length pre - n = length-drop n pre in
       let rest_is : drop n all ≡ drop n pre ++ (items true p ++ z) =
       ap (drop n) is ∙ drop-append-le n pre (items true p ++ z) passed in
-      behind_unit i number bytes (unit pid counter all) x xs (length pre) (units_in pid steps ((counter + 1) % 16) (drop n all)) f
+      behind_unit i number bytes (unit pid counter all) x xs (length pre) (units_in pid steps ((counter + 1) % 16)
+      (drop n all)) f
       fates units r.whole passed altered
       (λ number' bytes' units' altered'.
-      subst (λ (m : ℕ). Found i number' bytes' (drop n all) m (units_in pid steps ((counter + 1) % 16) (drop n all)) fates)
+      subst (λ (m : ℕ). Found i number' bytes' (drop n all) m (units_in pid steps ((counter + 1) % 16) (drop n all))
+      fates)
       left
-      (walk i steps ((counter + 1) % 16) number' bytes' (drop n all) (drop n pre) fates last (omega arith) units' rest_is
+      (walk i steps ((counter + 1) % 16) number' bytes' (drop n all) (drop n pre) fates last (omega arith)
+      units' rest_is
       (whole_drop n pre whole)
       (omega (arith, left, begins)) (omega (arith, left, within, passed)) (omega (arith, left, ends, passed))
       (omega (arith, length-drop n all, size.0, enough))
@@ -356,12 +381,14 @@ survives g w front pid before after packet from first last fates small packets a
     let two = carried_add from (suc first) all in
     let three = carried_add from last all in
     let e : from + suc first ≡ suc (from + first) = omega arith in
-    let within : s < carried_len (from + suc first) all = subst (λ (k : ℕ). s < carried_len k all) (sym e) carry.within in
+    let within : s < carried_len (from + suc first) all = subst (λ (k : ℕ). s < carried_len k all) (sym e)
+    carry.within in
     let passed : c ≤ s = omega (arith, one, carry.begins) in
     let left : length (drop c pre) ≡ s - c = length-drop c pre in
     let y_is : y ≡ drop c pre ++ (items true packet ++ z) =
     ap (drop c) all_is ∙ drop-append-le c pre (items true packet ++ z) passed in
-    let found = walk g w front pid small packet parts.1 z first h.steps h.counter 0 [] y (drop c pre) fates last h.small refl y_is
+    let found = walk g w front pid small packet parts.1 z first h.steps h.counter 0 [] y (drop c pre)
+    fates last h.small refl y_is
     (whole_drop c pre (whole_joined before parts.0))
     (omega (arith, left, one, carry.begins)) (omega (arith, left, two, within, passed))
     (omega (arith, left, three, carry.ends, passed)) h.enough kept altered in
@@ -375,6 +402,7 @@ survives g w front pid before after packet from first last fates small packets a
       place = 188 * found.left + off;
       place_is = ap (option_map (λ (k : ℕ). 188 * k + off)) found.number_is;
       found = subst (λ (n : ℕ). Among (placed n packet) (accepted_of pid (received (units_of pid all) from fates))) same
-          (subst (λ (u : List (List ℕ)). Among (placed (188 * (0 + found.left) + offset_in first y (length (drop c pre))) packet)
+          (subst (λ (u : List (List ℕ)). Among
+          (placed (188 * (0 + found.left) + offset_in first y (length (drop c pre))) packet)
           (accepted_of pid (left_of u fates))) (sym h.units_are) found.there);
     }

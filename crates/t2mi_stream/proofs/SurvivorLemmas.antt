@@ -1,10 +1,14 @@
 -- If every accepted packet is a sent one at its place, the accepted packets are the sent ones that survive.
-use Rattle.std.proofs.Common.{◌≡◌, ℕ, zero, suc, ◌+◌, ◌-◌, ◌*◌, ◌<◌, ◌≤◌, ◌==◌, ◌&&◌, ◌||◌, Bool, true, false, cond, nat_lt}
-use Rattle.std.proofs.Common.{nat_le, List, [], ◌∷◌, ◌++◌, map, length, drop, Option, Some, None, option_map, slice_get, bytes_eq}
+use Rattle.std.proofs.Common.{◌≡◌, ℕ, zero, suc, ◌+◌, ◌-◌, ◌*◌, ◌<◌, ◌≤◌, ◌==◌, ◌&&◌, ◌||◌, Bool, true, false, cond}
+use Rattle.std.proofs.Common.{nat_lt}
+use Rattle.std.proofs.Common.{nat_le, List, [], ◌∷◌, ◌++◌, map, length, drop, Option, Some, None, option_map, slice_get}
+use Rattle.std.proofs.Common.{bytes_eq}
 use Rattle.std.proofs.Common.{refl, ap, ap₂, sym, subst, ◌∙◌, inl, inr, ⊎_elim, arith, length-append, length-drop}
 use Rattle.std.specs.List.{items_where_true, list_any}
-use Rattle.std.proofs.lemmas.Bool.{cases_lt, cases_eq, cond_both, cond-true, both_ways, and_parts, and_from, or_left, or_right}
-use Rattle.std.proofs.lemmas.Bool.{or_cases, false_from_ne_true, eqb-true, eq-eqb, ltb-true, ltb-false, leb-true, le-leb}
+use Rattle.std.proofs.lemmas.Bool.{cases_lt, cases_eq, cond_both, cond-true, both_ways, and_parts, and_from, or_left}
+use Rattle.std.proofs.lemmas.Bool.{or_right}
+use Rattle.std.proofs.lemmas.Bool.{or_cases, false_from_ne_true, eqb-true, eq-eqb, ltb-true, ltb-false, leb-true}
+use Rattle.std.proofs.lemmas.Bool.{le-leb}
 use Rattle.std.proofs.lemmas.Option.{none-some, same_Some}
 use Rattle.std.proofs.lemmas.Slice.Eq.{bytes_eq-Decides}
 use Rattle.t2mi_stream.specs.Accepted.{AcceptedPacket}
@@ -37,7 +41,8 @@ carries_one xs a b place h k = ⊎_elim
     (λ (l : a < b). let m = carried_mono (suc a) b xs (omega arith) in absurd (omega (arith, m, h.within, k.begins)))
     (λ (l : b ≤ a). ⊎_elim
     (λ (e : a ≡ b). e)
-    (λ (e : a ≡ b → ⊥). let m = carried_mono (suc b) a xs (omega (arith, l, e)) in absurd (omega (arith, m, k.within, h.begins)))
+    (λ (e : a ≡ b → ⊥). let m = carried_mono (suc b) a xs (omega (arith, l, e)) in absurd
+    (omega (arith, m, k.within, h.begins)))
     (cases_eq a b))
     (cases_lt a b)
 
@@ -64,14 +69,16 @@ first_left : (o : Option ℕ) (a b : ℕ) → Some 0 ≡ Some a → option_map (
 first_left None a b h k = absurd (none-some b k)
 first_left (Some c) a b h k = let e = same_Some 0 a h in let f = same_Some (1 + c) b k in omega (arith, e, f)
 
-both_left : (o p : Option ℕ) (a b : ℕ) → ((c d : ℕ) → o ≡ Some c → p ≡ Some d → c < d) → option_map (λ k. 1 + k) o ≡ Some a
+both_left : (o p : Option ℕ) (a b : ℕ) → ((c d : ℕ) → o ≡ Some c → p ≡ Some d → c < d)
+    → option_map (λ k. 1 + k) o ≡ Some a
     → option_map (λ k. 1 + k) p ≡ Some b → a < b
 both_left None p a b f h k = absurd (none-some a h)
 both_left (Some c) None a b f h k = absurd (none-some b k)
 both_left (Some c) (Some d) a b f h k = let l = f c d refl refl in let e = same_Some (1 + c) a h in let z =
     same_Some (1 + d) b k in omega (arith, l, e, z)
 
-left_rises : (fates : List Fate) (n m a b : ℕ) → n < m → left_number fates n ≡ Some a → left_number fates m ≡ Some b → a < b
+left_rises : (fates : List Fate) (n m a b : ℕ) → n < m → left_number fates n ≡ Some a → left_number fates m ≡ Some b
+    → a < b
 left_rises [] n m a b l h k = absurd (none-some a h)
 left_rises (f ∷ fates) n zero a b l h k = absurd (omega arith)
 left_rises (Lost ∷ fates) zero (suc m) a b l h k = absurd (none-some a h)
@@ -90,13 +97,15 @@ record InUnit (xs : List JoinedByte) (from : ℕ) (fates : List Fate) (place num
   pub left_is : left_number fates (number - from) ≡ Some left
   pub place_is : 188 * left + offset_in number xs place ≡ p
 
-in_unit : (xs : List JoinedByte) (from : ℕ) (fates : List Fate) (place number p : ℕ) → place_in xs from fates place number
+in_unit : (xs : List JoinedByte) (from : ℕ) (fates : List Fate) (place number p : ℕ)
+    → place_in xs from fates place number
     ≡ Some p
     → InUnit xs from fates place number p
 in_unit xs from fates place number p h = go (nat_le from number) refl (left_number fates (number - from)) refl h
   where
     go : (t : Bool) → nat_le from number ≡ t → (o : Option ℕ) → left_number fates (number - from) ≡ o
-        → cond t (option_map (λ k. 188 * k + offset_in number xs place) o) None ≡ Some p → InUnit xs from fates place number p
+        → cond t (option_map (λ k. 188 * k + offset_in number xs place) o) None ≡ Some p
+        → InUnit xs from fates place number p
     go false e o is k = absurd (none-some p k)
     go true e None is k = absurd (none-some p k)
     go true e (Some n) is k =
@@ -109,16 +118,19 @@ in_unit xs from fates place number p h = go (nat_le from number) refl (left_numb
         }
 
 -- A later byte gets a later place.
-places_apart : (xs : List JoinedByte) (from : ℕ) (fates : List Fate) (s t a b p q : ℕ) → s < t → Carries a xs s → Carries b xs t
+places_apart : (xs : List JoinedByte) (from : ℕ) (fates : List Fate) (s t a b p q : ℕ) → s < t → Carries a xs s
+    → Carries b xs t
     → InUnit xs from fates s a p → InUnit xs from fates t b q → p < q
 places_apart xs from fates s t a b p q l ca cb ia ib = ⊎_elim
     (λ (less : a < b).
-    let r = left_rises fates (a - from) (b - from) ia.left ib.left (omega (arith, less, ia.from_on)) ia.left_is ib.left_is in
+    let r = left_rises fates (a - from) (b - from) ia.left ib.left (omega (arith, less, ia.from_on))
+    ia.left_is ib.left_is in
     let most = carried_most a xs in
     omega (arith, r, most, ca.begins, ca.within, ia.place_is, ib.place_is))
     (λ (more : b ≤ a). ⊎_elim
     (λ (e : a ≡ b).
-    let same = same_Some ia.left ib.left (sym ia.left_is ∙ ap (λ (n : ℕ). left_number fates (n - from)) e ∙ ib.left_is) in
+    let same = same_Some ia.left ib.left (sym ia.left_is ∙ ap (λ (n : ℕ). left_number fates (n - from)) e
+    ∙ ib.left_is) in
     let off : offset_in a xs t ≡ offset_in b xs t = ap (λ (n : ℕ). offset_in n xs t) e in
     omega (arith, same, off, l, ca.begins, ca.within, ia.place_is, ib.place_is))
     (λ (e : a ≡ b → ⊥).
@@ -130,7 +142,8 @@ place_rises : (xs : List JoinedByte) (from : ℕ) (fates : List Fate) (s t p q :
     → received_place xs from fates s ≡ Some p → received_place xs from fates t ≡ Some q → p < q
 unfolding received_place
 place_rises xs from fates s t p q l m h k =
-    places_apart xs from fates s t (unit_number xs s) (unit_number xs t) p q l (carries xs s (omega arith)) (carries xs t m)
+    places_apart xs from fates s t (unit_number xs s) (unit_number xs t) p q l (carries xs s (omega arith))
+    (carries xs t m)
     (in_unit xs from fates s (unit_number xs s) p h) (in_unit xs from fates t (unit_number xs t) q k)
 
 -- The places of sent packets rise, from one on.
@@ -152,7 +165,8 @@ are_these place at [] = tt
 are_these place at (b ∷ packets) = go (place at) (are_these place (at + length b) packets)
   where
     go : (o : Option ℕ) → AreThese (placed_from place (at + length b) packets) packets
-        → AreThese (option_map (λ n. record { place = n; bytes = b }) o ∷ placed_from place (at + length b) packets) (b ∷ packets)
+        → AreThese (option_map (λ n. record { place = n; bytes = b }) o ∷ placed_from place (at + length b) packets)
+        (b ∷ packets)
     go None h = h
     go (Some n) h = (refl, h)
 
@@ -184,7 +198,8 @@ sent_rise g place end rises (b ∷ packets) low at all l h =
 among_told : (p : AcceptedPacket) (qs : List AcceptedPacket) → Among p qs → list_any (is_same p) qs ≡ true
 among_told p [] h = elim h [ ]
 among_told p (q ∷ qs) (inl e) =
-    or_left _ (list_any (is_same p) qs) (and_from _ _ (eq-eqb p.place q.place (ap (λ (x : AcceptedPacket). x.place) (sym e)))
+    or_left _ (list_any (is_same p) qs)
+    (and_from _ _ (eq-eqb p.place q.place (ap (λ (x : AcceptedPacket). x.place) (sym e)))
     ((bytes_eq-Decides p.bytes q.bytes).1 (ap (λ (x : AcceptedPacket). x.bytes) (sym e))))
 among_told p (q ∷ qs) (inr h) = or_right _ (list_any (is_same p) qs) (among_told p qs h)
 
@@ -205,7 +220,8 @@ among_from low p [] r h = elim h [ ]
 among_from low p (q ∷ qs) r (inl e) = let f = ap (λ (x : AcceptedPacket). x.place) e in omega (arith, r.0, f)
 among_from low p (q ∷ qs) r (inr h) = let k = among_from (q.place + 1) p qs r.1 h in omega (arith, r.0, k)
 
-sent_from : (low : ℕ) (p : AcceptedPacket) (sent : List (Option AcceptedPacket)) → SentRise low sent → Among (Some p) sent
+sent_from : (low : ℕ) (p : AcceptedPacket) (sent : List (Option AcceptedPacket)) → SentRise low sent
+    → Among (Some p) sent
     → low ≤ p.place
 sent_from low p [] r h = elim h [ ]
 sent_from low p (None ∷ sent) r (inl e) = absurd (none-some p e)
@@ -218,22 +234,26 @@ sent_from low p (Some q ∷ sent) r (inr h) = let k = sent_from (q.place + 1) p 
 abbrev FromOn : ℕ → List AcceptedPacket → List AcceptedPacket → Type 0
 FromOn low all ps = (p : AcceptedPacket) → low ≤ p.place → list_any (is_same p) all ≡ list_any (is_same p) ps
 
-record Survive (all ps : List AcceptedPacket) (sent : List (Option AcceptedPacket)) (packets : List (List ℕ)) : Type 0 where
+record Survive (all ps : List AcceptedPacket) (sent : List (Option AcceptedPacket)) (packets : List (List ℕ)) :
+    Type 0 where
   pub bytes : map (λ p. p.bytes) ps ≡ items_where_true (map (is_accepted all) sent) packets
   pub places : map Some ps ≡ items_where_true (map (is_accepted all) sent) sent
 
-one_lost : {X : Type 0} (t : Bool) (ts : List Bool) (x : X) (xs : List X) → t ≡ false → items_where_true (t ∷ ts) (x ∷ xs)
+one_lost : {X : Type 0} (t : Bool) (ts : List Bool) (x : X) (xs : List X) → t ≡ false
+    → items_where_true (t ∷ ts) (x ∷ xs)
     ≡ items_where_true ts xs
 one_lost true ts x xs e = absurd (both_ways true e refl)
 one_lost false ts x xs e = refl
 
-one_there : {X : Type 0} (t : Bool) (ts : List Bool) (x : X) (xs : List X) → t ≡ true → items_where_true (t ∷ ts) (x ∷ xs)
+one_there : {X : Type 0} (t : Bool) (ts : List Bool) (x : X) (xs : List X) → t ≡ true
+    → items_where_true (t ∷ ts) (x ∷ xs)
     ≡ x ∷ items_where_true ts xs
 one_there true ts x xs e = refl
 one_there false ts x xs e = absurd (both_ways false refl e)
 
 dropped : (all ps : List AcceptedPacket) (s : Option AcceptedPacket) (b : List ℕ) (sent : List (Option AcceptedPacket))
-    (packets : List (List ℕ)) → is_accepted all s ≡ false → Survive all ps sent packets → Survive all ps (s ∷ sent) (b ∷ packets)
+    (packets : List (List ℕ)) → is_accepted all s ≡ false → Survive all ps sent packets
+    → Survive all ps (s ∷ sent) (b ∷ packets)
 dropped all ps s b sent packets e h = record {
   bytes = h.bytes ∙ sym (one_lost (is_accepted all s) (map (is_accepted all) sent) b packets e);
   places = h.places ∙ sym (one_lost (is_accepted all s) (map (is_accepted all) sent) s sent e);
@@ -249,7 +269,8 @@ kept_one all ps p b sent packets same e h = record {
       ∙ sym (one_there (list_any (is_same p) all) (map (is_accepted all) sent) (Some p) sent e);
 }
 
-kept : (low : ℕ) (all ps : List AcceptedPacket) (sent : List (Option AcceptedPacket)) (packets : List (List ℕ)) → RiseFrom low ps
+kept : (low : ℕ) (all ps : List AcceptedPacket) (sent : List (Option AcceptedPacket)) (packets : List (List ℕ))
+    → RiseFrom low ps
     → SentRise low sent → AreThese sent packets → FromOn low all ps → AreSent ps sent → Survive all ps sent packets
 kept low all [] [] [] r s c f a = record { bytes = refl; places = refl }
 kept low all (p ∷ ps) [] [] r s c f a = elim (a p (inl refl)) [ ]
@@ -274,7 +295,8 @@ kept low all (p ∷ ps) (Some q ∷ sent) (b ∷ packets) r s c f a = ⊎_elim
     (λ x l. f x (omega (arith, l, r.0)) ∙ not_first x p ps l)
     (λ x h. ⊎_elim
     (λ (k : Some q ≡ Some x). let le = among_from (p.place + 1) x ps r.1 h in
-    let z = ap (λ (y : AcceptedPacket). y.place) (same_Some q x k) in let w = ap (λ (y : AcceptedPacket). y.place) same in
+    let z = ap (λ (y : AcceptedPacket). y.place) (same_Some q x k) in let w = ap (λ (y : AcceptedPacket). y.place)
+    same in
     absurd (omega (arith, le, z, w)))
     (λ (k : Among (Some x) sent). k)
     (a x (inr h))))))
@@ -282,7 +304,8 @@ kept low all (p ∷ ps) (Some q ∷ sent) (b ∷ packets) r s c f a = ⊎_elim
     let above : q.place + 1 ≤ p.place = sent_from (q.place + 1) p sent s.1 later in
     let rises : RiseFrom (q.place + 1) (p ∷ ps) = (above, r.1) in
     let not_here : list_any (is_same q) (p ∷ ps) ≡ false =
-    false_from_ne_true _ (λ (t : list_any (is_same q) (p ∷ ps) ≡ true). let le = among_from (q.place + 1) q (p ∷ ps) rises
+    false_from_ne_true _ (λ (t : list_any (is_same q) (p ∷ ps) ≡ true). let le = among_from (q.place + 1)
+    q (p ∷ ps) rises
     (told_among q (p ∷ ps) t) in absurd (omega (arith, le))) in
     dropped all (p ∷ ps) (Some q) b sent packets (f q s.0 ∙ not_here)
     (kept (q.place + 1) all (p ∷ ps) sent packets rises s.1 c.1 (λ x l. f x (omega (arith, l, s.0)))
@@ -293,7 +316,8 @@ kept low all (p ∷ ps) (Some q ∷ sent) (b ∷ packets) r s c f a = ⊎_elim
     (a x h))))
     (a p (inl refl))
   where
-    not_first : (x p : AcceptedPacket) (ps : List AcceptedPacket) → p.place + 1 ≤ x.place → list_any (is_same x) (p ∷ ps)
+    not_first : (x p : AcceptedPacket) (ps : List AcceptedPacket) → p.place + 1 ≤ x.place
+        → list_any (is_same x) (p ∷ ps)
         ≡ list_any (is_same x) ps
     not_first x p ps l = or_first ((x.place == p.place) && bytes_eq x.bytes p.bytes) (list_any (is_same x) ps)
         (false_from_ne_true _ (λ (t : ((x.place == p.place) && bytes_eq x.bytes p.bytes) ≡ true).
@@ -322,7 +346,8 @@ unfolding received_place
 at_number xs from fates s number h l =
     ap (place_in xs from fates s) (carries_one xs number (unit_number xs s) s h (carries xs s l))
 
-survival_at : (accepted : List AcceptedPacket) (place : ℕ → Option ℕ) (at p : ℕ) (before after : List (List ℕ)) (packet : List ℕ)
+survival_at : (accepted : List AcceptedPacket) (place : ℕ → Option ℕ) (at p : ℕ) (before after : List (List ℕ))
+    (packet : List ℕ)
     → place (at + length (joined before)) ≡ Some p → Among (record { place = p; bytes = packet }) accepted →
     slice_get (map (is_accepted accepted) (placed_from place at (before ++ packet ∷ after))) (length before) ≡ Some true
 survival_at accepted place at p [] after packet e h =
@@ -358,14 +383,16 @@ is_told g pid before after packet from fates all h =
     ∙ ap (λ (n : ℕ). place_of fates n (offset_in (from + h.number) xs s)) (let e : from + h.number - from ≡ h.number =
     omega arith in e) ∙ h.place_is in
     let zero_in : s ≡ 0 + s = omega arith in
-    survival_at (received_packets pid (before ++ packet ∷ after) from fates) (received_place xs from fates) 0 h.place before after
+    survival_at (received_packets pid (before ++ packet ∷ after) from fates) (received_place xs from fates)
+    0 h.place before after
     packet
     (ap (received_place xs from fates) (sym zero_in)
     ∙ sym (at_number xs from fates s (from + h.number) (record { begins = h.begins; within = h.within }) inside)
     ∙ here) h.found
 
 -- And what passes the test is a survivor.
-pub flag_at : (accepted : List AcceptedPacket) (place : ℕ → Option ℕ) (at : ℕ) (before after : List (List ℕ)) (packet : List ℕ) →
+pub flag_at : (accepted : List AcceptedPacket) (place : ℕ → Option ℕ) (at : ℕ) (before after : List (List ℕ))
+    (packet : List ℕ) →
     slice_get (map (is_accepted accepted) (placed_from place at (before ++ packet ∷ after))) (length before)
     ≡ Some (is_accepted accepted
     (option_map (λ n. record { place = n; bytes = packet }) (place (at + length (joined before)))))
@@ -375,7 +402,8 @@ flag_at accepted place at (b ∷ before) after packet =
     let there : at + length b + length (joined before) ≡ at + length (joined (b ∷ before)) =
     omega (arith, length-append (items true b) (joined before), length-items true b) in
     flag_at accepted place (at + length b) before after packet
-    ∙ ap (λ (k : ℕ). Some (is_accepted accepted (option_map (λ n. record { place = n; bytes = packet }) (place k)))) there
+    ∙ ap (λ (k : ℕ). Some (is_accepted accepted (option_map (λ n. record { place = n; bytes = packet }) (place k))))
+    there
 
 record AcceptedAt (accepted : List AcceptedPacket) (o : Option ℕ) (packet : List ℕ) : Type 0 where
   pub place : ℕ
@@ -383,7 +411,8 @@ record AcceptedAt (accepted : List AcceptedPacket) (o : Option ℕ) (packet : Li
   pub among : Among (record { place = place; bytes = packet }) accepted
 
 accepted_at : (accepted : List AcceptedPacket) (o : Option ℕ) (packet : List ℕ)
-    → is_accepted accepted (option_map (λ n. record { place = n; bytes = packet }) o) ≡ true → AcceptedAt accepted o packet
+    → is_accepted accepted (option_map (λ n. record { place = n; bytes = packet }) o) ≡ true
+    → AcceptedAt accepted o packet
 accepted_at accepted None packet h = absurd (both_ways false refl h)
 accepted_at accepted (Some n) packet h =
     record { place = n; is = refl; among = told_among (record { place = n; bytes = packet }) accepted h }
@@ -423,4 +452,8 @@ is_only g pid before after packet from fates all h =
 
 pub survival_told : (g : SpellLaws) → SurvivalTold
 survival_told g pid before after packet from fates all =
-    record { told = is_told g pid before after packet from fates all; only = is_only g pid before after packet from fates all }
+    record {
+      told = is_told g pid before after packet from fates all;
+      only = is_only g pid before after
+          packet from fates all;
+    }

@@ -1,7 +1,8 @@
--- If all units from one on are kept, they are one run: every accepted packet is a sent one at its place, and the packets that
--- begin in these units survive.
+-- If all units from one on are kept, they are one run: every accepted packet is a sent one at its place, and the
+-- packets that begin in these units survive.
 use Rattle.std.proofs.Common.{◌≡◌, ℕ, suc, ◌+◌, ◌-◌, ◌*◌, ◌^◌, ◌<◌, ◌≤◌, Bool, true, false, nat_le, List, [], ◌∷◌}
-use Rattle.std.proofs.Common.{◌++◌, map, length, drop, Option, Some, None, option_map, replicate, refl, ap, ap₂, sym, subst}
+use Rattle.std.proofs.Common.{◌++◌, map, length, drop, Option, Some, None, option_map, replicate, refl, ap, ap₂, sym}
+use Rattle.std.proofs.Common.{subst}
 use Rattle.std.proofs.Common.{◌∙◌, ⊎_elim, arith, append_assoc, append-nil, length-append, length-drop}
 use Rattle.std.specs.Prelude.{flat_map}
 use Rattle.std.proofs.lemmas.List.Concat.{flat_map-append}
@@ -15,7 +16,8 @@ use Rattle.t2mi_stream.specs.Pipe.{JoinedByte, items, joined, pipe}
 use Rattle.t2mi_stream.specs.Pipe.{carried_len, offset_in}
 use Rattle.t2mi_stream.specs.Received.{Fate, AlteredWhole}
 use Rattle.t2mi_stream.specs.Laws.{Among, ArePackets, Survives}
-use Rattle.t2mi_stream.specs.Survivors.{unit_number, received_place, placed_from, sent_packets, received_packets, is_accepted}
+use Rattle.t2mi_stream.specs.Survivors.{unit_number, received_place, placed_from, sent_packets, received_packets}
+use Rattle.t2mi_stream.specs.Survivors.{is_accepted}
 use Rattle.t2mi_stream.specs.Survivors.{AreSent, begun_from, AreKept}
 use Rattle.t2mi_stream.specs.SurvivorLaws.{IsUndamaged, KeptUndamaged, SurvivalTold}
 use Rattle.t2mi_stream.specs.SpellLaws.{SpellLaws}
@@ -24,8 +26,9 @@ use Rattle.t2mi_stream.proofs.FitLemmas.{Fits, fits_len}
 use Rattle.t2mi_stream.proofs.ReadsLemmas.{UnitLaws}
 use Rattle.t2mi_stream.proofs.SurviveLemmas.{Later, later}
 use Rattle.t2mi_stream.proofs.SurvivorLemmas.{Carries, carries, flag_at}
-use Rattle.t2mi_stream.proofs.OneRunLemmas.{carried_all, one_run, all_fits, place_in_run, units_all, all_left, kept_number}
-use Rattle.t2mi_stream.proofs.OneRunLemmas.{begins, placed_there, IsOne, is_one}
+use Rattle.t2mi_stream.proofs.OneRunLemmas.{carried_all, one_run, all_fits, place_in_run, units_all, all_left}
+use Rattle.t2mi_stream.proofs.OneRunLemmas.{kept_number}
+use Rattle.t2mi_stream.proofs.OneRunLemmas.{placed_there, IsOne, is_one}
 
 -- The place of a byte that is received.
 module _ (pid : ℕ) (packets : List (List ℕ)) (from : ℕ) (fates : List Fate) where
@@ -57,7 +60,8 @@ module _ (pid : ℕ) (packets : List (List ℕ)) (from : ℕ) (fates : List Fate
       let within = h.within in
       record { begins = omega (arith, a, c, begins, m); within = omega (arith, b, d, within, m) }
 
-  same_offset : (u t : ℕ) → Carries u xs t → from ≤ u → gone ≤ t → offset_in (u - from) rest (t - gone) ≡ offset_in u xs t
+  same_offset : (u t : ℕ) → Carries u xs t → from ≤ u → gone ≤ t → offset_in (u - from) rest (t - gone) ≡ offset_in
+      u xs t
   same_offset u t h l m =
       let a = carried_add from (u - from) xs in
       let b = carried_add from (suc (u - from)) xs in
@@ -87,7 +91,8 @@ module _ (pid : ℕ) (packets : List (List ℕ)) (from : ℕ) (fates : List Fate
         let inside : t - gone < length rest = omega (arith, length-drop gone xs, l, m) in
         let v : u - from < count = few (u - from) (t - gone) (carries_rest u t h f l) inside in
         cond-true (nat_le from u) _ _ (le-leb from u f)
-        ∙ ap (option_map (λ k. 188 * k + offset_in u xs t)) (kept_number (u - from) fates (λ n k. kept n (omega (arith, k, v))))
+        ∙ ap (option_map (λ k. 188 * k + offset_in u xs t)) (kept_number (u - from) fates
+        (λ n k. kept n (omega (arith, k, v))))
 
 -- A packet survives exactly if it begins in one of the units.
 lost_before : (xs : List JoinedByte) (from : ℕ) (fates : List Fate) (t : ℕ) → unit_number xs t < from
@@ -96,10 +101,12 @@ lost_before : (xs : List JoinedByte) (from : ℕ) (fates : List Fate) (t : ℕ) 
 unfolding received_place
 lost_before xs from fates t l = cond-false (nat_le from (unit_number xs t)) _ _ (lt-leb from (unit_number xs t) l)
 
-module _ (g : SpellLaws) (survives : Survives) (told : SurvivalTold) (pid : ℕ) (before after : List (List ℕ)) (packet : List ℕ)
+module _ (g : SpellLaws) (survives : Survives) (told : SurvivalTold) (pid : ℕ) (before after : List (List ℕ))
+    (packet : List ℕ)
     (from : ℕ) (fates : List Fate) (count : ℕ) (small : pid < 2 ^ 13) (all : ArePackets (before ++ packet ∷ after))
     (altered : AlteredWhole fates) (kept : AreKept count fates)
-    (enough : carried_len count (drop (carried_len from (joined (before ++ packet ∷ after))) (joined (before ++ packet ∷ after)))
+    (enough : carried_len count (drop (carried_len from (joined (before ++ packet ∷ after)))
+    (joined (before ++ packet ∷ after)))
     ≡ length (drop (carried_len from (joined (before ++ packet ∷ after))) (joined (before ++ packet ∷ after)))) where
   abbrev zs : List JoinedByte
   zs = joined (before ++ packet ∷ after)
@@ -137,7 +144,8 @@ module _ (g : SpellLaws) (survives : Survives) (told : SurvivalTold) (pid : ℕ)
   flag : is_accepted accepted_there (option_map (λ n. placed n packet) (received_place zs from fates t)) ≡ nat_le from u
   flag = ⊎_elim
       (λ (less : u < from).
-      ap (λ (o : Option ℕ). is_accepted accepted_there (option_map (λ n. placed n packet) o)) (lost_before zs from fates t less)
+      ap (λ (o : Option ℕ). is_accepted accepted_there (option_map (λ n. placed n packet) o))
+      (lost_before zs from fates t less)
       ∙ sym (lt-leb from u less))
       (λ (more : from ≤ u).
       let e : from + (u - from) ≡ u = omega (arith, more) in
@@ -156,16 +164,19 @@ module _ (g : SpellLaws) (survives : Survives) (told : SurvivalTold) (pid : ℕ)
       })
       (λ n a b. kept n b) in
       let z : 0 + t ≡ t = omega arith in
-      ap (λ (k : ℕ). is_accepted accepted_there (option_map (λ n. placed n packet) (received_place zs from fates k))) (sym z)
+      ap (λ (k : ℕ). is_accepted accepted_there (option_map (λ n. placed n packet) (received_place zs from fates k)))
+      (sym z)
       ∙ same_Some _ true (sym (flag_at accepted_there (received_place zs from fates) 0 before after packet)
       ∙ (told pid before after packet from fates all).told s)
       ∙ sym (le-leb from u more))
       (cases_lt u from)
 
-length_push : (before : List (List ℕ)) (packet : List ℕ) → length (joined (before ++ packet ∷ [])) ≡ length (joined before)
+length_push : (before : List (List ℕ)) (packet : List ℕ) → length (joined (before ++ packet ∷ [])) ≡ length
+    (joined before)
     + length packet
 length_push before packet =
-    ap length (flat_map-append (items true) before (packet ∷ [])) ∙ length-append (joined before) (items true packet ++ [])
+    ap length (flat_map-append (items true) before (packet ∷ [])) ∙ length-append (joined before)
+    (items true packet ++ [])
     ∙ let e = ap length (append-nil (items true packet)) in omega (arith, e, length-items true packet)
 
 no_runs : (pid : ℕ) → runs pid [] ≡ no_cut
@@ -192,7 +203,8 @@ module _ (g : SpellLaws) (xs : List JoinedByte) (from : ℕ) where
   joined_more packet packets = length-append (items true packet) (joined packets) ∙ let e = length-items true packet in
       omega (arith, e)
 
-  all_true : (packets : List (List ℕ)) (s at : ℕ) → ArePackets packets → at + length (joined packets) ≤ length xs → s ≤ at
+  all_true : (packets : List (List ℕ)) (s at : ℕ) → ArePackets packets → at + length (joined packets) ≤ length xs
+      → s ≤ at
       → from ≤ unit_number xs s → begun_from xs from at packets ≡ replicate (length packets) true
   all_true [] s at a l m f = refl
   all_true (packet ∷ packets) s at a l m f =
@@ -222,11 +234,17 @@ module _ (g : SpellLaws) (xs : List JoinedByte) (from : ℕ) where
             (lt-leb from (unit_number xs at) less) h.is;
       })
       (λ (more : from ≤ unit_number xs at).
-      record { lost = 0; left = length (packet ∷ packets); is = all_true (packet ∷ packets) at at a l (omega arith) more })
+      record {
+        lost = 0;
+        left = length (packet ∷ packets);
+        is = all_true (packet ∷ packets) at at a l
+            (omega arith) more;
+      })
       (cases_lt (unit_number xs at) from)
 
 -- the units from one on, all kept
-module _ (g : SpellLaws) (w : UnitLaws) (survives : Survives) (told : SurvivalTold) (pid : ℕ) (packets : List (List ℕ)) (from : ℕ)
+module _ (g : SpellLaws) (w : UnitLaws) (survives : Survives) (told : SurvivalTold) (pid : ℕ) (packets : List (List ℕ))
+    (from : ℕ)
     (fates : List Fate) (small : pid < 2 ^ 13) (all : ArePackets packets) (altered : AlteredWhole fates)
     (kept : AreKept (length (drop from (pipe pid packets))) fates) where
   abbrev ys : List JoinedByte
@@ -259,7 +277,8 @@ module _ (g : SpellLaws) (w : UnitLaws) (survives : Survives) (told : SurvivalTo
   fits : Fits run (drop base ys)
   fits = all_fits units.steps 0 (drop base ys) units.enough
 
-  one_sent : (p : AcceptedPacket) → IsOne g packets all base run fits p → Among (Some p) (sent_packets packets from fates)
+  one_sent : (p : AcceptedPacket) → IsOne g packets all base run fits p
+      → Among (Some p) (sent_packets packets from fates)
   one_sent p h =
       let b = h.packet in
       let at = b.at in
@@ -272,7 +291,8 @@ module _ (g : SpellLaws) (w : UnitLaws) (survives : Survives) (told : SurvivalTo
       let f : from ≤ u = unit_from pid packets from fates u (base + s) c (omega arith) in
       let back : base + s - base ≡ s = omega arith in
       let there : Carries (u - from) (drop base ys) s =
-      subst (Carries (u - from) (drop base ys)) back (carries_rest pid packets from fates u (base + s) c f (omega arith)) in
+      subst (Carries (u - from) (drop base ys)) back (carries_rest pid packets from fates u (base + s)
+      c f (omega arith)) in
       let offset : offset_in (u - from) (drop base ys) s ≡ offset_in u ys (base + s) =
       ap (offset_in (u - from) (drop base ys)) (sym back) ∙ same_offset pid packets from fates u (base + s) c f
       (omega arith) in
@@ -313,7 +333,14 @@ module _ (g : SpellLaws) (w : UnitLaws) (survives : Survives) (told : SurvivalTo
   undamaged =
       let later = only_later g ys from packets 0 all (omega arith) in
       let flags_are = flags [] packets 0 refl refl in
-      record { sent = are_sent; survive = flags_are; lost = later.lost; left = later.left; later = flags_are ∙ later.is }
+      record {
+        sent = are_sent;
+        survive = flags_are;
+        lost = later.lost;
+        left = later.left;
+        later = flags_are
+            ∙ later.is;
+      }
 
 pub kept_undamaged : (g : SpellLaws) (w : UnitLaws) → Survives → SurvivalTold → KeptUndamaged
 kept_undamaged g w survives told pid packets from fates small all altered kept =

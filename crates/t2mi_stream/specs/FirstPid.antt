@@ -1,5 +1,6 @@
 -- The PID of the T2-MI in a file of units: the first one that a unit tells.
-use Rattle.std.specs.Prelude.{◌≡◌, ℕ, ◌*◌, ◌/◌, ◌<◌, ◌≤◌, ◌==◌, ◌&&◌, nat_lt, not, List, [], ◌++◌, length, map, take, slice_get}
+use Rattle.std.specs.Prelude.{◌≡◌, ℕ, ◌*◌, ◌/◌, ◌<◌, ◌≤◌, ◌==◌, ◌&&◌, nat_lt, not, List, [], ◌++◌, length, map, take}
+use Rattle.std.specs.Prelude.{slice_get}
 use Rattle.std.specs.Prelude.{option_to_list, flat_map, Some, None, if◌then◌else◌}
 use Rattle.std.specs.List.{range_with_len}
 use Rattle.std.specs.declared.option.Option.{Option}
@@ -49,7 +50,8 @@ TellsNoneOn = (front unit : List ℕ) → TellsNone front → length unit ≡ SI
 
 -- The packets of a file whose first units tell no PID, and then one tells it, are those of the rest, further on.
 abbrev pub PacketsBehind : Type 0
-PacketsBehind = (front rest : List ℕ) (pid : ℕ) → TellsNone front → SIZE ≤ length rest → pid_of (fields_in (take SIZE rest))
+PacketsBehind = (front rest : List ℕ) (pid : ℕ) → TellsNone front → SIZE ≤ length rest
+    → pid_of (fields_in (take SIZE rest))
     ≡ Some pid
     → t2mi_packets_in (front ++ rest) ≡ map (further (length front)) (accepted_of pid rest)
 

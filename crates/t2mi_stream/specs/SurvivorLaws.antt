@@ -1,5 +1,6 @@
 -- What is accepted, and which sent packets that are.
-use Rattle.std.specs.Prelude.{◌≡◌, ℕ, ◌+◌, ◌^◌, ◌<◌, ◌≤◌, true, false, List, [], ◌∷◌, ◌++◌, length, drop, map, replicate}
+use Rattle.std.specs.Prelude.{◌≡◌, ℕ, ◌+◌, ◌^◌, ◌<◌, ◌≤◌, true, false, List, [], ◌∷◌, ◌++◌, length, drop, map}
+use Rattle.std.specs.Prelude.{replicate}
 use Rattle.std.specs.Prelude.{slice_get, Some}
 use Rattle.std.specs.List.{items_where_true}
 use Rattle.t2mi_stream.specs.Accepted.{Byte, AcceptedPacket, front_packet}
@@ -18,7 +19,8 @@ pub record StandsAtStart (pid : ℕ) (bytes : List ℕ) (p : AcceptedPacket) : T
   pub packet : front_packet (drop start run) ≡ Some p
 
 abbrev pub AcceptedStand : Type 0
-AcceptedStand = (pid : ℕ) (bytes : List ℕ) (p : AcceptedPacket) → Among p (accepted_of pid bytes) → StandsAtStart pid bytes p
+AcceptedStand = (pid : ℕ) (bytes : List ℕ) (p : AcceptedPacket) → Among p (accepted_of pid bytes)
+    → StandsAtStart pid bytes p
 
 -- The places of packets rise, from one on.
 abbrev pub RiseFrom : ℕ → List AcceptedPacket → Type 0
@@ -39,12 +41,14 @@ pub record AreSurvivors (pid : ℕ) (packets : List (List ℕ)) (from : ℕ) (fa
 -- If every accepted packet is a sent one at its place, the accepted packets are those that survive.
 abbrev pub AcceptedSurvive : Type 0
 AcceptedSurvive = (pid : ℕ) (packets : List (List ℕ)) (from : ℕ) (fates : List Fate) → ArePackets packets
-    → AreSent (received_packets pid packets from fates) (sent_packets packets from fates) → AreSurvivors pid packets from fates
+    → AreSent (received_packets pid packets from fates) (sent_packets packets from fates)
+    → AreSurvivors pid packets from fates
 
 -- `IsSurvivor` says what the test of a sent packet, by its number, decides.
 pub record SurvivalIs (pid : ℕ) (before : List (List ℕ)) (packet : List ℕ) (after : List (List ℕ)) (from : ℕ)
     (fates : List Fate) : Type 0 where
-  pub told : IsSurvivor pid before packet after from fates → slice_get (survival pid (before ++ packet ∷ after) from fates)
+  pub told : IsSurvivor pid before packet after from fates
+      → slice_get (survival pid (before ++ packet ∷ after) from fates)
       (length before) ≡ Some true
   pub only : slice_get (survival pid (before ++ packet ∷ after) from fates) (length before) ≡ Some true
       → IsSurvivor pid before packet after from fates
@@ -53,8 +57,8 @@ abbrev pub SurvivalTold : Type 0
 SurvivalTold = (pid : ℕ) (before after : List (List ℕ)) (packet : List ℕ) (from : ℕ) (fates : List Fate)
     → ArePackets (before ++ packet ∷ after) → SurvivalIs pid before packet after from fates
 
--- Every accepted packet is a sent one at its place, and exactly the packets that begin in one of the units survive: all but the
--- first ones.
+-- Every accepted packet is a sent one at its place, and exactly the packets that begin in one of the units survive: all
+-- but the first ones.
 pub record IsUndamaged (pid : ℕ) (packets : List (List ℕ)) (from : ℕ) (fates : List Fate) : Type 0 where
   pub sent : AreSent (received_packets pid packets from fates) (sent_packets packets from fates)
   pub survive : survival pid packets from fates ≡ begun_from (joined packets) from 0 packets

@@ -1,5 +1,6 @@
 -- Sent packets among the packets that are accepted of what is received.
-use Rattle.std.specs.Prelude.{◌≡◌, ◌<◌, ℕ, zero, suc, ◌+◌, ◌-◌, ◌==◌, ◌&&◌, nat_lt, nat_le, Bool, false, List, [], ◌∷◌, length}
+use Rattle.std.specs.Prelude.{◌≡◌, ◌<◌, ℕ, zero, suc, ◌+◌, ◌-◌, ◌==◌, ◌&&◌, nat_lt, nat_le, Bool, false, List, [], ◌∷◌}
+use Rattle.std.specs.Prelude.{length}
 use Rattle.std.specs.Prelude.{drop, map, bytes_eq, Option, Some, None, option_map, if◌then◌else◌}
 use Rattle.std.specs.List.{list_any}
 use Rattle.t2mi_stream.specs.Accepted.{AcceptedPacket}
@@ -21,7 +22,8 @@ unit_number xs place = unit_within (length xs) xs place
 
 -- the place of a byte that a unit carries, by the unit's number among those sent
 abbrev pub place_in : List JoinedByte → ℕ → List Fate → ℕ → ℕ → Option ℕ
-place_in xs from fates place number = if nat_le from number then place_of fates (number - from) (offset_in number xs place)
+place_in xs from fates place number = if nat_le from number then place_of fates (number - from)
+    (offset_in number xs place)
     else None
 
 -- the place among the received bytes of the byte at a place of joined packets: none if its unit is lost
@@ -53,7 +55,8 @@ is_accepted accepted (Some p) = list_any (is_same p) accepted
 
 -- for each sent packet, whether it survives
 abbrev pub survival : ℕ → List (List ℕ) → ℕ → List Fate → List Bool
-survival pid packets from fates = map (is_accepted (received_packets pid packets from fates)) (sent_packets packets from fates)
+survival pid packets from fates = map (is_accepted (received_packets pid packets from fates))
+    (sent_packets packets from fates)
 
 -- Every accepted packet stands at the place of a sent packet's first byte and equals that packet.
 abbrev pub AreSent : List AcceptedPacket → List (Option AcceptedPacket) → Type 0
@@ -62,7 +65,8 @@ AreSent accepted sent = (p : AcceptedPacket) → Among p accepted → Among (Som
 -- for packets, the first of them at a place of the joined ones, whether they begin in a unit with a number from one on
 abbrev pub begun_from : List JoinedByte → ℕ → ℕ → List (List ℕ) → List Bool
 begun_from xs from at [] = []
-begun_from xs from at (packet ∷ packets) = nat_le from (unit_number xs at) ∷ begun_from xs from (at + length packet) packets
+begun_from xs from at (packet ∷ packets) = nat_le from (unit_number xs at) ∷ begun_from xs from (at + length packet)
+    packets
 
 -- The first so many units with these fates are kept.
 abbrev pub AreKept : ℕ → List Fate → Type 0

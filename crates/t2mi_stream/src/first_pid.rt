@@ -6,8 +6,8 @@ ghost use Rattle.t2mi_stream.specs.FirstPid.{pid_of, TellsNoneOn, PacketsBehind,
 use crate::skipping::skip_law;
 use ts_packet::{SIZE, TsPacket, fields_told_law, null_by_pid_law, read};
 
-/// The PID that a unit tells: that of a transport packet that has a payload and is not null, whatever its error indicator and its
-/// scrambling.
+/// The PID that a unit tells: that of a transport packet that has a payload and is not null, whatever its error
+/// indicator and its scrambling.
 pub fn unit_pid(unit: [u8; SIZE]) -> Option<u16>
     ensures { result ≡ pid_of (fields_in unit) }
 {

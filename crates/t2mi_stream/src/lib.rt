@@ -20,4 +20,5 @@ pub use laws::{
 pub use piper::Piper;
 pub use skipping::{few_packets_law, packet_places_law, skip_law};
 pub use survivor_laws::{rise_law, stand_law, survivor_law, undamaged_law};
+pub use unit::first_unit;
 pub use unpiper::Unpiper;

@@ -1,5 +1,7 @@
-// Laws of what is accepted, and of the sent packets that survive (ETSI TS 102 773, clause 6). Their functions do nothing.
-ghost use Rattle.t2mi_stream.specs.SurvivorLaws.{AcceptedStand, PlacesRise, AcceptedSurvive, SurvivalTold, KeptUndamaged};
+// Laws of what is accepted, and of the sent packets that survive (ETSI TS 102 773, clause 6). Their functions do
+// nothing.
+ghost use Rattle.t2mi_stream.specs.SurvivorLaws.{AcceptedStand, PlacesRise, AcceptedSurvive, SurvivalTold};
+ghost use Rattle.t2mi_stream.specs.SurvivorLaws.{KeptUndamaged};
 
 use crate::grammar::grammar;
 use crate::laws::survives_law;
@@ -17,8 +19,8 @@ pub fn rise_law()
     grammar();
 }
 
-/// If every accepted packet is a sent one at its place, the accepted packets are, in order, the sent ones that survive; and which
-/// these are, is told by their numbers.
+/// If every accepted packet is a sent one at its place, the accepted packets are, in order, the sent ones that survive;
+/// and which these are, is told by their numbers.
 pub fn survivor_law()
     ensures survive { AcceptedSurvive }
     ensures told { SurvivalTold }
@@ -27,8 +29,8 @@ pub fn survivor_law()
     rise_law();
 }
 
-/// If all units from one on are kept, every accepted packet is a sent one at its place, and exactly the packets that begin in
-/// these units survive.
+/// If all units from one on are kept, every accepted packet is a sent one at its place, and exactly the packets that
+/// begin in these units survive.
 pub fn undamaged_law()
     ensures { KeptUndamaged }
 {

@@ -1,9 +1,11 @@
 -- Bits of numbers and bytes, the numbers of bits, and parts of bits.
-use Rattle.std.proofs.Common.{◌≡◌, ℕ, zero, suc, ◌+◌, ◌-◌, ◌*◌, ◌/◌, ◌%◌, ◌^◌, ◌<◌, ◌≤◌, ◌==◌, Bool, true, false, cond, List, []}
-use Rattle.std.proofs.Common.{◌∷◌, ◌++◌, length, take, drop, map, get_or, refl, ap, sym, ◌∙◌, arith, length-append, add-one}
+use Rattle.std.proofs.Common.{◌≡◌, ℕ, zero, suc, ◌+◌, ◌-◌, ◌*◌, ◌/◌, ◌%◌, ◌^◌, ◌<◌, ◌≤◌, ◌==◌, Bool, true, false, cond}
+use Rattle.std.proofs.Common.{List, []}
+use Rattle.std.proofs.Common.{◌∷◌, ◌++◌, length, take, drop, map, get_or, refl, ap, sym, ◌∙◌, arith, length-append}
 use Rattle.std.specs.Int.{bit_at, bytes_high_first, byte_at as number_byte}
-use Rattle.std.proofs.lemmas.List.{append_assoc, take_at, take_all, drop_all, drop_more, take-append-drop, length-take-le}
-use Rattle.std.proofs.lemmas.List.{get_or_append_left, get_or-append-add, length_push, drop-take, take-take, drop-drop}
+use Rattle.std.proofs.lemmas.List.{append_assoc, take_at, take_all, drop_all, drop_more, take-append-drop}
+use Rattle.std.proofs.lemmas.List.{length-take-le}
+use Rattle.std.proofs.lemmas.List.{get_or_append_left, get_or-append-add, drop-take, take-take, drop-drop}
 use Rattle.std.proofs.lemmas.List.{get_or-take, get_or-drop, length-take, length-drop, drop-append-le, take-append-le}
 use Rattle.std.specs.List.{range_with_len}
 use Rattle.std.proofs.lemmas.List.Concat.{flat_map-append}
@@ -21,7 +23,8 @@ length-field (suc w) n = ap suc (length-field w n)
 
 pub length-bits_of : (bytes : List ℕ) → length (bits_of bytes) ≡ 8 * length bytes
 length-bits_of [] = refl
-length-bits_of (b ∷ bytes) = length-append (field 8 b) (bits_of bytes) ∙ omega (arith, length-field 8 b, length-bits_of bytes)
+length-bits_of (b ∷ bytes) = length-append (field 8 b) (bits_of bytes)
+    ∙ omega (arith, length-field 8 b, length-bits_of bytes)
 
 pub bits_of-append : (xs ys : List ℕ) → bits_of (xs ++ ys) ≡ bits_of xs ++ bits_of ys
 bits_of-append xs ys = flat_map-append (field 8) xs ys
@@ -77,7 +80,8 @@ pub length-part : {X : Type 0} (xs : List X) (f l : ℕ) → f + l ≤ length xs
 length-part xs f l h = simp (length-take, length-drop) (omega arith)
 
 -- A part of a front is a part of the whole.
-pub part-append : {X : Type 0} (xs ys : List X) (f l : ℕ) → f + l ≤ length xs → take l (drop f (xs ++ ys)) ≡ take l (drop f xs)
+pub part-append : {X : Type 0} (xs ys : List X) (f l : ℕ) → f + l ≤ length xs
+    → take l (drop f (xs ++ ys)) ≡ take l (drop f xs)
 part-append xs ys f l h =
     let a : f ≤ length xs = omega arith in
     let b : l ≤ length (drop f xs) = simp length-drop (omega arith) in
@@ -88,7 +92,8 @@ number_of-append [] ys = omega arith
 number_of-append (true ∷ xs) ys =
     let size : 2 ^ length (xs ++ ys) ≡ 2 ^ length xs * 2 ^ length ys =
     rw (length-append xs ys) (pow-add 2 (length xs) (length ys)) in
-    let product : (2 ^ length xs + number_of xs) * 2 ^ length ys ≡ 2 ^ length xs * 2 ^ length ys + number_of xs * 2 ^ length ys =
+    let product : (2 ^ length xs + number_of xs) * 2 ^ length ys ≡ 2 ^ length xs * 2 ^ length ys + number_of
+    xs * 2 ^ length ys =
     add-mul (2 ^ length xs) (number_of xs) (2 ^ length ys) in
     omega (arith, number_of-append xs ys, size, product)
 number_of-append (false ∷ xs) ys = omega (arith, number_of-append xs ys)
@@ -130,16 +135,19 @@ field-number_of (true ∷ bs) =
     ap (λ (x : ℕ). x % 2) (shr_high 1 (length bs) (number_of bs) (number_of-lt bs)) in
     rw (one, top, field-high (length bs) 1 (number_of bs) (length bs) (omega arith), field-number_of bs) refl
 field-number_of (false ∷ bs) =
-    let top : bit_at (number_of bs) (length bs) ≡ 0 = bit_at_above (number_of bs) (length bs) (length bs) (number_of-lt bs)
+    let top : bit_at (number_of bs) (length bs) ≡ 0 = bit_at_above (number_of bs) (length bs) (length bs)
+    (number_of-lt bs)
     (omega arith) in
     let none : 0 + number_of bs ≡ number_of bs = omega arith in
     rw (none, top, field-number_of bs) refl
 
 pub take-field : (w n : ℕ) (rest : List Bool) → take w (field w n ++ rest) ≡ field w n
-take-field w n rest = ap (λ (k : ℕ). take k (field w n ++ rest)) (sym (length-field w n)) ∙ take-append_seam (field w n) rest
+take-field w n rest = ap (λ (k : ℕ). take k (field w n ++ rest)) (sym (length-field w n))
+    ∙ take-append_seam (field w n) rest
 
 pub drop-field : (w n : ℕ) (rest : List Bool) → drop w (field w n ++ rest) ≡ rest
-drop-field w n rest = ap (λ (k : ℕ). drop k (field w n ++ rest)) (sym (length-field w n)) ∙ drop-append_seam (field w n) rest
+drop-field w n rest = ap (λ (k : ℕ). drop k (field w n ++ rest)) (sym (length-field w n))
+    ∙ drop-append_seam (field w n) rest
 
 -- the same, by the width
 pub field-number : (width : ℕ) (bits : List Bool) → length bits ≡ width → field width (number_of bits) ≡ bits
@@ -162,14 +170,16 @@ drop-bits_of (suc n) (b ∷ bytes) =
 
 pub take-bits_of : (n : ℕ) (bytes : List ℕ) → n ≤ length bytes → take (8 * n) (bits_of bytes) ≡ bits_of (take n bytes)
 take-bits_of n bytes h =
-    let parts : bits_of bytes ≡ bits_of (take n bytes) ++ bits_of (drop n bytes) = sym (ap bits_of (take-append-drop n bytes))
+    let parts : bits_of bytes ≡ bits_of (take n bytes) ++ bits_of (drop n bytes) = sym
+    (ap bits_of (take-append-drop n bytes))
     ∙ bits_of-append (take n bytes) (drop n bytes) in
     let size : length (bits_of (take n bytes)) ≡ 8 * n = length-bits_of (take n bytes)
     ∙ ap (λ (k : ℕ). 8 * k) (length-take-le n bytes h) in
     ap (take (8 * n)) parts ∙ take_at (bits_of (take n bytes)) (bits_of (drop n bytes)) (8 * n) size
 
 -- the bits of some bytes are a part of the bits of all
-pub part-bits_of : (bytes : List ℕ) (from count : ℕ) → from + count ≤ length bytes → part (bits_of bytes) (8 * from) (8 * count)
+pub part-bits_of : (bytes : List ℕ) (from count : ℕ) → from + count ≤ length bytes
+    → part (bits_of bytes) (8 * from) (8 * count)
     ≡ bits_of (take count (drop from bytes))
 part-bits_of bytes from count h =
     let inside : count ≤ length (drop from bytes) = simp length-drop (omega arith) in
@@ -184,7 +194,8 @@ number_of-part bits at width h =
     let behind : List Bool = drop width (drop at bits) in
     let wide : length here ≡ width = length-part bits at width h in
     let left : length behind ≡ length bits - (at + width) = simp length-drop (omega arith) in
-    let spelled : number_of bits ≡ (number_of front * 2 ^ width + number_of here) * 2 ^ length behind + number_of behind =
+    let spelled : number_of bits ≡ (number_of front * 2 ^ width + number_of here) * 2 ^ length behind + number_of
+    behind =
     sym (ap number_of (take-append-drop at bits)) ∙ ap (λ (bs : List Bool). number_of (front ++ bs))
     (sym (take-append-drop width (drop at bits)))
     ∙ ap number_of (sym (append_assoc front here behind)) ∙ number_of-append (front ++ here) behind
@@ -217,7 +228,8 @@ bytes_of_fields bits bytes size held =
     let count : length bytes ≡ bytes_for (length bits) = omega arith in
     let each : (k : ℕ) → k < length bytes → get_or bytes k 0 ≡ byte_at bits k =
     λ k h. held k h ∙ sym (byte_at-whole bits k (omega arith)) in
-    fill_by_all (byte_at bits) bytes (length bytes) 0 refl each ∙ ap (λ (n : ℕ). map (byte_at bits) (range_with_len 0 n)) count
+    fill_by_all (byte_at bits) bytes (length bytes) 0 refl each
+    ∙ ap (λ (n : ℕ). map (byte_at bits) (range_with_len 0 n)) count
 
 -- bytes are what their bits fill
 pub bytes_of-bits_of : (bytes : List ℕ) → ((k : ℕ) → get_or bytes k 0 < 256) → bytes_of (bits_of bytes) ≡ bytes
@@ -233,11 +245,13 @@ bits_of-bytes_from bits from (suc count) h =
     let here : field 8 (byte_at bits from) ≡ part bits (8 * from) 8 =
     ap (field 8) (byte_at-whole bits from (omega arith)) ∙ field-number_at bits (8 * from) 8 (omega arith) in
     let next : 8 * (from + 1) ≡ 8 * from + 8 = omega arith in
-    let rest : bits_of (map (byte_at bits) (range_with_len (from + 1) count)) ≡ take (8 * count) (drop 8 (drop (8 * from) bits)) =
+    let rest : bits_of (map (byte_at bits) (range_with_len (from + 1) count)) ≡ take (8 * count)
+    (drop 8 (drop (8 * from) bits)) =
     bits_of-bytes_from bits (from + 1) count (omega arith)
     ∙ ap (λ (k : ℕ). take (8 * count) (drop k bits)) next ∙ ap (take (8 * count)) (sym (drop-drop 8 (8 * from) bits)) in
     let more : 8 + 8 * count ≡ 8 * suc count = omega arith in
-    rw (here, rest) (sym (take-add 8 (8 * count) (drop (8 * from) bits)) ∙ ap (λ (k : ℕ). take k (drop (8 * from) bits)) more)
+    rw (here, rest) (sym (take-add 8 (8 * count) (drop (8 * from) bits))
+    ∙ ap (λ (k : ℕ). take k (drop (8 * from) bits)) more)
 
 -- bits that fill whole bytes are those of the bytes
 pub bits_of-bytes_of : (bits : List Bool) (count : ℕ) → length bits ≡ 8 * count → bits_of (bytes_of bits) ≡ bits
@@ -258,7 +272,8 @@ number_of-bytes byte bytes small =
     (number_of-field 8 byte small))
 
 -- the number of four bytes
-pub four_bytes : (a b c d : ℕ) → a < 256 → b < 256 → c < 256 → d < 256 → number_of (bits_of (a ∷ b ∷ c ∷ d ∷ [])) ≡ a * 2 ^ 24 + b
+pub four_bytes : (a b c d : ℕ) → a < 256 → b < 256 → c < 256 → d < 256
+    → number_of (bits_of (a ∷ b ∷ c ∷ d ∷ [])) ≡ a * 2 ^ 24 + b
     * 2 ^ 16 + c * 2 ^ 8 + d
 four_bytes a b c d fits_a fits_b fits_c fits_d =
     omega (
@@ -301,7 +316,8 @@ field-byte (suc k) n = field-low 8 (n / 256 ^ suc k) ∙ ap (λ (x : ℕ). field
 -- two bytes of a number, the higher one first
 pub field-two-bytes : (n : ℕ) → field 8 (number_byte 1 n) ++ field 8 (number_byte 0 n) ≡ field 16 n
 field-two-bytes n =
-    ap (λ (xs : List Bool). xs ++ field 8 (number_byte 0 n)) (field-byte 1 n) ∙ ap (λ (xs : List Bool). field 8 (n / 2 ^ 8) ++ xs)
+    ap (λ (xs : List Bool). xs ++ field 8 (number_byte 0 n)) (field-byte 1 n)
+    ∙ ap (λ (xs : List Bool). field 8 (n / 2 ^ 8) ++ xs)
     (field-low 8 n)
     ∙ sym (field-add 8 8 n)
 

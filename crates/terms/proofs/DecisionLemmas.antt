@@ -32,7 +32,8 @@ decide_if (no f) e = yes (λ p. absurd (f p))
 decide_if (yes p) (no f) = no (λ h. f (h p))
 decide_if (yes p) (yes q) = yes (λ h. q)
 
--- One of two things is so of each number: the first of all below a count, or the second of a number, and the first of all before.
+-- One of two things is so of each number: the first of all below a count, or the second of a number, and the first of
+-- all before.
 pub first_other : (A B : ℕ → Type 0) → ((n : ℕ) → A n ⊎ B n) → (count : ℕ) → ((n : ℕ) → n < count → A n)
     ⊎ ((n : ℕ) × (n < count) × B n × ((m : ℕ) → m < n → A m))
 first_other A B each zero = inl (λ n lt. absurd (omega arith))

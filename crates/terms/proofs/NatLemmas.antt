@@ -1,7 +1,6 @@
 -- Numbers that cut others evenly.
-use Rattle.std.proofs.Common.{◌≡◌, ℕ, ◌+◌, ◌*◌, ◌/◌, ◌%◌, ◌<◌, ◌≤◌, ap, sym, ◌∙◌, arith, inl, inr}
+use Rattle.std.proofs.Common.{◌≡◌, ℕ, ◌+◌, ◌*◌, ◌/◌, ◌%◌, ◌<◌, ◌≤◌, ap, sym, ◌∙◌, arith}
 use Rattle.std.proofs.Math.Nat.{div-mul-le_self, mul_assoc, mul-mod_left}
-use Rattle.std.proofs.lemmas.Bool.{cases_lt}
 use Rattle.std.proofs.lemmas.Nat.{div-add-mod', div-mul-add, le-div}
 
 -- a number that cuts another one evenly cuts its multiples evenly
@@ -11,7 +10,8 @@ cut_whole n cells slices some h =
     let all = div-add-mod' cells slices in
     let whole : m * slices ≡ cells = omega (arith, all, h) in
     let product : n * cells ≡ n * m * slices + 0 = omega (arith, ap (λ (k : ℕ). n * k) whole) in
-    let quotient : n * cells / slices ≡ n * m = ap (λ (k : ℕ). k / slices) product ∙ div-mul-add (n * m) slices 0 some in
+    let quotient : n * cells / slices ≡ n * m = ap (λ (k : ℕ). k / slices) product
+    ∙ div-mul-add (n * m) slices 0 some in
     rw quotient (omega (arith, product))
 
 -- what a product cuts evenly, its factors cut evenly
@@ -44,7 +44,8 @@ cut_parts n cells slices frames some long whole =
     ap (λ (k : ℕ). k / frames) is ∙ div-mul-add (cells / (slices * frames) * slices) frames 0 long in
     let even : cells / frames % slices ≡ 0 =
     ap (λ (k : ℕ). k % slices) part ∙ mul-mod_left (cells / (slices * frames)) slices in
-    let frame : n * cells / frames ≡ n * (cells / frames) = whole_part n cells frames long (divides cells slices frames whole) in
+    let frame : n * cells / frames ≡ n * (cells / frames) = whole_part n cells frames long
+    (divides cells slices frames whole) in
     rw frame (cut_whole n (cells / frames) slices some even)
 
 -- of more there are larger parts

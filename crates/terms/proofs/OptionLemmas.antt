@@ -24,14 +24,12 @@ pub was_some : {A : Type 0} (o : Option A) (other : A) → IsSome o → o ≡ So
 was_some None other h = cc
 was_some (Some x) other h = refl
 
-pub some_injective : {A : Type 0} (x y : A) → Some x ≡ Some y → x ≡ y
-some_injective x y e = ap (λ o. unwrap_or o x) e
-
 pub none_some : {A : Type 0} {P : Type 0} (x : A) → None ≡ Some x → P
 none_some x e = absurd (true≢false (sym (ap is_some e)))
 
 -- what is there under one of two tests is not there if neither holds
-pub neither : {A : Type 0} (t u : Bool) (a b : A) → is_some (cond t (Some a) (cond u (Some b) None)) ≡ false → (t ≡ false)
+pub neither : {A : Type 0} (t u : Bool) (a b : A) → is_some (cond t (Some a) (cond u (Some b) None)) ≡ false
+    → (t ≡ false)
     × (u ≡ false)
 neither true u a b e = absurd (true≢false e)
 neither false true a b e = absurd (true≢false e)

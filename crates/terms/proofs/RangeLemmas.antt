@@ -25,9 +25,11 @@ range_append a (suc m) n =
     let e : suc m + n ≡ suc (m + n) = omega arith in
     let f : a + 1 + m ≡ a + suc m = omega arith in
     ap (range_with_len a) e
-    ∙ ap (λ (l : List ℕ). a ∷ l) (range_append (a + 1) m n ∙ ap (λ (x : ℕ). range_with_len (a + 1) m ++ range_with_len x n) f)
+    ∙ ap (λ (l : List ℕ). a ∷ l) (range_append (a + 1) m n
+    ∙ ap (λ (x : ℕ). range_with_len (a + 1) m ++ range_with_len x n) f)
 
--- Of two functions that agree on a range: what they make of each of its numbers, in a list, in lists joined, in a sum, in a test of all.
+-- Of two functions that agree on a range: what they make of each of its numbers, in a list, in lists joined, in a sum,
+-- in a test of all.
 pub map_same : {X : Type 0} (f g : ℕ → X) (a n : ℕ) → ((k : ℕ) → a ≤ k → k < a + n → f k ≡ g k)
     → map f (range_with_len a n) ≡ map g (range_with_len a n)
 map_same f g a zero h = refl

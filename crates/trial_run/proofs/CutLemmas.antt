@@ -1,5 +1,6 @@
 -- Packets that are counted, and records that are cut, one by one.
-use Rattle.std.proofs.Common.{◌≡◌, ℕ, ◌+◌, Bool, true, false, cond, List, [], ◌∷◌, ◌++◌, length, take, drop, refl, ap, sym, ◌∙◌}
+use Rattle.std.proofs.Common.{◌≡◌, ℕ, ◌+◌, Bool, true, false, cond, List, [], ◌∷◌, ◌++◌, length, take, drop, refl, ap}
+use Rattle.std.proofs.Common.{sym, ◌∙◌}
 use Rattle.std.proofs.Common.{length-append, ◌<◌}
 use Rattle.std.specs.Prelude.{not, ◌||◌, slice_index_or}
 use Rattle.std.specs.List.{filter, range_with_len}
@@ -15,11 +16,13 @@ use Rattle.trial_run.specs.Counts.{is_frame, AreCut, filled_of_first, stand_in}
 use Rattle.trial_run.specs.declared.counts.Piece.{Piece}
 
 -- one element more behind others counts if it passes
-counted_one : {X : Type 0} (p : X → Bool) (x : X) (passes : Bool) → p x ≡ passes → length (filter p (x ∷ [])) ≡ (cond passes 1 0)
+counted_one : {X : Type 0} (p : X → Bool) (x : X) (passes : Bool) → p x ≡ passes
+    → length (filter p (x ∷ [])) ≡ (cond passes 1 0)
 counted_one p x true is = rw is refl
 counted_one p x false is = rw is refl
 
-pub count_more : {X : Type 0} (p : X → Bool) (xs : List X) (x : X) → length (filter p (xs ++ x ∷ [])) ≡ length (filter p xs)
+pub count_more : {X : Type 0} (p : X → Bool) (xs : List X) (x : X) → length (filter p (xs ++ x ∷ [])) ≡ length
+    (filter p xs)
     + cond (p x) 1 0
 count_more p xs x =
     ap (λ l. length l) (filter-append p xs (x ∷ [])) ∙ length-append (filter p xs) (filter p (x ∷ []))
@@ -33,7 +36,8 @@ filled_more bytes n =
     ap (λ (l : List ℕ). length (filter p l)) (places_more n) ∙ count_more p (range_with_len 0 n) n
 
 -- one record more
-cut_more : (file rest : List ℕ) (pieces : List Piece) (piece : Piece) (view : RecordView) (len : ℕ) → AreCut file pieces rest
+cut_more : (file rest : List ℕ) (pieces : List Piece) (piece : Piece) (view : RecordView) (len : ℕ)
+    → AreCut file pieces rest
     → BeginsWith rest view len → piece.is_frame ≡ is_frame view → piece.bytes.now ≡ take len rest
     → AreCut file (pieces ++ piece ∷ []) (drop len rest)
 cut_more file rest [] piece view len are begins kind bytes = rw are (view, len, begins, kind, bytes, refl)

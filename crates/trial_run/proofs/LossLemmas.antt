@@ -16,7 +16,8 @@ kept_more x stream n =
     ∙ ap (λ (l : List ℕ). flat_map f (range_with_len 0 n) ++ l) (append-nil (f n))
 
 -- what is read of one unit more behind others
-pub unit_pushed : (stream was now : List ℕ) (n x before later draw : ℕ) → was ≡ kept_of_first x stream n → before ≡ after n x
+pub unit_pushed : (stream was now : List ℕ) (n x before later draw : ℕ) → was ≡ kept_of_first x stream n
+    → before ≡ after n x
     → draw ≡ drawn before → now ≡ was ++ kept_by stream n draw → later ≡ after_one before
     → (now ≡ kept_of_first x stream (n + 1)) × (later ≡ after (n + 1) x)
 unit_pushed stream was now n x before later draw was_is before_is draw_is now_is later_is = (

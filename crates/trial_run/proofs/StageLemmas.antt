@@ -1,5 +1,6 @@
 -- Runs over desks in memory: what such a desk holds at first, and what a run leaves on it.
-use Rattle.std.proofs.Common.{◌≡◌, ℕ, zero, suc, ◌<◌, List, [], ◌∷◌, codes, length, Option, Some, refl, ap, sym, subst, ◌∙◌}
+use Rattle.std.proofs.Common.{◌≡◌, ℕ, zero, suc, ◌<◌, List, [], ◌∷◌, codes, length, Option, Some, refl, ap, sym, subst}
+use Rattle.std.proofs.Common.{◌∙◌}
 use Rattle.std.proofs.Common.{arith, ◌≢◌, map, get_or, Vec, Global}
 use Rattle.std.specs.Prelude.{Ok, IfSome, unwrap_or, option_and_then, slice_index_or}
 use Rattle.std.specs.List.{range_with_len}
@@ -85,7 +86,8 @@ has_inputs given m one two three is a b c =
 
 -- the bytes of one of three inputs
 pub given_at : (given : ℕ → List ℕ) (inputs : List (Vec ℕ Global)) (n plp : ℕ) (input : Vec ℕ Global)
-    → map (λ input. input.items) inputs ≡ map given (range_with_len 0 n) → plp < n → input ≡ slice_index_or inputs plp input
+    → map (λ input. input.items) inputs ≡ map given (range_with_len 0 n) → plp < n
+    → input ≡ slice_index_or inputs plp input
     → input.items ≡ given plp
 given_at given inputs n plp input are small is =
     let f : Vec ℕ Global → List ℕ = λ v. v.items in
@@ -101,7 +103,8 @@ pub record Written (new : State) (out : List ℕ) (Has : List ℕ → Type 0) : 
   pub is : unwrap_or (file_of new out) [] ≡ bytes
   pub has : Has bytes
 
-pub written : (old new : State) (out : List ℕ) (ins : List (List ℕ)) (places : List ℕ) (Has : Held → List ℕ → Type 0) (h : Held)
+pub written : (old new : State) (out : List ℕ) (ins : List (List ℕ)) (places : List ℕ) (Has : Held → List ℕ
+    → Type 0) (h : Held)
     → old.held ≡ Some h → Works old new out ins places Has → Written new out (Has h)
 written old new out ins places Has h holds works =
     let left = rw holds at works.holds in
@@ -124,7 +127,8 @@ modulated c old new name out stream records ran has (same, d) is =
     let counts = rw has.holds at ran_is in
     (is ∙ left.is ∙ left.has ∙ ap (output_of c) has.is, counts ∙ ap (λ (s : List ℕ). counted (records_of c s)) has.is)
 
-pub received : (c : Config) (plp : ℕ) (old new : State) (name out records bytes : List ℕ) (ran : Received) → HasFile old name records
+pub received : (c : Config) (plp : ℕ) (old new : State) (name out records bytes : List ℕ) (ran : Received)
+    → HasFile old name records
     → Ends (receive_work c plp) old new (Into out) (name ∷ []) (Ok ran) → bytes ≡ unwrap_or (file_of new out) []
     → ComesOf c plp records bytes
 received c plp old new name out records bytes ran has (same, d) is =
@@ -148,9 +152,11 @@ module _ (c : Config) (f g : ℕ → List ℕ) (same : (plp : ℕ) → plp < len
       ∙ decided c (inputs_of f) (inputs_of g) (frames_of Apart c g) plan
       (λ plp k lt over. ap (λ (file : List ℕ). packet_at (packets_in file) k) (same plp lt)))
 
-pub was_sent : FrontsDecided → (c : Config) (old new : State) (out : List ℕ) (files : ℕ → List ℕ) (sent : Sent) → IsPlan c
+pub was_sent : FrontsDecided → (c : Config) (old new : State) (out : List ℕ) (files : ℕ → List ℕ) (sent : Sent)
+    → IsPlan c
     → length c.plps ≡ 3 → HasInputs old files
-    → Ends (gateway_work Apart c) old new (Into out) input_names (Ok sent.ran) → sent.stream.items ≡ unwrap_or (file_of new out) []
+    → Ends (gateway_work Apart c) old new (Into out) input_names (Ok sent.ran)
+    → sent.stream.items ≡ unwrap_or (file_of new out) []
     → IsSent c files sent
 was_sent decided c old new out files sent plan three has (counts, d) is =
     let all = d.does.1 in

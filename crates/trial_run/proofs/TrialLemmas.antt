@@ -1,12 +1,14 @@
 -- A trial, from its inputs to its lines.
-use Rattle.std.proofs.Common.{◌≡◌, ℕ, suc, ◌+◌, ◌*◌, ◌<◌, ◌≤◌, ◌⊎◌, List, [], ◌∷◌, ◌++◌, length, map, refl, ap, sym, subst}
-use Rattle.std.proofs.Common.{◌∙◌, arith, inl, inr, append-nil, append_assoc, length-append, get_or-append-add, Vec, Global}
+use Rattle.std.proofs.Common.{◌≡◌, ℕ, suc, ◌+◌, ◌*◌, ◌<◌, ◌≤◌, ◌⊎◌, List, [], ◌∷◌, ◌++◌, length, map, refl, ap, sym}
+use Rattle.std.proofs.Common.{subst}
+use Rattle.std.proofs.Common.{◌∙◌, arith, inl, inr, append-nil, append_assoc, length-append, get_or-append-add, Vec}
+use Rattle.std.proofs.Common.{Global}
 use Rattle.std.specs.Prelude.{slice_index_or}
 use Rattle.std.specs.List.{concat, range_with_len}
 use Rattle.std.proofs.lemmas.Bool.{cases_lt}
-use Rattle.std.proofs.lemmas.List.{get_or_append_left, length-map, map-append}
+use Rattle.std.proofs.lemmas.List.{get_or_append_left, map-append}
 use Rattle.std.proofs.lemmas.List.Folds.{concat-append}
-use Rattle.std.proofs.lemmas.List.FromFn.{map-range_with_len_more, length-map-range_with_len}
+use Rattle.std.proofs.lemmas.List.FromFn.{map-range_with_len_more}
 use Rattle.modulator.specs.StandsFor.{records_of}
 use Rattle.plp_config.specs.Plps.{plp_at}
 use Rattle.plp_config.specs.declared.config.Config.{Config}
@@ -16,7 +18,8 @@ use Rattle.file_run.specs.declared.line.TheConstants.{ROOM}
 use Rattle.trial_run.specs.Losses.{kept_from}
 use Rattle.trial_run.specs.Made.{IsModulated, IsMade, HasLines}
 use Rattle.trial_run.specs.Stages.{AreFiles, IsSent}
-use Rattle.trial_run.specs.Trial.{stream_of, lossy_of, stream_line, whole_line, lossy_line, plp_line, ComesOf, IsPlpLine}
+use Rattle.trial_run.specs.Trial.{stream_of, lossy_of, stream_line, whole_line, lossy_line, plp_line, ComesOf}
+use Rattle.trial_run.specs.Trial.{IsPlpLine}
 use Rattle.trial_run.specs.Trial.{IsSameCount, ArePlpLines, IsNetworkText}
 use Rattle.trial_run.specs.TrialInput.{behind, input_len, input_from, start_of, input_of}
 use Rattle.trial_run.specs.declared.stages.Modulated.{Modulated}
@@ -37,7 +40,8 @@ start_more c frames plp seed = let e : plp + 1 ≡ suc plp = omega arith in rw e
 -- the bytes of vectors and of one more
 pub vectors_more : (was now : List (Vec ℕ Global)) (input : Vec ℕ Global) → now ≡ was ++ input ∷ []
     → map (λ input. input.items) now ≡ map (λ input. input.items) was ++ input.items ∷ []
-vectors_more was now input is = let f : Vec ℕ Global → List ℕ = λ v. v.items in ap (map f) is ∙ map-append f was (input ∷ [])
+vectors_more was now input is = let f : Vec ℕ Global → List ℕ = λ v. v.items in ap (map f) is
+    ∙ map-append f was (input ∷ [])
 
 -- one input more
 pub drawn_more : (c : Config) (frames seed plp x y : ℕ) (was now : List (List ℕ)) (input : List ℕ)
@@ -68,15 +72,18 @@ pub modulated_is : (c : Config) (m : Modulated) (given stream : List ℕ) → m.
 modulated_is c m given stream records ran same =
     record { records = records ∙ ap (output_of c) same; ran = ran ∙ ap (λ (s : List ℕ). counted (records_of c s)) same }
 
-pub made_is : (c : Config) (frames seed x y : ℕ) (m : Made) (given : List (Vec ℕ Global)) (stream again kept taken : List ℕ)
+pub made_is : (c : Config) (frames seed x y : ℕ) (m : Made) (given : List (Vec ℕ Global))
+    (stream again kept taken : List ℕ)
     → length c.plps ≡ 3 → x ≡ seed
     → map (λ input. input.items) m.inputs.items ≡ map (input_of c frames x) (range_with_len 0 (length c.plps))
     → given ≡ m.inputs.items → ((files : ℕ → List ℕ) → AreFiles files given → IsSent c files m.sent)
-    → y ≡ start_of c frames (length c.plps) x → stream ≡ m.sent.stream.items → m.whole.records.items ≡ output_of c stream
+    → y ≡ start_of c frames (length c.plps) x → stream ≡ m.sent.stream.items
+    → m.whole.records.items ≡ output_of c stream
     → m.whole.ran ≡ counted (records_of c stream)
     → kept ≡ kept_from y again → again ≡ m.sent.stream.items → taken ≡ kept → m.lossy.records.items ≡ output_of c taken
     → m.lossy.ran ≡ counted (records_of c taken) → IsMade c frames seed m
-made_is c frames seed x y m given stream again kept taken three x_is inputs given_is sends y_is stream_is_it records ran kept_is
+made_is c frames seed x y m given stream again kept taken three x_is inputs given_is sends y_is stream_is_it
+    records ran kept_is
     again_is taken_is lossy_records lossy_ran =
     let drawn =
     subst (λ (s : ℕ). map (λ input. input.items) m.inputs.items
@@ -104,7 +111,8 @@ pub network_text : (c : Config) (frames seed : ℕ) (m : Made) (whole lossy : Li
     → two ≡ whole_line m.whole.ran m.whole.records.items → three ≡ lossy_line m.lossy.ran same m.lossy.records.items
     → first ≡ one → second ≡ first ++ two → third ≡ second ++ three → page ≡ third → IsMade c frames seed m
     → IsNetworkText c frames seed page
-network_text c frames seed m whole lossy same page one two three first second third whole_is lossy_is count one_is two_is three_is
+network_text c frames seed m whole lossy same page one two three first second third whole_is lossy_is
+    count one_is two_is three_is
     a b d page_is made =
     let stream = stream_is c frames seed m.sent made.sent in
     record {
@@ -130,24 +138,32 @@ pub plp_text : (c : Config) (frames seed plp : ℕ) (m : Made) (id : ℕ) (input
     → IsMade c frames seed m → id ≡ (plp_at c.plps plp).id → input ≡ input_of c frames seed plp
     → from ≡ m.whole.records.items → from_lossy ≡ m.lossy.records.items → ComesOf c plp from whole
     → ComesOf c plp from_lossy lossy → line ≡ plp_line id input whole lossy → IsPlpLine c frames seed plp line
-plp_text c frames seed plp m id input whole lossy from from_lossy line made id_is input_is from_is lossy_is comes comes_lossy
+plp_text c frames seed plp m id input whole lossy from from_lossy line made id_is input_is from_is lossy_is
+    comes comes_lossy
     line_is = record {
       whole = whole;
       lossy = lossy;
       comes = subst (λ (records : List ℕ). ComesOf c plp records whole) (from_is ∙ made.whole.records) comes;
-      comes_lossy = subst (λ (records : List ℕ). ComesOf c plp records lossy) (lossy_is ∙ made.lossy.records) comes_lossy;
+      comes_lossy = subst (λ (records : List ℕ). ComesOf c plp records lossy) (lossy_is ∙ made.lossy.records)
+          comes_lossy;
       line_is = line_is ∙ rw (id_is, input_is) refl;
     }
 
 pub no_lines : (c : Config) (frames seed : ℕ) → ArePlpLines c frames seed 0 []
-no_lines c frames seed = record { lines = []; count = refl; each = λ plp small. absurd (omega (arith, small)); text_is = refl }
+no_lines c frames seed = record {
+  lines = [];
+  count = refl;
+  each = λ plp small. absurd (omega (arith, small));
+  text_is = refl;
+}
 
 -- the line of a place among lines and one more
 at_place : (c : Config) (frames seed n : ℕ) (lines : List (List ℕ)) (line : List ℕ) (plp : ℕ) → length lines ≡ n
     → ((plp : ℕ) → plp < n → IsPlpLine c frames seed plp (slice_index_or lines plp [])) → IsPlpLine c frames seed n line
     → (plp < n) ⊎ (n ≤ plp) → plp < n + 1 → IsPlpLine c frames seed plp (slice_index_or (lines ++ line ∷ []) plp [])
 at_place c frames seed n lines line plp count each is (inl below) small =
-    subst (IsPlpLine c frames seed plp) (sym (get_or_append_left lines (line ∷ []) [] plp (omega (arith, below, count))))
+    subst (IsPlpLine c frames seed plp)
+    (sym (get_or_append_left lines (line ∷ []) [] plp (omega (arith, below, count))))
     (each plp below)
 at_place c frames seed n lines line plp count each is (inr from) small =
     let end : plp ≡ length lines + 0 = omega (arith, from, small, count) in

@@ -23,8 +23,8 @@ abbrev pub is_frame : RecordView → Bool
 is_frame (Frame moment pre post blocks cells) = true
 is_frame (Muted moment) = false
 
--- The bytes are records, one behind the other, and then the rest. Each piece has the bytes of one, and tells whether it is of a
--- frame.
+-- The bytes are records, one behind the other, and then the rest. Each piece has the bytes of one, and tells whether it
+-- is of a frame.
 abbrev pub AreCut : List ℕ → List Piece → List ℕ → Type 0
 AreCut bytes [] rest = bytes ≡ rest
 AreCut bytes (piece ∷ pieces) rest = (view : RecordView) × (len : ℕ) × BeginsWith bytes view len
@@ -34,8 +34,8 @@ AreCut bytes (piece ∷ pieces) rest = (view : RecordView) × (len : ℕ) × Beg
 abbrev pub stand_in : List Piece → List ℕ → Bool
 stand_in others bytes = list_any (λ other. bytes_eq bytes other.bytes.now) others
 
--- A record is of a frame, and stands among others. Since it tells when its frame leaves, the others then have the same record of
--- that frame.
+-- A record is of a frame, and stands among others. Since it tells when its frame leaves, the others then have the same
+-- record of that frame.
 abbrev pub is_among : List Piece → Piece → Bool
 is_among others piece = piece.is_frame && stand_in others piece.bytes.now
 

@@ -19,7 +19,8 @@ pub record IsModulated (c : Config) (stream : List ℕ) (m : Modulated) : Type 0
 
 -- All was made from this number for so many frames.
 pub record IsMade (c : Config) (frames seed : ℕ) (m : Made) : Type 0 where
-  pub inputs : map (λ input. input.items) m.inputs.items ≡ map (input_of c frames seed) (range_with_len 0 (length c.plps))
+  pub inputs : map (λ input. input.items) m.inputs.items ≡ map (input_of c frames seed)
+      (range_with_len 0 (length c.plps))
   pub sent : IsSent c (input_of c frames seed) m.sent
   pub whole : IsModulated c (stream_of c frames seed) m.whole
   pub lossy : IsModulated c (lossy_of c frames seed) m.lossy

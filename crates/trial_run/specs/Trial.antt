@@ -1,5 +1,5 @@
--- A trial of a whole network: one gateway, a modulator that reads all of its stream, one that loses units, and the receivers of
--- what both make.
+-- A trial of a whole network: one gateway, a modulator that reads all of its stream, one that loses units, and the
+-- receivers of what both make.
 use Rattle.std.specs.Prelude.{◌≡◌, ℕ, ◌<◌, List, [], ◌++◌, length, codes, slice_index_or}
 use Rattle.std.specs.List.{concat}
 use Rattle.std.specs.Fmt.{decimal}
@@ -49,15 +49,18 @@ records_part ran = codes " first=" ++ decimal ran.first ++ codes " records=" ++ 
 abbrev pub whole_line : Ran → List ℕ → List ℕ
 whole_line ran records = codes "a" ++ records_part ran ++ codes " crc=" ++ crc_word records ++ codes "\n"
 
--- the line of the one that loses units, which tells how many of its records of frames are also among those of the other one
+-- the line of the one that loses units, which tells how many of its records of frames are also among those of the other
+-- one
 abbrev pub lossy_line : Ran → ℕ → List ℕ → List ℕ
-lossy_line ran same records = codes "b" ++ records_part ran ++ codes " same=" ++ decimal same ++ codes " crc=" ++ crc_word records
+lossy_line ran same records = codes "b" ++ records_part ran ++ codes " same=" ++ decimal same ++ codes " crc="
+    ++ crc_word records
     ++ codes "\n"
 
--- the line of a PLP: how many packets that are not null its input has, how many it is given back of either file of records, and
--- the CRC-32 of all that it is given back of the one with losses
+-- the line of a PLP: how many packets that are not null its input has, how many it is given back of either file of
+-- records, and the CRC-32 of all that it is given back of the one with losses
 abbrev pub plp_line : ℕ → List ℕ → List ℕ → List ℕ → List ℕ
-plp_line id input whole lossy = codes "plp=" ++ decimal id ++ codes " packets=" ++ decimal (filled_packets input) ++ codes " a="
+plp_line id input whole lossy = codes "plp=" ++ decimal id ++ codes " packets=" ++ decimal (filled_packets input)
+    ++ codes " a="
     ++ decimal (filled_packets whole)
     ++ codes " b=" ++ decimal (filled_packets lossy) ++ codes " crc=" ++ crc_word lossy ++ codes "\n"
 
@@ -92,7 +95,8 @@ pub record ArePlpLines (c : Config) (frames seed plps : ℕ) (text : List ℕ) :
 pub record IsNetworkText (c : Config) (frames seed : ℕ) (text : List ℕ) : Type 0 where
   pub same : ℕ
   pub is_same : IsSameCount (output_of c (stream_of c frames seed)) (output_of c (lossy_of c frames seed)) same
-  pub text_is : text ≡ stream_line (frames_of Apart c (input_of c frames seed)) (length (units_of Apart c (input_of c frames seed)))
+  pub text_is : text ≡ stream_line (frames_of Apart c (input_of c frames seed))
+      (length (units_of Apart c (input_of c frames seed)))
       (stream_of c frames seed)
       ++ whole_line (counted (records_of c (stream_of c frames seed))) (output_of c (stream_of c frames seed))
       ++ lossy_line (counted (records_of c (lossy_of c frames seed))) same (output_of c (lossy_of c frames seed))

@@ -1,12 +1,14 @@
 -- The inputs of a trial.
-use Rattle.std.specs.Prelude.{ℕ, zero, suc, ◌+◌, ◌*◌, ◌/◌, ◌%◌, ◌==◌, Bool, List, [], ◌∷◌, ◌++◌, map, flat_map, if◌then◌else◌}
+use Rattle.std.specs.Prelude.{ℕ, zero, suc, ◌+◌, ◌*◌, ◌/◌, ◌%◌, ◌==◌, Bool, List, [], ◌∷◌, ◌++◌, map, flat_map}
+use Rattle.std.specs.Prelude.{if◌then◌else◌}
 use Rattle.std.specs.List.{range_with_len}
 use Rattle.plp_config.specs.SlotTime.{slots_by}
 use Rattle.plp_config.specs.declared.config.Config.{Config}
 use Rattle.ts_packet.specs.Null.{null_packet}
 use Rattle.ts_packet.specs.declared.sizes.TheConstants.{PAYLOAD, SYNC}
 use Rattle.trial_run.specs.Draws.{after_one, drawn, after, draws_from}
-use Rattle.trial_run.specs.declared.input.TheConstants.{NULL_ONE_OF, FIRST_PID, PAYLOAD_ALONE, COUNTER_VALUES, BYTE_VALUES}
+use Rattle.trial_run.specs.declared.input.TheConstants.{NULL_ONE_OF, FIRST_PID, PAYLOAD_ALONE, COUNTER_VALUES}
+use Rattle.trial_run.specs.declared.input.TheConstants.{BYTE_VALUES}
 
 -- the bytes in front of the payload of a packet: its PID with all flags 0, and its continuity_counter
 abbrev pub header : ℕ → ℕ → List ℕ

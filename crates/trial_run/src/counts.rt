@@ -61,8 +61,8 @@ pub fn cut(alloc: Global, file: &[u8]) -> Result<Vec<Piece<'_>>, TrialStop>
     let mut rest = file;
     while !rest.is_empty() {
         let Ok((view, len)) = read_record(rest) else {
-            // The file is what a modulator wrote. That it writes nothing but records is not proved; in no trial that was tried
-            // does this come.
+            // The file is what a modulator wrote. That it writes nothing but records is not proved; in no trial that
+            // was tried does this come.
             return Err(TrialStop::Broken);
         };
         let (bytes, behind) = rest.split_at(len);

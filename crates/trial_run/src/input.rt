@@ -74,8 +74,8 @@ fn push_packet(
     push_payload(input, draws)
 }
 
-/// The input of the PLP at a place for so many frames: a packet for each slot that is over when they are, drawn one after
-/// another.
+/// The input of the PLP at a place for so many frames: a packet for each slot that is over when they are, drawn one
+/// after another.
 #[tactic(auto, unfolding(crate::specs::TrialInput::behind, crate::specs::TrialInput::packets_from), using(crate::proofs::DrawLemmas::behind_more, crate::proofs::DrawLemmas::packets_more))]
 pub fn trial_input(
     alloc: Global,

@@ -1,5 +1,5 @@
-//! A trial of a whole network: inputs drawn from a number, the gateway, a modulator that reads all, one that loses units, and all
-//! receivers.
+//! A trial of a whole network: inputs drawn from a number, the gateway, a modulator that reads all, one that loses
+//! units, and all receivers.
 #![tactic(auto)]
 
 mod counts;

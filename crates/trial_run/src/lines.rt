@@ -1,6 +1,7 @@
 // The lines of a trial.
 ghost use Rattle.std.specs.Prelude.{◌≡◌, ◌+◌, ◌++◌, ◌≤◌, codes, length, IfOk, OnOk};
-ghost use Rattle.trial_run.specs.Trial.{crc_word, stream_line as line_of_stream, records_part, whole_line as line_of_whole};
+ghost use Rattle.trial_run.specs.Trial.{crc_word, stream_line as line_of_stream, records_part};
+ghost use Rattle.trial_run.specs.Trial.{whole_line as line_of_whole};
 ghost use Rattle.trial_run.specs.Trial.{lossy_line as line_of_lossy, plp_line as line_of_plp};
 ghost use Rattle.file_run.specs.declared.line.TheConstants.{ROOM};
 
@@ -37,7 +38,8 @@ fn push_crc(line: &mut Line, bytes: &[u8]) -> Result<(), OutOfMemory>
 
 /// The line of the stream.
 pub fn stream_line(sent: &Sent) -> Result<Line, OutOfMemory>
-    ensures text { IfOk result (λ line. line ≡ line_of_stream sent.now.ran.frames sent.now.ran.units sent.now.stream.items) }
+    ensures text { IfOk result (λ line. line ≡ line_of_stream sent.now.ran.frames sent.now.ran.units
+        sent.now.stream.items) }
     ensures len { IfOk result (λ line. length line ≤ ROOM) }
 {
     let mut line = Line::new();

@@ -1,6 +1,7 @@
-// The commands' own runs, each over a desk in memory. On such a desk only a file that is too long, a record that is refused, or a
-// stream in which no superframe begins can stop one beside want of memory. None of these is likely, since of the first half of the
-// stream the second modulator loses unit 0 alone, but that none comes is not proved: a trial tells it as a defect.
+// The commands' own runs, each over a desk in memory. On such a desk only a file that is too long, a record that is
+// refused, or a stream in which no superframe begins can stop one beside want of memory. None of these is likely, since
+// of the first half of the stream the second modulator loses unit 0 alone, but that none comes is not proved: a trial
+// tells it as a defect.
 ghost use Rattle.std.specs.Prelude.{◌≡◌, ◌≢◌, ◌<◌, ℕ, List, [], ◌∷◌, codes, length, unwrap_or, Ok, IfOk};
 ghost use Rattle.ports.specs.Desk.{file_of};
 ghost use Rattle.common_plp.specs.Sharing.{Apart};
@@ -135,7 +136,8 @@ fn run_receiver(
 ) -> Result<receive_run::Ran, TrialStop>
     requires inside { plp < length plan.now.plps }
     ensures { IfOk result (λ ran.
-        Ends (receive_work plan.now plp) desk.old.state desk.new.state (Into (codes "out")) (codes "in" ∷ []) (Ok ran)) }
+        Ends (receive_work plan.now plp) desk.old.state desk.new.state (Into (codes "out")) (codes "in" ∷ [])
+        (Ok ran)) }
 {
     Ok(receive_run::run(alloc, plan, plp, IN, OUT, desk)?)
 }

@@ -90,7 +90,8 @@ fn push_network(page: &mut Page, alloc: Global, made: &Made) -> Result<(), Trial
 // The input of the PLP at a place.
 fn input_at(inputs: &[Vec<u8>], plp: usize) -> &[u8]
     requires { plp < length inputs.now }
-    ensures { (given : ℕ → List ℕ) (n : ℕ) → map (λ input. input.items) inputs.now ≡ map given (range_with_len 0 n) → plp < n
+    ensures { (given : ℕ → List ℕ) (n : ℕ) → map (λ input. input.items) inputs.now ≡ map given (range_with_len 0 n)
+        → plp < n
         → result.now ≡ given plp }
 {
     &inputs[plp]
@@ -100,7 +101,8 @@ fn input_at(inputs: &[Vec<u8>], plp: usize) -> &[u8]
 fn line_of(alloc: Global, plan: &Plan, made: &Made, plp: usize) -> Result<Line, TrialStop>
     requires plp { plp < length plan.now.plps }
     requires inputs { length made.now.inputs.items ≡ length plan.now.plps }
-    ensures text { (frames seed : ℕ) → IsMade plan.now frames seed made.now → IfOk result (IsPlpLine plan.now frames seed plp) }
+    ensures text { (frames seed : ℕ) → IsMade plan.now frames seed made.now
+        → IfOk result (IsPlpLine plan.now frames seed plp) }
     ensures len { IfOk result (λ line. length line ≤ ROOM) }
 {
     let whole = receive(alloc, plan, plp, &made.whole.records)?;
@@ -114,9 +116,9 @@ fn line_of(alloc: Global, plan: &Plan, made: &Made, plp: usize) -> Result<Line, 
     Ok(line)
 }
 
-/// What is said of a trial of a network of three PLPs: inputs for so many frames are drawn from a number, the gateway sends them,
-/// one modulator reads all units and one loses some, and each PLP is received from the records of both. It keeps all bytes that
-/// it makes.
+/// What is said of a trial of a network of three PLPs: inputs for so many frames are drawn from a number, the gateway
+/// sends them, one modulator reads all units and one loses some, and each PLP is received from the records of both. It
+/// keeps all bytes that it makes.
 pub fn trial_text(alloc: Global, plan: &Plan, frames: u32, seed: u64) -> Result<Page, TrialStop>
     requires plps { length plan.now.plps ≡ 3 }
     ensures { IfOk result (IsTrialText plan.now frames seed) }

@@ -1,5 +1,6 @@
 -- Bytes that spell a packet are read as that packet alone.
-use Rattle.std.proofs.Common.{◌≡◌, ℕ, zero, suc, inl, inr, ◌+◌, ◌^◌, ◌<◌, ◌≤◌, ◌==◌, ⊎_elim, Bool, true, false, List, [], ◌∷◌}
+use Rattle.std.proofs.Common.{◌≡◌, ℕ, zero, suc, inl, inr, ◌+◌, ◌^◌, ◌<◌, ◌≤◌, ◌==◌, ⊎_elim, Bool, true, false, List}
+use Rattle.std.proofs.Common.{[], ◌∷◌}
 use Rattle.std.proofs.Common.{◌++◌, length, drop, get_or, refl, ap, sym, subst, ◌∙◌, arith, append_assoc, append-nil}
 use Rattle.std.proofs.Common.{length-append}
 use Rattle.std.specs.Prelude.{◌⊎◌, ◌≢◌, Option, Some, None, Result, Ok, Err, IfOk, IfErr}
@@ -7,13 +8,15 @@ use Rattle.std.proofs.lemmas.Bool.{cases_lt, cases_eq}
 use Rattle.std.proofs.lemmas.List.{drop_at, get_or_at, take_at, get_or_append_left}
 use Rattle.std.proofs.lemmas.List.FromFn.{get_or-map-range_with_len}
 use Rattle.terms.specs.Bits.{field, bits_of, number_of, part, number_at, bytes_of, byte_at, bytes_for}
-use Rattle.terms.proofs.BitLemmas.{length-field, length-bits_of, bits_of-append, bits_of-bytes_of, length-bytes_of, byte_at-whole}
+use Rattle.terms.proofs.BitLemmas.{length-field, length-bits_of, bits_of-append, bits_of-bytes_of, length-bytes_of}
+use Rattle.terms.proofs.BitLemmas.{byte_at-whole}
 use Rattle.terms.proofs.BitLemmas.{number_at-lt}
 use Rattle.terms.proofs.PartLemmas.{part-middle, number-middle}
 use Rattle.ts_packet.specs.declared.sizes.TheConstants.{SYNC}
 use Rattle.ts_packet.specs.declared.fault.TsFault.{TsFault}
 use Rattle.ts_packet.specs.declared.fault.TsFault.TheVariants.{NoSync, BadAdaptation}
-use Rattle.ts_packet.specs.TransportPacket.{Fields, flag, header_bits, control_of, adaptation_bytes, packet_bytes, Fits, Spells}
+use Rattle.ts_packet.specs.TransportPacket.{Fields, flag, header_bits, control_of, adaptation_bytes, packet_bytes, Fits}
+use Rattle.ts_packet.specs.TransportPacket.{Spells}
 use Rattle.ts_packet.specs.TransportPacket.{HasSync, control_at, length_at, IsBadAdaptation, Refuses}
 use Rattle.ts_packet.specs.Null.{is_null}
 use Rattle.ts_packet.specs.Reading.{fields_of, place_for, IsRead}
@@ -22,7 +25,8 @@ use Rattle.ts_packet.proofs.HeaderLemmas.{front_number}
 use Rattle.ts_packet.proofs.SpellingLemmas.{spelled}
 
 -- a bit that stands behind a front
-flag-middle : (front more : List Bool) (at : ℕ) (b : Bool) → length front ≡ at → (number_at ((front ++ flag b) ++ more) at 1 == 1)
+flag-middle : (front more : List Bool) (at : ℕ) (b : Bool) → length front ≡ at
+    → (number_at ((front ++ flag b) ++ more) at 1 == 1)
     ≡ b
 flag-middle front more at true here =
     ap (λ (bits : List Bool). number_of bits == 1) (part-middle front (flag true) more at 1 here refl)
@@ -49,33 +53,39 @@ header_tells f priority control fit small =
     let asked : List Bool = field 2 control in
     let counter : List Bool = field 4 f.counter in
     let header : List Bool = header_bits f priority control in
-    let at_sync : header ≡ ([] ++ sync) ++ (error ++ (starts ++ (third ++ (pid ++ (scrambling ++ (asked ++ counter)))))) =
+    let at_sync : header ≡ ([] ++ sync)
+    ++ (error ++ (starts ++ (third ++ (pid ++ (scrambling ++ (asked ++ counter)))))) =
     simp append_assoc in
     let at_error : header ≡ (sync ++ error) ++ (starts ++ (third ++ (pid ++ (scrambling ++ (asked ++ counter))))) =
     simp append_assoc in
     let at_starts : header ≡ ((sync ++ error) ++ starts) ++ (third ++ (pid ++ (scrambling ++ (asked ++ counter)))) =
     simp append_assoc in
-    let at_pid : header ≡ ((sync ++ error ++ starts ++ third) ++ pid) ++ (scrambling ++ (asked ++ counter)) = simp append_assoc in
+    let at_pid : header ≡ ((sync ++ error ++ starts ++ third) ++ pid) ++ (scrambling ++ (asked ++ counter)) =
+    simp append_assoc in
     let at_scrambling : header ≡ ((sync ++ error ++ starts ++ third ++ pid) ++ scrambling) ++ (asked ++ counter) =
     simp append_assoc in
-    let at_asked : header ≡ ((sync ++ error ++ starts ++ third ++ pid ++ scrambling) ++ asked) ++ counter = simp append_assoc in
+    let at_asked : header ≡ ((sync ++ error ++ starts ++ third ++ pid ++ scrambling) ++ asked)
+    ++ counter = simp append_assoc in
     let at_counter : header ≡ ((sync ++ error ++ starts ++ third ++ pid ++ scrambling ++ asked) ++ counter) ++ [] =
     sym (append-nil header) in
     let to_error : length sync ≡ 8 = length-field 8 SYNC in
     let to_starts : length (sync ++ error) ≡ 9 = simp (length-append, length-field) refl in
     let to_pid : length (sync ++ error ++ starts ++ third) ≡ 11 = simp (length-append, length-field) refl in
-    let to_scrambling : length (sync ++ error ++ starts ++ third ++ pid) ≡ 24 = simp (length-append, length-field) refl in
+    let to_scrambling : length (sync ++ error ++ starts ++ third ++ pid) ≡ 24 = simp (length-append, length-field)
+    refl in
     let to_asked : length (sync ++ error ++ starts ++ third ++ pid ++ scrambling) ≡ 26 =
     simp (length-append, length-field) refl in
     let to_counter : length (sync ++ error ++ starts ++ third ++ pid ++ scrambling ++ asked) ≡ 28 =
     simp (length-append, length-field) refl in
     let told_error : (number_at header 8 1 == 1) ≡ f.error = ap (λ (bits : List Bool). number_at bits 8 1 == 1) at_error
     ∙ flag-middle sync _ 8 f.error to_error in
-    let told_starts : (number_at header 9 1 == 1) ≡ f.starts = ap (λ (bits : List Bool). number_at bits 9 1 == 1) at_starts
+    let told_starts : (number_at header 9 1 == 1) ≡ f.starts = ap (λ (bits : List Bool). number_at bits 9 1 == 1)
+    at_starts
     ∙ flag-middle (sync ++ error) _ 9 f.starts to_starts in
     let told_pid : number_at header 11 13 ≡ f.pid = ap (λ (bits : List Bool). number_at bits 11 13) at_pid
     ∙ number-middle (sync ++ error ++ starts ++ third) _ 11 13 f.pid to_pid fit.pid in
-    let told_scrambling : number_at header 24 2 ≡ f.scrambling = ap (λ (bits : List Bool). number_at bits 24 2) at_scrambling
+    let told_scrambling : number_at header 24 2 ≡ f.scrambling = ap (λ (bits : List Bool). number_at bits 24 2)
+    at_scrambling
     ∙ number-middle (sync ++ error ++ starts ++ third ++ pid) _ 24 2 f.scrambling to_scrambling fit.scrambling in
     let told_counter : number_at header 28 4 ≡ f.counter = ap (λ (bits : List Bool). number_at bits 28 4) at_counter
     ∙ number-middle (sync ++ error ++ starts ++ third ++ pid ++ scrambling ++ asked) _ 28 4 f.counter to_counter
@@ -117,9 +127,11 @@ bad_or_good : (control len : ℕ) → control < 4 → (IsBadAdaptation control l
 bad_or_good zero len small = inl (inl refl)
 bad_or_good (suc zero) len small = inr (none_good len)
 bad_or_good (suc (suc zero)) len small =
-    ⊎_elim (λ (e : len ≡ 183). inr (alone_good len e)) (λ (ne : len ≢ 183). inl (inr (inl (refl, ne)))) (cases_eq len 183)
+    ⊎_elim (λ (e : len ≡ 183). inr (alone_good len e)) (λ (ne : len ≢ 183). inl (inr (inl (refl, ne))))
+    (cases_eq len 183)
 bad_or_good (suc (suc (suc zero))) len small =
-    ⊎_elim (λ (l : 182 < len). inl (inr (inr (refl, l)))) (λ (le : len ≤ 182). inr (both_good len le)) (cases_lt 182 len)
+    ⊎_elim (λ (l : 182 < len). inl (inr (inr (refl, l)))) (λ (le : len ≤ 182). inr (both_good len le))
+    (cases_lt 182 len)
 bad_or_good (suc (suc (suc (suc n)))) len small = absurd (omega arith)
 
 -- What stands behind a header is found: its adaptation field is not bad, and its payload has its place.
@@ -147,7 +159,8 @@ has_field header adaptation payload long =
       told = told;
       rest = drop_at (header ++ (length adaptation ∷ adaptation)) payload (5 + length_at bytes)
           (front ∙ ap (λ (n : ℕ). 5 + n) (sym told));
-      whole = length-append (header ++ (length adaptation ∷ adaptation)) payload ∙ ap (λ (n : ℕ). n + length payload) front;
+      whole = length-append (header ++ (length adaptation ∷ adaptation)) payload
+          ∙ ap (λ (n : ℕ). n + length payload) front;
     }
 
 -- the same with or without an adaptation field
@@ -167,12 +180,14 @@ found header (Some a) [] long whole =
 found header (Some a) (x ∷ payload) long whole =
     let has = has_field header a (x ∷ payload) long in
     record {
-      good = both_good (length_at (header ++ (length a ∷ a) ++ x ∷ payload)) (omega (arith, has.told, has.whole, whole));
+      good = both_good (length_at (header ++ (length a ∷ a) ++ x ∷ payload))
+          (omega (arith, has.told, has.whole, whole));
       rest = has.rest;
     }
 
 -- A packet is read back.
-read_packet : (f : Fields) (priority : Bool) (adaptation : Option (List ℕ)) → Fits f → length (packet_bytes f priority adaptation)
+read_packet : (f : Fields) (priority : Bool) (adaptation : Option (List ℕ)) → Fits f
+    → length (packet_bytes f priority adaptation)
     ≡ 188 → IsRead (packet_bytes f priority adaptation) f
 unfolding packet_bytes
 read_packet f priority adaptation fit long =
@@ -195,7 +210,8 @@ read_packet f priority adaptation fit long =
     record {
       sync = ap (λ (xs : List ℕ). get_or xs 0 0) (append_assoc front (adaptation_bytes adaptation) f.payload)
           ∙ get_or_append_left front (adaptation_bytes adaptation ++ f.payload) 0 0 (omega (arith, four))
-          ∙ get_or-map-range_with_len (byte_at header) 0 (bytes_for (length header)) 0 0 0 (omega (arith, tells.long)) refl
+          ∙ get_or-map-range_with_len (byte_at header) 0 (bytes_for (length header)) 0 0 0 (omega (arith, tells.long))
+          refl
           ∙ byte_at-whole header 0 (omega (arith, tells.long)) ∙ tells.sync;
       adaptation = subst (λ (n : ℕ). ¬ (IsBadAdaptation n (length_at bytes))) asked rest.good;
       fields = tells.fields ∙ ap (λ (bits : List Bool). fields_of bits f.payload) (sym first)
@@ -211,11 +227,13 @@ read_back f bytes s =
 
 -- Behind a sync byte, bytes spell a packet or are refused.
 spelled_if_good : (bytes : List ℕ) → length bytes ≡ 188 → ((k : ℕ) → get_or bytes k 0 < 256) → HasSync bytes
-    → (IsBadAdaptation (control_at bytes) (length_at bytes)) ⊎ (¬ (IsBadAdaptation (control_at bytes) (length_at bytes))) →
+    → (IsBadAdaptation (control_at bytes) (length_at bytes))
+    ⊎ (¬ (IsBadAdaptation (control_at bytes) (length_at bytes))) →
     ((f : Fields) × Spells f bytes) ⊎ ((fault : TsFault) × Refuses bytes fault)
 spelled_if_good bytes long small sync (inl bad) = inr (BadAdaptation, (sync, bad))
 spelled_if_good bytes long small sync (inr good) =
-    let f : Fields = fields_of (part (bits_of bytes) 0 32) (drop (place_for (control_at bytes) (length_at bytes)) bytes) in
+    let f : Fields = fields_of (part (bits_of bytes) 0 32) (drop (place_for (control_at bytes) (length_at bytes))
+    bytes) in
     inl (f, spelled bytes f long small (record { sync = sync; adaptation = good; fields = refl }))
 
 -- the same without knowing the sync byte
@@ -265,6 +283,7 @@ answer bytes (Ok g) f there ok err = ap Ok (one_read bytes g f ok there)
 answer bytes (Err fault) f there ok err = absurd (not_refused bytes f fault there err)
 
 -- A reader that answers with what is read or with a refusal answers with the packet that the bytes spell.
-pub every_read : (bytes : List ℕ) (r : Result Fields TsFault) → IfOk r (IsRead bytes) → IfErr r (Refuses bytes) → (f : Fields)
+pub every_read : (bytes : List ℕ) (r : Result Fields TsFault) → IfOk r (IsRead bytes) → IfErr r (Refuses bytes)
+    → (f : Fields)
     → Spells f bytes → r ≡ Ok f
 every_read bytes r ok err f s = answer bytes r f (read_back f bytes s) ok err

@@ -1,14 +1,17 @@
 -- What was read place by place, put together: the bytes spell a packet.
-use Rattle.std.proofs.Common.{◌≡◌, ℕ, zero, suc, ◌+◌, ◌-◌, ◌*◌, ◌%◌, ◌^◌, ◌<◌, ◌≤◌, ◌==◌, inl, Bool, true, false, List, [], ◌∷◌}
+use Rattle.std.proofs.Common.{◌≡◌, ℕ, zero, suc, ◌+◌, ◌-◌, ◌*◌, ◌%◌, ◌^◌, ◌<◌, ◌≤◌, ◌==◌, inl, Bool, true, false, List}
+use Rattle.std.proofs.Common.{[], ◌∷◌}
 use Rattle.std.proofs.Common.{◌++◌, length, take, drop, get_or, refl, ap, sym, subst, ◌∙◌, arith}
 use Rattle.std.specs.Prelude.{Result, Ok, Err, IfOk, Option, Some, None}
-use Rattle.std.proofs.lemmas.List.{take-append-drop, take_all, drop_all, drop_more, drop-drop, length-drop, length-take-le}
+use Rattle.std.proofs.lemmas.List.{take-append-drop, take_all, drop_all, drop_more, drop-drop, length-drop}
+use Rattle.std.proofs.lemmas.List.{length-take-le}
 use Rattle.std.proofs.lemmas.List.{append_assoc}
 use Rattle.terms.specs.Bits.{field, bits_of, number_of, part, number_at, bytes_of}
 use Rattle.terms.proofs.BitLemmas.{length-bits_of, length-part, part-bits_of, field-number_at, bytes_of-bits_of}
 use Rattle.terms.proofs.BitLemmas.{number_at-bits_of, number_at-lt, small_take}
 use Rattle.terms.proofs.PartLemmas.{part-add}
-use Rattle.ts_packet.specs.TransportPacket.{Fields, flag, header_bits, control_of, adaptation_bytes, packet_bytes, Spells}
+use Rattle.ts_packet.specs.TransportPacket.{Fields, flag, header_bits, control_of, adaptation_bytes, packet_bytes}
+use Rattle.ts_packet.specs.TransportPacket.{Spells}
 use Rattle.ts_packet.specs.TransportPacket.{HasSync, control_at, length_at, IsBadAdaptation}
 use Rattle.ts_packet.specs.Reading.{fields_of, place_for, IsRead}
 use Rattle.ts_packet.proofs.HeaderLemmas.{front_number, header_number}
@@ -23,7 +26,8 @@ is_read bytes header place control long sync e told good at =
     let seen : control ≡ control_at bytes = told ∙ header_number bytes header 26 2 e (omega arith) in
     let rest : take (188 - place) (drop place bytes) ≡ drop place bytes =
     take_all (188 - place) (drop place bytes) (simp length-drop (omega (arith, long))) in
-    let here : place ≡ place_for (control_at bytes) (length_at bytes) = at ∙ ap (λ (n : ℕ). place_for n (length_at bytes)) seen in
+    let here : place ≡ place_for (control_at bytes) (length_at bytes) = at
+    ∙ ap (λ (n : ℕ). place_for n (length_at bytes)) seen in
     record {
       sync = sync;
       adaptation = subst (λ (n : ℕ). ¬ (IsBadAdaptation n (length_at bytes))) seen good;
@@ -93,7 +97,8 @@ most : (len : ℕ) → ¬ (IsBadAdaptation 3 len) → len ≤ 182
 most len good = grind arith
 
 -- What stands behind a header whose adaptation field is not bad.
-behind : (bytes : List ℕ) (control : ℕ) → length bytes ≡ 188 → control < 4 → ¬ (IsBadAdaptation control (length_at bytes)) →
+behind : (bytes : List ℕ) (control : ℕ) → length bytes ≡ 188 → control < 4
+    → ¬ (IsBadAdaptation control (length_at bytes)) →
     Behind bytes control (drop (place_for control (length_at bytes)) bytes)
 behind bytes zero long small good = absurd (good (inl refl))
 behind bytes (suc zero) long small good = record { adaptation = None; told = refl; parts = refl }
@@ -130,12 +135,14 @@ spelled bytes f long small r =
     let payload : List ℕ = drop (place_for (control_at bytes) (length_at bytes)) bytes in
     let fields : Fields = fields_of header payload in
     let priority : Bool = number_at header 10 1 == 1 in
-    let sync : number_at header 0 8 ≡ 0x47 = front_number bits 0 8 (omega arith) ∙ number_at-bits_of bytes 0 (omega (arith, long))
+    let sync : number_at header 0 8 ≡ 0x47 = front_number bits 0 8 (omega arith)
+    ∙ number_at-bits_of bytes 0 (omega (arith, long))
     ∙ ap (λ (n : ℕ). n % 2 ^ 8) r.sync in
     let rest : Behind bytes (control_at bytes) payload =
     behind bytes (control_at bytes) long (number_at-lt bits 26 2 (omega (arith, size))) r.adaptation in
     let whole : header ≡ header_bits fields priority (control_of rest.adaptation payload) =
-    header_is header payload wide sync ∙ ap (header_bits fields priority) (front_number bits 26 2 (omega arith) ∙ rest.told) in
+    header_is header payload wide sync ∙ ap (header_bits fields priority) (front_number bits 26 2 (omega arith)
+    ∙ rest.told) in
     let front : take 4 bytes ≡ bytes_of (header_bits fields priority (control_of rest.adaptation payload)) =
     sym (bytes_of-bits_of (take 4 bytes) (small_take 4 bytes small))
     ∙ ap bytes_of (sym (part-bits_of bytes 0 4 (omega (arith, long))) ∙ whole) in
@@ -149,13 +156,15 @@ spelled bytes f long small r =
       adaptation = rest.adaptation;
       whole = long;
       spelled = sym (take-append-drop 4 bytes) ∙ ap (λ (xs : List ℕ). xs ++ drop 4 bytes) front
-          ∙ ap (λ (xs : List ℕ). bytes_of (header_bits fields priority (control_of rest.adaptation payload)) ++ xs) rest.parts
+          ∙ ap (λ (xs : List ℕ). bytes_of (header_bits fields priority (control_of rest.adaptation payload)) ++ xs)
+          rest.parts
           ∙ sym (append_assoc (bytes_of (header_bits fields priority (control_of rest.adaptation payload)))
           (adaptation_bytes rest.adaptation) payload);
     })
 
 -- the same of an answer
-pub ok_spelled : {E : Type 0} (bytes : List ℕ) (r : Result Fields E) → length bytes ≡ 188 → ((k : ℕ) → get_or bytes k 0 < 256)
+pub ok_spelled : {E : Type 0} (bytes : List ℕ) (r : Result Fields E) → length bytes ≡ 188
+    → ((k : ℕ) → get_or bytes k 0 < 256)
     → IfOk r (IsRead bytes) → IfOk r (λ f. Spells f bytes)
 ok_spelled bytes (Ok f) long small h = spelled bytes f long small h
 ok_spelled bytes (Err e) long small h = tt

@@ -1,5 +1,6 @@
 -- The fields that bytes tell place by place are those of the packet that they spell.
-use Rattle.std.proofs.Common.{◌≡◌, ℕ, zero, suc, inl, inr, ◌^◌, ◌<◌, ◌≤◌, ◌&&◌, ◌||◌, ⊎_elim, Bool, true, false, List, ◌++◌}
+use Rattle.std.proofs.Common.{◌≡◌, ℕ, zero, suc, inl, inr, ◌^◌, ◌<◌, ◌≤◌, ◌&&◌, ◌||◌, ⊎_elim, Bool, true, false, List}
+use Rattle.std.proofs.Common.{◌++◌}
 use Rattle.std.proofs.Common.{length, drop, get_or, nat_le, refl, ap, sym, subst, ◌∙◌, arith, eq-eqb, ne_eqb, le-leb}
 use Rattle.std.proofs.Common.{length-append}
 use Rattle.std.specs.Prelude.{◌≢◌, Some, None}
@@ -11,7 +12,8 @@ use Rattle.terms.proofs.BitLemmas.{length-bits_of, length-bytes_of, number_at-lt
 use Rattle.ts_packet.specs.declared.sizes.TheConstants.{SYNC}
 use Rattle.ts_packet.specs.declared.fault.TsFault.{TsFault}
 use Rattle.ts_packet.specs.declared.fault.TsFault.TheVariants.{NoSync, BadAdaptation}
-use Rattle.ts_packet.specs.TransportPacket.{Fields, header_bits, control_of, adaptation_bytes, packet_bytes, Spells, control_at}
+use Rattle.ts_packet.specs.TransportPacket.{Fields, header_bits, control_of, adaptation_bytes, packet_bytes, Spells}
+use Rattle.ts_packet.specs.TransportPacket.{control_at}
 use Rattle.ts_packet.specs.TransportPacket.{length_at, IsBadAdaptation, Refuses}
 use Rattle.ts_packet.specs.Reading.{IsRead}
 use Rattle.ts_packet.specs.FieldsIn.{fits_adaptation, is_packet, fields_in}
@@ -42,7 +44,8 @@ fits_bad control len (inr (inr (e, l))) = ap (λ (n : ℕ). fits_adaptation n le
 read_told : (bytes : List ℕ) (f : Fields) → length bytes ≡ 188 → IsRead bytes f → fields_in bytes ≡ Some f
 unfolding fields_in
 read_told bytes f long r =
-    let small : control_at bytes < 2 ^ 2 = number_at-lt (bits_of bytes) 26 2 (omega (arith, long, length-bits_of bytes)) in
+    let small : control_at bytes < 2 ^ 2 = number_at-lt (bits_of bytes) 26 2
+    (omega (arith, long, length-bits_of bytes)) in
     let test : is_packet bytes ≡ true =
     and_from _ _ (eq-eqb (get_or bytes 0 0) SYNC r.sync)
     (fits_good (control_at bytes) (length_at bytes) small r.adaptation) in
@@ -60,7 +63,8 @@ refused_none bytes BadAdaptation (sync, bad) =
 spelled_told : (f : Fields) (bytes : List ℕ) → Spells f bytes → fields_in bytes ≡ Some f
 spelled_told f bytes s = read_told bytes f s.whole (read_back f bytes s)
 
-told_spelled : (f : Fields) (bytes : List ℕ) → length bytes ≡ 188 → ((k : ℕ) → get_or bytes k 0 < 256) → fields_in bytes ≡ Some f
+told_spelled : (f : Fields) (bytes : List ℕ) → length bytes ≡ 188 → ((k : ℕ) → get_or bytes k 0 < 256)
+    → fields_in bytes ≡ Some f
     → Spells f bytes
 told_spelled f bytes long small told = ⊎_elim
     (λ (p : (g : Fields) × Spells g bytes). subst (λ (h : Fields). Spells h bytes)

@@ -1,6 +1,8 @@
 -- How a packet is put together.
-use Rattle.std.proofs.Common.{◌≡◌, ℕ, zero, suc, ◌+◌, ◌-◌, ◌*◌, ◌/◌, ◌%◌, ◌^◌, ◌<◌, ◌≤◌, Bool, true, false, List, [], ◌∷◌, ◌++◌}
-use Rattle.std.proofs.Common.{length, take, drop, set, get_or, refl, ap, sym, subst, ◌∙◌, arith, append_assoc, append-nil}
+use Rattle.std.proofs.Common.{◌≡◌, ℕ, zero, suc, ◌+◌, ◌-◌, ◌*◌, ◌/◌, ◌%◌, ◌^◌, ◌<◌, ◌≤◌, Bool, true, false, List, []}
+use Rattle.std.proofs.Common.{◌∷◌, ◌++◌}
+use Rattle.std.proofs.Common.{length, take, drop, set, get_or, refl, ap, sym, subst, ◌∙◌, arith, append_assoc}
+use Rattle.std.proofs.Common.{append-nil}
 use Rattle.std.proofs.Common.{length-append}
 use Rattle.std.specs.Prelude.{bit_or, Option, Some, None, is_some, replicate}
 use Rattle.std.proofs.lemmas.Nat.{or_shifted, div-add-mod'}
@@ -12,7 +14,8 @@ use Rattle.terms.specs.Bits.{field, number_of, number_at, bytes_of, bytes_for}
 use Rattle.terms.proofs.BitLemmas.{length-field, number_of-append, number_of-field, field-number_of, number_of-part}
 use Rattle.terms.proofs.BitLemmas.{bytes_of_fields, length-bytes_of}
 use Rattle.ts_packet.specs.declared.sizes.TheConstants.{SYNC}
-use Rattle.ts_packet.specs.TransportPacket.{Fields, flag, header_bits, control_of, adaptation_bytes, packet_bytes, Spells}
+use Rattle.ts_packet.specs.TransportPacket.{Fields, flag, header_bits, control_of, adaptation_bytes, packet_bytes}
+use Rattle.ts_packet.specs.TransportPacket.{Spells}
 use Rattle.ts_packet.specs.Written.{area_of, stuffing, written_fields, written_bytes}
 use Rattle.ts_packet.specs.Null.{is_null, null_packet}
 use Rattle.ts_packet.specs.Laws.{WrittenSpells, CanonicalNull}
@@ -36,16 +39,19 @@ fields_joined starts pid control counter a b c d =
     or_apart 1191182336 (starts * 4194304) 24 (omega arith) refl in
     let two : bit_or (1191182336 + starts * 4194304) (pid * 256) ≡ 1191182336 + starts * 4194304 + pid * 256 =
     or_apart (1191182336 + starts * 4194304) (pid * 256) 22 (omega arith) (omega arith) in
-    let three : bit_or (1191182336 + starts * 4194304 + pid * 256) (control * 16) ≡ 1191182336 + starts * 4194304 + pid * 256
+    let three : bit_or (1191182336 + starts * 4194304 + pid * 256) (control * 16) ≡ 1191182336 + starts
+    * 4194304 + pid * 256
     + control * 16 =
     or_apart (1191182336 + starts * 4194304 + pid * 256) (control * 16) 8 (omega arith) (omega arith) in
-    let four : bit_or (1191182336 + starts * 4194304 + pid * 256 + control * 16) counter ≡ 1191182336 + starts * 4194304 + pid
+    let four : bit_or (1191182336 + starts * 4194304 + pid * 256 + control * 16) counter ≡ 1191182336 + starts
+    * 4194304 + pid
     * 256 + control * 16 + counter =
     or_apart (1191182336 + starts * 4194304 + pid * 256 + control * 16) counter 4 (omega arith) (omega arith) in
     rw (first, second, third, one, two, three, four) refl
 
 -- a field behind bits
-push_field : (bits : List Bool) (width n : ℕ) → n < 2 ^ width → number_of (bits ++ field width n) ≡ number_of bits * 2 ^ width + n
+push_field : (bits : List Bool) (width n : ℕ) → n < 2 ^ width → number_of (bits ++ field width n) ≡ number_of
+    bits * 2 ^ width + n
 push_field bits width n small = number_of-append bits (field width n)
     ∙ rw (length-field width n, number_of-field width n small) refl
 
@@ -56,7 +62,8 @@ push_flag bits false = number_of-append bits (flag false)
 
 -- the number of a header without error, priority and scrambling
 written_header : (pid counter control : ℕ) (pointer : Option ℕ) → pid < 2 ^ 13 → counter < 2 ^ 4 → control < 2 ^ 2 →
-    number_of (header_bits (written_fields pid counter pointer []) false control) ≡ 1191182336 + bool_byte (is_some pointer)
+    number_of (header_bits (written_fields pid counter pointer []) false control) ≡ 1191182336 + bool_byte
+    (is_some pointer)
     * 4194304 + pid * 256 + control * 16 + counter
 written_header pid counter control pointer a b c =
     let sync : List Bool = field 8 SYNC in
@@ -84,7 +91,8 @@ bit_small true = omega arith
 bit_small false = omega arith
 
 -- the header's bits, as the code joins them
-pub header_joined : (pid counter control starts p q : ℕ) (pointer : Option ℕ) → pid < 2 ^ 13 → counter < 2 ^ 4 → control < 2 ^ 2 →
+pub header_joined : (pid counter control starts p q : ℕ) (pointer : Option ℕ) → pid < 2 ^ 13 → counter < 2 ^ 4
+    → control < 2 ^ 2 →
     starts ≡ bool_byte (is_some pointer) → p ≡ pid → q ≡ counter →
     field 32
     (bit_or (bit_or (bit_or (bit_or 1191182336 (starts * 4194304 % 4294967296)) (p * 256 % 4294967296))
@@ -93,11 +101,13 @@ pub header_joined : (pid counter control starts p q : ℕ) (pointer : Option ℕ
 header_joined pid counter control starts p q pointer a b c e f g =
     let bits : List Bool = header_bits (written_fields pid counter pointer []) false control in
     let wide : length bits ≡ 32 = length-header_bits (written_fields pid counter pointer []) false control in
-    let joined = fields_joined starts p control q (omega (arith, bit_small (is_some pointer))) (omega arith) (omega arith)
+    let joined = fields_joined starts p control q (omega (arith, bit_small (is_some pointer))) (omega arith)
+    (omega arith)
     (omega arith) in
     let number : 1191182336 + starts * 4194304 + p * 256 + control * 16 + q ≡ number_of bits =
     rw (e, f, g) (sym (written_header pid counter control pointer a b c)) in
-    ap (λ (n : ℕ). field 32 n) (joined ∙ number) ∙ ap (λ (w : ℕ). field w (number_of bits)) (sym wide) ∙ field-number_of bits
+    ap (λ (n : ℕ). field 32 n) (joined ∙ number) ∙ ap (λ (w : ℕ). field w (number_of bits)) (sym wide)
+    ∙ field-number_of bits
 
 -- a byte of a number of 32 bits
 byte_field : (n k : ℕ) → n < 2 ^ 32 → k < 4 → get_or (to_be_bytes w32 n) k 0 ≡ number_at (field 32 n) (8 * k) 8
@@ -111,7 +121,8 @@ byte_field n (suc (suc zero)) small h =
     sym (number_of-part (field 32 n) 16 8 (omega (arith, length-field 32 n))
     ∙ rw (length-field 32 n, number_of-field 32 n small) refl)
 byte_field n (suc (suc (suc zero))) small h =
-    sym (number_of-part (field 32 n) 24 8 (omega (arith, length-field 32 n)) ∙ rw (length-field 32 n, number_of-field 32 n small)
+    sym (number_of-part (field 32 n) 24 8 (omega (arith, length-field 32 n))
+    ∙ rw (length-field 32 n, number_of-field 32 n small)
     (omega arith))
 byte_field n (suc (suc (suc (suc k)))) small h = absurd (omega arith)
 
@@ -133,7 +144,8 @@ pub three_parts : (at size : ℕ) (space area old : List ℕ) → 4 ≤ length o
     → length old ≤ at + size →
     put_mid at size (put_mid 4 (at - 4) old space) area ≡ take 4 old ++ space ++ area
 three_parts at size space area old four fills after short =
-    let rest : drop (at - 4) (drop 4 old) ≡ drop at old = drop-drop (at - 4) 4 old ∙ ap (λ (n : ℕ). drop n old) (omega arith) in
+    let rest : drop (at - 4) (drop 4 old) ≡ drop at old = drop-drop (at - 4) 4 old
+    ∙ ap (λ (n : ℕ). drop n old) (omega arith) in
     let filled : put_mid 4 (at - 4) old space ≡ (take 4 old ++ space) ++ drop at old =
     rw rest (sym (append_assoc (take 4 old) space (drop at old))) in
     let long : length (take 4 old ++ space) ≡ at = simp (length-append, length-take) (omega (arith, four, fills)) in

@@ -1,5 +1,7 @@
--- The fields that bytes tell, found place by place. Law `fields_told`: they are those of the packet that the bytes spell.
-use Rattle.std.specs.Prelude.{ℕ, ◌==◌, ◌&&◌, ◌||◌, Bool, List, slice_index, drop, nat_le, Option, Some, None, if◌then◌else◌}
+-- The fields that bytes tell, found place by place. Law `fields_told`: they are those of the packet that the bytes
+-- spell.
+use Rattle.std.specs.Prelude.{ℕ, ◌==◌, ◌&&◌, ◌||◌, Bool, List, slice_index, drop, nat_le, Option, Some, None}
+use Rattle.std.specs.Prelude.{if◌then◌else◌}
 use Rattle.terms.specs.Bits.{bits_of, part}
 use Rattle.ts_packet.specs.declared.sizes.TheConstants.{SYNC}
 use Rattle.ts_packet.specs.TransportPacket.{Fields, control_at, length_at}

@@ -1,5 +1,6 @@
 -- Laws of transport packets.
-use Rattle.std.specs.Prelude.{◌≡◌, ◌⊎◌, ◌==◌, ◌+◌, ◌<◌, ◌≤◌, ◌^◌, ℕ, List, true, length, drop, slice_index, replicate, Option}
+use Rattle.std.specs.Prelude.{◌≡◌, ◌⊎◌, ◌==◌, ◌+◌, ◌<◌, ◌≤◌, ◌^◌, ℕ, List, true, length, drop, slice_index, replicate}
+use Rattle.std.specs.Prelude.{Option}
 use Rattle.std.specs.Prelude.{Some, None}
 use Rattle.ts_packet.specs.declared.sizes.TheConstants.{PAYLOAD, SIZE}
 use Rattle.ts_packet.specs.declared.fault.TsFault.{TsFault}
@@ -27,7 +28,8 @@ OneRefusal = (bytes : List ℕ) (fault other : TsFault) → Refuses bytes fault 
 
 -- What was written spells what was to be written.
 abbrev pub WrittenSpells : Type 0
-WrittenSpells = (pid counter : ℕ) (pointer : Option ℕ) (payload : List ℕ) → pid < 2 ^ 13 → counter < 2 ^ 4 → 1 ≤ length payload
+WrittenSpells = (pid counter : ℕ) (pointer : Option ℕ) (payload : List ℕ) → pid < 2 ^ 13 → counter < 2 ^ 4
+    → 1 ≤ length payload
     → length (area_of pointer payload) ≤ PAYLOAD
     → Spells (written_fields pid counter pointer payload) (written_bytes pid counter pointer payload)
 
@@ -37,7 +39,8 @@ NullByPid = (f : Fields) (bytes : List ℕ) → Spells f bytes → is_null bytes
 
 -- The canonical null packet is null, and is spelled with a payload of 184 bytes 0xFF.
 abbrev pub CanonicalNull : Type 0
-CanonicalNull = (is_null null_packet ≡ true) × Spells (written_fields 0x1FFF 0 None (replicate PAYLOAD 0xFF)) null_packet
+CanonicalNull = (is_null null_packet ≡ true) × Spells (written_fields 0x1FFF 0 None (replicate PAYLOAD 0xFF))
+    null_packet
 
 -- The fields that bytes tell are those of the packet that they spell, and what is refused tells none.
 pub record FieldsTold : Type 0 where

@@ -1,5 +1,5 @@
--- What the reader takes from its bytes, place by place. `fields_in` (FieldsIn) rests on `fields_of` and `place_for`; no public clause
--- cites `IsRead`.
+-- What the reader takes from its bytes, place by place. `fields_in` (FieldsIn) rests on `fields_of` and `place_for`; no
+-- public clause cites `IsRead`.
 use Rattle.std.specs.Prelude.{◌≡◌, ℕ, ◌+◌, ◌==◌, List, Bool, drop, if◌then◌else◌}
 use Rattle.terms.specs.Bits.{bits_of, part, number_at}
 use Rattle.ts_packet.specs.TransportPacket.{Fields, HasSync, control_at, length_at, IsBadAdaptation}

@@ -1,5 +1,6 @@
 -- Transport packets (ISO/IEC 13818-1, clause 2.4.3): how a packet is spelled, and why 188 bytes are none.
-use Rattle.std.specs.Prelude.{◌≡◌, ◌≢◌, ◌⊎◌, ℕ, ◌<◌, ◌^◌, Bool, List, [], ◌∷◌, ◌++◌, length, slice_index, Option, Some, None}
+use Rattle.std.specs.Prelude.{◌≡◌, ◌≢◌, ◌⊎◌, ℕ, ◌<◌, ◌^◌, Bool, List, [], ◌∷◌, ◌++◌, length, slice_index, Option, Some}
+use Rattle.std.specs.Prelude.{None}
 use Rattle.ts_packet.specs.declared.sizes.TheConstants.{SIZE, SYNC}
 use Rattle.terms.specs.Bits.{field, bits_of, bytes_of, number_at}
 use Rattle.ts_packet.specs.declared.fault.TsFault.{TsFault}
@@ -19,11 +20,12 @@ pub record Fields : Type 0 where
 abbrev pub flag : Bool → List Bool
 flag b = b ∷ []
 
--- the header, field by field: sync byte, transport_error_indicator, payload_unit_start_indicator, transport_priority, PID,
--- transport_scrambling_control, adaptation_field_control, continuity_counter
+-- the header, field by field: sync byte, transport_error_indicator, payload_unit_start_indicator, transport_priority,
+-- PID, transport_scrambling_control, adaptation_field_control, continuity_counter
 abbrev pub header_bits : Fields → Bool → ℕ → List Bool
 header_bits f priority control =
-    field 8 SYNC ++ flag f.error ++ flag f.starts ++ flag priority ++ field 13 f.pid ++ field 2 f.scrambling ++ field 2 control
+    field 8 SYNC ++ flag f.error ++ flag f.starts ++ flag priority ++ field 13 f.pid ++ field 2 f.scrambling
+    ++ field 2 control
     ++ field 4 f.counter
 
 -- adaptation_field_control (table 2-5): 1 if a payload alone follows, 2 if an adaptation field alone, 3 if both
@@ -68,8 +70,8 @@ control_at bytes = number_at (bits_of bytes) 26 2
 abbrev pub length_at : List ℕ → ℕ
 length_at bytes = slice_index bytes 4
 
--- adaptation_field_control is the reserved 0, or an adaptation field alone does not fill the packet, or one before a payload
--- leaves it no byte.
+-- adaptation_field_control is the reserved 0, or an adaptation field alone does not fill the packet, or one before a
+-- payload leaves it no byte.
 abbrev pub IsBadAdaptation : ℕ → ℕ → Type 0
 IsBadAdaptation control len = (control ≡ 0) ⊎ (((control ≡ 2) × (len ≢ 183)) ⊎ ((control ≡ 3) × (182 < len)))
 

@@ -1,5 +1,6 @@
 -- Files of transport packets that stand back to back (ISO/IEC 13818-1, clause 2.4.3).
-use Rattle.std.specs.Prelude.{◌≢◌, ℕ, zero, suc, ◌*◌, ◌==◌, ◌&&◌, nat_le, Bool, List, [], ◌∷◌, length, take, drop, slice_index}
+use Rattle.std.specs.Prelude.{◌≢◌, ℕ, zero, suc, ◌*◌, ◌==◌, ◌&&◌, nat_le, Bool, List, [], ◌∷◌, length, take, drop}
+use Rattle.std.specs.Prelude.{slice_index}
 use Rattle.std.specs.Prelude.{flat_map, if◌then◌else◌}
 use Rattle.ts_packet.specs.declared.sizes.TheConstants.{SIZE, SYNC}
 
@@ -10,7 +11,8 @@ begins_with_packet bytes = nat_le SIZE (length bytes) && (slice_index bytes 0 ==
 -- the packets at the front, at most so many, up to where none stands
 unfoldable pub packets_up_to : ℕ → List ℕ → List (List ℕ)
 packets_up_to zero bytes = []
-packets_up_to (suc n) bytes = if begins_with_packet bytes then take SIZE bytes ∷ packets_up_to n (drop SIZE bytes) else []
+packets_up_to (suc n) bytes = if begins_with_packet bytes then take SIZE bytes ∷ packets_up_to n (drop SIZE bytes)
+    else []
 
 -- the packets of a file, up to the first bad one
 abbrev pub packets_in : List ℕ → List (List ℕ)

@@ -8,7 +8,8 @@ abbrev pub area_of : Option ℕ → List ℕ → List ℕ
 area_of None payload = payload
 area_of (Some pointer) payload = pointer ∷ payload
 
--- what fills so many bytes behind the header: an adaptation field whose flags are all 0, and stuffing bytes (clause 2.4.3.5)
+-- what fills so many bytes behind the header: an adaptation field whose flags are all 0, and stuffing bytes (clause
+-- 2.4.3.5)
 abbrev pub stuffing : ℕ → Option (List ℕ)
 stuffing zero = None
 stuffing (suc zero) = Some []
@@ -28,4 +29,5 @@ written_fields pid counter pointer payload = record {
 -- its bytes
 unfoldable pub written_bytes : ℕ → ℕ → Option ℕ → List ℕ → List ℕ
 written_bytes pid counter pointer payload =
-    packet_bytes (written_fields pid counter pointer payload) false (stuffing (PAYLOAD - length (area_of pointer payload)))
+    packet_bytes (written_fields pid counter pointer payload) false
+    (stuffing (PAYLOAD - length (area_of pointer payload)))

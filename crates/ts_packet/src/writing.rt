@@ -70,14 +70,15 @@ fn write_rest(bytes: &mut [u8], at: usize, pointer: Option<u8>, front: &[u8], ba
     requires header { 4 ≤ at }
     requires space { at ≤ 187 }
     requires whole { length bytes.old ≡ at + length (area_of pointer (front.now ++ back.now)) }
-    ensures { bytes.new ≡ take 4 bytes.old ++ adaptation_bytes (stuffing (at - 4)) ++ area_of pointer (front.now ++ back.now) }
+    ensures { bytes.new ≡ take 4 bytes.old ++ adaptation_bytes (stuffing (at - 4)) ++ area_of pointer
+        (front.now ++ back.now) }
 {
     fill_space(&mut bytes[4..at]);
     write_area(&mut bytes[at..], pointer, front, back);
 }
 
-/// Writes a packet of this PID, below 8,192, and continuity_counter, below 16, with the payload at its end: `front` and `back`,
-/// one behind the other.
+/// Writes a packet of this PID, below 8,192, and continuity_counter, below 16, with the payload at its end: `front` and
+/// `back`, one behind the other.
 ///
 /// The payload has 1 to 184 bytes, and at most 183 behind a `pointer`, which stands as pointer_field in front of it and
 /// sets payload_unit_start_indicator. Space that is left is an adaptation field between header and payload. Error

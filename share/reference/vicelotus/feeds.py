@@ -40,14 +40,15 @@ def carried(frames, chain, number):
     return [packet.block for packet in first.group.right(chain)] if first and first.group else []
 
 
-def first_block(plan, first, second, number):
-    """The first block that a frame does not carry in both streams, by its PLP and its place in the interleaving frame."""
+def differing(plan, first, second, number):
+    """Of each PLP of which a frame does not carry the same in both streams: its identifier, the place of the first
+    block that is not the same, and whether both have a block there."""
     for chain in plan.chains:
         one, other = carried(first, chain, number), carried(second, chain, number)
-        for place in range(max(len(one), len(other))):
-            if one[place : place + 1] != other[place : place + 1]:
-                return f"block plp={chain.id} block={place}"
-    return None
+        if one != other:
+            both = min(len(one), len(other))
+            place = next((place for place in range(both) if one[place] != other[place]), both)
+            yield chain.id, place, place < both
 
 
 def answer(plan, first, second, number):
@@ -59,8 +60,16 @@ def answer(plan, first, second, number):
         return "muted-b" if is_shown(one) else "muted-a" if is_shown(other) else "muted-both"
     if one.post() != other.post():
         return "differs at=l1"
-    place = first_block(plan, first, second, number)
-    return f"differs at={place}" if place else "same"
+    for plp_id, place, _ in differing(plan, first, second, number):
+        return f"differs at=block plp={plp_id} block={place}"
+    return "same"
+
+
+def plp_lines(plan, first, second, number):
+    """A line for each PLP in which a frame differs that both streams send."""
+    for plp_id, place, has_both in differing(plan, first, second, number):
+        where = f"block block={place}" if has_both else "count"
+        yield f"frame={number} plp={plp_id} at={where}"
 
 
 def compared(plan, one, other):
@@ -75,8 +84,11 @@ def compared(plan, one, other):
         else:
             runs.append([number, number, is_what])
     for begin, end, is_what in runs:
-        name = f"frame={begin}" if is_what.startswith("differs") else f"frames={begin}..{end}"
-        lines.append(f"{name} is={is_what}")
+        if is_what.startswith("differs"):
+            lines.append(f"frame={begin} is={is_what}")
+            lines += plp_lines(plan, first, second, begin)
+        else:
+            lines.append(f"frames={begin}..{end} is={is_what}")
     differing = [number for number, is_what in answers if is_what.startswith("differs")]
     same = sum(is_what == "same" for _, is_what in answers)
     lines.append(f"compared frames={len(answers)} same={same} differ={len(differing)}")

@@ -68,16 +68,17 @@ def events(plan, data):
 
 
 def picked(feeds, sent):
-    """The frames of several feeds of events, in order, each with its groups. The least number that is next is picked,
-    and each silence that is next gives its feed up for it. One not above the last of `sent` is passed over by itself.
-    Who takes what is picked adds the frame that is made of it to `sent`, before it asks for more."""
+    """The frames of several feeds of events, in order, each with its groups by the places of their feeds. The least
+    number that is next is picked, and each silence that is next gives its feed up for it. One not above the last of
+    `sent` is passed over by itself. Who takes what is picked adds the frame that is made of it to `sent`, before it
+    asks for more."""
     feeds = [deque(feed) for feed in feeds]
     while any(feeds):
-        following = [feed[0] for feed in feeds if feed]
-        number = min((event[0] for event in following if event), default=None)
+        heads = {place: feed[0] for place, feed in enumerate(feeds) if feed}
+        number = min((event[0] for event in heads.values() if event), default=None)
         is_late = number is not None and number < low_of(sent)
         if number is not None and not is_late:
-            yield number, [event[1] for event in following if event and event[0] == number]
+            yield number, {place: event[1] for place, event in heads.items() if event and event[0] == number}
         for feed in feeds:
             if feed and (not is_late if feed[0] is None else feed[0][0] == number):
                 feed.popleft()
@@ -150,10 +151,10 @@ def woven(plan, number, groups):
 
 
 class Sent:
-    """A frame that is sent, and whether it was woven of several groups."""
+    """A frame that is sent, the places of the feeds that have it whole, and whether it was woven of several groups."""
 
-    def __init__(self, frame, is_woven):
-        self.frame, self.number, self.is_woven = frame, frame.number, is_woven
+    def __init__(self, frame, wholes, is_woven):
+        self.frame, self.number, self.wholes, self.is_woven = frame, frame.number, wholes, is_woven
 
 
 def candidates(plan, number, groups):
@@ -168,11 +169,12 @@ def candidates(plan, number, groups):
 def mended(plan, inputs):
     """The frames that are sent: of each number the first candidate that passes behind those that were sent before."""
     past, sent = {}, []
-    for number, groups in picked([events(plan, data) for data in inputs], sent):
-        for group, is_woven in candidates(plan, number, groups):
+    for number, found in picked([events(plan, data) for data in inputs], sent):
+        wholes = [place for place, group in found.items() if not first_cause(plan, group, number, past)]
+        for group, is_woven in candidates(plan, number, list(found.values())):
             if not first_cause(plan, group, number, past):
                 past[number] = group
-                sent.append(Sent(shown(plan, group, number), is_woven))
+                sent.append(Sent(shown(plan, group, number), wholes, is_woven))
                 break
     return sent
 

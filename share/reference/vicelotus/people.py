@@ -2,6 +2,8 @@
 
 from . import commands, l1, packets, records, shared, ts
 from .bits import bits_of, crc8, scramble
+from .feeds import answer, carried
+from .mending import mended
 from .modulator import is_shown, modulated
 from .plan import Plan
 from .text import read
@@ -144,6 +146,27 @@ def of_gateway(plan, desk, out, names, is_split):
         yield f"PLP {chain.id}: blocks sent: {sent}, of {room} that {frames} frames have room for"
 
 
+def which(numbers):
+    """Which frames they are, by their numbers."""
+    if len(numbers) == 1:
+        return f"1: frame {numbers[0]} of CONFIG"
+    return f"{len(numbers)}: the first is frame {numbers[0]} of CONFIG, the last frame {numbers[-1]}"
+
+
+def of_these(numbers, what):
+    """What is told of some of the frames that were told before, by their numbers."""
+    if numbers:
+        count, told = which(numbers).split(":", 1)
+        yield f"of these {count} {what}:{told}"
+
+
+def whole_frames(name, own, alone, sent, what):
+    """What is told of the frames that a feed had whole, by their numbers, and of those that no other had whole."""
+    line = f"{name}: frames that it had whole: {len(own)}, of {sent} that were sent"
+    yield line + (f"; the last is frame {own[-1]} of CONFIG" if own else "")
+    yield from of_these(alone, what)
+
+
 def of_modulate(plan, desk, name):
     units = Units(name, desk.files[name], plan.config.pid)
     yield from units.damage()
@@ -154,11 +177,14 @@ def of_modulate(plan, desk, name):
     yield f"muted frames: {len(muted)} of {len(frames)}, records {in_runs(muted)}, counted from 0 as `show frames` does"
     numbers = {cause: [f.number for f in frames if not is_shown(f) and f.cause.name == cause] for cause in CAUSES}
     for cause, own in numbers.items():
-        if len(own) == 1:
-            yield f"of these 1 {CAUSES[cause]}: frame {own[0]} of CONFIG"
-        elif own:
-            yield f"of these {len(own)} {CAUSES[cause]}: the first is frame {own[0]} of CONFIG, the last frame {own[-1]}"
-    yield from units.whole()
+        yield from of_these(own, CAUSES[cause])
+    is_last = not is_shown(frames[-1]) and frames[-1].cause.name == "PacketMissing"
+    if is_last and (len(frames) == 1 or is_shown(frames[-2])):
+        yield f"{name}: it ends inside frame {frames[-1].number} of CONFIG, or a packet of that frame was lost"
+    else:
+        is_last = False
+    if len(muted) > 1 or not is_last:
+        yield from units.whole()
     at_end = 0
     while at_end < len(frames) and not is_shown(frames[-1 - at_end]):
         at_end += 1
@@ -204,37 +230,64 @@ def of_receive(plan, desk, name, plp_id, is_joined):
         yield f"{name}: blocks whose header is damaged: {len(blocks)}, in records {places}, {NULLS_STAND}"
 
 
-def of_two(plan, desk, one, other, is_merged):
+def of_merge(plan, desk, one, other):
     pair = [Units(name, desk.files[name], plan.config.pid) for name in (one, other)]
     for units in pair:
         yield from units.damage()
     feeds = [modulated(plan, desk.files[name]) for name in (one, other)]
-    if is_merged:
-        numbers = [{frame.number for frame in frames if is_shown(frame)} for frames in feeds]
-        some = [bool(numbers[0]), bool(numbers[1] - numbers[0])]
-    else:
-        some = [bool(frames) for frames in feeds]
-        for units, own, others in zip(pair, feeds, feeds[::-1]):
-            met = {frame.number for frame in others}
-            if any(not is_shown(frame) and frame.number in met for frame in own):
-                yield from units.whole()
-    if not some[0]:
-        yield f"{one}: {NONE_CAME}{pair[0].why_none()}"
-    if some[1]:
-        return
-    if is_merged and not pair[1].has_none():
-        yield f"{other}: {NONE_CAME}each that it has is in {one} too, or it has none"
-    else:
-        yield f"{other}: {NONE_CAME}{pair[1].why_none()}"
+    first, second = ({frame.number for frame in frames if is_shown(frame)} for frames in feeds)
+    for units, own, others in zip(pair, (first, second), (second, first)):
+        if own:
+            yield from whole_frames(
+                units.name, sorted(own), sorted(own - others), len(first | second), "the other had not whole"
+            )
+        else:
+            yield f"{units.name}: {NONE_CAME}{units.why_none()}"
+    if second and second <= first:
+        yield f"{other}: no frame was taken from it: {one} had each of the {len(second)} that it had whole"
+    neither = sorted({frame.number for frames in feeds for frame in frames} - first - second)
+    if neither:
+        yield f"frames that neither had whole: {which(neither)}"
+
+
+def of_compare(plan, desk, one, other):
+    pair = [Units(name, desk.files[name], plan.config.pid) for name in (one, other)]
+    for units in pair:
+        yield from units.damage()
+    feeds = [modulated(plan, desk.files[name]) for name in (one, other)]
+    for units, own, others in zip(pair, feeds, feeds[::-1]):
+        met = {frame.number for frame in others}
+        if any(not is_shown(frame) and frame.number in met for frame in own):
+            yield from units.whole()
+    for units, frames in zip(pair, feeds):
+        if not frames:
+            yield f"{units.name}: {NONE_CAME}{units.why_none()}"
+    yield from of_differing(plan, *feeds)
+
+
+def of_differing(plan, one, other):
+    first, second = ({frame.number: frame for frame in frames} for frames in (one, other))
+    answers = {number: answer(plan, first, second, number) for number in first.keys() & second.keys()}
+    differ = [number for number, is_what in answers.items() if is_what.startswith("differs")]
+    for chain in plan.chains:
+        count = sum(carried(first, chain, number) != carried(second, chain, number) for number in differ)
+        if count:
+            yield f"PLP {chain.id} differs in {count} of the {len(differ)} frames that differ"
 
 
 def of_mend(plan, desk, names):
     feeds = [Units(name, desk.files[name], plan.config.pid, is_feed=True) for name in names]
     for units in feeds:
         yield from units.damage()
-    for units in feeds:
+    sent = mended(plan, [desk.files[name] for name in names])
+    for place, units in enumerate(feeds):
         if units.has_none():
             yield f"{units.name}: {NONE_CAME}{units.why_none()}"
+            continue
+        own = [frame for frame in sent if place in frame.wholes]
+        alone = [frame.number for frame in own if len(frame.wholes) == 1 and len(names) > 1]
+        numbers = [frame.number for frame in own]
+        yield from whole_frames(units.name, numbers, alone, len(sent), "no other IN had whole")
 
 
 def of_swap(plan, desk, plp_id, t2mi, name):
@@ -270,9 +323,9 @@ def told(words, desk, outcome):
         case ["common", "receive", config, plp, name, _]:
             does, arguments, streams = of_receive, [name, int(plp), True], []
         case ["merge", config, one, other, _]:
-            does, arguments, streams = of_two, [one, other, True], [one, other]
+            does, arguments, streams = of_merge, [one, other], [one, other]
         case ["compare", config, one, other]:
-            does, arguments, streams = of_two, [one, other, False], [one, other]
+            does, arguments, streams = of_compare, [one, other], [one, other]
         case ["mend", config, _, *names]:
             does, arguments, streams = of_mend, [names], names
         case ["swap", config, plp, t2mi, name, _]:

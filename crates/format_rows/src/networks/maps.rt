@@ -1,9 +1,10 @@
 // Shapes and cell maps, by a plan. Counts and starts are numbers joined by commas, one for each PLP.
 //
-// `shape NETWORK COUNTS` is where the PLPs stand. Of the frame with a number in its superframe, `map NETWORK FRAME COUNTS STARTS INTERVAL` is
-// what is wrong with its shape, or a digest of its cells: from 0 on, for each address, 31 times the digest before, plus 0 for a dummy
-// cell, else plus 1, the cell's number and 65,536 times its block's. It is taken in the order of addresses, address by address, and
-// of the words of a record, which have to be one. `cell NETWORK FRAME COUNTS STARTS INTERVAL PLP BLOCK CELL` is where a cell stands.
+// `shape NETWORK COUNTS` is where the PLPs stand. Of the frame with a number in its superframe, `map NETWORK FRAME
+// COUNTS STARTS INTERVAL` is what is wrong with its shape, or a digest of its cells: from 0 on, for each address, 31
+// times the digest before, plus 0 for a dummy cell, else plus 1, the cell's number and 65,536 times its block's. It is
+// taken in the order of addresses, address by address, and of the words of a record, which have to be one. `cell
+// NETWORK FRAME COUNTS STARTS INTERVAL PLP BLOCK CELL` is where a cell stands.
 ghost use Rattle.std.specs.Prelude.{◌≡◌, length, IsTrue};
 ghost use Rattle.cell_map.specs.CellMap.{Passes};
 ghost use Rattle.scheduler.specs.Laws.{CountsFit};

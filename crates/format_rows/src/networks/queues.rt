@@ -1,7 +1,8 @@
 // The queue of a PLP, by a plan.
 //
-// `queue NETWORK PLP FRAMES COUNT` gives a chain COUNT packets and null packets behind them, each before the first frame that begins when its slot
-// is over, and tells of each interleaving frame from 0 to FRAMES how many blocks it has, how many bytes wait then, and the CRC-32 of the blocks.
+// `queue NETWORK PLP FRAMES COUNT` gives a chain COUNT packets and null packets behind them, each before the first
+// frame that begins when its slot is over, and tells of each interleaving frame from 0 to FRAMES how many blocks it
+// has, how many bytes wait then, and the CRC-32 of the blocks.
 ghost use Rattle.std.specs.Prelude.{◌≡◌, ◌<◌, ◌≤◌, length};
 ghost use Rattle.mode_adapt.specs.StandsFor.{slot_of};
 
@@ -16,7 +17,8 @@ use ts_packet::TsPacket;
 
 // A chain with the slot of its next packet.
 //
-// The contracts of a chain are large, and what calls it has all that they say in its own proof. So its model tells nothing.
+// The contracts of a chain are large, and what calls it has all that they say in its own proof. So its model tells
+// nothing.
 #[derive(Drop)]
 struct Queue {
     alloc: Global,

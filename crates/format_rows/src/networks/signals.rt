@@ -1,10 +1,11 @@
 // L1 signalling, by a plan. A KIND is `pre` (L1-pre without its CRC_32), `conf` or `dyn` (the parts of L1-post).
 //
-// `pre NETWORK`, `conf NETWORK` and `dyn NETWORK FRAME COUNTS` are the bytes that are written. `read NETWORK KIND BYTES LEN` reads so many bits,
-// and answers the bytes that are written of what was read; of the kind `crc` they are L1-pre with its CRC_32. `turned NETWORK KIND BYTES
-// LEN` does so with each bit turned in turn, and answers a word for each: `t` (it comes back turned), `i` (as it was: it is ignored),
-// the number of the field that is refused, or `s` (the sizes do not go together). `post NETWORK BYTES FIRST LEN` tests the CRC_32 of an
-// L1-post, and `knows NETWORK BYTES LEN` whether bits are the configurable part of the network.
+// `pre NETWORK`, `conf NETWORK` and `dyn NETWORK FRAME COUNTS` are the bytes that are written. `read NETWORK KIND BYTES
+// LEN` reads so many bits, and answers the bytes that are written of what was read; of the kind `crc` they are L1-pre
+// with its CRC_32. `turned NETWORK KIND BYTES LEN` does so with each bit turned in turn, and answers a word for each:
+// `t` (it comes back turned), `i` (as it was: it is ignored), the number of the field that is refused, or `s` (the
+// sizes do not go together). `post NETWORK BYTES FIRST LEN` tests the CRC_32 of an L1-post, and `knows NETWORK BYTES
+// LEN` whether bits are the configurable part of the network.
 ghost use Rattle.std.specs.Prelude.{IsTrue};
 ghost use Rattle.scheduler.specs.Laws.{CountsFit};
 

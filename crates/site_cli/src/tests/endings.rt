@@ -71,9 +71,10 @@ struct Ending {
 }
 
 #[rattlefmt::skip]
-static ENDINGS: [Ending; 42] = [
+static ENDINGS: [Ending; 43] = [
     Ending { words: &["--version"], takes: true, status: 0 },
     Ending { words: &["show", "frames", "--help"], takes: true, status: 0 },
+    Ending { words: &["--help", "bogus"], takes: true, status: 2 },
     Ending { words: &["gateway", "cli.txt", "cli.out", "cli.ts"], takes: true, status: 0 },
     Ending { words: &["plan", "cli.txt"], takes: true, status: 0 },
     Ending { words: &["show", "packets", "cli.none"], takes: true, status: 0 },
@@ -142,10 +143,16 @@ struct Told {
 }
 
 #[rattlefmt::skip]
-static TOLD: [Told; 43] = [
+static TOLD: [Told; 45] = [
     Told { words: &["plan", "c"], outcome: Outcome::Done, begins: "" },
-    Told { words: &[], outcome: Outcome::Usage, begins: "these words are no command\nusage:\n  site_cli gateway CONFIG OUT IN..\n" },
-    Told { words: &["plan"], outcome: Outcome::Usage, begins: "these are too few words\nusage:\n  site_cli plan CONFIG\n" },
+    Told { words: &[], outcome: Outcome::Usage, begins:
+        "these words are no command\nusage:\n  site_cli gateway CONFIG OUT IN..\n" },
+    Told { words: &["plan"], outcome: Outcome::Usage, begins:
+        "these are too few words\nusage:\n  site_cli plan CONFIG\n" },
+    Told { words: &["merge", "--quiet", "c", "a", "b", "o"], outcome: Outcome::Usage, begins:
+        "--quiet: there are no options but --help and --version\nusage:\n  site_cli merge CONFIG A B OUT\n" },
+    Told { words: &["--help", "bogus"], outcome: Outcome::Usage, begins:
+        "--help asks for a command, and these words name none\nusage:\n  site_cli gateway CONFIG OUT IN..\n" },
     Told { words: &["compare", "c", "a", "b", "o"], outcome: Outcome::Usage,
         begins: "these are too many words\nusage:\n  site_cli compare CONFIG A B\n" },
     Told { words: &["common"], outcome: Outcome::Usage,
@@ -154,41 +161,59 @@ static TOLD: [Told; 43] = [
         begins: "these are too few words\nusage:\n  site_cli common receive CONFIG PLP IN OUT\n" },
     Told { words: &["common", "send", "c", "1", "i"], outcome: Outcome::Usage,
         begins: "these words are no command\nusage:\n  site_cli common gateway CONFIG OUT IN..\n" },
-    Told { words: &["common", "receive", "c", "01", "i", "o"], outcome: Outcome::Usage, begins: "PLP must be a decimal number from 0 to 255, " },
-    Told { words: &["receive", "c", "-1", "i", "o"], outcome: Outcome::Usage, begins: "PLP must be a decimal number from 0 to 255, " },
-    Told { words: &["common", "receive", "c", "1", "i", "i"], outcome: Outcome::Usage, begins: "OUT must be neither CONFIG nor IN\n" },
-    Told { words: &["swap", "c", "255", "t", "i", "t"], outcome: Outcome::Usage, begins: "OUT must be neither CONFIG nor T2MI nor IN\n" },
-    Told { words: &["mend", "c", "o"], outcome: Outcome::Usage, begins: "there must be one to eight INs, and OUT must be neither CONFIG nor an IN\n" },
+    Told { words: &["common", "receive", "c", "01", "i", "o"], outcome: Outcome::Usage, begins:
+        "PLP must be a decimal number from 0 to 255, " },
+    Told { words: &["receive", "c", "-1", "i", "o"], outcome: Outcome::Usage, begins:
+        "PLP must be a decimal number from 0 to 255, " },
+    Told { words: &["common", "receive", "c", "1", "i", "i"], outcome: Outcome::Usage, begins:
+        "OUT must be neither CONFIG nor IN\n" },
+    Told { words: &["swap", "c", "255", "t", "i", "t"], outcome: Outcome::Usage, begins:
+        "OUT must be neither CONFIG nor T2MI nor IN\n" },
+    Told { words: &["mend", "c", "o"], outcome: Outcome::Usage, begins:
+        "there must be one to eight INs, and OUT must be neither CONFIG nor an IN\n" },
     Told { words: &["trial", "1", "5"], outcome: Outcome::Usage, begins: "SEED must be a decimal number below 2^64 " },
     Told { words: &["recieve", "c"], outcome: Outcome::Usage,
         begins: "these words are no command\nusage:\n  site_cli receive CONFIG PLP IN OUT\n" },
-    Told { words: &["gatway"], outcome: Outcome::Usage, begins: "these words are no command\nusage:\n  site_cli gateway CONFIG OUT IN..\n" },
+    Told { words: &["gatway"], outcome: Outcome::Usage, begins:
+        "these words are no command\nusage:\n  site_cli gateway CONFIG OUT IN..\n" },
     Told { words: &["show", "t2m", "f"], outcome: Outcome::Usage,
         begins: "these words are no command\nusage:\n  site_cli show config FILE\n" },
-    Told { words: &["marge"], outcome: Outcome::Usage, begins: "these words are no command\nusage:\n  site_cli merge CONFIG A B OUT\n" },
-    Told { words: &["mod"], outcome: Outcome::Usage, begins: "these words are no command\nusage:\n  site_cli modulate CONFIG IN OUT\n" },
-    Told { words: &["zzz"], outcome: Outcome::Usage, begins: "these words are no command\nusage:\n  site_cli gateway CONFIG OUT IN..\n" },
-    Told { words: &["gateway", "c", "a", "a"], outcome: Outcome::Usage, begins: "OUT must be neither CONFIG nor an IN\n" },
-    Told { words: &["merge", "c", "a", "b", "b"], outcome: Outcome::Usage, begins: "OUT must be neither CONFIG nor A nor B\n" },
-    Told { words: &["swap", "c", "256", "t", "i", "o"], outcome: Outcome::Usage, begins: "PLP must be a decimal number from 0 to 255, " },
+    Told { words: &["marge"], outcome: Outcome::Usage, begins:
+        "these words are no command\nusage:\n  site_cli merge CONFIG A B OUT\n" },
+    Told { words: &["mod"], outcome: Outcome::Usage, begins:
+        "these words are no command\nusage:\n  site_cli modulate CONFIG IN OUT\n" },
+    Told { words: &["zzz"], outcome: Outcome::Usage, begins:
+        "these words are no command\nusage:\n  site_cli gateway CONFIG OUT IN..\n" },
+    Told { words: &["gateway", "c", "a", "a"], outcome: Outcome::Usage, begins:
+        "OUT must be neither CONFIG nor an IN\n" },
+    Told { words: &["merge", "c", "a", "b", "b"], outcome: Outcome::Usage, begins:
+        "OUT must be neither CONFIG nor A nor B\n" },
+    Told { words: &["swap", "c", "256", "t", "i", "o"], outcome: Outcome::Usage, begins:
+        "PLP must be a decimal number from 0 to 255, " },
     Told { words: &["gateway", "c", "o", "a", "b"], outcome: Outcome::WrongInputs { plps: 3, inputs: 2 },
         begins: "c wants one IN for each PLP, in its order: 3, and 2 were given\n" },
     Told { words: &["common", "gateway", "c", "o", "a"], outcome: Outcome::WrongInputs { plps: 2, inputs: 1 },
         begins: "c wants one IN for each PLP that is not common, in its order: 2, and 1 were given\n" },
     Told { words: &["gateway", "c", "o", "a", "b"], outcome: Outcome::InputRefused { input: 1, packet: 7 },
         begins: "b: packet 7, " },
-    Told { words: &["modulate", "c", "i", "o"], outcome: Outcome::NoSuperframe, begins: "i: no superframe begins in it " },
-    Told { words: &["merge", "c", "a", "b", "o"], outcome: Outcome::NoSuperframe, begins: "a and b: no superframe begins in either " },
-    Told { words: &["swap", "c", "0", "t", "i", "o"], outcome: Outcome::NoSuperframe, begins: "t: no superframe begins in it " },
-    Told { words: &["swap", "c", "0", "t", "i", "o"], outcome: Outcome::InputRefused { input: 0, packet: 7 }, begins: "i: packet 7, " },
-    Told { words: &["compare", "c", "a", "b"], outcome: Outcome::NoSuperframe, begins: "a and b: no superframe begins in either " },
+    Told { words: &["modulate", "c", "i", "o"], outcome: Outcome::NoSuperframe, begins:
+        "i: no superframe begins in it " },
+    Told { words: &["merge", "c", "a", "b", "o"], outcome: Outcome::NoSuperframe, begins:
+        "a and b: no superframe begins in either " },
+    Told { words: &["swap", "c", "0", "t", "i", "o"], outcome: Outcome::NoSuperframe, begins:
+        "t: no superframe begins in it " },
+    Told { words: &["swap", "c", "0", "t", "i", "o"], outcome: Outcome::InputRefused { input: 0, packet: 7 },
+        begins: "i: packet 7, " },
+    Told { words: &["compare", "c", "a", "b"], outcome: Outcome::NoSuperframe, begins:
+        "a and b: no superframe begins in either " },
     Told { words: &["compare", "c", "a", "b"], outcome: Outcome::Differs { frame: 4 },
         begins: "a and b: both send frame 4, and not the same, " },
     Told { words: &["receive", "c", "9", "i", "o"], outcome: Outcome::UnknownPlp { plp_id: 9 },
         begins: "c: no PLP has the identifier 9; " },
     Told { words: &["common", "receive", "c", "9", "i", "o"], outcome: Outcome::UnknownPlp { plp_id: 9 },
         begins: "c: no PLP that is not common has the identifier 9; " },
-    Told { words: &["receive", "c", "0", "i", "o"], outcome: Outcome::RecordRefused { number: 4, why: RecordWhy::Order },
+    Told { words: &["receive", "c", "0", "i", "o"], outcome: Outcome::RecordRefused { number: 4, why:
+        RecordWhy::Order },
         begins: "i: record 4, counted from 0: " },
     Told { words: &["show", "frames", "f"], outcome: Outcome::RecordRefused { number: 4, why: RecordWhy::Order },
         begins: "f: record 4, counted from 0: " },
@@ -200,7 +225,8 @@ static TOLD: [Told; 43] = [
         begins: "A or B: frame 2147483648 of CONFIG " },
     Told { words: &["mend", "c", "o", "i"], outcome: Outcome::TooLong { count: 1 << 40 },
         begins: "an IN: it gave 1099511627776 bytes, " },
-    Told { words: &["mend", "c", "o", "i"], outcome: Outcome::NoSuperframe, begins: "no frame is whole in all INs together; " },
+    Told { words: &["mend", "c", "o", "i"], outcome: Outcome::NoSuperframe, begins:
+        "no frame is whole in all INs together; " },
     Told { words: &["swap", "c", "0", "t", "i", "o"], outcome: Outcome::TooLong { count: 1 << 31 },
         begins: "t: frame 2147483648 of CONFIG " },
     Told { words: &["plan", "c"], outcome: Outcome::OutOfMemory, begins: "out of memory; " },

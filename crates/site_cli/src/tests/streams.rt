@@ -48,26 +48,43 @@ static HEARD: [Heard; 14] = [
         told: "two.null: packets: 1, null packets among them: 1; these are deleted, but for each one that 255 deleted ones precede\nPLP 0: blocks sent: 0, of 16 that 4 frames have room for\n" },
     Heard { words: &["common", "gateway", "two.txt", "two.ts", "two.packet"],
         told: "two.packet: packets: 1, null packets among them: 0\nPLP 0: blocks sent: 1, of 16 that 4 frames have room for\n" },
-    Heard { words: &["swap", "two.txt", "0", "two.ts", "two.none", "two.out"], told: "two.none: it has no packet; null packets stand for it\n" },
+    Heard { words: &["swap", "two.txt", "0", "two.ts", "two.none", "two.out"], told:
+        "two.none: it has no packet; null packets stand for it\n" },
     Heard { words: &["swap", "two.txt", "0", "two.ts", "two.null", "two.out"],
         told: "two.null: its packets end before frame 1 of CONFIG; null packets stand for it from there on, if OUT goes on so far\n" },
     Heard { words: &["compare", "two.txt", "two.ts", "two.ts"], told: "" },
-    Heard { words: &["compare", "two.txt", "two.none", "two.ts"], told: "two.none: no frame came from it: it has no unit of 188 bytes\n" },
-    Heard { words: &["compare", "two.txt", "two.ts", "two.none"], told: "two.none: no frame came from it: it has no unit of 188 bytes\n" },
+    Heard { words: &["compare", "two.txt", "two.none", "two.ts"], told:
+        "two.none: no frame came from it: it has no unit of 188 bytes\n" },
+    Heard { words: &["compare", "two.txt", "two.ts", "two.none"], told:
+        "two.none: no frame came from it: it has no unit of 188 bytes\n" },
     Heard { words: &["merge", "two.txt", "two.ts", "two.ts", "two.out"],
-        told: "two.ts: no frame came from it: each that it has is in two.ts too, or it has none\n" },
-    Heard { words: &["merge", "two.txt", "two.ts", "two.none", "two.out"], told: "two.none: no frame came from it: it has no unit of 188 bytes\n" },
-    Heard { words: &["mend", "two.txt", "two.out", "two.ts"], told: "" },
-    Heard { words: &["mend", "two.txt", "two.out", "two.none", "two.ts"], told: "two.none: no frame came from it: it has no unit of 188 bytes\n" },
+        told: "two.ts: frames that it had whole: 4, of 4 that were sent; the last is frame 3 of CONFIG
+two.ts: frames that it had whole: 4, of 4 that were sent; the last is frame 3 of CONFIG
+two.ts: no frame was taken from it: two.ts had each of the 4 that it had whole
+" },
+    Heard { words: &["merge", "two.txt", "two.ts", "two.none", "two.out"],
+        told: "two.ts: frames that it had whole: 4, of 4 that were sent; the last is frame 3 of CONFIG
+of these 4 the other had not whole: the first is frame 0 of CONFIG, the last frame 3
+two.none: no frame came from it: it has no unit of 188 bytes
+" },
+    Heard { words: &["mend", "two.txt", "two.out", "two.ts"],
+        told: "two.ts: frames that it had whole: 4, of 4 that were sent; the last is frame 3 of CONFIG
+" },
+    Heard { words: &["mend", "two.txt", "two.out", "two.none", "two.ts"],
+        told: "two.none: no frame came from it: it has no unit of 188 bytes
+two.ts: frames that it had whole: 4, of 4 that were sent; the last is frame 3 of CONFIG
+of these 4 no other IN had whole: the first is frame 0 of CONFIG, the last frame 3
+" },
     Heard { words: &["modulate", "two.txt", "two.out", "two.records"], told: "" },
     Heard { words: &["receive", "two.txt", "0", "two.records", "two.out"], told: "" },
 ];
 
 #[rattlefmt::skip]
-const NAMES: [&str; 8] = ["two.txt", "two.none", "two.null", "two.packet", "two.ts", "two.records", "two.damaged", "two.out"];
+const NAMES: [&str; 8] = ["two.txt", "two.none", "two.null", "two.packet", "two.ts", "two.records", "two.damaged",
+    "two.out"];
 
-// A bit that is changed in the last records of `HEARD`, by the place of its byte, and what `receive` tells of them then: in the L1-pre of
-// record 0, and in the header of the one block, which record 1 has.
+// A bit that is changed in the last records of `HEARD`, by the place of its byte, and what `receive` tells of them
+// then: in the L1-pre of record 0, and in the header of the one block, which record 1 has.
 struct Damaged {
     place: usize,
     told: &'static str,

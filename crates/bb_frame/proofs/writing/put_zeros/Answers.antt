@@ -19,7 +19,8 @@ returns-in_err-put-clause-fault g c =
     sym (zeros_left done left ∙ ap (λ (n : ℕ). replicate n false) sum) in
     rw (p.1, p.2) (part_stops c.stops_law.ensures.here c.stops_law.ensures.later _ _ _ (replicate done false)
     (replicate left false) (replicate c.args.count false)
-    c.min-width.result c.in_err-put.field-0.0 c.loop-left.invariant.1 c.in_err-put.ensures.fault c.in_err-put.ensures.err few
+    c.min-width.result c.in_err-put.field-0.0 c.loop-left.invariant.1 c.in_err-put.ensures.fault
+    c.in_err-put.ensures.err few
     whole)
 
 pub loop-left-preserved : goal.loop-left-preserved
@@ -28,8 +29,13 @@ loop-left-preserved g c =
     let done = c.args.count - left in
     let width = c.min-width.result in
     let fits : done + width ≤ c.args.count = omega (arith, c.min-width.ensures, c.loop-left.invariant.0) in
-    let sum : done + width ≡ c.args.count - (left - width) = omega (arith, c.min-width.ensures, c.loop-left.invariant.0) in (
+    let sum : done + width ≡ c.args.count - (left - width) = omega (
+      arith,
+      c.min-width.ensures,
+      c.loop-left.invariant.0,
+    ) in (
       omega (arith, c.loop-left.invariant.0),
       rw (← sum, ← zeros_more done width c.args.count fits)
-          (c.puts_law.ensures _ _ _ (replicate done false) (field width 0) c.loop-left.invariant.1 c.in_ok-put.ensures.ok),
+          (c.puts_law.ensures _ _ _ (replicate done false) (field width 0) c.loop-left.invariant.1
+          c.in_ok-put.ensures.ok),
     )

@@ -29,8 +29,10 @@ pub returns-clause-ok : goal.returns-clause-ok
 returns-clause-ok g c =
     let header = header_bits c.args.header.now in
     let zeros = replicate (c.args.kbch - 80 - length c.args.field) false in
-    let front = c.puts_law.ensures _ _ _ header c.args.field c.in_ok-put_header.ensures.ok c.in_ok-put_slice.ensures.ok in
-    rest_puts c.puts_law.ensures _ _ _ (header ++ c.args.field) zeros (frame_bits c.args.header.now c.args.field c.args.kbch)
+    let front = c.puts_law.ensures _ _ _ header c.args.field c.in_ok-put_header.ensures.ok
+    c.in_ok-put_slice.ensures.ok in
+    rest_puts c.puts_law.ensures _ _ _ (header ++ c.args.field) zeros (frame_bits c.args.header.now c.args.field
+    c.args.kbch)
     c.put_zeros.result front
     (rw c.len.ensures.len at c.put_zeros.ensures.ok) refl
 
@@ -38,7 +40,8 @@ pub returns-clause-fault : goal.returns-clause-fault
 returns-clause-fault g c =
     let header = header_bits c.args.header.now in
     let zeros = replicate (c.args.kbch - 80 - length c.args.field) false in
-    let front = c.puts_law.ensures _ _ _ header c.args.field c.in_ok-put_header.ensures.ok c.in_ok-put_slice.ensures.ok in
+    let front = c.puts_law.ensures _ _ _ header c.args.field c.in_ok-put_header.ensures.ok
+    c.in_ok-put_slice.ensures.ok in
     rest_faults c.stops_law.ensures.later _ _ _ (header ++ c.args.field) zeros
     (frame_bits c.args.header.now c.args.field c.args.kbch) c.put_zeros.result front
     (rw c.len.ensures.len at c.put_zeros.ensures.fault) refl

@@ -7,4 +7,5 @@ returns-clause-holds c = λ done bits long held.
     let old = c.args.bytes.now.items in
     let more : length old ≤ c.div_ceil.result = omega (arith, c.div_ceil.ensures, c.requires.len) in
     let few : length bits ≤ 8 * length old = omega (arith, c.requires.len, long) in
-    resized old c.resize.new.self.items bits _ _ _ (sym c.is_ok.ensures.value ∙ done) c.resize.ensures.items more few held
+    resized old c.resize.new.self.items bits _ _ _ (sym c.is_ok.ensures.value ∙ done) c.resize.ensures.items
+    more few held

@@ -14,4 +14,5 @@ returns c =
       c.from_be_bytes-third.ensures,
       c.from_be_bytes-fourth.ensures,
     )
-    (register-sixteen 0x04C1_1DB7 c.args.register c.args.chunk.now (omega arith) (omega arith) c.told-chunk c.fits-chunk)
+    (register-sixteen 0x04C1_1DB7 c.args.register c.args.chunk.now (omega arith) (omega arith) c.told-chunk
+    c.fits-chunk)

@@ -7,7 +7,8 @@ pub loop-byte-init : goal.loop-byte-init
 loop-byte-init c =
     chunks_first 4 32 0x04C1_1DB7 c.after_chunks.result c.after_words-register.result c.as_chunks.result.1.now
     c.as_chunks-2.result.1.now c.as_chunks-2.result.0.now
-    (length c.as_chunks.result.1.now / 4) c.as_chunks-2.ensures.front c.as_chunks-2.ensures.back c.after_words-register.ensures
+    (length c.as_chunks.result.1.now / 4) c.as_chunks-2.ensures.front c.as_chunks-2.ensures.back
+    c.after_words-register.ensures
     ∙ chunks_first 16 32 0x04C1_1DB7 c.args.register c.after_chunks.result c.args.bytes.now c.as_chunks.result.1.now
     c.as_chunks.result.0.now
     (length c.args.bytes.now / 16) c.as_chunks.ensures.front c.as_chunks.ensures.back c.after_chunks.ensures

@@ -6,5 +6,6 @@ use Rattle.bit_slice.proofs.crc_32.after_words.Given as goal
 
 abbrev pub invariant-loop-word : goal.invariant-loop-word
 invariant-loop-word l =
-    register 32 0x04C1_1DB7 l.register (flat_map bits_of (drop l.word-index l.words)) ≡ register 32 0x04C1_1DB7 l.fn.register
+    register 32 0x04C1_1DB7 l.register (flat_map bits_of (drop l.word-index l.words)) ≡ register 32 0x04C1_1DB7
+    l.fn.register
     (flat_map bits_of l.words)

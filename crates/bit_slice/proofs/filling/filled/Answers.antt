@@ -19,6 +19,7 @@ returns c =
     let size : length (take end bytes) ≡ bytes_for (length bits) =
     omega (arith, length-take-le end bytes inside, c.div_ceil-end.ensures, long) in
     let small : (k : ℕ) → k < length (take end bytes) → get_or (take end bytes) k 0 < 256 =
-    λ k lt. subst (λ (b : ℕ). b < 256) (sym (get_or-take end bytes k 0 (omega (arith, lt, length-take-le end bytes inside))))
+    λ k lt. subst (λ (b : ℕ). b < 256)
+    (sym (get_or-take end bytes k 0 (omega (arith, lt, length-take-le end bytes inside))))
     (omega (arith, c.type_inv.bytes k)) in
     filled (take end bytes) bits held small size

@@ -21,9 +21,11 @@ returns-clause-holds c = λ front long held.
     let second = length-part bits head middle (omega (arith, len)) in
     let one = front ++ part bits 0 head in
     let two = one ++ part bits head middle in
-    let long_one : length one ≡ c.args.used + head = length-append front (part bits 0 head) ∙ omega (arith, long, first) in
+    let long_one : length one ≡ c.args.used + head = length-append front (part bits 0 head)
+    ∙ omega (arith, long, first) in
     let long_two : length two ≡ c.args.used + last = length-append one (part bits head middle)
     ∙ omega (arith, long_one, second) in
-    parts_put _ front bits head middle last (c.len-len.result - last) (omega arith) (omega (arith, len)) (omega (arith, len))
+    parts_put _ front bits head middle last (c.len-len.result - last) (omega arith) (omega (arith, len))
+    (omega (arith, len))
     (c.put_part-3.ensures.holds two long_two
     (c.put_bytes.ensures.holds one long_one (c.put_part-2.ensures.holds front long held)))

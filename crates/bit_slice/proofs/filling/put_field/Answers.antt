@@ -17,7 +17,8 @@ returns-clause-holds c = λ bits long held.
     let end = c.div_ceil-end.ensures in
     let wide = length-field c.args.width c.args.value in
     let left = length-drop (8 * first) bits in
-    let whole = c.window-window.ensures (drop (8 * first) bits) (omega (arith, left, long)) (c.begun.ensures bits long held) in
+    let whole = c.window-window.ensures (drop (8 * first) bits) (omega (arith, left, long))
+    (c.begun.ensures bits long held) in
     let few : length (drop (8 * first) bits ++ more) ≤ 8 * count =
     omega (arith, length-append (drop (8 * first) bits) more, left, wide, long, end) in
     let put = ap bits_of c.copy_from_slice.ensures.after

@@ -6,5 +6,6 @@ pub loop-k-preserved : goal.loop-k-preserved
 loop-k-preserved c = λ from h. runs_near c.loop-k.bytes from c.loop-k.k (c.loop-k.invariant from h) (omega arith)
 
 pub loop-k-2-preserved : goal.loop-k-2-preserved
-loop-k-2-preserved c = λ from h. runs_round c.loop-k-2.bytes from c.loop-k-2.k (c.loop-k-2.invariant from h) (omega arith)
+loop-k-2-preserved c = λ from h. runs_round c.loop-k-2.bytes from c.loop-k-2.k (c.loop-k-2.invariant from h)
+    (omega arith)
     (omega arith)

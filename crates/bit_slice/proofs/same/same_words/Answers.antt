@@ -19,7 +19,8 @@ loop-k-preserved c =
     let at = 64 * c.loop-k.k in
     let next : 64 * (c.loop-k.k + 1) ≡ 64 * c.loop-k.k + 64 = omega arith in
     let more : take (64 * (c.loop-k.k + 1)) a ≡ take (64 * (c.loop-k.k + 1)) b =
-    rw next (word_more a b at 64 (omega (arith, c.len-k-end.ensures.len)) (omega (arith, c.len-k-end.ensures.len, c.requires))
+    rw next (word_more a b at 64 (omega (arith, c.len-k-end.ensures.len))
+    (omega (arith, c.len-k-end.ensures.len, c.requires))
     c.loop-k.invariant
     (sym c.field.ensures.value ∙ c.if-field.false ∙ c.field-in-loop-k.ensures.value)) in
     more

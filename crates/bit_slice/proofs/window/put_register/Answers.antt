@@ -9,5 +9,6 @@ returns c =
     let word = c.to_be_bytes.result in
     let bits = ap bits_of c.to_be_bytes.ensures ∙ bits_of-high-first 4 c.args.register in
     let four : length word ≡ 4 = ap length c.to_be_bytes.ensures in
-    begun_in c.args.register word c.copy_from_slice.new.self c.args.sums.now (omega arith) four bits c.copy_from_slice.ensures.after
+    begun_in c.args.register word c.copy_from_slice.new.self c.args.sums.now (omega arith) four bits
+    c.copy_from_slice.ensures.after
     c.requires

@@ -11,7 +11,8 @@ returns-then-it-eq0 c =
     let few : slice_index c.args.shape.now.counts c.args.plp ≤ (plp_at c.args.plan.now.plps c.args.plp).blocks =
     omega (arith, c.plp_in_frame-it.ensures.row.blocks, c.plp_in_frame-it.ensures.count, c.if-it.false) in
     never_law
-    (beyond_empty c.args.plan.now c.args.shape.now c.args.plp c.plp_in_frame-it.result.slices c.plp_in_frame-it.ensures.plan
+    (beyond_empty c.args.plan.now c.args.shape.now c.args.plp c.plp_in_frame-it.result.slices
+    c.plp_in_frame-it.ensures.plan
     few c.plp_in_frame-it.ensures.slices c.if-it-eq0.true)
 
 pub returns : goal.returns
@@ -19,5 +20,6 @@ returns c =
     let few : slice_index c.args.shape.now.counts c.args.plp ≤ (plp_at c.args.plan.now.plps c.args.plp).blocks =
     omega (arith, c.plp_in_frame-it.ensures.row.blocks, c.plp_in_frame-it.ensures.count, c.if-it.false) in
     rw (c.from.ensures, c.interval.ensures, c.from-2.ensures, c.config.ensures.value)
-    (beyond_law c.args.plan.now c.args.shape.now c.args.plp c.plp_in_frame-it.result.slices c.plp_in_frame-it.ensures.plan
+    (beyond_law c.args.plan.now c.args.shape.now c.args.plp c.plp_in_frame-it.result.slices
+    c.plp_in_frame-it.ensures.plan
     c.requires.plp few c.plp_in_frame-it.ensures.slices c.plp_in_frame-it.ensures.some c.if-it-eq0.false)

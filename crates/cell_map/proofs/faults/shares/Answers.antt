@@ -8,7 +8,8 @@ pub returns : goal.returns
 returns c =
     shares_law c.args.plan.now c.args.shape.now c.args.first c.args.second c.plp_in_frame-one.result.slices
     c.plp_in_frame-other.result.slices c.slices_meet.result
-    c.plp_in_frame-one.ensures.plan c.requires.first c.requires.second c.if-first-second.false c.plp_in_frame-one.ensures.slices
+    c.plp_in_frame-one.ensures.plan c.requires.first c.requires.second c.if-first-second.false
+    c.plp_in_frame-one.ensures.slices
     c.plp_in_frame-other.ensures.slices (omega (arith, c.if-one-eq0.false)) (omega (arith, c.if-other-eq0.false))
     (rw (c.from-interval.ensures, c.interval.ensures) at c.slices_meet.ensures)
 
@@ -16,7 +17,8 @@ pub returns-then-one-eq1 : goal.returns-then-one-eq1
 returns-then-one-eq1 c =
     subst (λ (x : ℕ). IsTrue false ↔ Shares c.args.plan.now c.args.shape.now c.args.first x) c.if-first-second.true
     (never_law
-    (self_one c.args.plan.now c.args.shape.now c.args.first c.plp_in_frame-one.result.slices c.plp_in_frame-one.ensures.plan
+    (self_one c.args.plan.now c.args.shape.now c.args.first c.plp_in_frame-one.result.slices
+    c.plp_in_frame-one.ensures.plan
     c.plp_in_frame-one.ensures.slices c.if-one-eq1.true))
 
 pub returns-then-first-second : goal.returns-then-first-second
@@ -24,7 +26,8 @@ returns-then-first-second c =
     rw (c.from-interval.ensures, c.interval.ensures)
     (subst (λ (x : ℕ). IsTrue (ltb c.args.shape.now.interval c.plp_in_frame-one.result.slices.len)
     ↔ Shares c.args.plan.now c.args.shape.now c.args.first x) c.if-first-second.true
-    (self_law c.args.plan.now c.args.shape.now c.args.first c.plp_in_frame-one.result.slices c.plp_in_frame-one.ensures.plan
+    (self_law c.args.plan.now c.args.shape.now c.args.first c.plp_in_frame-one.result.slices
+    c.plp_in_frame-one.ensures.plan
     c.requires.first c.plp_in_frame-one.ensures.slices c.plp_in_frame-one.ensures.some c.if-one-eq1.false))
 
 pub returns-then-one-eq0 : goal.returns-then-one-eq0

@@ -2,7 +2,8 @@ use Rattle.cell_map.proofs.TiBlockLemmas.{early, late}
 use Rattle.cell_map.proofs.interleaving.ti_block_of.Goals as goal
 
 pub returns-then-block-low-clause-value : goal.returns-then-block-low-clause-value
-returns-then-block-low-clause-value c = early c.args.blocks c.args.length c.args.block c.requires.some c.if-block-low.true
+returns-then-block-low-clause-value c = early c.args.blocks c.args.length c.args.block c.requires.some
+    c.if-block-low.true
 
 pub returns-else-block-low-clause-value : goal.returns-else-block-low-clause-value
 returns-else-block-low-clause-value c =

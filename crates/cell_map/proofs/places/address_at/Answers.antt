@@ -35,7 +35,8 @@ returns-then-it-eq1-clause-below c =
 pub in_slices-requires-clause-some : goal.in_slices-requires-clause-some
 in_slices-requires-clause-some c =
     let it = c.plp_in_frame-it.ensures in
-    (computes c.args.plan.now c.args.shape.now c.args.frame_idx c.args.plp c.args.block c.args.cell c.plp_in_frame-it.result
+    (computes c.args.plan.now c.args.shape.now c.args.frame_idx c.args.plp c.args.block c.args.cell
+    c.plp_in_frame-it.result
     c.start-start.result
     c.args.place c.interval.result it.plan c.requires.passes c.requires.there
     (record { row = it.row; count = it.count; slices = it.slices }) c.start-start.ensures c.requires.place

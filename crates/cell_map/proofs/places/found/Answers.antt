@@ -13,7 +13,11 @@ overflow_add-before c =
 pub overflow_add-result : goal.overflow_add-result
 overflow_add-result c =
     let plps = c.place_of.ensures.plan.rules PlpCount in
-    let row : c.loop-plp.plp < length c.args.plan.now.plps = omega (arith, c.len-plp-end.ensures.counts, c.requires.plps) in
+    let row : c.loop-plp.plp < length c.args.plan.now.plps = omega (
+      arith,
+      c.len-plp-end.ensures.counts,
+      c.requires.plps,
+    ) in
     omega (
       arith,
       c.loop-plp.invariant.small,
@@ -31,7 +35,8 @@ loop-plp-preserved c =
     let row : c.loop-plp.plp < length c.args.plan.now.plps = omega (arith, inside, c.requires.plps) in
     record {
       before =
-          counted c.args.shape.now.counts c.loop-plp.plp c.loop-plp.before c.from-before.result inside c.loop-plp.invariant.before
+          counted c.args.shape.now.counts c.loop-plp.plp c.loop-plp.before c.from-before.result inside
+          c.loop-plp.invariant.before
           (c.from-before.ensures ∙ c.count.ensures);
       small = omega (
         arith,
@@ -40,7 +45,8 @@ loop-plp-preserved c =
         c.count.ensures,
         few_blocks c.args.plan.now c.args.shape.now c.loop-plp.plp c.place_of.ensures.plan c.requires.passes row,
       );
-      none = λ k b q lt. more_below (λ (j : ℕ). (b q : ℕ) → IsCarried c.args.plan.now c.args.shape.now c.args.frame_idx j b q
+      none = λ k b q lt. more_below (λ (j : ℕ). (b q : ℕ) → IsCarried c.args.plan.now c.args.shape.now
+          c.args.frame_idx j b q
           → ¬ (address_of c.args.plan.now c.args.shape.now c.args.frame_idx j b q ≡ c.args.address)) 0 c.loop-plp.plp
           (λ j x y. (λ b q. c.loop-plp.invariant.none j b q y)) c.in-None.ensures.none k (omega arith) lt b q;
     }

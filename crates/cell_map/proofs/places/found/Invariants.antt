@@ -7,6 +7,7 @@ invariant-loop-plp l =
     record {
       before : l.before ≡ sum (take l.plp l.shape.counts);
       small : l.before ≤ 1023 * l.plp;
-      none : (k b q : ℕ) → k < l.plp → IsCarried l.plan l.shape l.frame_idx k b q → ¬ (address_of l.plan l.shape l.frame_idx k b q
+      none : (k b q : ℕ) → k < l.plp → IsCarried l.plan l.shape l.frame_idx k b q
+          → ¬ (address_of l.plan l.shape l.frame_idx k b q
           ≡ l.address);
     }

@@ -9,6 +9,7 @@ returns c = interleaved_is c.args.cells c.args.length c.args.blocks c.args.befor
 
 pub overflow_sub-ti_block : goal.overflow_sub-ti_block
 overflow_sub-ti_block c =
-    let within = lies_within c.args.cells c.args.length c.args.blocks c.args.at c.ti_block_of-ti_block.result c.requires.length
+    let within = lies_within c.args.cells c.args.length c.args.blocks c.args.at c.ti_block_of-ti_block.result
+    c.requires.length
     c.requires.inside c.ti_block_of-ti_block.ensures.before c.ti_block_of-ti_block.ensures.behind in
     omega (arith, within)

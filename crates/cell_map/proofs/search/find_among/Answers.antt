@@ -18,7 +18,8 @@ loop-plp-preserved c =
     let inside : c.loop-plp.plp < length c.args.shape.now.counts = omega (arith, row, c.requires.plps) in
     record {
       before =
-          counted c.args.shape.now.counts c.loop-plp.plp c.loop-plp.before c.from-before.result inside c.loop-plp.invariant.before
+          counted c.args.shape.now.counts c.loop-plp.plp c.loop-plp.before c.from-before.result inside
+          c.loop-plp.invariant.before
           (c.from-before.ensures ∙ c.count.ensures);
       small = omega (
         arith,
@@ -27,7 +28,8 @@ loop-plp-preserved c =
         c.count.ensures,
         few_blocks c.args.plan.now c.args.shape.now c.loop-plp.plp c.run_of.ensures.plan c.requires.passes row,
       );
-      none = λ k b q low lt. more_below (λ (j : ℕ). (b q : ℕ) → IsCarried c.args.plan.now c.args.shape.now c.args.frame_idx j b q
+      none = λ k b q low lt. more_below (λ (j : ℕ). (b q : ℕ) → IsCarried c.args.plan.now c.args.shape.now
+          c.args.frame_idx j b q
           → ¬ (address_of c.args.plan.now c.args.shape.now c.args.frame_idx j b q
           ≡ c.args.address)) c.args.first.plp c.loop-plp.plp
           (λ j x y. (λ b q. c.loop-plp.invariant.none j b q x y)) c.in-None.ensures.none k low lt b q;

@@ -6,7 +6,8 @@ pub free-requires : goal.free-requires
 free-requires c =
     record {
       some = c.plp_in_frame-it.ensures.some;
-      apart = alone_at c.args.plan.now c.args.shape.now c.args.plp c.plp_in_frame-it.result.slices c.from-interval.result
+      apart = alone_at c.args.plan.now c.args.shape.now c.args.plp c.plp_in_frame-it.result.slices
+          c.from-interval.result
           c.plp_in_frame-it.ensures.plan c.requires.passes c.requires.plp c.plp_in_frame-it.ensures.slices
           (c.from-interval.ensures ∙ c.interval.ensures);
     }
@@ -20,7 +21,8 @@ returns-clause-free c =
 
 pub returns-clause-greatest : goal.returns-clause-greatest
 returns-clause-greatest c = λ more.
-    has_cell c.args.plan.now c.args.shape.now c.args.frame_idx c.args.plp c.plp_in_frame-it.result.slices c.from-interval.result
+    has_cell c.args.plan.now c.args.shape.now c.args.frame_idx c.args.plp c.plp_in_frame-it.result.slices
+    c.from-interval.result
     c.args.address
     c.from.result c.free.result c.plp_in_frame-it.ensures.plan c.requires.plp c.plp_in_frame-it.ensures.slices
     (c.from-interval.ensures ∙ c.interval.ensures) c.from.ensures

@@ -6,7 +6,8 @@ use Rattle.common_plp.proofs.groups.common_in.Goals as goal
 pub returns-then-is_common_in : goal.returns-then-is_common_in
 returns-then-is_common_in c =
     let below : c.loop-place.place < length c.args.config.now.plps = search (rules, arith) in
-    sym (found_first (is_common_in c.args.config.now c.args.group) (length c.args.config.now.plps) c.loop-place.place below
+    sym (found_first (is_common_in c.args.config.now c.args.group) (length c.args.config.now.plps) c.loop-place.place
+    below
     c.loop-place.invariant (sym c.is_common_in.ensures ∙ c.if-is_common_in.true))
 
 pub loop-place-preserved : goal.loop-place-preserved

@@ -1,4 +1,4 @@
-use Rattle.std.proofs.Common.{◌≡◌, ◌<◌, ◌≤◌, true, false, length, rules, arith, sym, ◌∙◌}
+use Rattle.std.proofs.Common.{◌≡◌, ◌<◌, ◌≤◌, true, false, length, rules, arith, ◌∙◌}
 use Rattle.common_plp.specs.Groups.{is_common}
 use Rattle.common_plp.proofs.InputLemmas.{commons_here, commons_on, commons_all}
 use Rattle.common_plp.proofs.places.commons.Goals as goal

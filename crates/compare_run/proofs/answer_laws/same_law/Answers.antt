@@ -22,5 +22,6 @@ returns c =
     record {
       written = same_is_written known;
       begun = written_is_begun known c.due_records_law.ensures.spelled c.reading_law.ensures.one;
-      exact = same_is_exact known c.due_records_law.ensures.spelled c.reading_law.ensures.one c.interleaving_law.ensures.alone;
+      exact = same_is_exact known c.due_records_law.ensures.spelled c.reading_law.ensures.one
+          c.interleaving_law.ensures.alone;
     }

@@ -6,7 +6,7 @@ pub returns-in-Some : goal.returns-in-Some
 returns-in-Some c =
     let size = c.requires in
     let lt = c.loop-plp-test.true in
-    block_there c.args.plan.now c.args.others.now c.loop-plp.plp c.plp_id.result c.in-Some.number c.loop-plp.invariant
+    block_there c.args.plan.now c.args.others.now c.loop-plp.plp c.plp_id.result c.in-Some.other c.loop-plp.invariant
     (omega (arith, size, lt)) c.in-Some.is c.plp_id.ensures
 
 pub returns : goal.returns

@@ -5,4 +5,5 @@ use Rattle.compare_run.proofs.answering.first_other.Goals as goal
 
 pub returns-in-Some-None : goal.returns-in-Some-None
 returns-in-Some-None c =
-    rw (c.in-Some-None.is-0, c.in-Some-None.is-1) (c.first_place.ensures ∙ either_none (list_at c.in-Some-None.a.now c.args.list))
+    rw (c.in-Some-None.is-0, c.in-Some-None.is-1) (c.first_place.ensures
+    ∙ either_none (list_at c.in-Some-None.a.now c.args.list))

@@ -8,7 +8,8 @@ returns-then-ne c =
     let i = c.loop-piece.invariant in
     let p = c.in-Some.ensures.some in
     let q = c.in-Some-next.ensures.some in
-    let both = pieces_same c.args.a.now c.args.b.now c.loop-piece.left c.loop-piece.right c.in-Some.piece.now c.in-Some-next.other.now
+    let both = pieces_same c.args.a.now c.args.b.now c.loop-piece.left c.loop-piece.right c.in-Some.piece.now
+    c.in-Some-next.other.now
     c.next.new.self c.next-in-Some.new.self i.size i.same p.0 q.0 p.2 q.2 in
     sym (both.1
     ∙ ap (λ (t : Bool). t && bytes_eq c.next.new.self c.next-in-Some.new.self) (not_false _ c.if-ne.ensures))
@@ -18,7 +19,8 @@ loop-piece-preserved c =
     let i = c.loop-piece.invariant in
     let p = c.in-Some.ensures.some in
     let q = c.in-Some-next.ensures.some in
-    let both = pieces_same c.args.a.now c.args.b.now c.loop-piece.left c.loop-piece.right c.in-Some.piece.now c.in-Some-next.other.now
+    let both = pieces_same c.args.a.now c.args.b.now c.loop-piece.left c.loop-piece.right c.in-Some.piece.now
+    c.in-Some-next.other.now
     c.next.new.self c.next-in-Some.new.self i.size i.same p.0 q.0 p.2 q.2 in
     record {
       size = both.0;

@@ -4,16 +4,20 @@ use Rattle.compare_run.proofs.NoteLemmas.{brings_or}
 use Rattle.compare_run.proofs.taking.note.Goals as goal
 
 pub note-requires-clause-first : goal.note-requires-clause-first
-note-requires-clause-first c = IfSome_then c.shown_at-first.result c.shown_at-first.ensures.lists (λ pool e. e ∙ c.requires.plps_a)
+note-requires-clause-first c = IfSome_then c.shown_at-first.result c.shown_at-first.ensures.lists (λ pool e. e
+    ∙ c.requires.plps_a)
 
 pub note-requires-clause-second : goal.note-requires-clause-second
-note-requires-clause-second c = IfSome_then c.shown_at-second.result c.shown_at-second.ensures.lists (λ pool e. e ∙ c.requires.plps_b)
+note-requires-clause-second c = IfSome_then c.shown_at-second.result c.shown_at-second.ensures.lists (λ pool e. e
+    ∙ c.requires.plps_b)
 
 pub returns-clause-stands : goal.returns-clause-stands
 returns-clause-stands c = λ same_a same_b ga gb stands a b none_a none_b between_a between_b.
     let first = c.shown_at-first.ensures in
     let second = c.shown_at-second.ensures in
     c.note.ensures.stands ga gb stands
-    (brings_or c.args.plan.now c.args.a.now c.shown_at-first.result c.args.number ga same_a a first.brings first.none none_a)
-    (brings_or c.args.plan.now c.args.b.now c.shown_at-second.result c.args.number gb same_b b second.brings second.none none_b)
+    (brings_or c.args.plan.now c.args.a.now c.shown_at-first.result c.args.number ga same_a a first.brings
+    first.none none_a)
+    (brings_or c.args.plan.now c.args.b.now c.shown_at-second.result c.args.number gb same_b b second.brings
+    second.none none_b)
     between_a between_b

@@ -7,14 +7,16 @@ use Rattle.config_text.proofs.reading.read_lines.Goals as goal
 
 pub loop-line-init : goal.loop-line-init
 loop-line-init c =
-    stands_first c.args.text.now c.of-lines.result 2 c.empty-config.result c.requires c.of-lines.ensures c.empty-config.ensures
+    stands_first c.args.text.now c.of-lines.result 2 c.empty-config.result c.requires c.of-lines.ensures
+    c.empty-config.ensures
 
 pub returns-in_err-version-clause-err : goal.returns-in_err-version-clause-err
 returns-in_err-version-clause-err c =
     let stays : is_skipped c.in-Some.line.now ≡ false = sym c.is_skipped.ensures ∙ c.if-not-is_skipped.true in
     let p = err_from_is_err_and c.from_residual.result c.from_residual.ensures.1 in
     rw (p.1, p.2)
-    (stands_fault c.args.text.now c.loop-line.lines c.next.new.self c.in-Some.line.now c.loop-line.number c.loop-line.due
+    (stands_fault c.args.text.now c.loop-line.lines c.next.new.self c.in-Some.line.now c.loop-line.number
+    c.loop-line.due
     c.loop-line.version c.loop-line.config c.in_err-version.field-0.0 c.requires
     c.loop-line.invariant
     c.in-Some.ensures.some
@@ -33,7 +35,8 @@ loop-line-preserved-then-not-is_skipped c =
 pub loop-line-preserved : goal.loop-line-preserved
 loop-line-preserved c =
     let skips : is_skipped c.in-Some.line.now ≡ true = sym c.is_skipped.ensures ∙ c.if-not-is_skipped.false in
-    stands_skipped c.args.text.now c.loop-line.lines c.next.new.self c.in-Some.line.now c.loop-line.number c.loop-line.due
+    stands_skipped c.args.text.now c.loop-line.lines c.next.new.self c.in-Some.line.now c.loop-line.number
+    c.loop-line.due
     c.loop-line.version c.loop-line.config c.loop-line.invariant c.in-Some.ensures.some
     skips
 
@@ -41,6 +44,7 @@ pub returns-clause-ok : goal.returns-clause-ok
 returns-clause-ok c =
     let end : c.loop-line.lines ≡ [] = search rules in
     stands_whole c.args.text.now c.loop-line.number c.loop-line.due c.loop-line.version c.loop-line.config c.requires
-    (subst (λ (left : List (List ℕ)). Stands c.args.text.now left c.loop-line.number c.loop-line.due c.loop-line.version c.loop-line.config) end
+    (subst (λ (left : List (List ℕ)). Stands c.args.text.now left c.loop-line.number c.loop-line.due
+    c.loop-line.version c.loop-line.config) end
     c.loop-line.invariant)
     (omega arith)

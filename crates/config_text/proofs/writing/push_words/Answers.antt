@@ -6,7 +6,8 @@ use Rattle.config_text.proofs.writing.push_words.Goals as goal
 
 pub word_of-requires : goal.word_of-requires
 word_of-requires c =
-    writes_fits c.args.fields.now c.args.values.now c.args.text.now.items c.loop-place.text.items c.loop-place.place Version
+    writes_fits c.args.fields.now c.args.values.now c.args.text.now.items c.loop-place.text.items c.loop-place.place
+    Version
     c.loop-place.invariant (omega arith)
 
 pub loop-place-preserved : goal.loop-place-preserved
@@ -17,6 +18,8 @@ loop-place-preserved c =
     c.in_ok-extend_from_slice.ensures.items
     ∙ ap (λ (l : List ℕ). l ++ c.word_of.result.now) c.in_ok-push.ensures.items
     ∙ ap (λ (l : List ℕ). (c.loop-place.text.items ++ 32 ∷ []) ++ l) c.word_of.ensures in
-    subst (λ (l : List ℕ). Writes c.args.fields.now c.args.values.now (c.loop-place.place + 1) c.args.text.now.items l) (sym is)
-    (writes_on c.args.fields.now c.args.values.now c.args.text.now.items c.loop-place.text.items c.loop-place.place Version
+    subst (λ (l : List ℕ). Writes c.args.fields.now c.args.values.now (c.loop-place.place + 1) c.args.text.now.items l)
+    (sym is)
+    (writes_on c.args.fields.now c.args.values.now c.args.text.now.items c.loop-place.text.items c.loop-place.place
+    Version
     c.loop-place.invariant (omega arith))

@@ -13,7 +13,8 @@ invariant-loop-unpiper g l = record {
       → EventsStandFor (g.G.OpenGroup.holds l.frames.group) (g.G.OpenGroup.rules l.initial.frames.group)
       l.unpiper l.frames.course idle finished bytes gone;
   rules : g.G.OpenGroup.rules l.frames.group ≡ g.G.OpenGroup.rules l.initial.frames.group;
-  left : (idle : Bool) → events_left l.unpiper l.frames.course idle ≤ events_left l.initial.unpiper l.initial.frames.course idle;
+  left : (idle : Bool) → events_left l.unpiper l.frames.course idle ≤ events_left l.initial.unpiper
+      l.initial.frames.course idle;
   fed : fed_len l.unpiper ≡ fed_len l.initial.unpiper;
   over : l.initial.frames.course.head ≢ head.Over → l.frames.course.head ≢ head.Over;
 }

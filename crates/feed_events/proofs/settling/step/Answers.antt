@@ -11,7 +11,8 @@ returns-then-not-work-clause-stands g c = λ idle finished bytes gone h.
     let old = c.args.frames.now in
     let new = c.work.new.self in
     let r = g.G.OpenGroup.rules old.group in
-    held_back c.events_push_law.ensures (g.G.OpenGroup.holds old.group) (g.G.OpenGroup.holds new.group) r c.args.unpiper.now
+    held_back c.events_push_law.ensures (g.G.OpenGroup.holds old.group) (g.G.OpenGroup.holds new.group)
+    r c.args.unpiper.now
     old.course new.course idle finished bytes gone c.bytes.result.now c.bytes.ensures.bytes
     (subst
     (λ (p : Packet). (group : Option Group) → IsHeld (g.G.OpenGroup.holds old.group) old.course group
@@ -24,7 +25,8 @@ returns-clause-stands g c = λ idle finished bytes gone h.
     let old = c.args.frames.now in
     let new = c.work.new.self in
     let r = g.G.OpenGroup.rules old.group in
-    worked_off c.events_push_law.ensures (g.G.OpenGroup.holds old.group) (g.G.OpenGroup.holds new.group) r c.args.unpiper.now
+    worked_off c.events_push_law.ensures (g.G.OpenGroup.holds old.group) (g.G.OpenGroup.holds new.group)
+    r c.args.unpiper.now
     c.release.new.self old.course new.course idle finished bytes gone c.bytes.result.now c.bytes.ensures.bytes
     c.release.ensures.stands
     (subst

@@ -17,7 +17,8 @@ returns-else-branch-clause-feeds g c =
 
 pub feed-count-requires-clause-room : goal.feed-count-requires-clause-room
 feed-count-requires-clause-room g c =
-    room_for _ _ _ _ _ _ c.read_until.new.self _ c.as_bytes.ensures c.read_until.ensures.none c.in_ok-read_until.ensures.short
+    room_for _ _ _ _ _ _ c.read_until.new.self _ c.as_bytes.ensures c.read_until.ensures.none
+    c.in_ok-read_until.ensures.short
     c.requires.reader
 
 pub end_input-requires-clause-room : goal.end_input-requires-clause-room

@@ -7,5 +7,6 @@ pub returns : goal.returns
 returns g c =
     ends_so _ _ _ _ _ _ _ _ _ _
     (subst (λ (n : ℕ). DoesWork (g.M.Working.work c.args.machine.now) n g.M.Machine.reach g.M.Machine.next
-    (g.M.Machine.Becomes c.args.machine.now) g.M.Ending.ending) c.requires.inputs (c.work_law.ensures c.args.machine.now))
+    (g.M.Machine.Becomes c.args.machine.now) g.M.Ending.ending) c.requires.inputs
+    (c.work_law.ensures c.args.machine.now))
     c.run_over.result c.run_over.ensures

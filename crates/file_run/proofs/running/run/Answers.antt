@@ -2,7 +2,8 @@ use Rattle.std.proofs.Common.{refl, sym, ◌∙◌, arith}
 use Rattle.file_run.specs.Running.{start_of}
 use Rattle.file_run.specs.Sink.{sink_of}
 use Rattle.file_run.proofs.FedLemmas.{less_left}
-use Rattle.file_run.proofs.RunningLemmas.{running_first, running_drained, stopped_drained, running_fed, stopped_fed, run_all}
+use Rattle.file_run.proofs.RunningLemmas.{running_first, running_drained, stopped_drained, running_fed, stopped_fed}
+use Rattle.file_run.proofs.RunningLemmas.{run_all}
 use Rattle.file_run.proofs.RunningLemmas.{at_end, not_ended, can_go_on, reader_of, place_first, is_open, stays_open}
 use Rattle.file_run.proofs.RunningLemmas.{running_came, came_fed}
 use Rattle.file_run.proofs.running.run.Goals as goal
@@ -13,7 +14,12 @@ returns-in-Err-clause-err g c =
     let f = c.drain.ensures.counts in
     stopped_drained g.M.Machine.Becomes c.args.machine.now _ _ g.M.Machine.reach g.M.Machine.next b _ _ _ _
     (place_first b _ _ _ _ c.in_ok-open_files.ensures.ok c.in_ok-out.ensures.ok)
-    (record { rose = c.in-Err.ensures.counts.err; first = c.in-Err.ensures.counts.first; later = f.later; others = f.others })
+    (record {
+      rose = c.in-Err.ensures.counts.err;
+      first = c.in-Err.ensures.counts.first;
+      later = f.later;
+      others = f.others;
+    })
     c.in-Err.ensures.gives c.in-Err.ensures.err
     (running_first c.creates_law.ensures _ g.M.Machine.reach _ b _ _ c.open_files.new.readers _ c.requires.apart
     c.in_ok-open_files.ensures.ok c.in_ok-out.ensures.ok c.requires.start)
@@ -42,13 +48,15 @@ loop-input-preserved g c =
     let w = c.in-Read.ensures.wanted _ _ c.loop-input.invariant.running.came in
     record {
       running =
-          running_drained g.M.Machine.Becomes c.args.machine.now _ _ g.M.Machine.reach _ _ _ _ _ c.loop-input.invariant.place
+          running_drained g.M.Machine.Becomes c.args.machine.now _ _ g.M.Machine.reach _ _ _ _ _
+          c.loop-input.invariant.place
           c.in-Ok-drain.ensures.counts.ok c.drain-in-Read.ensures.reach c.in-Ok-drain.ensures.ok
           (running_fed g.M.Machine.Becomes c.args.machine.now _ _ g.M.Machine.reach _ _ _ _ _ c.in-Read.most _ _
           c.index-readers-input.result
           (omega (arith, w.place, c.requires.inputs, c.loop-input.invariant.running.runs.reached.all)) refl
           (record { reads = c.feed.ensures.reads; limit = c.feed.ensures.limit }) c.in-Ok-feed.ensures.counts
-          c.in-Ok-feed.ensures.short c.feed.ensures.reach c.in-Ok-feed.ensures.feeds c.loop-input.invariant.running w.near);
+          c.in-Ok-feed.ensures.short c.feed.ensures.reach c.in-Ok-feed.ensures.feeds c.loop-input.invariant.running
+          w.near);
       place = c.loop-input.invariant.place;
       dry = c.in-Ok-drain.ensures.dry;
       nothing = c.in-Ok-drain.ensures.nothing;
@@ -77,9 +85,11 @@ returns-in-Err-drain-clause-err g c =
       others = f.others;
     }) c.in-Err-drain.ensures.gives c.in-Err-drain.ensures.err
     (running_fed g.M.Machine.Becomes c.args.machine.now _ _ g.M.Machine.reach _ _ _ _ _ c.in-Read.most _ _
-    c.index-readers-input.result (omega (arith, w.place, c.requires.inputs, c.loop-input.invariant.running.runs.reached.all))
+    c.index-readers-input.result
+    (omega (arith, w.place, c.requires.inputs, c.loop-input.invariant.running.runs.reached.all))
     refl
-    (record { reads = c.feed.ensures.reads; limit = c.feed.ensures.limit }) c.in-Ok-feed.ensures.counts c.in-Ok-feed.ensures.short
+    (record { reads = c.feed.ensures.reads; limit = c.feed.ensures.limit }) c.in-Ok-feed.ensures.counts
+    c.in-Ok-feed.ensures.short
     c.feed.ensures.reach c.in-Ok-feed.ensures.feeds c.loop-input.invariant.running w.near)
 
 pub returns-clause-ok : goal.returns-clause-ok

@@ -8,7 +8,8 @@ use Rattle.file_run.proofs.telling.gather.Given as goal
 abbrev pub invariant-loop-desk : goal.invariant-loop-desk
 invariant-loop-desk g l = record {
   telling : (begin : g.row.M.Denot) (start : State) (name : List ℕ) (r : Reading)
-      → Telling (g.M.Machine.Becomes begin) g.M.Machine.next start (g.D.Desk.state l.initial.desk) name l.initial.machine r
+      → Telling (g.M.Machine.Becomes begin) g.M.Machine.next start (g.D.Desk.state l.initial.desk) name
+      l.initial.machine r
       l.initial.page
       → Telling (g.M.Machine.Becomes begin) g.M.Machine.next start (g.D.Desk.state l.desk) name l.machine r l.page;
   came : HasCome g.M.Machine.Becomes l.machine;

@@ -8,7 +8,8 @@ use Rattle.file_run.proofs.RunningLemmas.{came_fed}
 use Rattle.file_run.proofs.telling.tell_on.Goals as goal
 
 pub returns-in-Err-clause-err : goal.returns-in-Err-clause-err
-returns-in-Err-clause-err g c = λ begin start name t. let lost = c.in-Err.ensures.err begin start name c.args.reader.now t in
+returns-in-Err-clause-err g c = λ begin start name t. let lost = c.in-Err.ensures.err begin start name
+    c.args.reader.now t in
     (lost.0, lost.1, (λ other. absurd (other refl)), λ same. lost.2)
 
 pub feed-requires-clause-within : goal.feed-requires-clause-within
@@ -39,7 +40,8 @@ feed-requires-clause-reader g c =
       start = b.begin;
       events = t.events;
       came = t.came;
-      taken = subst (λ (k : ℕ). c.loop-input.reader.taken ≡ length (fed k t.events)) (sym (is_zero _ _ w.place b.one)) t.taken;
+      taken = subst (λ (k : ℕ). c.loop-input.reader.taken ≡ length (fed k t.events)) (sym (is_zero _ _ w.place b.one))
+          t.taken;
     }
 
 pub feed-requires-clause-is_open : goal.feed-requires-clause-is_open
@@ -133,5 +135,6 @@ gather-requires-in-Read g c =
     let b = c.requires.begun in
     let t = c.loop-input.invariant.telling b.begin b.start b.name b.telling in
     record {
-      came = came_fed _ _ _ _ _ _ _ _ (record { start = b.begin; events = t.events; came = t.came }) c.in-Ok-feed.ensures.feeds;
+      came = came_fed _ _ _ _ _ _ _ _ (record { start = b.begin; events = t.events; came = t.came })
+          c.in-Ok-feed.ensures.feeds;
     }

@@ -10,4 +10,5 @@ returns-then-told_id-plp_id c =
 
 pub returns : goal.returns
 returns c =
-    sym (ids_same c.args.dynamic.now.plps c.args.plan.now.plps c.requires (λ k l. c.loop-plp.invariant k (omega (arith, l))))
+    sym (ids_same c.args.dynamic.now.plps c.args.plan.now.plps c.requires (λ k l. c.loop-plp.invariant
+    k (omega (arith, l))))

@@ -15,8 +15,10 @@ loop-place-preserved c =
     let place = c.loop-place.place in
     record {
       holds = λ bodies h.
-          let before = bodies ++ slot_bodies network c.args.number pool c.args.plp c.args.start (place - c.args.start) in
-          added_slot network c.args.number c.push_place.new.made.is_begun c.push_place.new.made.group bodies pool c.args.plp
+          let before = bodies ++ slot_bodies network c.args.number pool c.args.plp c.args.start
+          (place - c.args.start) in
+          added_slot network c.args.number c.push_place.new.made.is_begun c.push_place.new.made.group
+          bodies pool c.args.plp
           c.args.start place (omega (arith, c.loop-place.auto.place))
           (subst (λ (k : Config). HoldsMade k c.args.number c.loop-place.made before
           → HoldsMade k c.args.number c.push_place.new.made

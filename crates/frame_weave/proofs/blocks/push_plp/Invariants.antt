@@ -5,7 +5,8 @@ use Rattle.frame_weave.proofs.blocks.push_plp.Given as goal
 
 abbrev pub invariant-loop-place : goal.invariant-loop-place
 invariant-loop-place l = record {
-  holds : (bodies : List Body) → HoldsMade l.fn.made.plan.now l.number l.fn.made bodies → HoldsMade l.fn.made.plan.now l.number l.made
+  holds : (bodies : List Body) → HoldsMade l.fn.made.plan.now l.number l.fn.made bodies
+      → HoldsMade l.fn.made.plan.now l.number l.made
       (bodies ++ slot_bodies l.fn.made.plan.now l.number l.slots.pool l.plp l.start (l.place - l.start));
   none : l.end ≤ l.start → l.place ≡ l.start;
   alone : IsAlone l.fn.made.group → IsAlone l.made.group;

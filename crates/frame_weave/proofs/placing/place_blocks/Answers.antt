@@ -38,5 +38,6 @@ returns-clause-placed c = λ c' counts packets blocks placed laid room marks lis
     let i = c.loop-i.invariant in
     let all = i.holds c' counts packets blocks placed laid room marks lists fills in
     subst (λ (l : List Placed). Fills c' counts c.loop-i.slots (placed ++ l))
-    (placed_all counts c.args.origin c.loop-i.first c.loop-i.i blocks all.0 (placed_from counts c.args.origin 0 blocks) (omega (arith, marks.len, c.loop-i-test.false)) all.2)
+    (placed_all counts c.args.origin c.loop-i.first c.loop-i.i blocks all.0 (placed_from counts c.args.origin 0 blocks)
+    (omega (arith, marks.len, c.loop-i-test.false)) all.2)
     all.1

@@ -18,8 +18,10 @@ returns-clause-holds c = λ past h bodies held signal made.
     ∙ ap (λ (k : Config). length k.plps) (c.config.ensures.value ∙ sym c.requires.same) in
     let agrees : parts_agree network c.args.number l1 ≡ true =
     subst (λ (o : Option L1Parts). option_map_or (parts_agree network c.args.number) o false ≡ true) (sym is) signal in
-    subst (λ (o : Option L1Parts). HoldsMade network c.args.number c.push_l1.new.self (bodies ++ l1_bodies network c.args.number o)) is
+    subst (λ (o : Option L1Parts). HoldsMade network c.args.number c.push_l1.new.self
+    (bodies ++ l1_bodies network c.args.number o)) is
     (c.push_l1.ensures.holds bodies l1 refl
-    (fitting c.parts_law.ensures.whole c.pre_law.ensures.len c.conf_law.ensures.len c.dyn_law.ensures.len network c.args.number l1
+    (fitting c.parts_law.ensures.whole c.pre_law.ensures.len c.conf_law.ensures.len c.dyn_law.ensures.len
+    network c.args.number l1
     (omega (arith, plps, c.conf_len-conf.ensures.value, c.conf_len-conf.ensures.most))
     (omega (arith, plps, c.dyn_len-dynamic.ensures.value, c.dyn_len-dynamic.ensures.most)) agrees) made)

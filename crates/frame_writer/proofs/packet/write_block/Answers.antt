@@ -12,7 +12,8 @@ block_len c = length-bits_of c.args.block.now ∙ ap (λ (n : ℕ). 8 * n) (sym 
 
 pub finish_packet-requires : goal.finish_packet-requires
 finish_packet-requires c =
-    has_room c.begin.new.out (bits_of c.args.block.now) c.put_pieces.new.out (length c.args.block.now) c.put_pieces.ensures
+    has_room c.begin.new.out (bits_of c.args.block.now) c.put_pieces.new.out (length c.args.block.now)
+    c.put_pieces.ensures
     c.begin.ensures.len (length-bits_of c.args.block.now) c.requires.short
 
 pub returns-clause-bits : goal.returns-clause-bits
@@ -26,5 +27,7 @@ returns-clause-bits c =
 
 pub returns-clause-whole : goal.returns-clause-whole
 returns-clause-whole c =
-    is_whole c.begin.new.out (bits_of c.args.block.now) c.put_pieces.new.out (length c.args.block.now) c.put_pieces.ensures
-    c.begin.ensures.len (length-bits_of c.args.block.now) c.requires.short c.finish_packet.new.out c.finish_packet.ensures
+    is_whole c.begin.new.out (bits_of c.args.block.now) c.put_pieces.new.out (length c.args.block.now)
+    c.put_pieces.ensures
+    c.begin.ensures.len (length-bits_of c.args.block.now) c.requires.short c.finish_packet.new.out
+    c.finish_packet.ensures

@@ -27,7 +27,8 @@ unwrap-requires c =
     (c.dyn_of.ensures.fits c.requires.fits) same in
     let few = c.rules_law.ensures.ranges.plps.1 in
     let room : length (dyn_bits c.dyn_of.new.out) ≤ 8 * MOST_DYN_BYTES = omega (arith, bits, few) in
-    takes_all c.write_dyn.result MOST_DYN_BYTES c.clear.new.self c.write_dyn.new.sink (dyn_bits c.dyn_of.new.out) c.clear.ensures
+    takes_all c.write_dyn.result MOST_DYN_BYTES c.clear.new.self c.write_dyn.new.sink (dyn_bits c.dyn_of.new.out)
+    c.clear.ensures
     room c.write_dyn.ensures.fault
 
 pub returns : goal.returns

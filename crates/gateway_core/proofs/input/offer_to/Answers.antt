@@ -7,7 +7,9 @@ returns-clause-takes c = λ config plp events ready room.
     (λ _ lacks. (lacks config plp events ready.stands).never ready) config plp events ready.stands room
 
 pub returns-clause-short : goal.returns-clause-short
-returns-clause-short c = all_short c.args.pool.now c.offer.new.pool c.args.list c.offer.ensures.others c.offer.ensures.short
+returns-clause-short c = all_short c.args.pool.now c.offer.new.pool c.args.list c.offer.ensures.others
+    c.offer.ensures.short
 
 pub unwrap-requires : goal.unwrap-requires
-unwrap-requires c = is_put c.offer.result c.args.chain.now c.args.pool.now c.args.list c.offer.ensures.lacks c.requires.ready
+unwrap-requires c = is_put c.offer.result c.args.chain.now c.args.pool.now c.args.list c.offer.ensures.lacks
+    c.requires.ready

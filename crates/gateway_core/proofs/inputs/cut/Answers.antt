@@ -16,7 +16,8 @@ pub cut_one-requires-clause-ready : goal.cut_one-requires-clause-ready
 cut_one-requires-clause-ready c = λ d. ∥∥₁_map c.requires.ready
     (λ (s : AreSupplied c.args.plan.now c.args.frame c.args.inputs.now (bits_in c.args.pool.now)).
     cut_supplied c.early_fits_law.ensures.early c.early_fits_law.ensures.blocks _ _ _ _ _ _ _ _ c.loop-plp.plp d
-    c.rules_law.ensures.plan c.requires.whole (omega (arith, c.loop-plp-test.true)) c.loop-plp.invariant.cut c.requires.frame s)
+    c.rules_law.ensures.plan c.requires.whole (omega (arith, c.loop-plp-test.true)) c.loop-plp.invariant.cut
+    c.requires.frame s)
 
 pub loop-plp-init : goal.loop-plp-init
 loop-plp-init c = record { cut = cut_none _ _ _ _ _; most = λ j d. refl; short = λ short. short }
@@ -37,12 +38,15 @@ returns c =
     let len = c.loop-plp.auto.counts ∙ c.requires.counts in
     record {
       fed = λ events e was. cut_fed _ _ _ _ _ _ _ _ _ events cut all c.loop-plp.auto.inputs e c.requires.frame was;
-      blocks = λ events e was inputs more. cut_blocks _ _ _ _ _ _ _ _ _ events inputs cut all c.requires.whole e c.requires.frame
+      blocks = λ events e was inputs more. cut_blocks _ _ _ _ _ _ _ _ _ events inputs cut all c.requires.whole
+          e c.requires.frame
           was more;
-      counts = λ events e was stay inputs more. cut_counts _ _ _ _ _ _ _ _ _ events inputs cut all c.requires.whole len e
+      counts = λ events e was stay inputs more. cut_counts _ _ _ _ _ _ _ _ _ events inputs cut all c.requires.whole
+          len e
           c.requires.frame was stay more;
       stay = λ events e was stay. counts_stay c.spread_law.ensures.frames _ _ _ events c.rules_law.ensures.plan
-          (λ inputs more. cut_counts _ _ _ _ _ _ _ _ _ events inputs cut all c.requires.whole len e c.requires.frame was stay
+          (λ inputs more. cut_counts _ _ _ _ _ _ _ _ _ events inputs cut all c.requires.whole len e c.requires.frame
+          was stay
           more);
       fit = λ are fit. cut_fit _ _ _ _ _ _ _ _ _ cut all c.requires.whole len are fit;
       within = λ plp lt. cut_within c.early_fits_law.ensures.early c.early_fits_law.ensures.blocks _ _ _ _ _ _ _ _ _ plp

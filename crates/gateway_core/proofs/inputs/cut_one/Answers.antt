@@ -12,7 +12,8 @@ returns-clause-cuts c =
     ∙ ap (λ (k : Config). k.ticks) c.config.ensures.value in
     let due : c.slots_by-due.result ≡ slots_by c.args.plan.now c.args.plp ((c.args.frame + 1) * c.args.plan.now.ticks) =
     rw same at c.slots_by-due.ensures.count in
-    let on : is_first c.args.plan.now c.args.plp c.args.frame ≡ true = sym c.is_first.ensures ∙ c.if-not-is_first.false in
+    let on : is_first c.args.plan.now c.args.plp c.args.frame ≡ true = sym c.is_first.ensures
+    ∙ c.if-not-is_first.false in
     cuts_one c.args.inputs.now c.args.plp c.index-inputs-plp-2.result c.cut.new.self c.args.plan.now c.args.frame
     c.slots_by-due.result c.args.pool.now c.cut.new.pool c.args.before c.cut.result c.requires.place
     c.config.ensures.plan (omega arith) on due c.cut.ensures.cut c.cut.ensures.few c.cut.ensures.others

@@ -4,7 +4,8 @@ use Rattle.gateway_core.proofs.InputsLemmas.{fed_ended, one_wants, others_want, 
 use Rattle.gateway_core.proofs.inputs.end.Goals as goal
 
 pub returns-clause-fed : goal.returns-clause-fed
-returns-clause-fed c = λ early config events h. fed_ended c.args.inputs.now c.args.plp c.index-inputs-plp.result c.end.new.self
+returns-clause-fed c = λ early config events h. fed_ended c.args.inputs.now c.args.plp c.index-inputs-plp.result
+    c.end.new.self
     early config events c.requires c.end.ensures.fed h
 
 pub returns-clause-most : goal.returns-clause-most

@@ -16,7 +16,8 @@ returns-clause-most c =
 
 pub returns-clause-fewer : goal.returns-clause-fewer
 returns-clause-fewer c =
-    one_fewer c.args.inputs.now c.args.plp c.index-inputs-plp.result c.offer.new.self c.requires.place c.offer.ensures.wanted
+    one_fewer c.args.inputs.now c.args.plp c.index-inputs-plp.result c.offer.new.self c.requires.place
+    c.offer.ensures.wanted
 
 pub returns-clause-others : goal.returns-clause-others
 returns-clause-others c = λ other differ. others_want c.args.inputs.now c.args.plp c.offer.new.self other differ

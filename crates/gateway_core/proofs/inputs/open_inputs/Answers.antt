@@ -9,7 +9,8 @@ pub loop-plp-preserved : goal.loop-plp-preserved
 loop-plp-preserved c = record {
   len = search rules;
   fed = rw c.in_ok-push.ensures.items
-      (pushed (λ j i. IsFed i c.args.plan.now j (record { packets = []; ended = false; frame = 0 }) []) c.loop-plp.inputs.items
+      (pushed (λ j i. IsFed i c.args.plan.now j (record { packets = []; ended = false; frame = 0 }) [])
+      c.loop-plp.inputs.items
       c.loop-plp.plp _ c.loop-plp.invariant.len c.loop-plp.invariant.fed c.in_ok-open.ensures.fed);
   most = rw c.in_ok-push.ensures.items
       (pushed (λ j i. most i ≡ (plp_at c.args.plan.now.plps j).blocks) c.loop-plp.inputs.items c.loop-plp.plp _

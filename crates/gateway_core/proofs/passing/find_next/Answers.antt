@@ -6,7 +6,8 @@ pub returns-in-Some-clause-finds : goal.returns-in-Some-clause-finds
 returns-in-Some-clause-finds c =
     let below : c.loop-turn.turn < length c.args.plan.now.plps = search (rules, arith) in
     let s = c.in-Some.ensures in
-    comes_of c.args.plan.now c.loop-turn.gateway c.settle_first.new.gateway c.settle_first.new.held c.loop-turn.turn c.in-Some.plp
+    comes_of c.args.plan.now c.loop-turn.gateway c.settle_first.new.gateway c.settle_first.new.held c.loop-turn.turn
+    c.in-Some.plp
     c.rules_law.ensures.plan.rules below s.first (s.others s.first) c.loop-turn.invariant.settled (s.settles s.first)
 
 pub loop-turn-preserved : goal.loop-turn-preserved
@@ -14,7 +15,8 @@ loop-turn-preserved c =
     let below : c.loop-turn.turn < length c.args.plan.now.plps = search (rules, arith) in
     let s = c.in_default.ensures in
     record {
-      moves = then_moves c.args.plan.now c.args.gateway.now c.loop-turn.gateway c.settle_first.new.gateway c.args.held.now
+      moves = then_moves c.args.plan.now c.args.gateway.now c.loop-turn.gateway c.settle_first.new.gateway
+          c.args.held.now
           c.loop-turn.held c.settle_first.new.held c.loop-turn.invariant.moves s.moves;
       settled = settled_next c.args.plan.now c.loop-turn.gateway c.settle_first.new.gateway c.loop-turn.turn
           c.rules_law.ensures.plan.rules below s.others s.same s.settles c.loop-turn.invariant.settled;

@@ -5,12 +5,14 @@ use Rattle.gateway_core.proofs.passing.share.Goals as goal
 
 pub pass_on-requires-clause-wanted : goal.pass_on-requires-clause-wanted
 pass_on-requires-clause-wanted c = λ plp inside.
-    members_wanted c.args.plan.now c.args.gateway.now c.offer.new.self c.args.held.now c.args.turn c.requires.common c.requires.wanted
+    members_wanted c.args.plan.now c.args.gateway.now c.offer.new.self c.args.held.now c.args.turn c.requires.common
+    c.requires.wanted
     c.offer.ensures.others plp
 
 pub returns-clause-stands : goal.returns-clause-stands
 returns-clause-stands c = λ d done s.
-    shared_stands c.args.plan.now d done c.args.held.now c.args.turn _ c.unwrap_or.result c.is_some.result c.pass_on.new.gateway
+    shared_stands c.args.plan.now d done c.args.held.now c.args.turn _ c.unwrap_or.result c.is_some.result
+    c.pass_on.new.gateway
     (c.unwrap_or.ensures ∙ ap₂ unwrap_or c.shared_in-shared.ensures c.canonical.ensures)
     (c.is_some.ensures ∙ ap is_some c.shared_in-shared.ensures)
     (c.pass_on.ensures.stands d _ (c.offer.ensures.stands d done s))

@@ -18,7 +18,8 @@ pub loop-plp-preserved : goal.loop-plp-preserved
 loop-plp-preserved c = record {
   tick = λ packets h.
       let here : c.index-inputs-plp.result.total ≡ Some (packets c.loop-plp.plp) =
-      ap (λ (i : Input). i.total) c.index-inputs-plp.is ∙ h c.loop-plp.plp c.index-inputs-plp.result c.loop-plp-test.true in
+      ap (λ (i : Input). i.total) c.index-inputs-plp.is ∙ h c.loop-plp.plp c.index-inputs-plp.result
+      c.loop-plp-test.true in
       c.later-last.ensures
       ∙ ap (λ (n : ℕ). max n c.in-Some.tick) (c.loop-plp.invariant.tick packets h)
       ∙ ap (λ (n : ℕ). max (last_tick c.args.plan.now packets c.loop-plp.plp) n)
@@ -30,7 +31,8 @@ loop-plp-preserved c = record {
     | inr from ↦
         let same : c.loop-plp.plp ≡ j = omega arith in
         let at : c.index-inputs-plp.result ≡ slice_index_or c.args.inputs.now c.loop-plp.plp d =
-        get_or_read c.args.inputs.now c.loop-plp.plp c.index-inputs-plp.result c.loop-plp-test.true c.index-inputs-plp.is d in
+        get_or_read c.args.inputs.now c.loop-plp.plp c.index-inputs-plp.result c.loop-plp-test.true
+        c.index-inputs-plp.is d in
         subst (λ (k : ℕ). is_some (slice_index_or c.args.inputs.now k d).total ≡ true) same
         (subst (λ (i : Input). is_some i.total ≡ true) at c.in-Some.ensures.some)
   ];

@@ -17,5 +17,6 @@ pub returns : goal.returns
 returns c =
     let whole : c.loop-plp.plp ≡ length c.args.plan.now.plps = search (rules, arith) in
     c.verdict.ensures _ None c.loop-plp.invariant
-    ∙ ap (λ (n : ℕ). shared_packet (flat_map (seen_of c.args.plan.now c.args.held.now c.args.turn) (range_with_len 0 n))) whole
+    ∙ ap (λ (n : ℕ). shared_packet (flat_map (seen_of c.args.plan.now c.args.held.now c.args.turn)
+    (range_with_len 0 n))) whole
     ∙ ap shared_packet (seen_slot c.args.plan.now c.args.held.now c.args.turn c.requires.common)

@@ -14,10 +14,12 @@ returns g c = record {
       let way = g.G.FrameGateway.sharing in
       let start = c.new-machine.result in
       let same = c.new-machine.ensures.plan in
-      subst (λ (k : Config). Ends (gateway_work way k) (g.D.Desk.state c.args.desk.now) (g.D.Desk.state c.run_one.new.desk)
+      subst (λ (k : Config). Ends (gateway_work way k) (g.D.Desk.state c.args.desk.now)
+      (g.D.Desk.state c.run_one.new.desk)
       (Into c.args.out.now) c.args.ins.now c.run_one.result) same
       (ends_so _ _ _ _ _ _ _ _ _ _ (gateway_does way (GatewayMachine g.row.G.Denot g.G.FrameGateway) (λ m. m.plan.now)
-      (λ m. g.G.FrameGateway.seen m.gateway m.plan.now) (λ m. g.G.FrameGateway.status m.gateway) (λ m. m.place) (λ m. m.ran)
+      (λ m. g.G.FrameGateway.seen m.gateway m.plan.now) (λ m. g.G.FrameGateway.status m.gateway) (λ m. m.place)
+      (λ m. m.ran)
       (λ m. m.ready) c.units_law.ensures c.front_law.ensures.grow c.ahead_law.ensures start.plan.now _
       (c.requires.count ∙ ap (λ (k : Config). input_count way k) (sym same))) c.run_one.result c.run_one.ensures);
 }

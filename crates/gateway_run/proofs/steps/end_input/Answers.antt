@@ -29,9 +29,11 @@ returns-clause-holds g c = λ done h.
     let way = g.G.FrameGateway.sharing in
     let s = g.G.FrameGateway.seen c.args.gateway.now c.args.plan.now in
     let next = g.G.FrameGateway.seen c.end_input.new.self c.args.plan.now in
-    subst (λ (p : Place). Holds way c.args.plan.now (done ++ Ended c.args.place.input c.args.bytes.now ∷ []) next.stands p
+    subst (λ (p : Place). Holds way c.args.plan.now (done ++ Ended c.args.place.input c.args.bytes.now ∷ [])
+    next.stands p
     c.args.ran) (sym c.place_by.ensures)
-    (input_ended way c.events_law.ensures c.args.plan.now done s.stands next.stands c.args.place c.end_input.result c.args.ran
+    (input_ended way c.events_law.ensures c.args.plan.now done s.stands next.stands c.args.place c.end_input.result
+    c.args.ran
     (s.wants c.args.place.input) c.args.bytes.now
     (waits way c.args.plan.now s _ c.args.place c.args.ran c.requires.ready done c.requires.wants)
     (nil_from_length _ (omega (arith, c.if-rest-gt0.false))) c.end_input.ensures.stands h)
@@ -48,8 +50,10 @@ returns-clause-read g c =
 pub returns-clause-ready : goal.returns-clause-ready
 returns-clause-ready g c =
     let next = g.G.FrameGateway.seen c.end_input.new.self c.args.plan.now in
-    subst (λ (p : Place). IsReady g.G.FrameGateway.sharing c.args.plan.now next (g.G.FrameGateway.status c.end_input.new.self) p
+    subst (λ (p : Place). IsReady g.G.FrameGateway.sharing c.args.plan.now next
+    (g.G.FrameGateway.status c.end_input.new.self) p
     c.args.ran) (sym c.place_by.ensures)
-    (ready_on g.G.FrameGateway.sharing c.args.plan.now (g.G.FrameGateway.seen c.args.gateway.now c.args.plan.now) next _ _
+    (ready_on g.G.FrameGateway.sharing c.args.plan.now (g.G.FrameGateway.seen c.args.gateway.now c.args.plan.now)
+    next _ _
     c.args.place c.end_input.result c.args.ran c.requires.ready c.requires.wants c.end_input.ensures.status
     c.end_input.ensures.asks)

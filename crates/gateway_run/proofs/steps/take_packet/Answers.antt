@@ -33,9 +33,11 @@ returns-clause-holds g c = λ done h.
     let way = g.G.FrameGateway.sharing in
     let s = g.G.FrameGateway.seen c.args.gateway.now c.args.plan.now in
     let next = g.G.FrameGateway.seen c.offer.new.self c.args.plan.now in
-    subst (λ (p : Place). Holds way c.args.plan.now (done ++ Fed c.args.place.input (take SIZE c.args.bytes.now) ∷ []) next.stands p
+    subst (λ (p : Place). Holds way c.args.plan.now (done ++ Fed c.args.place.input (take SIZE c.args.bytes.now) ∷ [])
+    next.stands p
     c.args.ran) (sym c.place_by.ensures)
-    (packet_offered way c.events_law.ensures c.args.plan.now done s.stands next.stands c.args.place c.offer.result c.args.ran
+    (packet_offered way c.events_law.ensures c.args.plan.now done s.stands next.stands c.args.place c.offer.result
+    c.args.ran
     (s.wants c.args.place.input) c.front_packet-packet.result (take SIZE c.args.bytes.now)
     (waits way c.args.plan.now s _ c.args.place c.args.ran c.requires.ready done c.requires.wants)
     c.front_packet-packet.ensures
@@ -54,7 +56,10 @@ returns-clause-read g c =
 pub returns-clause-ready : goal.returns-clause-ready
 returns-clause-ready g c =
     let next = g.G.FrameGateway.seen c.offer.new.self c.args.plan.now in
-    subst (λ (p : Place). IsReady g.G.FrameGateway.sharing c.args.plan.now next (g.G.FrameGateway.status c.offer.new.self) p
+    subst (λ (p : Place). IsReady g.G.FrameGateway.sharing c.args.plan.now next
+    (g.G.FrameGateway.status c.offer.new.self) p
     c.args.ran) (sym c.place_by.ensures)
-    (ready_on g.G.FrameGateway.sharing c.args.plan.now (g.G.FrameGateway.seen c.args.gateway.now c.args.plan.now) next _ _
-    c.args.place c.offer.result c.args.ran c.requires.ready c.requires.wants c.offer.ensures.status c.offer.ensures.asks)
+    (ready_on g.G.FrameGateway.sharing c.args.plan.now (g.G.FrameGateway.seen c.args.gateway.now c.args.plan.now)
+    next _ _
+    c.args.place c.offer.result c.args.ran c.requires.ready c.requires.wants c.offer.ensures.status
+    c.offer.ensures.asks)

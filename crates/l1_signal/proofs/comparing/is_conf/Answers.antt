@@ -1,5 +1,6 @@
 use Rattle.std.proofs.Common.{◌∙◌, sym}
-use Rattle.l1_signal.proofs.CompareLemmas.{no_front, other_front, other_plps, no_back, other_back, more_left, is_spelled, holds}
+use Rattle.l1_signal.proofs.CompareLemmas.{no_front, other_front, other_plps, no_back, other_back, more_left}
+use Rattle.l1_signal.proofs.CompareLemmas.{is_spelled, holds}
 use Rattle.l1_signal.proofs.CompareLemmas.{fails, refuted, ends}
 use Rattle.l1_signal.proofs.comparing.is_conf.Goals as goal
 
@@ -19,7 +20,8 @@ returns-then-not-has_plps c =
 pub returns-in_default-read_back : goal.returns-in_default-read_back
 returns-in_default-read_back c =
     let plps = rw c.as_slice.ensures at (c.has_plps.ensures.yes c.if-not-has_plps.false) in
-    refuted (no_back _ _ _ _ _ _ (rw c.new-source.ensures at c.in-Ok.ensures.ok) plps c.in_default-read_back.ensures.fault)
+    refuted (no_back _ _ _ _ _ _ (rw c.new-source.ensures at c.in-Ok.ensures.ok) plps
+    c.in_default-read_back.ensures.fault)
 
 pub returns-then-back-from : goal.returns-then-back-from
 returns-then-back-from c =

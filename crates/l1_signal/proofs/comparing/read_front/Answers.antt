@@ -12,7 +12,8 @@ returns-in_err-read_fields-clause-fault g c =
 pub returns-in_err-read_fields-2-clause-fault : goal.returns-in_err-read_fields-2-clause-fault
 unfolding front_read
 returns-in_err-read_fields-2-clause-fault g c =
-    let p = err_from_is_err_and c.from_residual-in_err-read_fields-2.result c.from_residual-in_err-read_fields-2.ensures.1 in
+    let p = err_from_is_err_and c.from_residual-in_err-read_fields-2.result
+    c.from_residual-in_err-read_fields-2.ensures.1 in
     rw (p.1, p.2, c.in_ok-read_fields.ensures.ok, c.in_err-read_fields-2.ensures.fault) refl
 
 pub returns-clause-ok : goal.returns-clause-ok

@@ -3,7 +3,8 @@ use Rattle.std.proofs.lemmas.Result.{err_from_is_err_and}
 use Rattle.l1_signal.specs.L1Configurable.{conf_first, conf_more, conf_back}
 use Rattle.l1_signal.proofs.ReadLemmas.{are_small, given_on}
 use Rattle.l1_signal.proofs.RowLemmas.{read_fits}
-use Rattle.l1_signal.proofs.ConfLemmas.{first_refused, size_refused, more_refused, plps_refused, back_refused, conf_done}
+use Rattle.l1_signal.proofs.ConfLemmas.{first_refused, size_refused, more_refused, plps_refused, back_refused}
+use Rattle.l1_signal.proofs.ConfLemmas.{conf_done}
 use Rattle.l1_signal.proofs.ConfLemmas.{read_conf_fits}
 use Rattle.l1_signal.proofs.conf.read_conf.Goals as goal
 
@@ -22,10 +23,12 @@ returns-then-told-counted-clause-fault g c =
 
 pub returns-in_err-read_fields-2-clause-fault : goal.returns-in_err-read_fields-2-clause-fault
 returns-in_err-read_fields-2-clause-fault g c =
-    let p = err_from_is_err_and c.from_residual-in_err-read_fields-2.result c.from_residual-in_err-read_fields-2.ensures.1 in
+    let p = err_from_is_err_and c.from_residual-in_err-read_fields-2.result
+    c.from_residual-in_err-read_fields-2.ensures.1 in
     rw (p.1, p.2)
     (inr (more_refused _ _ _ _ _ c.in_ok-read_fields.ensures.ok
-    (omega (arith, c.from.ensures, c.num_plp-count.ensures, c.if-told-counted.false)) c.in_err-read_fields-2.ensures.fault))
+    (omega (arith, c.from.ensures, c.num_plp-count.ensures, c.if-told-counted.false))
+    c.in_err-read_fields-2.ensures.fault))
 
 pub returns-in_err-read_plps-clause-fault : goal.returns-in_err-read_plps-clause-fault
 returns-in_err-read_plps-clause-fault g c =
@@ -37,7 +40,8 @@ returns-in_err-read_plps-clause-fault g c =
 
 pub returns-in_err-read_fields-3-clause-fault : goal.returns-in_err-read_fields-3-clause-fault
 returns-in_err-read_fields-3-clause-fault g c =
-    let p = err_from_is_err_and c.from_residual-in_err-read_fields-3.result c.from_residual-in_err-read_fields-3.ensures.1 in
+    let p = err_from_is_err_and c.from_residual-in_err-read_fields-3.result
+    c.from_residual-in_err-read_fields-3.ensures.1 in
     rw (p.1, p.2)
     (inr (back_refused _ _ _ _ _ _ _ _ _ _ c.in_ok-read_fields.ensures.ok
     (omega (arith, c.from.ensures, c.num_plp-count.ensures, c.if-told-counted.false)) c.in_ok-read_fields-2.ensures.ok

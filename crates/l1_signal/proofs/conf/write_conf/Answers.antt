@@ -2,7 +2,8 @@ use Rattle.std.proofs.Common.{◌++◌, sym, subst}
 use Rattle.std.specs.List.{flat_map}
 use Rattle.std.proofs.lemmas.Result.{err_from_is_err_and}
 use Rattle.l1_signal.specs.Fields.{Fits, row_bits, RowsFit}
-use Rattle.l1_signal.specs.L1Configurable.{conf_first_rows, conf_more_rows, conf_plp_rows, conf_back_rows, conf_first, conf_more}
+use Rattle.l1_signal.specs.L1Configurable.{conf_first_rows, conf_more_rows, conf_plp_rows, conf_back_rows, conf_first}
+use Rattle.l1_signal.specs.L1Configurable.{conf_more}
 use Rattle.l1_signal.specs.L1Configurable.{conf_back, conf_bits}
 use Rattle.l1_signal.proofs.PartLemmas.{last_puts, last_stops}
 use Rattle.l1_signal.proofs.conf.write_conf.Goals as goal
@@ -36,7 +37,8 @@ returns-in_err-put_fields-clause-fault g c =
 pub returns-in_err-put_fields-2-clause-fault : goal.returns-in_err-put_fields-2-clause-fault
 unfolding conf_bits row_bits
 returns-in_err-put_fields-2-clause-fault g c =
-    let p = err_from_is_err_and c.from_residual-in_err-put_fields-2.result c.from_residual-in_err-put_fields-2.ensures.1 in
+    let p = err_from_is_err_and c.from_residual-in_err-put_fields-2.result
+    c.from_residual-in_err-put_fields-2.ensures.1 in
     let early = c.stops_law.ensures.early in
     let conf = c.args.conf.now in
     let first = row_bits conf_first_rows conf in
@@ -60,7 +62,8 @@ returns-in_err-write_plps-clause-fault g c =
     let put_more = rw c.more_values.ensures at c.in_ok-put_fields-2.ensures.ok in
     let plps_stop = rw c.as_slice.ensures at c.in_err-write_plps.ensures.fault in
     rw (p.1, p.2) (c.stops_law.ensures.early _ _ (first ++ more ++ plps) (row_bits conf_back_rows conf) _
-    (c.stops_law.ensures.later _ _ _ (first ++ more) plps _ (c.puts_law.ensures _ _ _ first more put put_more) plps_stop))
+    (c.stops_law.ensures.later _ _ _ (first ++ more) plps _ (c.puts_law.ensures _ _ _ first more put put_more)
+    plps_stop))
 
 pub returns-clause-ok : goal.returns-clause-ok
 unfolding conf_bits row_bits

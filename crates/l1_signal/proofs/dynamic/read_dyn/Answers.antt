@@ -20,9 +20,11 @@ returns-in_err-read_plps-clause-given g c = given_on c.read_fields.ensures.given
 
 pub returns-in_err-read_fields-2-clause-fault : goal.returns-in_err-read_fields-2-clause-fault
 returns-in_err-read_fields-2-clause-fault g c =
-    let p = err_from_is_err_and c.from_residual-in_err-read_fields-2.result c.from_residual-in_err-read_fields-2.ensures.1 in
+    let p = err_from_is_err_and c.from_residual-in_err-read_fields-2.result
+    c.from_residual-in_err-read_fields-2.ensures.1 in
     rw (p.1, p.2)
-    (back_refused _ _ _ _ _ _ _ c.in_ok-read_fields.ensures.ok c.in_ok-read_plps.ensures.ok c.in_err-read_fields-2.ensures.fault)
+    (back_refused _ _ _ _ _ _ _ c.in_ok-read_fields.ensures.ok c.in_ok-read_plps.ensures.ok
+    c.in_err-read_fields-2.ensures.fault)
 
 pub returns-in_err-read_fields-2-clause-given : goal.returns-in_err-read_fields-2-clause-given
 returns-in_err-read_fields-2-clause-given g c =
@@ -33,11 +35,13 @@ set_front-requires g c = are_small dyn_front _ (read_fits dyn_front _ _ _ c.in_o
 
 pub returns-clause-ok : goal.returns-clause-ok
 returns-clause-ok g c =
-    dyn_done _ _ _ _ _ _ _ _ _ c.in_ok-read_fields.ensures.ok c.in_ok-read_plps.ensures.ok c.in_ok-read_fields-2.ensures.ok
+    dyn_done _ _ _ _ _ _ _ _ _ c.in_ok-read_fields.ensures.ok c.in_ok-read_plps.ensures.ok
+    c.in_ok-read_fields-2.ensures.ok
     c.set_front.ensures
 
 pub returns-clause-fits : goal.returns-clause-fits
 returns-clause-fits g c = read_dyn_fits _ _ _ _ (returns-clause-ok g c)
 
 pub returns-clause-given : goal.returns-clause-given
-returns-clause-given g c = given_on c.read_fields.ensures.given (given_on c.read_plps.ensures.given c.read_fields-2.ensures.given)
+returns-clause-given g c = given_on c.read_fields.ensures.given (given_on c.read_plps.ensures.given
+    c.read_fields-2.ensures.given)

@@ -7,7 +7,8 @@ use Rattle.l1_signal.proofs.fields.read_fields.Goals as goal
 pub returns-in_err-out-clause-fault : goal.returns-in_err-out-clause-fault
 returns-in_err-out-clause-fault g c =
     let p = err_from_is_err_and c.from_residual.result c.from_residual.ensures.1 in
-    rw (p.1, p.2) (c.loop-i.invariant.read ∙ stopped_field _ c.loop-i.i _ _ _ _ (omega arith) c.in_err-out.ensures.fault)
+    rw (p.1, p.2) (c.loop-i.invariant.read ∙ stopped_field _ c.loop-i.i _ _ _ _ (omega arith)
+    c.in_err-out.ensures.fault)
 
 pub returns-in_err-out-clause-given : goal.returns-in_err-out-clause-given
 returns-in_err-out-clause-given g c = given_on c.loop-i.invariant.given c.read_field.ensures.given

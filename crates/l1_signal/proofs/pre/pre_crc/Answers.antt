@@ -13,7 +13,8 @@ returns c =
     let sink = rw c.new.ensures at c.new-sink.ensures in
     c.crc.ensures
     ∙ ap crc32_of
-    (counted_all c.stops_law.ensures.full (2 ^ 64 - 1) c.new-sink.result c.put_fields.new.sink bits c.put_fields.result sink
+    (counted_all c.stops_law.ensures.full (2 ^ 64 - 1) c.new-sink.result c.put_fields.new.sink bits c.put_fields.result
+    sink
     few c.put_fields.ensures.ok c.put_fields.ensures.fault)
 
 pub unwrap-requires : goal.unwrap-requires
@@ -21,5 +22,6 @@ unwrap-requires c =
     let bits = spelling pre_table c.args.values.now in
     let few : length bits ≤ 2 ^ 64 - 1 = omega (arith, length-fit pre_table c.args.values.now c.requires) in
     let sink = rw c.new.ensures at c.new-sink.ensures in
-    takes_all c.stops_law.ensures.full (2 ^ 64 - 1) c.new-sink.result c.put_fields.new.sink bits c.put_fields.result sink few
+    takes_all c.stops_law.ensures.full (2 ^ 64 - 1) c.new-sink.result c.put_fields.new.sink bits c.put_fields.result
+    sink few
     c.put_fields.ensures.fault

@@ -19,7 +19,8 @@ returns-in_err-write-clause-fault g c =
     c.index-rows-i.is c.in_err-write.ensures.fault)
 
 pub loop-i-preserved : goal.loop-i-preserved
-loop-i-preserved g c = one_put c.puts_law.ensures g.T.WritePlp.bits _ c.loop-i.i c.index-rows-i.result _ _ _ c.loop-i.invariant
+loop-i-preserved g c = one_put c.puts_law.ensures g.T.WritePlp.bits _ c.loop-i.i c.index-rows-i.result
+    _ _ _ c.loop-i.invariant
     (omega arith) c.index-rows-i.is c.in_ok-write.ensures.ok
 
 pub returns-clause-ok : goal.returns-clause-ok

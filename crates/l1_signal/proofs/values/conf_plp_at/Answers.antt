@@ -11,5 +11,6 @@ conf_plp_of-requires-clause-blocks c =
 pub conf_plp_of-requires-clause-interleave : goal.conf_plp_of-requires-clause-interleave
 conf_plp_of-requires-clause-interleave c =
     let plp = plp_at c.args.plan.now.plps c.args.place in
-    let limit : plp.interleave ≤ min plp.blocks 255 = c.plp_at.ensures.plan.rules InterleaverLength c.args.place c.requires in
+    let limit : plp.interleave ≤ min plp.blocks 255 = c.plp_at.ensures.plan.rules InterleaverLength c.args.place
+    c.requires in
     rw c.plp_at.ensures.value (omega (arith, limit))

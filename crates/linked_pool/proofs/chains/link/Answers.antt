@@ -29,18 +29,22 @@ overflow_add-more c =
 
 pub returns : goal.returns
 returns c =
-    moves c.args.next.now c.args.heads.now c.args.tails.now c.args.sizes.now c.if-sizes-to-eq0.next c.args.from c.args.to
+    moves c.args.next.now c.args.heads.now c.args.tails.now c.args.sizes.now c.if-sizes-to-eq0.next c.args.from
+    c.args.to
     c.args.count _ c.last_of-last.result c.if-sizes-to-eq0.front _ _
-    c.requires.sound c.requires.from c.requires.to c.requires.apart c.requires.some c.requires.enough refl c.last_of-last.ensures
+    c.requires.sound c.requires.from c.requires.to c.requires.apart c.requires.some c.requires.enough
+    refl c.last_of-last.ensures
     refl refl
     (λ r. elim c.if-sizes-to-eq0.branch [
       | then-sizes-to-eq0 w ↦
           rw (w.next-is, w.front-is)
-          (linked_empty c.args.next.now c.args.heads.now c.args.tails.now c.args.sizes.now c.args.from c.args.to c.args.count _
+          (linked_empty c.args.next.now c.args.heads.now c.args.tails.now c.args.sizes.now c.args.from
+          c.args.to c.args.count _
           c.last_of-last.result (omega arith) c.requires.some c.last_of-last.ensures)
       | else-sizes-to-eq0 w ↦
           rw (w.next-is, w.front-is)
-          (linked_full c.args.next.now c.args.heads.now c.args.tails.now c.args.sizes.now c.args.from c.args.to c.args.count _
+          (linked_full c.args.next.now c.args.heads.now c.args.tails.now c.args.sizes.now c.args.from
+          c.args.to c.args.count _
           c.last_of-last.result _ c.requires.sound c.requires.from c.requires.to c.requires.apart
           (omega arith) c.requires.some c.requires.enough r c.last_of-last.ensures
           (c.requires.sound.last c.args.to c.requires.to (omega arith)))

@@ -19,7 +19,8 @@ loop-i-preserved c =
     λ x s. (let lt = c.requires.there x s in omega (arith, lt, c.loop-i.auto.chunks)) in
     record {
       at = λ more. c.after-chunk.ensures 0 c.loop-i.i c.requires.free (omega (arith, c.requires.enough)) (sym at);
-      fills = fills_step c.args.chains.now (bytes_of c.args.block.now) c.loop-i.i c.loop-i.chunk c.args.chunks.now c.loop-i.chunks
+      fills = fills_step c.args.chains.now (bytes_of c.args.block.now) c.loop-i.i c.loop-i.chunk c.args.chunks.now
+          c.loop-i.chunks
           (bytes_of c.piece_at.result) _ c.put.new.chunk there c.requires.apart c.requires.free inside
           (omega (arith, c.requires.tight)) at c.piece_at.ensures.piece refl c.put.ensures c.loop-i.invariant.fills;
     }

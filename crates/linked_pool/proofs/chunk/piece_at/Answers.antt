@@ -5,7 +5,13 @@ use Rattle.linked_pool.proofs.FillLemmas.{piece_of_bits}
 use Rattle.linked_pool.proofs.chunk.piece_at.Goals as goal
 
 pub overflow_sub-end : goal.overflow_sub-end
-overflow_sub-end c = omega (arith, length-bytes_of c.args.block.now, c.requires.there, c.min-end.ensures, c.len.ensures.len)
+overflow_sub-end c = omega (
+  arith,
+  length-bytes_of c.args.block.now,
+  c.requires.there,
+  c.min-end.ensures,
+  c.len.ensures.len,
+)
 
 pub sub-requires : goal.sub-requires
 sub-requires c = omega (arith, length-bytes_of c.args.block.now, c.requires.there, c.min-end.ensures, c.len.ensures.len)

@@ -1,5 +1,4 @@
 use Rattle.std.proofs.Common.{◌≡◌, ℕ, ◌*◌, ◌/◌, ap, ◌∙◌, arith}
-use Rattle.plp_config.specs.Plps.{spread_max}
 use Rattle.linked_pool.specs.Fits.{spread_cells}
 use Rattle.linked_pool.specs.declared.chunk.TheConstants.{CHUNKS_OF_CELLS, FEWEST_CELLS}
 use Rattle.linked_pool.proofs.laws.alone_law.Goals as goal

@@ -1,8 +1,7 @@
 use Rattle.std.proofs.Common.{◌≡◌, ◌<◌, ◌≤◌, Some, ap, sym, subst, ◌∙◌, ⊎_elim, arith}
 use Rattle.std.specs.Prelude.{slice_get}
 use Rattle.std.proofs.lemmas.Bool.{cases_lt}
-use Rattle.std.proofs.lemmas.Option.{slice_get_within}
-use Rattle.terms.proofs.OptionLemmas.{some_injective}
+use Rattle.std.proofs.lemmas.Option.{slice_get_within, same_Some}
 use Rattle.mended_frames.proofs.RowLemmas.{got}
 use Rattle.mend_run.specs.Row.{Shows}
 use Rattle.mend_run.proofs.row.look_all.Goals as goal
@@ -16,7 +15,8 @@ loop-i-preserved c = λ i f l is.
     (λ (a : n ≤ i).
     let same : i ≡ n = omega (arith, a, l) in
     let there : slice_get feeds n ≡ Some f = ap (slice_get feeds) (sym same) ∙ is in
-    subst Shows (some_injective at f (sym (got feeds n at (slice_get_within feeds n f there) c.index-feeds-i.is) ∙ there)) c.look.ensures)
+    subst Shows (same_Some at f (sym (got feeds n at (slice_get_within feeds n f there) c.index-feeds-i.is) ∙ there))
+    c.look.ensures)
     (cases_lt i n)
 
 pub returns : goal.returns

@@ -12,5 +12,6 @@ loop-preserved c =
     record {
       come = subst (λ (l : List Feed). HaveCome k (c.loop.counter + 1) l [] (λ i. [])) (sym c.in_ok-push.ensures.items)
           (come_pushed k c.loop.counter feeds f c.loop.invariant.come c.in_ok-open_feed.ensures);
-      of = subst (AreOf k) (sym c.in_ok-push.ensures.items) (of_pushed k feeds f c.loop.invariant.of c.in_ok-open_feed.ensures);
+      of = subst (AreOf k) (sym c.in_ok-push.ensures.items) (of_pushed k feeds f c.loop.invariant.of
+          c.in_ok-open_feed.ensures);
     }

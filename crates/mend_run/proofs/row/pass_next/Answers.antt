@@ -3,7 +3,8 @@ use Rattle.mend_run.proofs.row.pass_next.Goals as goal
 
 pub returns-clause-passes : goal.returns-clause-passes
 returns-clause-passes c = λ k count done gone come known.
-    pass_row k count c.args.number c.args.silent c.args.feeds.now c.pass_all.new.feeds done gone come c.look_all.ensures c.pass_all.ensures
+    pass_row k count c.args.number c.args.silent c.args.feeds.now c.pass_all.new.feeds done gone come
+    c.look_all.ensures c.pass_all.ensures
     known
 
 pub returns-clause-left : goal.returns-clause-left

@@ -20,8 +20,11 @@ loop-i-preserved c =
       split = λ gs have begun.
           let s = inv.split gs have begun in
           bool_cases (is_at c.args.number (head_of f))
-          (λ on. split_with c.args.number feeds gs (λ (seen : List Group). Weaves c.loop-i.weaver c.args.number seen []) (λ (seen : List Group). Weaves c.look_one.new.weaver c.args.number seen []) i f e on (λ own h seen holds w. c.look_one.ensures.takes on own h seen holds w) s)
-          (λ off. split_past c.args.number feeds gs (λ (seen : List Group). Weaves c.loop-i.weaver c.args.number seen []) (λ (seen : List Group). Weaves c.look_one.new.weaver c.args.number seen []) i f e off
+          (λ on. split_with c.args.number feeds gs (λ (seen : List Group). Weaves c.loop-i.weaver c.args.number seen [])
+          (λ (seen : List Group). Weaves c.look_one.new.weaver c.args.number seen []) i f e on
+          (λ own h seen holds w. c.look_one.ensures.takes on own h seen holds w) s)
+          (λ off. split_past c.args.number feeds gs (λ (seen : List Group). Weaves c.loop-i.weaver c.args.number
+          seen []) (λ (seen : List Group). Weaves c.look_one.new.weaver c.args.number seen []) i f e off
           (λ seen w. subst (λ (x : Weaver). Weaves x c.args.number seen []) (sym (c.look_one.ensures.stays off)) w) s);
       own = λ o. c.look_one.ensures.own (inv.own o);
       plan = c.look_one.ensures.plan ∙ inv.plan;
@@ -29,4 +32,5 @@ loop-i-preserved c =
 
 pub returns-clause-weaves : goal.returns-clause-weaves
 returns-clause-weaves c = λ gs have begun.
-    split_last c.args.number c.args.feeds.now gs _ c.loop-i.i c.loop-i-test.false (c.loop-i.invariant.split gs have begun)
+    split_last c.args.number c.args.feeds.now gs _ c.loop-i.i c.loop-i-test.false
+    (c.loop-i.invariant.split gs have begun)

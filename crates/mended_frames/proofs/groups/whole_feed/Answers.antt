@@ -1,5 +1,5 @@
 use Rattle.std.proofs.Common.{◌∙◌, ◌≡◌, true, false, ap, sym}
-use Rattle.terms.proofs.OptionLemmas.{some_injective}
+use Rattle.std.proofs.lemmas.Option.{same_Some}
 use Rattle.open_group.specs.FrameBytes.{is_frame}
 use Rattle.feed_events.specs.StandsFor.{head_of}
 use Rattle.mended_frames.proofs.RowLemmas.{got}
@@ -23,14 +23,14 @@ pub returns-then-is_whole-clause-frame : goal.returns-then-is_whole-clause-frame
 returns-then-is_whole-clause-frame c = λ f at.
     let g : Feed = c.index-feeds-i.result in
     let e = got c.args.feeds.now c.loop-i.i g c.loop-i-test.true c.index-feeds-i.is in
-    let same : f ≡ g = some_injective f g (sym at ∙ e) in
+    let same : f ≡ g = same_Some f g (sym at ∙ e) in
     ap (λ (x : Feed). is_frame (pooled_of x)) same ∙ c.is_whole.ensures.frame c.if-is_whole.true
 
 pub returns-then-is_whole-clause-next : goal.returns-then-is_whole-clause-next
 returns-then-is_whole-clause-next c = λ f at.
     let g : Feed = c.index-feeds-i.result in
     let e = got c.args.feeds.now c.loop-i.i g c.loop-i-test.true c.index-feeds-i.is in
-    let same : f ≡ g = some_injective f g (sym at ∙ e) in
+    let same : f ≡ g = same_Some f g (sym at ∙ e) in
     ap (λ (x : Feed). is_at c.args.number (head_of x)) same ∙ c.is_whole.ensures.there c.if-is_whole.true
 
 pub loop-i-preserved : goal.loop-i-preserved

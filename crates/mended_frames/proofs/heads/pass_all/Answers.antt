@@ -1,5 +1,4 @@
-use Rattle.std.proofs.Common.{◌≡◌, ◌∙◌, ◌<◌, sym, subst, arith, length, Some}
-use Rattle.std.specs.Prelude.{slice_get}
+use Rattle.std.proofs.Common.{◌∙◌, ◌<◌, sym, subst, arith, length}
 use Rattle.std.proofs.lemmas.Option.{slice_get_within}
 use Rattle.feed_events.specs.StandsFor.{head_of}
 use Rattle.feed_events.specs.declared.feed.EventFeed.{EventFeed}
@@ -15,9 +14,12 @@ loop-feed-preserved g c =
     let inside : n < length now = omega (arith, c.loop-feed-test.true, i.len) in
     record {
       len = set_len now n c.pass_one.new.feed ∙ i.len;
-      done = one_more (λ (f h : EventFeed g.row.G.Denot g.G.OpenGroup). PassesIf (is_passed c.args.number c.args.silent (head_of f)) f h)
-          c.args.feeds.now now n c.feed-item.result c.pass_one.new.feed i.done i.left inside (got now n c.feed-item.result inside c.feed-item.is)
-          (subst (λ (f : EventFeed g.row.G.Denot g.G.OpenGroup). PassesIf (is_passed c.args.number c.args.silent (head_of f)) f
+      done = one_more (λ (f h : EventFeed g.row.G.Denot g.G.OpenGroup). PassesIf
+          (is_passed c.args.number c.args.silent (head_of f)) f h)
+          c.args.feeds.now now n c.feed-item.result c.pass_one.new.feed i.done i.left inside
+          (got now n c.feed-item.result inside c.feed-item.is)
+          (subst (λ (f : EventFeed g.row.G.Denot g.G.OpenGroup). PassesIf (is_passed c.args.number c.args.silent
+          (head_of f)) f
           c.pass_one.new.feed) (sym c.feed-item.is) c.pass_one.ensures);
       left = λ j l. set_there now n j c.pass_one.new.feed (λ e. omega (arith, e, l)) ∙ i.left j (omega (arith, l));
     }
@@ -27,5 +29,6 @@ returns g c =
     let i = c.loop-feed.invariant in
     record {
       len = i.len;
-      each = λ k f e. let w = slice_get_within c.args.feeds.now k f e in i.done k f (omega (arith, c.loop-feed-test.false, w)) e;
+      each = λ k f e. let w = slice_get_within c.args.feeds.now k f e in i.done k f
+          (omega (arith, c.loop-feed-test.false, w)) e;
     }

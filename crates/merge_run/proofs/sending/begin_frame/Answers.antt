@@ -37,14 +37,18 @@ returns c = record {
         stands = λ frames count h.
             subst (λ (l : List (ℕ × Body)). MergerStandsFor new (left_for new feed) l count)
             (pushed k frames (frame_by k x) (bodies_of k x.number f) bodies)
-            (subst (λ (n : ℕ). MergerStandsFor new (left_for new feed) (remade_bodies k frames ++ of_frame n (bodies_of k n f)) count)
+            (subst (λ (n : ℕ). MergerStandsFor new (left_for new feed) (remade_bodies k frames
+            ++ of_frame n (bodies_of k n f)) count)
             (sym number)
-            (subst (λ (l : List Body). MergerStandsFor new l (remade_bodies k frames ++ of_frame c.args.number (bodies_of k c.args.number f)) count)
+            (subst (λ (l : List Body). MergerStandsFor new l (remade_bodies k frames ++ of_frame c.args.number
+            (bodies_of k c.args.number f)) count)
             left (c.frame.ensures.stands (remade_bodies k frames) count h)));
         more = subst (λ (l : List Body). bytes_left new l
             ≤ bytes_left old [] + packet_bound * length (view_bodies k x.number (frame_by k x).view)) left
-            (subst (λ (l : List Body). bytes_left new (left_in new f) ≤ bytes_left old [] + packet_bound * length l) bodies
-            (subst (λ (n : ℕ). bytes_left new (left_in new f) ≤ bytes_left old [] + packet_bound * length (bodies_of k n f)) (sym number)
+            (subst (λ (l : List Body). bytes_left new (left_in new f) ≤ bytes_left old [] + packet_bound * length l)
+            bodies
+            (subst (λ (n : ℕ). bytes_left new (left_in new f) ≤ bytes_left old [] + packet_bound * length
+            (bodies_of k n f)) (sym number)
             c.frame.ensures.more));
       };
   config = c.frame.ensures.config;

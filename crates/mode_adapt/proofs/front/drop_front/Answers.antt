@@ -8,7 +8,8 @@ returns-clause-items g c =
     let old = c.args.items.now.items in
     let some : ℕ = c.min-count.result in
     let whole : vec_len c.args.items.now ≡ length old = search rules in
-    let few : some ≡ min c.args.count (length old) = c.min-count.ensures ∙ ap (min c.args.count) (c.len.ensures ∙ whole) in
+    let few : some ≡ min c.args.count (length old) = c.min-count.ensures ∙ ap (min c.args.count) (c.len.ensures
+    ∙ whole) in
     let from : some ≡ 0 + some = omega arith in
     taken_out old c.copy_within.new.self.items c.truncate.new.self.items c.len-2.result 0 some
     (c.len-2.ensures ∙ whole) (omega (arith, few))

@@ -10,8 +10,10 @@ returns g c = record {
   ends =
       let old = g.D.Desk.state c.args.desk.now in
       let ins = c.args.input.now ∷ [] in
-      subst (λ (s : State). Ends (modulate_work c.args.plan.now) old s (Into c.args.out.now) ins c.run_work_over-ended.result)
+      subst (λ (s : State). Ends (modulate_work c.args.plan.now) old s (Into c.args.out.now) ins
+      c.run_work_over-ended.result)
       (sym c.note.ensures)
-      (subst (λ (k : Config). Ends (modulate_work k) old (g.D.Desk.state c.run_work_over-ended.new.desk) (Into c.args.out.now) ins
+      (subst (λ (k : Config). Ends (modulate_work k) old (g.D.Desk.state c.run_work_over-ended.new.desk)
+      (Into c.args.out.now) ins
       c.run_work_over-ended.result) c.in_ok-machine.ensures.config c.run_work_over-ended.ensures);
 }

@@ -6,7 +6,8 @@ pub returns : goal.returns
 returns c =
     run_recovers
     (record {
-      given = given_by c.parts_law.ensures.whole c.pre_law.ensures.written c.conf_law.ensures.written c.dyn_law.ensures.back
+      given = given_by c.parts_law.ensures.whole c.pre_law.ensures.written c.conf_law.ensures.written
+          c.dyn_law.ensures.back
           c.dyn_law.ensures.written c.bit_counts_law.ensures c.fit_law.ensures.told c.block_law.ensures.field
           c.block_law.ensures.chunks c.block_law.ensures.cells c.spread_law.ensures.blocks c.field_law.ensures
           c.order_law.ensures.counts c.shape_law.ensures

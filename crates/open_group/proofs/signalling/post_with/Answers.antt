@@ -4,7 +4,8 @@ use Rattle.open_group.proofs.FittingLemmas.{fresh_room, length-crc_behind}
 use Rattle.open_group.proofs.signalling.post_with.Goals as goal
 
 pub put_fitting-requires : goal.put_fitting-requires
-put_fitting-requires c = fresh_room 35152 c.new.result c.new-sink.result (length c.args.conf) c.new.ensures c.new-sink.ensures
+put_fitting-requires c = fresh_room 35152 c.new.result c.new-sink.result (length c.args.conf) c.new.ensures
+    c.new-sink.ensures
     (let r = c.requires in omega (arith, r))
 
 pub returns-clause-len : goal.returns-clause-len

@@ -8,6 +8,7 @@ use Rattle.open_group.proofs.sizes.blocks_len.Given as goal
 
 abbrev pub invariant-loop-plp : goal.invariant-loop-plp
 invariant-loop-plp l = record {
-  sum : l.len ≡ sum_by (λ plp. own_count l.plan l.number l.shape plp * (4 + block_bytes l.plan plp)) (range_with_len 0 l.plp);
+  sum : l.len ≡ sum_by (λ plp. own_count l.plan l.number l.shape plp * (4 + block_bytes l.plan plp))
+      (range_with_len 0 l.plp);
   most : l.len ≤ most_plp * l.plp;
 }

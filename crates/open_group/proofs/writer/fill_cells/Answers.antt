@@ -16,10 +16,12 @@ returns-clause-bytes c = λ lists.
     omega (arith, c.requires.from, c.min-count.ensures) in
     let len = part_written c.args.from (c.args.from + 4 * count - c.args.from) c.args.out.now c.fill_words.new.out
     c.fill_words.auto.out room in
-    let part = part_read c.args.from (4 * count) (c.args.from + 4 * count - c.args.from) c.args.out.now c.fill_words.new.out
+    let part = part_read c.args.from (4 * count) (c.args.from + 4 * count - c.args.from) c.args.out.now
+    c.fill_words.new.out
     (omega arith) len room in
     ap (step_bytes c.args.plan.now c.args.shape.now c.args.frame_idx lists) c.in-Cells.is
-    ∙ words_given c.args.plan.now c.args.shape.now c.args.frame_idx c.in-Cells.address count [] c.fill_words.new.out refl
+    ∙ words_given c.args.plan.now c.args.shape.now c.args.frame_idx c.in-Cells.address count [] c.fill_words.new.out
+    refl
     c.fill_words.ensures inside
     ∙ ap (λ (l : List ℕ). l ++ words c.args.plan.now c.args.shape.now c.args.frame_idx (c.in-Cells.address + count)
     (c.args.plan.now.cells - (c.in-Cells.address + count))) part

@@ -10,7 +10,8 @@ overflow_add-need c = omega (arith, c.requires PlpCount)
 
 pub loop-plp-preserved : goal.loop-plp-preserved
 loop-plp-preserved c =
-    let more = sum_by_more (superframe_room c.args.config.now.frames) c.args.config.now.plps c.loop-plp.plp no_plp (omega arith) in
+    let more = sum_by_more (superframe_room c.args.config.now.frames) c.args.config.now.plps c.loop-plp.plp
+    no_plp (omega arith) in
     record { sum = omega (arith, more); bound = omega arith }
 
 pub returns-clause-small : goal.returns-clause-small

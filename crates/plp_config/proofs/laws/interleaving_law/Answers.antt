@@ -1,4 +1,5 @@
-use Rattle.plp_config.proofs.BeginLemmas.{superframe_begins, begins_inside, begin_first, begin_last, begin_by_number, begin_alone}
+use Rattle.plp_config.proofs.BeginLemmas.{superframe_begins, begins_inside, begin_first, begin_last, begin_by_number}
+use Rattle.plp_config.proofs.BeginLemmas.{begin_alone}
 use Rattle.plp_config.proofs.laws.interleaving_law.Goals as goal
 
 pub returns-clause-superframe : goal.returns-clause-superframe

@@ -1,4 +1,5 @@
-use Rattle.plp_config.proofs.TimeLemmas.{starts_before, starts_from, starts_at, over_by, not_over_by, count_reaches, start_rises}
+use Rattle.plp_config.proofs.TimeLemmas.{starts_before, starts_from, starts_at, over_by, not_over_by, count_reaches}
+use Rattle.plp_config.proofs.TimeLemmas.{start_rises}
 use Rattle.plp_config.proofs.TimeLemmas.{count_rises, none_at_zero, ends_after_start, starts_apart}
 use Rattle.plp_config.proofs.laws.slot_time_law.Goals as goal
 

@@ -10,5 +10,6 @@ invariant-loop-place l = record {
   items : l.plp-items ≡ l.config.plps;
   holds : HoldsBelow (PlaceHolds TypeOrder l.config) l.place;
   greatest : HoldsBelow (λ earlier. type_number (plp_at l.config.plps earlier).plp_type ≤ l.last) l.place;
-  reached : (l.last ≡ 0) ⊎ ((earlier : ℕ) × (earlier < l.place) × (type_number (plp_at l.config.plps earlier).plp_type ≡ l.last));
+  reached : (l.last ≡ 0) ⊎ ((earlier : ℕ) × (earlier < l.place)
+      × (type_number (plp_at l.config.plps earlier).plp_type ≡ l.last));
 }

@@ -18,7 +18,8 @@ loop-place-preserved c =
     let kept = c.loop-place.invariant in
     let place = c.loop-place.place in
     let is : c.from-id.result ≡ (plp_at c.args.config.now.plps place).id = rw (← kept.items) c.from-id.ensures in
-    let new : get_or c.loop-place.seen (plp_at c.args.config.now.plps place).id false ≡ false = rw is at c.if-seen-id.false in
+    let new : get_or c.loop-place.seen (plp_at c.args.config.now.plps place).id false ≡ false = rw is
+    at c.if-seen-id.false in
     let inside : (plp_at c.args.config.now.plps place).id < length c.loop-place.seen = omega (arith, is) in
     record {
       items = kept.items;

@@ -8,4 +8,11 @@ pub returns-clause-least : goal.returns-clause-least
 returns-clause-least c =
     let config = c.args.config.now in
     let found = (spread_greatest config c.requires).1 in
-    omega (arith, (c.requires SpreadDivides found.0 found.1).0, found.2, c.greatest_spread.ensures, ap spread_max c.as_slice.ensures)
+    omega (
+      arith,
+      (c.requires SpreadDivides found.0 found.1).0,
+      found.2,
+      c.greatest_spread.ensures,
+      ap
+          spread_max c.as_slice.ensures,
+    )

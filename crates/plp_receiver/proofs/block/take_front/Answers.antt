@@ -7,7 +7,8 @@ use Rattle.plp_receiver.proofs.block.take_front.Goals as goal
 pub returns-clause-both : goal.returns-clause-both
 returns-clause-both c = λ r z h.
     subst (λ (y : List Item). Both r (z ++ y) c.take_piece.new.assembler c.take_piece.new.window)
-    (front_taken r.up_len c.args.epoch (block_of c.args.block.now) c.args.block.now.first c.args.start refl c.requires.start
+    (front_taken r.up_len c.args.epoch (block_of c.args.block.now) c.args.block.now.first c.args.start
+    refl c.requires.start
     (omega arith))
     (c.take_piece.ensures.both r z h)
 

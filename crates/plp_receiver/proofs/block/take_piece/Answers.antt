@@ -32,7 +32,8 @@ returns-then-counts-clause-both c = λ r z h. record {
       (subst (λ (f : Option Found). Gains r z c.args.epoch (piece_items c.args.mark c.args.epoch c.args.bytes.now)
       c.piece.new.self.held f) c.in-Some.is (c.piece.ensures.answer r z h.assembles))
       (counts_as _ _ _ _ _ _ _ _ h.rule c.counts.ensures.value c.if-counts.true) _
-      (ap (λ (s : Status). s.slots) c.put.ensures ∙ ap (λ (p : List ℕ). if nat_lt c.in-Some.found.slot c.args.window.now.first
+      (ap (λ (s : Status). s.slots) c.put.ensures
+      ∙ ap (λ (p : List ℕ). if nat_lt c.in-Some.found.slot c.args.window.now.first
       then c.args.window.now.slots.items else filled c.args.window.now.slots.items
       (c.in-Some.found.slot - c.args.window.now.first) p) c.packet.ensures));
 }

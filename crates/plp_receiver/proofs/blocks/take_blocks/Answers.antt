@@ -25,7 +25,8 @@ loop-k-preserved c =
       took = took_more c.args.deletes c.args.stands.now c.args.len c.args.bytes.now n c.args.slots.now c.loop-k.slots
           c.take_block.new.slots _ (get_or c.args.stands.now n false) inv.took (ap (take c.args.len) inv.behind) refl
           c.take_block.ensures.takes;
-      behind = left_behind n c.args.len c.take_block.new.bytes c.loop-k.bytes c.args.bytes.now c.take_block.ensures.behind
+      behind = left_behind n c.args.len c.take_block.new.bytes c.loop-k.bytes c.args.bytes.now
+          c.take_block.ensures.behind
           inv.behind;
       status = c.take_block.ensures.status ∙ inv.status;
       len = c.take_block.ensures.len ∙ inv.len;

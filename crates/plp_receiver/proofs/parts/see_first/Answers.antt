@@ -12,14 +12,16 @@ use Rattle.plp_receiver.proofs.parts.see_first.Goals as goal
 
 pub begin-requires-clause-few : goal.begin-requires-clause-few
 begin-requires-clause-few c =
-    let a = agrees c.map_test_law.ensures c.args.plan.now c.args.number c.args.blocks.now c.args.cells.now c.args.shape.now
+    let a = agrees c.map_test_law.ensures c.args.plan.now c.args.number c.args.blocks.now c.args.cells.now
+    c.args.shape.now
     c.rules_law.ensures.plan c.requires.agrees in
     let most = a.passes.counts c.args.plp c.requires.inside in
     omega (arith, most, c.requires.few, c.from.ensures, c.count.ensures)
 
 pub begin-requires-clause-there : goal.begin-requires-clause-there
 begin-requires-clause-there c =
-    let a = agrees c.map_test_law.ensures c.args.plan.now c.args.number c.args.blocks.now c.args.cells.now c.args.shape.now
+    let a = agrees c.map_test_law.ensures c.args.plan.now c.args.number c.args.blocks.now c.args.cells.now
+    c.args.shape.now
     c.rules_law.ensures.plan c.requires.agrees in
     let counts : List ℕ = coming c.args.plan.now c.args.number c.args.shape.now in
     let behind : c.skip_blocks.new.rest ≡ drop (sum (take c.args.plp counts)) c.args.blocks.now =
@@ -50,8 +52,10 @@ returns-clause-keeps c =
     let behind : c.skip_blocks.new.rest ≡ drop (sum (take c.args.plp counts)) c.args.blocks.now =
     c.skip_blocks.ensures ∙ ap (drop c.first_place.result) c.iter-rest.ensures
     ∙ ap (λ (n : ℕ). drop n c.args.blocks.now) c.first_place.ensures.value in
-    let begun = begun_at c.args.plan.now c.args.plp c.args.number c.args.shape.now c.args.blocks.now c.skip_blocks.new.rest
-    c.args.cells.now c.begin.new.self c.begin.ensures.there (c.begin.ensures.count ∙ c.from.ensures ∙ c.count.ensures) behind
+    let begun = begun_at c.args.plan.now c.args.plp c.args.number c.args.shape.now c.args.blocks.now
+    c.skip_blocks.new.rest
+    c.args.cells.now c.begin.new.self c.begin.ensures.there (c.begin.ensures.count ∙ c.from.ensures
+    ∙ c.count.ensures) behind
     (λ k l. c.begin.ensures.bytes k (subst (λ (n : ℕ). k < n) c.begin.ensures.count l))
     (λ k l. c.begin.ensures.stand k (subst (λ (n : ℕ). k < n) c.begin.ensures.count l)) in
     first_kept c.args.plan.now c.args.plp (part_with c.args.number c.args.blocks.now c.args.shape.now c.args.cells.now)

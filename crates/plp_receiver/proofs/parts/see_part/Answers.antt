@@ -16,13 +16,15 @@ see_cells-requires-clause-all c =
 
 pub returns-then-is_first-clause-sees : goal.returns-then-is_first-clause-sees
 returns-then-is_first-clause-sees c =
-    begins c.args.plan.now c.args.plp (part_with c.args.number c.args.blocks.now c.args.shape.now c.args.cells.now) c.args.number
+    begins c.args.plan.now c.args.plp (part_with c.args.number c.args.blocks.now c.args.shape.now c.args.cells.now)
+    c.args.number
     c.args.held.now c.see_first.new.held
     (sym c.is_first.ensures ∙ c.if-is_first.true) c.see_first.ensures.keeps
 
 pub returns-then-goes_on-clause-sees : goal.returns-then-goes_on-clause-sees
 returns-then-goes_on-clause-sees c =
-    goes_on c.args.plan.now c.args.plp (part_with c.args.number c.args.blocks.now c.args.shape.now c.args.cells.now) c.args.number
+    goes_on c.args.plan.now c.args.plp (part_with c.args.number c.args.blocks.now c.args.shape.now c.args.cells.now)
+    c.args.number
     c.args.held.now c.see_cells.new.self
     (sym c.is_first.ensures ∙ c.if-is_first.false)
     (sym (c.goes_on.ensures ∙ ap (λ (n : ℕ). c.args.held.now.there && (c.args.held.now.count == n))

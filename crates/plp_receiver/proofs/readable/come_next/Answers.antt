@@ -10,7 +10,8 @@ use Rattle.plp_receiver.proofs.readable.come_next.Goals as goal
 pub loop-preserved : goal.loop-preserved
 loop-preserved c = λ more.
     c.loop.invariant more
-    ∙ ap (λ (l : List Block). pointwise has_size l (replicate (c.args.count - c.loop.counter) (size_of c.args.id c.args.len)
+    ∙ ap (λ (l : List Block). pointwise has_size l (replicate (c.args.count - c.loop.counter)
+    (size_of c.args.id c.args.len)
     ++ more)) c.in-Some.ensures.steps
     ∙ came (block_of c.in-Some.plp_id c.in-Some.block.now) c.next.new.self
     (size_of c.args.id c.args.len) c.args.count c.loop.counter
@@ -19,7 +20,9 @@ loop-preserved c = λ more.
 pub returns-then-not-is_block : goal.returns-then-not-is_block
 returns-then-not-is_block c = λ more.
     c.loop.invariant more
-    ∙ ap (λ (l : List Block). pointwise has_size l (replicate (c.args.count - c.loop.counter) (size_of c.args.id c.args.len)
+    ∙ ap (λ (l : List Block). pointwise has_size l (replicate (c.args.count - c.loop.counter)
+    (size_of c.args.id c.args.len)
     ++ more)) c.in-Some.ensures.steps
-    ∙ came_other (block_of c.in-Some.plp_id c.in-Some.block.now) c.next.new.self (size_of c.args.id c.args.len) c.args.count
+    ∙ came_other (block_of c.in-Some.plp_id c.in-Some.block.now) c.next.new.self (size_of c.args.id c.args.len)
+    c.args.count
     c.loop.counter more c.loop-test.true (sym c.if-not-is_block.ensures)

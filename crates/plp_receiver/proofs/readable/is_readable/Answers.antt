@@ -10,15 +10,18 @@ pub returns-clause-value : goal.returns-clause-value
 returns-clause-value c =
     told_readable c.args.network.now c.args.number c.args.pre.now c.args.post.now c.args.blocks.now c.args.cells.now
     c.is_post.new.dynamic c.tell_shape.new.out c.has_shape.result
-    (ap (λ (x : Config). pre_agrees x (read_whole (pre_reading true c.args.pre.now))) (sym c.plan.ensures) ∙ sym c.is_pre.ensures
+    (ap (λ (x : Config). pre_agrees x (read_whole (pre_reading true c.args.pre.now))) (sym c.plan.ensures)
+    ∙ sym c.is_pre.ensures
     ∙ c.if-not-is_pre.false)
     (sym c.is_post.ensures.agrees ∙ c.if-not-is_post.false)
     (c.is_post.ensures.told c.if-not-is_post.false) c.tell_shape.ensures.shape
     (c.has_shape.ensures
-    ∙ ap (λ (x : Config). shape_agrees x c.args.number c.args.blocks.now c.args.cells.now c.tell_shape.new.out) c.plan-2.ensures)
+    ∙ ap (λ (x : Config). shape_agrees x c.args.number c.args.blocks.now c.args.cells.now c.tell_shape.new.out)
+    c.plan-2.ensures)
 
 pub returns-clause-agrees : goal.returns-clause-agrees
 returns-clause-agrees c = λ e.
     sym (c.has_shape.ensures
-    ∙ ap (λ (x : Config). shape_agrees x c.args.number c.args.blocks.now c.args.cells.now c.tell_shape.new.out) c.plan-2.ensures)
+    ∙ ap (λ (x : Config). shape_agrees x c.args.number c.args.blocks.now c.args.cells.now c.tell_shape.new.out)
+    c.plan-2.ensures)
     ∙ e

@@ -12,7 +12,8 @@ loop-address-preserved c =
       inside = omega (arith, c.min-count.ensures, inv.inside);
       len = c.see_piece.ensures.len ∙ inv.len;
       each = λ k l.
-          pieces_seen c.args.plan.now c.args.shape.now c.args.frame_idx c.args.cells.now (c.args.first + k) c.loop-address.address
+          pieces_seen c.args.plan.now c.args.shape.now c.args.frame_idx c.args.cells.now (c.args.first + k)
+          c.loop-address.address
           c.min-count.result (get_or c.args.stands.now k false) (get_or c.loop-address.stands k false)
           (get_or c.see_piece.new.stands k false) (inv.each k l) (c.see_piece.ensures.each k (omega (arith, l, same)));
     }
@@ -20,7 +21,13 @@ loop-address-preserved c =
 pub returns-clause-each : goal.returns-clause-each
 returns-clause-each c = λ k l.
     let inv = c.loop-address.invariant in
-    let all : c.loop-address.address ≡ c.args.plan.now.cells = omega (arith, inv.end, inv.inside, c.loop-address-test.false) in
-    inv.each k l ∙ ap (λ (n : ℕ). get_or c.args.stands.now k false && seen_from c.args.plan.now c.args.shape.now c.args.frame_idx
+    let all : c.loop-address.address ≡ c.args.plan.now.cells = omega (
+      arith,
+      inv.end,
+      inv.inside,
+      c.loop-address-test.false,
+    ) in
+    inv.each k l ∙ ap (λ (n : ℕ). get_or c.args.stands.now k false && seen_from c.args.plan.now c.args.shape.now
+    c.args.frame_idx
     c.args.cells.now
     (c.args.first + k) 0 n) all

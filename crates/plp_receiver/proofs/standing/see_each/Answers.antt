@@ -20,6 +20,7 @@ loop-i-preserved c =
           (get_or c.args.stands.now k false) (get_or c.loop-i.stands k false)
           (get_or c.see.new.stands k false) c.next_cell.result c.in-Some.found (inv.each k l)
           (c.see.ensures.each k (omega (arith, l, same)))
-          (c.next_cell.ensures.cell ∙ ap (λ (r : Reading). get (cell_map r.config r.shape r.frame_idx) r.address) inv.expected)
+          (c.next_cell.ensures.cell ∙ ap (λ (r : Reading). get (cell_map r.config r.shape r.frame_idx) r.address)
+          inv.expected)
           (sym c.in-Some.ensures);
     }

@@ -1,4 +1,5 @@
-use Rattle.std.proofs.Common.{◌≡◌, ℕ, ◌/◌, ◌<◌, List, length, take, drop, get_or, Option, refl, sym, subst, ap, ◌∙◌, arith}
+use Rattle.std.proofs.Common.{◌≡◌, ℕ, ◌/◌, ◌<◌, List, length, take, drop, get_or, Option, refl, sym, subst, ap, ◌∙◌}
+use Rattle.std.proofs.Common.{arith}
 use Rattle.std.proofs.lemmas.Bool.{both_ways}
 use Rattle.terms.specs.Bits.{bits_of}
 use Rattle.bb_frame.specs.BasebandFrame.{Spells}
@@ -14,7 +15,8 @@ returns-in_default-clause-none c e b t =
 
 pub returns-then-not-is_of_stream-clause-none : goal.returns-then-not-is_of_stream-clause-none
 returns-then-not-is_of_stream-clause-none c = λ e b t.
-    let spelled : Spells t.header t.body c.whole.result = subst (Spells t.header t.body) (sym c.whole.ensures.bits) t.spelled in
+    let spelled : Spells t.header t.body c.whole.result = subst (Spells t.header t.body) (sym c.whole.ensures.bits)
+    t.spelled in
     let same = T.same_matype c.read_frame.result c.in-Ok.view t.header t.body c.in-Ok.is
     (c.read_frame.ensures.every t.header t.body spelled) in
     both_ways _ refl (c.if-not-is_of_stream.ensures.1 (subst (IsOfStream c.args.deletes) same t.stream))
@@ -37,7 +39,8 @@ returns-clause-some c =
     (subst (λ (f : Option ℕ). IsTaken c.args.deletes (bits_of c.args.block.now)
     (T.block_with f c.in-Ok.view.header.issy (take (c.in-Ok.view.header.dfl / 8) (drop 10 c.args.block.now))))
     (sym c.first_of.ensures)
-    (T.taken_is c.bit_counts_law.ensures c.args.block.now small c.in-Ok.view.header c.in-Ok.view.field spelled c.args.deletes
+    (T.taken_is c.bit_counts_law.ensures c.args.block.now small c.in-Ok.view.header c.in-Ok.view.field
+    spelled c.args.deletes
     stream))
 
 pub returns-clause-places : goal.returns-clause-places
@@ -45,7 +48,8 @@ returns-clause-places c =
     let small : (k : ℕ) → get_or c.args.block.now k 0 < 256 = λ k. omega (arith, c.type_inv.block k) in
     let spelled : Spells c.in-Ok.view.header c.in-Ok.view.field (bits_of c.args.block.now) =
     subst (Spells c.in-Ok.view.header c.in-Ok.view.field) c.whole.ensures.bits c.in-Ok.ensures.ok in
-    let fits = (T.field_is c.bit_counts_law.ensures c.args.block.now small c.in-Ok.view.header c.in-Ok.view.field spelled).0 in
+    let fits = (T.field_is c.bit_counts_law.ensures c.args.block.now small c.in-Ok.view.header c.in-Ok.view.field
+    spelled).0 in
     let size : length c.field_of.result.now ≡ c.in-Ok.view.header.dfl / 8 = ap length c.field_of.ensures
     ∙ T.field_len c.args.block.now (c.in-Ok.view.header.dfl / 8) fits in
     subst (λ (n : ℕ). IsPlace c.first_of.result n) (sym size)

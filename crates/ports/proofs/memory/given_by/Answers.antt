@@ -7,7 +7,8 @@ use Rattle.ports.proofs.memory.given_by.Goals.{then-eq, else-eq}
 pub loop-handle-preserved : goal.loop-handle-preserved
 loop-handle-preserved c =
     let step =
-    given_by_more c.args.name.now c.args.handles.now c.loop-handle.handle-index c.handle-item.result c.loop-handle-test.true
+    given_by_more c.args.name.now c.args.handles.now c.loop-handle.handle-index c.handle-item.result
+    c.loop-handle-test.true
     c.handle-item.is in
     let test = ap (λ s. bytes_eq s c.args.name.now) (sym c.as_str.ensures.value) ∙ sym c.eq.ensures in
     elim c.if-eq.branch [

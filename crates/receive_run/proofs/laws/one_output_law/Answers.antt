@@ -7,5 +7,6 @@ returns-clause-joined c = one_output c.reading_law.ensures.one c.place_law.ensur
 
 pub returns-clause-alone : goal.returns-clause-alone
 returns-clause-alone c = λ d plp file first views packets ran bytes plan records on back has.
-    one_output c.reading_law.ensures.one c.place_law.ensures c.joined_law.ensures.once None d plp file first views packets ran bytes
+    one_output c.reading_law.ensures.one c.place_law.ensures c.joined_law.ensures.once None d plp file
+    first views packets ran bytes
     plan records on back has

@@ -9,4 +9,5 @@ returns-clause-ordinal c = ordinal_counts c.order_law.ensures.counts
 
 pub returns-clause-cell : goal.returns-clause-cell
 returns-clause-cell c =
-    cell_stands c.length_law.ensures.slot c.block_law.ensures.field c.count_law.ensures c.shape_law.ensures c.map_law.ensures.each
+    cell_stands c.length_law.ensures.slot c.block_law.ensures.field c.count_law.ensures c.shape_law.ensures
+    c.map_law.ensures.each

@@ -25,10 +25,12 @@ returns-clause-fit c =
     reads (told_by c.args.plan.now c.args.dynamic.now) c.read_dynamic.result c.read_dynamic.new.out
     (ap (λ (k : ℕ). read_whole (dyn_read k c.args.dynamic.now)) (sym c.requires.rows) ∙ c.read_dynamic.ensures.value)
     c.requires.tells.reads in
-    let same : c.copy_counts.new.counts ≡ option_map_or (λ (d : L1Dyn). (told_shape d).counts) (told_by c.args.plan.now c.args.dynamic.now) [] =
+    let same : c.copy_counts.new.counts ≡ option_map_or (λ (d : L1Dyn). (told_shape d).counts)
+    (told_by c.args.plan.now c.args.dynamic.now) [] =
     c.copy_counts.ensures ∙ ap (λ (s : FrameShape). s.counts) c.tell_shape.ensures.shape
     ∙ sym (ap (λ (o : Option L1Dyn). option_map_or (λ d. (told_shape d).counts) o []) told) in
     record {
       whole = ap length c.copy_counts.ensures ∙ c.tell_shape.ensures.len ∙ c.read_dynamic.ensures.len ∙ c.requires.rows;
-      within = λ plp lt. (let few = c.requires.tells.few plp lt in omega (arith, few, ap (λ (l : List ℕ). slice_index l plp) same));
+      within = λ plp lt. (let few = c.requires.tells.few plp lt in omega
+          (arith, few, ap (λ (l : List ℕ). slice_index l plp) same));
     }

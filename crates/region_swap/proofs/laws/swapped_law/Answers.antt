@@ -3,7 +3,8 @@ use Rattle.region_swap.proofs.laws.swapped_law.Goals as goal
 
 pub returns : goal.returns
 returns c =
-    held_is_swapped c.bit_counts_law.ensures c.scramble_twice_law.ensures c.pre_law.ensures.bits c.block_law.ensures.field
+    held_is_swapped c.bit_counts_law.ensures c.scramble_twice_law.ensures c.pre_law.ensures.bits
+    c.block_law.ensures.field
     (record {
       told = c.parts_law.ensures.whole;
       conf_told = c.parts_law.ensures.conf;

@@ -12,7 +12,8 @@ moved v w small h =
 
 pub overflow_cast-result-else-left-ge8 : goal.overflow_cast-result-else-left-ge8
 overflow_cast-result-else-left-ge8 c =
-    let h = moved c.field-else-left-ge8.result (c.len.result - 8 * c.args.k) c.field-else-left-ge8.ensures.small (omega arith) in
+    let h = moved c.field-else-left-ge8.result (c.len.result - 8 * c.args.k) c.field-else-left-ge8.ensures.small
+    (omega arith) in
     omega (arith, h)
 
 pub returns-then-left-ge8 : goal.returns-then-left-ge8
@@ -23,7 +24,8 @@ returns-then-left-ge8 c =
 pub returns-else-left-ge8 : goal.returns-else-left-ge8
 returns-else-left-ge8 c =
     let left : ℕ = c.len.result - 8 * c.args.k in
-    let h = moved c.field-else-left-ge8.result (c.len.result - 8 * c.args.k) c.field-else-left-ge8.ensures.small (omega arith) in
+    let h = moved c.field-else-left-ge8.result (c.len.result - 8 * c.args.k) c.field-else-left-ge8.ensures.small
+    (omega arith) in
     let size : length (drop (8 * c.args.k) c.args.bits.now) ≡ left = simp length-drop (omega arith) in
     let all : take left (drop (8 * c.args.k) c.args.bits.now) ≡ drop (8 * c.args.k) c.args.bits.now =
     take_all left (drop (8 * c.args.k) c.args.bits.now) (omega arith) in

@@ -10,8 +10,10 @@ pub returns-in_err-tell_lines : goal.returns-in_err-tell_lines
 returns-in_err-tell_lines g c =
     let p = err_from_is_err_and c.from_residual.result c.from_residual.ensures.1 in
     rw (p.1, p.2)
-    (frames_stop c.reading_law.ensures.one c.refusal_law.ensures.never c.stands_law.ensures.takes c.stands_law.ensures.within _
+    (frames_stop c.reading_law.ensures.one c.refusal_law.ensures.never c.stands_law.ensures.takes
+    c.stands_law.ensures.within _
     c.tell_lines.new.machine _ _ c.args.name.now _ c.in_err-tell_lines.ensures.err)
 
 pub returns : goal.returns
-returns g c = rw c.records_end.ensures (frames_end _ c.tell_lines.new.machine _ _ c.args.name.now c.in_ok-tell_lines.ensures.ok)
+returns g c = rw c.records_end.ensures (frames_end _ c.tell_lines.new.machine _ _ c.args.name.now
+    c.in_ok-tell_lines.ensures.ok)

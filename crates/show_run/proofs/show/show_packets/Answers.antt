@@ -15,7 +15,8 @@ pub returns-in_err-tell_lines : goal.returns-in_err-tell_lines
 returns-in_err-tell_lines g c =
     let p = err_from_is_err_and c.from_residual.result c.from_residual.ensures.1 in
     rw (p.1, p.2)
-    (shows_stop c.one_packet_law.ensures c.no_refusal_law.ensures c.packet_length_law.ensures _ c.tell_lines.new.machine _ _
+    (shows_stop c.one_packet_law.ensures c.no_refusal_law.ensures c.packet_length_law.ensures _ c.tell_lines.new.machine
+    _ _
     c.args.name.now _ c.in_err-tell_lines.ensures.err)
 
 pub returns : goal.returns

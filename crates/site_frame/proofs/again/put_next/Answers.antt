@@ -17,7 +17,8 @@ returns-clause-words c =
     let n : ℕ = stretch_len c.args.stretch in
     let to : 4 * (c.args.done + n) ≡ 4 * c.args.done + 4 * n = omega arith in
     ap (λ (m : ℕ). take m c.put_stretch.new.out) to
-    ∙ c.put_stretch.ensures.front c.args.plan.now c.args.shape.now c.args.frame_idx (c.args.address + c.args.done) c.requires.has
+    ∙ c.put_stretch.ensures.front c.args.plan.now c.args.shape.now c.args.frame_idx (c.args.address + c.args.done)
+    c.requires.has
     ∙ ap (λ (l : List ℕ). l ++ words c.args.plan.now c.args.shape.now c.args.frame_idx
     (c.args.address + c.args.done) n) c.requires.words
     ∙ sym (words_split c.args.plan.now c.args.shape.now c.args.frame_idx c.args.done n c.args.address)

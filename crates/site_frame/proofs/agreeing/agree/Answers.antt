@@ -15,6 +15,7 @@ returns-clause-same c =
       λ all. c.are_same.ensures.1 (λ i less.
           agrees c.map_law.ensures.small c.args.plan.now c.args.shape.now c.args.frame_idx c.args.address c.args.count i
           c.args.cells.now c.words-words.result.now c.fill_words.new.out c.rules_law.ensures.plan c.requires.passes less
-          (omega (arith, c.requires.inside, c.requires.all)) c.words-words.ensures.cells c.fill_words.ensures (all i less)
+          (omega (arith, c.requires.inside, c.requires.all)) c.words-words.ensures.cells c.fill_words.ensures
+          (all i less)
           ∙ ap (λ (xs : List ℕ). big_number 4 (drop (4 * i) xs)) (sym rest)),
     )

@@ -34,7 +34,8 @@ loop-done-preserved c =
     let next = c.next_stretch-stretch.ensures in
     let put = c.put_next-done.ensures in
     let all : done + n ≡ done + c.put_next-done.result = omega (arith, put.count) in
-    let behind : c.args.address + done + n ≡ c.args.address + (done + c.put_next-done.result) = omega (arith, put.count) in
+    let behind : c.args.address + done + n ≡ c.args.address + (done + c.put_next-done.result) = omega
+    (arith, put.count) in
     let has : HasStretch plan shape frame (c.args.address + done) stretch =
     subst (λ (r : Reading). HasStretch r.config r.shape r.frame_idx r.address stretch) inv.cells next.cells in
     record {
@@ -42,7 +43,9 @@ loop-done-preserved c =
           ∙ ap (reading_at plan shape frame) behind;
       most = omega (arith, put.count, next.most, inv.most);
       last = λ some. subst (λ (m : ℕ). IsLast plan shape frame c.args.address m c.strip_of-last.result) all
-          (last_of plan shape frame c.args.address done stretch c.strip_of-last.result has c.strip_of-last.ensures some);
+          (last_of plan shape frame c.args.address done stretch c.strip_of-last.result has c.strip_of-last.ensures
+          some);
       len = put.len ∙ inv.len;
-      out = subst (λ (m : ℕ). take (4 * m) c.put_next-done.new.out ≡ words plan shape frame c.args.address m) all put.words;
+      out = subst (λ (m : ℕ). take (4 * m) c.put_next-done.new.out ≡ words plan shape frame c.args.address m)
+          all put.words;
     }

@@ -14,6 +14,7 @@ loop-z-preserved c =
       len = c.put_word.ensures.len ∙ c.loop-z.invariant.len;
       front = part_on (take c.args.at c.args.out.now) c.loop-z.out c.put_word.new.out (line_bytes word stride z)
           (big_bytes 4 (word + z * stride)) (line_bytes word stride (z + 1))
-          (c.args.at + 4 * z) (c.args.at + 4 * (z + 1)) c.loop-z.invariant.front (ap (λ (n : ℕ). take n c.put_word.new.out) to
+          (c.args.at + 4 * z) (c.args.at + 4 * (z + 1)) c.loop-z.invariant.front
+          (ap (λ (n : ℕ). take n c.put_word.new.out) to
           ∙ c.put_word.ensures.front) (line_more word stride z);
     }

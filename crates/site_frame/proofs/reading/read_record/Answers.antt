@@ -4,10 +4,12 @@ use Rattle.site_frame.proofs.LawLemmas.{refusal_told}
 use Rattle.site_frame.proofs.reading.read_record.Goals as goal
 
 pub returns-clause-ok : goal.returns-clause-ok
-returns-clause-ok c = ok_begun c.args.bytes.now c.parse.result (λ i. omega (arith, c.type_inv.bytes i)) c.parse.ensures.ok
+returns-clause-ok c = ok_begun c.args.bytes.now c.parse.result (λ i. omega (arith, c.type_inv.bytes i))
+    c.parse.ensures.ok
 
 pub returns-clause-every : goal.returns-clause-every
-returns-clause-every c = λ view len. every_read c.args.bytes.now c.parse.result view len c.parse.ensures.ok c.parse.ensures.err
+returns-clause-every c = λ view len. every_read c.args.bytes.now c.parse.result view len c.parse.ensures.ok
+    c.parse.ensures.err
 
 pub returns-clause-err : goal.returns-clause-err
 returns-clause-err c = err_refused c.args.bytes.now c.parse.result c.parse.ensures.err

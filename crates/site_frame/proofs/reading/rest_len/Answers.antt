@@ -18,4 +18,5 @@ returns-clause-every c = λ more view len.
     every_head c.args.head.now c.told_alone.result ok err more view len
 
 pub returns-clause-err : goal.returns-clause-err
-returns-clause-err c = err_head c.args.head.now c.told_alone.result (omega (arith, c.told-head)) c.told_alone.ensures.wrong
+returns-clause-err c = err_head c.args.head.now c.told_alone.result (omega (arith, c.told-head))
+    c.told_alone.ensures.wrong

@@ -30,9 +30,12 @@ returns g c =
         _,
         at,
         run_told (Ends Joint file out plan _) (StopsSo Joint file out plan _) receive_line receive_cause _ _ _ _ _
-            (of_ok (RunEnds (receive_work (common_of plan _) plan _) _ _ (Into out) (file ∷ [])) (Ends Joint file out plan _ _ _) _
-            (λ ran r. (r, holds_joined plan _ _ _ file out ran c.joined_law.ensures at.place.inside r)) c.run_joined-end.ensures.ends)
-            (of_err (RunEnds (receive_work (common_of plan _) plan _) _ _ (Into out) (file ∷ [])) (StopsSo Joint file out plan _ _ _) _
+            (of_ok (RunEnds (receive_work (common_of plan _) plan _) _ _ (Into out) (file ∷ []))
+            (Ends Joint file out plan _ _ _) _
+            (λ ran r. (r, holds_joined plan _ _ _ file out ran c.joined_law.ensures at.place.inside r))
+            c.run_joined-end.ensures.ends)
+            (of_err (RunEnds (receive_work (common_of plan _) plan _) _ _ (Into out) (file ∷ []))
+            (StopsSo Joint file out plan _ _ _) _
             (λ stop s. s) c.run_joined-end.ensures.ends)
             c.tell_run.ensures.ok c.tell_run.ensures.err,
       ),

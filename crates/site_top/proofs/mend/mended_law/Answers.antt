@@ -9,5 +9,8 @@ returns c =
       near = c.near_law.ensures;
       comes = c.mend_law.ensures;
       honest = c.honest_feeds_law.ensures.damaged;
+      come = c.woven_frames_law.ensures.damaged;
+      survive = c.woven_frames_law.ensures.streams;
+      none_lost = c.woven_frames_law.ensures.none_lost;
       whole = c.whole_feed_law.ensures.damaged;
     })

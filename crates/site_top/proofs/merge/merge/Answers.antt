@@ -29,6 +29,7 @@ returns g c =
       run_told (Ends a b out plan) (StopsSo a b out plan) merge_line merge_cause _ _ _ _ _
           (of_ok (RunEnds (merge_work plan) _ _ (Into out) (names_of a b)) (Ends a b out plan _ _) _
           (λ ran r. (r, holds_merged plan _ _ a b out ran c.merged_law.ensures r)) c.run-end.ensures.ends)
-          (of_err (RunEnds (merge_work plan) _ _ (Into out) (names_of a b)) (StopsSo a b out plan _ _) _ (λ stop s. s) c.run-end.ensures.ends)
+          (of_err (RunEnds (merge_work plan) _ _ (Into out) (names_of a b)) (StopsSo a b out plan _ _)
+          _ (λ stop s. s) c.run-end.ensures.ends)
           c.tell_run.ensures.ok c.tell_run.ensures.err,
     )

@@ -11,7 +11,11 @@ use Rattle.site_top.proofs.RecoverLemmas.{holds_back}
 use Rattle.site_top.proofs.receive.receive.Goals as goal
 
 pub run-end-requires : goal.run-end-requires
-run-end-requires g c = record { plp = c.in-Some.ensures.some.inside; apart = other_name c.args.input.now c.args.out.now c.requires }
+run-end-requires g c = record {
+  plp = c.in-Some.ensures.some.inside;
+  apart = other_name c.args.input.now
+      c.args.out.now c.requires;
+}
 
 pub returns : goal.returns
 returns g c =
@@ -30,7 +34,8 @@ returns g c =
         run_told (Ends Apart file out plan _) (StopsSo Apart file out plan _) receive_line receive_cause _ _ _ _ _
             (of_ok (RunEnds (receive_work None plan _) _ _ (Into out) (file ∷ [])) (Ends Apart file out plan _ _ _) _
             (λ ran r. (r, holds_back plan _ _ _ file out ran c.back_law.ensures at.inside r)) c.run-end.ensures.ends)
-            (of_err (RunEnds (receive_work None plan _) _ _ (Into out) (file ∷ [])) (StopsSo Apart file out plan _ _ _) _ (λ stop s. s)
+            (of_err (RunEnds (receive_work None plan _) _ _ (Into out) (file ∷ [])) (StopsSo Apart file out plan _ _ _)
+            _ (λ stop s. s)
             c.run-end.ensures.ends)
             c.tell_run.ensures.ok c.tell_run.ensures.err,
       ),

@@ -5,4 +5,5 @@ use Rattle.site_top.proofs.request.number_named.Goals as goal
 pub returns-clause-named : goal.returns-clause-named
 returns-clause-named c =
     named c.args.word.now c.as_bytes.result.now c.args.least c.args.most c.number_within.result
-    (omega (arith, c.ranges.most.fits)) c.as_bytes.ensures.value c.number_within.ensures.some c.number_within.ensures.none
+    (omega (arith, c.ranges.most.fits)) c.as_bytes.ensures.value c.number_within.ensures.some
+    c.number_within.ensures.none

@@ -8,14 +8,17 @@ returns-clause-does g c = run_does (command_of c.args.words.now) _ _ _ _ c.comma
 
 pub returns-clause-complete : goal.returns-clause-complete
 returns-clause-complete g c =
-    run_complete c.completeness_law.ensures (command_of c.args.words.now) _ _ _ _ c.command-outcome.ensures.does c.finish.ensures
+    run_complete c.completeness_law.ensures (command_of c.args.words.now) _ _ _ _ c.command-outcome.ensures.does
+    c.finish.ensures
 
 pub returns-clause-usage : goal.returns-clause-usage
 returns-clause-usage g c = run_usage (command_of c.args.words.now) _ _ _ c.command-outcome.ensures.refuses
 
 pub returns-clause-refuses : goal.returns-clause-refuses
-returns-clause-refuses g c = run_refuses (command_of c.args.words.now) _ _ _ _ c.command-outcome.ensures.refuses c.finish.ensures
+returns-clause-refuses g c = run_refuses (command_of c.args.words.now) _ _ _ _ c.command-outcome.ensures.refuses
+    c.finish.ensures
 
 pub returns-clause-touches : goal.returns-clause-touches
 returns-clause-touches g c =
-    run_touches c.only_out_changes_law.ensures (command_of c.args.words.now) _ _ _ _ c.command-outcome.ensures.does c.finish.ensures
+    run_touches c.only_out_changes_law.ensures (command_of c.args.words.now) _ _ _ _ c.command-outcome.ensures.does
+    c.finish.ensures

@@ -33,8 +33,10 @@ returns g c =
         at,
         run_told (Ends t2mi file out plan _) (StopsSo t2mi file out plan _) swap_line swap_cause _ _ _ _ _
             (of_ok (RunEnds (swap_work plan _) _ _ (Into out) (names_of t2mi file)) (Ends t2mi file out plan _ _ _) _
-            (λ ran r. (r, holds_swapped plan _ _ _ t2mi file out ran at.inside c.swapped_law.ensures r)) c.run-end.ensures.ends)
-            (of_err (RunEnds (swap_work plan _) _ _ (Into out) (names_of t2mi file)) (StopsSo t2mi file out plan _ _ _) _
+            (λ ran r. (r, holds_swapped plan _ _ _ t2mi file out ran at.inside c.swapped_law.ensures r))
+            c.run-end.ensures.ends)
+            (of_err (RunEnds (swap_work plan _) _ _ (Into out) (names_of t2mi file)) (StopsSo t2mi file out plan _ _ _)
+            _
             (λ stop s. s) c.run-end.ensures.ends)
             c.tell_run.ensures.ok c.tell_run.ensures.err,
       ),

@@ -3,7 +3,8 @@ use Rattle.stream_laws.proofs.remade_laws.arrive_law.Goals as goal
 
 pub returns : goal.returns
 returns c =
-    remade_arrives (λ w. (c.crc32_law.ensures w).0) c.spell_law.ensures.is c.written_law.ensures.read c.written_law.ensures.len
+    remade_arrives (λ w. (c.crc32_law.ensures w).0) c.spell_law.ensures.is c.written_law.ensures.read
+    c.written_law.ensures.len
     c.emission_law.ensures.fits c.pre_law.ensures.bits c.block_law.ensures.field
     (record {
       told = c.parts_law.ensures.whole;

@@ -1,4 +1,5 @@
-use Rattle.stream_laws.proofs.StreamLemmas.{length-survival, read_are_survivors, honest_groups, honest_numbers, honest_records}
+use Rattle.stream_laws.proofs.StreamLemmas.{length-survival, read_are_survivors, honest_groups, honest_numbers}
+use Rattle.stream_laws.proofs.StreamLemmas.{honest_records}
 use Rattle.stream_laws.proofs.unit_laws.honest_law.Goals as goal
 
 pub returns-clause-length : goal.returns-clause-length

@@ -21,9 +21,11 @@ returns g c =
     } in
     let machine = c.in_ok-machine.machine in
     record {
-      ends = subst (λ (p : ℕ). Ends (swap_work c.args.plan.now p) old new (Into c.args.out.now) (names_of c.args.t2mi.now c.args.input.now)
+      ends = subst (λ (p : ℕ). Ends (swap_work c.args.plan.now p) old new (Into c.args.out.now)
+          (names_of c.args.t2mi.now c.args.input.now)
           c.run_over_two.result) c.in_ok-machine.ensures.place
-          (subst (λ (k : Config). Ends (swap_work k (plp_of machine)) old new (Into c.args.out.now) (names_of c.args.t2mi.now c.args.input.now)
+          (subst (λ (k : Config). Ends (swap_work k (plp_of machine)) old new (Into c.args.out.now)
+          (names_of c.args.t2mi.now c.args.input.now)
           c.run_over_two.result) c.in_ok-machine.ensures.plan
           (ends_so _ _ _ _ _ _ _ _ _ _ (swap_does law machine) c.run_over_two.result c.run_over_two.ensures));
     }

@@ -4,7 +4,8 @@ use Rattle.t2mi_packet.specs.Writing.{block_head}
 use Rattle.t2mi_packet.proofs.PutLemmas.{roomy, block_covered, length-block_head}
 use Rattle.t2mi_packet.proofs.writing.begin_block.Goals as goal
 
-written : (c : goal.After-put_block_head) → c.put_block_head.new.sink ≡ rows_bits (block_head c.args.head.now c.args.bytes)
+written : (c : goal.After-put_block_head) → c.put_block_head.new.sink ≡ rows_bits
+    (block_head c.args.head.now c.args.bytes)
 written c =
     let few : length c.clear.new.self ≡ 0 = ap length c.clear.ensures in
     roomy c.stops_law.ensures.full _ _ (rows_bits (block_head c.args.head.now c.args.bytes)) c.put_block_head.result _

@@ -6,7 +6,8 @@ use Rattle.trial_run.proofs.input.push_payload.Goals as goal
 
 pub loop-preserved : goal.loop-preserved
 loop-preserved c =
-    byte_pushed _ _ _ c.loop.counter _ _ _ _ c.loop.invariant.0 c.loop.invariant.1 c.next.ensures.drawn c.in_ok-push.ensures.items
+    byte_pushed _ _ _ c.loop.counter _ _ _ _ c.loop.invariant.0 c.loop.invariant.1 c.next.ensures.drawn
+    c.in_ok-push.ensures.items
     c.next.ensures.number
 
 pub returns-clause-bytes : goal.returns-clause-bytes

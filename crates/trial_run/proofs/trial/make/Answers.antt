@@ -10,6 +10,7 @@ returns c =
       whole = c.in_ok-whole.whole;
       lossy = c.in_ok-lossy.lossy;
     }) _ _ _ _ _ c.requires.plps c.new-draws.ensures
-    c.in_ok-inputs.ensures.inputs c.deref.ensures.value c.in_ok-sent.ensures c.in_ok-inputs.ensures.draws c.deref-2.ensures.value
+    c.in_ok-inputs.ensures.inputs c.deref.ensures.value c.in_ok-sent.ensures c.in_ok-inputs.ensures.draws
+    c.deref-2.ensures.value
     c.in_ok-whole.ensures.records c.in_ok-whole.ensures.ran c.in_ok-kept.ensures.units
     c.deref-3.ensures.value c.deref-4.ensures.value c.in_ok-lossy.ensures.records c.in_ok-lossy.ensures.ran

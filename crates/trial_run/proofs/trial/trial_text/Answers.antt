@@ -10,6 +10,7 @@ loop-plp-init c =
 
 pub loop-plp-preserved : goal.loop-plp-preserved
 loop-plp-preserved c =
-    next_line c.args.plan.now c.args.frames c.args.seed c.loop-plp.plp c.in_ok-made.made c.loop-plp.page _ _ c.loop-plp.invariant
+    next_line c.args.plan.now c.args.frames c.args.seed c.loop-plp.plp c.in_ok-made.made c.loop-plp.page
+    _ _ c.loop-plp.invariant
     (c.in_ok-line_of.ensures.text c.args.frames c.args.seed c.loop-plp.invariant.made)
     c.in_ok-line_of.ensures.len (c.push.ensures.text ∙ ap (λ (t : List ℕ). c.loop-plp.page ++ t) c.as_bytes.ensures)

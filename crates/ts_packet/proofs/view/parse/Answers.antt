@@ -14,6 +14,7 @@ pub returns-in-None-clause-err : goal.returns-in-None-clause-err
 returns-in-None-clause-err c = (
   c.if-bytes-ne-SYNC.false,
   subst (λ (control : ℕ). IsBadAdaptation control (length_at c.args.bytes.now))
-      (c.field_at.ensures.value ∙ header_number c.args.bytes.now c.header_of-header.result 26 2 c.header_of-header.ensures
+      (c.field_at.ensures.value ∙ header_number c.args.bytes.now c.header_of-header.result 26 2
+      c.header_of-header.ensures
       (omega arith)) c.in-None.ensures.none,
 )

@@ -1,4 +1,5 @@
-use Rattle.std.proofs.Common.{rules, ◌≡◌, ◌-◌, ◌+◌, ◌++◌, ℕ, List, length, ap, sym, subst, ◌∙◌, arith, length-append, take_at}
+use Rattle.std.proofs.Common.{rules, ◌≡◌, ◌-◌, ◌+◌, ◌++◌, ℕ, List, length, ap, sym, subst, ◌∙◌, arith, length-append}
+use Rattle.std.proofs.Common.{take_at}
 use Rattle.ts_packet.specs.TransportPacket.{control_of, adaptation_bytes, Spells}
 use Rattle.ts_packet.specs.Written.{area_of, stuffing, written_fields}
 use Rattle.ts_packet.proofs.WritingLemmas.{length-area_of, control_filled, control_full, written, written_spells}
@@ -25,7 +26,8 @@ returns-clause-bytes c =
       | then-area-lt-PAYLOAD w ↦ w.control-is
           ∙ sym (control_filled space area (omega (arith, w.if-area-lt-PAYLOAD.true))
           (omega (arith, c.requires.some, length-area_of c.args.pointer payload)))
-      | else-area-lt-PAYLOAD w ↦ w.control-is ∙ sym (control_full space area (omega (arith, w.if-area-lt-PAYLOAD.false)))
+      | else-area-lt-PAYLOAD w ↦ w.control-is
+          ∙ sym (control_full space area (omega (arith, w.if-area-lt-PAYLOAD.false)))
     ] in
     let four : length header ≡ 4 = search rules in
     c.write_rest.ensures

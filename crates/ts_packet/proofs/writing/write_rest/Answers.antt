@@ -1,4 +1,5 @@
-use Rattle.std.proofs.Common.{◌≡◌, ◌-◌, ℕ, length, take, drop, refl, ap, ◌∙◌, arith, length-append, length-take, length-drop}
+use Rattle.std.proofs.Common.{◌≡◌, ◌-◌, ℕ, length, take, drop, refl, ap, ◌∙◌, arith, length-append, length-take}
+use Rattle.std.proofs.Common.{length-drop}
 use borrow.Rule.Slice.PartMut.{put_mid}
 use Rattle.ts_packet.specs.TransportPacket.{adaptation_bytes}
 use Rattle.ts_packet.specs.Written.{stuffing}

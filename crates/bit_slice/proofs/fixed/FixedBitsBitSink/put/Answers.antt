@@ -13,11 +13,13 @@ invariant_of-self g c =
     (omega (arith, c.self.told, c.self.invariant.0)) in
     let held : Holds c.put_field.new.bytes (bits ++ (field c.args.width c.args.value)) =
     c.put_field.ensures.holds bits long (rw c.self.view_is at c.self.invariant.2) in
-    let is = seen_more c.put_field.new.bytes bits (field c.args.width c.args.value) c.self.inside.used c.args.width held long
+    let is = seen_more c.put_field.new.bytes bits (field c.args.width c.args.value) c.self.inside.used
+    c.args.width held long
     (length-field c.args.width c.args.value) in (
       omega (arith, c.room-room.ensures.room, long),
       c.self.invariant.1,
-      holds_seen c.put_field.new.bytes (bits ++ (field c.args.width c.args.value)) (c.self.inside.used + c.args.width) is held,
+      holds_seen c.put_field.new.bytes (bits ++ (field c.args.width c.args.value)) (c.self.inside.used + c.args.width)
+          is held,
     )
 
 pub returns-clause-ok : goal.returns-clause-ok

@@ -7,7 +7,8 @@ pub returns-clause-bits : goal.returns-clause-bits
 returns-clause-bits c =
     let from = rw (c.len-seam.ensures.len) at c.min-from.ensures in
     let taken = rw (c.len-seam.ensures.len) at c.min-taken.ensures in
-    let whole = joined_part c.self.inside.front c.self.inside.back c.args.first c.args.len c.min-from.result c.min-taken.result
+    let whole = joined_part c.self.inside.front c.self.inside.back c.args.first c.args.len c.min-from.result
+    c.min-taken.result
     from taken in
     let parts : c.sub.result ++ c.sub-2.result ≡ part c.args.self.now c.args.first c.args.len =
     rw (c.sub.ensures.bits, c.sub-2.ensures.bits)

@@ -6,4 +6,7 @@ pub returns-clause-byte : goal.returns-clause-byte
 returns-clause-byte c = λ given h. byte_is given c.args.self.now.register h.register
 
 pub returns-clause-stands : goal.returns-clause-stands
-returns-clause-stands c = λ given h. record { register = register_is given c.args.self.now.register (omega arith) h.register }
+returns-clause-stands c = λ given h. record {
+  register = register_is given c.args.self.now.register (omega arith)
+      h.register;
+}

@@ -7,7 +7,8 @@ use Rattle.bit_slice.proofs.slice.BitSlice.copy_bytes.Goals as goal
 pub returns-then-self-eq0-clause-bits : goal.returns-then-self-eq0-clause-bits
 returns-then-self-eq0-clause-bits c =
     let size : length c.copy_from_slice.new.self ≡ length c.args.out.now = c.copy_from_slice.ensures.len in
-    bits_of_borrowed c.self.inside.bytes.now c.copy_from_slice.new.self c.self.inside.first c.self.inside.len c.args.self.now
+    bits_of_borrowed c.self.inside.bytes.now c.copy_from_slice.new.self c.self.inside.first c.self.inside.len
+    c.args.self.now
     c.self.view_is (omega arith) c.if-self-eq0.true (omega arith) (c.self.inside.first / 8 + length c.args.out.now)
     (omega arith) c.copy_from_slice.ensures.after
 
@@ -23,4 +24,5 @@ returns-clause-bytes c =
     bytes_of_fields c.args.self.now c.loop-k.out (omega arith) each
 
 pub returns-clause-bits : goal.returns-clause-bits
-returns-clause-bits c = rw (returns-clause-bytes c) (bits_of-bytes_of c.args.self.now (length c.args.out.now) c.requires)
+returns-clause-bits c = rw (returns-clause-bytes c) (bits_of-bytes_of c.args.self.now (length c.args.out.now)
+    c.requires)

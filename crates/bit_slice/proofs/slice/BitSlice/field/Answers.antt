@@ -11,6 +11,7 @@ returns-clause-value c =
     let inside : c.args.at + c.args.width ≤ c.self.inside.len = omega arith in
     rw (c.number_of_bytes-number.ensures, ← c.self.view_is)
     (field_read c.self.inside.bytes.now (c.self.inside.first + c.args.at) c.args.width c.div_ceil-end_byte.result
-    (omega arith) (omega (arith, c.div_ceil-end_byte.ensures)) (omega (arith, c.div_ceil-end_byte.ensures)) (omega arith)
+    (omega arith) (omega (arith, c.div_ceil-end_byte.ensures)) (omega (arith, c.div_ceil-end_byte.ensures))
+    (omega arith)
     ∙ sym (ap number_of
     (part-part (bits_of c.self.inside.bytes.now) c.self.inside.first c.self.inside.len c.args.at c.args.width inside)))

@@ -4,4 +4,5 @@ use Rattle.bit_slice.proofs.slice.BitSlice.len.Goals as goal
 
 pub returns-clause-len : goal.returns-clause-len
 returns-clause-len c =
-    sym (seen_length c.self.inside.bytes.now c.self.inside.first c.self.inside.len c.args.self.now c.self.view_is (omega arith))
+    sym (seen_length c.self.inside.bytes.now c.self.inside.first c.self.inside.len c.args.self.now c.self.view_is
+    (omega arith))

@@ -7,7 +7,8 @@ pub returns : goal.returns
 returns c =
     let count = c.len-len.result / 8 in
     let within : c.self.inside.first + c.self.inside.len ≤ 8 * length c.self.inside.bytes.now = omega arith in
-    let size = seen_length c.self.inside.bytes.now c.self.inside.first c.self.inside.len c.args.self.now c.self.view_is within in
+    let size = seen_length c.self.inside.bytes.now c.self.inside.first c.self.inside.len c.args.self.now
+    c.self.view_is within in
     let front = front_bytes c.self.inside.bytes.now c.self.inside.first c.self.inside.len count
     (c.self.inside.first / 8 + count) c.args.self.now
     c.self.view_is within c.if-self-ne0.false (omega arith) refl in

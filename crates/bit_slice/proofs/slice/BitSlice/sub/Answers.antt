@@ -10,7 +10,9 @@ returns-clause-bits c =
     (omega arith) in
     let inside : c.args.first + c.args.len ≤ c.self.inside.len = omega arith in
     rw (← c.self.view_is)
-    (sym (part-part (bits_of c.self.inside.bytes.now) c.self.inside.first c.self.inside.len c.args.first c.args.len inside))
+    (sym (part-part (bits_of c.self.inside.bytes.now) c.self.inside.first c.self.inside.len c.args.first
+    c.args.len inside))
 
 pub returns-clause-len : goal.returns-clause-len
-returns-clause-len c = ap length (returns-clause-bits c) ∙ length-part c.args.self.now c.args.first c.args.len c.requires
+returns-clause-len c = ap length (returns-clause-bits c) ∙ length-part c.args.self.now c.args.first c.args.len
+    c.requires

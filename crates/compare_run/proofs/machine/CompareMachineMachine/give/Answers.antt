@@ -9,5 +9,6 @@ go_on-line-requires-clause-came c = has_shown _ c.requires.came
 
 pub returns-clause-becomes : goal.returns-clause-becomes
 returns-clause-becomes c = λ start events s.
-    subst (λ (l : List ℕ). Shown start.plan.now (events ++ Gave l ∷ []) c.go_on-line.new.self) (sym c.copy_line.ensures.bytes)
+    subst (λ (l : List ℕ). Shown start.plan.now (events ++ Gave l ∷ []) c.go_on-line.new.self)
+    (sym c.copy_line.ensures.bytes)
     (c.go_on-line.ensures.shown _ events s)

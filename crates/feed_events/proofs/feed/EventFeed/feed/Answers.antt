@@ -1,4 +1,5 @@
-use Rattle.std.proofs.Common.{◌≡◌, ◌++◌, ◌∙◌, ◌-◌, ℕ, length, length-drop, List, ap, sym, subst, take, drop, arith, rules, append_assoc}
+use Rattle.std.proofs.Common.{◌≡◌, ◌++◌, ◌∙◌, ◌-◌, ℕ, length, length-drop, List, ap, sym, subst, take, drop, arith}
+use Rattle.std.proofs.Common.{rules, append_assoc}
 use Rattle.std.proofs.Math.Seq.{take-add}
 use Rattle.std.proofs.lemmas.List.{take_all}
 use Rattle.feed_events.specs.StandsFor.{EventFeedStandsFor}
@@ -23,7 +24,8 @@ loop-count-preserved g c =
       inside = search rules;
       first = λ e. absurd (omega (arith, e));
       whole = λ _. omega arith;
-      fed = let a = i.fed.0 in let b = i.fed.1 in let x = s.fed.0 in let y = s.fed.1 in (omega (arith, a, x), omega (arith, b, y));
+      fed = let a = i.fed.0 in let b = i.fed.1 in let x = s.fed.0 in let y = s.fed.1 in
+          (omega (arith, a, x), omega (arith, b, y));
       rules = s.rules ∙ i.rules;
       ended = s.ended ∙ i.ended;
     }

@@ -19,6 +19,7 @@ pub returns-clause-some : goal.returns-clause-some
 returns-clause-some c = λ bytes ended given s w is gs are.
     let x = came c.accepted_front_law.ensures c.args.self.now bytes ended given w gs
     (λ off. c.is_ready-ready.ensures.none (c.is_ready-ready.ensures.is ∙ off)) s is are in
-    blocks_held c.args.self.now w gs c.blocks-2.result.now.lists is x c.in-Some.number c.in-Some.is c.if-number-self.false
+    blocks_held c.args.self.now w gs c.blocks-2.result.now.lists is x c.in-Some.number c.in-Some.is
+    c.if-number-self.false
     (λ past h intact holds. c.blocks-2.ensures.blocks past h intact holds
     (sym c.has_room.ensures ∙ c.if-not-has_room.false))

@@ -18,5 +18,6 @@ pub invariant_of-self-clause-early : goal.invariant_of-self-clause-early
 invariant_of-self-clause-early c =
     let f = c.args.self.now in
     let w = some_of f.waiting c.requires.waits in
-    early_on f.inner.sequence.progress c.gave.new.self.sequence.progress w.0 (sym f.waits ∙ w.1) (c.requires.early w.0 w.1)
+    early_on f.inner.sequence.progress c.gave.new.self.sequence.progress w.0 (sym f.waits ∙ w.1)
+    (c.requires.early w.0 w.1)
     c.gave.ensures.next

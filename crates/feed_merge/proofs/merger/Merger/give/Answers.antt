@@ -15,7 +15,8 @@ returns-clause-gives c =
       bytes_are = g.bytes_are;
       size = g.size;
       stands = λ bodies given h.
-          subst (λ (n : ℕ). Flows u.new.self.outlet p n (left_of p u.new.source.place c.args.frame.now) bodies (given + length g.units))
+          subst (λ (n : ℕ). Flows u.new.self.outlet p n (left_of p u.new.source.place c.args.frame.now)
+          bodies (given + length g.units))
           (sym u.ensures.number) (g.gives.flows bodies given h);
       next = g.gives.next;
       complete = g.gives.complete;

@@ -14,7 +14,8 @@ returns-clause-unit c = λ on all given h.
 
 pub returns-clause-stands : goal.returns-clause-stands
 unfolding MergerStandsFor
-returns-clause-stands c = λ on all given h. c.rest.ensures.flows on c.args.self.now.plan.now c.args.self.now.place.number all given h
+returns-clause-stands c = λ on all given h. c.rest.ensures.flows on c.args.self.now.plan.now
+    c.args.self.now.place.number all given h
 
 pub returns-clause-none : goal.returns-clause-none
 unfolding MergerStandsFor

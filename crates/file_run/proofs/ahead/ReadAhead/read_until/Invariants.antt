@@ -7,7 +7,8 @@ abbrev pub invariant-loop-self : goal.invariant-loop-self
 invariant-loop-self g l = record {
   reads : ReadsOn (g.D.Desk.state l.initial.desk) (g.D.Desk.state l.desk) l.initial.self l.self;
   none : TakesNone (g.D.Desk.state l.initial.desk) (g.D.Desk.state l.desk) l.initial.self l.self;
-  limit : (limit : ℕ) → given_of l.initial.self ≤ limit → l.initial.self.taken + l.most ≤ limit → given_of l.self ≤ limit;
+  limit : (limit : ℕ) → given_of l.initial.self ≤ limit → l.initial.self.taken + l.most ≤ limit
+      → given_of l.self ≤ limit;
   short : given_of l.self < longest_file;
   going : has_run_out (g.D.Desk.state l.desk) l.initial.self.handle ≡ false;
   counts : SameCounts (g.D.Desk.state l.initial.desk) (g.D.Desk.state l.desk);

@@ -1,5 +1,6 @@
 use Rattle.std.proofs.Common.{◌≡◌, ◌<◌, true, false, Some, None, arith, ap, sym, subst, ◌∙◌, rules}
-use Rattle.terms.proofs.OptionLemmas.{some_injective, none_some}
+use Rattle.std.proofs.lemmas.Option.{same_Some}
+use Rattle.terms.proofs.OptionLemmas.{none_some}
 use Rattle.frame_groups.specs.Groups.{is_counted, is_same, key_behind, Group}
 use Rattle.frame_groups.specs.Grouping.{one_packet, one_more}
 use Rattle.frame_groups.specs.Sequenced.{past_of}
@@ -20,7 +21,8 @@ returns-in_default-clause-worked g c = λ _ ps given k ends.
           begun (g.G.OpenGroup.rules c.args.self.now.group) (g.G.OpenGroup.rules c.begin.new.self) k.past k.group
           (Some (one_packet c.key_behind.result c.args.packet.now))
           c.args.self.now.progress.number c.args.self.now.progress.next c.args.self.now.progress.closing
-          c.args.self.now.progress.fault ps given c.args.packet.now (c.key.ensures.is k.past k.group k.holds ∙ no) kept some
+          c.args.self.now.progress.fault ps given c.args.packet.now (c.key.ensures.is k.past k.group k.holds
+          ∙ no) kept some
           c.requires.fits.superframe
           (ap (λ key. Some (one_packet key c.args.packet.now)) c.key_behind.ensures) c.begin.ensures.rules k.sequenced;
     }
@@ -35,14 +37,16 @@ returns-then-goes_on-clause-worked g c = λ _ ps given k ends.
     record {
       past = k.past;
       group = Some (one_more h.group c.args.packet.now);
-      holds = c.add.ensures.group k.past h.group (subst (g.G.OpenGroup.holds c.args.self.now.group k.past) h.is k.holds);
+      holds = c.add.ensures.group k.past h.group (subst (g.G.OpenGroup.holds c.args.self.now.group k.past)
+          h.is k.holds);
       sequenced =
           added_on (g.G.OpenGroup.rules c.args.self.now.group) (g.G.OpenGroup.rules c.add.new.self) k.past k.group
           (Some (one_more h.group c.args.packet.now))
           c.args.self.now.progress.number c.args.self.now.progress.next c.args.self.now.progress.closing
-          c.args.self.now.progress.fault ps given c.args.packet.now c.in-Some.key (c.key.ensures.is k.past k.group k.holds
+          c.args.self.now.progress.fault ps given c.args.packet.now c.in-Some.key
+          (c.key.ensures.is k.past k.group k.holds
           ∙ key) kept same
-          (λ o e. ap (λ (h : Group). Some (one_more h c.args.packet.now)) (some_injective h.group o (sym h.is ∙ e)))
+          (λ o e. ap (λ (h : Group). Some (one_more h c.args.packet.now)) (same_Some h.group o (sym h.is ∙ e)))
           c.add.ensures.rules shut k.sequenced;
     }
 

@@ -11,8 +11,10 @@ pub returns-clause-group : goal.returns-clause-group
 returns-clause-group c = λ past h held.
     let grown = c.add.ensures.group past h held.group in
     record {
-      group = subst (λ (g : PooledGroup). Holds g past (Some (one_more h c.args.packet.now))) (sym c.mark.ensures.group) grown;
-      marks = subst (λ (g : PooledGroup). HoldsMarks g.network c.mark.new.self.marks (h.packets ++ c.args.packet.now ∷ []))
+      group = subst (λ (g : PooledGroup). Holds g past (Some (one_more h c.args.packet.now))) (sym c.mark.ensures.group)
+          grown;
+      marks = subst (λ (g : PooledGroup). HoldsMarks g.network c.mark.new.self.marks
+          (h.packets ++ c.args.packet.now ∷ []))
           (sym c.mark.ensures.group)
           (c.mark.ensures.marks past h grown
           (subst (λ (k : Config). HoldsMarks k c.args.self.now.marks h.packets)

@@ -4,7 +4,8 @@ use Rattle.frame_weave.proofs.made.MadeGroup.push.Goals as goal
 pub returns-then-self-clause-holds : goal.returns-then-self-clause-holds
 returns-then-self-clause-holds c = λ bodies body is h.
     let made = c.args.self.now in
-    added_body made.plan.now c.args.number made.is_begun made.group c.add.new.self bodies body c.args.packet.now c.if-self.true is
+    added_body made.plan.now c.args.number made.is_begun made.group c.add.new.self bodies body c.args.packet.now
+    c.if-self.true is
     c.add.ensures.group h
 
 pub returns-then-self-clause-alone : goal.returns-then-self-clause-alone

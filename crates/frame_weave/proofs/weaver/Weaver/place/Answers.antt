@@ -28,7 +28,8 @@ returns-then-not-can_place-clause-weaves c = λ past h n looked placed held w.
       number = w.number;
       first = w.first;
       blocks = subst (HoldsPlaced old.slots)
-          (not_placed network n (state_of old) (signalling network n looked) placed h w.first (sym c.if-not-can_place.true ∙ told))
+          (not_placed network n (state_of old) (signalling network n looked) placed h w.first
+          (sym c.if-not-can_place.true ∙ told))
           w.blocks;
     }
 
@@ -45,21 +46,26 @@ returns-clause-weaves c = λ past h n looked placed held w.
     let fits : fits_pool group.network h.packets ≡ true = ap (λ (k : Config). fits_pool k h.packets) c.requires.network
     ∙ (and_parts (old.is_taken && old.layout.is_room) (fits_pool network h.packets) can).1 in
     let room : has_room group ≡ true = ap has_room (sym c.group-2.ensures) ∙ sym c.fits-fits.ensures.held
-    ∙ c.fits-fits.ensures.value past h (subst (λ (g : PooledGroup). Holds g past (Some h)) (sym c.group-2.ensures) held.group)
+    ∙ c.fits-fits.ensures.value past h (subst (λ (g : PooledGroup). Holds g past (Some h)) (sym c.group-2.ensures)
+    held.group)
     ∙ ap (λ (g : PooledGroup). fits_pool g.network h.packets) c.group-2.ensures ∙ fits in
     let blocks = subst (λ (k : Config). AreBlocks k h.packets c.blocks-2.result.now.lists)
     (ap (λ (g : PooledGroup). g.network) c.group-3.ensures ∙ c.requires.network)
     (c.blocks-2.ensures.blocks past h (ap (λ (g : PooledGroup). g.intact) c.group-3.ensures ∙ c.requires.intact)
     (subst (λ (g : PooledGroup). Holds g past (Some h)) (sym c.group-3.ensures) held.group)
     (ap has_room c.group-3.ensures ∙ room)) in
-    let marks = subst (λ (k : Config). AreMarks k h.packets c.marks.result.now (marked_blocks k h.packets)) c.requires.network
+    let marks = subst (λ (k : Config). AreMarks k h.packets c.marks.result.now (marked_blocks k h.packets))
+    c.requires.network
     (c.marks.ensures past h held fits) in
     let origin = ap (λ (k : ℕ). k + 1)
-    (c.from.ensures ∙ c.unwrap_or-origin.ensures ∙ ap (λ (o : Option ℕ). unwrap_or o old.origin) (c.origin.ensures past h held)) in
-    let more = placed_more network n (state_of old) c.place_blocks.new.slots (signalling network n looked) placed h w.first
+    (c.from.ensures ∙ c.unwrap_or-origin.ensures ∙ ap (λ (o : Option ℕ). unwrap_or o old.origin)
+    (c.origin.ensures past h held)) in
+    let more = placed_more network n (state_of old) c.place_blocks.new.slots (signalling network n looked)
+    placed h w.first
     can w.blocks
     (λ counts before laid room fills.
     subst (λ (k : ℕ). Fills network counts c.place_blocks.new.slots
     (before ++ placed_from counts k 0 (marked_blocks network h.packets))) origin
-    (c.place_blocks.ensures.placed network counts h.packets (marked_blocks network h.packets) before laid room marks blocks fills)) in
+    (c.place_blocks.ensures.placed network counts h.packets (marked_blocks network h.packets) before
+    laid room marks blocks fills)) in
     record { number = w.number; first = more.0; blocks = more.1 }

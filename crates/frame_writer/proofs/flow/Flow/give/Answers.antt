@@ -34,11 +34,13 @@ loop-out-preserved g c =
       bytes = piece_taken now.out u.new.out now.len _ SIZE i.inside (search (rules, arith))
           ∙ ap (λ (l : List ℕ). l ++ unit) i.bytes ∙ sym (joined_push i.units unit);
       count = (let e = i.count in let s = length-append i.units (unit ∷ []) in omega (arith, e, s));
-      gives = gives_then c.args.plan.now c.args.self.now now.self u.new.flow (g.S.FrameSource.number c.args.source.now) _ _ _ i.units
+      gives = gives_then c.args.plan.now c.args.self.now now.self u.new.flow (g.S.FrameSource.number c.args.source.now)
+          _ _ _ i.units
           (unit ∷ []) i.gives
           (subst (λ (n : ℕ). Gives c.args.plan.now now.self u.new.flow n
           (g.S.FrameSource.left now.source c.args.frame.now c.args.plan.now)
-          (g.S.FrameSource.left u.new.source c.args.frame.now c.args.plan.now) (unit ∷ [])) i.number (u.ensures.some on));
+          (g.S.FrameSource.left u.new.source c.args.frame.now c.args.plan.now) (unit ∷ [])) i.number
+          (u.ensures.some on));
       number = u.ensures.number ∙ i.number;
       of = u.ensures.of;
       over = u.ensures.over;
@@ -57,7 +59,8 @@ returns-then-not-next_front-clause-gives g c =
     subst (λ (n : ℕ). HasCaughtUp c.args.plan.now u.new.flow n
     (g.S.FrameSource.left u.new.source c.args.frame.now c.args.plan.now)) i.number (u.ensures.none off) in
     ends_behind c.args.plan.now c.args.self.now u.new.flow (g.S.FrameSource.number c.args.source.now) _
-    (g.S.FrameSource.left u.new.source c.args.frame.now c.args.plan.now) now.out u.new.out now.len _ i.units i.inside i.bytes i.count
+    (g.S.FrameSource.left u.new.source c.args.frame.now c.args.plan.now) now.out u.new.out now.len _
+    i.units i.inside i.bytes i.count
     (rw (s.0, s.1) i.gives) caught
 
 pub returns-clause-gives : goal.returns-clause-gives

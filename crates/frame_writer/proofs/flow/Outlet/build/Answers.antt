@@ -20,7 +20,8 @@ returns-clause-feeds g c =
     let b = c.if-not-build.ensures.some refl in
     record {
       flows = λ all given h.
-          let was : Carries (PiperStandsFor o.piper) (is_finished o.piper) (rest_of o) o.packet_count p n (b.body ∷ next) all given =
+          let was : Carries (PiperStandsFor o.piper) (is_finished o.piper) (rest_of o) o.packet_count
+          p n (b.body ∷ next) all given =
           subst (λ (l : List Body). Carries (PiperStandsFor o.piper) (is_finished o.piper)
           (rest_of o) o.packet_count p n l all given) b.was h in
           carries_build (PiperStandsFor o.piper) (PiperStandsFor c.begin.new.self) _ _ (rest_of o)

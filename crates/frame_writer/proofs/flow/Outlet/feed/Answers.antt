@@ -19,5 +19,6 @@ returns-clause-flows c = λ config n left all given h.
     subst (λ (l : List ℕ). Carries (PiperStandsFor c.feed.new.self) (is_finished c.feed.new.self) l
     o.packet_count config n left all
     given) (drop-drop c.feed.result o.at (bytes_of o.packet))
-    (carries_feed (PiperStandsFor o.piper) (PiperStandsFor c.feed.new.self) _ _ (drop o.at (bytes_of o.packet)) c.feed.result
+    (carries_feed (PiperStandsFor o.piper) (PiperStandsFor c.feed.new.self) _ _ (drop o.at (bytes_of o.packet))
+    c.feed.result
     o.packet_count config n left all given c.requires.going stands h)

@@ -1,4 +1,5 @@
-use Rattle.std.proofs.Common.{rules, ◌≡◌, ◌+◌, ◌-◌, ◌<◌, ◌++◌, ◌∷◌, ◌∙◌, [], ℕ, List, true, false, length, drop, take, ap, sym}
+use Rattle.std.proofs.Common.{rules, ◌≡◌, ◌+◌, ◌-◌, ◌<◌, ◌++◌, ◌∷◌, ◌∙◌, [], ℕ, List, true, false, length, drop, take}
+use Rattle.std.proofs.Common.{ap, sym}
 use Rattle.std.proofs.Common.{subst}
 use Rattle.std.specs.Prelude.{slice_get, Some}
 use Rattle.std.proofs.lemmas.List.{drop-drop}
@@ -11,7 +12,8 @@ use Rattle.t2mi_stream.specs.Pipe.{JoinedByte, units_of}
 use Rattle.t2mi_stream.specs.PiperStandsFor.{PiperStandsFor, is_finished}
 use Rattle.frame_writer.specs.Carried.{Standing, AfterPiece, Carries}
 use Rattle.frame_writer.specs.Flowing.{Flows, rest_of}
-use Rattle.frame_writer.proofs.CarriedLemmas.{carries_unit, carries_none, carries_given, carries_complete, carries_caught_up}
+use Rattle.frame_writer.proofs.CarriedLemmas.{carries_unit, carries_none, carries_given, carries_complete}
+use Rattle.frame_writer.proofs.CarriedLemmas.{carries_caught_up}
 use Rattle.frame_writer.proofs.CarriedLemmas.{carries_feed, piece_after, unit_after, known_after}
 use Rattle.frame_writer.proofs.FlowLemmas.{going_when, rest_from}
 use Rattle.frame_writer.proofs.flow.Outlet.next.Goals as goal
@@ -23,13 +25,15 @@ returns-then-not-has_unit-clause-unit c = λ on config n left all given h more g
 
 pub returns-then-not-has_unit-clause-flows : goal.returns-then-not-has_unit-clause-flows
 returns-then-not-has_unit-clause-flows c = λ on config n left all given h.
-    carries_given (PiperStandsFor c.args.self.now.piper) (PiperStandsFor c.next.new.self) _ _ _ _ config n left all given
+    carries_given (PiperStandsFor c.args.self.now.piper) (PiperStandsFor c.next.new.self) _ _ _ _ config
+    n left all given
     c.next.ensures.finished (λ off pid events stands. (c.next.ensures.complete off pid events stands).0 on)
     (c.next.ensures.given on) h
 
 pub returns-then-not-has_unit-clause-none : goal.returns-then-not-has_unit-clause-none
 returns-then-not-has_unit-clause-none c = λ off end config n left all given h gone.
-    carries_none (PiperStandsFor c.args.self.now.piper) _ _ _ config n left all given (c.next.ensures.none off end) h gone
+    carries_none (PiperStandsFor c.args.self.now.piper) _ _ _ config n left all given (c.next.ensures.none off end)
+    h gone
 
 pub returns-then-not-has_unit-clause-complete : goal.returns-then-not-has_unit-clause-complete
 returns-then-not-has_unit-clause-complete c = λ on off config n left all given h.
@@ -72,11 +76,13 @@ now_complete : (c : goal.After-self-2-1) (pid : ℕ) (events : List PiperEvent) 
     → (tally events).given < length (complete_of pid (tally events).fed)
 now_complete c = known_after (old c) (piece c) (λ pid fed given. given < length (complete_of pid fed))
     (subst (λ (l : List ℕ). (pid : ℕ) (events : List PiperEvent) → old c pid events → (tally events).given
-    < length (complete_of pid (tally (events ++ Piped (take c.pipe.result l) ∷ [])).fed)) (rest_is c) c.pipe.ensures.complete)
+    < length (complete_of pid (tally (events ++ Piped (take c.pipe.result l) ∷ [])).fed)) (rest_is c)
+    c.pipe.ensures.complete)
 
 pub returns-clause-unit : goal.returns-clause-unit
 returns-clause-unit c = λ on config n left all given h more gone.
-    let units = subst (λ (l : List ℕ). (pid : ℕ) (events : List PiperEvent) → old c pid events → (items : List JoinedByte)
+    let units = subst (λ (l : List ℕ). (pid : ℕ) (events : List PiperEvent) → old c pid events
+    → (items : List JoinedByte)
     → slice_get (units_of pid ((tally (events ++ Piped (take c.pipe.result l) ∷ [])).fed ++ items)) (tally events).given
     ≡ Some c.pipe.new.out)
     (rest_is c) c.pipe.ensures.unit in
@@ -91,7 +97,8 @@ returns-clause-flows c = λ on config n left all given h.
     let stands =
     subst (λ (l : List ℕ). (pid : ℕ) (events : List PiperEvent) → old c pid events
     → new pid (events ++ Piped (take c.pipe.result l) ∷ Given ∷ [])) (rest_is c) c.pipe.ensures.stands in
-    subst (λ (l : List ℕ). Carries new (is_finished c.pipe.new.self) l c.args.self.now.packet_count config n left all (given + 1))
+    subst (λ (l : List ℕ). Carries new (is_finished c.pipe.new.self) l c.args.self.now.packet_count config
+    n left all (given + 1))
     (drop-drop c.pipe.result c.args.self.now.at (bytes_of c.args.self.now.packet))
     (carries_given (AfterPiece (old c) (piece c)) new false (is_finished c.pipe.new.self) _ _ config n left all given
     c.pipe.ensures.finished (λ _. now_complete c) (unit_after (old c) new (piece c) stands)

@@ -9,7 +9,8 @@ invariant-loop-self g l = record {
   of : g.S.FrameSource.IsFor l.source l.frame l.plan;
   number : g.S.FrameSource.number l.source ≡ g.S.FrameSource.number l.fn.source;
   kept : g.S.FrameSource.kept l.source l.plan ≡ g.S.FrameSource.kept l.fn.source l.plan;
-  feeds : Feeds l.plan l.fn.self l.self (g.S.FrameSource.number l.fn.source) (g.S.FrameSource.left l.fn.source l.frame l.plan)
+  feeds : Feeds l.plan l.fn.self l.self (g.S.FrameSource.number l.fn.source)
+      (g.S.FrameSource.left l.fn.source l.frame l.plan)
       (g.S.FrameSource.left l.source l.frame l.plan);
 }
 

@@ -10,7 +10,8 @@ returns-clause-few c = λ s.
     let blocks = c.args.self.now.blocks in
     few_left c.block_law.ensures.field p c.args.number c.first_step-self.result _ (own_in p c.args.number blocks)
     c.rules_law.ensures.plan
-    (λ j lt. let few = own_few p c.args.number blocks j in let within = c.requires.within j lt in omega (arith, few, within))
+    (λ j lt. let few = own_few p c.args.number blocks j in let within = c.requires.within j lt in omega
+    (arith, few, within))
 
 pub returns-clause-early : goal.returns-clause-early
 returns-clause-early c = λ j. early_begin c.args.plan.now c.args.number c.first_step-self.result c.args.self.now.blocks

@@ -12,7 +12,8 @@ use Rattle.gateway_core.proofs.frame.Frame.build_block.Goals as goal
 pub returns-in_default-clause-none : goal.returns-in_default-clause-none
 returns-in_default-clause-none c = λ off s.
     let f = c.args.self.now in
-    nothing_left c.args.plan.now f.number f.step (l1_body c.args.plan.now f.number s.pre s.conf f.dynamic.bits) f.blocks f.plp
+    nothing_left c.args.plan.now f.number f.step (l1_body c.args.plan.now f.number s.pre s.conf f.dynamic.bits)
+    f.blocks f.plp
     f.first c.requires.step c.in_default.ensures.none
 
 pub returns-in_default-clause-early : goal.returns-in_default-clause-early
@@ -37,7 +38,8 @@ pub returns-clause-some : goal.returns-clause-some
 returns-clause-some c = λ on s.
     let f = c.args.self.now in
     let p = c.args.plan.now in
-    let built = built_block p f.number c.args.packet_count f.step (l1_body p f.number s.pre s.conf f.dynamic.bits) f.blocks f.plp
+    let built = built_block p f.number c.args.packet_count f.step (l1_body p f.number s.pre s.conf f.dynamic.bits)
+    f.blocks f.plp
     c.in-Some.list f.first c.is_first-first.result _ c.write_block.new.out c.requires.step c.requires.plps
     c.in-Some.ensures.next c.is_first-first.ensures c.front_block-block.ensures c.write_block.ensures.bits
     c.write_block.ensures.whole in
@@ -45,4 +47,5 @@ returns-clause-some c = λ on s.
     (from_step p f.number f.step (l1_body p f.number s.pre s.conf f.dynamic.bits)
     (blocks_left p f.number (own_in p f.number f.blocks) f.plp f.first))
     (from_step p f.number f.step (l1_body p f.number s.pre s.conf f.dynamic.bits)
-    (blocks_left p f.number (own_in p f.number q) c.in-Some.list false)) c.write_block.new.out) (sym c.pop.ensures.popped) built
+    (blocks_left p f.number (own_in p f.number q) c.in-Some.list false)) c.write_block.new.out)
+    (sym c.pop.ensures.popped) built

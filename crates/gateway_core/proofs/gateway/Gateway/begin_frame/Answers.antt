@@ -25,7 +25,8 @@ returns-clause-stands c = λ config events h.
     let begun = c.begin.new.self in
     let now = c.begin-2.new.source in
     let over = g.over (dry_when g.flow.dry _ _ g.flow.full (sym c.requires.given)) in
-    let was : Holds g.inputs.items (early_of p f) g.signalling g.frames g.flow f.number (left p g.signalling f) p events =
+    let was : Holds g.inputs.items (early_of p f) g.signalling g.frames g.flow f.number (left p g.signalling f)
+    p events =
     subst (λ (k : Config). Holds g.inputs.items (early_of p f) g.signalling g.frames g.flow f.number
     (left p g.signalling f) k events) (sym h.0) h.1 in
     let old : AllFed c.deref_mut.result.now (bits_in f.blocks) p events =
@@ -38,7 +39,8 @@ returns-clause-stands c = λ config events h.
     let counts = with_items_is f.counts c.cut.new.counts (c.cut.auto.counts ∙ c.deref_mut-2.ensures.len) in
     let later : ℕ → List (List Bool) = later_in p g.frames c.cut.new.pool in
     let fed : AllFed (with_items g.inputs c.cut.new.inputs).items (early_of p now) p (events ++ Begun ∷ []) =
-    fed_kept _ later (early_of p now) p (events ++ Begun ∷ []) (λ j. ap (λ (s : Stays). s.early j) c.begin-2.ensures.kept ∙ c.begin.ensures.early j)
+    fed_kept _ later (early_of p now) p (events ++ Begun ∷ []) (λ j. ap (λ (s : Stays). s.early j)
+    c.begin-2.ensures.kept ∙ c.begin.ensures.early j)
     (subst (λ (l : List Input). AllFed l later p (events ++ Begun ∷ [])) (sym items)
     (c.cut.ensures.fed events was.frames_are old)) in
     let number : begun.number ≡ g.frames = ap (λ (l : Layout). l.number) c.begin.ensures.layout in
@@ -78,7 +80,8 @@ pub begin-requires-clause-fit : goal.begin-requires-clause-fit
 begin-requires-clause-fit c =
     let g = c.args.self.now in
     let counts = with_items_is g.frame.counts c.cut.new.counts (c.cut.auto.counts ∙ c.deref_mut-2.ensures.len) in
-    fit_on g.plan.now g.inputs.items c.deref_mut.result.now g.frame.counts.items c.deref_mut-2.result.now c.cut.new.counts _
+    fit_on g.plan.now g.inputs.items c.deref_mut.result.now g.frame.counts.items c.deref_mut-2.result.now
+    c.cut.new.counts _
     c.deref_mut.ensures.value c.deref_mut-2.ensures.value counts c.cut.ensures.fit g.most g.fit
 
 pub invariant_of-self-2 : goal.invariant_of-self-2
@@ -101,7 +104,8 @@ invariant_of-self-2 c =
       over = search rules;
       fit = fit_on p g.inputs.items c.deref_mut.result.now f.counts.items c.deref_mut-2.result.now c.cut.new.counts _
           c.deref_mut.ensures.value c.deref_mut-2.ensures.value
-          (ap (λ (s : Stays). s.layout.counts) c.begin-2.ensures.kept ∙ ap (λ (l : Layout). l.counts) c.begin.ensures.layout
+          (ap (λ (s : Stays). s.layout.counts) c.begin-2.ensures.kept ∙ ap (λ (l : Layout). l.counts)
+          c.begin.ensures.layout
           ∙ counts) c.cut.ensures.fit g.most g.fit;
       supplied = ∥∥₁_map g.supplied (λ (s : AreSupplied p g.frames g.inputs.items (early_of p f)).
           supplied_begun p g.frames g.inputs.items _ (early_of p f) (early_of p now)

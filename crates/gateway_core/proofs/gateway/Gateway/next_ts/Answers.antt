@@ -1,4 +1,5 @@
-use Rattle.std.proofs.Common.{rules, ◌≡◌, ◌∙◌, ◌+◌, ◌++◌, ◌<◌, ℕ, List, [], false, length, refl, ap, sym, subst, append-nil}
+use Rattle.std.proofs.Common.{rules, ◌≡◌, ◌∙◌, ◌+◌, ◌++◌, ◌<◌, ℕ, List, [], false, length, refl, ap, sym, subst}
+use Rattle.std.proofs.Common.{append-nil}
 use Rattle.std.proofs.lemmas.Option.{slice_get_within}
 use Rattle.std.proofs.Math.Logic.{∥∥₁_map}
 use Rattle.t2mi_stream.specs.Pipe.{pipe}
@@ -86,7 +87,8 @@ returns-clause-rest c = λ config events h fin inputs cont.
     let front = front_packets config inputs (begun events) in
     both _ _ _
     (λ on.
-    let at = holds_unit c.args.self.now.plan.now config _ _ _ _ c.args.self.now.flow _ _ events inputs [] c.next.new.out h.0
+    let at = holds_unit c.args.self.now.plan.now config _ _ _ _ c.args.self.now.flow _ _ events inputs
+    [] c.next.new.out h.0
     (c.next.ensures.unit on) h.1 cont (λ _. refl) in
     subst (λ (l : List (List ℕ)). given events < length (pipe config.pid l)) (append-nil front)
     (slice_get_within (pipe config.pid (front ++ [])) (given events) _ at))
@@ -110,9 +112,12 @@ invariant_of-self c =
       lists = search rules;
       chunks = search rules;
       over = search rules;
-      fit = subst (λ (l : List ℕ). CountsFit g.plan.now l) (sym (ap (λ (s : Stays). s.layout.counts) c.next.ensures.kept)) g.fit;
-      supplied = ∥∥₁_map g.supplied (λ (s : AreSupplied g.plan.now g.frames g.inputs.items (early_of g.plan.now g.frame)).
-          supplied_kept g.plan.now g.frames g.inputs.items (early_of g.plan.now g.frame) (early_of g.plan.now c.next.new.source)
+      fit = subst (λ (l : List ℕ). CountsFit g.plan.now l)
+          (sym (ap (λ (s : Stays). s.layout.counts) c.next.ensures.kept)) g.fit;
+      supplied = ∥∥₁_map g.supplied (λ (s : AreSupplied g.plan.now g.frames g.inputs.items
+          (early_of g.plan.now g.frame)).
+          supplied_kept g.plan.now g.frames g.inputs.items (early_of g.plan.now g.frame)
+          (early_of g.plan.now c.next.new.source)
           (λ j. ap (λ (s : Stays). s.early j) c.next.ensures.kept) s);
     }
 

@@ -1,4 +1,5 @@
-use Rattle.std.proofs.Common.{rules, ◌≡◌, ◌≢◌, ◌+◌, ◌∙◌, ◌++◌, ◌∷◌, [], List, ℕ, length, map, refl, ap, sym, subst, arith}
+use Rattle.std.proofs.Common.{rules, ◌≡◌, ◌≢◌, ◌+◌, ◌∙◌, ◌++◌, ◌∷◌, [], List, ℕ, length, map, refl, ap, sym, subst}
+use Rattle.std.proofs.Common.{arith}
 use Rattle.std.proofs.Math.Logic.{∥∥₁_map}
 use Rattle.std.specs.Prelude.{slice_index}
 use Rattle.std.proofs.lemmas.List.{with_items_is}
@@ -13,7 +14,8 @@ use Rattle.gateway_core.specs.StandsFor.{GatewayStandsFor}
 use Rattle.gateway_core.specs.declared.input.Input.{Input}
 use Rattle.gateway_core.specs.IsFed.{wanted}
 use Rattle.frame_writer.proofs.FlowLemmas.{dry_when}
-use Rattle.gateway_core.proofs.HoldsLemmas.{early_over, holds_over, has_frame, stay_offered, supplied_over, supplied_offered}
+use Rattle.gateway_core.proofs.HoldsLemmas.{early_over, holds_over, has_frame, stay_offered, supplied_over}
+use Rattle.gateway_core.proofs.HoldsLemmas.{supplied_offered}
 use Rattle.gateway_core.proofs.InputsLemmas.{one_supplied}
 use Rattle.gateway_core.proofs.gateway.Gateway.offer.Goals as goal
 
@@ -35,7 +37,8 @@ returns-clause-stands c = λ config events h.
       holds_over g.inputs.items _ (early_of p f) g.signalling g.frames g.flow p f.number f.step f.plp
           (l1_body p f.number g.signalling.pre g.signalling.conf f.dynamic.bits)
           (blocks_left p f.number (own_in p f.number f.blocks) f.plp f.first)
-          (blocks_left p f.number (own_in p f.number c.offer.new.pool) f.plp f.first) c.offer.new.pool config events c.args.plp
+          (blocks_left p f.number (own_in p f.number c.offer.new.pool) f.plp f.first) c.offer.new.pool
+          config events c.args.plp
           c.args.packet.now over c.requires.place c.requires.wanted
           (subst (λ (l : List Input). AllFed l (bits_in c.offer.new.pool) config
           (events ++ Offered c.args.plp c.args.packet.now ∷ [])) (sym items) fed) h.1,
@@ -45,7 +48,8 @@ returns-clause-stands c = λ config events h.
 
 pub returns-clause-fewer : goal.returns-clause-fewer
 returns-clause-fewer c =
-    let items = with_items_is c.args.self.now.inputs c.offer.new.inputs (c.offer.auto.inputs ∙ c.deref_mut.ensures.len) in
+    let items = with_items_is c.args.self.now.inputs c.offer.new.inputs (c.offer.auto.inputs
+    ∙ c.deref_mut.ensures.len) in
     subst (λ (l : List Input). slice_index (map wanted l) c.args.plp + 1
     ≡ slice_index (map wanted c.args.self.now.inputs.items) c.args.plp) (sym items)
     (subst (λ (l : List Input). slice_index (map wanted c.offer.new.inputs) c.args.plp + 1
@@ -53,7 +57,8 @@ returns-clause-fewer c =
 
 pub returns-clause-others : goal.returns-clause-others
 returns-clause-others c =
-    let items = with_items_is c.args.self.now.inputs c.offer.new.inputs (c.offer.auto.inputs ∙ c.deref_mut.ensures.len) in
+    let items = with_items_is c.args.self.now.inputs c.offer.new.inputs (c.offer.auto.inputs
+    ∙ c.deref_mut.ensures.len) in
     subst (λ (l : List Input). (other : ℕ) → other ≢ c.args.plp → slice_index (map wanted l) other
     ≡ slice_index (map wanted c.args.self.now.inputs.items) other) (sym items)
     (subst (λ (l : List Input). (other : ℕ) → other ≢ c.args.plp → slice_index (map wanted c.offer.new.inputs) other
@@ -69,7 +74,8 @@ offer-requires-clause-ready c = λ d.
     one_supplied c.early_fits_law.ensures.early c.deref_mut.result.now f.blocks p g.frames c.args.plp d
     (c.deref_mut.ensures.len ∙ g.whole) (omega (arith, c.requires.place, c.deref_mut.ensures.len))
     (has_frame p p f.blocks refl g.chunks g.lists)
-    (supplied_over p g.frames f.number g.inputs.items c.deref_mut.result.now f.step f.plp f.blocks c.deref_mut.ensures.value
+    (supplied_over p g.frames f.number g.inputs.items c.deref_mut.result.now f.step f.plp f.blocks
+    c.deref_mut.ensures.value
     over s))
 
 pub invariant_of-self-2 : goal.invariant_of-self-2
@@ -92,6 +98,7 @@ invariant_of-self-2 c =
           c.offer.new.pool over
           (λ events fed. subst (λ (l : List Input). AllFed l (bits_in c.offer.new.pool) p
           (events ++ Offered c.args.plp c.args.packet.now ∷ [])) (sym items)
-          (c.offer.ensures.fed p events (c.deref_mut.ensures.len ∙ g.whole) (has_frame p p f.blocks refl g.chunks g.lists)
+          (c.offer.ensures.fed p events (c.deref_mut.ensures.len ∙ g.whole)
+          (has_frame p p f.blocks refl g.chunks g.lists)
           (subst (λ (l : List Input). AllFed l (bits_in f.blocks) p events) (sym c.deref_mut.ensures.value) fed))) s);
     }

@@ -21,14 +21,22 @@ returns-clause-stands c =
         conf = c.in_ok-open.ensures.conf;
         frames_are = refl;
         last = c.new.ensures.finished;
-        flows = λ all more. subst (λ (l : List Body). Flows c.new.result.outlet c.args.plan.now f.number l [] 0) (sym nothing)
+        flows = λ all more. subst (λ (l : List Body). Flows c.new.result.outlet c.args.plan.now f.number l [] 0)
+            (sym nothing)
             (c.new.ensures.flows c.args.plan.now f.number (sym c.pid_of.ensures.value));
       },
       stay_none c.args.plan.now f.counts.items,
     )
 
 abbrev status_with : ℕ → ℕ → Bool → Bool → ℕ → Status
-status_with plps frame unit finished left = record { plps = plps; frame = frame; unit = unit; finished = finished; left = left }
+status_with plps frame unit finished left = record {
+  plps = plps;
+  frame = frame;
+  unit = unit;
+  finished =
+      finished;
+  left = left;
+}
 
 status_is : (p q f g : ℕ) (u v x y : Bool) (l m : ℕ) → p ≡ q → f ≡ g → u ≡ v → x ≡ y → l ≡ m
     → status_with p f u x l ≡ status_with q g v y m

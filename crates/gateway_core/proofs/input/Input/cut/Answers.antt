@@ -5,11 +5,14 @@ use Rattle.gateway_core.proofs.input.Input.cut.Goals as goal
 pub returns-clause-cut : goal.returns-clause-cut
 returns-clause-cut c = λ config plp t plan lt place on e h.
     let filled = c.complete.ensures.fed config plp t place h in
-    let still = place_stays config plp c.args.pool.now c.complete.new.pool c.args.list c.complete.ensures.others place in
-    fed_cut c.blocks_law.ensures c.slot_time_law.ensures.count_rises c.length_law.ensures.slot c.spread_law.ensures.frames
+    let still = place_stays config plp c.args.pool.now c.complete.new.pool c.args.list c.complete.ensures.others
+    place in
+    fed_cut c.blocks_law.ensures c.slot_time_law.ensures.count_rises c.length_law.ensures.slot
+    c.spread_law.ensures.frames
     _ _ _ _ _ _ config plp t c.complete.new.pool c.end_frame-count.new.pool c.args.list _
     c.end_frame-count.ensures.ends plan lt still on c.complete.ensures.full
-    (c.max-self.ensures ∙ next_due c.slot_time_law.ensures.count_rises c.length_law.ensures.slot config plp t.frame _ _ plan.rules
+    (c.max-self.ensures ∙ next_due c.slot_time_law.ensures.count_rises c.length_law.ensures.slot config
+    plp t.frame _ _ plan.rules
     lt filled.due_is e ∙ e) filled
 
 pub returns-clause-others : goal.returns-clause-others
@@ -18,7 +21,8 @@ returns-clause-others c =
     c.end_frame-count.ensures.others
 
 pub end_frame-count-requires-clause-ready : goal.end_frame-count-requires-clause-ready
-end_frame-count-requires-clause-ready c = served c.complete.new.self c.complete.new.pool c.args.list c.complete.ensures.ready
+end_frame-count-requires-clause-ready c = served c.complete.new.self c.complete.new.pool c.args.list
+    c.complete.ensures.ready
 
 pub returns-clause-short : goal.returns-clause-short
 returns-clause-short c = λ short. c.end_frame-count.ensures.short (c.complete.ensures.short short)

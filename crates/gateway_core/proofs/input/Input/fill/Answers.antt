@@ -8,7 +8,8 @@ loop-preserved c =
     let o = c.offer_null.ensures in
     record {
       fed = λ config plp t ended place h. o.fed config plp t ended
-          (place_stays config plp c.args.pool.now c.loop.pool c.args.list i.others place) (i.fed config plp t ended place h);
+          (place_stays config plp c.args.pool.now c.loop.pool c.args.list i.others place)
+          (i.fed config plp t ended place h);
       ready = o.ready;
       short = λ short. o.short (i.short short);
       others = others_on c.args.pool.now c.loop.pool c.offer_null.new.pool c.args.list i.others o.others;

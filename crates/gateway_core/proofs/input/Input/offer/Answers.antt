@@ -2,7 +2,8 @@ use Rattle.gateway_core.proofs.FedLemmas.{fed_offer, served}
 use Rattle.gateway_core.proofs.input.Input.offer.Goals as goal
 
 pub returns-clause-fed : goal.returns-clause-fed
-returns-clause-fed c = λ config plp t place h. fed_offer _ _ _ _ _ config plp t _ c.args.pool.now c.offer_to.new.pool c.args.list
+returns-clause-fed c = λ config plp t place h. fed_offer _ _ _ _ _ config plp t _ c.args.pool.now c.offer_to.new.pool
+    c.args.list
     c.offer_to.ensures.takes place c.requires.wanted h
 
 pub offer_to-requires-clause-ready : goal.offer_to-requires-clause-ready

@@ -19,6 +19,7 @@ returns-clause-ready c = ∥∥₁_map c.requires.ready (λ (h : IsSupplied c.ar
       config = h.config;
       plp = h.plp;
       told = h.told;
-      place = place_stays h.config h.plp c.args.pool.now c.offer_to.new.pool c.args.list c.offer_to.ensures.others h.place;
+      place = place_stays h.config h.plp c.args.pool.now c.offer_to.new.pool c.args.list c.offer_to.ensures.others
+          h.place;
       fed = returns-clause-fed c h.config h.plp h.told ended h.place h.fed;
     })

@@ -19,7 +19,8 @@ invariant_of-self c =
       plps = ap (λ (s : Status). s.plps) f.status ∙ m.plps;
       whole = m.whole;
       grouped = m.grouped;
-      wanted = subst (λ (h : List (Option (List ℕ))). HeldWanted m.plan.now c.find_next.new.gateway h) (sym same) f.wanted;
+      wanted = subst (λ (h : List (Option (List ℕ))). HeldWanted m.plan.now c.find_next.new.gateway h)
+          (sym same) f.wanted;
       worked = worked_by m.plan.now m.gateway c.find_next.new.gateway m.held.items _ m.worked
           (λ events works. (
             events,
@@ -42,7 +43,8 @@ pub returns-clause-asks : goal.returns-clause-asks
 returns-clause-asks c =
     let m = c.args.self.now in
     asks_of c.groups_law.ensures.step _ c.find_next.new.held c.find_next.result
-    (take_at c.find_next.new.held _ m.held.len (c.find_next.ensures.moves.size ∙ c.deref_mut.ensures.len)) c.rules_law.ensures.plan.rules
+    (take_at c.find_next.new.held _ m.held.len (c.find_next.ensures.moves.size ∙ c.deref_mut.ensures.len))
+    c.rules_law.ensures.plan.rules
     c.find_next.ensures.finds
 
 pub returns-clause-first : goal.returns-clause-first
@@ -52,6 +54,7 @@ returns-clause-first c = λ d events s.
     let f = c.find_next.ensures in
     let same = take_at c.find_next.new.held _ m.held.len (f.moves.size ∙ c.deref_mut.ensures.len) in
     subst (λ (e : Config). FindsWanted e events c.find_next.result) s.0
-    (finds_wanted c.groups_law.ensures.step m.plan.now c.find_next.new.gateway c.find_next.new.held events c.find_next.result
+    (finds_wanted c.groups_law.ensures.step m.plan.now c.find_next.new.gateway c.find_next.new.held events
+    c.find_next.result
     c.rules_law.ensures.plan.rules (ap (λ (s : Status). s.plps) f.moves.status ∙ m.plps)
     (subst (λ (h : List (Option (List ℕ))). Works m.plan.now c.find_next.new.gateway h events) same s.1) f.finds)

@@ -3,7 +3,8 @@ use Rattle.terms.proofs.CaseLemmas.{bool_cases}
 use Rattle.gateway_core.specs.Events.{Gave}
 use Rattle.gateway_core.specs.StandsFor.{Status}
 use Rattle.gateway_core.specs.SplitStandsFor.{SplitGatewayStandsFor}
-use Rattle.gateway_core.proofs.StandLemmas.{same_wanted, quiet_works, worked_by, kept_works, unit_of, caught_of, none_of}
+use Rattle.gateway_core.proofs.StandLemmas.{same_wanted, quiet_works, worked_by, kept_works, unit_of, caught_of}
+use Rattle.gateway_core.proofs.StandLemmas.{none_of}
 use Rattle.gateway_core.proofs.split_gateway.SplitGateway.next_ts.Goals as goal
 
 pub invariant_of-self : goal.invariant_of-self
@@ -22,7 +23,11 @@ invariant_of-self c =
             quiet_works m.plan.now m.gateway c.next_ts.new.self m.held.items events Gave (λ es k. refl)
                 (λ es k. refl) (n.stands on) works,
           ))
-          (λ off. (events, kept_works m.plan.now m.gateway c.next_ts.new.self m.held.items events (n.still off) works)));
+          (λ off. (
+            events,
+            kept_works m.plan.now m.gateway c.next_ts.new.self m.held.items events (n.still off)
+                works,
+          )));
     }
 
 pub returns-clause-unit : goal.returns-clause-unit

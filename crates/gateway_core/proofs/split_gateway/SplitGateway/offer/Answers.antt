@@ -9,7 +9,8 @@ pub invariant_of-self : goal.invariant_of-self
 invariant_of-self c =
     let m = c.args.self.now in
     let r = c.requires in
-    let inside : c.args.plp < length m.held.items = let n = m.held.ok in let w = m.whole in let i = r.inside in omega (arith, n, w, i) in
+    let inside : c.args.plp < length m.held.items = let n = m.held.ok in let w = m.whole in let i = r.inside in
+    omega (arith, n, w, i) in
     record {
       plps = m.plps;
       whole = m.whole;
@@ -19,8 +20,10 @@ invariant_of-self c =
       worked = worked_by m.plan.now m.gateway m.gateway m.held.items _ m.worked
           (λ events works. (
             events ++ Offered c.args.plp c.args.packet.now ∷ [],
-            offered_works m.plan.now m.gateway m.held.items _ events c.args.plp c.args.packet.now (r.inside, r.own) r.none
-                (asked_going m.plan.now m.gateway m.held.items events c.args.plp m.plps works (r.inside, r.own) r.some).0
+            offered_works m.plan.now m.gateway m.held.items _ events c.args.plp c.args.packet.now (r.inside, r.own)
+                r.none
+                (asked_going m.plan.now m.gateway m.held.items events c.args.plp m.plps works (r.inside, r.own)
+                r.some).0
                 (get_or-set_same m.held.items c.args.plp (Some c.args.packet.now) None inside)
                 (λ k d. get_or-set_other m.held.items c.args.plp k (Some c.args.packet.now) None d) works,
           ));
@@ -31,7 +34,8 @@ unfolding SplitGatewayStandsFor
 returns-clause-stands c = λ d events s.
     let m = c.args.self.now in
     let r = c.requires in
-    let inside : c.args.plp < length m.held.items = let n = m.held.ok in let w = m.whole in let i = r.inside in omega (arith, n, w, i) in (
+    let inside : c.args.plp < length m.held.items = let n = m.held.ok in let w = m.whole in let i = r.inside in
+    omega (arith, n, w, i) in (
       s.0,
       offered_works m.plan.now m.gateway m.held.items _ events c.args.plp c.args.packet.now (r.inside, r.own) r.none
           (asked_going m.plan.now m.gateway m.held.items events c.args.plp m.plps s.1 (r.inside, r.own) r.some).0

@@ -22,5 +22,6 @@ pub returns-clause-stands : goal.returns-clause-stands
 unfolding SplitGatewayStandsFor
 returns-clause-stands c = (
   refl,
-  new_works c.args.plan.now c.in_ok-gateway.gateway c.in_ok-held.held.items _ c.in_ok-held.ensures.none c.in_ok-gateway.ensures.stands,
+  new_works c.args.plan.now c.in_ok-gateway.gateway c.in_ok-held.held.items _ c.in_ok-held.ensures.none
+      c.in_ok-gateway.ensures.stands,
 )

@@ -12,6 +12,8 @@ unfolding SplitGatewayStandsFor
 returns-clause-answer c = λ d events s.
     let m = c.args.self.now in
     c.wants.ensures.value
-    ∙ subst (λ (e : Config). core.wants_of m.gateway c.args.plp ≡ slots_by e c.args.plp (begun events * e.ticks) - length (offered c.args.plp events)) s.0
-    (asked_wants m.plan.now m.gateway m.held.items events c.args.plp m.plps s.1 (c.requires.inside, c.requires.own) c.requires.none
+    ∙ subst (λ (e : Config). core.wants_of m.gateway c.args.plp ≡ slots_by e c.args.plp (begun events * e.ticks)
+    - length (offered c.args.plp events)) s.0
+    (asked_wants m.plan.now m.gateway m.held.items events c.args.plp m.plps s.1 (c.requires.inside, c.requires.own)
+    c.requires.none
     c.requires.some)

@@ -7,7 +7,8 @@ use Rattle.gateway_run.proofs.joint.SplitGatewayFrameGateway.look.Goals as goal
 
 pub overflow_sub-result : goal.overflow_sub-result
 overflow_sub-result c =
-    never_before c.next.new.self c.args.plan.now c.in-Some.plp c.commons.result (c.next.ensures.config ∙ c.requires.is_of)
+    never_before c.next.new.self c.args.plan.now c.in-Some.plp c.commons.result (c.next.ensures.config
+    ∙ c.requires.is_of)
     (c.commons.ensures ∙ ap (λ (k : Config). commons k.plps) c.config.ensures.value) c.in-Some.ensures.asks
 
 pub returns-in-Some-clause-asks : goal.returns-in-Some-clause-asks

@@ -12,7 +12,8 @@ pub returns-clause-becomes : goal.returns-clause-becomes
 returns-clause-becomes g c = λ start events h.
     let m = c.args.self.now in
     let next = g.G.FrameGateway.seen c.end_input-self.new.gateway m.plan.now in
-    let r = falls_short_at ((g.G.FrameGateway.seen m.gateway m.plan.now).wants m.place.input) m.place.input m.place.phase _ _
+    let r = falls_short_at ((g.G.FrameGateway.seen m.gateway m.plan.now).wants m.place.input) m.place.input
+    m.place.phase _ _
     c.requires.wanted in (
       h.0,
       subst (λ (k : ℕ). Holds g.G.FrameGateway.sharing m.plan.now (events ++ Ended k c.args.bytes.now ∷ []) next.stands
@@ -22,7 +23,8 @@ returns-clause-becomes g c = λ start events h.
 pub returns-clause-reach : goal.returns-clause-reach
 returns-clause-reach g c = λ other.
     let m = c.args.self.now in
-    let r = falls_short_at ((g.G.FrameGateway.seen m.gateway m.plan.now).wants m.place.input) m.place.input m.place.phase _ _
+    let r = falls_short_at ((g.G.FrameGateway.seen m.gateway m.plan.now).wants m.place.input) m.place.input
+    m.place.phase _ _
     c.requires.wanted in
     let was = ap (λ (p : Phase). frame_read p m.ran.frames) r.0 in
     let is = c.end_input-self.ensures.read in

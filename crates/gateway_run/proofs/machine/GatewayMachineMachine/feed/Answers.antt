@@ -13,17 +13,20 @@ pub returns-clause-becomes : goal.returns-clause-becomes
 returns-clause-becomes g c = λ start events h.
     let m = c.args.self.now in
     let next = g.G.FrameGateway.seen c.take_packet-self.new.gateway m.plan.now in
-    let r = suffices_at ((g.G.FrameGateway.seen m.gateway m.plan.now).wants m.place.input) m.place.input m.place.phase _ _
+    let r = suffices_at ((g.G.FrameGateway.seen m.gateway m.plan.now).wants m.place.input) m.place.input
+    m.place.phase _ _
     c.requires.wanted in (
       h.0,
-      subst (λ (k : ℕ). Holds g.G.FrameGateway.sharing m.plan.now (events ++ Fed k (take SIZE c.args.bytes.now) ∷ []) next.stands
+      subst (λ (k : ℕ). Holds g.G.FrameGateway.sharing m.plan.now (events ++ Fed k (take SIZE c.args.bytes.now) ∷ [])
+          next.stands
           c.take_packet-self.result m.ran) r.1 (c.take_packet-self.ensures.holds events h.1),
     )
 
 pub returns-clause-reach : goal.returns-clause-reach
 returns-clause-reach g c = λ other.
     let m = c.args.self.now in
-    let r = suffices_at ((g.G.FrameGateway.seen m.gateway m.plan.now).wants m.place.input) m.place.input m.place.phase _ _
+    let r = suffices_at ((g.G.FrameGateway.seen m.gateway m.plan.now).wants m.place.input) m.place.input
+    m.place.phase _ _
     c.requires.wanted in
     let was = ap (λ (p : Phase). frame_read p m.ran.frames) r.0 in
     let is = c.take_packet-self.ensures.read in

@@ -14,7 +14,8 @@ pub returns-in-Begins-clause-becomes : goal.returns-in-Begins-clause-becomes
 returns-in-Begins-clause-becomes g c = λ start events h. (
   h.0,
   nothing_gave g.G.FrameGateway.sharing c.events_law.ensures c.args.self.now.plan.now events
-      (g.G.FrameGateway.seen c.begin-self.new.gateway c.args.self.now.plan.now).stands _ _ (c.begin-self.ensures.holds events h.1),
+      (g.G.FrameGateway.seen c.begin-self.new.gateway c.args.self.now.plan.now).stands _ _
+      (c.begin-self.ensures.holds events h.1),
 )
 
 pub returns-in-Begins-clause-reach : goal.returns-in-Begins-clause-reach
@@ -36,7 +37,8 @@ returns g c =
             h.0,
             subst
                 (λ (l : List ℕ). Holds g.G.FrameGateway.sharing m.plan.now (events ++ Gave l ∷ [])
-                (g.G.FrameGateway.seen c.give.new.gateway m.plan.now).stands c.give.new.place c.give.new.ran) (sym front)
+                (g.G.FrameGateway.seen c.give.new.gateway m.plan.now).stands c.give.new.place c.give.new.ran)
+                (sym front)
                 (e.holds events h.1),
           );
       left = e.left;

@@ -5,7 +5,8 @@ use Rattle.linked_pool.proofs.chains.Chains.move_front.Goals as goal
 pub link-requires-clause-from : goal.link-requires-clause-from
 link-requires-clause-from c =
     inside c.args.self.now c.self.inside.next.items c.self.inside.heads.items c.self.inside.sizes.items
-    c.as_mut_slice-4.result.now c.args.from (sym c.self.view_is) c.self.invariant.heads_too c.as_mut_slice-4.ensures.value
+    c.as_mut_slice-4.result.now c.args.from (sym c.self.view_is) c.self.invariant.heads_too
+    c.as_mut_slice-4.ensures.value
     c.requires.from
 
 pub link-requires-clause-to : goal.link-requires-clause-to

@@ -12,7 +12,8 @@ first_if_any-requires c =
 
 pub count_at-requires : goal.count_at-requires
 count_at-requires c =
-    rw c.as_slice-4.ensures.value (has_list c.self.inside c.args.self.now c.args.list c.self.view_is c.self.invariant c.requires)
+    rw c.as_slice-4.ensures.value (has_list c.self.inside c.args.self.now c.args.list c.self.view_is
+    c.self.invariant c.requires)
 
 pub invariant_of-result : goal.invariant_of-result
 invariant_of-result c =

@@ -8,7 +8,8 @@ use Rattle.linked_pool.proofs.pool.Pool.pop.Goals as goal
 
 pub count_at-count-requires : goal.count_at-count-requires
 count_at-count-requires c =
-    rw c.as_slice.ensures.value (has_list c.self.inside c.args.self.now c.args.list c.self.view_is c.self.invariant c.requires)
+    rw c.as_slice.ensures.value (has_list c.self.inside c.args.self.now c.args.list c.self.view_is c.self.invariant
+    c.requires)
 
 pub returns-then-count-eq0-clause-some : goal.returns-then-count-eq0-clause-some
 returns-then-count-eq0-clause-some c =
@@ -30,7 +31,8 @@ first-first-requires-clause-some c =
     let e = c.count_at-count.ensures ∙ ap (λ xs. get_or xs c.args.list 0) c.as_slice.ensures.value in
     let z = c.if-count-eq0.false in
     let some : 0 < get_or c.self.inside.counts.items c.args.list 0 = omega (arith, e, z) in
-    let f = front c.self.inside.chains c.self.inside.chunks.items c.self.inside.lens.items c.self.inside.counts.items c.args.list
+    let f = front c.self.inside.chains c.self.inside.chunks.items c.self.inside.lens.items c.self.inside.counts.items
+    c.args.list
     c.self.invariant.0 inside some in
     omega (arith, f.fits)
 
@@ -50,7 +52,8 @@ overflow_cast-size c =
     let e = c.count_at-count.ensures ∙ ap (λ xs. get_or xs c.args.list 0) c.as_slice.ensures.value in
     let z = c.if-count-eq0.false in
     let some : 0 < get_or c.self.inside.counts.items c.args.list 0 = omega (arith, e, z) in
-    let f = front c.self.inside.chains c.self.inside.chunks.items c.self.inside.lens.items c.self.inside.counts.items c.args.list
+    let f = front c.self.inside.chains c.self.inside.chunks.items c.self.inside.lens.items c.self.inside.counts.items
+    c.args.list
     c.self.invariant.0 inside some in
     let size : c.chunks_for-size.result ≡ front_chunks c.self.inside.lens.items
     (get_or c.self.inside.chains (c.args.list + 1) []) =
@@ -66,7 +69,8 @@ move_front-requires-clause-enough c =
     let e = c.count_at-count.ensures ∙ ap (λ xs. get_or xs c.args.list 0) c.as_slice.ensures.value in
     let z = c.if-count-eq0.false in
     let some : 0 < get_or c.self.inside.counts.items c.args.list 0 = omega (arith, e, z) in
-    let f = front c.self.inside.chains c.self.inside.chunks.items c.self.inside.lens.items c.self.inside.counts.items c.args.list
+    let f = front c.self.inside.chains c.self.inside.chunks.items c.self.inside.lens.items c.self.inside.counts.items
+    c.args.list
     c.self.invariant.0 inside some in
     let size : c.chunks_for-size.result ≡ front_chunks c.self.inside.lens.items
     (get_or c.self.inside.chains (c.args.list + 1) []) =
@@ -86,7 +90,8 @@ invariant_of-self c =
     c.chunks_for-size.ensures
     ∙ ap chunks_for (c.count_at.ensures ∙ ap (λ xs. get_or xs c.first-first.result 0) c.as_slice-2.ensures.value
     ∙ ap (λ n. get_or c.self.inside.lens.items n 0) c.first-first.ensures) in (
-      (pop_law c.args.self.now c.self.inside.chains c.self.inside.chunks.items c.move_front.new.self c.self.inside.lens.items
+      (pop_law c.args.self.now c.self.inside.chains c.self.inside.chunks.items c.move_front.new.self
+          c.self.inside.lens.items
           c.self.inside.counts.items c.args.list c.chunks_for-size.result (c.count_at-count.result - 1)
           (sym c.self.view_is) c.self.invariant.0 c.requires some size (ap (λ n. n - 1) e) c.move_front.ensures).0,
       ends_popped c.self.inside.chains c.self.inside.chunks.items c.move_front.new.self c.self.inside.lens.items
@@ -106,7 +111,8 @@ returns c =
     ∙ ap chunks_for (c.count_at.ensures ∙ ap (λ xs. get_or xs c.first-first.result 0) c.as_slice-2.ensures.value
     ∙ ap (λ n. get_or c.self.inside.lens.items n 0) c.first-first.ensures) in
     let p = (pop_law c.args.self.now c.self.inside.chains c.self.inside.chunks.items c.move_front.new.self
-    c.self.inside.lens.items c.self.inside.counts.items c.args.list c.chunks_for-size.result (c.count_at-count.result - 1)
+    c.self.inside.lens.items c.self.inside.counts.items c.args.list c.chunks_for-size.result
+    (c.count_at-count.result - 1)
     (sym c.self.view_is) c.self.invariant.0 c.requires some size (ap (λ n. n - 1) e) c.move_front.ensures) in
     let n = count_in c.self.inside c.args.self.now c.args.list c.self.view_is c.self.invariant c.requires in
     record {

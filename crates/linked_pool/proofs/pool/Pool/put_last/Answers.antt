@@ -1,4 +1,4 @@
-use Rattle.std.proofs.Common.{rules, ◌≡◌, ◌+◌, length, refl, ap, sym, ◌∙◌, arith}
+use Rattle.std.proofs.Common.{rules, ◌+◌, length, refl, ap, sym, ◌∙◌, arith}
 use Rattle.std.specs.Vec.{with_items}
 use Rattle.std.proofs.lemmas.List.{with_items_is, get_or_read}
 use Rattle.terms.specs.Bits.{bytes_of}
@@ -15,16 +15,20 @@ fill-requires-clause-tight c =
 
 pub index_mut-requires : goal.index_mut-requires
 index_mut-requires c =
-    let lt = first_free c.self.inside.chains c.self.inside.chunks.items c.self.inside.lens.items c.self.inside.counts.items
+    let lt = first_free c.self.inside.chains c.self.inside.chunks.items c.self.inside.lens.items
+    c.self.inside.counts.items
     c.first-first.result c.self.invariant.0
-    (omega (arith, c.requires.count, free_in c.self.inside c.args.self.now c.args.count c.self.view_is c.requires.free)) c.first-first.ensures in
+    (omega (arith, c.requires.count, free_in c.self.inside c.args.self.now c.args.count c.self.view_is c.requires.free))
+    c.first-first.ensures in
     search rules
 
 pub index_mut-requires-2 : goal.index_mut-requires-2
 index_mut-requires-2 c =
-    let lt = first_free c.self.inside.chains c.self.inside.chunks.items c.self.inside.lens.items c.self.inside.counts.items
+    let lt = first_free c.self.inside.chains c.self.inside.chunks.items c.self.inside.lens.items
+    c.self.inside.counts.items
     c.first-first.result c.self.invariant.0
-    (omega (arith, c.requires.count, free_in c.self.inside c.args.self.now c.args.count c.self.view_is c.requires.free)) c.first-first.ensures in
+    (omega (arith, c.requires.count, free_in c.self.inside c.args.self.now c.args.count c.self.view_is c.requires.free))
+    c.first-first.ensures in
     let there = rw (← c.self.invariant.1.lasts_too) at lt in search rules
 
 pub move_front-requires-clause-to : goal.move_front-requires-clause-to
@@ -34,51 +38,62 @@ move_front-requires-clause-to c =
 
 pub index_mut-requires-3 : goal.index_mut-requires-3
 index_mut-requires-3 c =
-    let inside = has_list c.self.inside c.args.self.now c.args.list c.self.view_is c.self.invariant c.requires.list in search rules
+    let inside = has_list c.self.inside c.args.self.now c.args.list c.self.view_is c.self.invariant c.requires.list in
+    search rules
 
 pub overflow_add-index_mut : goal.overflow_add-index_mut
 overflow_add-index_mut c =
     let inside = has_list c.self.inside c.args.self.now c.args.list c.self.view_is c.self.invariant c.requires.list in
-    let small = count_small c.self.inside.chains c.self.inside.chunks.items c.self.inside.lens.items c.self.inside.counts.items
+    let small = count_small c.self.inside.chains c.self.inside.chunks.items c.self.inside.lens.items
+    c.self.inside.counts.items
     c.args.list c.self.invariant.0 inside in
     let few = c.self.invariant.0.few_chunks in
-    let now = get_or_read c.self.inside.counts.items c.args.list c.index_mut-3.result.now inside c.index_mut-3.ensures.value 0 in
+    let now = get_or_read c.self.inside.counts.items c.args.list c.index_mut-3.result.now inside
+    c.index_mut-3.ensures.value 0 in
     omega (arith, small, few, now)
 
 pub invariant_of-self : goal.invariant_of-self
 invariant_of-self c =
     let inside = has_list c.self.inside c.args.self.now c.args.list c.self.view_is c.self.invariant c.requires.list in
-    let copied = with_items_is c.self.inside.chunks c.fill.new.chunks (c.fill.auto.chunks ∙ c.as_mut_slice.ensures.len) in (
+    let copied = with_items_is c.self.inside.chunks c.fill.new.chunks (c.fill.auto.chunks
+    ∙ c.as_mut_slice.ensures.len) in (
       (append_done c.args.self.now c.self.inside.chains c.self.inside.chunks.items c.fill.new.chunks
           (with_items c.self.inside.chunks c.fill.new.chunks).items c.move_front.new.self c.self.inside.lens.items
           c.self.inside.counts.items c.args.list c.args.count (c.index_mut-3.result.now + 1) c.first-first.result
           c.args.len (bytes_of c.args.block.now) (sym c.self.view_is) c.self.invariant.0 c.requires.list
-          (bytes_len c.args.block.now c.args.len c.requires.len) c.requires.count (free_in c.self.inside c.args.self.now c.args.count c.self.view_is c.requires.free)
+          (bytes_len c.args.block.now c.args.len c.requires.len) c.requires.count
+          (free_in c.self.inside c.args.self.now c.args.count c.self.view_is c.requires.free)
           (c.fill.auto.chunks ∙ ap length c.as_mut_slice.ensures.value) copied
           (rw c.as_mut_slice.ensures.value at c.fill.ensures) c.first-first.ensures
           (ap (λ n. n + 1)
-          (get_or_read c.self.inside.counts.items c.args.list c.index_mut-3.result.now inside c.index_mut-3.ensures.value 0))
+          (get_or_read c.self.inside.counts.items c.args.list c.index_mut-3.result.now inside
+          c.index_mut-3.ensures.value 0))
           c.move_front.ensures).0,
       ends_appended c.self.inside.chains c.self.inside.chunks.items c.move_front.new.self c.self.inside.lens.items
           c.self.inside.lasts.items c.self.inside.counts.items c.args.list c.args.count
           (c.index_mut-3.result.now + 1) c.first-first.result c.last.result c.args.len c.self.invariant.0
-          c.self.invariant.1 inside c.requires.count (free_in c.self.inside c.args.self.now c.args.count c.self.view_is c.requires.free)
+          c.self.invariant.1 inside c.requires.count (free_in c.self.inside c.args.self.now c.args.count
+          c.self.view_is c.requires.free)
           c.first-first.ensures
           (ap (λ n. n + 1)
-          (get_or_read c.self.inside.counts.items c.args.list c.index_mut-3.result.now inside c.index_mut-3.ensures.value 0))
+          (get_or_read c.self.inside.counts.items c.args.list c.index_mut-3.result.now inside
+          c.index_mut-3.ensures.value 0))
           c.move_front.ensures c.last.ensures,
     )
 
 pub returns : goal.returns
 returns c =
     let inside = has_list c.self.inside c.args.self.now c.args.list c.self.view_is c.self.invariant c.requires.list in
-    let copied = with_items_is c.self.inside.chunks c.fill.new.chunks (c.fill.auto.chunks ∙ c.as_mut_slice.ensures.len) in
+    let copied = with_items_is c.self.inside.chunks c.fill.new.chunks (c.fill.auto.chunks
+    ∙ c.as_mut_slice.ensures.len) in
     let p = (append_done c.args.self.now c.self.inside.chains c.self.inside.chunks.items c.fill.new.chunks
     (with_items c.self.inside.chunks c.fill.new.chunks).items c.move_front.new.self c.self.inside.lens.items
     c.self.inside.counts.items c.args.list c.args.count (c.index_mut-3.result.now + 1) c.first-first.result
     c.args.len (bytes_of c.args.block.now) (sym c.self.view_is) c.self.invariant.0 c.requires.list
-    (bytes_len c.args.block.now c.args.len c.requires.len) c.requires.count (free_in c.self.inside c.args.self.now c.args.count c.self.view_is c.requires.free)
-    (c.fill.auto.chunks ∙ ap length c.as_mut_slice.ensures.value) copied (rw c.as_mut_slice.ensures.value at c.fill.ensures)
+    (bytes_len c.args.block.now c.args.len c.requires.len) c.requires.count
+    (free_in c.self.inside c.args.self.now c.args.count c.self.view_is c.requires.free)
+    (c.fill.auto.chunks ∙ ap length c.as_mut_slice.ensures.value) copied (rw c.as_mut_slice.ensures.value
+    at c.fill.ensures)
     c.first-first.ensures
     (ap (λ n. n + 1)
     (get_or_read c.self.inside.counts.items c.args.list c.index_mut-3.result.now inside c.index_mut-3.ensures.value 0))

@@ -21,4 +21,5 @@ returns-clause-shown c = λ k count done came over.
     (stands_as k _ _ s.is_at.content (frames_of k s.made) (gave done) same
     (c.finish.ensures.stands s.is_at.content (frames_of k s.made) (gave done)
     (stands_as _ k m.sender s.is_at.content (frames_of k s.made) (gave done) (sym same) s.is_at.stands)))
-    (λ xs ys all. none_next k count m.feeds.items done s.gone s.come (all_known m.feeds.items count over s.come.count) s.past xs ys all over)
+    (λ xs ys all. none_next k count m.feeds.items done s.gone s.come (all_known m.feeds.items count over s.come.count)
+    s.past xs ys all over)

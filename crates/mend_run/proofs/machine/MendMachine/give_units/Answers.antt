@@ -45,7 +45,8 @@ returns-then-not-busy-clause-shown c = λ k count done came.
     c.pass.ensures.shown k count (done ++ Gave out ∷ [])
     (shown_given tell k count done out m _ (Sends n from) (Passes (Some n) true) s refl refl refl
     (c.add_units.ensures ∙ ap (λ (x : Tally). with_units x (len / SIZE)) s.tally
-    ∙ tally_units s.made (gave done) out len (length-take-le len c.give-len.new.out (omega (arith, size, inside))) c.give-len.ensures.whole)
+    ∙ tally_units s.made (gave done) out len (length-take-le len c.give-len.new.out (omega (arith, size, inside)))
+    c.give-len.ensures.whole)
     (λ xs ys x. x) (
       record {
         content = content_of frame;
@@ -98,11 +99,13 @@ returns-else-not-busy-clause-shown c = λ k count done came.
     from_place k count (done ++ Gave out ∷ []) _ (phase.Sends n from) c.requires.sends
     (shown_given tell k count done out m _ (Sends n from) (Sends n from) s refl refl refl
     (c.add_units.ensures ∙ ap (λ (x : Tally). with_units x (len / SIZE)) s.tally
-    ∙ tally_units s.made (gave done) out len (length-take-le len c.give-len.new.out (omega (arith, size, inside))) c.give-len.ensures.whole)
+    ∙ tally_units s.made (gave done) out len (length-take-le len c.give-len.new.out (omega (arith, size, inside)))
+    c.give-len.ensures.whole)
     (λ xs ys x. x)
     (record {
       stands = subst (SenderStandsFor k c.give-len.new.self y (frames_of k s.made)) (sym t.gave)
-          (subst (λ (z : Content). SenderStandsFor k c.give-len.new.self z (frames_of k s.made) (gave done ++ out)) is new);
+          (subst (λ (z : Content). SenderStandsFor k c.give-len.new.self z (frames_of k s.made) (gave done ++ out))
+          is new);
       known = s.is_at.known;
       passes = s.is_at.passes;
     }))

@@ -7,7 +7,8 @@ use Rattle.mend_run.specs.AsMachine.{step_in}
 use Rattle.mend_run.specs.declared.phase.Phase.{Phase}
 use Rattle.mend_run.specs.declared.phase.Phase.TheVariants as phase
 use Rattle.mend_run.proofs.ShownLemmas.{at_place, shown_passes}
-use Rattle.mend_run.proofs.StepLemmas.{all_over, early_at, gives_known, least_at, low_next, passes_at, silent_next, step_left}
+use Rattle.mend_run.proofs.StepLemmas.{all_over, early_at, gives_known, least_at, low_next, passes_at, silent_next}
+use Rattle.mend_run.proofs.StepLemmas.{step_left}
 use Rattle.mend_run.proofs.machine.MendMachine.go_on.Goals as goal
 
 pub make-requires-clause-early : goal.make-requires-clause-early
@@ -84,7 +85,8 @@ returns-then-is_silent-clause-shown c = λ k count done came.
     let all_count = s.come.count in
     c.pass-then-is_silent.ensures.shown k count done
     (shown_passes k count done m m None true s refl refl s.mends refl refl known
-    (λ xs ys all. silent_next k count feeds done s.gone s.come known s.past xs ys all y.0 (omega (arith, inside, all_count)) there
+    (λ xs ys all. silent_next k count feeds done s.gone s.come known s.past xs ys all y.0
+    (omega (arith, inside, all_count)) there
     least_count))
 
 pub returns-then-is_silent-clause-left : goal.returns-then-is_silent-clause-left
@@ -111,4 +113,5 @@ returns-else-is_silent-clause-shown c = λ k count done came.
     (sym c.least_number.ensures ∙ c.in-None.is) in
     c.finish.ensures.shown k count done came
     (all_over feeds count known (subst (λ (l : ℕ). least_head l (head_at feeds) ≡ None) s.come.count least)
-    (λ i e. c.is_silent.ensures.«no» c.if-is_silent.false i (subst (λ (l : List Feed). head_at l i ≡ head.Silent) (sym c.deref-in-None.ensures.value) e)))
+    (λ i e. c.is_silent.ensures.«no» c.if-is_silent.false i (subst (λ (l : List Feed). head_at l i ≡ head.Silent)
+    (sym c.deref-in-None.ensures.value) e)))

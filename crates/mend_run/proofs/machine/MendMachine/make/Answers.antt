@@ -1,9 +1,11 @@
-use Rattle.std.proofs.Common.{◌≡◌, ◌≤◌, ◌++◌, ◌∷◌, true, ℕ, List, [], length, Some, None, refl, ap, ap₂, sym, subst, ◌∙◌, arith}
+use Rattle.std.proofs.Common.{◌≡◌, ◌≤◌, ◌++◌, ◌∷◌, true, ℕ, List, [], length, Some, None, refl, ap, ap₂, sym, subst}
+use Rattle.std.proofs.Common.{◌∙◌, arith}
 use Rattle.plp_config.specs.declared.config.Config.{Config}
 use Rattle.mended_frames.specs.Heads.{head_at, least_head}
 use Rattle.spaced_frames.specs.StandsFor.{SenderStandsFor, Content, sent_as}
 use Rattle.mended_frames.specs.Mended.{Made, made_of, made_as, frames_of, content_in, low_of}
-use Rattle.mended_frames.specs.StandsFor.{Feed, HaveGroups, MenderStandsFor, is_woven_by, lent_by, lent_content, picked_as}
+use Rattle.mended_frames.specs.StandsFor.{Feed, HaveGroups, MenderStandsFor, is_woven_by, lent_by, lent_content}
+use Rattle.mended_frames.specs.StandsFor.{picked_as}
 use Rattle.mended_frames.specs.declared.mender.Mender.{Mender}
 use Rattle.file_run.specs.Events.{gave}
 use Rattle.mend_run.specs.AsMachine.{left_of, left_at}
@@ -26,8 +28,8 @@ returns-in-Some-clause-shown c = λ k count done came known least low.
     let low_is = s.low in
     let behind : low_of s.past ≤ n = omega (arith, low, low_is) in
     let g = next_groups k n done s.gone count feeds s.come known in
-    let have : HaveGroups n c.deref.result.now g.groups =
-    subst (λ (l : List Feed). HaveGroups n l g.groups) (sym c.deref.ensures.value) g.have in
+    let have : HaveGroups n c.deref-2.result.now g.groups =
+    subst (λ (l : List Feed). HaveGroups n l g.groups) (sym c.deref-2.ensures.value) g.have in
     let makes = c.in-Some.ensures.some g.groups s.past s.mends (above s.past n behind) have in
     let config : mender.plan.now ≡ k = c.make.ensures.plan ∙ m.mends ∙ s.plan in
     let x : Made = made_as n (is_woven_by from) makes.group in
@@ -38,15 +40,17 @@ returns-in-Some-clause-shown c = λ k count done came known least low.
     subst (λ (z : Config). made_of z s.past (picked_as n g.groups) ≡ Some x) config makes.made in
     let least_count = subst (λ (l : ℕ). least_head l (head_at feeds) ≡ Some n) s.come.count least in
     let lent : lent_by from mender feeds ≡ Some makes.lent =
-    subst (λ (l : List Feed). lent_by from mender l ≡ Some makes.lent) c.deref.ensures.value makes.is in
+    subst (λ (l : List Feed). lent_by from mender l ≡ Some makes.lent) c.deref-2.ensures.value makes.is in
     from_place k count done new (phase.Sends n from) c.begin.ensures.phase
     (shown_begun k count done m new n from (is_woven_by from) makes.group y s same.0 items
-    (subst (λ (z : Mender). MenderStandsFor z (record { number = n; group = makes.group } ∷ s.past)) (sym same.2) makes.stands)
+    (subst (λ (z : Mender). MenderStandsFor z (record { number = n; group = makes.group } ∷ s.past))
+    (sym same.2) makes.stands)
     c.begin.ensures.tally known (passes_at feeds n true (least_at feeds (length feeds) n least))
     (ap₂ (λ (z : Mender) (l : List Feed). lent_content from z l) (sym same.2) (sym items))
     (c.begin.ensures.content makes.lent makes.own makes.group lent makes.holds
     ∙ ap (λ (z : Config). content_in z makes.group.packets) s.plan)
-    (subst (λ (z : Config). SenderStandsFor z new.sender y (frames_of k s.made ++ sent_as z n y ∷ []) (gave done)) s.plan
+    (subst (λ (z : Config). SenderStandsFor z new.sender y (frames_of k s.made ++ sent_as z n y ∷ []) (gave done))
+    s.plan
     (c.begin.ensures.sends s.is_at.content (frames_of k s.made) (gave done)
     (stands_as m.plan.now k m.sender s.is_at.content (frames_of k s.made) (gave done) (sym s.plan) s.is_at.stands)))
     (λ xs ys all. frame_next k count feeds done s.gone s.come known s.past xs ys all n least_count behind (Some x)
@@ -61,8 +65,8 @@ returns-in-None-clause-shown c = λ k count done came known least low.
     let low_is = s.low in
     let behind : low_of s.past ≤ n = omega (arith, low, low_is) in
     let g = next_groups k n done s.gone count feeds s.come known in
-    let have : HaveGroups n c.deref.result.now g.groups =
-    subst (λ (l : List Feed). HaveGroups n l g.groups) (sym c.deref.ensures.value) g.have in
+    let have : HaveGroups n c.deref-2.result.now g.groups =
+    subst (λ (l : List Feed). HaveGroups n l g.groups) (sym c.deref-2.ensures.value) g.have in
     let none = c.in-None.ensures.none g.groups s.past s.mends (above s.past n behind) have in
     let made : made_of k s.past (picked_as n g.groups) ≡ None =
     subst (λ (z : Config). made_of z s.past (picked_as n g.groups) ≡ None) (m.mends ∙ s.plan) none.0 in

@@ -9,7 +9,8 @@ returns-clause-becomes c =
     let k = c.args.plan.now in
     let come = c.in_ok-open_feeds.ensures.come in
     shown_opened k (length c.in_ok-open_feeds.field-0.items) _ refl
-    (subst (λ (n : ℕ). HaveCome k n c.in_ok-open_feeds.field-0.items [] (λ i. [])) (sym come.count) come) c.in_ok-open.ensures.stands
+    (subst (λ (n : ℕ). HaveCome k n c.in_ok-open_feeds.field-0.items [] (λ i. [])) (sym come.count) come)
+    c.in_ok-open.ensures.stands
     c.new.ensures.stands refl
 
 pub invariant_of-result-clause-pid : goal.invariant_of-result-clause-pid

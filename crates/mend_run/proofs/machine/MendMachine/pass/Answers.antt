@@ -14,12 +14,14 @@ returns-clause-shown c = λ k count done s.
     let silent = c.args.silent in
     let items = with_items_is m.feeds c.pass_next.new.feeds (c.pass_next.auto.feeds ∙ c.deref_mut.ensures.len) in
     let value = c.deref_mut.ensures.value in
-    let p = c.pass_next.ensures.passes k count done s.gone (subst (λ (l : List Feed). HaveCome k count l done s.gone) (sym value) s.come)
+    let p = c.pass_next.ensures.passes k count done s.gone (subst (λ (l : List Feed). HaveCome k count l done s.gone)
+    (sym value) s.come)
     (subst AllKnown (sym value) s.is_at.1) in
     from_place k count done _ phase.Looks c.requires.looks
     (shown_passed k count done m _ number silent s
     (subst (λ (l : List Feed). Pass k count number silent m.feeds.items l done s.gone) (sym items)
-    (subst (λ (l : List Feed). Pass k count number silent l c.pass_next.new.feeds done s.gone) value p)) refl refl refl refl)
+    (subst (λ (l : List Feed). Pass k count number silent l c.pass_next.new.feeds done s.gone) value p))
+    refl refl refl refl)
 
 pub returns-clause-left : goal.returns-clause-left
 returns-clause-left c = λ one.
@@ -35,7 +37,8 @@ pub returns-clause-reach : goal.returns-clause-reach
 returns-clause-reach c =
     let m = c.args.self.now in
     let items = with_items_is m.feeds c.pass_next.new.feeds (c.pass_next.auto.feeds ∙ c.deref_mut.ensures.len) in
-    reach_by m.feeds.items c.deref_mut.result.now c.pass_next.new.feeds _ c.deref_mut.ensures.value items c.pass_next.ensures.len
+    reach_by m.feeds.items c.deref_mut.result.now c.pass_next.new.feeds _ c.deref_mut.ensures.value items
+    c.pass_next.ensures.len
     c.pass_next.ensures.fed
 
 pub invariant_of-self-clause-of : goal.invariant_of-self-clause-of

@@ -27,7 +27,8 @@ end_one-requires-clause-unknown c =
 
 pub end_one-requires-clause-short : goal.end_one-requires-clause-short
 end_one-requires-clause-short c =
-    (asked FallsShort (λ i n h. h) (λ i n h. h) c.args.self.now.phase c.args.self.now.feeds.items c.args.input _ c.requires.wanted).asks.1
+    (asked FallsShort (λ i n h. h) (λ i n h. h) c.args.self.now.phase c.args.self.now.feeds.items c.args.input
+    _ c.requires.wanted).asks.1
 
 pub invariant_of-self-clause-of : goal.invariant_of-self-clause-of
 invariant_of-self-clause-of c =
@@ -58,15 +59,19 @@ returns-clause-becomes c = λ start events came.
     let items = with_items_is m.feeds c.end_one.new.feeds (c.end_one.auto.feeds ∙ c.deref_mut.ensures.len) in
     let go = c.end_one.ensures.goes k count events s.gone
     (subst (λ (l : List Feed). HaveCome k count l events s.gone) (sym c.deref_mut.ensures.value) s.come) in
-    let now = subst (λ (l : List Feed). GoOn k count m.feeds.items l events (events ++ Ended c.args.input c.args.bytes.now ∷ []) s.gone) (sym items)
-    (subst (λ (l : List Feed). GoOn k count l c.end_one.new.feeds events (events ++ Ended c.args.input c.args.bytes.now ∷ []) s.gone)
+    let now = subst (λ (l : List Feed). GoOn k count m.feeds.items l events
+    (events ++ Ended c.args.input c.args.bytes.now ∷ []) s.gone) (sym items)
+    (subst (λ (l : List Feed). GoOn k count l c.end_one.new.feeds events (events ++ Ended c.args.input
+    c.args.bytes.now ∷ []) s.gone)
     c.deref_mut.ensures.value go) in
     from_place k count _ _ phase.Looks w.looks
-    (shown_fed k count events _ m _ s now (c.events_law.ensures.ended c.args.input c.args.bytes.now events).gave refl refl refl refl)
+    (shown_fed k count events _ m _ s now (c.events_law.ensures.ended c.args.input c.args.bytes.now events).gave
+    refl refl refl refl)
 
 pub returns-clause-reach : goal.returns-clause-reach
 returns-clause-reach c =
     let m = c.args.self.now in
     let items = with_items_is m.feeds c.end_one.new.feeds (c.end_one.auto.feeds ∙ c.deref_mut.ensures.len) in
-    reach_by m.feeds.items c.deref_mut.result.now c.end_one.new.feeds _ c.deref_mut.ensures.value items c.end_one.ensures.len
+    reach_by m.feeds.items c.deref_mut.result.now c.end_one.new.feeds _ c.deref_mut.ensures.value items
+    c.end_one.ensures.len
     c.end_one.ensures.fed

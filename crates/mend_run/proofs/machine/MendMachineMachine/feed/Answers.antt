@@ -28,13 +28,15 @@ feed_one-requires-clause-unknown c =
 
 pub feed_one-requires-clause-enough : goal.feed_one-requires-clause-enough
 feed_one-requires-clause-enough c =
-    (asked Suffices (λ i n h. h) (λ i n h. h) c.args.self.now.phase c.args.self.now.feeds.items c.args.input _ c.requires.wanted).asks.1
+    (asked Suffices (λ i n h. h) (λ i n h. h) c.args.self.now.phase c.args.self.now.feeds.items c.args.input
+    _ c.requires.wanted).asks.1
 
 pub feed_one-requires-clause-room : goal.feed_one-requires-clause-room
 feed_one-requires-clause-room c = λ f is.
     let m = c.args.self.now in
     let r = c.requires.room in
-    room_of r.start.plan.now (length r.start.feeds.items) m r.events r.came.gone r.came.come c.args.input (length c.args.bytes.now) f
+    room_of r.start.plan.now (length r.start.feeds.items) m r.events r.came.gone r.came.come c.args.input
+    (length c.args.bytes.now) f
     (ap (λ (l : List Feed). slice_get l c.args.input) (sym c.deref_mut.ensures.value) ∙ is) r.few
 
 pub invariant_of-self-clause-of : goal.invariant_of-self-clause-of
@@ -66,15 +68,19 @@ returns-clause-becomes c = λ start events came.
     let items = with_items_is m.feeds c.feed_one.new.feeds (c.feed_one.auto.feeds ∙ c.deref_mut.ensures.len) in
     let go = c.feed_one.ensures.goes k count events s.gone
     (subst (λ (l : List Feed). HaveCome k count l events s.gone) (sym c.deref_mut.ensures.value) s.come) in
-    let now = subst (λ (l : List Feed). GoOn k count m.feeds.items l events (events ++ Fed c.args.input (take c.feed_one.result c.args.bytes.now) ∷ []) s.gone) (sym items)
-    (subst (λ (l : List Feed). GoOn k count l c.feed_one.new.feeds events (events ++ Fed c.args.input (take c.feed_one.result c.args.bytes.now) ∷ []) s.gone)
+    let now = subst (λ (l : List Feed). GoOn k count m.feeds.items l events
+    (events ++ Fed c.args.input (take c.feed_one.result c.args.bytes.now) ∷ []) s.gone) (sym items)
+    (subst (λ (l : List Feed). GoOn k count l c.feed_one.new.feeds events (events ++ Fed c.args.input
+    (take c.feed_one.result c.args.bytes.now) ∷ []) s.gone)
     c.deref_mut.ensures.value go) in
     from_place k count _ _ phase.Looks w.looks
-    (shown_fed k count events _ m _ s now (c.events_law.ensures.fed c.args.input (take c.feed_one.result c.args.bytes.now) events).gave refl refl refl refl)
+    (shown_fed k count events _ m _ s now (c.events_law.ensures.fed c.args.input
+    (take c.feed_one.result c.args.bytes.now) events).gave refl refl refl refl)
 
 pub returns-clause-reach : goal.returns-clause-reach
 returns-clause-reach c =
     let m = c.args.self.now in
     let items = with_items_is m.feeds c.feed_one.new.feeds (c.feed_one.auto.feeds ∙ c.deref_mut.ensures.len) in
-    reach_by m.feeds.items c.deref_mut.result.now c.feed_one.new.feeds _ c.deref_mut.ensures.value items c.feed_one.ensures.len
+    reach_by m.feeds.items c.deref_mut.result.now c.feed_one.new.feeds _ c.deref_mut.ensures.value items
+    c.feed_one.ensures.len
     c.feed_one.ensures.fed

@@ -1,6 +1,6 @@
 use Rattle.std.proofs.Common.{◌≡◌, ◌∙◌, Some, [], ap, sym, subst, refl}
 use Rattle.std.specs.Prelude.{option_map}
-use Rattle.terms.proofs.OptionLemmas.{some_injective}
+use Rattle.std.proofs.lemmas.Option.{same_Some}
 use Rattle.plp_config.specs.declared.config.Config.{Config}
 use Rattle.frame_weave.specs.declared.weaver.Weaver.{Weaver}
 use Rattle.open_group.specs.FrameBytes.{is_frame}
@@ -19,7 +19,7 @@ returns-in-Some-clause-some c = λ gs past m above have.
     let f : Feed = c.index-feeds-feed.result in
     let e = got feeds i f c.in-Some.ensures.inside c.index-feeds-feed.is in
     let chosen = c.in-Some.ensures.some gs past have m.holds above in
-    let same : chosen.feed ≡ f = some_injective chosen.feed f (sym chosen.is ∙ e) in
+    let same : chosen.feed ≡ f = same_Some chosen.feed f (sym chosen.is ∙ e) in
     let holds = subst (λ (x : Feed). Holds (pooled_of x) chosen.own (Some chosen.group)) same chosen.holds in
     record {
       group = chosen.group;
@@ -38,7 +38,8 @@ returns-clause-some c = λ gs past m above have.
     let k = c.args.self.now.plan.now in
     let w = c.weave_frame.ensures in
     let is-new = c.note_woven.ensures.same in
-    with_some (woven_of k past (picked_as n gs)) (sym (w.told gs past m above have) ∙ c.if-not-weave_frame.false) (λ g is.
+    with_some (woven_of k past (picked_as n gs)) (sym (w.told gs past m above have) ∙ c.if-not-weave_frame.false)
+    (λ g is.
     let held = w.group gs past g m above have is in
     record {
       group = g;

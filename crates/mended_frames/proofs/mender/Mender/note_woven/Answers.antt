@@ -13,6 +13,7 @@ returns-clause-stands c = λ past g m holds above.
     let noted = c.note_in.ensures.holds [] past g group behind above in
     record {
       holds = subst
-          (λ (k : Config). HoldsPast k c.note_in.new.past (record { number = c.args.number; group = g } ∷ past)) network noted;
+          (λ (k : Config). HoldsPast k c.note_in.new.past (record { number = c.args.number; group = g } ∷ past))
+          network noted;
       own = m.own;
     }

@@ -5,7 +5,8 @@ use Rattle.feed_merge.specs.FeedStandsFor as feed
 use Rattle.feed_merge.specs.declared.feed.FrameFeed.{FrameFeed}
 use Rattle.merge_run.specs.Sending.{Begins}
 use Rattle.merge_run.specs.Shown.{HasShown}
-use Rattle.merge_run.proofs.BeginLemmas.{fewer_left, passed, begun, begun_left, left_passed, reading_of, waits_now, network_in}
+use Rattle.merge_run.proofs.BeginLemmas.{fewer_left, passed, begun, begun_left, left_passed, reading_of, waits_now}
+use Rattle.merge_run.proofs.BeginLemmas.{network_in}
 use Rattle.feed_merge.proofs.BothCameLemmas.{test_of, less_of, number_of}
 use Rattle.merge_run.proofs.PickLemmas.{picked_at}
 use Rattle.merge_run.proofs.TakeLemmas.{none_picked_is}
@@ -14,10 +15,12 @@ use Rattle.merge_run.proofs.machine.MergeMachine.begin.Goals as goal
 pub returns-then-not-is_picked-clause-shown : goal.returns-then-not-is_picked-clause-shown
 returns-then-not-is_picked-clause-shown c = λ k events s.
     let t = c.skip_others.ensures in
-    passed c.due_records_law.ensures.follow c.grow_law.ensures c.block_law.ensures.field k c.args.self.now _ events c.args.number
+    passed c.due_records_law.ensures.follow c.grow_law.ensures c.block_law.ensures.field k c.args.self.now
+    _ events c.args.number
     c.pick_next-pick.result
     (record {
-      is = c.pick_next-pick.ensures ∙ picked_at (waiting_of c.args.self.now.a) (waiting_of c.args.self.now.b) c.args.number c.requires.least;
+      is = c.pick_next-pick.ensures ∙ picked_at (waiting_of c.args.self.now.a) (waiting_of c.args.self.now.b)
+          c.args.number c.requires.least;
       least = c.requires.least;
       busy_a = c.requires.busy.0;
       busy_b = c.requires.busy.1;
@@ -25,7 +28,8 @@ returns-then-not-is_picked-clause-shown c = λ k events s.
       took_b = t.b;
     })
     s refl c.requires.reads refl c.requires.early
-    (none_picked_is c.pick_next-pick.result.source (sym c.is_picked.ensures ∙ c.if-not-is_picked.true)) refl c.requires.reads refl
+    (none_picked_is c.pick_next-pick.result.source (sym c.is_picked.ensures ∙ c.if-not-is_picked.true))
+    refl c.requires.reads refl
 
 pub returns-then-not-is_picked-clause-left : goal.returns-then-not-is_picked-clause-left
 returns-then-not-is_picked-clause-left c =
@@ -33,7 +37,8 @@ returns-then-not-is_picked-clause-left c =
     left_passed c.args.self.now c.skip_others.new.a c.skip_others.new.b _ _ _ c.requires.reads c.requires.reads
     (fewer_left c.args.self.now c.skip_others.new.a c.skip_others.new.b c.args.number c.pick_next-pick.result
     (record {
-      is = c.pick_next-pick.ensures ∙ picked_at (waiting_of c.args.self.now.a) (waiting_of c.args.self.now.b) c.args.number c.requires.least;
+      is = c.pick_next-pick.ensures ∙ picked_at (waiting_of c.args.self.now.a) (waiting_of c.args.self.now.b)
+          c.args.number c.requires.least;
       least = c.requires.least;
       busy_a = c.requires.busy.0;
       busy_b = c.requires.busy.1;
@@ -45,10 +50,12 @@ returns-then-not-is_picked-clause-left c =
 pub returns-clause-shown : goal.returns-clause-shown
 returns-clause-shown c = λ k events s.
     let t = c.skip_others.ensures in
-    begun c.due_records_law.ensures.follow c.grow_law.ensures c.block_law.ensures.field k c.args.self.now _ events c.args.number
+    begun c.due_records_law.ensures.follow c.grow_law.ensures c.block_law.ensures.field k c.args.self.now
+    _ events c.args.number
     c.pick_next-pick.result
     (record {
-      is = c.pick_next-pick.ensures ∙ picked_at (waiting_of c.args.self.now.a) (waiting_of c.args.self.now.b) c.args.number c.requires.least;
+      is = c.pick_next-pick.ensures ∙ picked_at (waiting_of c.args.self.now.a) (waiting_of c.args.self.now.b)
+          c.args.number c.requires.least;
       least = c.requires.least;
       busy_a = c.requires.busy.0;
       busy_b = c.requires.busy.1;
@@ -57,7 +64,8 @@ returns-clause-shown c = λ k events s.
     })
     s refl c.requires.reads refl c.requires.early
     c.formed_law.ensures c.unwrap-source.result c.unwrap-source.ensures c.add.ensures refl refl
-    (subst (λ (f : FrameFeed). Begins c.args.self.now.merger c.begin_frame.new.merger f c.args.number) c.source_of.ensures
+    (subst (λ (f : FrameFeed). Begins c.args.self.now.merger c.begin_frame.new.merger f c.args.number)
+    c.source_of.ensures
     c.begin_frame.ensures)
 
 pub returns-clause-left : goal.returns-clause-left
@@ -65,10 +73,12 @@ returns-clause-left c =
     let t = c.skip_others.ensures in
     less_of _ _ c.requires.came (λ (h : HasShown c.args.self.now).
     begun_left c.due_records_law.ensures.follow c.grow_law.ensures c.block_law.ensures.field
-    c.formed_law.ensures h.network c.args.self.now c.skip_others.new.a c.skip_others.new.b c.begin_frame.new.merger h.events
+    c.formed_law.ensures h.network c.args.self.now c.skip_others.new.a c.skip_others.new.b c.begin_frame.new.merger
+    h.events
     c.args.number c.pick_next-pick.result
     (record {
-      is = c.pick_next-pick.ensures ∙ picked_at (waiting_of c.args.self.now.a) (waiting_of c.args.self.now.b) c.args.number c.requires.least;
+      is = c.pick_next-pick.ensures ∙ picked_at (waiting_of c.args.self.now.a) (waiting_of c.args.self.now.b)
+          c.args.number c.requires.least;
       least = c.requires.least;
       busy_a = c.requires.busy.0;
       busy_b = c.requires.busy.1;
@@ -76,7 +86,8 @@ returns-clause-left c =
       took_b = t.b;
     })
     h.shown c.requires.reads c.unwrap-source.result c.unwrap-source.ensures
-    (subst (λ (f : FrameFeed). Begins c.args.self.now.merger c.begin_frame.new.merger f c.args.number) c.source_of.ensures
+    (subst (λ (f : FrameFeed). Begins c.args.self.now.merger c.begin_frame.new.merger f c.args.number)
+    c.source_of.ensures
     c.begin_frame.ensures))
 
 pub begin_frame-requires-clause-whole : goal.begin_frame-requires-clause-whole
@@ -85,7 +96,8 @@ begin_frame-requires-clause-whole c =
     subst (λ (f : FrameFeed). is_whole (waiting_of f) ≡ true) (sym c.source_of.ensures)
     (waits_now c.args.self.now c.skip_others.new.a c.skip_others.new.b c.args.number c.pick_next-pick.result
     (record {
-      is = c.pick_next-pick.ensures ∙ picked_at (waiting_of c.args.self.now.a) (waiting_of c.args.self.now.b) c.args.number c.requires.least;
+      is = c.pick_next-pick.ensures ∙ picked_at (waiting_of c.args.self.now.a) (waiting_of c.args.self.now.b)
+          c.args.number c.requires.least;
       least = c.requires.least;
       busy_a = c.requires.busy.0;
       busy_b = c.requires.busy.1;
@@ -99,7 +111,8 @@ begin_frame-requires-clause-network c =
     let t = c.skip_others.ensures in
     ∥∥₁_map c.requires.came (λ (h : HasShown c.args.self.now).
     ap feed.config_of c.source_of.ensures
-    ∙ network_in h.network c.args.self.now c.skip_others.new.a c.skip_others.new.b h.events c.requires.reads t.a.same.network
+    ∙ network_in h.network c.args.self.now c.skip_others.new.a c.skip_others.new.b h.events c.requires.reads
+    t.a.same.network
     t.b.same.network h.shown c.unwrap-source.result)
 
 pub begin_frame-requires-clause-given : goal.begin_frame-requires-clause-given
@@ -112,7 +125,8 @@ begin_frame-requires-clause-open c = test_of _ _ c.requires.came
 
 pub add-requires-clause-frames : goal.add-requires-clause-frames
 add-requires-clause-frames c = less_of _ _ c.requires.came
-    (λ (h : HasShown c.args.self.now). let f = h.shown.counts.frames in let e = h.shown.both.early in omega (arith, f, e))
+    (λ (h : HasShown c.args.self.now). let f = h.shown.counts.frames in let e = h.shown.both.early in
+    omega (arith, f, e))
 
 pub add-requires-clause-parts : goal.add-requires-clause-parts
 add-requires-clause-parts c = number_of _ _ c.requires.came (λ (h : HasShown c.args.self.now). h.shown.counts.parts)

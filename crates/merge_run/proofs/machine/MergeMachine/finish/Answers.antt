@@ -8,7 +8,8 @@ use Rattle.merge_run.proofs.machine.MergeMachine.finish.Goals as goal
 pub returns-clause-shown : goal.returns-clause-shown
 returns-clause-shown c = λ k events s.
     let f = c.finish.ensures in
-    shown_finished k c.args.self.now c.finish.new.self events s c.requires.reads c.requires.none c.requires.busy.0 c.requires.busy.1
+    shown_finished k c.args.self.now c.finish.new.self events s c.requires.reads c.requires.none c.requires.busy.0
+    c.requires.busy.1
     f.stands f.config f.finished f.fed f.left
 
 pub returns-clause-left : goal.returns-clause-left
@@ -17,7 +18,8 @@ returns-clause-left c =
     less_of _ _ c.requires.came (λ (h : HasShown c.args.self.now).
     left_finished c.args.self.now c.finish.new.self (feed.left_of c.args.self.now.a + feed.left_of c.args.self.now.b)
     (feed_of c.args.self.now) c.requires.reads
-    (let e = f.left in let l = idle_left c.args.self.now.merger (reading_of h.network c.args.self.now h.events h.shown c.requires.reads).idle in
+    (let e = f.left in let l = idle_left c.args.self.now.merger (reading_of h.network c.args.self.now
+    h.events h.shown c.requires.reads).idle in
     omega (arith, e, l)))
 
 pub finish-requires : goal.finish-requires
@@ -25,5 +27,6 @@ finish-requires c = record {
   given = test_of _ _ c.requires.came
       (λ (h : HasShown c.args.self.now). (reading_of h.network c.args.self.now h.events h.shown c.requires.reads).idle);
   «open» = test_of _ _ c.requires.came
-      (λ (h : HasShown c.args.self.now). (reading_of h.network c.args.self.now h.events h.shown c.requires.reads).is_open);
+      (λ (h : HasShown c.args.self.now). (reading_of h.network c.args.self.now h.events h.shown
+      c.requires.reads).is_open);
 }

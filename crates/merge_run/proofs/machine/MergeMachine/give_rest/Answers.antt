@@ -17,8 +17,10 @@ returns-then-rest-clause-shown c = λ k events s.
     let on = c.if-rest.true in
     subst (λ (l : List ℕ). Shown k (events ++ Gave l ∷ []) (record m { merger = g; ran = c.add_units.new.self }))
     (sym (take_all SIZE unit (omega (arith, c.rest.array_long))))
-    (subst (λ (r : Ran). Shown k (events ++ Gave unit ∷ []) (record m { merger = g; ran = r })) (sym c.add_units.ensures)
-    (shown_rest c.events_law.ensures k m g events unit s c.requires.rests n.config n.finished n.fed (n.unit on) (n.stands on) (n.less on)))
+    (subst (λ (r : Ran). Shown k (events ++ Gave unit ∷ []) (record m { merger = g; ran = r }))
+    (sym c.add_units.ensures)
+    (shown_rest c.events_law.ensures k m g events unit s c.requires.rests n.config n.finished n.fed (n.unit on)
+    (n.stands on) (n.less on)))
 
 pub returns-then-rest-clause-left : goal.returns-then-rest-clause-left
 returns-then-rest-clause-left c =
@@ -27,7 +29,8 @@ returns-then-rest-clause-left c =
 pub returns-clause-shown : goal.returns-clause-shown
 returns-clause-shown c = λ k events s.
     let n = c.rest.ensures in
-    shown_done c.events_law.ensures k c.args.self.now c.rest.new.self events c.rest.new.out s c.requires.rests n.config n.finished n.fed
+    shown_done c.events_law.ensures k c.args.self.now c.rest.new.self events c.rest.new.out s c.requires.rests
+    n.config n.finished n.fed
     (n.none c.if-rest.false) (n.kept c.if-rest.false)
 
 pub returns-clause-left : goal.returns-clause-left

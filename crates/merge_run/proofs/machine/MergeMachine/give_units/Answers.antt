@@ -11,7 +11,8 @@ use Rattle.merge_run.specs.declared.phase.Phase.TheVariants.{Reads}
 use Rattle.merge_run.specs.declared.stop.Ran.{Ran}
 use Rattle.feed_merge.specs.declared.seen.Feed.TheVariants.{A, B}
 use Rattle.feed_merge.proofs.BothCameLemmas.{test_of, less_of}
-use Rattle.merge_run.proofs.GiveLemmas.{giving, same_network, left_behind, whole_first, whole_second, early_first, early_second}
+use Rattle.merge_run.proofs.GiveLemmas.{giving, same_network, left_behind, whole_first, whole_second, early_first}
+use Rattle.merge_run.proofs.GiveLemmas.{early_second}
 use Rattle.merge_run.proofs.GiveLemmas.{few_more, shown_units, left_full, shown_behind, counted_units}
 use Rattle.merge_run.proofs.TakeLemmas.{can_whole}
 use Rattle.merge_run.proofs.machine.MergeMachine.give_units.Goals as goal
@@ -36,8 +37,10 @@ add_units-requires c =
     let is = subst (λ (f : FrameFeed). IsFrameOf f n.0) c.source_of-feed.ensures n.1 in
     record {
       few = less_of _ _ c.requires.came (λ (h : HasShown m).
-          let f = few_more c.events_law.ensures h.network m u.new.merger h.events h.shown c.requires.gives n.0 is u.result.1 _ n.2 in
-          let e = counted_units _ _ _ _ u.result.0 u.new.out (let s = u.ensures.size in let k = u.ensures.count in omega (arith, s, k))
+          let f = few_more c.events_law.ensures h.network m u.new.merger h.events h.shown c.requires.gives
+          n.0 is u.result.1 _ n.2 in
+          let e = counted_units _ _ _ _ u.result.0 u.new.out (let s = u.ensures.size in let k = u.ensures.count in
+          omega (arith, s, k))
           n.2 in
           omega (arith, f, e));
     }
@@ -63,7 +66,8 @@ returns-then-not-full-clause-shown c = λ k events s.
     let n = u.ensures.gives in
     let is = subst (λ (f : FrameFeed). IsFrameOf f n.0) c.source_of-feed.ensures n.1 in
     let t = c.skip_source.ensures in
-    let e = counted_units _ _ _ _ u.result.0 u.new.out (let s = u.ensures.size in let k = u.ensures.count in omega (arith, s, k)) n.2 in
+    let e = counted_units _ _ _ _ u.result.0 u.new.out (let s = u.ensures.size in let k = u.ensures.count in
+    omega (arith, s, k)) n.2 in
     subst (λ (r : Ran). Shown k (events ++ Gave (take u.result.0 u.new.out) ∷ [])
     (record m { a = c.skip_source.new.a; b = c.skip_source.new.b; merger = u.new.merger; phase = Reads; ran = r }))
     (sym (c.add_units.ensures ∙ ap (λ (q : ℕ). record m.ran { units = m.ran.units + q }) e))
@@ -76,7 +80,8 @@ pub returns-then-not-full-clause-left : goal.returns-then-not-full-clause-left
 returns-then-not-full-clause-left c =
     let t = c.skip_source.ensures in
     left_behind c.args.self.now c.skip_source.new.a c.skip_source.new.b
-    (feed_in c.args.self.now.source c.skip_source.new.a c.skip_source.new.b) c.give_frame-len.new.merger c.requires.gives
+    (feed_in c.args.self.now.source c.skip_source.new.a c.skip_source.new.b) c.give_frame-len.new.merger
+    c.requires.gives
     (record { took_a = t.a; took_b = t.b })
 
 pub returns-else-not-full-clause-shown : goal.returns-else-not-full-clause-shown
@@ -85,8 +90,10 @@ returns-else-not-full-clause-shown c = λ k events s.
     let u = c.give_frame-len in
     let n = u.ensures.gives in
     let is = subst (λ (f : FrameFeed). IsFrameOf f n.0) c.source_of-feed.ensures n.1 in
-    let e = counted_units _ _ _ _ u.result.0 u.new.out (let s = u.ensures.size in let k = u.ensures.count in omega (arith, s, k)) n.2 in
-    subst (λ (r : Ran). Shown k (events ++ Gave (take u.result.0 u.new.out) ∷ []) (record m { merger = u.new.merger; ran = r }))
+    let e = counted_units _ _ _ _ u.result.0 u.new.out (let s = u.ensures.size in let k = u.ensures.count in
+    omega (arith, s, k)) n.2 in
+    subst (λ (r : Ran). Shown k (events ++ Gave (take u.result.0 u.new.out) ∷ [])
+    (record m { merger = u.new.merger; ran = r }))
     (sym (c.add_units.ensures ∙ ap (λ (q : ℕ). record m.ran { units = m.ran.units + q }) e))
     (shown_units c.events_law.ensures k m u.new.merger events s c.requires.gives n.0 is u.result.1 _ n.2)
 
@@ -97,4 +104,5 @@ returns-else-not-full-clause-left c =
     let n = u.ensures.gives in
     let is = subst (λ (f : FrameFeed). IsFrameOf f n.0) c.source_of-feed.ensures n.1 in
     less_of _ _ c.requires.came (λ (h : HasShown m).
-    left_full c.events_law.ensures h.network m u.new.merger h.events h.shown c.requires.gives n.0 is u.result.1 _ n.2 c.if-not-full.false)
+    left_full c.events_law.ensures h.network m u.new.merger h.events h.shown c.requires.gives n.0 is
+    u.result.1 _ n.2 c.if-not-full.false)

@@ -14,7 +14,8 @@ feed_one-requires c =
     let asks = (asked Suffices (λ i k h. h) (λ i k h. h) m.phase _ c.args.input _ c.requires.wanted).1 in
     record {
       wanted = asks;
-      room = room_of _ r.events (is_held m.phase m.source A) (is_held m.phase m.source B) m.next m.a m.b r.came.given_a r.came.given_b
+      room = room_of _ r.events (is_held m.phase m.source A) (is_held m.phase m.source B) m.next m.a
+          m.b r.came.given_a r.came.given_b
           r.came.both c.args.input (length c.args.bytes.now) asks r.few;
     }
 

@@ -10,4 +10,5 @@ pub returns-in-Reads-clause-wanted : goal.returns-in-Reads-clause-wanted
 returns-in-Reads-clause-wanted c = λ start events s.
     let m = c.args.self.now in
     subst (IsWanted 2 events (reach_of m)) (sym c.next_step.ensures)
-    (wanted_by _ events (is_held m.phase m.source A) (is_held m.phase m.source B) m.next m.a m.b s.given_a s.given_b s.both)
+    (wanted_by _ events (is_held m.phase m.source A) (is_held m.phase m.source B) m.next m.a m.b s.given_a
+    s.given_b s.both)

@@ -20,7 +20,8 @@ returns-clause-answer c = λ config plp events stands.
     let made : c.args.self.now.made * field_bytes config plp ≡ full_fields config plp events * field_bytes config plp =
     ap (λ v. v * field_bytes config plp) (made_is c.block_law.ensures.field c.args.self.now config plp (offered events)
     (cuts events) h o.1) in
-    let short = all_short c.length_law.ensures.slot c.block_law.ensures.field c.block_law.ensures.user_packet c.within_law.ensures
+    let short = all_short c.length_law.ensures.slot c.block_law.ensures.field c.block_law.ensures.user_packet
+    c.within_law.ensures
     c.backlog_law.ensures c.args.self.now config plp (offered events) (cuts events) h o.1 in
     let range = c.block_law.ensures.field config plp in
     omega (arith, c.len.ensures, w, s, made, short, range.1)
@@ -29,7 +30,8 @@ pub returns-clause-few : goal.returns-clause-few
 returns-clause-few c = λ config plp events stands due.
     let o = was_cut c.args.self.now config plp events stands in
     let h = o.0 in
-    let none = none_made c.block_law.ensures.field c.block_law.ensures.user_packet c.within_law.ensures c.backlog_law.ensures
+    let none = none_made c.block_law.ensures.field c.block_law.ensures.user_packet c.within_law.ensures
+    c.backlog_law.ensures
     c.args.self.now config plp (offered events) (cuts events) h o.1 due in
     let w = left_over c.args.self.now config plp (offered events) (cuts events) h none due in
     let within = c.within_law.ensures config plp h.plan h.place in
@@ -42,7 +44,8 @@ pub returns-clause-after_cut : goal.returns-clause-after_cut
 returns-clause-after_cut c = λ config plp events stands due.
     let o = was_cut c.args.self.now config plp events stands in
     let h = o.0 in
-    let none = none_made c.block_law.ensures.field c.block_law.ensures.user_packet c.within_law.ensures c.backlog_law.ensures
+    let none = none_made c.block_law.ensures.field c.block_law.ensures.user_packet c.within_law.ensures
+    c.backlog_law.ensures
     c.args.self.now config plp (offered events) (cuts events) h o.1 due in
     let w = left_over c.args.self.now config plp (offered events) (cuts events) h none due in
     let within = c.within_law.ensures config plp h.plan h.place in

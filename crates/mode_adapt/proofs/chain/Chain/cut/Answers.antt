@@ -10,10 +10,13 @@ pub returns-in-Ok-clause-ends : goal.returns-in-Ok-clause-ends
 returns-in-Ok-clause-ends c = λ config plp events stands due.
     let o = opened c.args.self.now config plp events stands in
     let none = c.in-Ok.ensures.none in
-    let end = cut_step c.length_law.ensures.slot c.block_law.ensures.field c.block_law.ensures.user_packet c.within_law.ensures
-    c.backlog_law.ensures c.args.self.now c.put_rest.new.self c.end_frame.new.self config plp (offered events) (cuts events)
+    let end = cut_step c.length_law.ensures.slot c.block_law.ensures.field c.block_law.ensures.user_packet
+    c.within_law.ensures
+    c.backlog_law.ensures c.args.self.now c.put_rest.new.self c.end_frame.new.self config plp (offered events)
+    (cuts events)
     (list_at c.args.pool.now c.args.list) (list_at c.put_rest.new.pool c.args.list) o.0 o.1 due
-    (λ over. ((none over).0, ap (λ s. list_at s c.args.list) (none over).1)) c.in-Ok.ensures.some c.end_frame.ensures.resets in
+    (λ over. ((none over).0, ap (λ s. list_at s c.args.list) (none over).1)) c.in-Ok.ensures.some
+    c.end_frame.ensures.resets in
     let next = cut_on c.end_frame.new.self config plp events end.holds end.partial in
     record {
       stands = next;
@@ -21,7 +24,8 @@ returns-in-Ok-clause-ends c = λ config plp events stands due.
       answer = c.end_frame.ensures.made ∙ end.count;
       none_put = early_cut c.block_law.ensures.field c.end_frame.new.self config plp events end.holds end.partial
           c.end_frame.ensures.resets.made;
-      kept = cut_short c.block_law.ensures.field c.block_law.ensures.user_packet c.within_law.ensures c.backlog_law.ensures
+      kept = cut_short c.block_law.ensures.field c.block_law.ensures.user_packet c.within_law.ensures
+          c.backlog_law.ensures
           c.end_frame.new.self config plp events next due;
     }
 
@@ -29,7 +33,9 @@ pub returns-in-Err-clause-lacks : goal.returns-in-Err-clause-lacks
 returns-in-Err-clause-lacks c = λ config plp events stands. record {
   need = c.in-Err.ensures.full.wanted ∙ ap chunks_for
       (need_is c.block_law.ensures.field c.args.self.now config plp events stands);
-  never = λ ready. never_put c.block_law.ensures.field c.early_fits_law.ensures.early c.plan_fits_law.ensures.next c.args.self.now
-      c.args.self.now config plp events c.args.pool.now c.args.list c.in-Err.full.need c.in-Err.full.spare stands refl refl
+  never = λ ready. never_put c.block_law.ensures.field c.early_fits_law.ensures.early c.plan_fits_law.ensures.next
+      c.args.self.now
+      c.args.self.now config plp events c.args.pool.now c.args.list c.in-Err.full.need c.in-Err.full.spare
+      stands refl refl
       c.in-Err.ensures.full ready.put ready.place;
 }

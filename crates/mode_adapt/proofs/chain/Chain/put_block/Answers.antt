@@ -23,7 +23,8 @@ returns-in-Ok-clause-puts c =
       pending = s.pending ∙ ap (drop count) c.put_block.ensures.items;
       slots = s.slots;
     } in
-    subst (λ (n : ℕ). Puts old c.send.new.self n (list_at c.args.pool.now c.args.list) (list_at c.put_block.new.pool c.args.list))
+    subst (λ (n : ℕ). Puts old c.send.new.self n (list_at c.args.pool.now c.args.list)
+    (list_at c.put_block.new.pool c.args.list))
     first
     (puts old c.send.new.self count c.args.pool.now c.put_block.new.pool c.args.list block c.requires.list
     (written old count c.header-header.result block ten first c.header-header.ensures refl).0 c.in-Ok.ensures.ok sends)
@@ -36,10 +37,12 @@ returns-in-Ok-clause-short c = λ short.
     let ten : length c.header-header.result ≡ 10 = search rules in
     let block : List ℕ = block_of c.header-header.result old.pending.items old.settings.field_bytes in
     puts_short old c.args.pool.now c.put_block.new.pool c.args.list block c.requires.list old.settings.field.1
-    (written old c.min-count.result c.header-header.result block ten first c.header-header.ensures refl).1 c.in-Ok.ensures.ok
+    (written old c.min-count.result c.header-header.result block ten first c.header-header.ensures refl).1
+    c.in-Ok.ensures.ok
     short
 
 pub returns-in-Err-clause-full : goal.returns-in-Err-clause-full
 returns-in-Err-clause-full c =
     lacks c.args.self.now c.args.pool.now c.put_block.new.pool c.in-Err.full.need c.in-Err.full.spare c.requires.made
-    c.in-Err.ensures.told.0 c.in-Err.ensures.told.1 (c.in-Err.ensures.full.0 refl) c.in-Err.ensures.err c.in-Err.ensures.whole
+    c.in-Err.ensures.told.0 c.in-Err.ensures.told.1 (c.in-Err.ensures.full.0 refl) c.in-Err.ensures.err
+    c.in-Err.ensures.whole

@@ -13,5 +13,6 @@ returns-clause-items c =
     taken_out old c.copy_within.new.self.items c.truncate.new.self.items c.len.result HEADER_BYTES c.args.count
     (c.len.ensures ∙ whole)
     (omega (arith, ap length is, length-drop HEADER_BYTES old, c.requires, c.self.invariant.0, whole))
-    (c.copy_within.ensures.items ∙ ap (λ (n : ℕ). copy_within old (HEADER_BYTES + c.args.count) n HEADER_BYTES) whole) c.truncate.ensures.items
+    (c.copy_within.ensures.items ∙ ap (λ (n : ℕ). copy_within old (HEADER_BYTES + c.args.count) n HEADER_BYTES) whole)
+    c.truncate.ensures.items
     ∙ ap (drop c.args.count) is

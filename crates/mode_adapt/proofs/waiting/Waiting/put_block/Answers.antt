@@ -23,6 +23,8 @@ returns-clause-ok c =
     let whole : vec_len c.self.inside.bytes ≡ length old = search rules in
     let inside : HEADER_BYTES ≤ length old = omega (arith, c.self.invariant.0, whole) in
     let front : length c.args.header.now ≡ HEADER_BYTES = search rules in
-    rw (lies old c.deref.result.now c.args.header.now c.args.self.now.items _ HEADER_BYTES c.args.field_bytes inside front
+    rw (lies old c.deref.result.now c.args.header.now c.args.self.now.items _ HEADER_BYTES c.args.field_bytes
+    inside front
     is (c.deref.ensures.value ∙ c.lay.ensures.items
-    ∙ ap (λ (n : ℕ). c.args.header.now ++ drop HEADER_BYTES old ++ replicate (HEADER_BYTES + c.args.field_bytes - n) 0) whole) refl) at c.append-result.ensures.ok
+    ∙ ap (λ (n : ℕ). c.args.header.now ++ drop HEADER_BYTES old ++ replicate (HEADER_BYTES + c.args.field_bytes - n) 0)
+    whole) refl) at c.append-result.ensures.ok

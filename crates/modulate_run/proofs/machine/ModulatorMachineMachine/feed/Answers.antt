@@ -8,6 +8,7 @@ returns-clause-becomes c = λ start events came.
     let f = c.feed-count.ensures in (
       f.config ∙ came.0,
       fed_event c.events_law.ensures _ events _ _ w.2
-          (shown_fed c.due_records_law.ensures.front c.args.self.now _ _ _ c.args.bytes.now c.feed-count.result _ w.0 w.1 f.config
+          (shown_fed c.due_records_law.ensures.front c.args.self.now _ _ _ c.args.bytes.now c.feed-count.result
+          _ w.0 w.1 f.config
           refl refl f.fed f.inside f.stands f.first (c.waiting-self.ensures.some, c.waiting-self.ensures.none) came.1),
     )

@@ -1,4 +1,5 @@
-use Rattle.std.proofs.Common.{◌≡◌, ◌⊎◌, ◌<◌, ◌+◌, ◌++◌, ◌∙◌, ℕ, List, false, take, ap, sym, subst, inl, inr, ⊎_elim, arith, rules}
+use Rattle.std.proofs.Common.{◌≡◌, ◌⊎◌, ◌<◌, ◌+◌, ◌++◌, ◌∙◌, ℕ, List, false, take, ap, sym, subst, inl, inr, ⊎_elim}
+use Rattle.std.proofs.Common.{arith, rules}
 use Rattle.std.proofs.Common.{length-drop}
 use Rattle.std.proofs.lemmas.List.{take_rest}
 use Rattle.std.proofs.lemmas.Bool.{true≢false}
@@ -44,7 +45,8 @@ loop-count-preserved c =
       next = next_on old.sequence.progress.next mid.sequence.progress.next new.sequence.progress.next s.next i.next;
       settled = record {
         done = s.done;
-        ended = λ f. absurd (true≢false (sym f ∙ ap (λ (k : Stream). k.finished) (s.stream ∙ stream) ∙ c.requires.«open»));
+        ended = λ f. absurd (true≢false (sym f ∙ ap (λ (k : Stream). k.finished) (s.stream ∙ stream)
+            ∙ c.requires.«open»));
         near = s.near;
       };
       stream = s.stream ∙ stream ∙ ap (λ (n : ℕ). record (stream_of old) { fed = n }) fed;

@@ -7,7 +7,8 @@ use Rattle.modulator.proofs.modulating.Modulating.settle.Given as goal
 
 abbrev pub invariant-loop-self : goal.invariant-loop-self
 invariant-loop-self l = record {
-  stands : (bytes : List ℕ) (given : List FrameRecord) → StandsAt l.initial.self bytes given → StandsAt l.self bytes given;
+  stands : (bytes : List ℕ) (given : List FrameRecord) → StandsAt l.initial.self bytes given
+      → StandsAt l.self bytes given;
   near : IsNear l.self;
   next : (l.self.sequence.progress.next ≡ l.initial.self.sequence.progress.next)
       ⊎ (l.self.sequence.progress.next < MOST_FRAMES);

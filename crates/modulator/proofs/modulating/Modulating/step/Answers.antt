@@ -35,7 +35,8 @@ returns-clause-stands c = λ bytes given h.
 pub returns-clause-near : goal.returns-clause-near
 returns-clause-near c = λ n e.
     let u = c.args.self.now.unpiper in
-    risen u c.release.new.self n (fewer u c.release.new.self c.requires.ready c.release.ensures.less c.release.ensures.inside)
+    risen u c.release.new.self n (fewer u c.release.new.self c.requires.ready c.release.ensures.less
+    c.release.ensures.inside)
     (c.work.ensures.near (near_number u) (omega arith) c.requires.near n e)
 
 pub returns-then-not-work-clause-left : goal.returns-then-not-work-clause-left

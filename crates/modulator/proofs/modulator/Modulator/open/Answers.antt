@@ -18,7 +18,8 @@ returns-clause-stands c =
     let network : sequence.group.network ≡ c.args.plan.now = ap (λ (r : Rules). r.network) c.new-sequence.ensures.rules
     ∙ c.in_ok-open.ensures.network in
     opened (record { unpiper = c.in_ok-unpiper.unpiper; sequence = sequence; finished = false }) refl
-    c.new-sequence.ensures.«open» (ap (λ (o : Option ℕ). waits_by o at.next at.closing at.fault) c.new-sequence.ensures.none)
+    c.new-sequence.ensures.«open» (ap (λ (o : Option ℕ). waits_by o at.next at.closing at.fault)
+    c.new-sequence.ensures.none)
     (subst (λ (pid : ℕ). UnpiperStandsFor c.in_ok-unpiper.unpiper pid [])
     (ap (λ (k : Config). k.pid) (c.config.ensures.value ∙ sym network)) c.in_ok-unpiper.ensures.stands)
     c.new-sequence.ensures.stands

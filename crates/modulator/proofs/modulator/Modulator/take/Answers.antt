@@ -7,7 +7,8 @@ use Rattle.plp_config.specs.declared.config.Config.{Config}
 use Rattle.modulator.specs.Modulating.{Stream, Course, course_of, has_record, records_ahead, ahead_by}
 use Rattle.modulator.specs.StandsFor.{ModulatorStandsFor, left_of}
 use Rattle.modulator.proofs.LeftLemmas.{taken_len, part_taken, whole_taken}
-use Rattle.modulator.proofs.TookLemmas.{now_next, took_more, took_whole, took_front, takes_of, all_taken, none_at, nothing_more}
+use Rattle.modulator.proofs.TookLemmas.{now_next, took_more, took_whole, took_front, takes_of, all_taken, none_at}
+use Rattle.modulator.proofs.TookLemmas.{nothing_more}
 use Rattle.modulator.proofs.modulator.Modulator.take.Goals as goal
 
 pub returns-then-is_none-clause-front : goal.returns-then-is_none-clause-front
@@ -51,7 +52,8 @@ returns-then-is_taken-clause-stands c = λ bytes taken h.
     let old = c.args.self.now.inner in
     let more = take c.take-count.result c.take-count.new.out in
     let w : has_record old ≡ true = search by_rules in
-    took_whole old _ c.gave.new.self c.begin_next.new.self more bytes taken c.gave.ensures.stands c.begin_next.ensures.gives
+    took_whole old _ c.gave.new.self c.begin_next.new.self more bytes taken c.gave.ensures.stands
+    c.begin_next.ensures.gives
     (ap (λ (s : Status). record (course_of old) { key = s.key; network = s.network }) c.take-count.ensures.status)
     c.take-count.ensures.group (ap (λ (k : Stream). k.network) c.gave.ensures.stream)
     (c.take-count.ensures.bytes ∙ ap (λ l. more ++ l) (c.is_taken.ensures.yes c.if-is_taken.true) ∙ append-nil more) w h

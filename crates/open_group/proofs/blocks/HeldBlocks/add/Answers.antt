@@ -10,7 +10,8 @@ returns-in-Block-clause-counts c =
 
 pub returns-in-L1Current-clause-counts : goal.returns-in-L1Current-clause-counts
 returns-in-L1Current-clause-counts c =
-    λ t h. others_counted c.args.plan.now c.args.packet.now (λ id. ap (body_block id) c.in-L1Current.is) c.args.self.now t
+    λ t h. others_counted c.args.plan.now c.args.packet.now (λ id. ap (body_block id) c.in-L1Current.is)
+    c.args.self.now t
     (ap (body_known c.args.plan.now) c.in-L1Current.is) h
 
 pub returns-in-L1Current-clause-lists : goal.returns-in-L1Current-clause-lists
@@ -19,7 +20,8 @@ returns-in-L1Current-clause-lists c = λ packets h. others_listed c.args.plan.no
 
 pub returns-in-Timestamp-clause-counts : goal.returns-in-Timestamp-clause-counts
 returns-in-Timestamp-clause-counts c =
-    λ t h. others_counted c.args.plan.now c.args.packet.now (λ id. ap (body_block id) c.in-Timestamp.is) c.args.self.now t
+    λ t h. others_counted c.args.plan.now c.args.packet.now (λ id. ap (body_block id) c.in-Timestamp.is)
+    c.args.self.now t
     (ap (body_known c.args.plan.now) c.in-Timestamp.is) h
 
 pub returns-in-Timestamp-clause-lists : goal.returns-in-Timestamp-clause-lists

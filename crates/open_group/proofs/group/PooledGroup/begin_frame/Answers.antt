@@ -40,12 +40,15 @@ returns-clause-left c = λ past h leaves idx held none.
     let left = subst
     (λ (k : Config). bytes_left c.begin_frame.new.writer k shape lists
     ≡ front_bytes k c.args.moment.now dynamic (sum_by (own_count k n shape) (places k))
-    (rest_size k (post_size k (length dynamic)) (own_count k n shape)) ++ step_bytes k shape c.args.frame_idx lists (Blocks 0))
+    (rest_size k (post_size k (length dynamic)) (own_count k n shape)) ++ step_bytes k shape c.args.frame_idx
+    lists (Blocks 0))
     c.plan-2.ensures (c.begin_frame.ensures.left lists) in
     left
-    ∙ ap₂ (λ (m : Moment) (i : ℕ). front_bytes network m dynamic blocks rest ++ step_bytes network shape i lists (Blocks 0))
+    ∙ ap₂ (λ (m : Moment) (i : ℕ). front_bytes network m dynamic blocks rest ++ step_bytes network shape
+    i lists (Blocks 0))
     leaves idx
-    ∙ given_frame c.written_law.ensures.written c.written_law.ensures.blocks c.written_law.ensures.rest c.bit_counts_law.ensures
+    ∙ given_frame c.written_law.ensures.written c.written_law.ensures.blocks c.written_law.ensures.rest
+    c.bit_counts_law.ensures
     network past n h.packets dynamic shape lists blocks rest
     is_plan none
     (first_dynamic network g.l1 h.packets (tally network h.packets).alike t packets.l1)

@@ -23,7 +23,8 @@ returns-clause-none c =
           (true_from_ne_false (is_done group.writer)
           (λ no.
           let some =
-          c.is_done-done.ensures.some (c.is_done-done.ensures.is ∙ no) group.network group.l1.shape group.blocks.pool.lists in
+          c.is_done-done.ensures.some (c.is_done-done.ensures.is ∙ no) group.network group.l1.shape
+          group.blocks.pool.lists in
           let none = ap length e in
           omega (arith, some, none))))
           cause),

@@ -13,7 +13,8 @@ returns-then-need-superframe c = λ past h above.
     let range = c.rules_law.ensures.ranges.frames in
     let few : pool_chunks plan < 2 ^ 32 = omega (arith, c.group_chunks.ensures.value) in
     let needed =
-    needed_at plan c.args.self.now past c.args.place c.args.number c.need-need.result h (omega (arith, range)) c.requires.inside
+    needed_at plan c.args.self.now past c.args.place c.args.number c.need-need.result h (omega (arith, range))
+    c.requires.inside
     c.need-need.ensures in
     sym (has_room_there plan past c.args.place c.need-need.result c.args.number needed above c.requires.inside few
     (λ e. absurd (c.if-need-superframe.true (e ∙ ap (λ (k : ℕ). c.args.number / k) (sym frames)))))
@@ -24,7 +25,8 @@ returns-then-need-chunks c = λ past h above.
     let range = c.rules_law.ensures.ranges.frames in
     let few : pool_chunks plan < 2 ^ 32 = omega (arith, c.group_chunks.ensures.value) in
     let needed =
-    needed_at plan c.args.self.now past c.args.place c.args.number c.need-need.result h (omega (arith, range)) c.requires.inside
+    needed_at plan c.args.self.now past c.args.place c.args.number c.need-need.result h (omega (arith, range))
+    c.requires.inside
     c.need-need.ensures in
     sym (has_room_there plan past c.args.place c.need-need.result c.args.number needed above c.requires.inside few
     (λ e. omega (arith, c.if-need-chunks.true, c.from-chunks.ensures, c.group_chunks.ensures.value)))
@@ -44,7 +46,8 @@ returns c = λ past h above.
     let range = c.rules_law.ensures.ranges.frames in
     let few : pool_chunks plan < 2 ^ 32 = omega (arith, c.group_chunks.ensures.value) in
     let needed =
-    needed_at plan c.args.self.now past c.args.place c.args.number c.need-need.result h (omega (arith, range)) c.requires.inside
+    needed_at plan c.args.self.now past c.args.place c.args.number c.need-need.result h (omega (arith, range))
+    c.requires.inside
     c.need-need.ensures in
     ap (λ (k : ℕ). Some (PoolFull c.need-need.result.chunks k)) (c.from-chunks.ensures ∙ c.group_chunks.ensures.value)
     ∙ sym (lacks_room_there plan past c.args.place c.need-need.result c.args.number needed few

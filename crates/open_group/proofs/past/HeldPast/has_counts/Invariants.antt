@@ -10,5 +10,7 @@ use Rattle.open_group.proofs.past.HeldPast.has_counts.Given as goal
 
 abbrev pub invariant-loop-plp : goal.invariant-loop-plp
 invariant-loop-plp l =
-    (past : List Numbered) (t : Tally) → HoldsPast l.plan l.self past → IsAbove past l.number → HoldsCounts l.plan l.blocks t
-    → (k : ℕ) → k < l.plp → has_count l.plan past l.number k (slice_index t.blocks k) (slice_index l.shape.counts k) ≡ true
+    (past : List Numbered) (t : Tally) → HoldsPast l.plan l.self past → IsAbove past l.number
+    → HoldsCounts l.plan l.blocks t
+    → (k : ℕ) → k < l.plp → has_count l.plan past l.number k (slice_index t.blocks k) (slice_index l.shape.counts k)
+    ≡ true

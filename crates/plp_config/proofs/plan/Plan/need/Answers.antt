@@ -12,7 +12,8 @@ returns-clause-fits c =
     let all : IsPlan plan = subst IsPlan c.self.view_is c.self.invariant in
     let range = slot_length plan c.args.plp all.rules c.requires in
     let some : 0 < num plan = omega (arith, range.0, range.2) in
-    let fits : up_bytes plan c.args.plp * epoch_ticks plan c.args.plp * den plan c.args.plp ≤ capacity plan c.args.plp * num plan =
+    let fits : up_bytes plan c.args.plp * epoch_ticks plan c.args.plp * den plan c.args.plp ≤ capacity
+    plan c.args.plp * num plan =
     all.tests Throughput c.args.plp c.requires in
     let least = div_ceil-le (up_bytes plan c.args.plp * epoch_ticks plan c.args.plp * den plan c.args.plp) (num plan)
     (capacity plan c.args.plp) some fits in

@@ -1,7 +1,8 @@
 use Rattle.std.proofs.Common.{◌+◌, ◌++◌, length, ℕ, List, arith, subst, sym, ◌∙◌, ap}
 use Rattle.plp_receiver.specs.Pieces.{piece_items}
 use Rattle.plp_receiver.specs.Assembles.{AssemblerStands, Gains, AssemblerStandsFor}
-use Rattle.plp_receiver.proofs.OutLemmas.{idle_out, idle_gains_out, over_out, over_gains_out, short_out, short_gains_out, end_out}
+use Rattle.plp_receiver.proofs.OutLemmas.{idle_out, idle_gains_out, over_out, over_gains_out, short_out}
+use Rattle.plp_receiver.proofs.OutLemmas.{short_gains_out, end_out}
 use Rattle.plp_receiver.proofs.OutLemmas.{end_gains_out, front_is}
 use Rattle.plp_receiver.proofs.assembler.Assembler.piece.Goals as goal
 
@@ -11,14 +12,22 @@ returns-then-is_idle-clause-stands c = λ r z h. (
   c.clear.ensures.rule ∙ h.0,
   idle_out c.args.self.now.rule r c.args.self.now.len c.args.self.now.held c.args.self.now.base z
       c.args.mark c.args.epoch c.args.bytes.now
-      (record { same = h.0; sound = c.args.self.now.sound; stands = h.1; at = c.requires.epoch; some = c.requires.some })
+      (record {
+        same = h.0;
+        sound = c.args.self.now.sound;
+        stands = h.1;
+        at = c.requires.epoch;
+        some =
+            c.requires.some;
+      })
       (sym c.is_idle.ensures ∙ c.if-is_idle.true) _ _ _ c.clear.ensures.len c.clear.ensures.slot,
 )
 
 pub returns-then-is_idle-clause-answer : goal.returns-then-is_idle-clause-answer
 unfolding AssemblerStandsFor
 returns-then-is_idle-clause-answer c = λ r z h.
-    idle_gains_out c.args.self.now.rule r c.args.self.now.len c.args.self.now.held c.args.self.now.base z c.args.mark c.args.epoch
+    idle_gains_out c.args.self.now.rule r c.args.self.now.len c.args.self.now.held c.args.self.now.base
+    z c.args.mark c.args.epoch
     c.args.bytes.now
     (record { same = h.0; sound = c.args.self.now.sound; stands = h.1; at = c.requires.epoch; some = c.requires.some })
     (sym c.is_idle.ensures ∙ c.if-is_idle.true) _
@@ -27,9 +36,17 @@ pub returns-then-total-self-clause-stands : goal.returns-then-total-self-clause-
 unfolding AssemblerStandsFor
 returns-then-total-self-clause-stands c = λ r z h. (
   c.clear-then-total-self.ensures.rule ∙ h.0,
-  over_out c.args.self.now.rule r c.args.self.now.len c.args.self.now.held c.args.self.now.base z c.args.mark c.args.epoch
+  over_out c.args.self.now.rule r c.args.self.now.len c.args.self.now.held c.args.self.now.base z c.args.mark
+      c.args.epoch
       c.args.bytes.now
-      (record { same = h.0; sound = c.args.self.now.sound; stands = h.1; at = c.requires.epoch; some = c.requires.some })
+      (record {
+        same = h.0;
+        sound = c.args.self.now.sound;
+        stands = h.1;
+        at = c.requires.epoch;
+        some =
+            c.requires.some;
+      })
       c.base_of-base.result c.base_of-base.ensures.value c.base_of-base.ensures.small
       (sym c.is_idle.ensures ∙ c.if-is_idle.false) (let v = c.from_of-from.ensures.value in
       omega (arith, v)) _ _ _ c.clear-then-total-self.ensures.len c.clear-then-total-self.ensures.slot,
@@ -38,7 +55,8 @@ returns-then-total-self-clause-stands c = λ r z h. (
 pub returns-then-total-self-clause-answer : goal.returns-then-total-self-clause-answer
 unfolding AssemblerStandsFor
 returns-then-total-self-clause-answer c = λ r z h.
-    over_gains_out c.args.self.now.rule r c.args.self.now.len c.args.self.now.held c.args.self.now.base z c.args.mark c.args.epoch
+    over_gains_out c.args.self.now.rule r c.args.self.now.len c.args.self.now.held c.args.self.now.base
+    z c.args.mark c.args.epoch
     c.args.bytes.now
     (record { same = h.0; sound = c.args.self.now.sound; stands = h.1; at = c.requires.epoch; some = c.requires.some })
     c.base_of-base.result c.base_of-base.ensures.value c.base_of-base.ensures.small
@@ -52,11 +70,20 @@ returns-then-total-self-2-clause-stands c = λ r z h. (
       (λ (n : ℕ). AssemblerStands r n c.put.new.held c.base_of-base.result
       (z ++ piece_items c.args.mark c.args.epoch c.args.bytes.now))
       (ap (λ (n : ℕ). n + length c.args.bytes.now) (sym c.from_of-from.ensures.value))
-      (short_out c.args.self.now.rule r c.args.self.now.len c.args.self.now.held c.args.self.now.base z c.args.mark c.args.epoch
+      (short_out c.args.self.now.rule r c.args.self.now.len c.args.self.now.held c.args.self.now.base
+      z c.args.mark c.args.epoch
       c.args.bytes.now
-      (record { same = h.0; sound = c.args.self.now.sound; stands = h.1; at = c.requires.epoch; some = c.requires.some })
+      (record {
+        same = h.0;
+        sound = c.args.self.now.sound;
+        stands = h.1;
+        at = c.requires.epoch;
+        some =
+            c.requires.some;
+      })
       c.base_of-base.result c.base_of-base.ensures.value c.base_of-base.ensures.small
-      (sym c.is_idle.ensures ∙ c.if-is_idle.false) (let v = c.from_of-from.ensures.value in omega (arith, v)) c.put.new.held
+      (sym c.is_idle.ensures ∙ c.if-is_idle.false) (let v = c.from_of-from.ensures.value in omega (arith, v))
+      c.put.new.held
       (front_is _ _ _ _ _ c.from_of-from.ensures.value c.put.ensures.front)),
 )
 
@@ -75,9 +102,17 @@ returns-clause-stands c = λ r z h. (
   c.end.ensures.ends.rule ∙ h.0,
   end_out c.args.self.now.rule r c.args.self.now.len c.args.self.now.held c.args.self.now.base z
       c.args.mark c.args.epoch c.args.bytes.now
-      (record { same = h.0; sound = c.args.self.now.sound; stands = h.1; at = c.requires.epoch; some = c.requires.some })
+      (record {
+        same = h.0;
+        sound = c.args.self.now.sound;
+        stands = h.1;
+        at = c.requires.epoch;
+        some =
+            c.requires.some;
+      })
       c.base_of-base.result c.base_of-base.ensures.value c.base_of-base.ensures.small
-      (sym c.is_idle.ensures ∙ c.if-is_idle.false) (let v = c.from_of-from.ensures.value in omega (arith, v)) c.put.new.held
+      (sym c.is_idle.ensures ∙ c.if-is_idle.false) (let v = c.from_of-from.ensures.value in omega (arith, v))
+      c.put.new.held
       (front_is _ _ _ _ _ c.from_of-from.ensures.value c.put.ensures.front) _ _ _ c.end.ensures.ends.len
       c.end.ensures.ends.slot,
 )
@@ -85,11 +120,13 @@ returns-clause-stands c = λ r z h. (
 pub returns-clause-answer : goal.returns-clause-answer
 unfolding AssemblerStandsFor
 returns-clause-answer c = λ r z h.
-    subst (λ (l : List ℕ). Gains r z c.args.epoch (piece_items c.args.mark c.args.epoch c.args.bytes.now) l c.end.result)
+    subst (λ (l : List ℕ). Gains r z c.args.epoch (piece_items c.args.mark c.args.epoch c.args.bytes.now)
+    l c.end.result)
     (sym c.end.ensures.ends.held)
     (end_gains_out c.args.self.now.rule r c.args.self.now.len c.args.self.now.held c.args.self.now.base z c.args.mark
     c.args.epoch c.args.bytes.now
     (record { same = h.0; sound = c.args.self.now.sound; stands = h.1; at = c.requires.epoch; some = c.requires.some })
     c.base_of-base.result c.base_of-base.ensures.value c.base_of-base.ensures.small
-    (sym c.is_idle.ensures ∙ c.if-is_idle.false) (let v = c.from_of-from.ensures.value in omega (arith, v)) c.put.new.held
+    (sym c.is_idle.ensures ∙ c.if-is_idle.false) (let v = c.from_of-from.ensures.value in omega (arith, v))
+    c.put.new.held
     (front_is _ _ _ _ _ c.from_of-from.ensures.value c.put.ensures.front) c.end.result c.end.ensures.ends.answer)

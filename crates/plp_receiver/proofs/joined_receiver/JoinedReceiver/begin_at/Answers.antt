@@ -10,7 +10,8 @@ invariant_of-self c =
     record {
       network = ap (λ (s : Status). s.network) status ∙ m.network;
       inside = (let at = ap (λ (s : Status). s.plp) status in let i = m.inside in omega (arith, at, i));
-      step = begun_step m.own c.begin_at.new.self m.common c.begin_common.new.common c.args.first m.step status c.begin_common.ensures;
+      step = begun_step m.own c.begin_at.new.self m.common c.begin_common.new.common c.args.first m.step
+          status c.begin_common.ensures;
     }
 
 pub returns-clause-joins : goal.returns-clause-joins

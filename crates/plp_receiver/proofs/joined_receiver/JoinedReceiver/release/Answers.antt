@@ -12,23 +12,28 @@ invariant_of-self c =
     record {
       network = ap (λ (s : Status). s.network) status ∙ m.network;
       inside = (let at = ap (λ (s : Status). s.plp) status in let i = m.inside in omega (arith, at, i));
-      step = given_step m.own c.give_packet.new.receiver m.common c.join_common.new.common _ _ _ m.step status c.join_common.ensures;
+      step = given_step m.own c.give_packet.new.receiver m.common c.join_common.new.common _ _ _ m.step
+          status c.join_common.ensures;
     }
 
 pub returns-clause-stands : goal.returns-clause-stands
 unfolding JoinedReceiverStandsFor due_of
 returns-clause-stands c = λ first views released s.
     let m = c.args.self.now in
-    stands_with c.groups_law.ensures.step m.own c.give_packet.new.receiver m.common c.join_common.new.common _ _ m.plan.now m.network
-    c.rules_law.ensures.plan.rules m.inside m.step c.due_law.ensures c.common_due_law.ensures c.requires c.give_packet.ensures
+    stands_with c.groups_law.ensures.step m.own c.give_packet.new.receiver m.common c.join_common.new.common
+    _ _ m.plan.now m.network
+    c.rules_law.ensures.plan.rules m.inside m.step c.due_law.ensures c.common_due_law.ensures c.requires
+    c.give_packet.ensures
     c.join_common.ensures first views released s.0 s.1
 
 pub returns-clause-answer : goal.returns-clause-answer
 unfolding JoinedReceiverStandsFor due_of
 returns-clause-answer c = λ first views released packets s back.
     let m = c.args.self.now in
-    answer_is c.groups_law.ensures.step c.join_law.ensures.slots m.own c.give_packet.new.receiver m.common c.join_common.new.common _ _
-    m.plan.now m.network c.rules_law.ensures.plan.rules m.inside m.step c.due_law.ensures c.common_due_law.ensures c.requires
+    answer_is c.groups_law.ensures.step c.join_law.ensures.slots m.own c.give_packet.new.receiver m.common
+    c.join_common.new.common _ _
+    m.plan.now m.network c.rules_law.ensures.plan.rules m.inside m.step c.due_law.ensures c.common_due_law.ensures
+    c.requires
     c.give_packet.ensures c.join_common.ensures first views released packets s.0 s.1 back
 
 pub returns-clause-status : goal.returns-clause-status
@@ -36,8 +41,10 @@ unfolding due_of
 returns-clause-status c =
     let m = c.args.self.now in
     let status = c.give_packet.ensures.status in
-    status_as _ _ (ap (λ (s : Status). s.network) status) (ap (λ (s : Status). s.plp) status) (ap (λ (s : Status). s.frame) status)
-    (let d = ap (λ (s : Status). s.due) status in let e = given_due m.common c.join_common.new.common _ _ c.join_common.ensures in
+    status_as _ _ (ap (λ (s : Status). s.network) status) (ap (λ (s : Status). s.plp) status)
+    (ap (λ (s : Status). s.frame) status)
+    (let d = ap (λ (s : Status). s.due) status in let e = given_due m.common c.join_common.new.common
+    _ _ c.join_common.ensures in
     omega (arith, d, e))
 
 pub returns-clause-joins : goal.returns-clause-joins

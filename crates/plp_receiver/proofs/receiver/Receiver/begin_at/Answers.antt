@@ -10,5 +10,6 @@ begin_at-requires-clause-empty c =
 pub returns-clause-stands : goal.returns-clause-stands
 unfolding ReceiverStandsFor IsFresh
 returns-clause-stands c =
-    begun c.args.self.now.network c.args.self.now.plp c.args.self.now.slots c.begin_at.new.self c.args.self.now.held c.args.first
+    begun c.args.self.now.network c.args.self.now.plp c.args.self.now.slots c.begin_at.new.self c.args.self.now.held
+    c.args.first
     c.args.self.now.spread c.requires.fresh c.begin_at.ensures.stands

@@ -16,7 +16,8 @@ pub returns-clause-some : goal.returns-clause-some
 unfolding ReceiverStandsFor
 returns-clause-some c = λ first views released s. (
   readback (slot_rule c.args.self.now.network c.args.self.now.plp) first (length views) s.told,
-  given_back c.args.self.now.network c.args.self.now.plp c.args.self.now.slots c.args.self.now.held first views released s,
+  given_back c.args.self.now.network c.args.self.now.plp c.args.self.now.slots c.args.self.now.held first
+      views released s,
 )
 
 pub returns-clause-fresh : goal.returns-clause-fresh

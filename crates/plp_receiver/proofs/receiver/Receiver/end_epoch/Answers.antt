@@ -9,11 +9,13 @@ returns-then-is_there-clause-ends c = λ parts b h.
     let v = c.args.self.now in
     epoch_told v.network v.plp c.deletes-deletes.result v.held v.slots c.take_epoch.new.slots
     (sym c.is_there.ensures ∙ c.if-is_there.true)
-    (c.deletes-deletes.ensures ∙ ap (λ (d : Config). (plp_at d.plps v.plp).delete) c.plan.ensures) c.take_epoch.ensures.takes
+    (c.deletes-deletes.ensures ∙ ap (λ (d : Config). (plp_at d.plps v.plp).delete) c.plan.ensures)
+    c.take_epoch.ensures.takes
     parts b h
 
 pub returns-else-is_there-clause-ends : goal.returns-else-is_there-clause-ends
 returns-else-is_there-clause-ends c = λ parts b h.
     let v = c.args.self.now in
-    epoch_lost v.network v.plp v.held v.slots c.lose.new.self (sym c.is_there.ensures ∙ c.if-is_there.false) c.lose.ensures.stands
+    epoch_lost v.network v.plp v.held v.slots c.lose.new.self (sym c.is_there.ensures ∙ c.if-is_there.false)
+    c.lose.ensures.stands
     parts b h

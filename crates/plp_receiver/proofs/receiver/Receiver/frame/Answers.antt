@@ -13,7 +13,8 @@ returns-clause-stands c = λ first views released s.
     came_in v.network new.network v.plp new.plp new.slots new.held first _ released
     (ap (λ (s : Status). s.network) c.end_record.ensures.status ∙ ap (λ (u : Unseen). u.network) c.see.ensures.unseen)
     (ap (λ (s : Status). s.plp) c.end_record.ensures.status ∙ ap (λ (u : Unseen). u.plp) c.see.ensures.unseen)
-    (record_came v.network v.plp v.slots new.slots v.held seen.held new.held c.args.view.now first views released v.spread
+    (record_came v.network v.plp v.slots new.slots v.held seen.held new.held c.args.view.now first views
+    released v.spread
     c.see.ensures.sees
     (subst (λ (u : Unseen). EndsRecord u.network u.plp seen.held new.held u.slots new.slots) c.see.ensures.unseen
     c.end_record.ensures.ends)

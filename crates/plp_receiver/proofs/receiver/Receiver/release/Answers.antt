@@ -13,7 +13,8 @@ pub returns-clause-answer : goal.returns-clause-answer
 unfolding ReceiverStandsFor
 returns-clause-answer c = λ e first views released packets s b.
     let v = c.args.self.now in
-    packet_is c.readback_law.ensures.once v.network v.plp v.slots v.held first views released packets c.release.new.out s b
+    packet_is c.readback_law.ensures.once v.network v.plp v.slots v.held first views released packets
+    c.release.new.out s b
     (c.release.ensures.answer e)
 
 pub returns-clause-none : goal.returns-clause-none

@@ -17,7 +17,8 @@ invariant_of-self c =
     let rule = ap (λ (s : Status). s.rule) c.begin.ensures in
     record {
       same = p.same ∙ sym rule;
-      reached = subst (λ (b : Bool). Reaches c.begin.new.self.rule b c.args.first c.begin.new.self.end) (sym c.requires.outside)
+      reached = subst (λ (b : Bool). Reaches c.begin.new.self.rule b c.args.first c.begin.new.self.end)
+          (sym c.requires.outside)
           (first_range c.slot_time_law.ensures.count_rises p.window c.begin.new.self c.args.first c.begin.ensures);
       known = ap (λ (s : Status). s.due_end) c.begin.ensures
           ∙ ap (λ (q : SlotRule). due_after q c.args.first) (sym rule);

@@ -8,5 +8,6 @@ unfolding PacketSlotsStandsFor StandsWithin
 returns-clause-stands c = λ r first count epochs blocks released h.
     let p = c.args.self.now in
     stands_at c.leave.ensures.assembler (ap (λ (s : SlotsStatus). s.frame) c.leave.ensures.status)
-    (ends_frame r first p.frame count epochs blocks released p.assembler p.window c.leave.new.self.window h c.requires.last
+    (ends_frame r first p.frame count epochs blocks released p.assembler p.window c.leave.new.self.window
+    h c.requires.last
     c.leave.ensures.window)

@@ -11,7 +11,8 @@ invariant_of-self c =
     let rule = ap (λ (s : Status). s.rule) c.leave.ensures in
     record {
       same = p.same ∙ sym rule;
-      reached = left_range c.slot_time_law.ensures.count_rises p.window c.leave.new.self p.in_frame p.frame c.requires.within
+      reached = left_range c.slot_time_law.ensures.count_rises p.window c.leave.new.self p.in_frame p.frame
+          c.requires.within
           p.reached c.leave.ensures;
       known = ap (λ (s : Status). s.due_end) c.leave.ensures
           ∙ ap (λ (q : SlotRule). due_after q (p.frame + 1)) (sym rule);

@@ -11,7 +11,8 @@ returns-clause-stands c = λ r first count epochs released h.
     (c.begin_frame.ensures.stands r first count epochs released h) in
     let last = ap ends_by (c.skip.ensures.status ∙ c.begin_frame.ensures.status) ∙ c.requires.last in
     stands_at c.leave.ensures.assembler (ap (λ (s : SlotsStatus). s.frame) c.leave.ensures.status)
-    (loses r first p.frame count epochs released p.assembler p.window c.leave.new.self.window within last c.leave.ensures.window)
+    (loses r first p.frame count epochs released p.assembler p.window c.leave.new.self.window within
+    last c.leave.ensures.window)
 
 pub returns-clause-status : goal.returns-clause-status
 returns-clause-status c = c.leave.ensures.status

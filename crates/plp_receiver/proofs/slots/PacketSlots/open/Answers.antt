@@ -6,7 +6,8 @@ use Rattle.plp_receiver.proofs.slots.PacketSlots.open.Goals as goal
 
 pub returns-clause-fresh : goal.returns-clause-fresh
 unfolding IsFresh
-returns-clause-fresh c = fresh_from c.new.result c.in_ok-open.field-0 c.args.rule c.new.ensures.stands c.in_ok-open.ensures
+returns-clause-fresh c = fresh_from c.new.result c.in_ok-open.field-0 c.args.rule c.new.ensures.stands
+    c.in_ok-open.ensures
 
 pub invariant_of-result : goal.invariant_of-result
 invariant_of-result c = record {

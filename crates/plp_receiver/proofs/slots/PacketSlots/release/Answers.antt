@@ -15,7 +15,8 @@ pub returns-clause-answer : goal.returns-clause-answer
 unfolding PacketSlotsStandsFor
 returns-clause-answer c = λ e r first count epochs released h.
     let p = c.args.self.now in
-    release_answers p.assembler p.window p.frame r first count epochs released h c.release.result e c.release.ensures.due
+    release_answers p.assembler p.window p.frame r first count epochs released h c.release.result e
+    c.release.ensures.due
     c.release.new.out c.args.out.now c.release.ensures.packet p.window.known
 
 pub returns-clause-none : goal.returns-clause-none
@@ -33,7 +34,8 @@ returns-then-due-eq0-clause-none c = λ e r first count epochs released h.
 pub returns-clause-status : goal.returns-clause-status
 returns-clause-status c =
     let p = c.args.self.now in
-    released_status p.window c.release.new.self p.frame p.in_frame c.release.result c.release.ensures.due c.release.ensures.status
+    released_status p.window c.release.new.self p.frame p.in_frame c.release.result c.release.ensures.due
+    c.release.ensures.status
 
 pub returns-then-due-eq0-clause-status : goal.returns-then-due-eq0-clause-status
 returns-then-due-eq0-clause-status c =

@@ -14,7 +14,8 @@ returns-clause-stands c = λ r first count epochs blocks released h.
     let p = c.args.self.now in
     let z : List Item =
     string_of r.up_len (epoch_of r first) epochs ++ blocks_items r.up_len (epoch_of r p.frame) blocks in
-    takes r first p.frame count epochs blocks (Some (block_of c.args.block.now)) released p.assembler c.take_block.new.assembler
+    takes r first p.frame count epochs blocks (Some (block_of c.args.block.now)) released p.assembler
+    c.take_block.new.assembler
     p.window c.take_block.new.window h c.take_block.ensures.times
     (subst (λ (m : ℕ). Both r (z ++ block_items r.up_len m (block_of c.args.block.now)) c.take_block.new.assembler
     c.take_block.new.window)

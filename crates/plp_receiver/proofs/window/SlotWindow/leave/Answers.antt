@@ -8,7 +8,8 @@ invariant_of-self c =
     let spread = w.sound.spread in
     let rises = c.slot_time_law.ensures.count_rises in
     let late = released_late c.release_law.ensures.old rises w.rule w.sound (c.args.frame + 1) in
-    let before = all_rise rises w.rule w.sound (c.args.frame + 1 - w.rule.spread) c.args.frame (omega (arith, spread)) in
+    let before = all_rise rises w.rule w.sound (c.args.frame + 1 - w.rule.spread) c.args.frame
+    (omega (arith, spread)) in
     record {
       sound = w.sound;
       room = w.room;

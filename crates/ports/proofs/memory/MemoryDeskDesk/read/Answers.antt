@@ -21,5 +21,6 @@ unfolding Gives
 returns-clause-given c =
     let came : c.args.handle < length c.self.inside.handles.items = grind (arith, common_steps, length-map) in
     rw (← c.self.view_is)
-    (λ name. ap Some (gives_on c.self.inside.handles.items c.args.handle c.read.result c.index_mut.result.now c.read.new.self name
+    (λ name. ap Some (gives_on c.self.inside.handles.items c.args.handle c.read.result c.index_mut.result.now
+    c.read.new.self name
     came c.index_mut.ensures.value c.read.ensures.name c.read.ensures.place))

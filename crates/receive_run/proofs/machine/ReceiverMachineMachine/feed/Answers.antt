@@ -16,7 +16,8 @@ feed-count-requires-clause-some c = (enough c.args.self.now _ _ c.requires.wante
 
 pub feed-count-requires-clause-few : goal.feed-count-requires-clause-few
 feed-count-requires-clause-few c =
-    let few = fits c.args.self.now _ _ c.requires.room (enough c.args.self.now _ _ c.requires.wanted).0.only in omega (arith, few)
+    let few = fits c.args.self.now _ _ c.requires.room (enough c.args.self.now _ _ c.requires.wanted).0.only in
+    omega (arith, few)
 
 pub invariant_of-self : goal.invariant_of-self
 invariant_of-self c = let m = c.args.self.now in
@@ -34,8 +35,10 @@ pub returns-then-is_whole-clause-becomes : goal.returns-then-is_whole-clause-bec
 returns-then-is_whole-clause-becomes c = λ start events came.
     let whole : coming_of c.feed-count.new.self ≡ Whole =
     c.is_whole.ensures.0 c.if-is_whole.true in
-    fed_whole c.events_law.ensures c.joined_law.ensures.front start c.args.self.now _ c.see.new.self events c.args._input _
-    (take c.feed-count.result c.args.bytes.now) (known_of c.args.self.now c.rules_law.ensures.plan c.joins_law.ensures) c.requires.wanted
+    fed_whole c.events_law.ensures c.joined_law.ensures.front start c.args.self.now _ c.see.new.self
+    events c.args._input _
+    (take c.feed-count.result c.args.bytes.now) (known_of c.args.self.now c.rules_law.ensures.plan c.joins_law.ensures)
+    c.requires.wanted
     (record { receiver = refl; first = refl; slots = refl }) refl whole
     c.feed-count.ensures.stands c.see.ensures.sees came
 
@@ -56,7 +59,8 @@ pub returns-else-is_whole-clause-becomes : goal.returns-else-is_whole-clause-bec
 returns-else-is_whole-clause-becomes c = λ start events came.
     let seen : coming_of c.feed-count.new.self ≡ Whole → ⊥ =
     λ whole. true≢false (sym (c.is_whole.ensures.1 whole) ∙ c.if-is_whole.false) in
-    fed_some c.events_law.ensures start c.args.self.now _ events c.args._input _ (take c.feed-count.result c.args.bytes.now)
+    fed_some c.events_law.ensures start c.args.self.now _ events c.args._input _
+    (take c.feed-count.result c.args.bytes.now)
     c.requires.wanted (record { receiver = refl; first = refl; slots = refl }) refl seen
     c.feed-count.ensures.stands came
 

@@ -10,7 +10,8 @@ use Rattle.receive_run.proofs.WantedLemmas.{some_due, near_given}
 use Rattle.receive_run.proofs.machine.ReceiverMachineMachine.give.Goals as goal
 
 pub give_packet-requires : goal.give_packet-requires
-give_packet-requires c = let m = c.args.self.now in some_due (due_of m.receiver) m.misplaced (lacks_of m.feed) c.requires.gives
+give_packet-requires c = let m = c.args.self.now in some_due (due_of m.receiver) m.misplaced (lacks_of m.feed)
+    c.requires.gives
 
 pub returns-clause-becomes : goal.returns-clause-becomes
 returns-clause-becomes c = λ start events came.
@@ -19,7 +20,8 @@ returns-clause-becomes c = λ start events came.
     (some_due (due_of m.receiver) m.misplaced (lacks_of m.feed) c.requires.gives)
     (take_at c.give_packet.new.packet _ SIZE c.give_packet.ensures.whole) c.give_packet.ensures.gives
     c.saturating_add-self.ensures refl refl refl
-    (λ first views packets a back. few_joined c.join_law.ensures.slots c.times_law.ensures.frame c.times_law.ensures.slot
+    (λ first views packets a back. few_joined c.join_law.ensures.slots c.times_law.ensures.frame
+    c.times_law.ensures.slot
     (joins_of m.receiver) (network_of m.receiver) (plp_of m.receiver) first views packets
     (known_plan m c.rules_law.ensures.plan).rules (known_inside m) a.small back) came
 

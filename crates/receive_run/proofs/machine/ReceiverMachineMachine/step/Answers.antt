@@ -8,4 +8,5 @@ returns-clause-wanted c = λ start events came.
     let due = c.due.ensures.value in
     let idle : due_of c.args.self.now.receiver ≡ 0 = search (rules, arith) in
     let some : 0 < c.lacks-lacks.result = search (rules, arith) in
-    can_be_read c.stands_law.ensures.takes start c.args.self.now events c.lacks-lacks.result came idle c.lacks-lacks.ensures some
+    can_be_read c.stands_law.ensures.takes start c.args.self.now events c.lacks-lacks.result came idle
+    c.lacks-lacks.ensures some

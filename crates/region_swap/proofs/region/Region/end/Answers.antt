@@ -18,7 +18,8 @@ returns-clause-of c =
     let r = c.args.self.now in
     let p = c.args.plan.now in
     serves_on r.input c.end.new.self r.blocks r.blocks r.sends r.sends r.next r.next r.count r.count p c.args.list
-    (same_lists r.blocks c.args.list) (λ short. short) (ap (λ (b : Bounds). b.most) c.end.ensures.bounds) c.requires.of.few
+    (same_lists r.blocks c.args.list) (λ short. short) (ap (λ (b : Bounds). b.most) c.end.ensures.bounds)
+    c.requires.of.few
     (∥∥₁_map c.requires.of.told (λ (h : HasTold r.input r.blocks r.sends r.next r.count p c.args.list). record {
       told = at_end h.told;
       stands = returns-clause-stands c h.told h.stands;

@@ -15,15 +15,18 @@ pub returns-clause-stands : goal.returns-clause-stands
 returns-clause-stands c = λ t h.
     let r = c.args.self.now in
     let p = c.args.plan.now in
-    supplies_offer r.input c.offer.new.self r.blocks c.offer.new.pool r.sends r.next r.count p c.args.list t c.args.packet.now
+    supplies_offer r.input c.offer.new.self r.blocks c.offer.new.pool r.sends r.next r.count p c.args.list
+    t c.args.packet.now
     c.requires.free c.requires.wanted
-    (c.offer.ensures.fed p c.args.list t (has_place r.input r.blocks r.sends r.next r.count p c.args.list c.requires.of)) h
+    (c.offer.ensures.fed p c.args.list t (has_place r.input r.blocks r.sends r.next r.count p c.args.list
+    c.requires.of)) h
 
 pub returns-clause-of : goal.returns-clause-of
 returns-clause-of c =
     let r = c.args.self.now in
     let p = c.args.plan.now in
-    serves_on r.input c.offer.new.self r.blocks c.offer.new.pool r.sends r.sends r.next r.next r.count r.count p c.args.list
+    serves_on r.input c.offer.new.self r.blocks c.offer.new.pool r.sends r.sends r.next r.next r.count
+    r.count p c.args.list
     c.offer.ensures.others c.offer.ensures.short (ap (λ (b : Bounds). b.most) c.offer.ensures.bounds) c.requires.of.few
     (∥∥₁_map c.requires.of.told (λ (h : HasTold r.input r.blocks r.sends r.next r.count p c.args.list). record {
       told = with_packet h.told c.args.packet.now;

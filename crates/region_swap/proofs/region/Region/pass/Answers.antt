@@ -12,18 +12,21 @@ pub returns-clause-stands : goal.returns-clause-stands
 returns-clause-stands c = λ t h.
     let r = c.args.self.now in
     let p = c.args.plan.now in
-    let later : is_first p c.args.list t.frame ≡ false = ap (is_first p c.args.list) (sym h.next_is) ∙ c.requires.later in
+    let later : is_first p c.args.list t.frame ≡ false = ap (is_first p c.args.list) (sym h.next_is)
+    ∙ c.requires.later in
     let due : c.due-slots.result ≡ slots_by p c.args.list ((t.frame + 1) * p.ticks) =
     c.due-slots.ensures.due ∙ ap (λ (n : ℕ). slots_by p c.args.list ((n + 1) * p.ticks)) h.next_is in
     supplies_pass c.spread_law.ensures.frames r.input c.pass.new.self r.blocks r.sends r.next r.count p c.args.list t
     c.rules_law.ensures.plan c.requires.of.place later
-    (c.pass.ensures.fed p c.args.list t (early_in r.sends r.blocks c.args.list) c.rules_law.ensures.plan c.requires.of.place later due) h
+    (c.pass.ensures.fed p c.args.list t (early_in r.sends r.blocks c.args.list) c.rules_law.ensures.plan
+    c.requires.of.place later due) h
 
 pub returns-clause-gives : goal.returns-clause-gives
 returns-clause-gives c = λ t h input more.
     let r = c.args.self.now in
     let p = c.args.plan.now in
-    let later : is_first p c.args.list t.frame ≡ false = ap (is_first p c.args.list) (sym h.next_is) ∙ c.requires.later in
+    let later : is_first p c.args.list t.frame ≡ false = ap (is_first p c.args.list) (sym h.next_is)
+    ∙ c.requires.later in
     subst (λ (b : Bool). Gives r.blocks b r.count p c.args.list t.frame input) (sym c.requires.free)
     (gives_pass r.input r.blocks r.next r.count p c.args.list t input later
     (subst (λ (b : Bool). Supplies r.input r.blocks b r.next r.count p c.args.list t) c.requires.free h) more)
@@ -32,8 +35,10 @@ pub returns-clause-of : goal.returns-clause-of
 returns-clause-of c =
     let r = c.args.self.now in
     let p = c.args.plan.now in
-    serves_on r.input c.pass.new.self r.blocks r.blocks r.sends r.sends r.next (r.next + 1) r.count r.count p c.args.list
-    (same_lists r.blocks c.args.list) (λ short. short) (ap (λ (b : Bounds). b.most) c.pass.ensures.bounds) c.requires.of.few
+    serves_on r.input c.pass.new.self r.blocks r.blocks r.sends r.sends r.next (r.next + 1) r.count r.count
+    p c.args.list
+    (same_lists r.blocks c.args.list) (λ short. short) (ap (λ (b : Bounds). b.most) c.pass.ensures.bounds)
+    c.requires.of.few
     (∥∥₁_map c.requires.of.told (λ (h : HasTold r.input r.blocks r.sends r.next r.count p c.args.list). record {
       told = in_next h.told;
       stands = returns-clause-stands c h.told h.stands;

@@ -8,5 +8,6 @@ returns-clause-stands c = λ config plp t left frames given h.
     let s = c.args.self.now in (
       h.0,
       h.1,
-      swaps_end s.plan.now s.list s.region c.end.new.self s.flow s.place s.number t left frames given s.begun c.end.ensures.stands h.2,
+      swaps_end s.plan.now s.list s.region c.end.new.self s.flow s.place s.number t left frames given
+          s.begun c.end.ensures.stands h.2,
     )

@@ -50,14 +50,20 @@ returns-clause-stands c = λ config plp t frames given view held h.
     let own = subst (λ (k : Config). IsHeld k s.number view f) (sym h.0) held in (
       h.0,
       h.1,
-      swaps_begin p s.list s.region q s.flow c.begin.new.self s.place c.begin.new.source.place s.number c.new-source.result.place.number
+      swaps_begin p s.list s.region q s.flow c.begin.new.self s.place c.begin.new.source.place s.number
+          c.new-source.result.place.number
           s.begun t frames fr given (left_by p c.new-source.result.place f.pre f.conf bits lists)
-          (left_by p c.begin.new.source.place f.pre f.conf bits lists) refl c.requires.free c.requires.wanted c.advance.ensures.stands
+          (left_by p c.begin.new.source.place f.pre f.conf bits lists) refl c.requires.free c.requires.wanted
+          c.advance.ensures.stands
           (λ input more.
-          ap (λ (pl : SwapPlace). left_by p pl f.pre f.conf bits lists) place ∙ c.first.ensures.left f.pre f.conf bits lists
-          ∙ begin_made c.swapped_law.ensures p s.list s.region q bits s.flow s.place s.number s.begun t [] frames given view f input
-          c.rules_law.ensures.plan s.parts.region_is.place c.requires.free own c.advance.ensures.gives c.write.ensures.made h.2 more)
-          (ap (λ (pl : SwapPlace). pl.number) place ∙ c.first.ensures.number) c.begin.ensures.number c.begin.ensures.feeds.flows h.2,
+          ap (λ (pl : SwapPlace). left_by p pl f.pre f.conf bits lists) place
+          ∙ c.first.ensures.left f.pre f.conf bits lists
+          ∙ begin_made c.swapped_law.ensures p s.list s.region q bits s.flow s.place s.number s.begun
+          t [] frames given view f input
+          c.rules_law.ensures.plan s.parts.region_is.place c.requires.free own c.advance.ensures.gives
+          c.write.ensures.made h.2 more)
+          (ap (λ (pl : SwapPlace). pl.number) place ∙ c.first.ensures.number) c.begin.ensures.number
+          c.begin.ensures.feeds.flows h.2,
     )
 
 pub returns-clause-more : goal.returns-clause-more
@@ -71,11 +77,16 @@ returns-clause-more c = λ config plp t frames given view held h input more.
     let place = c.new-source.ensures.place in
     let lists : List (List (List ℕ)) = slice_set f.blocks.now.lists s.list (own_list q.sends q.blocks s.list) in
     let own = subst (λ (k : Config). IsHeld k s.number view f) (sym h.0) held in
-    let made = ap (λ (pl : SwapPlace). left_by p pl f.pre f.conf bits lists) place ∙ c.first.ensures.left f.pre f.conf bits lists
-    ∙ begin_made c.swapped_law.ensures p s.list s.region q bits s.flow s.place s.number s.begun t [] frames given view f input
-    c.rules_law.ensures.plan s.parts.region_is.place c.requires.free own c.advance.ensures.gives c.write.ensures.made h.2 more in
+    let made = ap (λ (pl : SwapPlace). left_by p pl f.pre f.conf bits lists) place
+    ∙ c.first.ensures.left f.pre f.conf bits lists
+    ∙ begin_made c.swapped_law.ensures p s.list s.region q bits s.flow s.place s.number s.begun t []
+    frames given view f input
+    c.rules_law.ensures.plan s.parts.region_is.place c.requires.free own c.advance.ensures.gives c.write.ensures.made
+    h.2 more in
     let bound = c.begin.ensures.feeds.bound in
     let bodies = ap length made in
-    to_told (λ (k : Config) (j : ℕ). bytes_bound c.begin.new.self.outlet (left_by p c.begin.new.source.place f.pre f.conf bits lists)
-    ≤ bytes_bound s.flow.outlet [] + packet_bound * length (view_bodies k s.number (swapped_view k j input s.number view)))
+    to_told (λ (k : Config) (j : ℕ). bytes_bound c.begin.new.self.outlet (left_by p c.begin.new.source.place
+    f.pre f.conf bits lists)
+    ≤ bytes_bound s.flow.outlet [] + packet_bound * length
+    (view_bodies k s.number (swapped_view k j input s.number view)))
     p config s.list plp h.0 h.1 (omega (arith, bound, bodies))

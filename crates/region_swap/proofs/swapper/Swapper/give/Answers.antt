@@ -25,7 +25,8 @@ give-len-requires-clause-of c =
     let plp = ap (λ (p : SwapPlace). p.plp) place in
     let early = s.parts.last in
     let inside = s.parts.inside in
-    can_build s.plan.now c.new-source.result _ (omega (arith, number, early)) (omega (arith, plp, inside)) c.requires.can
+    can_build s.plan.now c.new-source.result _ (omega (arith, number, early)) (omega (arith, plp, inside))
+    c.requires.can
     s.dynamic.short of.place of.lists of.short c.new-source.ensures.walks
 
 pub give-len-requires-clause-ends : goal.give-len-requires-clause-ends
@@ -45,12 +46,15 @@ returns-clause-gives c =
     let f = c.args.frame.now in
     let u = c.give-len in
     let place = c.new-source.ensures.place in
-    let lists : List (List (List ℕ)) = slice_set f.blocks.now.lists s.list (own_list s.region.sends s.region.blocks s.list) in
+    let lists : List (List (List ℕ)) = slice_set f.blocks.now.lists s.list
+    (own_list s.region.sends s.region.blocks s.list) in
     let rest : List Body = left_by p u.new.source.place f.pre f.conf s.dynamic.bits lists in
     let g : GivesAll p s.flow u.new.self s.place.number (left_in s f) rest u.result.1 (take u.result.0 u.new.out) =
-    subst (λ (pl : SwapPlace). GivesAll p s.flow u.new.self pl.number (left_by p pl f.pre f.conf s.dynamic.bits lists) rest u.result.1
+    subst (λ (pl : SwapPlace). GivesAll p s.flow u.new.self pl.number (left_by p pl f.pre f.conf s.dynamic.bits lists)
+    rest u.result.1
     (take u.result.0 u.new.out)) place u.ensures.gives in
-    let number : u.new.source.place.number ≡ s.place.number = u.ensures.number ∙ ap (λ (pl : SwapPlace). pl.number) place in
+    let number : u.new.source.place.number ≡ s.place.number = u.ensures.number
+    ∙ ap (λ (pl : SwapPlace). pl.number) place in
     record {
       units = g.units;
       bytes_are = g.bytes_are;
@@ -58,24 +62,29 @@ returns-clause-gives c =
       stands = λ config plp t frames given h. (
         h.0,
         h.1,
-        swaps_flow p s.list s.region s.flow u.new.self s.place u.new.source.place s.number s.begun t (left_in s f) rest frames given
+        swaps_flow p s.list s.region s.flow u.new.self s.place u.new.source.place s.number s.begun t
+            (left_in s f) rest frames given
             (given + length g.units)
             (λ all x. subst (λ (n : ℕ). Flows u.new.self.outlet p n rest all (given + length g.units)) (sym number)
             (g.gives.flows all given x)) h.2,
       );
       next = λ config plp t frames given h input cont more over.
-          to_told (λ (k : Config) (j : ℕ). IsPrefix g.units (drop given (pipe k.pid (remade_packets k (swapped k j input frames) ++ more))))
+          to_told (λ (k : Config) (j : ℕ). IsPrefix g.units
+          (drop given (pipe k.pid (remade_packets k (swapped k j input frames) ++ more))))
           p config s.list plp h.0 h.1
           (g.gives.next (remade_bodies p (swapped p s.list input frames)) given (h.2.flows input cont) more over);
       complete = λ going some config plp t frames given h input cont.
-          to_told (λ (k : Config) (j : ℕ). given + length g.units ≤ length (complete_units k.pid (remade_packets k (swapped k j input frames))))
+          to_told (λ (k : Config) (j : ℕ). given + length g.units ≤ length
+          (complete_units k.pid (remade_packets k (swapped k j input frames))))
           p config s.list plp h.0 h.1
           (g.gives.complete going some (remade_bodies p (swapped p s.list input frames)) given (h.2.flows input cont));
       some = g.some;
       all = λ off going config plp t frames given h input cont.
-          to_told (λ (k : Config) (j : ℕ). given + length g.units ≡ length (complete_units k.pid (remade_packets k (swapped k j input frames))))
+          to_told (λ (k : Config) (j : ℕ). given + length g.units ≡ length
+          (complete_units k.pid (remade_packets k (swapped k j input frames))))
           p config s.list plp h.0 h.1
-          ((g.caught off).all (g.gives.finished ∙ going) (remade_bodies p (swapped p s.list input frames)) (given + length g.units)
+          ((g.caught off).all (g.gives.finished ∙ going) (remade_bodies p (swapped p s.list input frames))
+          (given + length g.units)
           (g.gives.flows (remade_bodies p (swapped p s.list input frames)) given (h.2.flows input cont)));
       spent = λ off. (g.caught off).spent;
       less = g.gives.less;

@@ -16,6 +16,7 @@ returns-clause-stands c = λ config plp t left frames given h.
     let b = not_begun s.begun (wanted s.region.input) c.requires in (
       h.0,
       h.1,
-      swaps_offer s.plan.now s.list s.region c.offer.new.self s.flow s.place s.number t left frames given s.begun c.args.packet.now
+      swaps_offer s.plan.now s.list s.region c.offer.new.self s.flow s.place s.number t left frames given
+          s.begun c.args.packet.now
           b.off b.some c.offer.ensures.stands h.2,
     )

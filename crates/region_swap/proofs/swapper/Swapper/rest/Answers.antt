@@ -14,10 +14,13 @@ unfolding SwapperStandsFor remade_packets
 returns-clause-unit c = λ on config plp t frames given h input more.
     let s = c.args.self.now in
     let p = s.plan.now in
-    to_told (λ (k : Config) (j : ℕ). slice_get (pipe k.pid (remade_packets k (swapped k j input frames))) given ≡ Some c.rest.new.out)
+    to_told (λ (k : Config) (j : ℕ). slice_get (pipe k.pid (remade_packets k (swapped k j input frames)))
+    given ≡ Some c.rest.new.out)
     p config s.list plp h.0 h.1
-    (ap (λ (l : List (List ℕ)). slice_get (pipe p.pid l) given) (sym (append-nil (remade_packets p (swapped p s.list input frames))))
-    ∙ c.rest.ensures.unit on p (number_of s.place) (remade_bodies p (swapped p s.list input frames)) given (h.2.flows input more)
+    (ap (λ (l : List (List ℕ)). slice_get (pipe p.pid l) given)
+    (sym (append-nil (remade_packets p (swapped p s.list input frames))))
+    ∙ c.rest.ensures.unit on p (number_of s.place) (remade_bodies p (swapped p s.list input frames))
+    given (h.2.flows input more)
     [] (λ _. refl))
 
 pub returns-clause-stands : goal.returns-clause-stands
@@ -26,7 +29,8 @@ returns-clause-stands c = λ on config plp t frames given h.
     let s = c.args.self.now in (
       h.0,
       h.1,
-      swaps_flow s.plan.now s.list s.region s.flow c.rest.new.self s.place s.place s.number s.begun t [] [] frames given _
+      swaps_flow s.plan.now s.list s.region s.flow c.rest.new.self s.place s.place s.number s.begun t
+          [] [] frames given _
           (λ all. c.rest.ensures.flows on s.plan.now (number_of s.place) all given) h.2,
     )
 
@@ -35,8 +39,10 @@ unfolding SwapperStandsFor remade_packets
 returns-clause-none c = λ off config plp t frames given h input more.
     let s = c.args.self.now in
     let p = s.plan.now in
-    to_told (λ (k : Config) (j : ℕ). length (pipe k.pid (remade_packets k (swapped k j input frames))) ≡ given) p config s.list plp h.0 h.1
-    (c.rest.ensures.none off c.requires.finished p (number_of s.place) (remade_bodies p (swapped p s.list input frames)) given
+    to_told (λ (k : Config) (j : ℕ). length (pipe k.pid (remade_packets k (swapped k j input frames))) ≡ given)
+    p config s.list plp h.0 h.1
+    (c.rest.ensures.none off c.requires.finished p (number_of s.place) (remade_bodies p (swapped p s.list input frames))
+    given
     (h.2.flows input more))
 
 pub returns-clause-kept : goal.returns-clause-kept

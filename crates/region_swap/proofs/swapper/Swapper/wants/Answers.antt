@@ -9,7 +9,8 @@ pub returns-then-self-clause-answer : goal.returns-then-self-clause-answer
 unfolding SwapperStandsFor
 returns-then-self-clause-answer c = λ config plp t left frames given h.
     let s = c.args.self.now in
-    to_told (λ (k : Config) (j : ℕ). 0 ≡ wants_by k j t) s.plan.now config s.list plp h.0 h.1 (sym (h.2.offered c.if-self.true))
+    to_told (λ (k : Config) (j : ℕ). 0 ≡ wants_by k j t) s.plan.now config s.list plp h.0 h.1
+    (sym (h.2.offered c.if-self.true))
 
 pub returns-clause-answer : goal.returns-clause-answer
 unfolding SwapperStandsFor

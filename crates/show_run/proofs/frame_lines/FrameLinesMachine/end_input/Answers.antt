@@ -9,7 +9,8 @@ pub returns-then-eq-clause-becomes : goal.returns-then-eq-clause-becomes
 returns-then-eq-clause-becomes c = λ start events came.
     let over : coming_of c.finish.new.self ≡ Finished = search rules in
     ended c.events_law.ensures start c.args.self.now _ events c.args._input c.args._bytes.now c.requires.wanted
-    c.finish.ensures.over c.finish.ensures.whole (λ done. c.records_line-self.ensures.text ∙ ap records_line c.count.ensures)
+    c.finish.ensures.over c.finish.ensures.whole (λ done. c.records_line-self.ensures.text
+    ∙ ap records_line c.count.ensures)
     (λ other. absurd (other over)) c.finish.ensures.stands came
 
 pub returns-else-eq-clause-becomes : goal.returns-else-eq-clause-becomes

@@ -13,6 +13,7 @@ returns-then-is_whole-clause-becomes c = λ start events came.
 pub returns-else-is_whole-clause-becomes : goal.returns-else-is_whole-clause-becomes
 returns-else-is_whole-clause-becomes c = λ start events came.
     let seen : coming_of c.feed-count.new.self ≡ Whole → ⊥ = search rules in
-    fed_some c.events_law.ensures start c.args.self.now _ events c.args._input _ (take c.feed-count.result c.args.bytes.now)
+    fed_some c.events_law.ensures start c.args.self.now _ events c.args._input _
+    (take c.feed-count.result c.args.bytes.now)
     c.requires.wanted refl c.feed-count.ensures.unfinished seen
     c.feed-count.ensures.stands came

@@ -9,5 +9,6 @@ returns-then-is_empty-clause-becomes c =
 
 pub returns-else-is_empty-clause-becomes : goal.returns-else-is_empty-clause-becomes
 returns-else-is_empty-clause-becomes c =
-    λ start events came. ended_within c.events_law.ensures start c.args.self.now _ events c.args._input c.args._bytes.now
+    λ start events came. ended_within c.events_law.ensures start c.args.self.now _ events c.args._input
+    c.args._bytes.now
     c.requires.wanted (search (rules, arith)) refl refl refl refl refl came

@@ -8,5 +8,6 @@ pub returns-clause-becomes : goal.returns-clause-becomes
 returns-clause-becomes c = λ start events came. went_on c.events_law.ensures c.accepted_front_law.ensures
     c.events_push_law.ensures start
     c.args.self.now _ events c.feed.result c.requires.unpipes refl refl refl refl refl refl refl
-    (λ p happened s. subst (λ (l : List ℕ). UnpiperStandsFor c.feed.new.self p (happened ++ Fed (take c.feed.result l) ∷ []))
+    (λ p happened s. subst (λ (l : List ℕ). UnpiperStandsFor c.feed.new.self p
+    (happened ++ Fed (take c.feed.result l) ∷ []))
     (held_all c.args.self.now (search rules)) (c.feed.ensures.stands p happened s)) came

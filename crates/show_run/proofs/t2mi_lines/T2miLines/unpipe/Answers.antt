@@ -8,5 +8,6 @@ returns-clause-becomes c = λ start events came. unpiped c.events_law.ensures c.
     c.events_push_law.ensures start
     c.args.self.now _ events (take c.feed-count.result c.args.bytes.now) c.requires.unpipes
     (held_none c.args.self.now (search rules) c.requires.all) refl
-    (let n = length-take-le c.feed-count.result c.args.bytes.now c.feed-count.ensures.inside in omega (arith, n)) refl refl refl
+    (let n = length-take-le c.feed-count.result c.args.bytes.now c.feed-count.ensures.inside in omega (arith, n))
+    refl refl refl
     refl refl c.feed-count.ensures.stands came

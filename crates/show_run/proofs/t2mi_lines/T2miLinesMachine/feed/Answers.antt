@@ -7,4 +7,5 @@ returns-then-eq-clause-becomes c = λ start events came. at_input start _ events
 
 pub returns-clause-becomes : goal.returns-clause-becomes
 returns-clause-becomes c = λ start events came. at_input start _ events c.args._input _
-    (wanted c.args.self.now _ _ c.requires.wanted) (rw c.front_unit.ensures at (c.seek.ensures.becomes start events came))
+    (wanted c.args.self.now _ _ c.requires.wanted) (rw c.front_unit.ensures at
+    (c.seek.ensures.becomes start events came))

@@ -16,7 +16,8 @@ returns-then-address-self c =
 
 pub returns : goal.returns
 returns c =
-    let here = cell_at c.self.inside.count c.args.address c.self.inside.bytes.now (omega (arith, c.if-address-self.false)) in
+    let here = cell_at c.self.inside.count c.args.address c.self.inside.bytes.now
+    (omega (arith, c.if-address-self.false)) in
     let all = rest_all (4 * c.args.address) c.self.inside.bytes.now in
     ap Some (c.cell.ensures ∙ ap cell_of (c.read_u32-word.ensures ∙ ap (big_number 4) all))
     ∙ sym (ap (λ (cells : List (Option Cell)). slice_get cells c.args.address) (sym c.self.view_is) ∙ here)

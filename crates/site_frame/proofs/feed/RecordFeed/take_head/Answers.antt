@@ -8,7 +8,8 @@ returns-then-self-eq0-clause-stands c = λ views came ended s.
     let f = c.args.self.now in
     let size = length-take-le c.take-count.result c.args.bytes.now (search (rules, arith)) in
     head_whole f _ views came (take c.take-count.result c.args.bytes.now) c.whole-head.result ended c.requires.coming
-    (omega (arith, size)) refl c.clear.ensures (c.whole-head.ensures ∙ c.take-count.ensures.took) c.begin-coming.ensures.behind s
+    (omega (arith, size)) refl c.clear.ensures (c.whole-head.ensures ∙ c.take-count.ensures.took)
+    c.begin-coming.ensures.behind s
 
 pub returns-else-self-eq0-clause-stands : goal.returns-else-self-eq0-clause-stands
 returns-else-self-eq0-clause-stands c = λ views came ended s.

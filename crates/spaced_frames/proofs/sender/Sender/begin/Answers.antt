@@ -21,7 +21,8 @@ returns-in-Some-clause-stands c = λ x frames gave h.
     c.go_on.ensures.number c.go_on.ensures.stage
     (λ all s.
     subst (λ (o : Option ℕ). Continues k c.go_on.new.self y (spacers k o number ++ next) all gave) (sym c.in-Some.is)
-    (subst (λ (m : ℕ). Continues k c.go_on.new.self y (spacers_behind k m (spacers_between m (number / k.frames)) ++ next) all gave)
+    (subst (λ (m : ℕ). Continues k c.go_on.new.self y (spacers_behind k m (spacers_between m (number / k.frames))
+    ++ next) all gave)
     c.superframe_of.ensures (c.go_on.ensures.goes self.place.number all gave s)))
     h
 

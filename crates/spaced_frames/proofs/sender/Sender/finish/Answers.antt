@@ -7,7 +7,8 @@ use Rattle.spaced_frames.proofs.sender.Sender.finish.Goals as goal
 pub returns-clause-stands : goal.returns-clause-stands
 returns-clause-stands c = λ x frames gave h.
     let self = c.args.self.now in
-    finished_stands self.plan.now self c.finish.new.self _ x frames gave refl c.requires.idle c.requires.idle refl refl refl
+    finished_stands self.plan.now self c.finish.new.self _ x frames gave refl c.requires.idle c.requires.idle
+    refl refl refl
     c.requires.«open» c.finish.ensures.finished c.finish.ensures.flows h
 
 pub returns-clause-left : goal.returns-clause-left

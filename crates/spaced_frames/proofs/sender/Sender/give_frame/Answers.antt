@@ -8,7 +8,8 @@ pub returns-then-not-full-clause-stands : goal.returns-then-not-full-clause-stan
 returns-then-not-full-clause-stands c = λ frames gave h.
     let self = c.args.self.now in
     let g = c.give-len.ensures in
-    given_over self.plan.now self _ (content_of c.args.frame.now) frames gave _ _ _ c.requires.sends refl refl refl g.number
+    given_over self.plan.now self _ (content_of c.args.frame.now) frames gave _ _ _ c.requires.sends
+    refl refl refl g.number
     (g.gives.caught c.if-not-full.true).spent g.gives h
 
 pub returns-then-not-full-clause-caught : goal.returns-then-not-full-clause-caught
@@ -22,5 +23,6 @@ pub returns-else-not-full-clause-stands : goal.returns-else-not-full-clause-stan
 returns-else-not-full-clause-stands c = λ frames gave h.
     let self = c.args.self.now in
     let g = c.give-len.ensures in
-    given_on self.plan.now self _ (content_of c.args.frame.now) frames gave _ at.Sends _ c.requires.sends c.requires.sends
+    given_on self.plan.now self _ (content_of c.args.frame.now) frames gave _ at.Sends _ c.requires.sends
+    c.requires.sends
     (λ e. sends_is self c.requires.sends (c.requires.sends ∙ e)) refl refl refl g.number g.gives h

@@ -13,7 +13,8 @@ returns-then-superframe_of-superframe-clause-goes c = λ n all gave s.
     let e : c.superframe_of.result ≡ t = c.superframe_of.ensures in
     let far : c.args.superframe + 14 < t = omega (arith, c.if-superframe_of-superframe.true, e) in
     spacer_next k new x c.args.superframe t c.args.number (bodies_as k c.args.number x) all gave far
-    (later_spaces k new x (c.args.superframe + 14) c.args.number c.begin_spacer.ensures.stage c.begin_spacer.ensures.number.1
+    (later_spaces k new x (c.args.superframe + 14) c.args.number c.begin_spacer.ensures.stage
+    c.begin_spacer.ensures.number.1
     c.begin_spacer.ensures.number.0)
     (c.begin_spacer.ensures.begun x n all gave s)
 
@@ -36,5 +37,6 @@ returns-then-superframe_of-superframe-clause-left c =
     let t = c.args.number / k.frames in
     let e : c.superframe_of.result ≡ t = c.superframe_of.ensures in
     let far : c.args.superframe + 14 < t = omega (arith, c.if-superframe_of-superframe.true, e) in
-    spacer_left_of k c.args.self.now c.begin_spacer.new.self x c.args.superframe c.args.number far c.begin_spacer.ensures.stage
+    spacer_left_of k c.args.self.now c.begin_spacer.new.self x c.args.superframe c.args.number far
+    c.begin_spacer.ensures.stage
     c.begin_spacer.ensures.number.1 c.begin_spacer.ensures.number.0 (c.begin_spacer.ensures.bound x)

@@ -15,8 +15,10 @@ returns-then-as_array-ne-SYNC-clause-shown c = λ k plp events s.
     let p = take SIZE c.args.bytes.now in
     let first = ap (λ (l : List ℕ). slice_index_or l 0 0) (c.as_array.ensures.bytes ∙ c.front_packet-packet.ensures) in
     let tell = c.events_law.ensures in
-    rw c.refuse.ensures (shown_refuse k plp events m s p (events ++ Fed 1 p ∷ []) (can_drains k plp events m s c.requires.drains c.requires.going)
-    (fed_same tell 1 0 p events zero_one) (tell.fed 1 p events).here (tell.fed 1 p events).gave (some_taken _ c.requires.long)
+    rw c.refuse.ensures (shown_refuse k plp events m s p (events ++ Fed 1 p ∷ [])
+    (can_drains k plp events m s c.requires.drains c.requires.going)
+    (fed_same tell 1 0 p events zero_one) (tell.fed 1 p events).here (tell.fed 1 p events).gave
+    (some_taken _ c.requires.long)
     (no_sync p (λ e. c.if-as_array-ne-SYNC.true (first ∙ e))) (inl (λ e. c.if-as_array-ne-SYNC.true (first ∙ e))))
 
 pub returns-then-as_array-ne-SYNC-clause-reach : goal.returns-then-as_array-ne-SYNC-clause-reach
@@ -29,7 +31,8 @@ returns-clause-shown c = λ k plp events s.
     let p = take SIZE c.args.bytes.now in
     let tell = c.events_law.ensures in
     shown_drain k plp events c.args.self.now s p (events ++ Fed 1 p ∷ []) c.requires.drains c.requires.going
-    (fed_same tell 1 0 p events zero_one) (tell.fed 1 p events).here ((tell.fed 1 p events).ended 1) (tell.fed 1 p events).gave
+    (fed_same tell 1 0 p events zero_one) (tell.fed 1 p events).here ((tell.fed 1 p events).ended 1)
+    (tell.fed 1 p events).gave
     (length-take-le SIZE c.args.bytes.now c.requires.long)
     (let a = c.as_array.ensures.bytes in let b = c.front_packet-packet.ensures in let f = c.if-as_array-ne-SYNC.false in
     ap (λ (l : List ℕ). slice_index_or l 0 0) (sym (a ∙ b)) ∙ f)
@@ -37,7 +40,8 @@ returns-clause-shown c = λ k plp events s.
 pub returns-clause-reach : goal.returns-clause-reach
 returns-clause-reach c =
     let m = c.args.self.now in
-    reach_on m (record m { taken = m.taken + 1; ran = record m.ran { unsent = m.ran.unsent + 1 } }) (omega arith) (omega arith)
+    reach_on m (record m { taken = m.taken + 1; ran = record m.ran { unsent = m.ran.unsent + 1 } }) (omega arith)
+    (omega arith)
     (drained_on m.draining m.ran.unsent (m.ran.unsent + 1) (omega arith))
 
 pub overflow_add-self-2 : goal.overflow_add-self-2

@@ -11,7 +11,8 @@ returns-then-rest-gt0-clause-shown c = λ k plp events s.
     let m = c.args.self.now in
     let p = c.args.bytes.now in
     let tell = c.events_law.ensures in
-    rw c.refuse.ensures (shown_refuse k plp events m s p (events ++ Ended 1 p ∷ []) (can_drains k plp events m s c.requires.drains c.requires.going)
+    rw c.refuse.ensures (shown_refuse k plp events m s p (events ++ Ended 1 p ∷ [])
+    (can_drains k plp events m s c.requires.drains c.requires.going)
     (ended_same tell 1 0 p events zero_one) (tell.ended 1 p events).here (tell.ended 1 p events).gave
     (some_length p (let l = c.if-rest-gt0.true in omega (arith, l)))
     (no_short p c.requires.short) (inr (tell.ended 1 p events).ended))

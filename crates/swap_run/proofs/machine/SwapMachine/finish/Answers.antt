@@ -9,7 +9,8 @@ use Rattle.swap_run.proofs.machine.SwapMachine.finish.Goals as goal
 pub returns-clause-shown : goal.returns-clause-shown
 returns-clause-shown c = λ k plp events s.
     let f = c.finish.ensures in
-    shown_finish k plp events c.args.self.now s c.finish.new.self c.requires.drains c.requires.over f.stands f.fed (f.left []) f.status
+    shown_finish k plp events c.args.self.now s c.finish.new.self c.requires.drains c.requires.over f.stands
+    f.fed (f.left []) f.status
 
 pub returns-clause-left : goal.returns-clause-left
 returns-clause-left c =
@@ -24,7 +25,8 @@ returns-clause-reach c =
     let m = c.args.self.now in
     let was = slots_in m phase.Drains c.requires.drains in
     let same = slots_status m c.finish.new.self m.number (ap (λ (x : Status). x.plp) c.finish.ensures.status) in
-    reach_on m (record m { swapper = c.finish.new.self; phase = phase.Rests }) (omega arith) (omega (arith, was, same)) (omega arith)
+    reach_on m (record m { swapper = c.finish.new.self; phase = phase.Rests }) (omega arith) (omega (arith, was, same))
+    (omega arith)
 
 pub finish-requires-clause-given : goal.finish-requires-clause-given
 finish-requires-clause-given c = drains_idle c.args.self.now c.requires.came c.requires.drains

@@ -19,16 +19,19 @@ returns-then-rest-clause-shown c = λ k plp events s.
     let n = c.rest.ensures in
     let on = c.if-rest.true in
     let tell = c.events_law.ensures in
-    subst (λ (l : List ℕ). Shown k plp (events ++ Gave l ∷ []) (record m { swapper = q; ran = record m.ran { units = m.ran.units + 1 } }))
+    subst (λ (l : List ℕ). Shown k plp (events ++ Gave l ∷ [])
+    (record m { swapper = q; ran = record m.ran { units = m.ran.units + 1 } }))
     (sym (take_all SIZE unit (omega (arith, c.rest.array_long))))
-    (shown_rest k plp events m s q unit (events ++ Gave unit ∷ []) c.requires.rests (gave_same tell 0 unit events) (gave_same tell 1 unit events)
+    (shown_rest k plp events m s q unit (events ++ Gave unit ∷ []) c.requires.rests (gave_same tell 0 unit events)
+    (gave_same tell 1 unit events)
     (tell.given unit events).gave (n.unit on) (n.stands on) n.fed (n.less on) n.status)
 
 pub returns-then-rest-clause-left : goal.returns-then-rest-clause-left
 returns-then-rest-clause-left c =
     let m = c.args.self.now in
     let was = left_by m phase.Rests c.requires.rests in
-    let now = left_by (record m { swapper = c.rest.new.self; ran = record m.ran { units = m.ran.units + 1 } }) phase.Rests c.requires.rests in
+    let now = left_by (record m { swapper = c.rest.new.self; ran = record m.ran { units = m.ran.units + 1 } })
+    phase.Rests c.requires.rests in
     let less = c.rest.ensures.less c.if-rest.true in
     omega (arith, was, now, less)
 
@@ -36,15 +39,18 @@ pub returns-then-rest-clause-reach : goal.returns-then-rest-clause-reach
 returns-then-rest-clause-reach c =
     let m = c.args.self.now in
     reach_on m (record m { swapper = c.rest.new.self; ran = record m.ran { units = m.ran.units + 1 } }) (omega arith)
-    (slots_status m c.rest.new.self (wanted_in m.phase m.number) (ap (λ (x : Status). x.plp) c.rest.ensures.status)) (omega arith)
+    (slots_status m c.rest.new.self (wanted_in m.phase m.number) (ap (λ (x : Status). x.plp) c.rest.ensures.status))
+    (omega arith)
 
 pub returns-clause-shown : goal.returns-clause-shown
 returns-clause-shown c = λ k plp events s.
     let n = c.rest.ensures in
     let off = c.if-rest.false in
     let tell = c.events_law.ensures in
-    shown_done k plp events c.args.self.now s c.rest.new.self (events ++ Gave [] ∷ []) c.requires.rests (gave_same tell 0 [] events)
-    (gave_same tell 1 [] events) ((tell.given [] events).gave ∙ append-nil (gave events)) (n.none off) (n.kept off) n.status
+    shown_done k plp events c.args.self.now s c.rest.new.self (events ++ Gave [] ∷ []) c.requires.rests
+    (gave_same tell 0 [] events)
+    (gave_same tell 1 [] events) ((tell.given [] events).gave ∙ append-nil (gave events)) (n.none off)
+    (n.kept off) n.status
 
 pub returns-clause-left : goal.returns-clause-left
 returns-clause-left c =
@@ -56,7 +62,8 @@ returns-clause-reach c =
     let m = c.args.self.now in
     let was = slots_in m phase.Rests c.requires.rests in
     let same = slots_status m c.rest.new.self m.number (ap (λ (x : Status). x.plp) c.rest.ensures.status) in
-    reach_on m (record m { swapper = c.rest.new.self; phase = phase.Done }) (omega arith) (omega (arith, was, same)) (omega arith)
+    reach_on m (record m { swapper = c.rest.new.self; phase = phase.Done }) (omega arith) (omega (arith, was, same))
+    (omega arith)
 
 pub rest-requires-clause-finished : goal.rest-requires-clause-finished
 rest-requires-clause-finished c = rests_over c.args.self.now c.requires.came c.requires.rests
@@ -66,5 +73,6 @@ rest-requires-clause-fed c = rests_fed c.args.self.now c.requires.came c.require
 
 pub overflow_add-self : goal.overflow_add-self
 overflow_add-self c =
-    let n = less_of _ _ c.requires.came (λ (h : HasShown c.args.self.now). few_units h.network h.plp h.events c.args.self.now h.shown) in
+    let n = less_of _ _ c.requires.came (λ (h : HasShown c.args.self.now). few_units h.network h.plp
+    h.events c.args.self.now h.shown) in
     omega (arith, n)

@@ -7,15 +7,18 @@ use Rattle.swap_run.specs.declared.phase.Phase.TheVariants as phase
 use Rattle.swap_run.specs.declared.stop.Ran.{Ran}
 use Rattle.swap_run.specs.Steps.{wanted_in}
 use Rattle.swap_run.proofs.GoLemmas.{few_more, less_left, shown_full, shown_behind}
-use Rattle.swap_run.proofs.NextLemmas.{left_by, number_most, reach_on, drained_on, slots_behind, slots_status, frame_is, units_begun, sent_in}
-use Rattle.swap_run.proofs.NextLemmas.{units_early, units_whole, units_waits, units_at, counted_units, gave_same, some_units}
+use Rattle.swap_run.proofs.NextLemmas.{left_by, number_most, reach_on, drained_on, slots_behind, slots_status, frame_is}
+use Rattle.swap_run.proofs.NextLemmas.{units_begun, sent_in}
+use Rattle.swap_run.proofs.NextLemmas.{units_early, units_whole, units_waits, units_at, counted_units, gave_same}
+use Rattle.swap_run.proofs.NextLemmas.{some_units}
 use Rattle.swap_run.proofs.machine.SwapMachine.give_units.Goals as goal
 
 pub frame-frame-requires : goal.frame-frame-requires
 frame-frame-requires c = record { whole = units_whole c.args.self.now c.requires.came c.requires.units }
 
 pub give-len-requires-clause-can : goal.give-len-requires-clause-can
-give-len-requires-clause-can c = sent_in c.args.self.now c.requires.came c.frame-frame.result c.frame-frame.ensures.is.can
+give-len-requires-clause-can c = sent_in c.args.self.now c.requires.came c.frame-frame.result
+    c.frame-frame.ensures.is.can
 
 pub give-len-requires-clause-begun : goal.give-len-requires-clause-begun
 give-len-requires-clause-begun c = units_begun c.args.self.now c.requires.came c.requires.units
@@ -26,10 +29,12 @@ add_units-requires c =
     let u = c.give-len in
     record {
       few = less_of _ _ c.requires.came (λ (h : HasShown m).
-          let few = few_more h.network h.plp h.events m h.shown c.requires.units c.frame-frame.result c.frame-frame.ensures.is u.new.self
+          let few = few_more h.network h.plp h.events m h.shown c.requires.units c.frame-frame.result
+          c.frame-frame.ensures.is u.new.self
           u.result.1 _ u.ensures.gives u.ensures.status in
           let most = h.shown.bound.early in
-          let e = counted_units _ _ _ _ u.result.0 u.new.out (let s = u.ensures.size in let k = u.ensures.count in omega (arith, s, k))
+          let e = counted_units _ _ _ _ u.result.0 u.new.out (let s = u.ensures.size in let k = u.ensures.count in
+          omega (arith, s, k))
           u.ensures.gives in
           omega (arith, few, most, e));
     }
@@ -63,19 +68,23 @@ returns-then-full-clause-shown c = λ k plp events s.
     let u = c.give-len in
     let bytes = take u.result.0 u.new.out in
     let tell = c.events_law.ensures in
-    let e = counted_units _ _ _ _ u.result.0 u.new.out (let s = u.ensures.size in let k = u.ensures.count in omega (arith, s, k))
+    let e = counted_units _ _ _ _ u.result.0 u.new.out (let s = u.ensures.size in let k = u.ensures.count in
+    omega (arith, s, k))
     u.ensures.gives in
     subst (λ (r : Ran). Shown k plp (events ++ Gave bytes ∷ []) (record m { swapper = u.new.self; ran = r }))
     (sym (c.add_units.ensures ∙ ap (λ (q : ℕ). record m.ran { units = m.ran.units + q }) e))
-    (shown_full k plp events m s c.requires.units c.frame-frame.result c.frame-frame.ensures.is u.new.self u.result.1 bytes u.ensures.gives
-    u.ensures.status (events ++ Gave bytes ∷ []) (gave_same tell 0 bytes events) (gave_same tell 1 bytes events) (tell.given bytes events).gave)
+    (shown_full k plp events m s c.requires.units c.frame-frame.result c.frame-frame.ensures.is u.new.self
+    u.result.1 bytes u.ensures.gives
+    u.ensures.status (events ++ Gave bytes ∷ []) (gave_same tell 0 bytes events) (gave_same tell 1 bytes events)
+    (tell.given bytes events).gave)
 
 pub returns-then-full-clause-left : goal.returns-then-full-clause-left
 returns-then-full-clause-left c =
     let m = c.args.self.now in
     let u = c.give-len in
     less_of _ _ c.requires.came (λ (h : HasShown m).
-    let less = less_left h.network h.plp h.events m h.shown c.requires.units c.frame-frame.result c.frame-frame.ensures.is u.new.self u.result.1
+    let less = less_left h.network h.plp h.events m h.shown c.requires.units c.frame-frame.result
+    c.frame-frame.ensures.is u.new.self u.result.1
     _ u.ensures.gives u.ensures.status in
     let some = some_units u.ensures.gives.units (u.ensures.gives.some c.if-full.true) in
     let was = left_by m phase.Units c.requires.units in
@@ -88,7 +97,8 @@ returns-then-full-clause-reach c =
     let q = c.give-len.new.self in
     reach_on m (record m { swapper = q; ran = c.add_units.new.self }) (omega arith)
     (slots_status m q (wanted_in m.phase m.number) (ap (λ (x : Status). x.plp) c.give-len.ensures.status))
-    (drained_on m.draining m.ran.unsent c.add_units.new.self.unsent (let e = ap (λ (r : Ran). r.unsent) c.add_units.ensures in omega (arith, e)))
+    (drained_on m.draining m.ran.unsent c.add_units.new.self.unsent (let e = ap (λ (r : Ran). r.unsent)
+    c.add_units.ensures in omega (arith, e)))
 
 pub returns-clause-shown : goal.returns-clause-shown
 returns-clause-shown c = λ k plp events s.
@@ -97,13 +107,22 @@ returns-clause-shown c = λ k plp events s.
     let p = c.pass.ensures in
     let bytes = take u.result.0 u.new.out in
     let tell = c.events_law.ensures in
-    let e = counted_units _ _ _ _ u.result.0 u.new.out (let s = u.ensures.size in let k = u.ensures.count in omega (arith, s, k))
+    let e = counted_units _ _ _ _ u.result.0 u.new.out (let s = u.ensures.size in let k = u.ensures.count in
+    omega (arith, s, k))
     u.ensures.gives in
     subst (λ (r : Ran). Shown k plp (events ++ Gave bytes ∷ [])
-    (record m { feed = c.skip.new.self; swapper = c.pass.new.self; number = m.number + 1; phase = phase.Records; ran = r }))
+    (record m {
+      feed = c.skip.new.self;
+      swapper = c.pass.new.self;
+      number = m.number + 1;
+      phase = phase.Records;
+      ran = r;
+    }))
     (sym (c.add_units.ensures ∙ ap (λ (q : ℕ). record m.ran { units = m.ran.units + q }) e))
-    (shown_behind k plp events m s c.requires.units c.frame-frame.result c.frame-frame.ensures.is u.new.self u.result.1 bytes u.ensures.gives
-    u.ensures.status (events ++ Gave bytes ∷ []) (gave_same tell 0 bytes events) (gave_same tell 1 bytes events) (tell.given bytes events).gave
+    (shown_behind k plp events m s c.requires.units c.frame-frame.result c.frame-frame.ensures.is u.new.self
+    u.result.1 bytes u.ensures.gives
+    u.ensures.status (events ++ Gave bytes ∷ []) (gave_same tell 0 bytes events) (gave_same tell 1 bytes events)
+    (tell.given bytes events).gave
     c.skip.new.self c.pass.new.self c.if-full.false (u.ensures.idle c.if-full.false) c.skip.ensures.config
     (λ given st. c.skip.ensures.skips (fed 0 events) (has_ended 0 events) given st)
     (record { stands = p.stands; unit = p.unit; status = p.status }))
@@ -119,8 +138,15 @@ returns-clause-reach c =
     let m = c.args.self.now in
     let q = c.pass.new.self in
     let f = c.skip.ensures.fed in
-    reach_on m (record m { feed = c.skip.new.self; swapper = q; number = m.number + 1; phase = phase.Records; ran = c.add_units.new.self })
+    reach_on m (record m {
+      feed = c.skip.new.self;
+      swapper = q;
+      number = m.number + 1;
+      phase = phase.Records;
+      ran = c.add_units.new.self;
+    })
     (omega (arith, f))
     (slots_behind m q phase.Units c.requires.units refl
     (ap (λ (x : Status). x.plp) c.pass.ensures.status ∙ ap (λ (x : Status). x.plp) c.give-len.ensures.status))
-    (drained_on m.draining m.ran.unsent c.add_units.new.self.unsent (let e = ap (λ (r : Ran). r.unsent) c.add_units.ensures in omega (arith, e)))
+    (drained_on m.draining m.ran.unsent c.add_units.new.self.unsent (let e = ap (λ (r : Ran). r.unsent)
+    c.add_units.ensures in omega (arith, e)))

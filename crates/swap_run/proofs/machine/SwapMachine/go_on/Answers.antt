@@ -4,7 +4,8 @@ use Rattle.swap_run.proofs.NextLemmas.{packets_waits}
 use Rattle.swap_run.proofs.machine.SwapMachine.go_on.Goals as goal
 
 pub unwrap-waiting-requires : goal.unwrap-waiting-requires
-unwrap-waiting-requires c = subst IsSome (sym c.waiting.ensures) (packets_waits c.args.self.now c.requires.came c.requires.packets)
+unwrap-waiting-requires c = subst IsSome (sym c.waiting.ensures) (packets_waits c.args.self.now c.requires.came
+    c.requires.packets)
 
 pub pass_frame-requires-clause-waits : goal.pass_frame-requires-clause-waits
 pass_frame-requires-clause-waits c = sym c.waiting.ensures ∙ c.unwrap-waiting.ensures

@@ -22,7 +22,14 @@ returns-clause-becomes c =
       base = record { config = refl; rules = plan; place = c.requires };
       read = none_read;
       of_feed = record { network = f.config; stands = f.stands };
-      of_input = record { parts = refl; each = tt; count = refl; end = λ _. refl; told = λ on. absurd (let z : false ≡ true = on in cc) };
+      of_input = record {
+        parts = refl;
+        each = tt;
+        count = refl;
+        end = λ _. refl;
+        told = λ on. absurd
+            (let z : false ≡ true = on in cc);
+      };
       frame = refl;
       had = λ off. none;
       sends = sends_opened k c.args.plp c.in_ok-swapper.swapper w.stands;
@@ -30,7 +37,8 @@ returns-clause-becomes c =
       counted = record { frames_is = refl; muted_is = refl; unsent_is = refl; joined_is = refl };
       bound = record { few = omega arith; early = omega arith; most = omega arith };
       live = live_caught k c.args.plp c.in_ok-feed.feed [] false [] c.in_ok-swapper.swapper none_read.told 0
-          (record { network = f.config; stands = f.stands }) (record { idle = w.unit; complete = λ input cont. none_complete k c.args.plp input });
+          (record { network = f.config; stands = f.stands })
+          (record { idle = w.unit; complete = λ input cont. none_complete k c.args.plp input });
       is_in = record {
         caught = record { idle = w.unit; complete = λ input cont. none_complete k c.args.plp input };
         next = refl;

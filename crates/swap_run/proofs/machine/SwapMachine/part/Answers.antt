@@ -33,7 +33,8 @@ pub returns-clause-reach : goal.returns-clause-reach
 returns-clause-reach c =
     let m = c.args.self.now in
     let was = slots_in m phase.Records c.requires.records in
-    let up = slots_next c.slot_time_law.ensures.count_rises c.length_law.ensures.slot m m.swapper (m.number - 1) m.number c.requires.came
+    let up = slots_next c.slot_time_law.ensures.count_rises c.length_law.ensures.slot m m.swapper (m.number - 1)
+    m.number c.requires.came
     (omega arith) refl in
     reach_on m (record m { phase = phase.Drains; draining = true }) (omega arith) (omega (arith, was, up))
     (drained_more m.draining m.ran.unsent)

@@ -2,20 +2,24 @@ use Rattle.std.proofs.Common.{◌+◌, ap, arith}
 use Rattle.region_swap.specs.StandsFor.{Status}
 use Rattle.swap_run.specs.declared.phase.Phase.TheVariants as phase
 use Rattle.swap_run.proofs.GoLemmas.{shown_pass}
-use Rattle.swap_run.proofs.NextLemmas.{left_by, number_most, reach_on, slots_in, slots_next, frame_is, packets_early, packets_idle}
+use Rattle.swap_run.proofs.NextLemmas.{left_by, number_most, reach_on, slots_in, slots_next, frame_is, packets_early}
+use Rattle.swap_run.proofs.NextLemmas.{packets_idle}
 use Rattle.swap_run.proofs.machine.SwapMachine.pass_frame.Goals as goal
 
 pub returns-clause-shown : goal.returns-clause-shown
 returns-clause-shown c = λ k plp events s.
     let p = c.pass.ensures in
-    shown_pass k plp events c.args.self.now s c.slot_time_law.ensures.count_rises c.length_law.ensures.slot c.pass.new.self c.args.waiting
-    c.requires.packets c.requires.waits c.requires.before (record { stands = p.stands; unit = p.unit; status = p.status })
+    shown_pass k plp events c.args.self.now s c.slot_time_law.ensures.count_rises c.length_law.ensures.slot
+    c.pass.new.self c.args.waiting
+    c.requires.packets c.requires.waits c.requires.before
+    (record { stands = p.stands; unit = p.unit; status = p.status })
 
 pub returns-clause-left : goal.returns-clause-left
 returns-clause-left c =
     let m = c.args.self.now in
     let was = left_by m phase.Packets c.requires.packets in
-    let now = left_by (record m { swapper = c.pass.new.self; number = m.number + 1 }) phase.Packets c.requires.packets in
+    let now = left_by (record m { swapper = c.pass.new.self; number = m.number + 1 }) phase.Packets
+    c.requires.packets in
     let most = number_most m c.requires.came in
     omega (arith, was, now, most)
 
@@ -25,7 +29,8 @@ returns-clause-reach c =
     let n = record m { swapper = c.pass.new.self; number = m.number + 1 } in
     let was = slots_in m phase.Packets c.requires.packets in
     let now = slots_in n phase.Packets c.requires.packets in
-    let up = slots_next c.slot_time_law.ensures.count_rises c.length_law.ensures.slot m c.pass.new.self m.number (m.number + 1) c.requires.came
+    let up = slots_next c.slot_time_law.ensures.count_rises c.length_law.ensures.slot m c.pass.new.self
+    m.number (m.number + 1) c.requires.came
     (omega arith) (ap (λ (x : Status). x.plp) c.pass.ensures.status) in
     reach_on m n (omega arith) (omega (arith, was, now, up)) (omega arith)
 

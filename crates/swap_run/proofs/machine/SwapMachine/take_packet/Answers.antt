@@ -18,8 +18,10 @@ returns-then-as_array-ne-SYNC-clause-shown c = λ k plp events s.
     let p = take SIZE c.args.bytes.now in
     let first = ap (λ (l : List ℕ). slice_index_or l 0 0) (c.as_array.ensures.bytes ∙ c.front_packet-packet.ensures) in
     let tell = c.events_law.ensures in
-    rw c.refuse.ensures (shown_refuse k plp events m s p (events ++ Fed 1 p ∷ []) (can_packets k plp events m s c.requires.packets c.requires.wanted)
-    (fed_same tell 1 0 p events zero_one) (tell.fed 1 p events).here (tell.fed 1 p events).gave (some_taken _ c.requires.long)
+    rw c.refuse.ensures (shown_refuse k plp events m s p (events ++ Fed 1 p ∷ [])
+    (can_packets k plp events m s c.requires.packets c.requires.wanted)
+    (fed_same tell 1 0 p events zero_one) (tell.fed 1 p events).here (tell.fed 1 p events).gave
+    (some_taken _ c.requires.long)
     (no_sync p (λ e. c.if-as_array-ne-SYNC.true (first ∙ e))) (inl (λ e. c.if-as_array-ne-SYNC.true (first ∙ e))))
 
 pub returns-then-as_array-ne-SYNC-clause-reach : goal.returns-then-as_array-ne-SYNC-clause-reach
@@ -34,11 +36,13 @@ returns-clause-shown c = λ k plp events s.
     let tell = c.events_law.ensures in
     let o = c.offer.ensures in
     shown_offer k plp events m s c.offer.new.self p (events ++ Fed 1 p ∷ []) c.requires.packets c.requires.wanted
-    (fed_same tell 1 0 p events zero_one) (tell.fed 1 p events).here ((tell.fed 1 p events).ended 1) (tell.fed 1 p events).gave
+    (fed_same tell 1 0 p events zero_one) (tell.fed 1 p events).here ((tell.fed 1 p events).ended 1)
+    (tell.fed 1 p events).gave
     (length-take-le SIZE c.args.bytes.now c.requires.long)
     (let a = c.as_array.ensures.bytes in let b = c.front_packet-packet.ensures in let f = c.if-as_array-ne-SYNC.false in
     ap (λ (l : List ℕ). slice_index_or l 0 0) (sym (a ∙ b)) ∙ f)
-    (λ a b t left fs n st. subst (λ (l : List ℕ). SwapperStandsFor c.offer.new.self a b (with_packet t l) left fs n) c.front_packet-packet.ensures
+    (λ a b t left fs n st. subst (λ (l : List ℕ). SwapperStandsFor c.offer.new.self a b (with_packet t l) left fs n)
+    c.front_packet-packet.ensures
     (o.stands a b t left fs n st))
     o.unit o.status
 
@@ -46,4 +50,5 @@ pub returns-clause-reach : goal.returns-clause-reach
 returns-clause-reach c =
     let m = c.args.self.now in
     reach_on m (record m { swapper = c.offer.new.self; taken = m.taken + 1 }) (omega arith)
-    (slots_status m c.offer.new.self (wanted_in m.phase m.number) (ap (λ (x : Status). x.plp) c.offer.ensures.status)) (omega arith)
+    (slots_status m c.offer.new.self (wanted_in m.phase m.number) (ap (λ (x : Status). x.plp) c.offer.ensures.status))
+    (omega arith)

@@ -7,8 +7,10 @@ use Rattle.region_swap.specs.StandsFor.{Status}
 use Rattle.swap_run.specs.Shown.{HasShown, more_units, frame_bytes}
 use Rattle.swap_run.specs.declared.phase.Phase.TheVariants as phase
 use Rattle.swap_run.proofs.GoLemmas.{shown_skip, shown_begin, is_frame, held_there, begun_few}
-use Rattle.swap_run.proofs.NextLemmas.{left_by, number_most, few_counted, reach_on, slots_in, slots_behind, slots_status, frame_is}
-use Rattle.swap_run.proofs.NextLemmas.{packets_early, packets_behind, packets_idle, packets_free, packets_open, is_muted, not_muted, sent_in}
+use Rattle.swap_run.proofs.NextLemmas.{left_by, number_most, few_counted, reach_on, slots_in, slots_behind}
+use Rattle.swap_run.proofs.NextLemmas.{slots_status, frame_is}
+use Rattle.swap_run.proofs.NextLemmas.{packets_early, packets_behind, packets_idle, packets_free, packets_open}
+use Rattle.swap_run.proofs.NextLemmas.{is_muted, not_muted, sent_in}
 use Rattle.swap_run.proofs.machine.SwapMachine.take_record.Goals as goal
 
 pub skip-requires-clause-waits : goal.skip-requires-clause-waits
@@ -52,14 +54,17 @@ frame-requires-clause-held c = ∥∥₁_map c.requires.came (λ (h : HasShown c
     let f = c.frame-frame in
     let mute = not_muted c.args.waiting.mute (sym c.is_some.ensures ∙ c.if-is_some.false) in
     held_there h.network h.plp h.events m h.shown f.result
-    (is_frame h.network h.plp h.events m h.shown c.due_records_law.ensures.pass c.formed_law.ensures f.result f.ensures.is f.ensures.shows
+    (is_frame h.network h.plp h.events m h.shown c.due_records_law.ensures.pass c.formed_law.ensures
+    f.result f.ensures.is f.ensures.shows
     c.args.waiting c.requires.packets c.requires.waits c.requires.here mute))
 
 pub returns-then-is_some-clause-shown : goal.returns-then-is_some-clause-shown
 returns-then-is_some-clause-shown c = λ k plp events s.
     let p = c.pass.ensures in
-    shown_skip k plp events c.args.self.now s c.skip.new.self c.pass.new.self c.args.waiting c.requires.packets c.requires.waits
-    c.requires.here (is_muted c.args.waiting.mute (sym c.is_some.ensures ∙ c.if-is_some.true)) c.requires.wanted c.skip.ensures.config
+    shown_skip k plp events c.args.self.now s c.skip.new.self c.pass.new.self c.args.waiting c.requires.packets
+    c.requires.waits
+    c.requires.here (is_muted c.args.waiting.mute (sym c.is_some.ensures ∙ c.if-is_some.true)) c.requires.wanted
+    c.skip.ensures.config
     (λ given st. c.skip.ensures.skips (fed 0 events) (has_ended 0 events) given st)
     (record { stands = p.stands; unit = p.unit; status = p.status })
 
@@ -81,7 +86,8 @@ returns-then-is_some-clause-reach c =
       phase = phase.Records;
       ran = record m.ran { muted = m.ran.muted + 1 };
     }) (omega (arith, f))
-    (slots_behind m c.pass.new.self phase.Packets c.requires.packets refl (ap (λ (x : Status). x.plp) c.pass.ensures.status))
+    (slots_behind m c.pass.new.self phase.Packets c.requires.packets refl (ap (λ (x : Status). x.plp)
+    c.pass.ensures.status))
     (omega arith)
 
 pub returns-clause-shown : goal.returns-clause-shown
@@ -90,10 +96,13 @@ returns-clause-shown c = λ k plp events s.
     let f = c.frame-frame in
     let b = c.frame.ensures in
     let mute = not_muted c.args.waiting.mute (sym c.is_some.ensures ∙ c.if-is_some.false) in
-    let x = is_frame k plp events m s c.due_records_law.ensures.pass c.formed_law.ensures f.result f.ensures.is f.ensures.shows
+    let x = is_frame k plp events m s c.due_records_law.ensures.pass c.formed_law.ensures f.result f.ensures.is
+    f.ensures.shows
     c.args.waiting c.requires.packets c.requires.waits c.requires.here mute in
-    shown_begin k plp events m s c.block_law.ensures.field c.fit_law.ensures.told c.frame.new.self f.result f.ensures.is c.requires.packets x
-    (record { stands = b.stands; more = b.more; status = b.status }) c.args.waiting c.requires.waits c.requires.here mute c.requires.wanted
+    shown_begin k plp events m s c.block_law.ensures.field c.fit_law.ensures.told c.frame.new.self f.result
+    f.ensures.is c.requires.packets x
+    (record { stands = b.stands; more = b.more; status = b.status }) c.args.waiting c.requires.waits
+    c.requires.here mute c.requires.wanted
 
 pub returns-clause-left : goal.returns-clause-left
 returns-clause-left c =
@@ -104,9 +113,11 @@ returns-clause-left c =
     let mute = not_muted c.args.waiting.mute (sym c.is_some.ensures ∙ c.if-is_some.false) in
     let was = left_by m phase.Packets c.requires.packets in
     let more = most_of (more_units phase.Units q m.feed + 600) frame_bytes c.requires.came (λ (h : HasShown m).
-    let x = is_frame h.network h.plp h.events m h.shown c.due_records_law.ensures.pass c.formed_law.ensures f.result f.ensures.is
+    let x = is_frame h.network h.plp h.events m h.shown c.due_records_law.ensures.pass c.formed_law.ensures
+    f.result f.ensures.is
     f.ensures.shows c.args.waiting c.requires.packets c.requires.waits c.requires.here mute in
-    begun_few h.network h.plp h.events m h.shown c.block_law.ensures.field c.fit_law.ensures.told q f.result f.ensures.is c.requires.packets x
+    begun_few h.network h.plp h.events m h.shown c.block_law.ensures.field c.fit_law.ensures.told q f.result
+    f.ensures.is c.requires.packets x
     (record { stands = b.stands; more = b.more; status = b.status })) in
     omega (arith, was, more)
 

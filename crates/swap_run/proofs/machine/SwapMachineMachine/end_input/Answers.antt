@@ -13,13 +13,16 @@ pub finish-requires-clause-idle : goal.finish-requires-clause-idle
 finish-requires-clause-idle c = (short_records c.args.self.now c.args._input _ c.in-Records.is c.requires.wanted).0.none
 
 pub finish-requires-clause-open : goal.finish-requires-clause-open
-finish-requires-clause-open c = (short_records c.args.self.now c.args._input _ c.in-Records.is c.requires.wanted).0.going
+finish-requires-clause-open c = (short_records c.args.self.now c.args._input _ c.in-Records.is
+    c.requires.wanted).0.going
 
 pub end_packets-requires-clause-wanted : goal.end_packets-requires-clause-wanted
-end_packets-requires-clause-wanted c = (short_packets c.args.self.now c.args._input _ c.in-Packets.is c.requires.wanted).0.some
+end_packets-requires-clause-wanted c = (short_packets c.args.self.now c.args._input _ c.in-Packets.is
+    c.requires.wanted).0.some
 
 pub end_packets-requires-clause-short : goal.end_packets-requires-clause-short
-end_packets-requires-clause-short c = (short_packets c.args.self.now c.args._input _ c.in-Packets.is c.requires.wanted).1
+end_packets-requires-clause-short c = (short_packets c.args.self.now c.args._input _ c.in-Packets.is
+    c.requires.wanted).1
 
 pub end_rest-requires : goal.end_rest-requires
 end_rest-requires c =
@@ -38,8 +41,10 @@ returns-in-Records-clause-becomes c = λ start events s.
     let g = c.finish.new.self in
     let tell = c.events_law.ensures in
     subst (λ (i : ℕ). Shown k plp (events ++ Ended i p ∷ []) (record m { feed = g })) w.0.at
-    (shown_feed k plp events m s g (events ++ Ended 0 p ∷ []) c.in-Records.is (ended_same tell 0 1 p events one_zero) (tell.ended 0 p events).gave
-    (ended_one tell k m.feed g events p s.read.given (record { none = w.0.none; going = w.0.going }) c.finish.ensures.config
+    (shown_feed k plp events m s g (events ++ Ended 0 p ∷ []) c.in-Records.is (ended_same tell 0 1 p events one_zero)
+    (tell.ended 0 p events).gave
+    (ended_one tell k m.feed g events p s.read.given (record { none = w.0.none; going = w.0.going })
+    c.finish.ensures.config
     (of_in k plp events m s phase.Records c.in-Records.is) w.1 c.finish.ensures.stands))
 
 pub returns-in-Records-clause-reach : goal.returns-in-Records-clause-reach

@@ -21,10 +21,12 @@ pub feed-requires-clause-some : goal.feed-requires-clause-some
 feed-requires-clause-some c = (enough_records c.args.self.now c.args._input _ c.in-Records.is c.requires.wanted).1
 
 pub take_packet-requires-clause-wanted : goal.take_packet-requires-clause-wanted
-take_packet-requires-clause-wanted c = (enough_packets c.args.self.now c.args._input _ c.in-Packets.is c.requires.wanted).0.some
+take_packet-requires-clause-wanted c = (enough_packets c.args.self.now c.args._input _ c.in-Packets.is
+    c.requires.wanted).0.some
 
 pub take_packet-requires-clause-long : goal.take_packet-requires-clause-long
-take_packet-requires-clause-long c = (enough_packets c.args.self.now c.args._input _ c.in-Packets.is c.requires.wanted).1
+take_packet-requires-clause-long c = (enough_packets c.args.self.now c.args._input _ c.in-Packets.is
+    c.requires.wanted).1
 
 pub drain_packet-requires : goal.drain_packet-requires
 drain_packet-requires c =
@@ -32,7 +34,15 @@ drain_packet-requires c =
     let r = c.requires.room in
     let d = enough_else m c.args._input _ c.requires.wanted c.in_default.not-Records c.in_default.not-Packets in
     let w = enough_rest m c.args._input _ d c.requires.wanted in
-    record { drains = d; going = w.0.going; long = w.1; few = few_of _ _ r.events m c.args._input (length c.args.bytes.now) r.came c.requires.wanted r.few c.in_default.not-Records; came = has_shown m ∣ record { start = r.start; events = r.events; came = r.came } ∣₁ }
+    record {
+      drains = d;
+      going = w.0.going;
+      long = w.1;
+      few = few_of _ _ r.events m c.args._input
+          (length c.args.bytes.now) r.came c.requires.wanted r.few c.in_default.not-Records;
+      came = has_shown
+          m ∣ record { start = r.start; events = r.events; came = r.came } ∣₁;
+    }
 
 pub returns-in-Records-clause-becomes : goal.returns-in-Records-clause-becomes
 returns-in-Records-clause-becomes c = λ start events s.
@@ -44,7 +54,8 @@ returns-in-Records-clause-becomes c = λ start events s.
     let g = c.feed.new.self in
     let tell = c.events_law.ensures in
     subst (λ (i : ℕ). Shown k plp (events ++ Fed i p ∷ []) (record m { feed = g })) w.at
-    (shown_feed k plp events m s g (events ++ Fed 0 p ∷ []) c.in-Records.is (fed_same tell 0 1 p events one_zero) (tell.fed 0 p events).gave
+    (shown_feed k plp events m s g (events ++ Fed 0 p ∷ []) c.in-Records.is (fed_same tell 0 1 p events one_zero)
+    (tell.fed 0 p events).gave
     (fed_one tell k m.feed g events p s.read.given (record { none = w.none; going = w.going }) c.feed.ensures.config
     (of_in k plp events m s phase.Records c.in-Records.is) c.feed.ensures.stands))
 
@@ -78,7 +89,8 @@ returns-in_default c =
       becomes = λ start events s.
           let k = start.plan.now in
           let plp = (status_of start.swapper).plp in
-          subst (λ (i : ℕ). Shown k plp (events ++ Fed i (take SIZE c.args.bytes.now) ∷ []) c.drain_packet.new.self) w.0.at
+          subst (λ (i : ℕ). Shown k plp (events ++ Fed i (take SIZE c.args.bytes.now) ∷ []) c.drain_packet.new.self)
+          w.0.at
           (c.drain_packet.ensures.shown k plp events s);
       reach = c.drain_packet.ensures.reach;
     }
@@ -86,7 +98,8 @@ returns-in_default c =
 pub feed-requires-clause-room : goal.feed-requires-clause-room
 feed-requires-clause-room c =
     let r = c.requires.room in
-    room_of _ _ r.events c.args.self.now c.args._input (length c.args.bytes.now) r.came c.requires.wanted r.few c.in-Records.is
+    room_of _ _ r.events c.args.self.now c.args._input (length c.args.bytes.now) r.came c.requires.wanted
+    r.few c.in-Records.is
 
 pub take_packet-requires-clause-few : goal.take_packet-requires-clause-few
 take_packet-requires-clause-few c =

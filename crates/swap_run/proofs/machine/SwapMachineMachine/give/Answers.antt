@@ -47,7 +47,8 @@ finish-requires-clause-over c = gives_rest c.args.self.now c.in-Drains.is c.requ
 
 pub give_rest-requires-clause-rests : goal.give_rest-requires-clause-rests
 give_rest-requires-clause-rests c =
-    rests_at c.args.self.now c.requires.gives c.in_default.not-Records c.in_default.not-Packets c.in_default.not-Drains c.in_default.not-Units
+    rests_at c.args.self.now c.requires.gives c.in_default.not-Records c.in_default.not-Packets c.in_default.not-Drains
+    c.in_default.not-Units
 
 pub look-requires-clause-came : goal.look-requires-clause-came
 look-requires-clause-came c = has_shown _ c.requires.came

@@ -1,8 +1,10 @@
-use Rattle.std.proofs.Common.{rules, ◌≡◌, ◌+◌, ◌-◌, ◌%◌, ◌≤◌, ◌++◌, ◌∙◌, ℕ, List, Some, length, take, drop, set, ap, sym, arith}
+use Rattle.std.proofs.Common.{rules, ◌≡◌, ◌+◌, ◌-◌, ◌%◌, ◌≤◌, ◌++◌, ◌∙◌, ℕ, List, Some, length, take, drop, set, ap}
+use Rattle.std.proofs.Common.{sym, arith}
 use Rattle.std.proofs.Common.{refl}
 use Rattle.ts_packet.specs.Written.{written_bytes}
 use Rattle.t2mi_stream.specs.Pipe.{Part, part_of}
-use Rattle.t2mi_stream.proofs.PiperLemmas.{next_some, stands_next, left_is, kept_bytes, joined_size, may_give, front_taken}
+use Rattle.t2mi_stream.proofs.PiperLemmas.{next_some, stands_next, left_is, kept_bytes, joined_size, may_give}
+use Rattle.t2mi_stream.proofs.PiperLemmas.{front_taken}
 use Rattle.t2mi_stream.proofs.PiperLemmas.{same_stands}
 use Rattle.t2mi_stream.proofs.piper.Piper.cut.Goals as goal
 
@@ -21,7 +23,8 @@ returns-clause-unit c = λ pid begun t h rest r.
     ∙ ap (λ (u : List ℕ). Some u) (
     ap (λ (q : Part). written_bytes pid p.counter q.pointer (take q.size had)) same
     ∙ ap (written_bytes pid p.counter part.pointer)
-    (front_taken part.size p.count c.min-front.result p.waiting piece (omega (arith, full, p.inside)) c.min-front.ensures)
+    (front_taken part.size p.count c.min-front.result p.waiting piece (omega (arith, full, p.inside))
+    c.min-front.ensures)
     ∙ ap (λ (n : ℕ). written_bytes n p.counter part.pointer
     (take c.min-front.result p.waiting ++ take (part.size - c.min-front.result) piece)) (sym h.pid_is)
     ∙ sym c.write_payload.ensures.bytes)

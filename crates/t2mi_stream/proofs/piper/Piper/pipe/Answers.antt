@@ -1,4 +1,5 @@
-use Rattle.std.proofs.Common.{rules, ◌≡◌, ◌+◌, ◌-◌, ◌<◌, ◌++◌, ◌∙◌, ◌==◌, ◌&&◌, ◌||◌, ℕ, Bool, true, false, List, length, take}
+use Rattle.std.proofs.Common.{rules, ◌≡◌, ◌+◌, ◌-◌, ◌<◌, ◌++◌, ◌∙◌, ◌==◌, ◌&&◌, ◌||◌, ℕ, Bool, true, false, List}
+use Rattle.std.proofs.Common.{length, take}
 use Rattle.std.proofs.Common.{ap, sym, subst, arith, refl, length-take-le}
 use Rattle.std.specs.Prelude.{slice_get}
 use Rattle.t2mi_stream.specs.Complete.{complete_of}
@@ -35,7 +36,8 @@ full c =
 piped : (c : goal.After-cut) (pid : ℕ) (t : PiperTally)
     → PiperStands c.args.self.now.pid pid c.args.self.now.begun c.args.self.now.finished
     (had_of c) c.args.self.now.first c.args.self.now.tail c.args.self.now.counter t
-    → PiperStands c.args.self.now.pid pid false c.args.self.now.finished (had_of c ++ piece_of c) c.first_with-first.result
+    → PiperStands c.args.self.now.pid pid false c.args.self.now.finished (had_of c ++ piece_of c)
+    c.first_with-first.result
     c.tail_with-tail.result c.args.self.now.counter (tally_with t (Piped (piece_of c)))
 piped c pid t h =
     let p = c.args.self.now in
@@ -54,7 +56,8 @@ piped c pid t h =
 pub returns-clause-unit : goal.returns-clause-unit
 unfolding PiperStandsFor
 returns-clause-unit c = λ pid events h rest.
-    let u = c.cut.ensures.unit pid false (tally_with (tally events) (Piped (piece_of c))) (piped c pid (tally events) h) rest
+    let u = c.cut.ensures.unit pid false (tally_with (tally events) (Piped (piece_of c))) (piped c pid (tally events) h)
+    rest
     (λ e. absurd (let z : true ≡ false = sym e ∙ c.requires.«open» in cc)) in
     ap (λ (t : PiperTally). slice_get (units_of pid (t.fed ++ rest)) (tally events).given)
     (tally_push events (Piped (piece_of c))) ∙ u
@@ -76,7 +79,9 @@ returns-clause-complete c = λ pid events h.
     let t = tally_with (tally events) (Piped (piece_of c)) in
     let waits : carried_len t.given t.fed + 184 ≡ length t.fed =
     ap (λ (n : ℕ). carried_len t.given t.fed + n) (sym (full c))
-    ∙ carried_all pid (had_of c ++ piece_of c) _ _ p.counter p.finished t.fed t.given (piped c pid (tally events) h).pipes in
-    let more = (gives_complete pid t.fed t.given 184 true p.finished c.requires.«open» (omega arith) refl waits).0 refl in
+    ∙ carried_all pid (had_of c ++ piece_of c) _ _ p.counter p.finished t.fed t.given
+    (piped c pid (tally events) h).pipes in
+    let more = (gives_complete pid t.fed t.given 184 true p.finished c.requires.«open» (omega arith) refl waits).0
+    refl in
     subst (λ (s : PiperTally). (tally events).given < length (complete_of pid s.fed))
     (sym (tally_push events (Piped (piece_of c)))) more

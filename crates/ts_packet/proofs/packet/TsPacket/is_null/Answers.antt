@@ -8,4 +8,5 @@ unfolding is_null
 returns c =
     rw (← c.self.view_is)
     (ap (λ (n : ℕ). n == 0x1FFF)
-    (c.field_at.ensures.value ∙ header_number c.self.inside.bytes c.header_of.result 11 13 c.header_of.ensures (omega arith)))
+    (c.field_at.ensures.value ∙ header_number c.self.inside.bytes c.header_of.result 11 13 c.header_of.ensures
+    (omega arith)))
