@@ -1,14 +1,13 @@
 // The lines of a script.
 //
 // `## PART` and `# ROW` are names, which are written. `new` begins with no file but those whose names begin with a
-// capital letter.
-// `file NAME PIECES` sets a file; `text NAME LINE` adds a line to one, and `set NAME LINE` sets the line in it that has
-// the same first word. `mute TO FROM BITS` sets a file: records, of which those whose bit is 1 are muted. `cap N` makes
-// each read and write move at most so many bytes, and `fail KIND N` the nth call of a kind fail. `run WORDS` runs a
-// command, and tells what it says, its status and how it ended; `told WORDS` tells besides what people are told, and
-// `hush WORDS` not what it says, which is the file `said` from then on.
-// `size NAME`, `crc NAME` and `same A B` tell of files, and `calls` and `ahead` of commands whose calls fail
-// (`calls.rt`). Any other line tells nothing.
+// capital letter. `file NAME PIECES` sets a file; `text NAME LINE` adds a line to one, and `set NAME LINE` sets the
+// line in it that has the same first word. `mute TO FROM BITS` sets a file: records, of which those whose bit is 1 are
+// muted. `cap N` makes each read and write move at most so many bytes, and `fail KIND N` the nth call of a kind fail.
+// `run WORDS` runs a command, and tells what it says, its status and how it ended; `told WORDS` tells besides what
+// people are told, and `hush WORDS` not what it says, which is the file `said` from then on. `size NAME`, `crc NAME`
+// and `same A B` tell of files, and `calls` and `ahead` of commands whose calls fail (`calls.rt`). Any other line tells
+// nothing.
 use crate::bench::{Bench, Files};
 use crate::calls::{ahead_of, calls_of, kind_of};
 use crate::page::Came;

@@ -411,9 +411,8 @@ fn file_of(request: Option<Request<'_>>, outcome: Outcome) -> &str {
 }
 
 /// Says for people, who know the program by this name, why a run over words is not done, and what failed first, if
-/// something did;
-/// of a run of `show t2mi` that is done, on which PID it looked, and whether no packet came there: it said the line of
-/// their number alone.
+/// something did; of a run of `show t2mi` that is done, on which PID it looked, and whether no packet came there: it
+/// said the line of their number alone.
 pub fn advise(
     rt: &(impl Eprint + Files + AllocGlobal),
     program: &str,

@@ -60,13 +60,14 @@ pub record ComesOfMended (c : Config) (k : ℕ) (files : ℕ → List ℕ) (byte
   pub honest : (inputs : ℕ → List (List ℕ)) → run_length c inputs ≤ MOST_FRAMES
       → ((i : ℕ) → i < k → IsDamagedRun c inputs (files i)) → AllByRecursion (IsRunFrame c inputs)
       (made_of_all c k files)
-  -- Each frame is made of which every packet came in one of them, in a group of its number, if none is silent too
-  -- often; and with it the frames in which the interleaving frames began that it carries.
+  -- Each frame is made of which every packet came in one of them, in a group of its number, if so it is of the frames
+  -- in which the interleaving frames began that it carries, and if none is silent too often.
   pub come : (inputs : ℕ → List (List ℕ)) (frames : ℕ → Bool) → run_length c inputs ≤ MOST_FRAMES
       → ((i : ℕ) → i < k → IsDamagedRun c inputs (files i)) → GoOn k (all_of c files)
       → HaveCome c inputs (AllCame c inputs k (all_of c files)) frames → (n : ℕ) → frames n ≡ true
       → HasRunFrame c inputs n (made_of_all c k files)
-  -- Without idle units: each frame of which every packet survives in one of them, where its number is known.
+  -- Without idle units: each frame of which every packet survives in one of them in which its number is known, if so it
+  -- is of those frames.
   pub survive : (inputs : ℕ → List (List ℕ)) (survivals : ℕ → List Bool) (frames : ℕ → Bool)
       → run_length c inputs ≤ MOST_FRAMES → ((i : ℕ) → i < k → IsLossyRun c inputs (survivals i) (files i))
       → HaveCome c inputs (AllSurvive c inputs k survivals) frames → (n : ℕ) → frames n ≡ true

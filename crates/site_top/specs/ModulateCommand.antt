@@ -25,9 +25,8 @@ modulate_line ran = codes "first=" ++ decimal ran.first ++ codes " records=" ++ 
     ++ decimal ran.muted ++ codes "\n"
 
 -- If a file is what is received of the stream that a gateway makes of some inputs, these bytes are the records that
--- must come:
--- those of the frames of the run, from the first whole one that begins a superframe to the last one of which a packet
--- survives, each whole frame as all transmitters send it, and each frame that lacks a packet muted.
+-- must come: those of the frames of the run, from the first whole one that begins a superframe to the last one of which
+-- a packet survives, each whole frame as all transmitters send it, and each frame that lacks a packet muted.
 pub record MustCome (c : Config) (file bytes : List ℕ) : Type 0 where
   -- whatever becomes of the units from one on, if damage is honest
   pub honest : (inputs : ℕ → List (List ℕ)) (from : ℕ) (fates : List Fate) → run_length c inputs ≤ MOST_FRAMES
