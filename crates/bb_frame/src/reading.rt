@@ -1,5 +1,5 @@
 // Reading a frame.
-ghost use Rattle.std.specs.Prelude.{◌≡◌, ◌↔◌, ℕ, ◌+◌, ◌≤◌, IsTrue, length, IfOk, IfErr, Ok, List, Bool};
+ghost use Rattle.std.specs.Prelude.{◌≡◌, ◌↔◌, ◌+◌, ◌≤◌, IsTrue, length, IfOk, IfErr, Ok, List, Bool};
 ghost use Rattle.bb_frame.specs.declared.header.Header.{Header};
 ghost use Rattle.bb_frame.specs.BasebandFrame.{Spells, Refuses, IsPlace};
 ghost use Rattle.bb_frame.specs.Reading.{HasFields, IsRead};

@@ -1,5 +1,5 @@
 //! A sink that grows.
-ghost use Rattle.std.specs.Prelude.{◌≡◌, ◌+◌, ◌*◌, ◌^◌, ◌<◌, ◌≤◌, ℕ, List, Bool, true, false, length, vec_len};
+ghost use Rattle.std.specs.Prelude.{◌≡◌, ◌+◌, ◌^◌, ◌<◌, List, Bool, true, false, length, vec_len};
 ghost use Rattle.terms.specs.Bits.{bytes_for};
 ghost use Rattle.bit_slice.specs.Filling.{Holds};
 
@@ -19,7 +19,7 @@ pub struct BitBuf {
 }
 
 impl Model for BitBuf {
-    ghost use Rattle.std.specs.Prelude.{◌≡◌, ◌<◌, ◌≤◌, ◌^◌, ◌*◌, List, Bool, take, vec_len};
+    ghost use Rattle.std.specs.Prelude.{◌≡◌, ◌<◌, ◌^◌, List, Bool, take, vec_len};
     ghost use Rattle.terms.specs.Bits.{bits_of, bytes_for};
     ghost use Rattle.bit_slice.specs.Filling.{Holds};
 

@@ -1,5 +1,5 @@
 //! Bits behind other bits in bytes. Behind the bits that are used there are zeros.
-ghost use Rattle.std.specs.Prelude.{◌≡◌, ◌+◌, ◌-◌, ◌*◌, ◌/◌, ◌%◌, ◌^◌, ◌<◌, ◌≤◌, ◌++◌, ℕ, List, Bool, length, take};
+ghost use Rattle.std.specs.Prelude.{◌≡◌, ◌+◌, ◌-◌, ◌*◌, ◌/◌, ◌%◌, ◌^◌, ◌<◌, ◌≤◌, ◌++◌, List, Bool, length, take};
 ghost use Rattle.std.specs.Prelude.{drop};
 ghost use Rattle.terms.specs.Bits.{field, bits_of, bytes_of, number_of, part};
 ghost use Rattle.bit_slice.specs.Filling.{padded, Holds};

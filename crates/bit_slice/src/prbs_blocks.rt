@@ -1,5 +1,5 @@
 //! The sequence that scrambles baseband frames, many bytes at a time.
-ghost use Rattle.std.specs.Prelude.{◌≡◌, ◌+◌, ℕ};
+ghost use Rattle.std.specs.Prelude.{◌+◌, ℕ};
 ghost use Rattle.bit_slice.specs.PrbsBlocks.{Runs};
 
 use crate::Prbs;
@@ -11,7 +11,7 @@ pub struct PrbsBlocks {
 }
 
 impl PrbsBlocks {
-    ghost use Rattle.std.specs.Prelude.{◌≡◌, ◌+◌, ℕ};
+    ghost use Rattle.std.specs.Prelude.{◌+◌, ℕ};
     ghost use Rattle.bit_slice.specs.PrbsBlocks.{PrbsBlocksStandsFor, Runs};
 
     /// The sequence from its first byte on.

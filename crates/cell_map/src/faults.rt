@@ -1,7 +1,5 @@
 // Which shapes have a cell map.
-ghost use Rattle.std.specs.Prelude.{ℕ, ◌≡◌, ◌<◌, ◌≤◌, ◌^◌, ◌↔◌, IsTrue, IsOk, IfSome, IfNone, IfErr, length};
-ghost use Rattle.std.specs.Prelude.{slice_index};
-ghost use Rattle.plp_config.specs.Plps.{plp_at};
+ghost use Rattle.std.specs.Prelude.{ℕ, ◌≡◌, ◌<◌, ◌≤◌, ◌↔◌, IsTrue, IsOk, IfSome, IfNone, IfErr, length};
 ghost use Rattle.cell_map.specs.CellMap.{IsBeyond, Shares, Passes, Faults};
 
 use crate::rows::plp_in_frame;

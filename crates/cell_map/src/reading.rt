@@ -1,9 +1,7 @@
 // The cells of a frame in the order of their addresses.
 ghost use Rattle.std.specs.Prelude.{◌≡◌, ◌+◌, ◌<◌, ◌≤◌, length};
 ghost use Rattle.std.specs.FinMap.{get};
-ghost use Rattle.cell_map.specs.Address.{IsCell, address_of};
 ghost use Rattle.cell_map.specs.CellMap.{Passes, cell_map};
-ghost use Rattle.cell_map.specs.Runs.{RunsAt, IsMark};
 ghost use Rattle.cell_map.specs.Stretches.{stretch_len, HasStretch};
 
 use crate::places::Cell;

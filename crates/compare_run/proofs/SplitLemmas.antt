@@ -5,7 +5,7 @@ use Rattle.std.proofs.lemmas.Bool.{ne_eqb}
 use Rattle.std.proofs.lemmas.List.Concat.{flat_map-append}
 use Rattle.terms.proofs.RangeLemmas.{range_append}
 use Rattle.plp_config.specs.declared.config.Config.{Config}
-use Rattle.frame_groups.specs.Laws.{IsPrefix}
+use Rattle.terms.specs.Lists.{IsPrefix}
 use Rattle.frame_groups.specs.Modulated.{FrameRecord, Numbered}
 use Rattle.feed_merge.specs.Picks.{above_all}
 use Rattle.feed_merge.proofs.NumberLemmas.{AllFrom, below_of}

@@ -1,6 +1,6 @@
 // Comparing what two streams have of a frame.
 ghost use Rattle.std.specs.Prelude.{◌≡◌, ◌<◌, ◌≤◌, ◌+◌, ℕ, true, false, List, [], bytes_eq, length, slice_index_or};
-ghost use Rattle.std.specs.Prelude.{Option, Some, None, IfSome, option_map};
+ghost use Rattle.std.specs.Prelude.{Option, Some, None, IfSome};
 ghost use Rattle.std.specs.Option.{option_copied};
 ghost use Rattle.frame_groups.specs.Modulated.{Numbered};
 ghost use Rattle.linked_pool.specs.Pool.{list_at};

@@ -1,5 +1,5 @@
 // The text of a configuration is read.
-ghost use Rattle.std.specs.Prelude.{◌≡◌, ◌≤◌, ◌⊎◌, ◌+◌, ◌-◌, ℕ, length, IfOk, IfErr, OnOk, Ok, Err};
+ghost use Rattle.std.specs.Prelude.{◌≡◌, ◌≤◌, ◌⊎◌, ◌+◌, ◌-◌, ℕ, length, IfOk, IfErr, Ok, Err};
 ghost use Rattle.plp_config.specs.declared.config.Config.{Config};
 ghost use Rattle.config_text.specs.ConfigText.{Spells, Refuses, CausesFault, first_lines, longest_text, is_skipped};
 ghost use Rattle.config_text.specs.Drafts.{Takes, RefusesDue};

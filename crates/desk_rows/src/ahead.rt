@@ -1,5 +1,5 @@
 // The file "hello" as it is read ahead, and a file that is written, however few bytes a call moves.
-ghost use Rattle.std.specs.Prelude.{◌<◌, ◌≤◌, ◌≡◌, false, length, not, IfOk, IfSome};
+ghost use Rattle.std.specs.Prelude.{◌<◌, ◌≤◌, ◌≡◌, false, length, not, IfSome};
 ghost use Rattle.ports.specs.Desk.{has_run_out};
 ghost use Rattle.file_run.specs.Reading.{given_of, longest_file};
 

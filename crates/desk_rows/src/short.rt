@@ -1,5 +1,5 @@
 // Real files of which a call moves little.
-ghost use Rattle.std.specs.Prelude.{◌<◌, ◌≤◌};
+ghost use Rattle.std.specs.Prelude.{◌<◌};
 
 use std::alloc::Allocator;
 use std::fmt::Display;

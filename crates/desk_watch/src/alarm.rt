@@ -1,10 +1,8 @@
 // What is told of a run while it goes on: that frames begin to be muted and come again, and that units are damaged.
 use crate::counts::{OutCounts, RunCounts};
 use crate::records::RecordCounts;
+use ports::MOST_FEEDS;
 use std::io::{self, Eprint};
-
-// How many feeds are looked at, at most.
-const MOST_FEEDS: usize = 8;
 
 // How it is told that a feed gives nothing that fits CONFIG.
 const NOTHING_FITS: &str = "nothing that fits CONFIG came: ";

@@ -1,5 +1,4 @@
 // Whether the L1 signalling of a record is that of a network.
-ghost use Rattle.std.specs.Prelude.{◌≤◌, ◌*◌, length};
 
 use bit_slice::{BitSlice, OutOfMemory};
 use frame_groups::{Network, is_network_conf, is_pre, read_dynamic};

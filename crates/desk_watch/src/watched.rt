@@ -1,7 +1,5 @@
 // A desk that is watched.
-ghost use Rattle.std.specs.Prelude.{◌<◌, ◌≤◌, length, take, IfOk, OnOk, OnErr};
-ghost use Rattle.ports.specs.Counts.{MayFailReading, MayFailWriting, MayFailAtLast};
-ghost use Rattle.ports.specs.Desk.{State, Keeps, Opens, Creates, FailsToCreate, Reads, Writes, Says, SaysLast};
+ghost use Rattle.std.specs.Prelude.{◌<◌};
 
 use crate::counts::RunCounts;
 use crate::progress::Progress;

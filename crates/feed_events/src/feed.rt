@@ -31,7 +31,7 @@ pub struct EventFeed<G: OpenGroup + Drop> {
 }
 
 impl<G: OpenGroup + Drop> EventFeed<G> {
-    ghost use Rattle.std.specs.Prelude.{◌≡◌, ◌≢◌, ◌<◌, ◌≤◌, ◌+◌, ◌*◌, ◌^◌, ◌++◌, ℕ, Bool, List, [], None, IfOk, length};
+    ghost use Rattle.std.specs.Prelude.{◌≡◌, ◌≢◌, ◌<◌, ◌≤◌, ◌+◌, ◌^◌, ◌++◌, ℕ, Bool, List, [], None, IfOk, length};
     ghost use Rattle.std.specs.Prelude.{take, true, false};
     ghost use Rattle.ts_packet.specs.declared.sizes.TheConstants.{SIZE};
     ghost use Rattle.feed_events.specs.Arrivals.{Arrival};

@@ -2,11 +2,12 @@
 use Rattle.std.proofs.Common.{◌≡◌, ◌⊎◌, inl, inr, ℕ, ◌+◌, ◌-◌, ◌<◌, ◌≤◌, Bool, true, false, List, [], ◌∷◌, ◌++◌, length}
 use Rattle.std.proofs.Common.{take, Option, Some, None}
 use Rattle.std.proofs.Common.{refl, ap, sym, subst, ◌∙◌, arith, length-append, append-nil, append_assoc}
-use Rattle.std.specs.Prelude.{nat_lt, is_some, not, IfSome, IfNone}
+use Rattle.std.specs.Prelude.{nat_lt, is_some, IfSome, IfNone}
 use Rattle.std.proofs.lemmas.Bool.{ltb-true, ltb-false, false≢true, true≢false}
 use Rattle.std.proofs.lemmas.List.{append_cancel_left, take-append-le, take-take, length-take}
 use Rattle.std.proofs.Math.Seq.{take-append-add}
 use Rattle.terms.proofs.CaseLemmas.{bool_cases}
+use Rattle.terms.proofs.OptionLemmas.{none_if_not}
 use Rattle.terms.proofs.ListLemmas.{all_of}
 use Rattle.plp_config.specs.declared.config.Config.{Config}
 use Rattle.plp_config.specs.declared.moment.TheConstants.{MOST_FRAMES}
@@ -14,7 +15,7 @@ use Rattle.t2mi_stream.specs.Events.{fed, released}
 use Rattle.t2mi_stream.specs.UnpiperStandsFor.{UnpiperStandsFor}
 use Rattle.frame_groups.specs.Due.{ComesNext}
 use Rattle.frame_groups.specs.Groups.{Group}
-use Rattle.frame_groups.specs.Laws.{IsPrefix}
+use Rattle.terms.specs.Lists.{IsPrefix}
 use Rattle.frame_groups.specs.Modulated.{FrameRecord, Numbered, Content, content_of}
 use Rattle.frame_groups.specs.Modulated.Content.{Whole, Muted}
 use Rattle.frame_groups.specs.Records.{record_of}
@@ -222,14 +223,10 @@ skipped f g bytes ended given w is config still len told gave tells s =
 
 -- ---- the frame that waits
 
-mute_none : (m : Option MuteCause) → not (is_some m) ≡ true → m ≡ None
-mute_none None e = refl
-mute_none (Some cause) e = absurd (false≢true e)
-
 -- a record that waits, and is not muted
 pub whole_is : (o : Option Waiting) → is_whole o ≡ true → (w : Waiting) × (o ≡ Some w) × (w.mute ≡ None)
 whole_is None e = absurd (false≢true e)
-whole_is (Some w) e = (w, refl, mute_none w.mute e)
+whole_is (Some w) e = (w, refl, none_if_not w.mute e)
 
 -- it is the own one of the group under way, which passed
 pub record IsOwnNow (at : Progress) : Type 0 where

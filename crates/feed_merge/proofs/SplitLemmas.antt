@@ -5,7 +5,8 @@ use Rattle.std.proofs.Common.{length-append}
 use Rattle.modulator.proofs.WaitLemmas.{number_at, front_due}
 use Rattle.plp_config.specs.declared.config.Config.{Config}
 use Rattle.plp_config.specs.declared.moment.TheConstants.{MOST_FRAMES}
-use Rattle.frame_groups.specs.Laws.{AreFrom, IsPrefix}
+use Rattle.frame_groups.specs.Laws.{AreFrom}
+use Rattle.terms.specs.Lists.{IsPrefix}
 use Rattle.frame_groups.specs.Modulated.{FrameRecord}
 use Rattle.frame_groups.specs.declared.waiting.Waiting.{Waiting}
 use Rattle.modulator.specs.Laws.{DueFront, DueFollow}

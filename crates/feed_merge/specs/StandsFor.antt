@@ -6,7 +6,7 @@ use Rattle.ts_packet.specs.declared.sizes.TheConstants.{SIZE}
 use Rattle.t2mi_packet.specs.declared.packet.Body.{Body}
 use Rattle.t2mi_stream.specs.Complete.{complete_units}
 use Rattle.t2mi_stream.specs.Pipe.{pipe}
-use Rattle.frame_groups.specs.Laws.{IsPrefix}
+use Rattle.terms.specs.Lists.{IsPrefix}
 use Rattle.frame_writer.specs.FirstPacket.{from_step}
 use Rattle.frame_writer.specs.FramePackets.{l1_body, packets_from}
 use Rattle.frame_writer.specs.Flowing.{Flows, bytes_bound, gives_unit}

@@ -1,5 +1,5 @@
 // One of two feeds is fed, or its input has ended.
-ghost use Rattle.std.specs.Prelude.{◌≡◌, ◌<◌, ◌≤◌, ◌+◌, ◌^◌, ◌++◌, ◌∷◌, ℕ, List, [], false, length, take};
+ghost use Rattle.std.specs.Prelude.{◌<◌, ◌≤◌, ◌+◌, ◌^◌, ◌++◌, ◌∷◌, ℕ, List, [], false, length, take};
 ghost use Rattle.plp_config.specs.declared.config.Config.{Config};
 ghost use Rattle.frame_groups.specs.Modulated.{FrameRecord};
 ghost use Rattle.file_run.specs.Events.{Event, Fed, Ended};

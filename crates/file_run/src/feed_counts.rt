@@ -1,10 +1,7 @@
 // Which of several feeds have the frames whole, counted for people.
 ghost use Rattle.std.specs.Prelude.{◌≡◌};
 
-use ports::{Desk, Note};
-
-/// How many feeds are counted at most.
-pub const MOST_FEEDS: usize = 8;
+use ports::{Desk, MOST_FEEDS, Note};
 
 const NONE_WHOLE: Note = Note {
     what: "it had whole",

@@ -29,7 +29,7 @@ pub use config_laws::{config_ends_law, one_config_law};
 pub use config_reading::{read_config, read_plan};
 pub use config_stop::{ConfigCause, ConfigStop};
 pub use desk_laws::{appends_law, creates_law};
-pub use feed_counts::{FeedCounts, MOST_FEEDS};
+pub use feed_counts::FeedCounts;
 pub use input::{BUFFER, Input, MOST_WANTED};
 pub use laws::{events_law, faults_law};
 pub use line::{Line, ROOM};

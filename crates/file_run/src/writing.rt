@@ -1,5 +1,5 @@
 // Bytes written to a file.
-ghost use Rattle.std.specs.Prelude.{◌≡◌, ◌<◌, OnOk, OnErr};
+ghost use Rattle.std.specs.Prelude.{◌<◌, OnOk, OnErr};
 ghost use Rattle.ports.specs.Counts.{MayFailWriting};
 ghost use Rattle.file_run.specs.Writing.{Appends, AppendsFront};
 

@@ -14,7 +14,8 @@ use Rattle.frame_groups.specs.Modulated.{gaps_behind, gaps_between, own_record, 
 use Rattle.frame_groups.specs.Modulated.{records_from}
 use Rattle.frame_groups.specs.Modulated.{modulated}
 use Rattle.frame_groups.specs.Numbers.{next_number}
-use Rattle.frame_groups.specs.Laws.{without_last, IsPrefix}
+use Rattle.frame_groups.specs.Laws.{without_last}
+use Rattle.terms.specs.Lists.{IsPrefix}
 use Rattle.frame_groups.proofs.GroupLemmas.{grouped_append}
 use Rattle.frame_groups.proofs.RunLemmas.{grown}
 

@@ -1,6 +1,7 @@
 -- Laws of groups, numbers and records.
 use Rattle.std.specs.Prelude.{◌≡◌, ℕ, ◌+◌, ◌*◌, ◌<◌, false, List, [], ◌∷◌, ◌++◌, flat_map}
 use Rattle.std.specs.List.{filter}
+use Rattle.terms.specs.Lists.{IsPrefix}
 use Rattle.t2mi_packet.specs.declared.packet.Packet.{Packet}
 use Rattle.frame_groups.specs.Groups.{is_same, is_counted, Group, groups}
 use Rattle.frame_groups.specs.declared.key.Key.{Key}
@@ -12,10 +13,6 @@ abbrev pub without_last : {X : Type 0} → List X → List X
 without_last [] = []
 without_last (x ∷ []) = []
 without_last (x ∷ y ∷ xs) = x ∷ without_last (y ∷ xs)
-
--- The one is the front of the other.
-abbrev pub IsPrefix : {X : Type 0} → List X → List X → Type 0
-IsPrefix {X} xs ys = (more : List X) × (ys ≡ xs ++ more)
 
 -- Two groups one behind the other have different keys.
 abbrev pub AreApart : List Group → Type 0

@@ -1,5 +1,5 @@
 // The blocks of a frame become packets.
-ghost use Rattle.std.specs.Prelude.{◌≡◌, ◌<◌, ◌+◌, ◌-◌, ◌++◌, ◌∷◌, [], ℕ, List, length, slice_index, slice_index_or};
+ghost use Rattle.std.specs.Prelude.{◌≡◌, ◌<◌, ◌+◌, ◌-◌, ◌++◌, ◌∷◌, [], List, length, slice_index_or};
 ghost use Rattle.linked_pool.specs.Pool.{list_at};
 ghost use Rattle.t2mi_packet.specs.declared.packet.Body.{Body};
 ghost use Rattle.frame_weave.specs.Made.{IsAlone, HoldsMade, slot_bodies, all_bodies};

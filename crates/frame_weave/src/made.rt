@@ -43,20 +43,17 @@ fn stamp_of(plan: &Plan, number: u64) -> Stamp
 }
 
 impl<'p> MadeGroup<'p> {
-    ghost use Rattle.std.specs.Prelude.{◌≡◌, ◌<◌, ◌≤◌, ◌^◌, ◌++◌, ◌∷◌, [], true, false, ℕ, List, Option, Some, None};
+    ghost use Rattle.std.specs.Prelude.{◌≡◌, ◌<◌, ◌≤◌, ◌^◌, ◌++◌, ◌∷◌, [], true, false, List, None};
     ghost use Rattle.std.specs.Prelude.{IfOk, length};
-    ghost use Rattle.std.specs.Prelude.{take};
     ghost use Rattle.t2mi_packet.specs.T2miPacket.{Fits};
     ghost use Rattle.t2mi_packet.specs.declared.packet.Body.{Body};
     ghost use Rattle.t2mi_packet.specs.declared.packet.Packet.{Packet};
-    ghost use Rattle.frame_groups.specs.Groups.{Group};
     ghost use Rattle.frame_groups.specs.Carried.{L1Parts};
     ghost use Rattle.frame_writer.specs.FramePackets.{packet_with, l1_body};
-    ghost use Rattle.open_group.specs.Holds.{Holds};
     ghost use Rattle.open_group.specs.Parts.{parts_of};
     ghost use Rattle.plp_config.specs.declared.plp.TheConstants.{MOST_BLOCK_BYTES};
     ghost use Rattle.frame_weave.specs.Made.{IsAlone, HoldsMade, Fitting};
-    ghost use Rattle.frame_weave.specs.Woven.{group_with, block_body, stamp_bodies};
+    ghost use Rattle.frame_weave.specs.Woven.{block_body, stamp_bodies};
 
     /// Takes the memory for a plan. There are no packets yet.
     pub fn open(alloc: Global, plan: &'p Plan) -> Result<MadeGroup<'p>, OutOfMemory>

@@ -30,20 +30,15 @@ pub struct HeldMarks {
 
 impl HeldMarks {
     ghost use Rattle.std.specs.Prelude.{◌≡◌, ◌≤◌, ◌<◌, ◌∷◌, ◌++◌, ◌*◌, [], ℕ, Bool, List, Option, Some, None, true};
-    ghost use Rattle.std.specs.Prelude.{IfOk, length, map};
-    ghost use Rattle.std.specs.Prelude.{vec_len, slice_get, if◌then◌else◌, nat_lt};
-    ghost use Rattle.std.specs.List.{filter_map};
+    ghost use Rattle.std.specs.Prelude.{IfOk, length};
+    ghost use Rattle.std.specs.Prelude.{vec_len, if◌then◌else◌, nat_lt};
     ghost use Rattle.std.specs.Option.{option_or};
-    ghost use Rattle.linked_pool.specs.Pool.{list_at};
-    ghost use Rattle.frame_groups.specs.Carried.{right_blocks};
     ghost use Rattle.frame_groups.specs.Tests.{pool_chunks};
-    ghost use Rattle.open_group.specs.Sent.{held_bytes};
     ghost use Rattle.open_group.specs.Signals.{fits_pool};
     ghost use Rattle.open_group.specs.Shown.{AreBlocks};
     ghost use Rattle.t2mi_packet.specs.declared.packet.Packet.{Packet};
     ghost use Rattle.t2mi_packet.specs.declared.packet.Body.TheVariants.{Block};
     ghost use Rattle.frame_weave.specs.Holds.{HoldsMarks};
-    ghost use Rattle.frame_weave.specs.Marked.{l1_count};
     ghost use Rattle.frame_weave.specs.declared.marks.Mark.{Mark};
 
     /// Takes the memory for a plan. Nothing is marked yet.

@@ -9,6 +9,7 @@ use Rattle.std.proofs.Math.Seq.{take-append-add}
 use Rattle.std.proofs.lemmas.Slice.{take-put_mid_below}
 use borrow.Rule.Slice.PartMut.{put_mid, post_of}
 use Rattle.terms.proofs.ListLemmas.{drop_some}
+use Rattle.terms.specs.Lists.{IsPrefix}
 use Rattle.plp_config.specs.declared.config.Config.{Config}
 use Rattle.ts_packet.specs.TsFile.{joined}
 use Rattle.ts_packet.specs.declared.sizes.TheConstants.{SIZE}
@@ -22,13 +23,9 @@ use Rattle.frame_writer.specs.Units.{Gives, GivesAll, HasCaughtUp}
 
 -- ---- lists
 
--- The one is the front of the other.
-abbrev Fronts : {X : Type 0} → List X → List X → Type 0
-Fronts {X} xs ys = (later : List X) × (ys ≡ xs ++ later)
-
 -- what stands behind the first of a list
-pub front_then : {X : Type 0} (xs ys zs : List X) → Fronts xs zs → Fronts ys (drop (length xs) zs)
-    → Fronts (xs ++ ys) zs
+pub front_then : {X : Type 0} (xs ys zs : List X) → IsPrefix xs zs → IsPrefix ys (drop (length xs) zs)
+    → IsPrefix (xs ++ ys) zs
 front_then xs ys zs p q =
     let rest : p.0 ≡ ys ++ q.0 = sym (drop_at xs p.0 (length xs) refl) ∙ ap (drop (length xs)) (sym p.1) ∙ q.1 in
     (q.0, p.1 ∙ ap (λ l. xs ++ l) rest ∙ sym (append_assoc xs ys q.0))
@@ -83,7 +80,7 @@ gives_then c old mid new n before then now us vs g h =
       next = λ all given f more over.
           let p : List (List ℕ) = pipe c.pid (packets_from c 0 all ++ more) in
           front_then us vs (drop given p) (g.next all given f more over)
-          (subst (Fronts vs) (sym (drop-drop (length us) given p))
+          (subst (IsPrefix vs) (sym (drop-drop (length us) given p))
           (h.next all (given + length us) (g.flows all given f) more (λ on. over (sym g.finished ∙ on))));
       complete = λ off some all given f. go given _ vs (λ e. h.complete (g.finished ∙ off) e all (given + length us)
           (g.flows all given f))

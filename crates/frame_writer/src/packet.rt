@@ -1,5 +1,5 @@
 // T2-MI packets of a frame, each built whole.
-ghost use Rattle.std.specs.Prelude.{◌≡◌, ◌<◌, ◌≤◌, ◌+◌, ◌*◌, ◌^◌, ◌/◌, ◌%◌, ◌++◌, Bool, List, length, []};
+ghost use Rattle.std.specs.Prelude.{◌≡◌, ◌<◌, ◌≤◌, ◌+◌, ◌*◌, ◌^◌, ◌%◌, ◌++◌, Bool, List, length, []};
 ghost use Rattle.plp_config.specs.Plps.{plp_at};
 ghost use Rattle.terms.specs.Bits.{bits_of};
 ghost use Rattle.t2mi_packet.specs.Layout.{rows_bits};

@@ -1,5 +1,5 @@
 // The packets of a frame, one by one.
-ghost use Rattle.std.specs.Prelude.{◌≡◌, ◌≢◌, ◌<◌, ◌≤◌, ◌==◌, ◌||◌, not, ℕ, [], length, slice_index_or, vec_len};
+ghost use Rattle.std.specs.Prelude.{◌≡◌, ◌<◌, ◌≤◌, ◌==◌, ◌||◌, not, ℕ, [], length, slice_index_or, vec_len};
 ghost use Rattle.std.specs.Prelude.{IfSome, IfNone};
 ghost use Rattle.linked_pool.specs.Fits.{frame_chunks};
 ghost use Rattle.linked_pool.specs.Pool.{list_at};
@@ -71,7 +71,7 @@ pub struct Frame {
 }
 
 impl Frame {
-    ghost use Rattle.std.specs.Prelude.{◌≡◌, ◌<◌, ◌≤◌, ◌+◌, ◌*◌, ◌/◌, ◌^◌, ℕ, true, false, [], length, replicate, IfOk};
+    ghost use Rattle.std.specs.Prelude.{◌≡◌, ◌<◌, ◌≤◌, ◌*◌, ◌^◌, ℕ, true, false, [], length, replicate, IfOk};
     ghost use Rattle.linked_pool.specs.Pool.{list_at};
     ghost use Rattle.plp_config.specs.Plps.{plp_at};
     ghost use Rattle.scheduler.specs.Laws.{CountsFit};

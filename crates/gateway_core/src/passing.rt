@@ -6,7 +6,7 @@ ghost use Rattle.gateway_core.specs.Events.{Event};
 ghost use Rattle.gateway_core.specs.StandsFor.{GatewayStandsFor, plps_of, wants_of, has_unit, status_of};
 ghost use Rattle.gateway_core.specs.Order.{is_member};
 ghost use Rattle.gateway_core.specs.Slots.{held_at, passed_of, passed, PassesOne, PassesOn, OthersWant, HeldWanted};
-ghost use Rattle.gateway_core.specs.Slots.{HasCome, FindsNext, share_events, pass_events};
+ghost use Rattle.gateway_core.specs.Slots.{FindsNext, share_events, pass_events};
 ghost use Rattle.gateway_core.specs.Works.{Moves, SettlesOn, FindsFirst};
 
 use crate::gateway::Gateway;

@@ -1,5 +1,5 @@
 // The configurable part.
-ghost use Rattle.std.specs.Prelude.{◌≡◌, ◌⊎◌, ℕ, Ok, Err, OnOk, IfOk, IfErr, [], slice_index};
+ghost use Rattle.std.specs.Prelude.{◌≡◌, ◌⊎◌, Ok, Err, OnOk, IfOk, IfErr, [], slice_index};
 ghost use Rattle.bit_slice.specs.Sink.{Puts, Stops};
 ghost use Rattle.l1_signal.specs.Fields.{values, HasGiven};
 ghost use Rattle.l1_signal.specs.L1Configurable.{conf_first_rows, conf_more_rows, conf_back_rows, conf_first};

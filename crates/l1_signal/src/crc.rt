@@ -1,9 +1,7 @@
 // CRC_32 behind what it is counted of.
-ghost use Rattle.std.specs.Prelude.{◌≡◌, ℕ, Ok, Err, OnOk, IfErr, List};
-ghost use Rattle.bit_slice.specs.Crc.{crc32_of};
+ghost use Rattle.std.specs.Prelude.{◌≡◌, Ok, Err, OnOk, IfErr};
 ghost use Rattle.l1_signal.specs.CrcField.{crc_read, EndsInCrc, RefusesPost};
-ghost use Rattle.l1_signal.specs.Fields.{spelling, Fits, HasGiven};
-ghost use Rattle.l1_signal.specs.Places.{Narrow};
+ghost use Rattle.l1_signal.specs.Fields.{HasGiven};
 
 use crate::L1Fault;
 use crate::fields::{Field, put_fields};

@@ -1,5 +1,5 @@
 // The rows of a part of L1-post, one for each PLP.
-ghost use Rattle.std.specs.Prelude.{◌≡◌, ◌↔◌, ◌≤◌, ◌<◌, ℕ, List, Bool, Ok, Err, IfOk, IfErr, OnOk, OnErr, length};
+ghost use Rattle.std.specs.Prelude.{◌≡◌, ◌↔◌, ◌≤◌, ◌<◌, List, Bool, Ok, Err, IfOk, IfErr, OnOk, length};
 ghost use Rattle.std.specs.Prelude.{replicate};
 ghost use Rattle.std.specs.List.{All, flat_map};
 ghost use Rattle.bit_slice.specs.Sink.{Puts, Stops};

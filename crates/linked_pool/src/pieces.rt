@@ -1,5 +1,5 @@
 // The bytes of a block, lent piece by piece.
-ghost use Rattle.std.specs.Prelude.{[], ◌≡◌, ◌++◌, ◌<◌, ◌≤◌, IfNone, IfSome, length, min};
+ghost use Rattle.std.specs.Prelude.{[], ◌≡◌, ◌++◌, ◌<◌, IfNone, IfSome, length, min};
 ghost use Rattle.linked_pool.specs.Pool.{chunk_len};
 
 use crate::chains::Chains;

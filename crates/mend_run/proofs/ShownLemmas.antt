@@ -8,7 +8,7 @@ use Rattle.plp_config.specs.declared.config.Config.{Config}
 use Rattle.ts_packet.specs.TsFile.{joined}
 use Rattle.t2mi_stream.specs.Complete.{complete_units, complete_in}
 use Rattle.frame_groups.specs.Groups.{Group, groups}
-use Rattle.frame_groups.specs.Laws.{IsPrefix}
+use Rattle.terms.specs.Lists.{IsPrefix}
 use Rattle.frame_groups.specs.Modulated.{Numbered}
 use Rattle.frame_groups.specs.Tests.{rules}
 use Rattle.feed_events.specs.FeedEvents.{FeedEvent, feed_events}
@@ -18,7 +18,8 @@ use Rattle.mended_frames.proofs.HeadLemmas.{it_waits}
 use Rattle.mended_frames.proofs.PickLemmas.{picks_same, picks_wait}
 use Rattle.frame_writer.specs.FramePackets.{packets_from}
 use Rattle.spaced_frames.specs.Spaced.{SentFrame, spaced}
-use Rattle.spaced_frames.specs.StandsFor.{SenderStandsFor, Content, Caught, IsAll, sent_as}
+use Rattle.t2mi_stream.specs.Pipe.{pipe}
+use Rattle.spaced_frames.specs.StandsFor.{SenderStandsFor, Content, HasGiven, sent_as}
 use Rattle.spaced_frames.specs.declared.sender.Sender.{Sender}
 use Rattle.mended_frames.specs.Mended.{Made, mended, taking, frames_of, frame_of, made_as, content_in, packets_of}
 use Rattle.mended_frames.specs.StandsFor.{Feed, MenderStandsFor, lent_content, nothing}
@@ -118,7 +119,7 @@ module _ (c : Config) (k : ℕ) (old : List Feed) (before done : List Event) (go
   due_fed : (new : List Feed) (made : List Made) (past : List Numbered)
       → ((xs ys : ℕ → Coming) → AllGo c old before gone xs ys → Splits c k Looks past made xs ys)
       → ((xs ys : ℕ → Coming) → AllGo c new done gone xs ys → AllGo c old before gone xs ys)
-      → Caught c (frames_of c made) (gave before) → gave done ≡ gave before → HasDue c k new done gone
+      → HasGiven complete_units c (frames_of c made) (gave before) → gave done ≡ gave before → HasDue c k new done gone
   due_fed new made past splits back caught same = record {
     input = l.input;
     inside = l.inside;
@@ -217,7 +218,7 @@ shown_fed c k done more m n s go same plan mender sender tally = record {
         (sym same)
         (subst (λ (x : Sender). SenderStandsFor c x s.is_at.content (frames_of c s.made) (gave done))
         (sym sender) s.is_at.stands);
-    caught = subst (Caught c (frames_of c s.made)) (sym same) s.is_at.caught;
+    caught = subst (HasGiven complete_units c (frames_of c s.made)) (sym same) s.is_at.caught;
   };
   due = λ some. due_fed c k m.feeds.items done more s.gone s.come go.last n.feeds.items s.made s.past s.splits go.back
       s.is_at.caught same;
@@ -298,7 +299,7 @@ shown_still tell c k done m p s =
       content = a.content;
       stands = subst (SenderStandsFor c m.sender a.content (frames_of c s.made)) (sym same) a.stands;
     }
-    at_still Done a = (ended_given tell k done [] a.0, subst (IsAll c (frames_of c s.made)) (sym same) a.1)
+    at_still Done a = (ended_given tell k done [] a.0, subst (HasGiven pipe c (frames_of c s.made)) (sym same) a.1)
 
 -- ---- what is next is passed
 

@@ -15,7 +15,7 @@ use Rattle.ts_packet.specs.declared.sizes.TheConstants.{SIZE}
 use Rattle.t2mi_stream.specs.Complete.{complete_units}
 use Rattle.t2mi_stream.specs.Laws.{UnitReads}
 use Rattle.t2mi_stream.specs.Pipe.{pipe, units_in}
-use Rattle.frame_groups.specs.Laws.{IsPrefix}
+use Rattle.terms.specs.Lists.{IsPrefix}
 use Rattle.frame_groups.specs.Modulated.{Numbered}
 use Rattle.frame_groups.specs.Tests.{rules}
 use Rattle.feed_events.specs.Arrivals.{Arrival}
@@ -97,9 +97,9 @@ nothing_next c f bytes ended gone h e y go =
     ∙ h.shows.unknown e bytes gone h.stands
     ∙ sym (append-nil gone))
 
-nothing_piped : (c : Config) → joined (pipe c.pid (packets_of c [])) ≡ []
+nothing_made : (c : Config) (made : List Made) → made ≡ [] → joined (pipe c.pid (packets_of c made)) ≡ []
 unfolding spaced units_in
-nothing_piped c = refl
+nothing_made c made none = ap (λ (m : List Made). joined (pipe c.pid (packets_of c m))) none
 
 mended_same : (c : Config) (k : ℕ) (xs ys : ℕ → Coming) → AreSame k xs ys → mended c k xs ≡ mended c k ys
 unfolding mended
@@ -452,7 +452,7 @@ module _ (reads : UnitReads) (c : Config) (k : ℕ) (now : MendMachine) (files :
         let none : s.made ≡ [] = none_told s.made (sym (ap (λ (t : Tally). t.frames == 0) s.tally) ∙ nothing) in
         record {
           none = made_all ∙ none;
-          empty = s.is_at.1 ∙ ap (λ (m : List Made). joined (pipe c.pid (packets_of c m))) none ∙ nothing_piped c;
+          empty = s.is_at.1 ∙ nothing_made c s.made none;
         }
 
     whole : AreWhole files places

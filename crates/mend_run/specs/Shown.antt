@@ -7,12 +7,13 @@ use Rattle.plp_config.specs.declared.config.Config.{Config}
 use Rattle.ts_packet.specs.TsFile.{joined}
 use Rattle.ts_packet.specs.declared.sizes.TheConstants.{SIZE}
 use Rattle.t2mi_stream.specs.Complete.{complete_units}
-use Rattle.frame_groups.specs.Laws.{IsPrefix}
+use Rattle.terms.specs.Lists.{IsPrefix}
 use Rattle.frame_groups.specs.Modulated.{Numbered}
 use Rattle.frame_groups.specs.Tests.{rules}
 use Rattle.feed_events.specs.FeedEvents.{FeedEvent, feed_events}
 use Rattle.mended_frames.specs.Picks.{Coming, all_behind, picks_from}
-use Rattle.spaced_frames.specs.StandsFor.{SenderStandsFor, Content, Caught, IsAll}
+use Rattle.t2mi_stream.specs.Pipe.{pipe}
+use Rattle.spaced_frames.specs.StandsFor.{SenderStandsFor, Content, HasGiven}
 use Rattle.mended_frames.specs.Mended.{Made, mended, taking, low_of, frames_of, packets_of}
 use Rattle.mended_frames.specs.StandsFor.{Feed, MenderStandsFor, lent_content}
 use Rattle.mended_frames.specs.declared.mender.Source.{Source}
@@ -97,7 +98,7 @@ Splits c k Done past made xs ys = mended c k xs ≡ made
 pub record HasSent (c : Config) (m : MendMachine) (made : List Made) (bytes : List ℕ) : Type 0 where
   pub content : Content
   pub stands : SenderStandsFor c m.sender content (frames_of c made) bytes
-  pub caught : Caught c (frames_of c made) bytes
+  pub caught : HasGiven complete_units c (frames_of c made) bytes
 
 -- Units of the last one are to go out, and then what is next of it is passed.
 pub record IsSending (c : Config) (m : MendMachine) (n : ℕ) (from : Source) (made : List Made) (bytes : List ℕ) :
@@ -140,7 +141,7 @@ IsAt c k Looks m made done = HasSent c m made (gave done)
 IsAt c k (Passes number silent) m made done = HasSent c m made (gave done) × AllKnown m.feeds.items
 IsAt c k (Sends n from) m made done = IsSending c m n from made (gave done)
 IsAt c k Rests m made done = IsResting c k m made done
-IsAt c k Done m made done = AllEnded k done × IsAll c (frames_of c made) (gave done)
+IsAt c k Done m made done = AllEnded k done × HasGiven pipe c (frames_of c made) (gave done)
 
 -- What was done, and where the feeds, the mender and the sender are then.
 pub record ShownAt (c : Config) (k : ℕ) (done : List Event) (m : MendMachine) (place : Place) : Type 0 where

@@ -3,9 +3,10 @@ ghost use Rattle.std.specs.Prelude.{◌<◌, ◌^◌};
 ghost use Rattle.mended_frames.specs.StandsFor.{AreOf};
 
 use feed_events::EventFeed;
-use file_run::{FeedCounts, MOST_FEEDS};
+use file_run::FeedCounts;
 use frame_weave::MarkedGroup;
 use mended_frames::Mender;
+use ports::MOST_FEEDS;
 
 /// Counts a frame, above those that were made, by the feeds in which it is next and whole.
 pub fn count_frame<'p>(

@@ -2,19 +2,18 @@
 use Rattle.std.proofs.Common.{◌≡◌, ◌<◌, ◌≤◌, ℕ, zero, suc, ◌+◌, ◌%◌, ◌==◌, Bool, true, false, cond, List, [], ◌∷◌, ◌++◌}
 use Rattle.std.proofs.Common.{length, Option, Some, None}
 use Rattle.std.proofs.Common.{refl, ap, sym, subst, ◌∙◌, arith}
-use Rattle.std.specs.Prelude.{not, nat_lt, is_some, find, option_map, option_to_list}
+use Rattle.std.specs.Prelude.{nat_lt, find, option_map, option_to_list}
 use Rattle.std.specs.List.{AllByRecursion}
 use Rattle.std.specs.Option.{option_or}
-use Rattle.std.proofs.lemmas.Bool.{true≢false, ltb-false}
+use Rattle.std.proofs.lemmas.Bool.{ltb-false}
 use Rattle.std.proofs.lemmas.Option.{same_Some}
-use Rattle.terms.proofs.OptionLemmas.{none_some}
+use Rattle.terms.proofs.OptionLemmas.{none_some, none_if_not}
 use Rattle.plp_config.specs.declared.config.Config.{Config}
 use Rattle.t2mi_packet.specs.declared.packet.Body.{Body}
 use Rattle.t2mi_packet.specs.declared.packet.Body.TheVariants.{Timestamp}
 use Rattle.frame_writer.specs.FramePackets.{stamp_of, with_stamp}
 use Rattle.frame_groups.specs.Groups.{Group}
 use Rattle.frame_groups.specs.Modulated.{Numbered}
-use Rattle.frame_groups.specs.declared.cause.MuteCause.{MuteCause}
 use Rattle.frame_groups.specs.Tests.{group_fault}
 use Rattle.mended_frames.specs.Picks.{Coming, Picked, one_waits, least_next, all_behind, picked_of, pick_next}
 use Rattle.mended_frames.specs.Picks.{picked_from, events_in}
@@ -27,10 +26,6 @@ use Rattle.mended_frames.specs.Mended.{taking, mended}
 use Rattle.mended_frames.specs.Mended.{frames_of}
 
 -- ---- they pass
-
-pub no_fault : (o : Option MuteCause) → not (is_some o) ≡ true → o ≡ None
-no_fault None e = refl
-no_fault (Some cause) e = absurd (true≢false (sym e))
 
 found : {X : Type 0} (test : X → Bool) (xs : List X) (x : X) → find test xs ≡ Some x → test x ≡ true
 found test [] x e = none_some x e
@@ -59,7 +54,7 @@ by_one c past p is_woven gs x e = go (find (passes c past p.number) gs) refl e
           number = sym (ap (λ (y : Made). y.number) same);
           pass =
               ap (λ (y : Made). group_fault c past y.group p.number) (sym same)
-              ∙ no_fault (group_fault c past g p.number) (found (passes c past p.number) gs g is);
+              ∙ none_if_not (group_fault c past g p.number) (found (passes c past p.number) gs g is);
         }
 
 is_made : (c : Config) (past : List Numbered) (p : Picked) (x : Made) → made_of c past p ≡ Some x → IsMade c past p x

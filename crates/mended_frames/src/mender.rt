@@ -36,7 +36,7 @@ pub struct Mender<'p> {
 }
 
 impl<'p> Mender<'p> {
-    ghost use Rattle.std.specs.Prelude.{◌≡◌, ◌<◌, ◌^◌, ◌&&◌, ◌∷◌, ℕ, List, [], Some, None, true, is_some};
+    ghost use Rattle.std.specs.Prelude.{◌≡◌, ◌<◌, ◌^◌, ◌&&◌, ◌∷◌, List, [], Some, None, true, is_some};
     ghost use Rattle.std.specs.Prelude.{IfOk, IfSome, IfNone};
     ghost use Rattle.frame_groups.specs.Groups.{Group};
     ghost use Rattle.frame_groups.specs.Modulated.{Numbered};

@@ -42,7 +42,7 @@ use Rattle.feed_merge.proofs.FrontLemmas.{packets_more, given_front}
 use Rattle.merge_run.proofs.SendLemmas.{frames_append, gave_complete, gave_all}
 use Rattle.merge_run.proofs.SplitLemmas.{picks_front, below_split, picks_split, picks_nothing}
 use Rattle.merge_run.proofs.ShownLemmas.{reading}
-use Rattle.frame_groups.specs.Laws.{IsPrefix}
+use Rattle.terms.specs.Lists.{IsPrefix}
 use Rattle.feed_merge.proofs.GrowLemmas.{all_below}
 use Rattle.t2mi_stream.proofs.CompleteLemmas.{shorter_front}
 

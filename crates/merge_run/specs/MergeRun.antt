@@ -5,7 +5,7 @@ use Rattle.plp_config.specs.declared.moment.TheConstants.{MOST_FRAMES}
 use Rattle.ts_packet.specs.TsFile.{joined}
 use Rattle.t2mi_stream.specs.Complete.{complete_units}
 use Rattle.t2mi_stream.specs.Pipe.{pipe}
-use Rattle.frame_groups.specs.Laws.{IsPrefix}
+use Rattle.terms.specs.Lists.{IsPrefix}
 use Rattle.modulator.specs.StandsFor.{records_of}
 use Rattle.stream_laws.specs.Remade.{remade_packets}
 use Rattle.feed_merge.specs.Picks.{Picked, picks, picks_below, frames_of}

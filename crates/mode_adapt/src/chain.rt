@@ -1,11 +1,11 @@
 // The chain of one PLP.
-ghost use Rattle.std.specs.Prelude.{◌≡◌, ◌<◌, ◌≤◌, ◌+◌, ◌-◌, ◌*◌, ◌^◌, ◌++◌, ◌∷◌, [], List, ℕ, map, length, take, drop};
+ghost use Rattle.std.specs.Prelude.{◌≡◌, ◌<◌, ◌≤◌, ◌+◌, ◌-◌, ◌*◌, ◌^◌, ◌++◌, ◌∷◌, [], List, ℕ, length};
 ghost use Rattle.std.specs.Prelude.{min};
 ghost use Rattle.std.specs.Prelude.{vec_len, vec_capacity, IfOk, IfErr, OnOk, OnErr, IfSome};
 ghost use Rattle.std.specs.Int.{div_ceil};
 ghost use Rattle.terms.specs.Bits.{bits_of};
 ghost use Rattle.plp_config.specs.SlotTime.{epoch_ticks};
-ghost use Rattle.plp_config.specs.Capacity.{up_bytes, field_bytes, block_bytes};
+ghost use Rattle.plp_config.specs.Capacity.{up_bytes, field_bytes};
 ghost use Rattle.plp_config.specs.Plps.{plp_at};
 ghost use Rattle.bb_frame.specs.BasebandFrame.{header_bits};
 ghost use Rattle.bb_frame.specs.declared.header.TheConstants.{HEADER_BYTES};

@@ -14,7 +14,8 @@ use Rattle.terms.proofs.CaseLemmas.{bool_cases}
 use Rattle.modulator.proofs.WaitLemmas.{number_at}
 use Rattle.plp_config.specs.declared.config.Config.{Config}
 use Rattle.plp_config.specs.declared.moment.TheConstants.{MOST_FRAMES}
-use Rattle.frame_groups.specs.Laws.{AreFrom, IsPrefix}
+use Rattle.frame_groups.specs.Laws.{AreFrom}
+use Rattle.terms.specs.Lists.{IsPrefix}
 use Rattle.frame_groups.specs.Modulated.{FrameRecord}
 use Rattle.frame_groups.specs.declared.cause.MuteCause.{MuteCause}
 use Rattle.frame_groups.specs.declared.waiting.Waiting.{Waiting}

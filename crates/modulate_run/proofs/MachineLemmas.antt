@@ -8,7 +8,7 @@ use Rattle.std.proofs.lemmas.List.{length-take-le, nil_from_length}
 use Rattle.std.proofs.lemmas.Option.{same_Some}
 use Rattle.plp_config.specs.declared.config.Config.{Config}
 use Rattle.plp_config.specs.declared.moment.TheConstants.{MOST_FRAMES}
-use Rattle.frame_groups.specs.Laws.{IsPrefix}
+use Rattle.terms.specs.Lists.{IsPrefix}
 use Rattle.frame_groups.specs.declared.waiting.Waiting.{Waiting}
 use Rattle.terms.proofs.OptionLemmas.{none_some}
 use Rattle.modulator.proofs.WaitLemmas.{TellsNext, NextIs, next_told}

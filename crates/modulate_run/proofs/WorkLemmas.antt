@@ -10,7 +10,7 @@ use Rattle.terms.proofs.CaseLemmas.{bool_cases}
 use Rattle.modulator.proofs.WaitLemmas.{front_due}
 use Rattle.plp_config.specs.declared.config.Config.{Config}
 use Rattle.plp_config.specs.declared.moment.TheConstants.{MOST_FRAMES}
-use Rattle.frame_groups.specs.Laws.{IsPrefix}
+use Rattle.terms.specs.Lists.{IsPrefix}
 use Rattle.frame_groups.specs.Modulated.{FrameRecord}
 use Rattle.frame_groups.specs.declared.waiting.Waiting.{Waiting}
 use Rattle.open_group.specs.Written.{spelled}

@@ -4,7 +4,7 @@ use Rattle.std.specs.Prelude.{Result}
 use Rattle.std.specs.Prelude.{Ok, Err, if◌then◌else◌}
 use Rattle.plp_config.specs.declared.config.Config.{Config}
 use Rattle.plp_config.specs.declared.moment.TheConstants.{MOST_FRAMES}
-use Rattle.frame_groups.specs.Laws.{IsPrefix}
+use Rattle.terms.specs.Lists.{IsPrefix}
 use Rattle.frame_groups.specs.declared.waiting.Waiting.{Waiting}
 use Rattle.modulator.specs.StandsFor.{ModulatorStandsFor, WaitsAs, records_due, bytes_due, config_of, fed_of}
 use Rattle.file_run.specs.Events.{Event, fed, has_ended, gave}

@@ -4,7 +4,7 @@ use Rattle.std.specs.Prelude.{slice_index, Ok, Err}
 use Rattle.std.specs.List.{list_all}
 use Rattle.plp_config.specs.declared.config.Config.{Config}
 use Rattle.plp_config.specs.declared.moment.TheConstants.{MOST_FRAMES}
-use Rattle.frame_groups.specs.Laws.{IsPrefix}
+use Rattle.terms.specs.Lists.{IsPrefix}
 use Rattle.frame_groups.specs.Modulated.{FrameRecord}
 use Rattle.open_group.specs.Written.{spelled}
 use Rattle.modulator.specs.StandsFor.{records_due, bytes_due, records_of}

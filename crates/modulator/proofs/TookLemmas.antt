@@ -11,7 +11,7 @@ use Rattle.t2mi_packet.specs.declared.packet.Packet.{Packet}
 use Rattle.frame_groups.specs.Due.{ComesNext}
 use Rattle.frame_groups.specs.Groups.{Group}
 use Rattle.frame_groups.specs.Modulated.{Numbered, Rules, FrameRecord}
-use Rattle.frame_groups.specs.Laws.{IsPrefix}
+use Rattle.terms.specs.Lists.{IsPrefix}
 use Rattle.frame_groups.specs.Records.{record_of}
 use Rattle.frame_groups.specs.Sequenced.{Keeps, Sequenced}
 use Rattle.frame_groups.specs.Waits.{waits, waits_by, waiting_of}

@@ -4,7 +4,8 @@ use Rattle.std.proofs.Common.{subst, refl, ap, ◌∙◌, arith}
 use Rattle.std.proofs.Common.{append-nil}
 use Rattle.std.specs.Prelude.{IfSome, IfNone}
 use Rattle.plp_config.specs.declared.config.Config.{Config}
-use Rattle.frame_groups.specs.Laws.{AreFrom, IsPrefix}
+use Rattle.frame_groups.specs.Laws.{AreFrom}
+use Rattle.terms.specs.Lists.{IsPrefix}
 use Rattle.frame_groups.specs.Modulated.{FrameRecord}
 use Rattle.frame_groups.specs.declared.waiting.Waiting.{Waiting}
 use Rattle.modulator.specs.Laws.{DueFront}

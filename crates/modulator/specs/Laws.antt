@@ -3,7 +3,8 @@ use Rattle.std.specs.Prelude.{◌≡◌, ℕ, ◌<◌, ◌^◌, Bool, false, Lis
 use Rattle.std.specs.List.{AllByRecursion}
 use Rattle.plp_config.specs.Capacity.{IsPlan}
 use Rattle.plp_config.specs.declared.config.Config.{Config}
-use Rattle.frame_groups.specs.Laws.{AreFrom, IsPrefix}
+use Rattle.frame_groups.specs.Laws.{AreFrom}
+use Rattle.terms.specs.Lists.{IsPrefix}
 use Rattle.frame_groups.specs.Modulated.{FrameRecord, past_after}
 use Rattle.record_laws.specs.Frames.{HasByteIds}
 use Rattle.site_frame.specs.Whole.{Spells}

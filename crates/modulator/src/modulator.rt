@@ -25,7 +25,7 @@ impl<'p> Modulator<'p> {
     ghost use Rattle.std.specs.Prelude.{◌≡◌, ◌<◌, ◌≤◌, ◌+◌, ◌⊎◌, ◌↔◌, ◌^◌, ◌++◌, ℕ, List, [], IfOk, IfSome, IfNone};
     ghost use Rattle.std.specs.Prelude.{length, take};
     ghost use Rattle.std.specs.Prelude.{drop, true, false};
-    ghost use Rattle.frame_groups.specs.Laws.{IsPrefix};
+    ghost use Rattle.terms.specs.Lists.{IsPrefix};
     ghost use Rattle.plp_config.specs.declared.moment.TheConstants.{MOST_FRAMES};
     ghost use Rattle.modulator.specs.StandsFor.{ModulatorStandsFor, WaitsAs, TakesOf, records_due, bytes_due};
     ghost use Rattle.modulator.specs.StandsFor.{config_of};

@@ -3,8 +3,8 @@ use Rattle.std.proofs.Common.{◌≡◌, ℕ, ◌+◌, ◌-◌, ◌%◌, ◌<◌
 use Rattle.std.proofs.Common.{List, [], ◌∷◌, length, map, Option, Some, None, refl, ap, sym, subst, ◌∙◌}
 use Rattle.std.proofs.Common.{⊎_elim, arith}
 use Rattle.std.specs.Prelude.{slice_get, unwrap_or, nat_lt, if◌then◌else◌}
-use Rattle.std.specs.Bool.{beq}
-use Rattle.std.specs.Cmp.Lexicographic.{pointwise, pointwise_decides}
+use Rattle.std.specs.Cmp.{booleans_Decides}
+use Rattle.std.specs.Cmp.Lexicographic.{pointwise_decides}
 use Rattle.std.specs.List.{flat_map, range_with_len, list_all, AllByRecursion}
 use Rattle.std.specs.Option.{option_map_or}
 use Rattle.std.proofs.lemmas.Bool.{cond_both, cond-true, and_from, lt-ltb, true≢false}
@@ -28,7 +28,7 @@ use Rattle.stream_laws.proofs.CarriedLemmas.{HasFrame}
 use Rattle.stream_laws.proofs.CarryLemmas.{each_place}
 use Rattle.stream_laws.proofs.FrameSignalLemmas.{frame_parts, parts_pass}
 use Rattle.stream_laws.proofs.LossLemmas.{is_left}
-use Rattle.stream_laws.proofs.PassLemmas.{Given, bit_same}
+use Rattle.stream_laws.proofs.PassLemmas.{Given}
 use Rattle.feed_events.specs.FeedEvents.{is_stamp}
 use Rattle.frame_weave.specs.Laws.{StoodIsPlaced, PlacedIsOfFrame}
 use Rattle.frame_weave.specs.Marked.{first_count}
@@ -42,11 +42,6 @@ use Rattle.network_laws.proofs.RunPlaceLemmas.{at_place}
 use Rattle.network_laws.proofs.WovenRunLemmas.{IsNear, signal_is, counts_is, count_there, groups_placed}
 use Rattle.network_laws.proofs.CameBlockLemmas.{StandsIn, stands_some, OneBrings, l1_place, block_place, l1_plain}
 use Rattle.network_laws.proofs.CameBlockLemmas.{block_plain, signals_there, all_room, groups_there}
-
--- ---- bits are those that they are
-
-bits_same : (xs ys : List Bool) → xs ≡ ys → pointwise beq xs ys ≡ true
-bits_same xs ys e = (pointwise_decides bit_same xs ys).1 e
 
 module _ (law : StoodIsPlaced) (framed : PlacedIsOfFrame) (given : Given) (knows : Knows) (c : Config)
     (inputs : ℕ → List (List ℕ))
@@ -121,7 +116,8 @@ module _ (law : StoodIsPlaced) (framed : PlacedIsOfFrame) (given : Given) (knows
   all_same t [] h hs = refl
   all_same t (g ∷ more) h hs =
       and_from (same_dynamic t g) (list_all (same_dynamic t) more)
-      (bits_same (dynamic_in t.packets) (dynamic_in g.packets) (dynamic_is t h ∙ sym (dynamic_is g hs.0)))
+      ((pointwise_decides booleans_Decides (dynamic_in t.packets) (dynamic_in g.packets)).1
+      (dynamic_is t h ∙ sym (dynamic_is g hs.0)))
       (all_same t more h hs.1)
 
   -- ---- each place has one block

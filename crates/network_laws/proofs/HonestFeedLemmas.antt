@@ -8,7 +8,7 @@ use Rattle.std.specs.Option.{option_or}
 use Rattle.std.proofs.lemmas.Bool.{cases_Bool, cases_eq, cond-true, cond-false, eq-eqb, ne_eqb}
 use Rattle.std.proofs.lemmas.Option.{same_Some}
 use Rattle.terms.proofs.AllLemmas.{all_append}
-use Rattle.terms.proofs.OptionLemmas.{none_some}
+use Rattle.terms.proofs.OptionLemmas.{none_some, none_if_not}
 use Rattle.bb_frame.specs.Laws.{ScramblesBack}
 use Rattle.plp_config.specs.Capacity.{IsPlan}
 use Rattle.plp_config.specs.declared.config.Config.{Config}
@@ -27,7 +27,6 @@ use Rattle.stream_laws.specs.FormedLaws.{ShownIsSent}
 use Rattle.stream_laws.proofs.FormedSignalLemmas.{Knows}
 use Rattle.stream_laws.specs.FrameLaws.{SentAreFrames, FrameCarries}
 use Rattle.stream_laws.specs.DamageLaws.{GroupsAreFrames}
-use Rattle.frame_groups.specs.Laws.{NextIsFound}
 use Rattle.frame_groups.specs.TestLaws.{FrameNamed}
 use Rattle.plp_config.specs.Rules.Rule.{SuperframeLength}
 use Rattle.mended_frames.specs.Feeds.{all_of}
@@ -51,7 +50,6 @@ use Rattle.network_laws.proofs.HonestGroupLemmas.{view_is, whole_has}
 use Rattle.network_laws.proofs.RowGroupLemmas.{row_packets}
 use Rattle.network_laws.proofs.WholeFeedLemmas.{run_has, sent_as_run}
 use Rattle.mended_frames.proofs.PickLemmas.{lesser_is}
-use Rattle.mended_frames.proofs.MendLemmas.{no_fault}
 use Rattle.network_laws.proofs.WovenRunLemmas.{IsNear, woven_has}
 
 -- ---- the packets of a frame among those of a run
@@ -184,7 +182,7 @@ module _ (law : StoodIsPlaced) (framed : PlacedIsOfFrame) (given : Given) (knows
   found_own n past (h ∷ gs) g l near e = ⊎_elim
       (λ (t : passes c past n h ≡ true).
       let same = same_Some h g (sym (cond-true (passes c past n h) (Some h) (find (passes c past n) gs) t) ∙ e) in
-      let pass = no_fault (group_fault c past h n) t in
+      let pass = none_if_not (group_fault c past h n) t in
       subst (λ (x : Group). HasFrame c inputs n x.packets × (packets_fault c past n x.packets ≡ None)) same (
         whole_has given knows c inputs n plan types (run_packets c inputs n) h.packets
             (run_has given knows carries c inputs plan types n l) (record { flags = near.0.flags; are = near.0.are })
@@ -203,7 +201,7 @@ module _ (law : StoodIsPlaced) (framed : PlacedIsOfFrame) (given : Given) (knows
       (λ (t : passes c past n h ≡ true).
       let same = same_Some h g (sym (cond-true (passes c past n h) (Some h) None t) ∙ e) in (
         ap (λ (x : Group). Some x) same,
-        subst (λ (x : Group). packets_fault c past n x.packets ≡ None) same (no_fault (group_fault c past h n) t),
+        subst (λ (x : Group). packets_fault c past n x.packets ≡ None) same (none_if_not (group_fault c past h n) t),
       ))
       (λ (t : passes c past n h ≡ false). none_some g (sym (cond-false (passes c past n h) (Some h) None t) ∙ e))
       (cases_Bool (passes c past n h))
@@ -323,18 +321,18 @@ some_frames c plan = let r : (2 ≤ c.frames) × (c.frames ≤ 255) = plan.rules
 
 pub damaged_runs_mended : StoodIsPlaced → PlacedIsOfFrame → Given → Knows → FrameCarries → ScramblesBack
     → PreBitsLength → PostLength
-    → ConfPartLength → ShownIsSent → NextIsFound → FrameNamed → SentAreFrames → GroupsAreFrames → DamagedRunsMended
-damaged_runs_mended law framed given knows carries scrambles bits post size shown found named are groups c
+    → ConfPartLength → ShownIsSent → FrameNamed → SentAreFrames → GroupsAreFrames → DamagedRunsMended
+damaged_runs_mended law framed given knows carries scrambles bits post size shown named are groups c
     inputs k streams plan types most damaged =
     all_run law framed given knows carries scrambles bits post size shown c inputs plan types k (all_of c streams)
-    (λ i l. damaged_events found named are groups c inputs plan (some_frames c plan) most
+    (λ i l. damaged_events named are groups c inputs plan (some_frames c plan) most
     (run_has given knows carries c inputs plan types) (streams i) (damaged i l))
 
-pub whole_among_damaged : Given → Knows → FrameCarries → SentAreFrames → GroupsAreFrames → NextIsFound → FrameNamed
+pub whole_among_damaged : Given → Knows → FrameCarries → SentAreFrames → GroupsAreFrames → FrameNamed
     → WholeStreamMended → WholeAmongDamaged
-whole_among_damaged given knows carries are groups found named whole_law c inputs k whole streams plan types
+whole_among_damaged given knows carries are groups named whole_law c inputs k whole streams plan types
     most inside is damaged =
     whole_law c inputs k whole streams plan types most inside is
     (λ i l ne. of_run c inputs (feed_events (rules c) true (streams i))
-    (damaged_events found named are groups c inputs plan (some_frames c plan) most
+    (damaged_events named are groups c inputs plan (some_frames c plan) most
     (run_has given knows carries c inputs plan types) (streams i) (damaged i l ne)))

@@ -11,17 +11,15 @@ use Rattle.plp_config.specs.declared.config.Config.{Config}
 use Rattle.plp_config.specs.declared.moment.TheConstants.{MOST_FRAMES}
 use Rattle.t2mi_packet.specs.declared.packet.Packet.{Packet}
 use Rattle.frame_groups.specs.Groups.{is_same, Group, groups}
-use Rattle.frame_groups.specs.Laws.{NextIsFound}
 use Rattle.frame_groups.specs.Numbers.{frame_key}
 use Rattle.frame_groups.specs.TestLaws.{FrameNamed}
 use Rattle.frame_groups.specs.Tests.{named_frame, rules}
 use Rattle.stream_laws.specs.DamageLaws.{GroupsAreFrames}
 use Rattle.stream_laws.specs.FrameLaws.{SentAreFrames, FrameCarries}
 use Rattle.stream_laws.specs.SentFrames.{sent_frames, run_length}
-use Rattle.stream_laws.specs.SentPackets.{Sent, frame_packets, frame_group, InFrameOrder, AreNear}
+use Rattle.stream_laws.specs.SentPackets.{Sent, frame_packets, frame_group}
 use Rattle.stream_laws.specs.Survivors.{has_packets}
 use Rattle.stream_laws.proofs.CarriedLemmas.{HasFrame}
-use Rattle.stream_laws.proofs.GroupLemmas.{order_survivors}
 use Rattle.bb_frame.specs.Laws.{ScramblesBack}
 use Rattle.l1_signal.specs.Laws.{PreBitsLength, PostLength, ConfPartLength}
 use Rattle.stream_laws.specs.FormedLaws.{ShownIsSent}
@@ -33,9 +31,9 @@ use Rattle.feed_events.specs.FeedEvents.{FeedEvent, has_stamp, number_after, num
 use Rattle.feed_events.specs.FeedEvents.{events_between, feed_events}
 use Rattle.feed_events.specs.FeedEvents.FeedEvent.{Has, Silent}
 use Rattle.network_laws.specs.FeedsOfRun.{run_packets, FewLack, HasCome, BringsPacket, GoesOn, frame_survival}
-use Rattle.network_laws.specs.FeedsOfRun.{SurvivesOfRun, IsNumbered, IsLossyRun, IsDamagedRun}
+use Rattle.network_laws.specs.FeedsOfRun.{SurvivesOfRun, NextIsTold, left_of, IsNumbered, IsLossyRun, IsDamagedRun}
 use Rattle.network_laws.specs.FeedsOfRun.{SurvivorsMended, CameOfDamagedMade}
-use Rattle.network_laws.proofs.DamagedFeedLemmas.{frame_left, IsNumber, stamp_names, number_is, LastBefore, last_near}
+use Rattle.network_laws.proofs.DamagedFeedLemmas.{frame_left, IsNumber, stamp_names, number_is, LastBefore, last_told}
 use Rattle.network_laws.proofs.DamagedFeedLemmas.{last_skipped, last_own, damaged_events}
 use Rattle.network_laws.proofs.HonestFeedLemmas.{some_frames}
 use Rattle.network_laws.proofs.RowGroupLemmas.{own_key}
@@ -72,7 +70,7 @@ no_length (p ∷ ps) e = absurd (omega (arith, e))
 
 -- ---- the groups of what survives
 
-module _ (found : NextIsFound) (named : FrameNamed) (c : Config) (inputs : ℕ → List (List ℕ)) (plan : IsPlan c)
+module _ (named : FrameNamed) (c : Config) (inputs : ℕ → List (List ℕ)) (plan : IsPlan c)
     (some : 0 < c.frames) (most : run_length c inputs ≤ MOST_FRAMES) (survival : List Bool)
     (has : (n : ℕ) → n < run_length c inputs → HasFrame c inputs n (run_packets c inputs n))
     (few : (n : ℕ) → n < run_length c inputs
@@ -134,23 +132,23 @@ module _ (found : NextIsFound) (named : FrameNamed) (c : Config) (inputs : ℕ �
 
       go : (t : Bool) → has_stamp (frame_packets n left) ≡ t
           → cond t (named_frame c (group_at n)) (number_after c.frames last (frame_key c.frames n)) ≡ Some n
-      go true e = stamp_names found named c inputs plan some most survival has few n inside e
+      go true e = stamp_names named c inputs plan some most survival has few n inside e
       go false e = ⊎_elim
           (λ (t : has_stamp (frame_packets n left) ≡ true). absurd (true≢false (sym t ∙ e)))
           (λ (h : (m : ℕ) × (last ≡ Some m) × (m + 1 ≡ n)). after h.0 h.1 h.2)
           known
 
   abbrev Before : Option ℕ → ℕ → Type 0
-  Before = LastBefore found named c inputs plan some most survival has few
+  Before = LastBefore named c inputs plan some most survival has few
 
   -- ---- their numbers rise
 
-  module _ (order : InFrameOrder c.frames None left) (near : AreNear c.frames None left) where
+  module _ (next : NextIsTold c.frames (left_of c inputs survival)) where
     number_own : (last : Option ℕ) (a : ℕ) → a < count → Before last a → frame_packets a left ≢ []
         → IsNumber (number_of (rules c) last (group_at a)) a
     number_own last a inside h own =
-        number_is found named c inputs plan some most survival has few last a inside
-        (last_near found named c inputs plan some most survival has few order near last a h own)
+        number_is named c inputs plan some most survival has few last a inside
+        (last_told named c inputs plan some most survival has few next last a h own)
 
     event_goes : (a : ℕ) (o : Option ℕ) (rest : List FeedEvent) → IsNumber o a → Rises (a + 1) rest
         → Rises a (event_of o (group_at a) ++ rest)
@@ -166,7 +164,7 @@ module _ (found : NextIsFound) (named : FrameNamed) (c : Config) (inputs : ℕ �
         subst (Rises a) (sym (none_left last a j is))
         (rises_later a (a + 1) (events_from last (a + 1) j) (omega arith)
         (all_go j (a + 1) last (omega (arith, l))
-        (last_skipped found named c inputs plan some most survival has few order near last a h is))))
+        (last_skipped named c inputs plan some most survival has few next last a h is))))
         (λ (there : (length (frame_packets a left) == 0) ≡ false).
         let own : frame_packets a left ≢ [] = λ z. eqb-false (length (frame_packets a left)) 0 there (ap length z) in
         let o : Option ℕ = number_of (rules c) last (group_at a) in
@@ -174,7 +172,7 @@ module _ (found : NextIsFound) (named : FrameNamed) (c : Config) (inputs : ℕ �
         subst (Rises a) (sym (some_left last a j there))
         (event_goes a o (events_from o (a + 1) j) is
         (all_go j (a + 1) o (omega (arith, l))
-        (last_own found named c inputs plan some most survival has few order near o a is own))))
+        (last_own named c inputs plan some most survival has few next o a is own))))
         (cases_Bool (length (frame_packets a left) == 0))
 
   -- ---- what survives of a frame whose number is known comes
@@ -251,7 +249,7 @@ module _ (found : NextIsFound) (named : FrameNamed) (c : Config) (inputs : ℕ �
 
 -- ---- streams
 
-module _ (found : NextIsFound) (named : FrameNamed) (are : SentAreFrames) (law : GroupsAreFrames) (c : Config)
+module _ (named : FrameNamed) (are : SentAreFrames) (law : GroupsAreFrames) (c : Config)
     (inputs : ℕ → List (List ℕ)) (plan : IsPlan c) (some : 0 < c.frames) (most : run_length c inputs ≤ MOST_FRAMES)
     (has : (n : ℕ) → n < run_length c inputs → HasFrame c inputs n (run_packets c inputs n)) (survival : List Bool)
     (bytes : List ℕ) (lossy : IsLossyRun c inputs survival bytes) where
@@ -269,24 +267,21 @@ module _ (found : NextIsFound) (named : FrameNamed) (are : SentAreFrames) (law :
       let n : ℕ = run_length c inputs in
       ap (events_between (rules c) true) lossy.arrive
       ∙ ap (numbered_from (rules c) None)
-      (law c.frames n (sent_frames c inputs n) survival
-      (record { some = some; sent_are = are c inputs n some; told = survives.told; near = survives.near }))
+      (law c.frames n (sent_frames c inputs n) survival some (are c inputs n some) survives.apart)
 
   stream_goes : (frames : ℕ → Bool) → GoesOn frames 0 0 (feed_events (rules c) true bytes)
   stream_goes frames =
-      let n : ℕ = run_length c inputs in
       rises_on frames 0 (feed_events (rules c) true bytes)
       (subst (Rises 0) (sym stream_events)
-      (all_go found named c inputs plan some most survival has survives.few
-      (order_survivors c.frames None (sent_frames c inputs n) survival (are c inputs n some).order) survives.near n 0
-      None (omega arith) tt))
+      (all_go named c inputs plan some most survival has survives.few survives.next (run_length c inputs) 0 None
+      (omega arith) tt))
 
   stream_brings : (n place : ℕ) → n < run_length c inputs → IsNumbered c inputs survival n
       → slice_index_or (frame_survival n (sent_frames c inputs (run_length c inputs)) survival) place false ≡ true
       → BringsPacket c inputs n place (feed_events (rules c) true bytes)
   stream_brings n place inside numbered there =
       subst (BringsPacket c inputs n place) (sym stream_events)
-      (comes_there found named c inputs plan some most survival has survives.few n place numbered inside there
+      (comes_there named c inputs plan some most survival has survives.few n place numbered inside there
       (run_length c inputs) 0 None (omega arith) (omega (arith, inside)) (omega arith) (inl (omega arith)))
 
 pub damaged_of : (c : Config) (inputs : ℕ → List (List ℕ)) (survival : List Bool) (bytes : List ℕ)
@@ -295,21 +290,21 @@ damaged_of c inputs survival bytes lossy =
     record { survivals = survival ∷ []; arrive = lossy.arrive; parts = (lossy.survives, tt) }
 
 pub survivors_mended : StoodIsPlaced → PlacedIsOfFrame → Given → Knows → FrameCarries → ScramblesBack
-    → PreBitsLength → PostLength → ConfPartLength → ShownIsSent → NextIsFound → FrameNamed → SentAreFrames
+    → PreBitsLength → PostLength → ConfPartLength → ShownIsSent → FrameNamed → SentAreFrames
     → GroupsAreFrames → SurvivorsMended
-survivors_mended law framed given knows carries scrambles bits post size shown found named are groups c inputs k streams
+survivors_mended law framed given knows carries scrambles bits post size shown named are groups c inputs k streams
     survivals frames plan types most lossy whole n f =
     let some = some_frames c plan in
     let has = run_has given knows carries c inputs plan types in
     came_made law framed given knows carries scrambles bits post size shown c inputs plan types k (all_of c streams)
     frames
-    (λ i l. damaged_events found named are groups c inputs plan some most has (streams i)
+    (λ i l. damaged_events named are groups c inputs plan some most has (streams i)
     (damaged_of c inputs (survivals i) (streams i) (lossy i l)))
     (record {
       frames = λ m. false;
       there = λ m t. absurd (true≢false (sym t));
       on = λ i l.
-          stream_goes found named are groups c inputs plan some most has (survivals i) (streams i) (lossy i l)
+          stream_goes named are groups c inputs plan some most has (survivals i) (streams i) (lossy i l)
           (λ m. false);
       over = λ i l. refl;
     })
@@ -319,7 +314,7 @@ survivors_mended law framed given knows carries scrambles bits post size shown f
           let come = whole.came m h place p is plain in (
             come.0,
             come.1,
-            stream_brings found named are groups c inputs plan some most has (survivals come.0) (streams come.0)
+            stream_brings named are groups c inputs plan some most has (survivals come.0) (streams come.0)
                 (lossy come.0 come.1) m place (whole.inside m h) come.2 come.3,
           );
       begun = whole.begun;
@@ -328,12 +323,12 @@ survivors_mended law framed given knows carries scrambles bits post size shown f
 
 -- with idle units
 pub came_of_damaged : StoodIsPlaced → PlacedIsOfFrame → Given → Knows → FrameCarries → ScramblesBack → PreBitsLength
-    → PostLength → ConfPartLength → ShownIsSent → NextIsFound → FrameNamed → SentAreFrames → GroupsAreFrames
+    → PostLength → ConfPartLength → ShownIsSent → FrameNamed → SentAreFrames → GroupsAreFrames
     → CameOfDamagedMade
-came_of_damaged law framed given knows carries scrambles bits post size shown found named are groups c inputs k streams
+came_of_damaged law framed given knows carries scrambles bits post size shown named are groups c inputs k streams
     frames plan types most damaged on whole n f =
     came_made law framed given knows carries scrambles bits post size shown c inputs plan types k (all_of c streams)
     frames
-    (λ i l. damaged_events found named are groups c inputs plan (some_frames c plan) most
+    (λ i l. damaged_events named are groups c inputs plan (some_frames c plan) most
     (run_has given knows carries c inputs plan types) (streams i) (damaged i l))
     on whole n f

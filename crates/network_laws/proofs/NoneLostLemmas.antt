@@ -11,7 +11,6 @@ use Rattle.plp_config.specs.declared.config.Config.{Config}
 use Rattle.l1_signal.specs.Laws.{PreBitsLength, PostLength, ConfPartLength}
 use Rattle.t2mi_stream.specs.Pipe.{pipe}
 use Rattle.ts_packet.specs.TsFile.{joined}
-use Rattle.frame_groups.specs.Laws.{NextIsFound}
 use Rattle.frame_groups.specs.TestLaws.{FrameNamed}
 use Rattle.frame_writer.specs.FramePackets.{packets_from}
 use Rattle.gateway_core.specs.Packets.{front_packets}
@@ -76,19 +75,19 @@ module _ (c : Config) (inputs : ℕ → List (List ℕ)) where
       (there n (omega (arith, low)) high)))
 
 pub none_lost_mended : StoodIsPlaced → PlacedIsOfFrame → Given → Knows → FrameCarries → ScramblesBack → PreBitsLength
-    → PostLength → ConfPartLength → ShownIsSent → NextIsFound → FrameNamed → SentAreFrames → GroupsAreFrames → MadeRise
+    → PostLength → ConfPartLength → ShownIsSent → FrameNamed → SentAreFrames → GroupsAreFrames → MadeRise
     → NoneLostMended
 unfolding spaced front_packets
-none_lost_mended law framed given knows carries scrambles bits post size shown found named are groups rise c inputs k
+none_lost_mended law framed given knows carries scrambles bits post size shown named are groups rise c inputs k
     streams survivals plan types most lossy come =
     let n : ℕ = run_length c inputs in
     let made : List Made = made_of_all c k streams in
     let all : AllByRecursion (IsRunFrame c inputs) made =
-    damaged_runs_mended law framed given knows carries scrambles bits post size shown found named are groups c inputs k
+    damaged_runs_mended law framed given knows carries scrambles bits post size shown named are groups c inputs k
     streams plan types most (λ i l. damaged_of c inputs (survivals i) (streams i) (lossy i l)) in
     let there : (m : ℕ) → m < n → HasRunFrame c inputs m made =
     λ m l.
-    survivors_mended law framed given knows carries scrambles bits post size shown found named are groups c inputs k
+    survivors_mended law framed given knows carries scrambles bits post size shown named are groups c inputs k
     streams survivals (λ i. nat_lt i n) plan types most lossy
     (record {
       inside = λ i f. ltb-true i n f;
@@ -103,11 +102,11 @@ none_lost_mended law framed given knows carries scrambles bits post size shown f
 
 -- where one frame carries each interleaving frame
 pub survivor_alone : StoodIsPlaced → PlacedIsOfFrame → Given → Knows → FrameCarries → ScramblesBack → PreBitsLength
-    → PostLength → ConfPartLength → ShownIsSent → NextIsFound → FrameNamed → SentAreFrames → GroupsAreFrames
+    → PostLength → ConfPartLength → ShownIsSent → FrameNamed → SentAreFrames → GroupsAreFrames
     → BeginAlone → SurvivorAlone
-survivor_alone law framed given knows carries scrambles bits post size shown found named are groups begins c inputs k
+survivor_alone law framed given knows carries scrambles bits post size shown named are groups begins c inputs k
     streams survivals plan types alone most lossy n inside come =
-    survivors_mended law framed given knows carries scrambles bits post size shown found named are groups c inputs k
+    survivors_mended law framed given knows carries scrambles bits post size shown named are groups c inputs k
     streams survivals (λ i. i == n) plan types most lossy
     (record {
       inside = λ i f. let e = eqb-true i n f in omega (arith, inside, e);

@@ -46,6 +46,7 @@ use Rattle.modulator.specs.Modulating.{packet_of}
 use Rattle.frame_writer.specs.FramePackets.{stamp_of}
 use Rattle.gateway_core.specs.Packets.{packets_of as run_packets_of}
 use Rattle.stream_laws.specs.DamageLaws.{GroupsAreFrames, LaterNear}
+use Rattle.stream_laws.proofs.GroupLemmas.{near_apart, order_survivors}
 use Rattle.stream_laws.specs.SentPackets.{Sent, packets_of, frame_packets, frame_group, AreFrames}
 use Rattle.stream_laws.specs.Survivors.{has_packets, groups_met}
 use Rattle.stream_laws.specs.FrameLaws.{FramesAreStream}
@@ -206,16 +207,12 @@ sent_groups : GroupsAreFrames → LaterNear → (frames count : ℕ) (sent : Lis
 sent_groups law near frames count sent some are =
     let all : List Bool = replicate (length sent) true in
     let same : items_where_true all sent ≡ sent = all_came sent in
-    let told : length all ≡ length sent = length_all (length sent) in
     ap (λ (l : List Sent). groups frames (packets_of l)) (sym same)
-    ∙ law frames count sent all (record
-    { some = some; sent_are = are; told = told; near = near frames count sent 0 (length sent) some are })
+    ∙ law frames count sent all some are
+    (near_apart frames None (items_where_true all sent) some (order_survivors frames None sent all are.order)
+    (near frames count sent 0 (length sent) some are))
     ∙ ap (groups_met frames count) same
     ∙ all_have frames 0 count sent (λ n l m. are.some n (omega (arith, m)))
-  where
-    length_all : (k : ℕ) → length (replicate k true) ≡ k
-    length_all zero = refl
-    length_all (suc k) = ap (λ (i : ℕ). suc i) (length_all k)
 
 -- ---- and their numbers those of the frames
 

@@ -27,7 +27,7 @@ use Rattle.stream_laws.specs.FormedLaws.{ShownIsSent}
 use Rattle.stream_laws.specs.Remade.{view_bodies}
 use Rattle.stream_laws.proofs.AgainLemmas.{frame_again}
 use Rattle.spaced_frames.specs.Spaced.{SentFrame, spacers, spacers_behind, spacers_between, spaced, spaced_behind}
-use Rattle.terms.proofs.OptionLemmas.{none_some}
+use Rattle.terms.proofs.OptionLemmas.{none_some, none_if_not}
 use Rattle.plp_config.specs.Capacity.{IsPlan}
 use Rattle.plp_config.specs.InterleavingFrames.{is_first, begin_of}
 use Rattle.plp_config.specs.declared.config.Config.{Config}
@@ -67,7 +67,6 @@ use Rattle.network_laws.specs.FeedsOfRun.{WholeStreamMended}
 use Rattle.network_laws.proofs.RunEventLemmas.{all_came, run_stream_events}
 use Rattle.network_laws.proofs.HonestGroupLemmas.{view_is, whole_has}
 use Rattle.mended_frames.proofs.PickLemmas.{lesser_is, passes_least}
-use Rattle.mended_frames.proofs.MendLemmas.{no_fault}
 
 -- ---- the least of the numbers that are next
 
@@ -269,7 +268,7 @@ module _ (given : Given) (knows : Knows) (carries : FrameCarries) (c : Config) (
       (λ (t : test_passes c past m g ≡ true).
       Found g (cond-true (test_passes c past m g) (Some g) (find (test_passes c past m) gs) t)
       (whole_has given knows c inputs m plan types (run_packets c inputs m) g.packets (run_has m l) own past
-      (no_fault (group_fault c past g m) t)))
+      (none_if_not (group_fault c past g m) t)))
       (λ (t : test_passes c past m g ≡ false). later t (rest t))
       (cases_Bool (test_passes c past m g))
     where

@@ -16,7 +16,7 @@ use Rattle.mode_adapt.specs.Blocks.{own_blocks, told_counts}
 use Rattle.record_laws.specs.Frames.{frame_of}
 use Rattle.open_group.specs.Written.{packets_view}
 use Rattle.gateway_core.specs.Packets.{frame_bodies, packets_of as run_packets_of}
-use Rattle.stream_laws.specs.SentPackets.{Sent, packets_of as sent_packets, frame_packets, AreNear}
+use Rattle.stream_laws.specs.SentPackets.{Sent, packets_of as sent_packets, frame_packets, AreApart}
 use Rattle.stream_laws.specs.SentFrames.{sent_frames, run_length}
 use Rattle.stream_laws.specs.Types.{TypesFit}
 use Rattle.feed_events.specs.Arrivals.{arrivals}
@@ -178,12 +178,33 @@ CameAreMade = (c : Config) (inputs : ℕ → List (List ℕ)) (k : ℕ) (feeds :
 abbrev pub frame_survival : ℕ → List Sent → List Bool → List Bool
 frame_survival n sent survival = map (λ p. p.1) (filter (λ p. p.0.frame == n) (zip sent survival))
 
--- Of the run's packets some survive, in their order and as they were sent. No loss is so long that keys come again:
--- successive ones are of frames less than 16 superframes apart. And in a frame fewer than 256 packets in a row are
--- lost before each that survives.
+-- what survives of frame n
+abbrev pub left_of : Config → (ℕ → List (List ℕ)) → List Bool → ℕ → List Packet
+left_of c inputs survival n = frame_packets n (items_where_true survival (sent_frames c inputs (run_length c inputs)))
+
+-- Something is left of frame m, and n is the next frame behind it of which something is.
+pub record IsNextLeft (left : ℕ → List Packet) (m n : ℕ) : Type 0 where
+  pub later : m < n
+  pub from : left m ≢ []
+  pub to : left n ≢ []
+  pub between : (b : ℕ) → m < b → b < n → left b ≡ []
+
+-- The next frame of which something is left has the superframe_idx and frame_idx of the one right behind the last such
+-- frame only if it is that one, or if a timestamp of it is left.
+abbrev pub NextIsTold : ℕ → (ℕ → List Packet) → Type 0
+NextIsTold frames left = (m n : ℕ) → IsNextLeft left m n → frame_key frames n ≡ frame_key frames (m + 1)
+    → (n ≡ m + 1) ⊎ (has_stamp (left n) ≡ true)
+
+-- Of the run's packets some survive, in their order and as they were sent. A loss may be as long as it will if its
+-- length shows: superframe_idx counts modulo 16. Let the last packet before it be of frame m, and the first one behind
+-- it of frame n. Its length does not show if n is another frame than m, but has its superframe_idx and frame_idx; if
+-- that first packet is a timestamp, which has no frame_idx, of another superframe than m's, but has its superframe_idx;
+-- or if n is another frame than m + 1, but has its superframe_idx and frame_idx, and no timestamp of n survives. And in
+-- a frame fewer than 256 packets in a row are lost before each that survives.
 pub record SurvivesOfRun (c : Config) (inputs : ℕ → List (List ℕ)) (survival : List Bool) : Type 0 where
   pub told : length survival ≡ length (sent_frames c inputs (run_length c inputs))
-  pub near : AreNear c.frames None (items_where_true survival (sent_frames c inputs (run_length c inputs)))
+  pub apart : AreApart c.frames None (items_where_true survival (sent_frames c inputs (run_length c inputs)))
+  pub next : NextIsTold c.frames (left_of c inputs survival)
   pub few : (n : ℕ) → n < run_length c inputs
       → FewLack 0 (frame_survival n (sent_frames c inputs (run_length c inputs)) survival)
 
@@ -219,10 +240,6 @@ WholeAmongDamaged = (c : Config) (inputs : ℕ → List (List ℕ)) (k whole : �
     → run_length c inputs ≤ MOST_FRAMES → whole < k → streams whole ≡ joined (pipe c.pid (run_packets_of c inputs))
     → ((i : ℕ) → i < k → i ≢ whole → IsDamagedRun c inputs (streams i))
     → mended_bytes c k streams ≡ joined (pipe c.pid (run_packets_of c inputs))
-
--- what survives of frame n
-abbrev pub left_of : Config → (ℕ → List (List ℕ)) → List Bool → ℕ → List Packet
-left_of c inputs survival n = frame_packets n (items_where_true survival (sent_frames c inputs (run_length c inputs)))
 
 -- Of frame n and of those before it so much survives that its number is known: a timestamp of one, and a packet of each
 -- behind that one.

@@ -5,7 +5,7 @@ ghost use Rattle.network_laws.specs.FeedsOfRun.{SurvivorAlone, NoneLostMended};
 
 use bb_frame::{bit_counts_law, scramble_twice_law};
 use cell_map::shape_law;
-use frame_groups::{map_test_law, named_law, next_law, parts_law};
+use frame_groups::{map_test_law, named_law, parts_law};
 use frame_weave::placed_law;
 use l1_signal::{conf_law, dyn_law, post_law, pre_law};
 use mended_frames::rise_law;
@@ -23,7 +23,6 @@ pub fn whole_feed_law()
     ensures stream { WholeStreamMended }
     ensures damaged { WholeAmongDamaged }
 {
-    next_law();
     sent_law();
     stream_law();
     named_law();
@@ -58,7 +57,6 @@ pub fn honest_feeds_law()
     ensures damaged { DamagedRunsMended }
 {
     placed_law();
-    next_law();
     named_law();
     group_law();
     sent_law();
@@ -92,7 +90,6 @@ pub fn woven_frames_law()
 {
     rise_law();
     placed_law();
-    next_law();
     named_law();
     group_law();
     sent_law();

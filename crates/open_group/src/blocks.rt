@@ -57,12 +57,12 @@ fn clear_pool(pool: &mut Pool, lists: u32)
 }
 
 impl HeldBlocks {
-    ghost use Rattle.std.specs.Prelude.{◌≡◌, ◌≢◌, ◌↔◌, ◌<◌, ◌≤◌, ◌+◌, ◌*◌, ◌%◌, ◌^◌, ◌++◌, ◌∷◌, [], true, false, Some};
-    ghost use Rattle.std.specs.Prelude.{min, length};
-    ghost use Rattle.std.specs.Prelude.{drop, replicate, slice_index_or, IsNone, IfSome, map, vec_len, slice_set};
+    ghost use Rattle.std.specs.Prelude.{◌≡◌, ◌↔◌, ◌<◌, ◌≤◌, ◌+◌, ◌*◌, ◌%◌, ◌^◌, ◌++◌, ◌∷◌, [], true, false, Some};
+    ghost use Rattle.std.specs.Prelude.{length};
+    ghost use Rattle.std.specs.Prelude.{drop, replicate, vec_len, slice_set};
     ghost use Rattle.std.specs.Prelude.{slice_index};
     ghost use Rattle.std.specs.Prelude.{IfOk, List, Bool, ℕ};
-    ghost use Rattle.linked_pool.specs.Pool.{State, list_at, chunks_for, used_chunks, appended};
+    ghost use Rattle.linked_pool.specs.Pool.{list_at, chunks_for, used_chunks, appended};
     ghost use Rattle.plp_config.specs.Capacity.{block_bytes};
     ghost use Rattle.t2mi_packet.specs.declared.packet.Packet.{Packet};
     ghost use Rattle.t2mi_packet.specs.declared.packet.Body.TheVariants.{Block};

@@ -4,7 +4,7 @@ ghost use Rattle.std.specs.Prelude.{Option, Some, None, length, take, drop};
 ghost use Rattle.plp_config.specs.Emission.{emission};
 ghost use Rattle.site_frame.specs.Whole.{record_bytes};
 ghost use Rattle.frame_groups.specs.Groups.{Group};
-ghost use Rattle.frame_groups.specs.Modulated.{Numbered, FrameRecord};
+ghost use Rattle.frame_groups.specs.Modulated.{Numbered};
 ghost use Rattle.frame_groups.specs.Records.{record_of};
 ghost use Rattle.frame_groups.specs.Tests.{group_fault};
 ghost use Rattle.open_group.specs.FrameBytes.{is_frame, bytes_left, most_left, status_of};

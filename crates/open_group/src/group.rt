@@ -49,21 +49,16 @@ pub struct PooledGroup<'p> {
 }
 
 impl<'p> PooledGroup<'p> {
-    ghost use Rattle.std.specs.Prelude.{◌≡◌, ◌≢◌, ◌↔◌, ◌<◌, ◌^◌, ◌++◌, ◌∷◌, [], ℕ, List, Option, Some, None, true};
-    ghost use Rattle.std.specs.Prelude.{IfOk, IfSome};
-    ghost use Rattle.std.specs.Prelude.{IsNone, is_some, length, map, drop, slice_get, slice_index_or};
-    ghost use Rattle.std.specs.Option.{option_copied};
+    ghost use Rattle.std.specs.Prelude.{◌≡◌, ◌<◌, ◌++◌, ◌∷◌, [], ℕ, List, Option, Some, None, true};
+    ghost use Rattle.std.specs.Prelude.{IfOk};
+    ghost use Rattle.std.specs.Prelude.{is_some, length};
     ghost use Rattle.t2mi_packet.specs.T2miPacket.{Fits};
     ghost use Rattle.t2mi_packet.specs.declared.packet.Packet.{Packet};
-    ghost use Rattle.frame_groups.specs.Grouping.{one_packet, one_more, key_of};
     ghost use Rattle.frame_groups.specs.Groups.{Group};
     ghost use Rattle.frame_groups.specs.Modulated.{Numbered};
     ghost use Rattle.frame_groups.specs.Sequenced.{IsAbove, past_of};
-    ghost use Rattle.frame_groups.specs.Carried.{L1Parts, right_blocks, l1s_of};
-    ghost use Rattle.frame_groups.specs.Tests.{first_shape, named_frame, group_fault};
     ghost use Rattle.open_group.specs.Holds.{HoldsPackets, Holds};
     ghost use Rattle.open_group.specs.HoldsPast.{HoldsPast};
-    ghost use Rattle.open_group.specs.Sent.{held_bytes};
 
     /// A group in a network of this plan: none yet. It takes all the memory that a group needs.
     pub fn open(alloc: Global, plan: &'p Plan) -> Result<PooledGroup<'p>, OutOfMemory>

@@ -38,7 +38,7 @@ pub struct HeldL1 {
 impl HeldL1 {
     ghost use Rattle.std.specs.Prelude.{◌≡◌, ◌&&◌, ◌+◌, ◌≤◌, ◌∷◌, [], true, false, Bool, Option, Some, None, length};
     ghost use Rattle.std.specs.Prelude.{IfOk};
-    ghost use Rattle.std.specs.Prelude.{IfSome, if◌then◌else◌};
+    ghost use Rattle.std.specs.Prelude.{IfSome};
     ghost use Rattle.std.specs.Option.{option_and_then, option_copied, option_map_or};
     ghost use Rattle.plp_config.specs.declared.config.Config.{Config};
     ghost use Rattle.frame_groups.specs.Carried.{L1Parts};

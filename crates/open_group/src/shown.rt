@@ -1,5 +1,5 @@
 // What a group shows of the frame that its packets make.
-ghost use Rattle.std.specs.Prelude.{◌≡◌, ◌≤◌, ℕ, List, Some, true, length};
+ghost use Rattle.std.specs.Prelude.{◌≡◌, ◌≤◌, List, Some, true, length};
 ghost use Rattle.l1_signal.specs.declared.lengths.TheConstants.{MOST_DYN_BITS};
 ghost use Rattle.open_group.specs.RecordBytes.{AreShort};
 ghost use Rattle.frame_groups.specs.Groups.{Group};

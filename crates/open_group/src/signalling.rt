@@ -1,10 +1,9 @@
 // The front of a frame's record: its head, and its L1 signalling.
-ghost use Rattle.std.specs.Prelude.{◌≡◌, ◌≤◌, ◌+◌, ◌*◌, ◌<◌, ◌^◌, ◌++◌, ◌∷◌, ℕ, Bool, true, List, [], length, Some};
+ghost use Rattle.std.specs.Prelude.{◌≡◌, ◌≤◌, ◌+◌, ◌*◌, ◌<◌, ◌++◌, ◌∷◌, Bool, true, List, [], length};
 ghost use Rattle.terms.specs.Bits.{byte_at, bytes_for, bytes_of};
 ghost use Rattle.byteorder.specs.Endian.{big_bytes};
 ghost use Rattle.bit_slice.specs.Sink.{Puts};
 ghost use Rattle.l1_signal.specs.Laws.{crc_behind};
-ghost use Rattle.l1_signal.specs.L1Pre.{pre_bits};
 ghost use Rattle.l1_signal.specs.L1Of.{pre_of, conf_of};
 ghost use Rattle.record_laws.specs.Frames.{l1_pre};
 ghost use Rattle.l1_signal.specs.L1Configurable.{conf_bits};

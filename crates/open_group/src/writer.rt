@@ -3,7 +3,6 @@ ghost use Rattle.std.specs.Prelude.{◌≡◌, ◌<◌, ◌≤◌, ◌+◌, ◌-
 ghost use Rattle.byteorder.specs.Endian.{big_bytes};
 ghost use Rattle.linked_pool.specs.Pool.{popped};
 ghost use Rattle.plp_config.specs.declared.config.Config.{Config};
-ghost use Rattle.cell_map.specs.CellMap.{Passes};
 ghost use Rattle.scheduler.specs.Shape.{FrameShape};
 ghost use Rattle.open_group.specs.Steps.{step_bytes, HasMap, HasLists, IsStep};
 ghost use Rattle.site_frame.specs.Words.{words};
@@ -224,7 +223,6 @@ pub struct Writer {
 impl Writer {
     ghost use Rattle.std.specs.Prelude.{◌≡◌, ◌<◌, ◌≤◌, ◌++◌, ◌⊎◌, ◌↔◌, ℕ, List, [], length, take, drop, IfOk, true};
     ghost use Rattle.std.specs.Prelude.{false};
-    ghost use Rattle.cell_map.specs.CellMap.{Passes};
     ghost use Rattle.plp_config.specs.declared.config.Config.{Config};
     ghost use Rattle.scheduler.specs.Shape.{FrameShape};
     ghost use Rattle.l1_signal.specs.L1Configurable.{conf_bits};

@@ -1,5 +1,5 @@
 // Bandwidths, and the units of time that belong to each.
-ghost use Rattle.std.specs.Prelude.{◌≡◌, ◌<◌, ◌≤◌};
+ghost use Rattle.std.specs.Prelude.{◌≡◌, ◌≤◌};
 ghost use Rattle.plp_config.specs.Tables.{bw, subseconds_per_second, subseconds_per_tick, greatest_ticks};
 
 /// The bandwidth of the channel (EN 302 755, clause 9.5), in the order of bw.

@@ -4,7 +4,7 @@ ghost use Rattle.std.specs.Prelude.{IfErr};
 ghost use Rattle.plp_config.specs.FirstFailure.{FindsFailure};
 ghost use Rattle.plp_config.specs.Plps.{plp_at};
 ghost use Rattle.plp_config.specs.Rules.{AllRules};
-ghost use Rattle.plp_config.specs.Capacity.{block_bytes, field_bytes, block_cells, up_bytes, capacity, superframe_room};
+ghost use Rattle.plp_config.specs.Capacity.{block_cells, up_bytes, capacity, superframe_room};
 ghost use Rattle.plp_config.specs.Capacity.{cell_need};
 ghost use Rattle.plp_config.specs.Capacity.{block_parts, block_room, longest_rest, need_of, PlaceFits, AllTests, Lacks};
 ghost use Rattle.plp_config.specs.Capacity.{Throughput};

@@ -1,5 +1,5 @@
 // One physical layer pipe, and the tables of its blocks.
-ghost use Rattle.std.specs.Prelude.{◌≡◌, ◌<◌, ◌≤◌};
+ghost use Rattle.std.specs.Prelude.{◌≡◌, ◌≤◌};
 ghost use Rattle.plp_config.specs.Plps.{type_number};
 ghost use Rattle.plp_config.specs.Tables.{plp_cod, plp_mod, plp_fec_type, info_bits, cells_per_block};
 

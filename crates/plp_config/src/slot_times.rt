@@ -1,8 +1,8 @@
 // The slots of a PLP, and which of them an interleaving frame carries (EN 302 755, clause 5.1 and annex C).
 ghost use Rattle.std.specs.Prelude.{◌≡◌, ◌-◌, ◌*◌, ◌%◌, ◌^◌, ◌<◌, ◌≤◌, IfSome};
 ghost use Rattle.std.specs.Int.{div_ceil};
-ghost use Rattle.plp_config.specs.SlotTime.{slot_start, slot_count, released_count, window_slots};
-ghost use Rattle.plp_config.specs.SlotTime.{tick_of_iscr, delay_ticks};
+ghost use Rattle.plp_config.specs.SlotTime.{slot_start, slot_count, window_slots};
+ghost use Rattle.plp_config.specs.SlotTime.{tick_of_iscr};
 
 use crate::laws::{iscr_law, slot_time_law};
 use crate::moment::{ISCR_TICKS, MOST_FRAMES};

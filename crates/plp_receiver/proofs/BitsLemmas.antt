@@ -1,11 +1,11 @@
 -- The CRC_32 behind L1-post, bit by bit.
-use Rattle.std.proofs.Common.{◌≡◌, ℕ, ◌+◌, ◌-◌, ◌≤◌, Bool, true, false, List, [], ◌∷◌, ◌++◌, length, take, drop, refl}
+use Rattle.std.proofs.Common.{◌≡◌, ℕ, ◌+◌, ◌-◌, ◌≤◌, Bool, true, List, ◌++◌, length, take, drop}
 use Rattle.std.proofs.Common.{ap, sym}
 use Rattle.std.proofs.Common.{subst, ◌∙◌, arith}
 use Rattle.std.specs.Prelude.{Result, Ok, Err, OnOk, IfErr, is_ok}
 use Rattle.std.specs.Bool.{beq}
-use Rattle.std.specs.Cmp.Lexicographic.{pointwise}
-use Rattle.std.proofs.lemmas.Bool.{true≢false}
+use Rattle.std.specs.Cmp.{booleans_Decides}
+use Rattle.std.specs.Cmp.Lexicographic.{pointwise, pointwise_decides}
 use Rattle.std.proofs.lemmas.List.{take-append-drop, take_all, length-drop}
 use Rattle.terms.specs.Bits.{field}
 use Rattle.terms.proofs.BitLemmas.{field-number_at}
@@ -14,23 +14,6 @@ use Rattle.l1_signal.specs.CrcField.{post_front, EndsInCrc, RefusesPost}
 use Rattle.l1_signal.specs.Laws.{crc_behind, EndsInItsCrc}
 use Rattle.l1_signal.specs.declared.fault.L1Fault.{L1Fault}
 use Rattle.l1_signal.specs.declared.fault.L1Fault.TheVariants.{Short, Crc, Unsupported, Size, OutOfMemory}
-
-pub bits_same : (xs ys : List Bool) → pointwise beq xs ys ≡ true → xs ≡ ys
-bits_same [] [] e = refl
-bits_same [] (y ∷ ys) e = absurd (true≢false (sym e))
-bits_same (x ∷ xs) [] e = absurd (true≢false (sym e))
-bits_same (true ∷ xs) (true ∷ ys) e = ap (λ (l : List Bool). true ∷ l) (bits_same xs ys e)
-bits_same (true ∷ xs) (false ∷ ys) e = absurd (true≢false (sym e))
-bits_same (false ∷ xs) (true ∷ ys) e = absurd (true≢false (sym e))
-bits_same (false ∷ xs) (false ∷ ys) e = ap (λ (l : List Bool). false ∷ l) (bits_same xs ys e)
-
-pub bits_equal : (xs ys : List Bool) → xs ≡ ys → pointwise beq xs ys ≡ true
-bits_equal xs ys e = subst (λ (zs : List Bool). pointwise beq xs zs ≡ true) e (go xs)
-  where
-    go : (xs : List Bool) → pointwise beq xs xs ≡ true
-    go [] = refl
-    go (true ∷ xs) = go xs
-    go (false ∷ xs) = go xs
 
 abbrev pub crc_whole : List Bool → List Bool
 crc_whole post = crc_behind true (post_front post)
@@ -47,13 +30,17 @@ ends_whole post e =
     ∙ ap (λ (b : List Bool). take at post ++ b) (sym (take_all 32 back size) ∙ sym (field-number_at post at 32 inside)
     ∙ ap (field 32) e.1)
 
+decides_whole : (post : List Bool) → (pointwise beq post (crc_whole post) ≡ true → post ≡ crc_whole post)
+    × (post ≡ crc_whole post → pointwise beq post (crc_whole post) ≡ true)
+decides_whole post = pointwise_decides booleans_Decides post (crc_whole post)
+
 pub crc_told : EndsInItsCrc → (post : List Bool) (r : Result (Unit {0}) L1Fault) → OnOk r (EndsInCrc post)
     → IfErr r (RefusesPost post)
     → is_ok r ≡ pointwise beq post (crc_whole post)
-crc_told own post (Ok u) ok err = sym (bits_equal post (crc_whole post) (ends_whole post ok))
+crc_told own post (Ok u) ok err = sym ((decides_whole post).1 (ends_whole post ok))
 crc_told own post (Err fault) ok err =
     bool_cases (pointwise beq post (crc_whole post))
-    (λ e. absurd (no fault err (subst EndsInCrc (sym (bits_same post (crc_whole post) e)) (own (post_front post))))) sym
+    (λ e. absurd (no fault err (subst EndsInCrc (sym ((decides_whole post).0 e)) (own (post_front post))))) sym
   where
     no : (fault : L1Fault) → RefusesPost post fault → ¬ (EndsInCrc post)
     no (Short left) r e = let a = r.0 in let b = e.0 in omega (arith, a, b)

@@ -96,7 +96,7 @@ fn is_idle(len: usize, mark: Mark) -> bool
 }
 
 impl Assembler {
-    ghost use Rattle.std.specs.Prelude.{◌≡◌, ◌^◌, ◌-◌, ◌<◌, ◌≤◌, ◌++◌, ◌∷◌, [], length, slice_index, ℕ, List, Some};
+    ghost use Rattle.std.specs.Prelude.{◌≡◌, ◌^◌, ◌-◌, ◌<◌, ◌≤◌, ◌++◌, ◌∷◌, [], length, ℕ, List, Some};
     ghost use Rattle.std.specs.Prelude.{IfSome};
     ghost use Rattle.std.specs.Prelude.{if◌then◌else◌};
     ghost use Rattle.plp_receiver.specs.declared.slot_rule.SlotRule.{SlotRule};

@@ -1,10 +1,10 @@
 // Taking the blocks of an epoch.
-ghost use Rattle.std.specs.Prelude.{◌≡◌, ◌^◌, ◌+◌, ◌-◌, ◌%◌, ◌<◌, ◌≤◌, ◌++◌, ◌==◌, ◌∷◌, [], length, take, drop, min};
+ghost use Rattle.std.specs.Prelude.{◌≡◌, ◌+◌, ◌-◌, ◌%◌, ◌<◌, ◌≤◌, ◌++◌, ◌==◌, length, min};
 ghost use Rattle.std.specs.Prelude.{List, ℕ};
-ghost use Rattle.std.specs.Prelude.{IfSome, Some, Option, if◌then◌else◌};
+ghost use Rattle.std.specs.Prelude.{Some, Option, if◌then◌else◌};
 ghost use Rattle.plp_receiver.specs.declared.slot_rule.SlotRule.{SlotRule};
 ghost use Rattle.plp_config.specs.declared.moment.TheConstants.{MOST_FRAMES};
-ghost use Rattle.plp_receiver.specs.Strings.{Item, items_from, first_mark, block_items};
+ghost use Rattle.plp_receiver.specs.Strings.{Item, first_mark, block_items};
 ghost use Rattle.plp_receiver.specs.declared.mark.Mark.TheVariants.{Next};
 ghost use Rattle.plp_receiver.specs.Pieces.{piece_items};
 ghost use Rattle.plp_receiver.specs.Assembles.{IsEpoch};

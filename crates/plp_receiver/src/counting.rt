@@ -1,5 +1,5 @@
 // Which user packets count.
-ghost use Rattle.std.specs.Prelude.{◌≡◌, ◌^◌, ◌<◌, ◌&&◌, ◌+◌, ◌*◌, ◌-◌, nat_le, nat_lt};
+ghost use Rattle.std.specs.Prelude.{◌≡◌, ◌^◌, ◌<◌, ◌+◌, ◌-◌};
 ghost use Rattle.plp_config.specs.SlotTimes.{delay_of, over_by};
 ghost use Rattle.plp_config.specs.declared.moment.TheConstants.{MOST_FRAMES};
 ghost use Rattle.plp_receiver.specs.Sound.{IsSound};

@@ -1,5 +1,5 @@
 // Which records of frames are readable (EN 302 755, clauses 5 to 8).
-ghost use Rattle.std.specs.Prelude.{◌≡◌, ◌&&◌, ◌-◌, ◌<◌, ◌≤◌, ◌^◌, ◌==◌, true, Some, None, List, length, take};
+ghost use Rattle.std.specs.Prelude.{◌≡◌, ◌&&◌, ◌-◌, ◌<◌, ◌≤◌, ◌==◌, true, Some, None, List, length, take};
 ghost use Rattle.std.specs.Prelude.{replicate, ◌++◌};
 ghost use Rattle.std.specs.Prelude.{if◌then◌else◌};
 ghost use Rattle.std.specs.Bool.{beq};

@@ -4,7 +4,7 @@ use Rattle.std.proofs.Common.{length}
 use Rattle.std.proofs.Common.{take, map, set, get_or, ap, sym, ◌∙◌, arith, string_bytes, add_assoc}
 use Rattle.std.proofs.lemmas.List.{take_more, length-map}
 use Rattle.std.specs.Str.{bytes_eq}
-use Rattle.ports.specs.declared.memory.Handle.{Handle}
+use Rattle.ports.specs.declared.memory_files.Handle.{Handle}
 use Rattle.ports.specs.MemoryDesk.{given_by}
 use Rattle.ports.proofs.HandleLemmas.{name_of, place_of, map-set_moved, map-set_stayed}
 

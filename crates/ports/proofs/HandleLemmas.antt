@@ -7,7 +7,7 @@ use Rattle.std.proofs.lemmas.List.{drop-drop}
 use Rattle.std.proofs.lemmas.List.{length-map, length-drop, length-take-le}
 use Rattle.std.proofs.Math.Seq.{map-set_same, take-append_seam}
 use Rattle.ports.specs.declared.counts.Counts.{Counts}
-use Rattle.ports.specs.declared.memory.Handle.{Handle}
+use Rattle.ports.specs.declared.memory_files.Handle.{Handle}
 use Rattle.ports.specs.Desk.{Files, State, bytes_of, Reads}
 
 -- one value moved by n

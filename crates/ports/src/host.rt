@@ -34,9 +34,8 @@ struct Handle<F> {
 
 /// A desk over real files and standard output. It tells nothing of what they hold.
 ///
-/// That reads and writes of the runtime do what they say is trusted. A text is said by one write,
-/// with no buffer, so that a full device or a closed pipe is a fault of that very call. A file that
-/// was opened is not created, under whatever name.
+/// That reads and writes of the runtime do what they say is trusted. A text is said by one write, with no buffer: so a
+/// full device or a closed pipe is a fault of that very call. No file that was opened is created, under whatever name.
 #[derive(Drop)]
 pub struct HostDesk<R: Files + Print + Drop> {
     rt: R,

@@ -97,7 +97,7 @@ impl<'p> Ending for ReceiverMachine<'p> {
 }
 
 impl<'p> ReceiverMachine<'p> {
-    ghost use Rattle.std.specs.Prelude.{List, [], IfOk};
+    ghost use Rattle.std.specs.Prelude.{[], IfOk};
     ghost use Rattle.site_frame.specs.FeedStandsFor.{coming_of, count_of, came_of};
     ghost use Rattle.receive_run.specs.AsMachine.{Becomes, IsReady, IsLookedAt, slot_by};
     ghost use Rattle.receive_run.specs.NextStep.{refusal_of};
@@ -189,8 +189,7 @@ impl<'p> ReceiverMachine<'p> {
 }
 
 impl<'p> Machine for ReceiverMachine<'p> {
-    ghost use Rattle.std.specs.Prelude.{◌+◌, ◌++◌, ◌∷◌, List, []};
-    ghost use Rattle.file_run.specs.Events.{Event, Fed, Ended, Gave};
+    ghost use Rattle.std.specs.Prelude.{◌+◌, []};
     ghost use Rattle.plp_receiver.specs.JointStandsFor.{due_of};
     ghost use Rattle.receive_run.specs.AsMachine.{Becomes, next_of, reach_of};
 

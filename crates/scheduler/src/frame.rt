@@ -1,6 +1,5 @@
 // The shape of a frame, from the numbers of its blocks.
-ghost use Rattle.std.specs.Prelude.{◌≡◌, ◌<◌, ◌≤◌, ◌+◌, length};
-ghost use Rattle.plp_config.specs.Capacity.{IsPlan};
+ghost use Rattle.std.specs.Prelude.{◌≡◌, ◌<◌, ◌+◌, length};
 ghost use Rattle.scheduler.specs.Laws.{CountsFit};
 ghost use Rattle.scheduler.specs.Shape.{cells_of, type2_start_of, interval_of, start_of, shape_of};
 ghost use Rattle.scheduler.specs.Steps.{AreBefore, AreNext};

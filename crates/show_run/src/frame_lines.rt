@@ -53,10 +53,8 @@ impl FrameLines {
 }
 
 impl Machine for FrameLines {
-    ghost use Rattle.std.specs.Prelude.{◌≡◌, ◌<◌, ◌≤◌, ◌+◌, ◌++◌, ◌∷◌, ℕ, List, [], length, take};
+    ghost use Rattle.std.specs.Prelude.{◌≡◌, ◌+◌, ℕ, List, []};
     ghost use Rattle.file_run.specs.declared.input.TheConstants.{BUFFER};
-    ghost use Rattle.file_run.specs.Events.{Event, Fed, Ended, Gave};
-    ghost use Rattle.file_run.specs.Steps.{Suffices, FallsShort, HasRoom, IsWanted};
     ghost use Rattle.site_frame.specs.FeedStandsFor.{came_of};
     ghost use Rattle.show_run.specs.FrameLines.{Comes, next_of, left_of};
 

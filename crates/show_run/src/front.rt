@@ -1,5 +1,5 @@
 // The packet at the front of what was read.
-ghost use Rattle.std.specs.Prelude.{◌≡◌, ◌<◌, ◌≤◌, ◌+◌, ◌^◌, length, IfOk, IfErr};
+ghost use Rattle.std.specs.Prelude.{◌<◌, ◌≤◌, ◌+◌, ◌^◌, length, IfOk, IfErr};
 ghost use Rattle.show_run.specs.Front.{IsFront, RefusesFront, IsLacking};
 ghost use Rattle.t2mi_packet.specs.declared.reading.TheConstants.{LARGEST};
 

@@ -79,10 +79,8 @@ impl PacketLines {
 }
 
 impl Machine for PacketLines {
-    ghost use Rattle.std.specs.Prelude.{◌≡◌, ◌<◌, ◌≤◌, ◌+◌, ◌++◌, ◌∷◌, ℕ, List, [], length, take};
+    ghost use Rattle.std.specs.Prelude.{◌≡◌, ◌<◌, ◌≤◌, ◌+◌, length};
     ghost use Rattle.file_run.specs.declared.input.TheConstants.{BUFFER};
-    ghost use Rattle.file_run.specs.Events.{Event, Fed, Ended, Gave};
-    ghost use Rattle.file_run.specs.Steps.{Suffices, FallsShort, HasRoom, IsWanted};
     ghost use Rattle.show_run.specs.PacketLines.{Comes, next_of, left_of};
 
     ghost Becomes = { Comes };

@@ -1,7 +1,6 @@
 // The line that is said of a record.
-ghost use Rattle.std.specs.Prelude.{◌≡◌, ◌≤◌, ◌+◌, ◌++◌, ℕ, codes, length, IfOk, IfErr};
+ghost use Rattle.std.specs.Prelude.{◌≡◌, ◌≤◌, ◌+◌, ◌++◌, codes, length, IfOk, IfErr};
 ghost use Rattle.std.specs.Fmt.{decimal};
-ghost use Rattle.file_run.specs.declared.line.TheConstants.{ROOM};
 ghost use Rattle.site_frame.specs.Whole.{Refuses};
 ghost use Rattle.site_frame.specs.FeedStandsFor.{coming_of, count_of, record_of};
 ghost use Rattle.site_frame.specs.declared.coming.Coming.TheVariants.{Whole};

@@ -222,8 +222,7 @@ impl T2miLines {
 impl Machine for T2miLines {
     ghost use Rattle.std.specs.Prelude.{◌≡◌, ◌<◌, ◌≤◌, ◌+◌, ◌++◌, ◌∷◌, ℕ, List, [], length, take};
     ghost use Rattle.file_run.specs.declared.input.TheConstants.{BUFFER};
-    ghost use Rattle.file_run.specs.Events.{Event, Fed, Ended, Gave};
-    ghost use Rattle.file_run.specs.Steps.{Suffices, FallsShort, HasRoom, IsWanted};
+    ghost use Rattle.file_run.specs.Events.{Event, Fed, Gave};
     ghost use Rattle.show_run.specs.T2miLines.{Comes, next_of, left_of};
 
     ghost Becomes = { Comes };

@@ -1,6 +1,7 @@
 // What is said for people, on standard error: what was wrong, where, and what to do.
 use crate::config_place::{config_again, is_data, plp_line, text_of};
 use crate::help::{COMMANDS, may_mean, meant_by, why_no_command};
+use crate::named_file::file_of;
 use crate::pids::say_pids;
 use config_text::{TextFault, TextWhy};
 use desk_watch::{Shown, Told};
@@ -298,6 +299,31 @@ fn say_wrong_inputs(
     }
 }
 
+// Says which test of the capacity a configuration fails, and for which PLP.
+fn say_capacity(
+    rt: &(impl Eprint + Files + AllocGlobal),
+    name: &str,
+    outcome: Outcome,
+) -> io::Result<()> {
+    let Outcome::CapacityRefused {
+        test,
+        plp,
+        need,
+        have,
+    } = outcome
+    else {
+        return Ok(());
+    };
+    let fault = CapacityFault {
+        test,
+        plp,
+        need,
+        have,
+    };
+    eprintln!(rt; "{}: {fault}; mend the configuration", Shown(name))?;
+    say_plp(rt, name, plp)
+}
+
 // Says it, as far as standard error takes it: nobody is left to tell of a failure there.
 fn say(
     rt: &(impl Eprint + Files + AllocGlobal),
@@ -318,21 +344,7 @@ fn say(
         Outcome::Usage => say_usage(rt, program, words),
         Outcome::WrongInputs { plps, inputs } => say_wrong_inputs(rt, request, file, plps, inputs),
         Outcome::ConfigRefused { cause } => say_cause(rt, name, cause),
-        Outcome::CapacityRefused {
-            test,
-            plp,
-            need,
-            have,
-        } => {
-            let fault = CapacityFault {
-                test,
-                plp,
-                need,
-                have,
-            };
-            eprintln!(rt; "{file}: {fault}; mend the configuration")?;
-            say_plp(rt, name, plp)
-        }
+        Outcome::CapacityRefused { .. } => say_capacity(rt, name, outcome),
         Outcome::InputRefused { packet, .. } => eprintln!(rt;
             "{file}: packet {packet}, counted from 0, does not begin with the sync byte 0x47, or the file ends inside it; OUT holds the units of the frames before; mend the file"
         ),
@@ -352,61 +364,6 @@ fn say(
         Outcome::TrialFault => eprintln!(rt;
             "a run inside the trial ended otherwise than it must; tell the maintainers the words of the command"
         ),
-    }
-}
-
-// The file that an outcome of a request speaks of.
-fn file_of(request: Option<Request<'_>>, outcome: Outcome) -> &str {
-    match (request, outcome) {
-        (
-            Some(Request::Gateway { ins, .. } | Request::CommonGateway { ins, .. }),
-            Outcome::InputRefused { input, .. },
-        ) => ins
-            .get(usize::from(input))
-            .map_or("an IN", |word| word.as_str()),
-        (
-            Some(Request::Gateway { .. } | Request::CommonGateway { .. } | Request::Mend { .. }),
-            Outcome::TooLong { .. },
-        ) => "an IN",
-        (Some(Request::Modulate { input, .. }), Outcome::TooLong { .. } | Outcome::NoSuperframe) =>
-            input,
-        (
-            Some(Request::Receive { input, .. } | Request::CommonReceive { input, .. }),
-            Outcome::TooLong { .. } | Outcome::RecordRefused { .. },
-        ) => input,
-        (Some(Request::Merge { .. } | Request::Compare { .. }), Outcome::TooLong { .. }) =>
-            "A or B",
-        (Some(Request::Swap { input, .. }), Outcome::InputRefused { .. }) => input,
-        (
-            Some(Request::Swap { t2mi, .. }),
-            Outcome::NoSuperframe | Outcome::TooLong { count: MOST_FRAMES },
-        ) => t2mi,
-        (Some(Request::Swap { .. }), Outcome::TooLong { .. }) => "T2MI or IN",
-        (
-            Some(
-                Request::Gateway { config, .. }
-                | Request::CommonGateway { config, .. }
-                | Request::Modulate { config, .. }
-                | Request::Receive { config, .. }
-                | Request::CommonReceive { config, .. }
-                | Request::Merge { config, .. }
-                | Request::Mend { config, .. }
-                | Request::Swap { config, .. }
-                | Request::Compare { config, .. }
-                | Request::Plan { config },
-            ),
-            _,
-        ) => config,
-        (
-            Some(
-                Request::ShowPackets { file }
-                | Request::ShowT2mi { file }
-                | Request::ShowFrames { file }
-                | Request::ShowConfig { file },
-            ),
-            _,
-        ) => file,
-        (Some(Request::Trial { .. }) | None, _) => "",
     }
 }
 

@@ -11,6 +11,7 @@ mod config_place;
 mod counts;
 mod front;
 mod help;
+mod named_file;
 mod pids;
 #[cfg(test)]
 mod tests;

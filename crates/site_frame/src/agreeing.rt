@@ -3,7 +3,6 @@ ghost use Rattle.std.specs.Prelude.{ℕ, ◌≡◌, ◌↔◌, ◌+◌, ◌*◌,
 ghost use Rattle.std.specs.FinMap.{get};
 ghost use Rattle.byteorder.specs.Endian.{big_number};
 ghost use Rattle.cell_map.specs.CellMap.{Passes, cell_map};
-ghost use Rattle.site_frame.specs.Reading.{cells_in};
 
 use crate::again::word_at;
 use crate::cells::Cells;

@@ -1,5 +1,5 @@
 // The beginning of a record.
-ghost use Rattle.std.specs.Prelude.{◌≡◌, ◌≢◌, ◌<◌, ◌≤◌, ◌+◌, [], false, length, vec_len, vec_capacity};
+ghost use Rattle.std.specs.Prelude.{◌≡◌, ◌≢◌, ◌<◌, ◌≤◌, ◌+◌, [], false, vec_len, vec_capacity};
 ghost use Rattle.site_frame.specs.Whole.{Follow};
 ghost use Rattle.site_frame.specs.Behind.{Behind, greatest_record};
 ghost use Rattle.site_frame.specs.declared.coming.Coming.TheVariants.{Head, Rest, Whole, NoRoom, Finished};

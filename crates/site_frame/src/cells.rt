@@ -1,5 +1,5 @@
 // The cells of a record.
-ghost use Rattle.std.specs.Prelude.{◌≡◌, ◌*◌, ◌≤◌, ◌^◌, ◌<◌, length, drop, slice_get};
+ghost use Rattle.std.specs.Prelude.{◌≡◌, ◌*◌, ◌≤◌, ◌<◌, length, drop, slice_get};
 ghost use Rattle.byteorder.specs.Endian.{big_number};
 ghost use Rattle.site_frame.specs.Reading.{cells_in};
 ghost use Rattle.site_frame.specs.Record.{cell_of};

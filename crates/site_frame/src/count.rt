@@ -18,7 +18,7 @@ pub struct RecordCount {
 }
 
 impl RecordCount {
-    ghost use Rattle.std.specs.Prelude.{List, ℕ, [], take};
+    ghost use Rattle.std.specs.Prelude.{[], take};
     ghost use Rattle.site_frame.specs.RecordCount.{RecordCountStandsFor, CountsOn, heads_of};
 
     /// Nothing came.

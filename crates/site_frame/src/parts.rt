@@ -1,5 +1,5 @@
 // The rest of a frame's record, part by part.
-ghost use Rattle.std.specs.Prelude.{◌≡◌, ◌<◌, ◌^◌, length};
+ghost use Rattle.std.specs.Prelude.{◌<◌, ◌^◌, length};
 ghost use Rattle.site_frame.specs.Reading.{Gives};
 ghost use Rattle.site_frame.specs.Rest.{parts_in};
 

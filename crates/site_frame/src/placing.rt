@@ -1,5 +1,5 @@
 // Which frame a record is of.
-ghost use Rattle.std.specs.Prelude.{◌≡◌, ℕ, ◌+◌, ◌*◌, ◌<◌, ◌≤◌, ◌^◌, IfSome, IfNone, IfOk, IfErr, Ok, Err};
+ghost use Rattle.std.specs.Prelude.{◌≡◌, ℕ, ◌+◌, ◌*◌, ◌<◌, IfSome, IfNone, IfOk, IfErr, Ok, Err};
 ghost use Rattle.site_frame.specs.declared.fault.RecordWhy.{RecordWhy};
 ghost use Rattle.plp_config.specs.Emission.{FindsFrame};
 ghost use Rattle.site_frame.specs.Placing.{IsFrameOf, IsOffGrid, IsPlaced, RefusesPlace};

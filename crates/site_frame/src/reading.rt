@@ -1,10 +1,10 @@
 // Reading a record.
 ghost use Rattle.std.specs.Prelude.{◌≡◌, ◌↔◌, ℕ, ◌+◌, ◌-◌, ◌<◌, ◌≤◌, ◌^◌, List, ◌++◌, length, IsTrue, IfOk, IfErr};
-ghost use Rattle.std.specs.Prelude.{IfSome, Ok};
+ghost use Rattle.std.specs.Prelude.{Ok};
 ghost use Rattle.std.specs.Prelude.{Err, take};
 ghost use Rattle.site_frame.specs.Record.{head_len};
 ghost use Rattle.site_frame.specs.Reading.{Gives};
-ghost use Rattle.site_frame.specs.Whole.{HasHead, HasKind, view_in, told_moment, IsRead, IsRefused, BeginsWith};
+ghost use Rattle.site_frame.specs.Whole.{HasHead, view_in, told_moment, IsRead, IsRefused, BeginsWith};
 ghost use Rattle.site_frame.specs.Whole.{Refuses, Follow};
 ghost use Rattle.site_frame.specs.Whole.{RefusesHead, IsRight, IsRightAlone, IsWrong};
 ghost use Rattle.site_frame.specs.declared.fault.RecordWhy.{RecordWhy};

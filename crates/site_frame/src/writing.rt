@@ -1,6 +1,5 @@
 // Writing the head of a record.
-ghost use Rattle.std.specs.Prelude.{◌≡◌, ◌++◌, ◌∷◌, [], length, drop};
-ghost use Rattle.byteorder.specs.Endian.{big_bytes};
+ghost use Rattle.std.specs.Prelude.{◌≡◌, length};
 ghost use Rattle.site_frame.specs.Record.{frame_kind, muted_kind, head_bytes, head_numbers};
 
 use crate::head::{FRAME, HEAD, MAGIC, MUTED};

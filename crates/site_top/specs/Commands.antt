@@ -9,7 +9,8 @@ use Rattle.std.specs.Option.{option_map, option_and_then}
 use Rattle.std.specs.Str.{bytes_eq}
 use Rattle.common_plp.specs.Sharing.{Sharing, Apart, Joint}
 use Rattle.site_top.specs.declared.request.Request.{Request}
-use Rattle.site_top.specs.declared.request.TheConstants.{FEWEST_TRIED, MOST_TRIED, MOST_FEEDS}
+use Rattle.ports.specs.declared.note.TheConstants.{MOST_FEEDS}
+use Rattle.site_top.specs.declared.command_line.TheConstants.{FEWEST_TRIED, MOST_TRIED}
 use Rattle.site_top.specs.declared.request.Request.TheVariants as asked
 
 -- a command, with the names of its files

@@ -56,7 +56,7 @@ pub record ComesOfMended (c : Config) (k : ℕ) (files : ℕ → List ℕ) (byte
   -- under the number that it was made for, and each other number muted.
   pub comes : modulated_records c bytes ≡ mended_records c (made_of_all c k files)
   -- Of damaged streams of one run each frame that is made is the run's frame of its number, however long a stream was
-  -- out behind an idle unit, and without one for less than 16 superframes.
+  -- out, if the length of each loss without an idle unit shows (`SurvivesOfRun`).
   pub honest : (inputs : ℕ → List (List ℕ)) → run_length c inputs ≤ MOST_FRAMES
       → ((i : ℕ) → i < k → IsDamagedRun c inputs (files i)) → AllByRecursion (IsRunFrame c inputs)
       (made_of_all c k files)

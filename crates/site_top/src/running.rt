@@ -1,11 +1,12 @@
 // Carrying out the command that words name, up to the last line of a run that is not done.
-ghost use Rattle.std.specs.Prelude.{◌≡◌, ◌↔◌, IfSome, IfNone, IsNone, length};
+ghost use Rattle.std.specs.Prelude.{◌≡◌, IfSome, IfNone, length};
 ghost use Rattle.ports.specs.Desk.{State};
 ghost use Rattle.site_top.specs.Commands.{command_of};
 ghost use Rattle.site_top.specs.Endings.{Ends};
 ghost use Rattle.site_top.specs.Runs.{Does, IsComplete};
 ghost use Rattle.site_top.specs.Touches.{Touches, out_of, ins_of};
 
+use crate::command_line::request_of;
 use crate::common_receive::common_receive;
 use crate::compare::compare;
 use crate::config_commands::{plan, show_config};
@@ -17,7 +18,7 @@ use crate::merge::merge;
 use crate::modulate::modulate;
 use crate::outcome::Outcome;
 use crate::receive::receive;
-use crate::request::{Request, request_of};
+use crate::request::Request;
 use crate::run_end::outcome_of;
 use crate::swap::swap;
 use crate::trial::trial;
@@ -31,47 +32,43 @@ fn command<D: Desk>(alloc: Global, words: &[Word], desk: &mut D) -> Outcome
         result) }
     ensures refuses { IfNone (command_of words.now) ((result ≡ Outcome.Usage) × (D.state desk.new ≡ D.state desk.old)) }
 {
-    match request_of(words) {
-        Some(Request::ShowPackets { file }) => outcome_of(show_packets(alloc, file, desk)),
-        Some(Request::ShowT2mi { file }) => outcome_of(show_t2mi(alloc, file, desk)),
-        Some(Request::ShowFrames { file }) => outcome_of(show_frames(alloc, file, desk)),
-        Some(Request::ShowConfig { file }) => show_config(alloc, file, desk),
-        Some(Request::Plan { config }) => plan(alloc, config, desk),
-        Some(Request::Gateway { config, out, ins }) => gateway(alloc, config, out, ins, desk),
-        Some(Request::CommonGateway { config, out, ins }) => {
+    let Some(request) = request_of(words) else {
+        return Outcome::Usage;
+    };
+    match request {
+        Request::ShowPackets { file } => outcome_of(show_packets(alloc, file, desk)),
+        Request::ShowT2mi { file } => outcome_of(show_t2mi(alloc, file, desk)),
+        Request::ShowFrames { file } => outcome_of(show_frames(alloc, file, desk)),
+        Request::ShowConfig { file } => show_config(alloc, file, desk),
+        Request::Plan { config } => plan(alloc, config, desk),
+        Request::Gateway { config, out, ins } => gateway(alloc, config, out, ins, desk),
+        Request::CommonGateway { config, out, ins } => {
             common_gateway(alloc, config, out, ins, desk)
         }
-        Some(Request::Modulate { config, input, out }) => modulate(alloc, config, input, out, desk),
-        Some(
-            Request::Receive {
-                config,
-                plp_id,
-                input,
-                out,
-            },
-        ) => receive(alloc, config, plp_id, input, out, desk),
-        Some(
-            Request::CommonReceive {
-                config,
-                plp_id,
-                input,
-                out,
-            },
-        ) => common_receive(alloc, config, plp_id, input, out, desk),
-        Some(Request::Merge { config, a, b, out }) => merge(alloc, config, a, b, out, desk),
-        Some(Request::Mend { config, out, ins }) => mend(alloc, config, out, ins, desk),
-        Some(
-            Request::Swap {
-                config,
-                plp_id,
-                t2mi,
-                input,
-                out,
-            },
-        ) => swap(alloc, config, plp_id, t2mi, input, out, desk),
-        Some(Request::Compare { config, a, b }) => compare(alloc, config, a, b, desk),
-        Some(Request::Trial { seed, frames }) => trial(alloc, seed, frames, desk),
-        None => Outcome::Usage,
+        Request::Modulate { config, input, out } => modulate(alloc, config, input, out, desk),
+        Request::Receive {
+            config,
+            plp_id,
+            input,
+            out,
+        } => receive(alloc, config, plp_id, input, out, desk),
+        Request::CommonReceive {
+            config,
+            plp_id,
+            input,
+            out,
+        } => common_receive(alloc, config, plp_id, input, out, desk),
+        Request::Merge { config, a, b, out } => merge(alloc, config, a, b, out, desk),
+        Request::Mend { config, out, ins } => mend(alloc, config, out, ins, desk),
+        Request::Swap {
+            config,
+            plp_id,
+            t2mi,
+            input,
+            out,
+        } => swap(alloc, config, plp_id, t2mi, input, out, desk),
+        Request::Compare { config, a, b } => compare(alloc, config, a, b, desk),
+        Request::Trial { seed, frames } => trial(alloc, seed, frames, desk),
     }
 }
 

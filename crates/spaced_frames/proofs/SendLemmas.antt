@@ -24,7 +24,7 @@ use Rattle.spaced_frames.specs.Spaced.{SentFrame, spacer, spacers, spacers_behin
 use Rattle.spaced_frames.specs.Spaced.{spaced_behind, last_behind}
 use Rattle.spaced_frames.specs.StandsFor.{Sends, Content, SenderStandsFor, Continues, sent_as, bodies_as, left_in}
 use Rattle.spaced_frames.specs.StandsFor.{number_in}
-use Rattle.spaced_frames.specs.StandsFor.{later_in, Caught, IsAll, stages_in, left_of}
+use Rattle.spaced_frames.specs.StandsFor.{later_in, HasGiven, stages_in, left_of}
 use Rattle.spaced_frames.specs.declared.sender.Sender.{Sender}
 use Rattle.spaced_frames.specs.declared.stage.Stage.{Stage}
 use Rattle.spaced_frames.specs.declared.stage.Stage.TheVariants as at
@@ -307,7 +307,8 @@ given_over c old new x frames gave bytes now full was is plan last same none giv
 pub sent_all : (c : Config) (old : Sender) (new : Flow) (x : Content) (frames : List SentFrame) (gave bytes : List ℕ)
     (now : List Body) (full : Bool) → old.stage ≡ at.Sends → old.flow.finished ≡ false
     → GivesAll c old.flow new old.place.number (left_in c at.Sends old x) now full bytes
-    → HasCaughtUp c new old.place.number now → SenderStandsFor c old x frames gave → Caught c frames (gave ++ bytes)
+    → HasCaughtUp c new old.place.number now → SenderStandsFor c old x frames gave
+    → HasGiven complete_units c frames (gave ++ bytes)
 sent_all c old new x frames gave bytes now full was going gives caught h =
     let over = sent_over c old new x frames gave bytes now full was caught.spent gives h in
     let open_yet : new.finished ≡ false = gives.gives.finished ∙ going in
@@ -462,7 +463,7 @@ rest_stands c old new x frames gave unit was is plan last place finished over ne
 pub rest_all : (c : Config) (s : Sender) (x : Content) (frames : List SentFrame) (gave : List ℕ) → s.stage ≡ at.Idle
     → ((c : Config) (n : ℕ) (all : List (ℕ × Body)) (given : ℕ) → Flows s.flow.outlet c n [] all given
     → length (pipe c.pid (packets_from c 0 all)) ≡ given)
-    → SenderStandsFor c s x frames gave → IsAll c frames gave
+    → SenderStandsFor c s x frames gave → HasGiven pipe c frames gave
 rest_all c s x frames gave idle none h =
     let o = idle_sends c s x frames gave idle h in
     let packets = packets_from c 0 h.all in

@@ -118,13 +118,9 @@ GoesOn old new between number x = (n : ℕ) (all : List (ℕ × Body)) (gave : L
     → Sends (config_of old) old.flow n [] all gave
     → Continues (config_of old) new x (between ++ of_frame number (bodies_as (config_of old) number x)) all gave
 
--- All complete units went out.
-abbrev pub Caught : Config → List SentFrame → List ℕ → Type 0
-Caught c frames gave = gave ≡ joined (complete_units c.pid (packets_from c 0 (spaced c frames)))
-
--- All units went out.
-abbrev pub IsAll : Config → List SentFrame → List ℕ → Type 0
-IsAll c frames gave = gave ≡ joined (pipe c.pid (packets_from c 0 (spaced c frames)))
+-- What went out are the units of these frames: the complete ones, or all.
+abbrev pub HasGiven : (ℕ → List (List ℕ) → List (List ℕ)) → Config → List SentFrame → List ℕ → Type 0
+HasGiven units c frames gave = gave ≡ joined (units c.pid (packets_from c 0 (spaced c frames)))
 
 -- no fewer than the units that are left behind the end
 abbrev pub rest_of : Sender → ℕ

@@ -69,17 +69,15 @@ fn superframe_of(plan: &Plan, number: u64) -> u64
 impl<'p> Sender<'p> {
     ghost use Rattle.std.specs.Prelude.{◌≡◌, ◌≢◌, ◌<◌, ◌≤◌, ◌+◌, ◌*◌, ◌/◌, ◌%◌, ◌^◌, ◌++◌, ◌∷◌, ℕ, List, [], true};
     ghost use Rattle.std.specs.Prelude.{false, length, take, None};
-    ghost use Rattle.plp_config.specs.declared.config.Config.{Config};
     ghost use Rattle.ts_packet.specs.declared.sizes.TheConstants.{SIZE};
-    ghost use Rattle.ts_packet.specs.TsFile.{joined};
+    ghost use Rattle.t2mi_stream.specs.Complete.{complete_units};
     ghost use Rattle.t2mi_stream.specs.Pipe.{pipe};
-    ghost use Rattle.frame_writer.specs.FramePackets.{packets_from};
     ghost use Rattle.frame_writer.specs.Left.{CanBeSent};
     ghost use Rattle.frame_writer.specs.Carried.{of_frame};
     ghost use Rattle.spaced_frames.specs.Spaced.{SentFrame, spaced, spacer, spacers_behind, spacers_between};
     ghost use Rattle.spaced_frames.specs.StandsFor.{SenderStandsFor, Content, content_of, bodies_as, is_idle, has_unit};
     ghost use Rattle.spaced_frames.specs.StandsFor.{has_finished};
-    ghost use Rattle.spaced_frames.specs.StandsFor.{Begun, GoesOn, sent_as, config_of, Caught, IsAll, left_in, left_of};
+    ghost use Rattle.spaced_frames.specs.StandsFor.{Begun, GoesOn, sent_as, config_of, HasGiven, left_in, left_of};
     ghost use Rattle.spaced_frames.specs.StandsFor.{rest_of, most_left};
     ghost use Rattle.frame_writer.specs.Flowing.{bytes_bound, at_hand, packet_bound};
     ghost use Rattle.spaced_frames.specs.declared.stage.Stage.TheVariants as at;
@@ -241,7 +239,7 @@ impl<'p> Sender<'p> {
             (gave ++ take result.0 out.new) }
         ensures caught { result.1 ≡ false → (frames : List SentFrame) (gave : List ℕ)
             → SenderStandsFor (config_of self.old) self.old (content_of frame.now) frames gave
-            → Caught (config_of self.old) frames (gave ++ take result.0 out.new) }
+            → HasGiven complete_units (config_of self.old) frames (gave ++ take result.0 out.new) }
         ensures less { left_of (config_of self.old) self.new (content_of frame.now)
             < left_of (config_of self.old) self.old (content_of frame.now) }
         ensures count { result.0 ≤ length out.old }
@@ -277,7 +275,7 @@ impl<'p> Sender<'p> {
             (gave ++ take result.0 out.new) }
         ensures caught { result.1 ≡ false → (frames : List SentFrame) (gave : List ℕ)
             → SenderStandsFor (config_of self.old) self.old (content_of frame.now) frames gave
-            → Caught (config_of self.old) frames (gave ++ take result.0 out.new) }
+            → HasGiven complete_units (config_of self.old) frames (gave ++ take result.0 out.new) }
         // So a loop that takes units ends.
         ensures less { left_of (config_of self.old) self.new (content_of frame.now)
             < left_of (config_of self.old) self.old (content_of frame.now) }
@@ -318,7 +316,8 @@ impl<'p> Sender<'p> {
             → SenderStandsFor (config_of self.old) self.old x frames gave
             → SenderStandsFor (config_of self.old) self.new x frames (gave ++ out.new) }
         ensures all { result ≡ false → (x : Content) (frames : List SentFrame) (gave : List ℕ)
-            → SenderStandsFor (config_of self.old) self.old x frames gave → IsAll (config_of self.old) frames gave }
+            → SenderStandsFor (config_of self.old) self.old x frames gave
+            → HasGiven pipe (config_of self.old) frames gave }
         ensures kept { result ≡ false → (x : Content) (frames : List SentFrame) (gave : List ℕ)
             → SenderStandsFor (config_of self.old) self.old x frames gave
             → SenderStandsFor (config_of self.old) self.new x frames gave }

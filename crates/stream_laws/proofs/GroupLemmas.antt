@@ -1,4 +1,4 @@
--- The groups of survivors that are near one another are those of their frames.
+-- The groups of survivors of which different frames are apart are those of their frames.
 use Rattle.std.proofs.Common.{◌≡◌, ◌≢◌, ℕ, zero, suc, ◌+◌, ◌*◌, ◌/◌, ◌%◌, ◌<◌, ◌≤◌, ◌==◌, Bool, true, false, cond}
 use Rattle.std.proofs.Common.{if◌then◌else◌}
 use Rattle.std.proofs.Common.{List}
@@ -18,8 +18,8 @@ use Rattle.frame_groups.specs.Groups.{in_front}
 use Rattle.frame_groups.specs.Groups.{key_runs, groups}
 use Rattle.frame_groups.specs.Numbers.{frame_key}
 use Rattle.stream_laws.specs.SentPackets.{Sent, packets_of, frame_packets, frame_group, IsTimestamp, TellsFrame}
-use Rattle.stream_laws.specs.SentPackets.{Follows, FollowsSome}
-use Rattle.stream_laws.specs.SentPackets.{InFrameOrder, IsNearSome, AreNear}
+use Rattle.stream_laws.specs.SentPackets.{IsOfFrame, Follows, FollowsSome, InFrameOrder, AreFrames}
+use Rattle.stream_laws.specs.SentPackets.{IsNearSome, AreNear, IsApart, IsApartSome, AreApart}
 use Rattle.stream_laws.specs.Survivors.{has_packets}
 use Rattle.stream_laws.specs.DamageLaws.{Survive, GroupsAreFrames}
 use Rattle.stream_laws.proofs.PacketLemmas.{packets_here, packets_other}
@@ -91,13 +91,11 @@ all_counted frames before (s ∷ ss) some o =
     ∙ ap (λ (l : List Packet). s.packet ∷ l) (all_counted frames (Some s.frame) ss some o.2)
 
 -- Each has the key of its frame.
-abbrev FollowsBody : Option ℕ → Body → ℕ → Type 0
-FollowsBody None b n = Unit {0}
-FollowsBody (Some m) b n = IsTimestamp b → m < n
-
-abbrev NearBody : ℕ → Option ℕ → Body → ℕ → Type 0
-NearBody frames None b n = Unit {0}
-NearBody frames (Some m) b n = IsTimestamp b → n / frames < m / frames + 16
+begins : (frames n : ℕ) (b : Body) → IsTimestamp b → TellsFrame frames n b → n % frames ≡ 0
+begins frames n (Block frame_idx plp_id first bits) i t = absurd i
+begins frames n (L1Current frame_idx pre conf dynamic extension) i t = absurd i
+begins frames n (Timestamp stamp) i t = t
+begins frames n (Other packet_type bits) i t = absurd i
 
 -- A frame that begins a superframe is in another superframe than one before it.
 superframe_later : (frames m n : ℕ) → 0 < frames → n % frames ≡ 0 → m < n → m / frames < n / frames
@@ -111,43 +109,56 @@ other_superframe a b l m = ne_eqb (a % 16) (b % 16) (λ e. omega (arith, e, l, m
 abbrev key_with : ℕ → ℕ → Key
 key_with a b = record { superframe = a; frame = b }
 
-key_told : (frames : ℕ) (before : Option ℕ) (n : ℕ) (b : Body) (superframe : ℕ) → 0 < frames
-    → superframe ≡ n / frames % 16
-    → TellsFrame frames n b → FollowsBody before b n → NearBody frames before b n
+-- A timestamp does not have the superframe_idx before it.
+abbrev Begins : ℕ → Option ℕ → Body → ℕ → Type 0
+Begins frames None b n = Unit {0}
+Begins frames (Some m) b n = IsTimestamp b → (m / frames % 16 == n / frames % 16) ≡ false
+
+key_told : (frames : ℕ) (before : Option ℕ) (n : ℕ) (b : Body) (superframe : ℕ) → superframe ≡ n / frames % 16
+    → TellsFrame frames n b → Begins frames before b n
     → body_key (option_map (frame_key frames) before) superframe b ≡ frame_key frames n
-key_told frames before n (Block frame_idx plp_id first bits) s some e t fo ne = ap₂ key_with e t
-key_told frames before n (L1Current frame_idx pre conf dynamic extension) s some e t fo ne = ap₂ key_with e t
-key_told frames None n (Timestamp stamp) s some e t fo ne = ap₂ key_with e (sym t)
-key_told frames (Some m) n (Timestamp stamp) s some e t fo ne =
+key_told frames before n (Block frame_idx plp_id first bits) s e t new = ap₂ key_with e t
+key_told frames before n (L1Current frame_idx pre conf dynamic extension) s e t new = ap₂ key_with e t
+key_told frames None n (Timestamp stamp) s e t new = ap₂ key_with e (sym t)
+key_told frames (Some m) n (Timestamp stamp) s e t new =
     cond-false (m / frames % 16 == s) (frame_key frames m) (key_with s 0) (ap (λ (k : ℕ). m / frames % 16 == k) e
-    ∙ other_superframe (m / frames) (n / frames) (superframe_later frames m n some t (fo tt)) (ne tt))
+    ∙ new tt)
     ∙ ap₂ key_with e (sym t)
-key_told frames before n (Other packet_type bits) s some e t fo ne = absurd t
+key_told frames before n (Other packet_type bits) s e t new = absurd t
 
-follows_body : (before : Option ℕ) (s : Sent) → FollowsSome before s → FollowsBody before s.packet.body s.frame
-follows_body None s f = tt
-follows_body (Some m) s f = f.stamp
+-- Else it has the key before it.
+stamp_has : (frames m n : ℕ) (b : Body) (superframe : ℕ) → superframe ≡ n / frames % 16 → IsTimestamp b
+    → (m / frames % 16 == n / frames % 16) ≡ true
+    → body_key (Some (frame_key frames m)) superframe b ≡ frame_key frames m
+stamp_has frames m n (Block frame_idx plp_id first bits) s e i same = absurd i
+stamp_has frames m n (L1Current frame_idx pre conf dynamic extension) s e i same = absurd i
+stamp_has frames m n (Timestamp stamp) s e i same =
+    cond-true (m / frames % 16 == s) (frame_key frames m) (key_with s 0) (ap (λ (k : ℕ). m / frames % 16 == k) e ∙ same)
+stamp_has frames m n (Other packet_type bits) s e i same = absurd i
 
-near_body : (frames : ℕ) (before : Option ℕ) (s : Sent) → IsNearSome frames before s
-    → NearBody frames before s.packet.body s.frame
-near_body frames None s f = tt
-near_body frames (Some m) s f = f.stamp
+apart_begins : (frames : ℕ) (before : Option ℕ) (s : Sent) → IsOfFrame frames s → FollowsSome before s
+    → IsApartSome frames before s → Begins frames before s.packet.body s.frame
+apart_begins frames None s o f a = tt
+apart_begins frames (Some m) s o f a = λ i.
+    false_from_ne_true _ (λ (same : (m / frames % 16 == s.frame / frames % 16) ≡ true).
+    let e = a (stamp_has frames m s.frame s.packet.body s.packet.superframe o.superframe i same) in
+    let l = f.stamp i in
+    omega (arith, e, l))
 
 abbrev frame_keyed : ℕ → List Sent → List Keyed
 frame_keyed frames [] = []
 frame_keyed frames (s ∷ ss) = record { key = frame_key frames s.frame; packet = s.packet } ∷ frame_keyed frames ss
 
-keys_told : (frames : ℕ) (before : Option ℕ) (ss : List Sent) → 0 < frames → InFrameOrder frames before ss
-    → AreNear frames before ss → keyed (option_map (frame_key frames) before) (packets_of ss) ≡ frame_keyed frames ss
-keys_told frames before [] some o n = refl
-keys_told frames before (s ∷ ss) some o n =
+keys_told : (frames : ℕ) (before : Option ℕ) (ss : List Sent) → InFrameOrder frames before ss
+    → AreApart frames before ss → keyed (option_map (frame_key frames) before) (packets_of ss) ≡ frame_keyed frames ss
+keys_told frames before [] o a = refl
+keys_told frames before (s ∷ ss) o a =
     let k : key_behind (option_map (frame_key frames) before) s.packet ≡ frame_key frames s.frame =
-    key_told frames before s.frame s.packet.body s.packet.superframe some o.0.superframe o.0.frame
-    (follows_body before s o.1)
-    (near_body frames before s n.0) in
+    key_told frames before s.frame s.packet.body s.packet.superframe o.0.superframe o.0.frame
+    (apart_begins frames before s o.0 o.1 a.0) in
     ap (λ (k : Key). record { key = k; packet = s.packet } ∷ keyed (Some k) (packets_of ss)) k
     ∙ ap (λ (l : List Keyed). record { key = frame_key frames s.frame; packet = s.packet } ∷ l)
-    (keys_told frames (Some s.frame) ss some o.2 n.1)
+    (keys_told frames (Some s.frame) ss o.2 a.1)
 
 -- a frame, and packets of it
 pub record Met : Type 0 where
@@ -218,28 +229,61 @@ one_frame frames n m some l less e f =
     (cases_eq r q))
     (cases_lt q r)
 
-same_frames : (frames n m : ℕ) → 0 < frames → n ≤ m → m < n + 16 * frames
-    → is_same (frame_key frames n) (frame_key frames m)
-    ≡ (n == m)
-same_frames frames n m some l less = ⊎_elim
-    (λ (e : n ≡ m).
-    and_from _ _ (eq-eqb (n / frames % 16) (m / frames % 16) (ap (λ (k : ℕ). k / frames % 16) e))
-    (eq-eqb (n % frames) (m % frames) (ap (λ (k : ℕ). k % frames) e)) ∙ sym (eq-eqb n m e))
-    (λ (e : n ≡ m → ⊥).
-    false_from_ne_true _ (λ (t : is_same (frame_key frames n) (frame_key frames m) ≡ true).
-    let p = and_parts (n / frames % 16 == m / frames % 16) (n % frames == m % frames) t in
-    e (one_frame frames n m some l less (eqb-true (n / frames % 16) (m / frames % 16) p.0)
-    (eqb-true (n % frames) (m % frames) p.1)))
-    ∙ sym (ne_eqb n m e))
-    (cases_eq n m)
+-- So packets that are near one another are apart.
+near_one : (frames : ℕ) (before : Option ℕ) (s : Sent) → 0 < frames → IsOfFrame frames s → FollowsSome before s
+    → IsNearSome frames before s → IsApartSome frames before s
+near_one frames None s some o f n = tt
+near_one frames (Some m) s some o f n = λ e.
+    let new : Begins frames (Some m) s.packet.body s.frame =
+    λ i. other_superframe (m / frames) (s.frame / frames)
+    (superframe_later frames m s.frame some (begins frames s.frame s.packet.body i o.frame) (f.stamp i)) (n.stamp i) in
+    let same = sym e ∙ key_told frames (Some m) s.frame s.packet.body s.packet.superframe o.superframe o.frame new in
+    sym (one_frame frames m s.frame some f.frame n.frame (ap (λ (k : Key). k.superframe) same)
+    (ap (λ (k : Key). k.frame) same))
 
-with_same : (frames : ℕ) (s : Sent) (gs : List Met) → 0 < frames → Apart frames s.frame gs
+pub near_apart : (frames : ℕ) (before : Option ℕ) (ss : List Sent) → 0 < frames → InFrameOrder frames before ss
+    → AreNear frames before ss → AreApart frames before ss
+near_apart frames before [] some o n = tt
+near_apart frames before (s ∷ ss) some o n =
+    (near_one frames before s some o.0 o.1 n.0, near_apart frames (Some s.frame) ss some o.2 n.1)
+
+-- The next frame with a packet has the key of one only if it is that one.
+abbrev Unlike : ℕ → ℕ → List Met → Type 0
+Unlike frames n [] = Unit {0}
+Unlike frames n (g ∷ gs) = is_same (frame_key frames n) (frame_key frames g.frame) ≡ (n == g.frame)
+
+unlike_with : (frames n : ℕ) (s : Sent) (gs : List Met)
+    → is_same (frame_key frames n) (frame_key frames s.frame) ≡ (n == s.frame) → Unlike frames n (with_sent s gs)
+unlike_with frames n s [] e = e
+unlike_with frames n s (g ∷ gs) e = cond_both (s.frame == g.frame) _ _ (Unlike frames n) (λ t. e) (λ t. e)
+
+unlike_one : (frames n : ℕ) (s : Sent) → IsOfFrame frames s → Follows n s → IsApart frames n s
+    → is_same (frame_key frames n) (frame_key frames s.frame) ≡ (n == s.frame)
+unlike_one frames n s o f a = ⊎_elim
+    (λ (e : n ≡ s.frame).
+    and_from _ _ (eq-eqb (n / frames % 16) (s.frame / frames % 16) (ap (λ (k : ℕ). k / frames % 16) e))
+    (eq-eqb (n % frames) (s.frame % frames) (ap (λ (k : ℕ). k % frames) e)) ∙ sym (eq-eqb n s.frame e))
+    (λ (e : n ≡ s.frame → ⊥).
+    false_from_ne_true _ (λ (t : is_same (frame_key frames n) (frame_key frames s.frame) ≡ true).
+    let p = and_parts (n / frames % 16 == s.frame / frames % 16) (n % frames == s.frame % frames) t in
+    e (sym (a (key_told frames (Some n) s.frame s.packet.body s.packet.superframe o.superframe o.frame
+    (apart_begins frames (Some n) s o f a)
+    ∙ sym (ap₂ key_with (eqb-true (n / frames % 16) (s.frame / frames % 16) p.0)
+    (eqb-true (n % frames) (s.frame % frames) p.1))))))
+    ∙ sym (ne_eqb n s.frame e))
+    (cases_eq n s.frame)
+
+unlike_runs : (frames n : ℕ) (ss : List Sent) → InFrameOrder frames (Some n) ss → AreApart frames (Some n) ss
+    → Unlike frames n (frame_runs ss)
+unlike_runs frames n [] o a = tt
+unlike_runs frames n (s ∷ ss) o a = unlike_with frames n s (frame_runs ss) (unlike_one frames n s o.0 o.1 a.0)
+
+with_same : (frames : ℕ) (s : Sent) (gs : List Met) → Unlike frames s.frame gs
     → in_front (record { key = frame_key frames s.frame; packet = s.packet }) (key_groups frames gs)
     ≡ key_groups frames (with_sent s gs)
-with_same frames s [] some a = refl
-with_same frames s (g ∷ gs) some a = go (is_same (frame_key frames s.frame) (frame_key frames g.frame))
-    (s.frame == g.frame)
-    (same_frames frames s.frame g.frame some a.0 a.1)
+with_same frames s [] a = refl
+with_same frames s (g ∷ gs) a = go (is_same (frame_key frames s.frame) (frame_key frames g.frame))
+    (s.frame == g.frame) a
   where
     go : (t u : Bool) → t ≡ u → cond t (group_as frames s.frame (s.packet ∷ g.packets) ∷ key_groups frames gs)
         (group_as frames s.frame (s.packet ∷ []) ∷ key_groups frames (g ∷ gs))
@@ -250,13 +294,13 @@ with_same frames s (g ∷ gs) some a = go (is_same (frame_key frames s.frame) (f
     go false true e = absurd (both_ways false refl e)
     go false false e = refl
 
-runs_same : (frames : ℕ) (before : Option ℕ) (ss : List Sent) → 0 < frames → InFrameOrder frames before ss
-    → AreNear frames before ss → key_runs (frame_keyed frames ss) ≡ key_groups frames (frame_runs ss)
-runs_same frames before [] some o n = refl
-runs_same frames before (s ∷ ss) some o n =
+runs_same : (frames : ℕ) (before : Option ℕ) (ss : List Sent) → InFrameOrder frames before ss
+    → AreApart frames before ss → key_runs (frame_keyed frames ss) ≡ key_groups frames (frame_runs ss)
+runs_same frames before [] o a = refl
+runs_same frames before (s ∷ ss) o a =
     ap (in_front (record { key = frame_key frames s.frame; packet = s.packet }))
-    (runs_same frames (Some s.frame) ss some o.2 n.1)
-    ∙ with_same frames s (frame_runs ss) some (apart frames s.frame ss o.2 n.1)
+    (runs_same frames (Some s.frame) ss o.2 a.1)
+    ∙ with_same frames s (frame_runs ss) (unlike_runs frames s.frame ss o.2 a.1)
 
 -- Frame by frame.
 abbrev pub AllFrom : ℕ → List Sent → Type 0
@@ -340,17 +384,31 @@ runs_met frames count before (s ∷ ss) o b =
     ap (with_sent s) (runs_met frames count (Some s.frame) ss o.2 b.1)
     ∙ with_met 0 count s ss (omega arith) (omega (arith, b.0)) (all_from frames s.frame ss o.2)
 
-pub groups_are_met : (frames count : ℕ) (sent : List Sent) (survival : List Bool) → Survive frames count sent survival
+groups_apart : (frames count : ℕ) (sent : List Sent) (survival : List Bool) → 0 < frames → AreFrames frames count sent
+    → AreApart frames None (items_where_true survival sent)
     → groups frames (packets_of (items_where_true survival sent))
     ≡ key_groups frames (frames_met 0 count (items_where_true survival sent))
 unfolding groups
-groups_are_met frames count sent survival h =
+groups_apart frames count sent survival some are apart =
     let ss : List Sent = items_where_true survival sent in
-    let o : InFrameOrder frames None ss = order_survivors frames None sent survival h.sent_are.order in
-    ap (λ (l : List Packet). key_runs (keyed None l)) (all_counted frames None ss h.some o)
-    ∙ ap key_runs (keys_told frames None ss h.some o h.near)
-    ∙ runs_same frames None ss h.some o h.near
-    ∙ ap (key_groups frames) (runs_met frames count None ss o (below_survivors count sent survival h.sent_are.below))
+    let o : InFrameOrder frames None ss = order_survivors frames None sent survival are.order in
+    ap (λ (l : List Packet). key_runs (keyed None l)) (all_counted frames None ss some o)
+    ∙ ap key_runs (keys_told frames None ss o apart)
+    ∙ runs_same frames None ss o apart
+    ∙ ap (key_groups frames) (runs_met frames count None ss o (below_survivors count sent survival are.below))
+
+-- survivors that are near one another
+pub survive_apart : (frames count : ℕ) (sent : List Sent) (survival : List Bool)
+    → Survive frames count sent survival → AreApart frames None (items_where_true survival sent)
+survive_apart frames count sent survival h =
+    near_apart frames None (items_where_true survival sent) h.some
+    (order_survivors frames None sent survival h.sent_are.order) h.near
+
+pub groups_are_met : (frames count : ℕ) (sent : List Sent) (survival : List Bool) → Survive frames count sent survival
+    → groups frames (packets_of (items_where_true survival sent))
+    ≡ key_groups frames (frames_met 0 count (items_where_true survival sent))
+groups_are_met frames count sent survival h =
+    groups_apart frames count sent survival h.some h.sent_are (survive_apart frames count sent survival h)
 
 -- the same by std's words
 met_filtered : (frames from count : ℕ) (ss : List Sent) → key_groups frames (frames_met from count ss)
@@ -372,7 +430,7 @@ met_filtered frames from (suc count) ss = go (frame_packets from ss) (met_filter
         (cond-false (length (p ∷ ps) == 0) false true (ne_eqb (length (p ∷ ps)) 0 (λ e. omega (arith, e)))))
 
 pub groups_are_frames : GroupsAreFrames
-groups_are_frames frames count sent survival h = groups_are_met frames count sent survival h
+groups_are_frames frames count sent survival some are apart = groups_apart frames count sent survival some are apart
     ∙ met_filtered frames 0 count (items_where_true survival sent)
 
 -- Each frame is nearer behind the one before it than keys come again.

@@ -4,12 +4,13 @@ use Rattle.std.proofs.Common.{List, [], ◌∷◌}
 use Rattle.std.proofs.Common.{length, Option, Some, None, refl, ap, sym, subst, ◌∙◌, ⊎_elim, arith, sum_by}
 use Rattle.std.specs.Prelude.{slice_get, slice_index, if◌then◌else◌, nat_le, nat_lt}
 use Rattle.std.specs.Bool.{beq}
+use Rattle.std.specs.Cmp.{booleans_Decides}
 use Rattle.std.specs.Cmp.Lexicographic.{pointwise, pointwise_decides}
 use Rattle.std.specs.Int.{div_ceil}
 use Rattle.std.specs.List.{list_all, range_with_len, AllByRecursion}
 use Rattle.std.specs.Option.{option_and_then}
-use Rattle.std.proofs.lemmas.Bool.{and_from, cases_Bool, cond-true, cond-false, eq-eqb, le-leb, false≢true}
-use Rattle.std.proofs.lemmas.Bool.{true≢false, cond_both}
+use Rattle.std.proofs.lemmas.Bool.{and_from, cases_Bool, cond-true, cond-false, eq-eqb, le-leb}
+use Rattle.std.proofs.lemmas.Bool.{cond_both}
 use Rattle.std.proofs.lemmas.List.Folds.{fold-map}
 use Rattle.std.proofs.lemmas.List.FromFn.{fill_by_all}
 use Rattle.std.proofs.lemmas.List.Sums.{sum_by-cons}
@@ -96,14 +97,8 @@ given_by a b d e f g h i j k l m n o p q = record {
 
 -- ---- two L1-current packets with the same parts are the same
 
-pub bit_same : (x y : Bool) → (beq x y ≡ true → x ≡ y) × (x ≡ y → beq x y ≡ true)
-bit_same true true = (λ e. refl, λ e. refl)
-bit_same true false = (λ e. absurd (false≢true e), λ e. absurd (true≢false e))
-bit_same false true = (λ e. absurd (false≢true e), λ e. absurd (false≢true e))
-bit_same false false = (λ e. refl, λ e. refl)
-
 bits_self : (bits : List Bool) → pointwise beq bits bits ≡ true
-bits_self bits = (pointwise_decides bit_same bits bits).1 refl
+bits_self bits = (pointwise_decides booleans_Decides bits bits).1 refl
 
 parts_self : (l1 : L1Parts) → same_parts l1 l1 ≡ true
 parts_self l1 =

@@ -15,6 +15,7 @@ use Rattle.t2mi_stream.specs.Survivors.{placed_from, sent_packets, received_pack
 use Rattle.t2mi_stream.specs.SurvivorLaws.{AcceptedSurvive, SurvivalTold, KeptUndamaged}
 use Rattle.modulator.specs.Modulating.{packet_of}
 use Rattle.stream_laws.specs.SentPackets.{Sent, AreNear}
+use Rattle.stream_laws.proofs.GroupLemmas.{survive_apart}
 use Rattle.stream_laws.specs.DamageLaws.{Survive, GroupsAreFrames, ModulatedIsRecords, WholeTold, LaterNear}
 use Rattle.stream_laws.specs.Streams.{Stream, IsStream, stream_survival, Honest}
 use Rattle.stream_laws.specs.GroupNumbers.{numbers_behind, GroupsNumbered}
@@ -55,8 +56,9 @@ honest_survive s from fates is honest =
 
 pub honest_groups : ReadAreSurvivors → GroupsAreFrames → HonestGroups
 honest_groups read law s from fates is honest =
-    ap (groups s.frames) (read s from fates is honest) ∙ law s.frames s.count s.sent (stream_survival s from fates)
-    (honest_survive s from fates is honest)
+    ap (groups s.frames) (read s from fates is honest)
+    ∙ law s.frames s.count s.sent (stream_survival s from fates) is.some is.frames
+    (survive_apart s.frames s.count s.sent (stream_survival s from fates) (honest_survive s from fates is honest))
 
 pub honest_numbers : ReadAreSurvivors → GroupsNumbered → HonestNumbers
 honest_numbers read law r s from fates first same is honest joins =

@@ -10,6 +10,7 @@ use Rattle.frame_groups.specs.Modulated.{Numbered, Rules, modulated}
 use Rattle.frame_groups.specs.Numbers.{frame_key}
 use Rattle.frame_groups.specs.declared.cause.MuteCause.TheVariants.{PacketMissing}
 use Rattle.stream_laws.specs.SentPackets.{Sent, packets_of, frame_packets, frame_group, IsTimestamp, AreFrames, AreNear}
+use Rattle.stream_laws.specs.SentPackets.{AreApart}
 use Rattle.frame_groups.specs.Begun.{packets_at}
 use Rattle.stream_laws.specs.Survivors.{carries, is_whole, groups_met, survivor_records, later_only}
 
@@ -20,9 +21,11 @@ pub record Survive (frames count : ℕ) (sent : List Sent) (survival : List Bool
   pub told : length survival ≡ length sent
   pub near : AreNear frames None (items_where_true survival sent)
 
--- Then the groups are, in order, the survivors of those frames that have one.
+-- Of packets that are sent frame by frame, if survivors of different frames are apart, the groups are, in order, the
+-- survivors of those frames that have one.
 abbrev pub GroupsAreFrames : Type 0
-GroupsAreFrames = (frames count : ℕ) (sent : List Sent) (survival : List Bool) → Survive frames count sent survival
+GroupsAreFrames = (frames count : ℕ) (sent : List Sent) (survival : List Bool) → 0 < frames
+    → AreFrames frames count sent → AreApart frames None (items_where_true survival sent)
     → groups frames (packets_of (items_where_true survival sent)) ≡ groups_met frames count
     (items_where_true survival sent)
 

@@ -4,7 +4,7 @@ use Rattle.std.specs.List.{filter, AllByRecursion}
 use Rattle.t2mi_packet.specs.declared.packet.Body.{Body}
 use Rattle.t2mi_packet.specs.declared.packet.Body.TheVariants.{Block, L1Current, Timestamp, Other}
 use Rattle.t2mi_packet.specs.declared.packet.Packet.{Packet}
-use Rattle.frame_groups.specs.Groups.{Group}
+use Rattle.frame_groups.specs.Groups.{Group, key_behind}
 use Rattle.frame_groups.specs.Numbers.{superframe_period, frame_key}
 
 -- a sent packet, and the number of its frame
@@ -77,3 +77,17 @@ IsNearSome frames (Some m) s = IsNear frames m s
 abbrev pub AreNear : ℕ → Option ℕ → List Sent → Type 0
 AreNear frames before [] = Unit {0}
 AreNear frames before (s ∷ sent) = IsNearSome frames before s × AreNear frames (Some s.frame) sent
+
+-- A packet behind one of frame m has that frame's superframe_idx and frame_idx only if it is of it. (A timestamp has no
+-- frame_idx: for it superframe_idx alone decides.)
+abbrev pub IsApart : ℕ → ℕ → Sent → Type 0
+IsApart frames m s = key_behind (Some (frame_key frames m)) s.packet ≡ frame_key frames m → s.frame ≡ m
+
+abbrev pub IsApartSome : ℕ → Option ℕ → Sent → Type 0
+IsApartSome frames None s = Unit {0}
+IsApartSome frames (Some m) s = IsApart frames m s
+
+-- So it is of each packet and the one before it.
+abbrev pub AreApart : ℕ → Option ℕ → List Sent → Type 0
+AreApart frames before [] = Unit {0}
+AreApart frames before (s ∷ sent) = IsApartSome frames before s × AreApart frames (Some s.frame) sent

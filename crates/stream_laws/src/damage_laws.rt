@@ -7,7 +7,7 @@ ghost use Rattle.stream_laws.specs.GroupNumbers.{GroupsNumbered};
 use frame_groups::next_law;
 use plp_config::interleaving_law;
 
-/// If survivors are near one another, the groups are the survivors of those frames that have one.
+/// If survivors of different frames are apart, the groups are the survivors of those frames that have one.
 pub fn group_law()
     ensures { GroupsAreFrames }
 {}

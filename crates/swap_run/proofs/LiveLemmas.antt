@@ -3,7 +3,7 @@
 use Rattle.std.proofs.Common.{◌≡◌, ℕ, ◌<◌, ◌≤◌, Bool, false, List, [], ◌∷◌, ◌++◌, length, take, ap, sym, subst, ◌∙◌}
 use Rattle.std.proofs.Common.{arith, append-nil, append_assoc}
 use Rattle.plp_config.specs.declared.config.Config.{Config}
-use Rattle.frame_groups.specs.Laws.{IsPrefix}
+use Rattle.terms.specs.Lists.{IsPrefix}
 use Rattle.frame_groups.specs.Modulated.{FrameRecord}
 use Rattle.modulator.specs.StandsFor.{records_due}
 use Rattle.feed_merge.specs.declared.feed.FrameFeed.{FrameFeed}

@@ -1,7 +1,8 @@
 -- Facts of a value that may be there, besides std's `IfSome_then`.
 use Rattle.std.proofs.Common.{◌≡◌, Bool, true, false, cond, List, ◌++◌, [], Option, Some, None, is_some, refl, ap, sym}
 use Rattle.std.proofs.Common.{append-nil, append_assoc, true≢false}
-use Rattle.std.specs.Prelude.{IfSome, IsSome, option_map, unwrap_or}
+use Rattle.std.proofs.lemmas.Bool.{false≢true}
+use Rattle.std.specs.Prelude.{IfSome, IsSome, option_map, unwrap_or, not}
 
 -- what is so of every value
 pub if_any : {A : Type 0} (o : Option A) (P : A → Type 0) → ((x : A) → P x) → IfSome o P
@@ -40,6 +41,11 @@ pub append_twice : {A : Type 0} (o : Option (List A)) (x y : List A)
     → option_map (λ text. text ++ y) (option_map (λ text. text ++ x) o) ≡ option_map (λ text. text ++ (x ++ y)) o
 append_twice None x y = refl
 append_twice (Some text) x y = ap Some (append_assoc text x y)
+
+-- what is not there
+pub none_if_not : {A : Type 0} (o : Option A) → not (is_some o) ≡ true → o ≡ None
+none_if_not None e = refl
+none_if_not (Some x) e = absurd (false≢true e)
 
 -- nothing is there only if the test that rules it out holds
 pub none_if : {A : Type 0} (t : Bool) (x : A) → ◌≡◌ {A = Option A} (cond t None (Some x)) None → t ≡ true

@@ -1,5 +1,5 @@
 // What a trial counts.
-ghost use Rattle.std.specs.Prelude.{◌≡◌, ◌<◌, ◌*◌, [], length, IfOk};
+ghost use Rattle.std.specs.Prelude.{◌≡◌, ◌<◌, ◌*◌, [], IfOk};
 ghost use Rattle.t2mi_stream.specs.Units.{unit_at};
 ghost use Rattle.trial_run.specs.Counts.{filled_packets as count_of_filled, filled_of_first, AreCut};
 ghost use Rattle.trial_run.specs.Counts.{is_frame as tells_frame, stand_in, is_among as stands_among};

@@ -2,7 +2,7 @@
 // refused, or a stream in which no superframe begins can stop one beside want of memory. None of these is likely, since
 // of the first half of the stream the second modulator loses unit 0 alone, but that none comes is not proved: a trial
 // tells it as a defect.
-ghost use Rattle.std.specs.Prelude.{◌≡◌, ◌≢◌, ◌<◌, ℕ, List, [], ◌∷◌, codes, length, unwrap_or, Ok, IfOk};
+ghost use Rattle.std.specs.Prelude.{◌≡◌, ◌<◌, ℕ, List, [], ◌∷◌, codes, length, unwrap_or, Ok, IfOk};
 ghost use Rattle.ports.specs.Desk.{file_of};
 ghost use Rattle.common_plp.specs.Sharing.{Apart};
 ghost use Rattle.gateway_run.specs.GatewayRun.{gateway_work};

@@ -1,5 +1,5 @@
 // The header of a packet as a number of 32 bits.
-ghost use Rattle.std.specs.Prelude.{◌≡◌, ℕ, ◌+◌, ◌<◌, ◌≤◌, ◌^◌};
+ghost use Rattle.std.specs.Prelude.{◌≡◌, ◌+◌, ◌<◌, ◌≤◌, ◌^◌};
 ghost use Rattle.terms.specs.Bits.{field, bits_of, part, number_at};
 
 use crate::sizes::SIZE;

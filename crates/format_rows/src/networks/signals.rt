@@ -6,7 +6,6 @@
 // `t` (it comes back turned), `i` (as it was: it is ignored), the number of the field that is refused, or `s` (the
 // sizes do not go together). `post NETWORK BYTES FIRST LEN` tests the CRC_32 of an L1-post, and `knows NETWORK BYTES
 // LEN` whether bits are the configurable part of the network.
-ghost use Rattle.std.specs.Prelude.{IsTrue};
 ghost use Rattle.scheduler.specs.Laws.{CountsFit};
 
 use super::maps::{can_have, counts_of};

@@ -1,11 +1,11 @@
-use Rattle.stream_laws.proofs.PassLemmas.{given_by}
+use Rattle.stream_laws.proofs.FormedSignalLemmas.{Knows}
+use Rattle.stream_laws.proofs.PassLemmas.{Given, given_by}
 use Rattle.network_laws.proofs.HonestFeedLemmas.{made_are_of_run, damaged_runs_mended}
 use Rattle.network_laws.proofs.run_feeds.honest_feeds_law.Goals as goal
 
-pub returns-clause-made : goal.returns-clause-made
-returns-clause-made c =
-    made_are_of_run c.placed_law.ensures.stood c.placed_law.ensures.frame
-    (given_by c.parts_law.ensures.whole c.pre_law.ensures.written c.conf_law.ensures.written c.dyn_law.ensures.back
+given_at : goal.After-order_law → Given
+given_at c =
+    given_by c.parts_law.ensures.whole c.pre_law.ensures.written c.conf_law.ensures.written c.dyn_law.ensures.back
     c.dyn_law.ensures.written c.bit_counts_law.ensures c.fit_law.ensures.told c.block_law.ensures.field
     c.block_law.ensures.chunks c.block_law.ensures.cells c.spread_law.ensures.blocks c.field_law.ensures
     c.order_law.ensures.counts c.shape_law.ensures c.map_test_law.ensures
@@ -15,8 +15,11 @@ returns-clause-made c =
       last = c.interleaving_law.ensures.last;
       number = c.interleaving_law.ensures.number;
       frames = c.spread_law.ensures.frames;
-    }))
-    (record {
+    })
+
+knows_at : goal.After-order_law → Knows
+knows_at c =
+    record {
       told = c.parts_law.ensures.whole;
       conf_told = c.parts_law.ensures.conf;
       pre_values = c.parts_law.ensures.pre;
@@ -26,35 +29,16 @@ returns-clause-made c =
       conf_size = c.post_law.ensures.conf;
       dyn_back = c.dyn_law.ensures.back;
       dyn_size = c.dyn_law.ensures.len;
-    })
+    }
+
+pub returns-clause-made : goal.returns-clause-made
+returns-clause-made c =
+    made_are_of_run c.placed_law.ensures.stood c.placed_law.ensures.frame (given_at c) (knows_at c)
     c.sent_law.ensures.carries c.scramble_twice_law.ensures c.pre_law.ensures.bits c.post_law.ensures.len
     c.post_law.ensures.conf c.shown_law.ensures
 
 pub returns-clause-damaged : goal.returns-clause-damaged
 returns-clause-damaged c =
-    damaged_runs_mended c.placed_law.ensures.stood c.placed_law.ensures.frame
-    (given_by c.parts_law.ensures.whole c.pre_law.ensures.written c.conf_law.ensures.written c.dyn_law.ensures.back
-    c.dyn_law.ensures.written c.bit_counts_law.ensures c.fit_law.ensures.told c.block_law.ensures.field
-    c.block_law.ensures.chunks c.block_law.ensures.cells c.spread_law.ensures.blocks c.field_law.ensures
-    c.order_law.ensures.counts c.shape_law.ensures c.map_test_law.ensures
-    (record {
-      superframe = c.interleaving_law.ensures.superframe;
-      first = c.interleaving_law.ensures.first;
-      last = c.interleaving_law.ensures.last;
-      number = c.interleaving_law.ensures.number;
-      frames = c.spread_law.ensures.frames;
-    }))
-    (record {
-      told = c.parts_law.ensures.whole;
-      conf_told = c.parts_law.ensures.conf;
-      pre_values = c.parts_law.ensures.pre;
-      pre_back = c.pre_law.ensures.back;
-      pre_written = c.pre_law.ensures.written;
-      conf_written = c.conf_law.ensures.written;
-      conf_size = c.post_law.ensures.conf;
-      dyn_back = c.dyn_law.ensures.back;
-      dyn_size = c.dyn_law.ensures.len;
-    })
+    damaged_runs_mended c.placed_law.ensures.stood c.placed_law.ensures.frame (given_at c) (knows_at c)
     c.sent_law.ensures.carries c.scramble_twice_law.ensures c.pre_law.ensures.bits c.post_law.ensures.len
-    c.post_law.ensures.conf c.shown_law.ensures
-    c.next_law.ensures.found c.named_law.ensures c.sent_law.ensures.frames c.group_law.ensures
+    c.post_law.ensures.conf c.shown_law.ensures c.named_law.ensures c.sent_law.ensures.frames c.group_law.ensures

@@ -1,7 +1,8 @@
 use Rattle.std.proofs.Common.{◌≡◌, ◌++◌, ◌∷◌, ℕ, List, [], length, take, refl, ap, sym, subst, ◌∙◌, append-nil}
 use Rattle.std.proofs.Math.Seq.{take-length}
 use Rattle.ts_packet.specs.declared.sizes.TheConstants.{SIZE}
-use Rattle.spaced_frames.specs.StandsFor.{SenderStandsFor, IsAll}
+use Rattle.t2mi_stream.specs.Pipe.{pipe}
+use Rattle.spaced_frames.specs.StandsFor.{SenderStandsFor, HasGiven}
 use Rattle.file_run.specs.Events.{Gave, gave}
 use Rattle.mended_frames.specs.Mended.{frames_of}
 use Rattle.plp_config.specs.declared.config.Config.{Config}
@@ -47,8 +48,8 @@ returns-clause-shown c = λ k count done came.
     shown_given tell k count done [] m _ Rests Done s refl refl refl
     (s.tally ∙ ap (tally_of s.made) (sym (append-nil (gave done)))) (λ xs ys x. x) (
       ended_given tell count done [] s.is_at.ended,
-      subst (IsAll k (frames_of k s.made)) (sym (t.gave ∙ append-nil (gave done)))
-          (subst (λ (x : Config). IsAll x (frames_of k s.made) (gave done)) same
+      subst (HasGiven pipe k (frames_of k s.made)) (sym (t.gave ∙ append-nil (gave done)))
+          (subst (λ (x : Config). HasGiven pipe x (frames_of k s.made) (gave done)) same
           (c.rest.ensures.all c.if-rest.false s.is_at.content (frames_of k s.made) (gave done)
           (stands_as _ k m.sender s.is_at.content (frames_of k s.made) (gave done) (sym same) s.is_at.stands))),
     )

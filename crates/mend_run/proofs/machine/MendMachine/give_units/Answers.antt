@@ -4,7 +4,8 @@ use Rattle.std.proofs.Math.Logic.{∥∥₁_elim}
 use Rattle.std.proofs.lemmas.List.{length-take-le}
 use Rattle.ts_packet.specs.declared.sizes.TheConstants.{SIZE}
 use Rattle.plp_config.specs.declared.config.Config.{Config}
-use Rattle.spaced_frames.specs.StandsFor.{SenderStandsFor, Content, Caught, content_of, config_of}
+use Rattle.t2mi_stream.specs.Complete.{complete_units}
+use Rattle.spaced_frames.specs.StandsFor.{SenderStandsFor, Content, HasGiven, content_of, config_of}
 use Rattle.spaced_frames.specs.StandsFor.{left_of as sender_left}
 use Rattle.mended_frames.specs.Mended.{frames_of}
 use Rattle.mended_frames.specs.StandsFor.{lent_content}
@@ -40,7 +41,7 @@ returns-then-not-busy-clause-shown c = λ k count done came.
     (stands_as d k m.sender y (frames_of k s.made) (gave done) (sym same) s.is_at.stands) in
     let new = stands_as k d c.give-len.new.self (content_of frame) (frames_of k s.made) (gave done ++ out) same
     (c.give-len.ensures.stands (frames_of k s.made) (gave done) old) in
-    let caught = subst (λ (z : Config). Caught z (frames_of k s.made) (gave done ++ out)) same
+    let caught = subst (λ (z : Config). HasGiven complete_units z (frames_of k s.made) (gave done ++ out)) same
     (c.give-len.ensures.caught c.if-not-busy.true (frames_of k s.made) (gave done) old) in
     c.pass.ensures.shown k count (done ++ Gave out ∷ [])
     (shown_given tell k count done out m _ (Sends n from) (Passes (Some n) true) s refl refl refl
@@ -51,7 +52,7 @@ returns-then-not-busy-clause-shown c = λ k count done came.
       record {
         content = content_of frame;
         stands = subst (SenderStandsFor k c.give-len.new.self (content_of frame) (frames_of k s.made)) (sym t.gave) new;
-        caught = subst (Caught k (frames_of k s.made)) (sym t.gave) caught;
+        caught = subst (HasGiven complete_units k (frames_of k s.made)) (sym t.gave) caught;
       },
       s.is_at.known,
     ))

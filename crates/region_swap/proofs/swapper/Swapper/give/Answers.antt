@@ -4,7 +4,7 @@ use Rattle.plp_config.specs.declared.config.Config.{Config}
 use Rattle.t2mi_packet.specs.declared.packet.Body.{Body}
 use Rattle.t2mi_stream.specs.Complete.{complete_units}
 use Rattle.t2mi_stream.specs.Pipe.{pipe}
-use Rattle.frame_groups.specs.Laws.{IsPrefix}
+use Rattle.terms.specs.Lists.{IsPrefix}
 use Rattle.frame_writer.specs.Flowing.{Flows}
 use Rattle.stream_laws.specs.Remade.{remade_bodies, remade_packets}
 use Rattle.region_swap.specs.Left.{left_by, own_list}

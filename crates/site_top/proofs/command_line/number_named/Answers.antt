@@ -1,6 +1,6 @@
 use Rattle.std.proofs.Common.{arith}
 use Rattle.site_top.proofs.RequestLemmas.{named}
-use Rattle.site_top.proofs.request.number_named.Goals as goal
+use Rattle.site_top.proofs.command_line.number_named.Goals as goal
 
 pub returns-clause-named : goal.returns-clause-named
 returns-clause-named c =

@@ -1,8 +1,8 @@
 use Rattle.std.proofs.Common.{ap, sym, ◌∙◌}
 use Rattle.std.specs.Str.{bytes_eq}
 use Rattle.ports.proofs.GivenLemmas.{given_by_more, counted, passed}
-use Rattle.ports.proofs.memory.given_by.Goals as goal
-use Rattle.ports.proofs.memory.given_by.Goals.{then-eq, else-eq}
+use Rattle.ports.proofs.memory_files.given_by.Goals as goal
+use Rattle.ports.proofs.memory_files.given_by.Goals.{then-eq, else-eq}
 
 pub loop-handle-preserved : goal.loop-handle-preserved
 loop-handle-preserved c =

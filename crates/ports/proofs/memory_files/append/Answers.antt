@@ -1,6 +1,6 @@
 use Rattle.std.proofs.Common.{sym, refl, ◌∙◌}
 use Rattle.ports.proofs.WriteLemmas.{kept_files, not_extended}
-use Rattle.ports.proofs.memory.append.Goals as goal
+use Rattle.ports.proofs.memory_files.append.Goals as goal
 
 pub returns-in-Some-clause-not : goal.returns-in-Some-clause-not
 returns-in-Some-clause-not c = λ lost.

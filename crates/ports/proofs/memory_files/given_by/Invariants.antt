@@ -1,6 +1,6 @@
 use Rattle.std.proofs.Common.{◌≡◌, ◌-◌, ◌^◌, min, take, map, string_bytes}
 use Rattle.ports.specs.MemoryDesk.{given_by}
-use Rattle.ports.proofs.memory.given_by.Given as goal
+use Rattle.ports.proofs.memory_files.given_by.Given as goal
 
 abbrev pub invariant-loop-handle : goal.invariant-loop-handle
 invariant-loop-handle l =

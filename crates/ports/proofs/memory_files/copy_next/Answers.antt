@@ -1,7 +1,7 @@
 use Rattle.std.proofs.Common.{◌≤◌, ◌-◌, length, arith}
 use Rattle.std.proofs.lemmas.List.{length-take, length-drop}
 use Rattle.ports.proofs.HandleLemmas.{copied}
-use Rattle.ports.proofs.memory.copy_next.Goals as goal
+use Rattle.ports.proofs.memory_files.copy_next.Goals as goal
 
 pub returns-clause-next : goal.returns-clause-next
 returns-clause-next c =
