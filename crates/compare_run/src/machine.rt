@@ -8,6 +8,7 @@ use bit_slice::OutOfMemory;
 use feed_merge::{FrameFeed, end_one, feed_one, next_step};
 use file_run::{Ending, Machine, Step};
 use plp_config::Plan;
+use ports::Desk;
 use std::alloc::Global;
 
 /// Two feeds of a network that are fed with the bytes of two inputs, and the lines of their frames.
@@ -115,5 +116,13 @@ impl<'p> CompareMachine<'p> {
             plp: plps,
             done: false,
         })
+    }
+
+    /// Notes which frames of each feed have a timestamp of another moment.
+    pub fn note<D: Desk>(&self, desk: &mut D)
+        ensures { D.state desk.new ≡ D.state desk.old }
+    {
+        self.a.note(desk);
+        self.b.note(desk);
     }
 }

@@ -28,5 +28,7 @@ pub fn run<D: Desk>(
 {
     due_records_law();
     let mut machine = CompareMachine::open(alloc, plan)?;
-    run_over_two(alloc, &mut machine, a, b, Output::Standard, desk)
+    let ended = run_over_two(alloc, &mut machine, a, b, Output::Standard, desk);
+    machine.note(desk);
+    ended
 }

@@ -149,9 +149,14 @@ impl<'a> Notes<'a> {
         found
     }
 
-    /// Whether more than one frame has a timestamp of another moment.
-    pub fn has_other_moments(&self) -> bool {
-        let mut notes = self.kept.iter().flatten();
-        notes.any(|note| note.count > 1 && note.what.starts_with(OTHER_MOMENT))
+    /// Whether more than one frame of a feed has a timestamp of another moment, by the place of the feed among those of
+    /// which it was noted.
+    pub fn has_other_moments(&self, place: usize) -> bool {
+        let mut notes = self
+            .kept
+            .iter()
+            .flatten()
+            .filter(|note| note.what.starts_with(OTHER_MOMENT));
+        notes.nth(place).map_or(false, |note| note.count > 1)
     }
 }

@@ -183,7 +183,7 @@ impl RunCounts<'_> {
 
     // Says what to do if so much was lost in a row that it is not known how much.
     fn say_way_out(&self, rt: &impl Eprint, records: &RecordCounts<'_>) -> io::Result<()> {
-        if self.notes.has_other_moments() {
+        if self.notes.has_other_moments(0) {
             eprintln!(rt;
                 "timestamps are of other moments: if {SUPERFRAME_PERIOD} superframes or more were lost in a row, frames behind the loss stand at wrong moments; give what came behind it to another run"
             )
@@ -194,6 +194,19 @@ impl RunCounts<'_> {
         } else {
             Ok(())
         }
+    }
+
+    // Says which of so many feeds have timestamps of other moments, and what to do.
+    fn say_other_moments(&self, rt: &impl Eprint, feeds: usize) -> io::Result<()> {
+        for (place, input) in self.inputs.as_slice().iter().enumerate() {
+            if place < feeds && self.notes.has_other_moments(place) {
+                eprintln!(rt;
+                    "{}: timestamps are of other moments: if {SUPERFRAME_PERIOD} superframes or more were lost in a row, frames behind the loss stand at wrong moments; give what came behind it to another run, or put `mend` in front",
+                    Shown(input.name)
+                )?;
+            }
+        }
+        Ok(())
     }
 
     fn say_modulate(&self, rt: &impl Eprint) -> io::Result<()> {
@@ -228,6 +241,7 @@ impl RunCounts<'_> {
 
     fn say_compare(&self, rt: &impl Eprint) -> io::Result<()> {
         self.say_inputs(rt)?;
+        self.say_other_moments(rt, 2)?;
         self.say_muted_of_two(rt)?;
         self.say_unused(rt)?;
         match self.plan {
@@ -299,6 +313,7 @@ impl RunCounts<'_> {
     // Says what either of two feeds had whole, and which frames neither had.
     fn say_merge(&self, rt: &impl Eprint) -> io::Result<()> {
         self.say_inputs(rt)?;
+        self.say_other_moments(rt, 2)?;
         for (place, input) in self.inputs.as_slice().iter().enumerate() {
             self.say_merged(rt, place, input)?;
         }
@@ -342,6 +357,7 @@ impl RunCounts<'_> {
 
     fn say_swap(&self, rt: &impl Eprint, plp: Option<usize>) -> io::Result<()> {
         self.say_inputs(rt)?;
+        self.say_other_moments(rt, 1)?;
         if let Some(input) = self.input(1) {
             input.say_if_empty(rt)?;
         }

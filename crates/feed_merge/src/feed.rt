@@ -5,6 +5,7 @@ ghost use Rattle.plp_config.specs.declared.moment.TheConstants.{MOST_FRAMES};
 ghost use Rattle.modulator.specs.Modulating.{IsSettled, has_record};
 ghost use Rattle.frame_writer.specs.Signalling.{pre_part, conf_part};
 
+use crate::moments::{self, count};
 use bit_slice::OutOfMemory;
 use frame_groups::{Sequence, Waiting};
 use frame_writer::{PoolFrame, Signalling};
@@ -12,6 +13,7 @@ use linked_pool::Pool;
 use modulator::{Modulating, due_records_law};
 use open_group::PooledGroup;
 use plp_config::{MOST_FRAMES, Plan};
+use ports::{Desk, Note};
 use std::alloc::Global;
 use t2mi_stream::{Unpiper, accepted_front_law};
 
@@ -24,6 +26,8 @@ pub struct FrameFeed<'p> {
     inner: Modulating<'p>,
     // The record that waits.
     waiting: Option<Waiting>,
+    // For people: no definition reads it.
+    moments: Note,
     ghost network: { plan.now ≡ inner.sequence.group.network },
     ghost pre: { signalling.pre ≡ pre_part plan.now },
     ghost conf: { signalling.conf ≡ conf_part plan.now },
@@ -71,6 +75,7 @@ impl<'p> FrameFeed<'p> {
             signalling,
             inner,
             waiting,
+            moments: moments::NONE,
         })
     }
 
@@ -205,8 +210,16 @@ impl<'p> FrameFeed<'p> {
         ensures config { config_of self.new ≡ config_of self.old }
     {
         due_records_law();
+        count(&mut self.moments, self.waiting);
         let _waiting = self.inner.waiting();
         self.inner.gave();
         self.waiting = self.inner.waiting();
+    }
+
+    /// Notes the frames that were left behind and whose timestamp is of another moment.
+    pub fn note<D: Desk>(&self, desk: &mut D)
+        ensures { D.state desk.new ≡ D.state desk.old }
+    {
+        desk.note(self.moments);
     }
 }

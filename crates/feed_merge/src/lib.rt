@@ -6,6 +6,7 @@ mod feed;
 mod feeding;
 mod laws;
 mod merger;
+mod moments;
 mod picking;
 mod reading;
 mod seen;

@@ -5,6 +5,7 @@ use bit_slice::OutOfMemory;
 use feed_merge::{Feed, FrameFeed, Merger, end_one, feed_one, next_step};
 use file_run::{Ending, FeedCounts, Machine, Step, events_law};
 use plp_config::Plan;
+use ports::Desk;
 use std::alloc::Global;
 
 /// A merger that is fed with the bytes of two inputs and gives the bytes of its units: two feeds of a network, and the
@@ -118,5 +119,14 @@ impl<'p> MergeMachine<'p> {
             },
             counts: FeedCounts::NONE,
         })
+    }
+
+    /// Notes what each feed had whole, and which frames of it have a timestamp of another moment.
+    pub fn note<D: Desk>(&self, desk: &mut D)
+        ensures { D.state desk.new ≡ D.state desk.old }
+    {
+        self.counts.note(desk, 2);
+        self.a.note(desk);
+        self.b.note(desk);
     }
 }

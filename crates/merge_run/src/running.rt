@@ -34,6 +34,6 @@ pub fn run<D: Desk>(
     complete_law();
     let mut machine = MergeMachine::open(alloc, plan)?;
     let ended = run_over_two(alloc, &mut machine, a, b, Output::File(out), desk);
-    machine.counts.note(desk, 2);
+    machine.note(desk);
     ended
 }

@@ -38,5 +38,7 @@ pub fn run<D: Desk>(
     slot_time_law();
     length_law();
     let mut machine = SwapMachine::open(alloc, plan, plp)?;
-    run_over_two(alloc, &mut machine, t2mi, input, Output::File(out), desk)
+    let ended = run_over_two(alloc, &mut machine, t2mi, input, Output::File(out), desk);
+    machine.feed.note(desk);
+    ended
 }

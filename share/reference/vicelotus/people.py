@@ -32,6 +32,12 @@ ENDS_MUTED = (
 )
 
 
+def other_moments(name, frames):
+    """What is told of a feed that is counted at wrong moments."""
+    if sum(not is_shown(frame) and frame.cause.name == "TimeDisagrees" for frame in frames) > 1:
+        yield f"{name}: {OTHER_MOMENTS}, or put `mend` in front"
+
+
 def in_runs(numbers):
     """Numbers as runs, of which the first four are told."""
     runs = []
@@ -235,6 +241,8 @@ def of_merge(plan, desk, one, other):
     for units in pair:
         yield from units.damage()
     feeds = [modulated(plan, desk.files[name]) for name in (one, other)]
+    for units, frames in zip(pair, feeds):
+        yield from other_moments(units.name, frames)
     first, second = ({frame.number for frame in frames if is_shown(frame)} for frames in feeds)
     for units, own, others in zip(pair, (first, second), (second, first)):
         if own:
@@ -255,6 +263,8 @@ def of_compare(plan, desk, one, other):
     for units in pair:
         yield from units.damage()
     feeds = [modulated(plan, desk.files[name]) for name in (one, other)]
+    for units, frames in zip(pair, feeds):
+        yield from other_moments(units.name, frames)
     for units, own, others in zip(pair, feeds, feeds[::-1]):
         met = {frame.number for frame in others}
         if any(not is_shown(frame) and frame.number in met for frame in own):
@@ -292,6 +302,7 @@ def of_mend(plan, desk, names):
 
 def of_swap(plan, desk, plp_id, t2mi, name):
     yield from Units(t2mi, desk.files[t2mi], plan.config.pid).damage()
+    yield from other_moments(t2mi, modulated(plan, desk.files[t2mi]))
     chain, own = plan.chain_of(plp_id), ts.packets_of(desk.files[name])
     if not own:
         yield f"{name}: it has no packet; null packets stand for it"
