@@ -15,7 +15,7 @@ use Rattle.compare_run.specs.Runs.{goes_on, longer_by}
 use Rattle.compare_run.specs.Runs.{single_open, next_open, single_known, told_by, first_differing, counts_of, counted}
 use Rattle.compare_run.specs.Runs.{one_if}
 use Rattle.compare_run.specs.declared.answer.Answer.{Answer}
-use Rattle.compare_run.specs.declared.counts.Counts.{Counts}
+use Rattle.compare_run.specs.declared.counts.CompareRan.{CompareRan}
 use Rattle.compare_run.specs.declared.answer_run.Run.{Run}
 
 -- ---- two answers that are one
@@ -212,6 +212,6 @@ counts_behind xs x =
     (one_more (λ (y : Answered). is_differing y.answer) xs x) (first_more xs x)
   where
     by : {a b c d e f : ℕ} {o p : Option ℕ} → a ≡ b → c ≡ d → e ≡ f → o ≡ p
-        → (let n : Counts = record { frames = a; same = c; differ = e; first = o } in n)
+        → (let n : CompareRan = record { frames = a; same = c; differ = e; first = o } in n)
         ≡ record { frames = b; same = d; differ = f; first = p }
     by i j k l = rw (i, j, k, l) refl

@@ -41,7 +41,7 @@ use Rattle.compare_run.specs.TallyStandsFor.{plps_in, frames_in}
 use Rattle.compare_run.specs.declared.answer.Answer.{Answer}
 use Rattle.compare_run.specs.declared.answer.Side.{Side}
 use Rattle.compare_run.specs.declared.answering.Carried.{Carried}
-use Rattle.compare_run.specs.declared.counts.Counts.{Counts}
+use Rattle.compare_run.specs.declared.counts.CompareRan.{CompareRan}
 use Rattle.compare_run.specs.declared.tally.Tally.{Tally}
 use Rattle.compare_run.specs.Shown.{Shown, HasShown, IsTold, text_in, plps_from, untold}
 use Rattle.compare_run.specs.Steps.{left_of}
@@ -384,7 +384,7 @@ plps_fit h = h.shown.plps ∙ ap (λ (k : Config). length k.plps) (sym h.shown.c
 pub few_said : (c : Config) (m : CompareMachine) (events : List Event) → Shown c events m → frames_in m.tally < 2 ^ 62
 few_said c m events s =
     let t = told_here c m events s in
-    let e = ap (λ (n : Counts). n.frames) t.tallied.counts in
+    let e = ap (λ (n : CompareRan). n.frames) t.tallied.counts in
     let f = t.few in
     let l = s.both.early in
     omega (arith, e, f, l)

@@ -10,7 +10,7 @@ use Rattle.modulator.specs.StandsFor.{records_of}
 use Rattle.feed_merge.specs.Fed.{AreEarly}
 use Rattle.feed_merge.proofs.FilesLemmas.{two}
 use Rattle.compare_run.specs.Runs.{counts_of, first_differing}
-use Rattle.compare_run.specs.declared.counts.Counts.{Counts}
+use Rattle.compare_run.specs.declared.counts.CompareRan.{CompareRan}
 use Rattle.compare_run.specs.CompareRun.{compared_of, HaveRecords}
 use Rattle.compare_run.specs.Laws.{MustRun, OneRun, RunEnds}
 use Rattle.compare_run.specs.declared.stop.CompareStop.{CompareStop}
@@ -48,11 +48,11 @@ pub run_ends : RunEnds
 run_ends c files = go (records_of c (files 0)) (records_of c (files 1)) refl refl
   where
     by_first : HaveRecords c files → (first : Option ℕ) → first_differing (compared_of c files) ≡ first
-        → (result : Result Counts CompareStop) × MustRun c files result
+        → (result : Result CompareRan CompareStop) × MustRun c files result
     by_first have None e = (Ok (counts_of (compared_of c files)), (have, e, refl))
     by_first have (Some frame) e = (Err (Differs frame), (have, e))
 
-    done : (records_of c (files 0) ≢ []) ⊎ (records_of c (files 1) ≢ []) → (result : Result Counts CompareStop)
+    done : (records_of c (files 0) ≢ []) ⊎ (records_of c (files 1) ≢ []) → (result : Result CompareRan CompareStop)
         × MustRun c files result
     done some =
         elim (early_or_late (records_of c (files 0))) [
@@ -70,7 +70,7 @@ run_ends c files = go (records_of c (files 0)) (records_of c (files 1)) refl ref
         ]
 
     go : (xs ys : List FrameRecord) → records_of c (files 0) ≡ xs → records_of c (files 1) ≡ ys
-        → (result : Result Counts CompareStop) × MustRun c files result
+        → (result : Result CompareRan CompareStop) × MustRun c files result
     go [] [] a b = (Err NoSuperframe, two (λ (input : ℕ). records_of c (files input) ≡ []) a b)
     go [] (y ∷ ys) a b = done (inr (λ none. some_is y ys (sym b ∙ none)))
     go (x ∷ xs) ys a b = done (inl (λ none. some_is x xs (sym a ∙ none)))

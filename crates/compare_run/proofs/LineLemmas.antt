@@ -12,7 +12,7 @@ use Rattle.compare_run.specs.Lines.{text_of, rest_text}
 use Rattle.compare_run.specs.Runs.{runs_of, known, open_run, single, single_known, goes_on, told_by, next_open}
 use Rattle.compare_run.specs.Runs.{counts_of, counted, is_differing, is_one}
 use Rattle.compare_run.specs.TallyStandsFor.{TallyStandsFor}
-use Rattle.compare_run.specs.declared.counts.Counts.{Counts}
+use Rattle.compare_run.specs.declared.counts.CompareRan.{CompareRan}
 use Rattle.compare_run.specs.declared.answer.Answer.{Answer}
 use Rattle.compare_run.specs.declared.answer_run.Run.{Run}
 use Rattle.compare_run.specs.declared.tally.Tally.{Tally}
@@ -136,7 +136,7 @@ pub stands_more : (t new : Tally) (xs : List Answered) (x : Answered) → TallyS
     → new.run ≡ next_open t.run x → new.counts ≡ counted t.counts x → TallyStandsFor new (xs ++ x ∷ [])
 stands_more t new xs x s run counts = record {
   run = run ∙ ap (λ (o : Option Run). next_open o x) s.run ∙ sym (open_behind xs x);
-  counts = counts ∙ ap (λ (n : Counts). counted n x) s.counts ∙ sym (counts_behind xs x);
+  counts = counts ∙ ap (λ (n : CompareRan). counted n x) s.counts ∙ sym (counts_behind xs x);
 }
 
 pub known_of : (of : ℕ → List PlpDifference) (t : Tally) (xs : List Answered) (x : Answered) (line : List ℕ)

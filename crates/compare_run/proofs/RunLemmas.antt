@@ -35,7 +35,7 @@ use Rattle.compare_run.specs.AnswerLaws.{frames_by}
 use Rattle.compare_run.specs.Lines.{known_text, text_of}
 use Rattle.compare_run.specs.Runs.{counts_of}
 use Rattle.compare_run.specs.TallyStandsFor.{counts_in, plps_in}
-use Rattle.compare_run.specs.declared.counts.Counts.{Counts}
+use Rattle.compare_run.specs.declared.counts.CompareRan.{CompareRan}
 use Rattle.compare_run.proofs.GrowLemmas.{answers_nothing, before_more}
 use Rattle.compare_run.proofs.PlpLemmas.{no_plp}
 use Rattle.compare_run.proofs.LineLemmas.{nothing_told, known_front}
@@ -147,7 +147,7 @@ module _ (front : DueFront) (follow : DueFollow) (c : Config) (m : CompareMachin
       → AreAlike c files (counts_in m.tally) (gave events)
   are_alike off done some none = record {
     have = have done some;
-    none = ap (λ (n : Counts). n.first) (sym (counts_all done)) ∙ none;
+    none = ap (λ (n : CompareRan). n.first) (sym (counts_all done)) ∙ none;
     is = said_all off done;
     counts_are = counts_all done;
   }
@@ -156,7 +156,7 @@ module _ (front : DueFront) (follow : DueFollow) (c : Config) (m : CompareMachin
       → (counts_in m.tally).first ≡ Some frame → AreOther c files frame (gave events)
   are_other frame off done some first = record {
     have = have done some;
-    first = ap (λ (n : Counts). n.first) (sym (counts_all done)) ∙ first;
+    first = ap (λ (n : CompareRan). n.first) (sym (counts_all done)) ∙ first;
     is = said_all off done;
   }
 

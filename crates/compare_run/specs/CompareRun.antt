@@ -14,7 +14,7 @@ use Rattle.feed_merge.specs.Groups.{groups_of}
 use Rattle.compare_run.specs.Comparing.{Answered, answers, answers_below, frames_of, PlpDifference, plp_differences}
 use Rattle.compare_run.specs.Lines.{known_text, text_of}
 use Rattle.compare_run.specs.Runs.{counts_of, first_differing}
-use Rattle.compare_run.specs.declared.counts.Counts.{Counts}
+use Rattle.compare_run.specs.declared.counts.CompareRan.{CompareRan}
 use Rattle.compare_run.specs.declared.stop.CompareStop.{CompareStop}
 use Rattle.compare_run.specs.declared.stop.CompareStop.TheVariants.{NoSuperframe, TooManyFrames, Differs}
 
@@ -42,7 +42,7 @@ pub record HaveRecords (c : Config) (files : ℕ → List ℕ) : Type 0 where
   pub early : (input : ℕ) → input < 2 → AreEarly (records_of c (files input))
 
 -- No frame differs: the text is all lines, and these are the numbers.
-pub record AreAlike (c : Config) (files : ℕ → List ℕ) (counts : Counts) (text : List ℕ) : Type 0 where
+pub record AreAlike (c : Config) (files : ℕ → List ℕ) (counts : CompareRan) (text : List ℕ) : Type 0 where
   pub have : HaveRecords c files
   pub none : first_differing (compared_of c files) ≡ None
   pub is : text ≡ all_text c files
@@ -104,7 +104,7 @@ pub record HasNearly (c : Config) (input : ℕ) (files : ℕ → List ℕ) (plac
   pub within : taken ≤ longest_file
   pub has : HasRead c input taken files places text
 
-abbrev pub compare_work : Config → Work Counts CompareStop
+abbrev pub compare_work : Config → Work CompareRan CompareStop
 compare_work c files (Ok counts) places text = AreWhole files places × AreAlike c files counts text
 compare_work c files (Err (Refused (Differs frame))) places text = AreWhole files places × AreOther c files frame text
 compare_work c files (Err (Refused NoSuperframe)) places text = AreWhole files places × HasNone c files text

@@ -10,7 +10,7 @@ use Rattle.compare_run.specs.declared.answer.Answer.TheVariants.{Same, MutedA, M
 use Rattle.compare_run.specs.declared.answer.Other.{Other}
 use Rattle.compare_run.specs.declared.answer.Place.{Place}
 use Rattle.compare_run.specs.declared.answer.Place.TheVariants.{L1, Block}
-use Rattle.compare_run.specs.declared.counts.Counts.{Counts}
+use Rattle.compare_run.specs.declared.counts.CompareRan.{CompareRan}
 use Rattle.compare_run.specs.declared.answer_run.Run.{Run}
 
 abbrev pub place_text : Place → List ℕ
@@ -66,7 +66,7 @@ abbrev pub lines_of : List Run → List ℕ
 lines_of runs = flat_map run_line runs
 
 -- the line that ends the lines
-unfoldable pub compared_line : Counts → List ℕ
+unfoldable pub compared_line : CompareRan → List ℕ
 compared_line n = codes "compared frames=" ++ decimal n.frames ++ codes " same=" ++ decimal n.same ++ codes " differ="
     ++ decimal n.differ ++ codes "\n"
 
@@ -79,7 +79,7 @@ unfoldable pub known_text : (ℕ → List PlpDifference) → List Answered → L
 known_text of xs = flat_map (run_text of) (known (runs_of xs))
 
 -- what is left at the end: the run that might go on, and the numbers
-unfoldable pub rest_text : Option Run → Counts → List ℕ
+unfoldable pub rest_text : Option Run → CompareRan → List ℕ
 rest_text run n = if n.frames == 0 then [] else lines_of (option_to_list run) ++ compared_line n
 
 -- all lines of all frames; of no frame nothing is said

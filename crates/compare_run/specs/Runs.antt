@@ -5,7 +5,7 @@ use Rattle.std.specs.Option.{option_or}
 use Rattle.compare_run.specs.Comparing.{Answered}
 use Rattle.compare_run.specs.declared.answer.Answer.{Answer}
 use Rattle.compare_run.specs.declared.answer.Answer.TheVariants.{Same, MutedA, MutedB, MutedBoth, OnlyA, OnlyB, Differs}
-use Rattle.compare_run.specs.declared.counts.Counts.{Counts}
+use Rattle.compare_run.specs.declared.counts.CompareRan.{CompareRan}
 use Rattle.compare_run.specs.declared.answer_run.Run.{Run}
 
 -- the answers by number; the last ones have a run for each frame
@@ -89,7 +89,7 @@ abbrev pub first_differing : List Answered → Option ℕ
 first_differing xs = option_map (λ x. x.frame) (find (λ x. is_differing x.answer) xs)
 
 -- how many frames, how many of them are the same and how many differ, and the first one that does
-abbrev pub counts_of : List Answered → Counts
+abbrev pub counts_of : List Answered → CompareRan
 counts_of xs = record {
   frames = length xs;
   same = length (filter (λ x. is_same x.answer) xs);
@@ -101,7 +101,7 @@ abbrev pub one_if : Bool → ℕ
 one_if b = if b then 1 else 0
 
 -- with one frame more
-abbrev pub counted : Counts → Answered → Counts
+abbrev pub counted : CompareRan → Answered → CompareRan
 counted n x = record {
   frames = n.frames + 1;
   same = n.same + one_if (is_same x.answer);

@@ -12,7 +12,7 @@ use Rattle.compare_run.specs.Comparing.{Answered, carried, first_other}
 use Rattle.compare_run.specs.Runs.{runs_of, open_run, counts_of}
 use Rattle.compare_run.specs.declared.answer.Other.{Other}
 use Rattle.compare_run.specs.declared.answering.Carried.{Carried}
-use Rattle.compare_run.specs.declared.counts.Counts.{Counts}
+use Rattle.compare_run.specs.declared.counts.CompareRan.{CompareRan}
 use Rattle.compare_run.specs.declared.tally.Tally.{Tally}
 
 -- These frames were added, in turn.
@@ -21,7 +21,7 @@ pub record TallyStandsFor (t : Tally) (xs : List Answered) : Type 0 where
   pub counts : t.counts ≡ counts_of xs
 
 -- its numbers
-abbrev pub counts_in : Tally → Counts
+abbrev pub counts_in : Tally → CompareRan
 counts_in t = t.counts
 
 -- how many frames were added

@@ -8,7 +8,7 @@ use crate::answer::Answer;
 
 /// How many frames two streams have together.
 #[derive(Clone, Copy, Debug, PartialEq, Eq)]
-pub struct Counts {
+pub struct CompareRan {
     /// Frames that one of them has at least.
     pub frames: u64,
     /// Those that both send, and the same.
@@ -20,14 +20,14 @@ pub struct Counts {
 }
 
 /// With one frame more.
-pub fn counted(counts: Counts, frame: u64, answer: Answer) -> Counts
+pub fn counted(counts: CompareRan, frame: u64, answer: Answer) -> CompareRan
     requires few { counts.frames < 2 ^ 62 }
     requires same { counts.same ≤ counts.frames }
     requires differ { counts.differ ≤ counts.frames }
     ensures { result ≡ counted_by counts (answered frame answer) }
 {
     let differs = answer.is_differing();
-    Counts {
+    CompareRan {
         frames: counts.frames + 1,
         same: counts.same + u64::from(answer.is_same()),
         differ: counts.differ + u64::from(differs),

@@ -18,7 +18,7 @@ mod tally;
 pub use answer::{Answer, Other, Place, Side};
 pub use answer_laws::{answers_law, known_law, none_differs_law, own_law, plps_law, same_law};
 pub use answering::{Carried, answer_by};
-pub use counts::Counts;
+pub use counts::CompareRan;
 pub use laws::{one_run_law, run_ends_law};
 pub use running::run;
 pub use stop::CompareStop;

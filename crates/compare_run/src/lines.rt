@@ -11,7 +11,7 @@ ghost use Rattle.compare_run.specs.Runs.{single_known, told_by};
 
 use crate::answer::{Answer, Other, Place};
 use crate::answer_run::{Run, single};
-use crate::counts::Counts;
+use crate::counts::CompareRan;
 use file_run::Line;
 
 // Bytes of a word, of a place and of what is said of a PLP at most, and of a line: those of their keys, and 20 for each
@@ -117,7 +117,7 @@ pub fn run_line(run: Run) -> Line
 
 /// The line of the numbers.
 #[tactic(auto, unfolding(crate::specs::Lines::compared_line))]
-pub fn compared_line(counts: Counts) -> Line
+pub fn compared_line(counts: CompareRan) -> Line
     ensures text { result ≡ line_of_counts counts }
     ensures len { length result ≤ LONGEST_LINE }
 {
@@ -159,7 +159,7 @@ pub fn told_lines(run: Option<Run>, frame: u64, answer: Answer) -> Line
 
 /// What is left at the end: the run that might go on, and the numbers; of no frame there is nothing.
 #[tactic(auto, unfolding(crate::specs::Lines::rest_text))]
-pub fn rest_line(run: Option<Run>, counts: Counts) -> Line
+pub fn rest_line(run: Option<Run>, counts: CompareRan) -> Line
     ensures text { result ≡ rest_text run counts }
     ensures len { length result ≤ 2 * LONGEST_LINE }
 {

@@ -1,7 +1,7 @@
 // Two feeds that are compared, as a machine over files.
 use crate::answering::Carried;
 use crate::comparing::copy_line;
-use crate::counts::Counts;
+use crate::counts::CompareRan;
 use crate::stop::CompareStop;
 use crate::tally::Tally;
 use bit_slice::OutOfMemory;
@@ -66,18 +66,24 @@ impl<'p> Machine for CompareMachine<'p> {
         let line = self.go_on();
         copy_line(&line, out)
     }
+
+    // Which frames of each feed have a timestamp of another moment.
+    fn note<D: Desk>(&self, desk: &mut D) {
+        self.a.note(desk, 0);
+        self.b.note(desk, 1);
+    }
 }
 
 impl<'p> Ending for CompareMachine<'p> {
     ghost use Rattle.compare_run.specs.AsMachine.{ending_of};
 
-    type Ran = Counts;
+    type Ran = CompareRan;
 
     type Stop = CompareStop;
 
     ghost ending = { ending_of };
 
-    fn ending(&self) -> Result<Counts, CompareStop> {
+    fn ending(&self) -> Result<CompareRan, CompareStop> {
         if !self.done {
             return Err(CompareStop::TooManyFrames);
         }
@@ -116,13 +122,5 @@ impl<'p> CompareMachine<'p> {
             plp: plps,
             done: false,
         })
-    }
-
-    /// Notes which frames of each feed have a timestamp of another moment.
-    pub fn note<D: Desk>(&self, desk: &mut D)
-        ensures { D.state desk.new ≡ D.state desk.old }
-    {
-        self.a.note(desk);
-        self.b.note(desk);
     }
 }

@@ -3,7 +3,7 @@ ghost use Rattle.std.specs.Prelude.{[], ◌∷◌};
 ghost use Rattle.file_run.specs.Work.{Ends, Aloud};
 ghost use Rattle.compare_run.specs.CompareRun.{compare_work};
 
-use crate::counts::Counts;
+use crate::counts::CompareRan;
 use crate::machine::CompareMachine;
 use crate::stop::CompareStop;
 use file_run::{Output, RunStop, run_over_two};
@@ -22,13 +22,11 @@ pub fn run<D: Desk>(
     a: &str,
     b: &str,
     desk: &mut D,
-) -> Result<Counts, RunStop<CompareStop>>
+) -> Result<CompareRan, RunStop<CompareStop>>
     ensures ends { Ends (compare_work plan.now) (D.state desk.old) (D.state desk.new) Aloud (a.now ∷ b.now ∷ [])
         result }
 {
     due_records_law();
     let mut machine = CompareMachine::open(alloc, plan)?;
-    let ended = run_over_two(alloc, &mut machine, a, b, Output::Standard, desk);
-    machine.note(desk);
-    ended
+    run_over_two(alloc, &mut machine, a, b, Output::Standard, desk)
 }

@@ -4,7 +4,7 @@ ghost use Rattle.compare_run.specs.declared.answer_run.Run.{Run};
 
 use crate::answer::Answer;
 use crate::answer_run::{Run, open_behind};
-use crate::counts::{Counts, counted};
+use crate::counts::{CompareRan, counted};
 use crate::lines::{LONGEST_LINE, rest_line, told_lines};
 use file_run::Line;
 
@@ -16,7 +16,7 @@ pub const LONGEST_TEXT: usize = 2 * LONGEST_LINE;
 pub struct Tally {
     // The run that may go on.
     run: Option<Run>,
-    counts: Counts,
+    counts: CompareRan,
     ghost few: { (counts.same ≤ counts.frames) × (counts.differ ≤ counts.frames) },
     ghost low: { (r : Run) → run ≡ Some r → r.last < 2 ^ 63 },
 }
@@ -34,7 +34,7 @@ impl Tally {
     {
         Tally {
             run: None,
-            counts: Counts {
+            counts: CompareRan {
                 frames: 0,
                 same: 0,
                 differ: 0,
@@ -44,7 +44,7 @@ impl Tally {
     }
 
     /// The numbers of the frames.
-    pub fn counts(&self) -> Counts
+    pub fn counts(&self) -> CompareRan
         ensures { result ≡ counts_in self.now }
     {
         self.counts

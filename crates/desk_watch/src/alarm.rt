@@ -1,4 +1,5 @@
-// What is told of a run while it goes on: that frames begin to be muted and come again, and that units are damaged.
+// What is told of a run while it goes on: that frames begin to be muted and come again, that units are damaged, and
+// what becomes of feeds.
 use crate::counts::{OutCounts, RunCounts};
 use crate::records::RecordCounts;
 use ports::MOST_FEEDS;
@@ -14,12 +15,18 @@ pub struct Alarm {
     pub muted: u64,
     /// Whether the last one is.
     pub is_muted: bool,
-    /// How many units were lost or passed over, as far as they tell it.
-    pub damaged: u64,
+    /// How many units of each feed were lost or passed over, as far as they tell it.
+    pub damaged: [u64; MOST_FEEDS],
     /// Which feeds are silent.
     pub silent: Feeds,
     /// Which feeds gave much, and nothing that fits CONFIG.
     pub foreign: Feeds,
+    /// Which feeds have not whole what another one has.
+    pub behind: Feeds,
+    /// How many frames no feed had whole.
+    pub lacked: u64,
+    /// Which feeds have timestamps of other moments.
+    pub shifted: Feeds,
 }
 
 /// Some of the inputs of a run, by their places.
@@ -27,10 +34,26 @@ pub struct Alarm {
 pub struct Feeds([bool; MOST_FEEDS]);
 
 impl Feeds {
-    const NONE: Feeds = Feeds([false; MOST_FEEDS]);
+    /// None of them.
+    pub const NONE: Feeds = Feeds([false; MOST_FEEDS]);
+
+    /// The one at a place is among them from now on, or is not.
+    pub fn set(&mut self, place: usize, has: bool) {
+        if let Some(is) = self.0.get_mut(place) {
+            *is = has;
+        }
+    }
 
     fn has(&self, place: usize) -> bool {
         self.0.get(place).copied().unwrap_or(false)
+    }
+}
+
+// Whether the count at a place rose.
+fn is_more(now: &[u64; MOST_FEEDS], before: &[u64; MOST_FEEDS], place: usize) -> bool {
+    match (now.get(place), before.get(place)) {
+        (Some(now), Some(before)) => now > before,
+        _ => false,
     }
 }
 
@@ -40,9 +63,12 @@ impl Alarm {
         Alarm {
             muted: 0,
             is_muted: false,
-            damaged: 0,
+            damaged: [0; MOST_FEEDS],
             silent: Feeds::NONE,
             foreign: Feeds::NONE,
+            behind: Feeds::NONE,
+            lacked: 0,
+            shifted: Feeds::NONE,
         }
     }
 }
@@ -82,12 +108,13 @@ impl RunCounts<'_> {
         feeds
     }
 
-    fn damaged(&self) -> u64 {
-        let mut sum: u64 = 0;
-        for input in self.inputs.as_slice() {
-            sum = sum.saturating_add(input.damaged_units());
+    // No other input than a feed has units.
+    fn damaged(&self) -> [u64; MOST_FEEDS] {
+        let mut counts = [0; MOST_FEEDS];
+        for (count, input) in counts.iter_mut().zip(self.inputs.as_slice()) {
+            *count = input.damaged_units();
         }
-        sum
+        counts
     }
 
     /// What is wrong by now.
@@ -99,6 +126,9 @@ impl RunCounts<'_> {
             damaged: self.damaged(),
             silent: self.silent(),
             foreign: self.foreign(),
+            behind: self.notes.behind(),
+            lacked: self.notes.of_none().map_or(0, |lacked| lacked.count),
+            shifted: self.notes.shifted(),
         }
     }
 
@@ -123,7 +153,8 @@ impl RunCounts<'_> {
         Ok(())
     }
 
-    // Says which feeds fell silent or come again, and which give nothing that fits CONFIG.
+    // Says which feeds fell silent or come again, which give nothing that fits CONFIG, which fell behind or are whole
+    // again, and which have timestamps of other moments.
     fn say_feeds_now(&self, rt: &impl Eprint, before: Alarm, now: Alarm) -> io::Result<()> {
         for (place, input) in self.inputs.as_slice().iter().enumerate() {
             if now.silent.has(place) != before.silent.has(place) {
@@ -132,6 +163,12 @@ impl RunCounts<'_> {
             if now.foreign.has(place) && !before.foreign.has(place) {
                 input.say_none(rt, NOTHING_FITS)?;
             }
+            if now.behind.has(place) != before.behind.has(place) {
+                self.say_behind(rt, place, input, now.behind.has(place))?;
+            }
+            if now.shifted.has(place) && !before.shifted.has(place) {
+                self.say_moments_now(rt, place, input)?;
+            }
         }
         Ok(())
     }
@@ -139,12 +176,15 @@ impl RunCounts<'_> {
     /// Says what is new since this was wrong.
     pub fn say_news(&self, rt: &impl Eprint, before: Alarm) -> io::Result<()> {
         let now = self.alarm();
-        if now.damaged > before.damaged {
-            for input in self.inputs.as_slice() {
+        for (place, input) in self.inputs.as_slice().iter().enumerate() {
+            if is_more(&now.damaged, &before.damaged, place) {
                 input.say_damaged_units(rt)?;
             }
         }
         self.say_feeds_now(rt, before, now)?;
+        if now.lacked > before.lacked {
+            self.say_lacked_now(rt)?;
+        }
         self.say_muting(rt, before, now)
     }
 }

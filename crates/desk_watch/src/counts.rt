@@ -54,7 +54,7 @@ pub struct RunCounts<'a> {
     pub(crate) out: OutCounts<'a>,
     pub(crate) said: Said,
     pub(crate) differing: Differing,
-    pub(crate) notes: Notes<'a>,
+    pub(crate) notes: Notes,
 }
 
 // The PID of T2-MI, if it is known.
@@ -252,6 +252,11 @@ impl<'a> RunCounts<'a> {
         counts.inputs.push(Input::of_packets(input))?;
         counts.out = OutCounts::T2mi(T2miCounts::new());
         Ok(counts)
+    }
+
+    /// The file at a place among those that are read.
+    pub fn input(&self, place: usize) -> Option<&Input<'a>> {
+        self.inputs.get(place)
     }
 
     /// Bytes of a file were read. Files have the handles 0, 1 and so on as they are opened, and CONFIG is the first.

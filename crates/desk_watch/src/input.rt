@@ -2,7 +2,7 @@
 use crate::packets::PacketCounts;
 use crate::records::RecordCounts;
 use crate::shown::Shown;
-use crate::units::UnitCounts;
+use crate::units::{SoFar, UnitCounts};
 use std::io::{self, Eprint};
 
 /// What is counted of a file: the units of a T2-MI stream, records, or the packets of a transport stream.
@@ -85,12 +85,16 @@ impl<'a> Input<'a> {
         }
     }
 
-    /// Says it, if some were.
+    /// Says it of a run that goes on, if some were.
     pub fn say_damaged_units(&self, rt: &impl Eprint) -> io::Result<()> {
-        if self.damaged_units() == 0 {
-            return Ok(());
+        match &self.counts {
+            InputCounts::Units(units) if units.damaged() > 0 => eprintln!(rt;
+                "{}: {}",
+                Shown(self.name),
+                SoFar(units)
+            ),
+            _ => Ok(()),
         }
-        self.say_damage(rt)
     }
 
     /// Says that units do not tell what was damaged, if it is so.
@@ -166,8 +170,11 @@ impl<'a> Input<'a> {
     }
 }
 
-// Says which records are muted, which are of another network, and of which blocks are damaged.
+// Says that there is no record, or which are muted, which of another network, and of which blocks are damaged.
 fn say_records(rt: &impl Eprint, file: Shown<'_>, records: &RecordCounts<'_>) -> io::Result<()> {
+    if records.count() == 0 {
+        return eprintln!(rt; "{file}: it has no record; OUT is empty");
+    }
     if records.muted().count() > 0 {
         eprintln!(rt;
             "{file}: {records}, counted from 0; null packets stand in OUT for what they carried"
@@ -183,7 +190,7 @@ fn say_foreign(rt: &impl Eprint, file: Shown<'_>, records: &RecordCounts<'_>) ->
         return Ok(());
     }
     eprintln!(rt;
-        "{file}: frames whose L1 is not that of CONFIG: {} of {}, records {foreign}, counted from 0; null packets stand in OUT for what they carried",
+        "{file}: frames whose L1 is not that of CONFIG: {} of {}, records {foreign}, counted from 0; null packets stand in OUT for what they carried; see that CONFIG is that of the network",
         foreign.count(),
         records.count()
     )

@@ -7,6 +7,7 @@ mod counts;
 mod differing;
 mod input;
 mod l1_test;
+mod moments;
 mod notes;
 mod packets;
 mod progress;
@@ -19,6 +20,7 @@ mod t2mi;
 mod telling;
 mod units;
 mod watched;
+mod whole_frames;
 
 pub use counts::RunCounts;
 pub use shown::{Shown, Told};

@@ -1,6 +1,7 @@
 // How far a run is, and what is wrong, told while it goes on.
 use crate::alarm::Alarm;
 use crate::counts::RunCounts;
+use crate::stream_time::Seconds;
 use std::fmt::{self, Display, Formatter, Write};
 use std::io::Eprint;
 use std::time::{Clock, Duration, Instant};
@@ -18,6 +19,9 @@ const WIPE: &str = "\r\x1b[K";
 
 // From so many bytes on they are told in megabytes.
 const MANY: u64 = 10_000_000;
+
+// A day, in seconds.
+const DAY: u64 = 86_400;
 
 // Bytes, in kilobytes or megabytes.
 #[derive(Clone, Copy)]
@@ -37,6 +41,12 @@ impl Display for Bytes {
 fn rate(bytes: u64, time: Duration) -> u64 {
     let millis = u64::try_from(time.as_millis()).unwrap_or(u64::MAX).max(1);
     bytes.saturating_mul(1000) / millis
+}
+
+// The time of day, in UTC.
+fn time_of_day(rt: &impl Clock) -> Option<Seconds> {
+    let since_1970 = rt.since_1970().ok()?;
+    Some(Seconds(since_1970.as_secs() % DAY))
 }
 
 // What was moved when a line was told.
@@ -91,8 +101,8 @@ impl<'a, R: Clock + Eprint> Progress<'a, R> {
         self.start?.elapsed(self.rt).ok()
     }
 
-    // Tells what is new, if something is and it is time. Nobody is left to tell of a failure there.
-    fn alarm(&mut self, counts: &RunCounts<'_>) {
+    /// Tells what is new, if something is and it is time. Nobody is left to tell of a failure there.
+    pub fn alarm(&mut self, counts: &RunCounts<'_>) {
         let alarm = counts.alarm();
         if alarm == self.alarm {
             return;
@@ -150,6 +160,10 @@ impl<'a, R: Clock + Eprint> Progress<'a, R> {
         };
         if let Some(seconds) = counts.stream_time(self.read, self.written) {
             let _ = eprint!(self.rt; ", {seconds}");
+        }
+        // Where nothing moves no line is told: so this one tells since when.
+        if let Some(seconds) = time_of_day(self.rt) {
+            let _ = eprint!(self.rt; ", at {seconds} UTC");
         }
     }
 

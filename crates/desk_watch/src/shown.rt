@@ -22,13 +22,14 @@ impl Display for Shown<'_> {
 
 // Reasons of the system that have no kind, by their numbers.
 #[rattlefmt::skip]
-const REASONS: [(i32, &str); 17] = [
+const REASONS: [(i32, &str); 18] = [
     (5, "input/output error"),
     (6, "no such device or address"),
     (9, "it is closed, or not open for that"),
     (19, "no such device"),
     (23, "too many files are open in the system"),
     (24, "too many files are open"),
+    (36, "the name is too long"),
     (61, "no data available"),
     (67, "link has been severed"),
     (70, "communication error on send"),
@@ -77,7 +78,12 @@ impl Display for Told<'_> {
             ),
             HostFault::IsRead { name } => write!(
                 f,
-                "OUT is the same file as {}, which is read",
+                "OUT is the same file as {}, which is read; name another OUT",
+                file(name)
+            ),
+            HostFault::IsTold { name } => write!(
+                f,
+                "{}: OUT is the file of standard output or standard error; name another OUT",
                 file(name)
             ),
             HostFault::Said { why } => write!(f, "standard output: {}", Why(why)),

@@ -54,7 +54,7 @@ impl RunCounts<'_> {
 
 /// Seconds, as hours, minutes and seconds.
 #[derive(Clone, Copy)]
-pub struct Seconds(u64);
+pub struct Seconds(pub(crate) u64);
 
 impl Display for Seconds {
     fn fmt<W: Write>(&self, f: &mut Formatter<W>) -> fmt::Result {

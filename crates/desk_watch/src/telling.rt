@@ -3,19 +3,17 @@ ghost use Rattle.std.specs.Prelude.{◌<◌, length};
 
 use crate::counts::{Kind, OutCounts, RunCounts};
 use crate::input::{Input, InputCounts};
+use crate::moments::say_moments;
+use crate::notes::say_lacked;
 use crate::records::RecordCounts;
 use crate::shown::Shown;
 use crate::t2mi::T2miCounts;
 use plp_config::{MOST_FRAMES, Plan, Plp, PlpType, SUPERFRAME_PERIOD};
+use ports::ALONE_HAD_WHOLE;
 use std::io::{self, Eprint};
 
-// How it is told that no frame came from a file.
-const NONE_CAME: &str = "no frame came from it: ";
-
-// How it is told of frames that one feed had whole that no other one had, of more than two and of two.
-const NO_OTHER_HAS: &str = "no other IN had whole";
-
-const OTHER_LACKS: &str = "the other had not whole";
+/// How it is told that no frame came from a file.
+pub const NONE_CAME: &str = "no frame came from it: ";
 
 // The PLP of an input of a gateway: of the PLPs that have one, the one at this place.
 fn plp_of(plan: &Plan, place: usize, common: bool) -> Option<&Plp> {
@@ -100,10 +98,6 @@ fn first_that_lacks(plan: &Plan, plp: usize, packets: u64) -> Option<u64>
 }
 
 impl RunCounts<'_> {
-    fn input(&self, place: usize) -> Option<&Input<'_>> {
-        self.inputs.get(place)
-    }
-
     // Says what was damaged in each file that was read.
     fn say_inputs(&self, rt: &impl Eprint) -> io::Result<()> {
         for input in self.inputs.as_slice() {
@@ -183,10 +177,8 @@ impl RunCounts<'_> {
 
     // Says what to do if so much was lost in a row that it is not known how much.
     fn say_way_out(&self, rt: &impl Eprint, records: &RecordCounts<'_>) -> io::Result<()> {
-        if self.notes.has_other_moments(0) {
-            eprintln!(rt;
-                "timestamps are of other moments: if {SUPERFRAME_PERIOD} superframes or more were lost in a row, frames behind the loss stand at wrong moments; give what came behind it to another run"
-            )
+        if self.notes.other_moments(0).is_some() {
+            say_moments(rt)
         } else if records.ends_muted(self.most_lost()) {
             eprintln!(rt;
                 "the end of OUT is muted: if {SUPERFRAME_PERIOD} superframes or more were lost in a row, give what came behind the loss to another run"
@@ -194,19 +186,6 @@ impl RunCounts<'_> {
         } else {
             Ok(())
         }
-    }
-
-    // Says which of so many feeds have timestamps of other moments, and what to do.
-    fn say_other_moments(&self, rt: &impl Eprint, feeds: usize) -> io::Result<()> {
-        for (place, input) in self.inputs.as_slice().iter().enumerate() {
-            if place < feeds && self.notes.has_other_moments(place) {
-                eprintln!(rt;
-                    "{}: timestamps are of other moments: if {SUPERFRAME_PERIOD} superframes or more were lost in a row, frames behind the loss stand at wrong moments; give what came behind it to another run, or put `mend` in front",
-                    Shown(input.name)
-                )?;
-            }
-        }
-        Ok(())
     }
 
     fn say_modulate(&self, rt: &impl Eprint) -> io::Result<()> {
@@ -241,7 +220,7 @@ impl RunCounts<'_> {
 
     fn say_compare(&self, rt: &impl Eprint) -> io::Result<()> {
         self.say_inputs(rt)?;
-        self.say_other_moments(rt, 2)?;
+        self.say_other_moments(rt)?;
         self.say_muted_of_two(rt)?;
         self.say_unused(rt)?;
         match self.plan {
@@ -250,91 +229,31 @@ impl RunCounts<'_> {
         }
     }
 
-    // Says of a feed how many of the frames that were sent it had whole, and of these, with these words, which no other
-    // feed had whole.
-    fn say_whole_frames(
-        &self,
-        rt: &impl Eprint,
-        place: usize,
-        input: &Input<'_>,
-        what: &str,
-    ) -> io::Result<()> {
-        let (OutCounts::T2mi(sent), Some((whole, alone))) = (&self.out, self.notes.of_feed(place))
-        else {
-            return Ok(());
-        };
-        let file = Shown(input.name);
-        let count = whole.count;
-        let sent = sent.frames();
-        if count == 0 {
-            return eprintln!(rt; "{file}: frames that it had whole: 0, of {sent} that were sent");
-        }
-        eprintln!(rt;
-            "{file}: frames that it had whole: {count}, of {sent} that were sent; the last is frame {} of CONFIG",
-            whole.last
-        )?;
-        if alone.count > 0 && self.inputs.len() > 1 {
-            alone.say_as(rt, what)?;
-        }
-        Ok(())
-    }
-
-    // Says of one of two feeds what it had whole, or why it had nothing.
-    fn say_merged(&self, rt: &impl Eprint, place: usize, input: &Input<'_>) -> io::Result<()> {
-        let Some((whole, _)) = self.notes.of_feed(place) else {
-            return Ok(());
-        };
-        if whole.count == 0 {
-            return input.say_none(rt, NONE_CAME);
-        }
-        self.say_whole_frames(rt, place, input, OTHER_LACKS)
-    }
-
-    // Says that no frame was taken from the second of two feeds, if it is so though it had some whole.
-    fn say_not_taken(&self, rt: &impl Eprint) -> io::Result<()> {
-        let (Some(first), Some(second), Some((whole, alone))) = (
-            self.input(0),
-            self.input(1),
-            self.notes.of_feed(1),
-        ) else {
-            return Ok(());
-        };
-        if whole.count == 0 || alone.count > 0 {
-            return Ok(());
-        }
-        eprintln!(rt;
-            "{}: no frame was taken from it: {} had each of the {} that it had whole",
-            Shown(second.name),
-            Shown(first.name),
-            whole.count
-        )
-    }
-
     // Says what either of two feeds had whole, and which frames neither had.
     fn say_merge(&self, rt: &impl Eprint) -> io::Result<()> {
         self.say_inputs(rt)?;
-        self.say_other_moments(rt, 2)?;
+        self.say_other_moments(rt)?;
         for (place, input) in self.inputs.as_slice().iter().enumerate() {
             self.say_merged(rt, place, input)?;
         }
         self.say_not_taken(rt)?;
-        match self.notes.of_none(2) {
-            Some(lacked) if lacked.count > 0 => lacked.say_lacked(rt),
-            _ => Ok(()),
+        match self.notes.of_none() {
+            Some(lacked) => say_lacked(rt, lacked),
+            None => Ok(()),
         }
     }
 
-    // Says which feeds gave nothing, and why, and what the others gave.
+    // Says which feeds gave nothing, and why, what the others gave, and which frames were not sent.
     fn say_mend(&self, rt: &impl Eprint) -> io::Result<()> {
         self.say_inputs(rt)?;
         for (place, input) in self.inputs.as_slice().iter().enumerate() {
             if input.has_no_units() {
                 input.say_none(rt, NONE_CAME)?;
             } else {
-                self.say_whole_frames(rt, place, input, NO_OTHER_HAS)?;
+                self.say_whole_frames(rt, place, input, ALONE_HAD_WHOLE)?;
             }
         }
-        Ok(())
+        self.notes.say_others(rt)
     }
 
     // Says from which frame on null packets stand for the file of a PLP, if no packet of it was left.
@@ -357,7 +276,7 @@ impl RunCounts<'_> {
 
     fn say_swap(&self, rt: &impl Eprint, plp: Option<usize>) -> io::Result<()> {
         self.say_inputs(rt)?;
-        self.say_other_moments(rt, 1)?;
+        self.say_other_moments(rt)?;
         if let Some(input) = self.input(1) {
             input.say_if_empty(rt)?;
         }

@@ -19,6 +19,10 @@ const IDLE: u32 = 0x4700_0020;
 // How many units without a sync byte are looked behind at most.
 const MOST_LOOKS: u64 = 8;
 
+// What may have come if most units do not begin as packets do.
+const NO_PACKETS: &str =
+    "packets of 192 or 204 bytes, bytes lost, or no transport stream: share/cut/cut.py in front makes whole packets";
+
 // From so many units on it is told of a feed that none of them can carry T2-MI.
 const MANY: u64 = 10_000;
 
@@ -73,6 +77,10 @@ pub struct UnitCounts {
     jumps: Tally,
     slip: Option<Slip>,
 }
+
+/// The units of a stream that goes on: the last one is under way, and not cut off.
+#[derive(Clone, Copy)]
+pub struct SoFar<'a>(pub &'a UnitCounts);
 
 // Whether units begin at the front: some sync bytes stand there, 188 bytes apart.
 fn begins_units(bytes: &[u8]) -> bool {
@@ -259,16 +267,37 @@ impl UnitCounts {
         passed_over.saturating_add(self.jumps.count)
     }
 
+    // Whether most of them do not begin as packets do.
+    fn lacks_sync(&self) -> bool {
+        self.no_sync.count > self.units() / 2
+    }
+
+    // Writes which of them were passed over, and where counters jump.
+    fn write_damage<W: Write>(&self, f: &mut Formatter<W>) -> fmt::Result {
+        write_tally(f, "not beginning with 0x47", self.no_sync)?;
+        if let Some(slip) = self.slip {
+            write!(f, "; {slip}")?;
+        } else if self.lacks_sync() {
+            write!(f, "; {NO_PACKETS}")?;
+        }
+        write_tally(f, "of other PIDs", self.other_pid)?;
+        write_tally(f, "marked as wrong or scrambled, or empty", self.unread)?;
+        write_tally(f, "idle", self.idle)?;
+        write_tally(f, "jumps of the continuity counter", self.jumps)
+    }
+
     /// Why no superframe was found in them, as far as they tell it.
     pub fn why_none(&self) -> &'static str {
         if self.units() == 0 {
             "it has no unit of 188 bytes"
-        } else if self.no_sync.count > self.units() / 2 {
-            "most of its units do not begin with 0x47: it is no transport stream, begins inside a unit, or bytes were lost"
+        } else if self.lacks_sync() {
+            "most of its units do not begin with 0x47"
         } else if self.pid.is_none() {
             "CONFIG is not read twice, so it is not known which units are on its PID; `show t2mi` tells which PIDs come"
         } else if self.on_pid() == 0 {
             "none of its units is on the PID of CONFIG; `show t2mi` tells which PIDs come"
+        } else if self.idle.count == self.on_pid() {
+            "all its units on the PID are idle: the feed was silent; see the link"
         } else if self.without_t2mi() == self.on_pid() {
             "all units on the PID are marked as wrong or scrambled, or have no payload"
         } else {
@@ -293,7 +322,7 @@ impl Display for Slip {
     fn fmt<W: Write>(&self, f: &mut Formatter<W>) -> fmt::Result {
         write!(
             f,
-            "at byte {} no unit begins, and one does {} bytes on: bytes were lost or added before; units are counted from the front, so give what begins there to another run",
+            "at byte {} no unit begins, and one does {} bytes on: bytes were lost or added before; share/cut/cut.py in front goes on there",
             self.place, self.distance
         )
     }
@@ -305,13 +334,13 @@ impl Display for UnitCounts {
         if self.came > 0 {
             write!(f, "; the last one is cut off behind {} bytes", self.came)?;
         }
-        write_tally(f, "not beginning with 0x47", self.no_sync)?;
-        if let Some(slip) = self.slip {
-            write!(f, "; {slip}")?;
-        }
-        write_tally(f, "of other PIDs", self.other_pid)?;
-        write_tally(f, "marked as wrong or scrambled, or empty", self.unread)?;
-        write_tally(f, "idle", self.idle)?;
-        write_tally(f, "jumps of the continuity counter", self.jumps)
+        self.write_damage(f)
+    }
+}
+
+impl Display for SoFar<'_> {
+    fn fmt<W: Write>(&self, f: &mut Formatter<W>) -> fmt::Result {
+        write!(f, "{} units", self.0.units())?;
+        self.0.write_damage(f)
     }
 }

@@ -13,7 +13,7 @@ fn lines_in(text: &[u8]) -> u64 {
 }
 
 /// A desk whose moves are counted and told on standard error: how far they are in one line that is renewed twice a
-/// second at most, and what is wrong at once, in one line a second at most.
+/// second at most, and what is wrong at once: once a second at most, a line for each feed that has news.
 #[derive(Drop)]
 pub struct Watched<'a, D, R> {
     pub desk: D,
@@ -49,7 +49,9 @@ impl<D: Desk, R: Clock + Eprint> Desk for Watched<'_, D, R> {
         self.desk.open(name)
     }
 
+    // What is new is told before the file is waited for: the notes of a run come then.
     fn read(&mut self, handle: u32, buffer: &mut [u8]) -> Result<usize, DeskFault> {
+        self.progress.alarm(&self.counts);
         let count = self.desk.read(handle, buffer)?;
         self.counts.read(handle, buffer.get(..count).unwrap_or(&[]));
         self.progress.read(count, &self.counts);

@@ -5,7 +5,7 @@ ghost use Rattle.plp_config.specs.declared.moment.TheConstants.{MOST_FRAMES};
 ghost use Rattle.modulator.specs.Modulating.{IsSettled, has_record};
 ghost use Rattle.frame_writer.specs.Signalling.{pre_part, conf_part};
 
-use crate::moments::{self, count};
+use crate::moments::count;
 use bit_slice::OutOfMemory;
 use frame_groups::{Sequence, Waiting};
 use frame_writer::{PoolFrame, Signalling};
@@ -13,7 +13,7 @@ use linked_pool::Pool;
 use modulator::{Modulating, due_records_law};
 use open_group::PooledGroup;
 use plp_config::{MOST_FRAMES, Plan};
-use ports::{Desk, Note};
+use ports::{Desk, Note, OTHER_MOMENT};
 use std::alloc::Global;
 use t2mi_stream::{Unpiper, accepted_front_law};
 
@@ -75,7 +75,7 @@ impl<'p> FrameFeed<'p> {
             signalling,
             inner,
             waiting,
-            moments: moments::NONE,
+            moments: Note::none(OTHER_MOMENT),
         })
     }
 
@@ -216,10 +216,10 @@ impl<'p> FrameFeed<'p> {
         self.waiting = self.inner.waiting();
     }
 
-    /// Notes the frames that were left behind and whose timestamp is of another moment.
-    pub fn note<D: Desk>(&self, desk: &mut D)
+    /// Notes, of the input at a place, the frames that were left behind and whose timestamp is of another moment.
+    pub fn note<D: Desk>(&self, desk: &mut D, input: usize)
         ensures { D.state desk.new ≡ D.state desk.old }
     {
-        desk.note(self.moments);
+        desk.note(self.moments.of(input));
     }
 }

@@ -13,6 +13,11 @@ use Rattle.file_run.specs.Events.{Event, Fed, Ended}
 use Rattle.file_run.specs.Running.{Feeds, IsReader}
 use Rattle.file_run.specs.Steps.{HasRoom}
 
+-- nothing was taken since a state that is the same
+pub none_since : (old mid after : State) (was is : Reading) → mid ≡ old → TakesNone mid after was is
+    → TakesNone old after was is
+none_since old mid after was is same none = subst (λ (s : State). TakesNone s after was is) same none
+
 -- a reader from which bytes were taken
 abbrev pub skipped : ℕ → Reading → Reading
 skipped count r = record r { taken = r.taken + count; waiting = drop count r.waiting }

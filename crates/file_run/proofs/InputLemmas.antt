@@ -1,13 +1,16 @@
 -- Bytes that wait, when more are read behind them and when some are taken.
 use Rattle.std.proofs.Common.{◌≡◌, ◌≢◌, ◌==◌, ℕ, Bool, false, ◌+◌, ◌-◌, ◌<◌, ◌≤◌, List, [], ◌∷◌, ◌++◌, length, take}
 use Rattle.std.proofs.Common.{drop, Option, Some, None, refl, ap}
-use Rattle.std.proofs.Common.{sym, ◌∙◌, arith, append_assoc}
+use Rattle.std.proofs.Common.{sym, subst, ◌∙◌, arith, append_assoc}
 use Rattle.std.specs.Prelude.{IfSome, option_map, slice_index, slice_index_or, slice_set}
 use Rattle.std.proofs.lemmas.List.{drop-take, drop-drop, length-append, length-take-le, set-get_or, get_or-set_other}
+use Rattle.std.proofs.lemmas.List.{take-take, take-append-le}
 use Rattle.std.proofs.lemmas.Option.{IfSome_then}
 use Rattle.terms.proofs.PartLemmas.{part-add}
 use Rattle.ports.specs.Desk.{State, Held, Keeps, Reads, content, left_of, has_run_out}
 use Rattle.file_run.specs.Ahead.{ReadsAhead, IsAtEnd}
+use Rattle.file_run.specs.Waiting.{part_in}
+use Rattle.file_run.specs.declared.input.Span.{Span}
 
 -- what was taken from the front of a part
 pub skipped : {X : Type 0} (xs : List X) (start len count : ℕ) → count ≤ len
@@ -29,6 +32,19 @@ front_part xs start end h =
 pub kept : {X : Type 0} (old new : List X) (start end : ℕ) → start ≤ end → take end new ≡ take end old
     → take (end - start) (drop start new) ≡ take (end - start) (drop start old)
 kept old new start end h e = sym (front_part new start end h) ∙ ap (drop start) e ∙ front_part old start end h
+
+-- a front stays in a longer list that is cut off behind it
+pub still_front : {X : Type 0} (xs ys : List X) (n len : ℕ) → n ≤ length xs → n ≤ len
+    → take n (take len (xs ++ ys)) ≡ take n xs
+still_front xs ys n len h k = take-take n len (xs ++ ys) k ∙ take-append-le n xs ys h
+
+-- the same bytes under another name
+pub reads_as : (s t : State) (handle : ℕ) (was now : Span) (old new old' new' : List ℕ) → old ≡ old' → new ≡ new'
+    → ReadsAhead s t handle (part_in was old) (part_in now new)
+    → ReadsAhead s t handle (part_in was old') (part_in now new')
+reads_as s t handle was now old new old' new' e f r =
+    subst (λ (l : List ℕ). ReadsAhead s t handle (part_in was l) (part_in now new')) e
+    (subst (λ (l : List ℕ). ReadsAhead s t handle (part_in was old) (part_in now l)) f r)
 
 -- more bytes behind those that wait
 pub grown : {X : Type 0} (old new : List X) (start end n : ℕ) → start ≤ end → take end new ≡ take end old →

@@ -11,6 +11,7 @@ pub mod StandsLemmas
 pub mod TellLemmas
 pub mod ToldLemmas
 pub mod OneInputLemmas
+pub mod OneRunLemmas
 pub mod WorkLemmas
 pub mod EndsLemmas
 pub mod InputLemmas

@@ -1,6 +1,6 @@
 // A file that is read ahead.
 
-use crate::input::{BUFFER, Input, MOST_WANTED};
+use crate::input::{BUFFER, InBuffer, MOST_WANTED};
 use bit_slice::OutOfMemory;
 use ports::Desk;
 use std::alloc::Global;
@@ -27,7 +27,7 @@ pub enum ReadStop {
 pub struct ReadAhead {
     handle: u32,
     taken: u64,
-    input: Input,
+    input: InBuffer,
     ended: bool,
 }
 
@@ -59,7 +59,7 @@ impl ReadAhead {
         Ok(ReadAhead {
             handle: 0,
             taken: 0,
-            input: Input::open(alloc)?,
+            input: InBuffer::open(alloc)?,
             ended: false,
         })
     }

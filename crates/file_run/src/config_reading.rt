@@ -10,7 +10,7 @@ ghost use Rattle.file_run.specs.Ahead.{ReadsAhead, IsAtEnd};
 ghost use Rattle.file_run.specs.TextReading.{RefusesText};
 
 use crate::config_stop::{ConfigCause, ConfigStop};
-use crate::input::Input;
+use crate::input::InBuffer;
 use config_text::{LONGEST_TEXT, TextFault};
 use plp_config::{Plan, Valid, fits, validate};
 use ports::{Desk, DeskFault};
@@ -20,7 +20,7 @@ use std::alloc::Global;
 const LIMIT: usize = LONGEST_TEXT + 1;
 
 // Reads a text to its end, or until it has too many bytes.
-fn read_text<D: Desk>(desk: &mut D, handle: u32, input: &mut Input) -> Result<(), DeskFault>
+fn read_text<D: Desk>(desk: &mut D, handle: u32, input: &mut InBuffer) -> Result<(), DeskFault>
     requires opened { handle < length (D.state desk.old).opened }
     requires going { has_run_out (D.state desk.old) handle ≡ false }
     requires nothing { input.old ≡ [] }
@@ -91,7 +91,7 @@ pub fn read_config<D: Desk>(alloc: Global, name: &str, desk: &mut D) -> Result<V
     ensures ok { IfOk result (Gives (D.state desk.old) (D.state desk.new) name.now) }
     ensures err { IfErr result (GivesNone (D.state desk.old) (D.state desk.new) name.now) }
 {
-    let Ok(mut input) = Input::open(alloc) else {
+    let Ok(mut input) = InBuffer::open(alloc) else {
         return Err(ConfigStop::OutOfMemory);
     };
     let Ok(handle) = desk.open(name) else {

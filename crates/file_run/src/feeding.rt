@@ -9,7 +9,22 @@ use crate::input::MOST_WANTED;
 use crate::machine::{Machine, Step};
 use ports::Desk;
 
-/// Reads what a machine wants of an input, and feeds it, or ends the input where its file ends.
+// Before it waits for an input people hear what the machine met so far.
+fn note_before_read<M: Machine, D: Desk>(
+    machine: &M,
+    reader: &ReadAhead,
+    least: usize,
+    desk: &mut D,
+)
+    ensures { D.state desk.new ≡ D.state desk.old }
+{
+    if reader.as_bytes().len() < least {
+        machine.note(desk);
+    }
+}
+
+/// Reads what a machine wants of an input, and feeds it, or ends the input where its file ends. If it has to wait for
+/// it, the machine notes before what it met.
 pub fn feed<M: Machine, D: Desk>(
     machine: &mut M,
     reader: &mut ReadAhead,
@@ -39,6 +54,7 @@ pub fn feed<M: Machine, D: Desk>(
     ensures goes_on { OnErr result (has_run_out (D.state desk.new) reader.old.handle ≡ false) }
     ensures err { IfErr result (StopsReading (D.state desk.old) (D.state desk.new) reader.new least) }
 {
+    note_before_read(machine, reader, least, desk);
     if reader.read_until(desk, least, most)? {
         let count = machine.feed(input, reader.as_bytes());
         reader.skip(count);

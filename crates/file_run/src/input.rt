@@ -1,5 +1,6 @@
 // What was read of a file and not yet taken.
-ghost use Rattle.std.specs.Prelude.{◌≡◌, ◌↔◌, IsTrue, ◌+◌, ◌-◌, ◌<◌, ◌≤◌, ◌==◌, [], false, length, take, drop, IfOk};
+ghost use Rattle.std.specs.Prelude.{◌≡◌, ◌↔◌, IsTrue, ◌+◌, ◌-◌, ◌<◌, ◌≤◌, ◌==◌, [], false, length, take, drop, IfOk, ℕ};
+ghost use Rattle.std.specs.Prelude.{max, vec_capacity, vec_len};
 ghost use Rattle.std.specs.Prelude.{OnErr};
 ghost use Rattle.ports.specs.Desk.{Keeps, Reads, has_run_out};
 ghost use Rattle.ports.specs.Counts.{MayFailReading};
@@ -27,14 +28,16 @@ struct Span {
 
 /// Bytes that were read of a file and not yet taken, seen as a list. After `open` it takes no memory.
 #[derive(Drop)]
-pub struct Input {
+pub struct InBuffer {
+    // Room for `BUFFER` bytes, laid out as far as was read: a gateway has a file for each PLP, and pages that are not
+    // touched cost nothing.
     bytes: Vec<u8>,
     // Where they wait.
     span: Span,
 }
 
-impl Model for Input {
-    ghost use Rattle.std.specs.Prelude.{◌≡◌, ◌≤◌, List, ℕ, vec_len};
+impl Model for InBuffer {
+    ghost use Rattle.std.specs.Prelude.{◌≤◌, List, ℕ, vec_capacity, vec_len};
     ghost use Rattle.file_run.specs.Waiting.{part_in};
     ghost use Rattle.file_run.specs.declared.input.TheConstants.{BUFFER};
 
@@ -42,17 +45,22 @@ impl Model for Input {
 
     ghost view = { λ i. part_in i.span i.bytes.items };
 
-    ghost invariant = { λ i. (i.span.start ≤ i.span.end) × (i.span.end ≤ BUFFER) × (vec_len i.bytes ≡ BUFFER) };
+    ghost invariant = { λ i. (i.span.start ≤ i.span.end) × (i.span.end ≤ vec_len i.bytes) × (vec_len i.bytes ≤ BUFFER)
+        × (BUFFER ≤ vec_capacity i.bytes) };
 }
 
-// Where the bytes of a span wait once they were moved to the front, if there was little room behind them.
+// Where the bytes of a span wait once they were moved to the front, if there was little room behind them, or none wait:
+// so few bytes are written over and over, and stay near.
 fn settle(bytes: &mut [u8], span: Span) -> Span
     requires order { span.start ≤ span.end }
     requires within { span.end ≤ length bytes.old }
     requires few { span.end - span.start + MOST_WANTED ≤ BUFFER }
-    requires size { length bytes.old ≡ BUFFER }
+    requires size { length bytes.old ≤ BUFFER }
     ensures { IsSettled bytes.old span bytes.new result }
 {
+    if span.start == span.end {
+        return Span { start: 0, end: 0 };
+    }
     if BUFFER - span.end >= MOST_WANTED {
         return span;
     }
@@ -60,6 +68,19 @@ fn settle(bytes: &mut [u8], span: Span) -> Span
     Span {
         start: 0,
         end: span.end - span.start,
+    }
+}
+
+// Lays bytes out up to an end, for which there is room.
+fn lay_out(bytes: &mut Vec<u8>, end: usize)
+    requires room { end ≤ vec_capacity bytes.old }
+    ensures front { (n : ℕ) → n ≤ vec_len bytes.old → take n bytes.new.items ≡ take n bytes.old.items }
+    ensures end { end ≤ vec_len bytes.new }
+    ensures len { vec_len bytes.new ≡ max end (vec_len bytes.old) }
+    ensures capacity { vec_capacity bytes.old ≤ vec_capacity bytes.new }
+{
+    if bytes.len() < end {
+        bytes.resize(end, 0).unwrap();
     }
 }
 
@@ -78,6 +99,7 @@ fn read_at<D: Desk>(
     ensures ok { IfOk result (λ n. Reads (D.state desk.old) (D.state desk.new) handle n (drop end bytes.new)) }
     ensures err { OnErr result (Keeps (D.state desk.old) (D.state desk.new)) }
     ensures before { take end bytes.new ≡ take end bytes.old }
+    ensures len { length bytes.new ≡ length bytes.old }
     ensures count { IfOk result (λ n. end + n ≤ length bytes.new) }
     ensures most { IfOk result (λ n. n ≤ most) }
     ensures counts { MayFailReading (D.state desk.old).counts (D.state desk.new).counts result }
@@ -90,42 +112,47 @@ fn read_at<D: Desk>(
 fn read_behind<D: Desk>(
     desk: &mut D,
     handle: u32,
-    bytes: &mut [u8],
+    bytes: &mut Vec<u8>,
     span: &mut Span,
     most: u64,
 ) -> Result<usize, DeskFault>
     requires opened { handle < length (D.state desk.old).opened }
     requires going { has_run_out (D.state desk.old) handle ≡ false }
     requires order { span.old.start ≤ span.old.end }
-    requires within { span.old.end ≤ length bytes.old }
+    requires within { span.old.end ≤ vec_len bytes.old }
     requires few { span.old.end - span.old.start + MOST_WANTED ≤ BUFFER }
-    requires size { length bytes.old ≡ BUFFER }
+    requires size { vec_len bytes.old ≤ BUFFER }
+    requires capacity { BUFFER ≤ vec_capacity bytes.old }
     requires some { 0 < most }
-    ensures reads { ReadsAhead (D.state desk.old) (D.state desk.new) handle (part_in span.old bytes.old)
-        (part_in span.new bytes.new) }
-    ensures order { (span.new.start ≤ span.new.end) × (span.new.end ≤ length bytes.new) }
+    ensures reads { ReadsAhead (D.state desk.old) (D.state desk.new) handle (part_in span.old bytes.old.items)
+        (part_in span.new bytes.new.items) }
+    ensures order { (span.new.start ≤ span.new.end) × (span.new.end ≤ vec_len bytes.new) }
+    ensures size { vec_len bytes.new ≤ BUFFER }
+    ensures capacity { BUFFER ≤ vec_capacity bytes.new }
     ensures count { IfOk result (λ n. span.new.end - span.new.start ≡ span.old.end - span.old.start + n) }
     ensures most { IfOk result (λ n. n ≤ most) }
     ensures end { IfOk result (λ n. n ≡ 0 → IsAtEnd (D.state desk.new) handle) }
     ensures runs_out { IfOk result (λ n. has_run_out (D.state desk.new) handle ≡ (n == 0)) }
     ensures goes_on { OnErr result (has_run_out (D.state desk.new) handle ≡ false) }
-    ensures err { OnErr result (part_in span.new bytes.new ≡ part_in span.old bytes.old) }
+    ensures err { OnErr result (part_in span.new bytes.new.items ≡ part_in span.old bytes.old.items) }
     ensures counts { MayFailReading (D.state desk.old).counts (D.state desk.new).counts result }
 {
     *span = settle(bytes, *span);
+    let room = (BUFFER - span.end).min(most as usize);
+    lay_out(bytes, span.end + room);
     let count = read_at(desk, handle, bytes, span.end, most)?;
     span.end += count;
     Ok(count)
 }
 
-impl Input {
+impl InBuffer {
     /// No bytes, and the memory for them. Its one refusal is want of memory.
-    pub fn open(alloc: Global) -> Result<Input, OutOfMemory>
+    pub fn open(alloc: Global) -> Result<InBuffer, OutOfMemory>
         ensures { IfOk result (λ i. i ≡ []) }
     {
-        let bytes = vec![in alloc; 0; BUFFER]?;
+        let bytes = Vec::with_capacity(alloc, BUFFER)?;
         let span = Span { start: 0, end: 0 };
-        Ok(Input { bytes, span })
+        Ok(InBuffer { bytes, span })
     }
 
     /// The number of bytes that wait.

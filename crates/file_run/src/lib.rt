@@ -30,7 +30,7 @@ pub use config_reading::{read_config, read_plan};
 pub use config_stop::{ConfigCause, ConfigStop};
 pub use desk_laws::{appends_law, creates_law};
 pub use feed_counts::FeedCounts;
-pub use input::{BUFFER, Input, MOST_WANTED};
+pub use input::{BUFFER, InBuffer, MOST_WANTED};
 pub use laws::{events_law, faults_law};
 pub use line::{Line, ROOM};
 pub use machine::{AHEAD, Ending, Machine, PIECE, Step, Working};

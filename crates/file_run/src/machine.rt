@@ -4,6 +4,8 @@ ghost use Rattle.file_run.specs.Events.{Event, Fed, Ended, Gave};
 ghost use Rattle.file_run.specs.Steps.{Suffices, FallsShort, HasCome, HasRoom, IsWanted};
 ghost use Rattle.file_run.specs.declared.machine.Step.TheVariants.{Give};
 
+use ports::Desk;
+
 /// There is room for so many bytes whenever a machine gives.
 pub const PIECE: usize = 4_096;
 
@@ -26,9 +28,10 @@ pub enum Step {
     End,
 }
 
-/// A machine that is fed with the bytes of some inputs, in any cutting, and gives the bytes of one output. It knows no
-/// desk. No call fails: a machine takes also what it cannot use, comes to its end, and its owner asks it then how it
-/// ended. So it takes no memory in its calls, or ends for want of it.
+/// A machine that is fed with the bytes of some inputs, in any cutting, and gives the bytes of one output. It knows of
+/// no file, and of a desk only in `note`, which changes nothing. No call fails: a machine takes also what it cannot
+/// use, comes to its end, and its owner asks it then how it ended. So it takes no memory in its calls, or ends for want
+/// of it.
 pub trait Machine {
     ghost use Rattle.file_run.specs.declared.machine.Step.{Step};
 
@@ -80,6 +83,11 @@ pub trait Machine {
             → Becomes start (events ++ Gave (take result out.new) ∷ []) self.new }
         ensures left { left self.new < left self.old }
         ensures reach { (other : ℕ) → reach self.old other ≤ reach self.new other };
+
+    /// Notes for people what it met so far, before an input is waited for and behind the end. Nothing changes.
+    fn note<D: Desk>(&self, _desk: &mut D)
+        ensures { D.state _desk.new ≡ D.state _desk.old }
+    {}
 }
 
 /// A machine that tells, at its end, what came of its run: what was done, or why it refuses what it was fed.

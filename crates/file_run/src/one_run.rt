@@ -25,8 +25,8 @@ pub fn open_readers(alloc: Global, count: usize) -> Result<Vec<ReadAhead>, OutOf
     Ok(readers)
 }
 
-/// Runs a machine over files as `run` does, and tells what came of it. All memory is taken before the first input is
-/// opened.
+/// Runs a machine over files as `run` does, and tells what came of it; behind the end it notes what it met. All memory
+/// is taken before the first input is opened.
 pub fn run_one<M: Ending, D: Desk>(
     alloc: Global,
     machine: &mut M,
@@ -43,7 +43,9 @@ pub fn run_one<M: Ending, D: Desk>(
 {
     let mut readers = open_readers(alloc, ins.len())?;
     let mut buffer = OutBuffer::open(alloc)?;
-    run(machine, &mut readers, &mut buffer, output, ins, desk)?;
+    let ran = run(machine, &mut readers, &mut buffer, output, ins, desk);
+    machine.note(desk);
+    ran?;
     match machine.ending() {
         Ok(ran) => Ok(ran),
         Err(why) => Err(RunStop::Refused(why)),

@@ -1,5 +1,5 @@
 -- The frame that a timestamp names.
-use Rattle.std.proofs.Common.{◌≡◌, ℕ, ◌%◌, ◌<◌, ◌==◌, ◌&&◌, Bool, true, false, Option, Some, None, refl, ap, ap₂, sym}
+use Rattle.std.proofs.Common.{◌≡◌, ℕ, ◌%◌, ◌<◌, ◌==◌, ◌&&◌, Bool, true, false, Option, Some, None, refl, ap, sym}
 use Rattle.std.proofs.Common.{subst, ◌∙◌}
 use Rattle.std.specs.Prelude.{slice_get, if◌then◌else◌, nat_le, nat_lt, is_some, unwrap_or}
 use Rattle.std.specs.Option.{option_and_then}
@@ -18,20 +18,8 @@ use Rattle.frame_groups.specs.declared.key.Key.{Key}
 use Rattle.frame_groups.specs.Carried.{stamps_of}
 use Rattle.frame_groups.specs.TestLaws.{IsNamed, FrameNamed}
 use Rattle.plp_config.specs.declared.moment.TheConstants.{MOST_FRAMES}
+use Rattle.frame_groups.proofs.NumberLemmas.{same_key, is_same_self}
 use Rattle.frame_groups.specs.Tests.{moment_of, passed, is_on_grid, frames_passed, frame_with, named_frame}
-
--- keys are the same
-key_same : (k l : Key) → is_same k l ≡ true → k ≡ l
-key_same k l e =
-    let p = and_parts (k.superframe == l.superframe) (k.frame == l.frame) e in
-    ap₂ (λ (s f : ℕ). record { superframe = s; frame = f }) (eqb-true k.superframe l.superframe p.0)
-    (eqb-true k.frame l.frame p.1)
-
-same_key : (k l : Key) → k ≡ l → is_same k l ≡ true
-same_key k l e =
-    subst (λ (m : Key). is_same k m ≡ true) e
-    (and_from (k.superframe == k.superframe) (k.frame == k.frame) (eq-eqb k.superframe k.superframe refl)
-    (eq-eqb k.frame k.frame refl))
 
 -- an answer under a test
 if_some : (b : Bool) (x n : ℕ) → ◌≡◌ {A = Option ℕ} (if b then Some x else None) (Some n) → (b ≡ true) × (x ≡ n)
@@ -77,7 +65,7 @@ module _ (found : EmissionFound) (c : Config) (all : AllRules c) where
       let at : (m < MOST_FRAMES) × (moment ≡ emission c m) × (frame_key c.frames m ≡ key) = (
         ltb-true m MOST_FRAMES q.1,
         (found c moment m all).1 (grid_found moment q.0),
-        key_same (frame_key c.frames m)
+        same_key (frame_key c.frames m)
             key p.1,
       ) in
       subst (λ (k : ℕ). (k < MOST_FRAMES) × (moment ≡ emission c k) × (frame_key c.frames k ≡ key)) t.1 at
@@ -93,7 +81,7 @@ module _ (found : EmissionFound) (c : Config) (all : AllRules c) where
       (and_from (is_on_grid c moment && nat_lt m MOST_FRAMES) (is_same (frame_key c.frames m) key)
       (and_from (is_on_grid c moment) (nat_lt m MOST_FRAMES) (found_grid moment n f)
       (lt-ltb m MOST_FRAMES (subst (λ (k : ℕ). k < MOST_FRAMES) (sym e) small)))
-      (same_key (frame_key c.frames m) key (ap (frame_key c.frames) e ∙ own))) e
+      (is_same_self (frame_key c.frames m) key (ap (frame_key c.frames) e ∙ own))) e
 
   named_from : (g : Group) (n : ℕ) (o : Option Stamp) → slice_get (stamps_of g.packets) 0 ≡ o
       → option_and_then (λ s. frame_with c g.key (moment_of s)) o ≡ Some n → IsNamed c g n

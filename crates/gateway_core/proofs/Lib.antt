@@ -22,3 +22,4 @@ pub mod MoveLemmas
 pub mod FindLemmas
 pub mod StandLemmas
 pub mod EndLemmas
+pub mod FileLemmas

@@ -2,7 +2,7 @@
 use Rattle.std.proofs.Common.{◌≡◌, ℕ, ◌+◌, ◌-◌, ◌*◌, ◌<◌, true, false, List, [], ◌∷◌, ◌++◌, length, refl, ap, sym}
 use Rattle.std.proofs.Common.{subst}
 use Rattle.std.proofs.Common.{◌∙◌, inl, inr, arith, length-append, append-nil}
-use Rattle.ts_packet.specs.TsFile.{joined}
+use Rattle.ts_packet.specs.TsFile.{joined, ArePackets}
 use Rattle.std.proofs.lemmas.Bool.{cases_eq}
 use Rattle.plp_config.specs.SlotTime.{slots_by}
 use Rattle.plp_config.specs.declared.config.Config.{Config}
@@ -16,7 +16,7 @@ use Rattle.gateway_core.specs.InputSoFar.{Told, told}
 use Rattle.gateway_core.proofs.HoldsLemmas.{finished_now, begun_with, begun_same, given_same}
 use Rattle.gateway_core.proofs.HoldsLemmas.{finished_same}
 use Rattle.gateway_core.proofs.InputsLemmas.{nothing_told, told_begun}
-use Rattle.gateway_run.specs.Holds.{ArePackets, AreOffered, IsInTime, AreComplete, HasAll, NoTails, IsIn, Holds}
+use Rattle.gateway_run.specs.Holds.{AreOffered, IsInTime, AreComplete, HasAll, NoTails, IsIn, Holds}
 use Rattle.common_plp.specs.Inputs.{place_of, input_count, streams_by}
 use Rattle.common_plp.specs.Sharing.{Sharing}
 use Rattle.common_plp.proofs.InputLemmas.{place_inside}
@@ -25,7 +25,7 @@ use Rattle.gateway_run.specs.declared.stop.GatewayStop.TheVariants.{TooManyFrame
 use Rattle.gateway_run.specs.declared.place.Phase.{Phase}
 use Rattle.gateway_run.specs.declared.place.Phase.TheVariants.{Gives, Rests, Stopped}
 use Rattle.gateway_run.specs.declared.place.Place.{Place}
-use Rattle.gateway_run.specs.declared.stop.Ran.{Ran}
+use Rattle.gateway_run.specs.declared.stop.GatewayRan.{GatewayRan}
 use Rattle.gateway_run.proofs.ContinueLemmas.{back_begun, back_same}
 use Rattle.gateway_run.proofs.StreamLemmas.{OwnLength, frames_same, still_last, ended_cases}
 use Rattle.gateway_run.proofs.LawLemmas.{slots_rise}
@@ -40,7 +40,7 @@ module _ (way : Sharing) where
     pub all : (plp : ℕ) → plp < input_count way c → HasAll way c events plp
 
   -- so it is whatever a machine was done
-  abbrev pub IsReadyFor : Config → List run.Event → (List Event → Type 0) → Place → Ran → Type 0
+  abbrev pub IsReadyFor : Config → List run.Event → (List Event → Type 0) → Place → GatewayRan → Type 0
   IsReadyFor c done g place ran = (h : Holds way c done g place ran) → IsBeforeFrame c h.events h.tails
 
   -- nothing was told of inputs but that a frame began, or no more comes
@@ -61,7 +61,8 @@ module _ (way : Sharing) where
   -- the run is longer than the frames begun, if it is not over
   more_frames : NotYetLast → OwnLength way → (c : Config) (done : List run.Event) (g : List Event
       → Type 0) (place : Place)
-      (ran : Ran) (h : Holds way c done g place ran) → IsBeforeFrame c h.events h.tails → (IsLastBy way c h.events → ⊥)
+      (ran : GatewayRan) (h : Holds way c done g place ran) → IsBeforeFrame c h.events h.tails
+      → (IsLastBy way c h.events → ⊥)
       → (inputs : ℕ → List (List ℕ)) → Continue way c h.events inputs → begun h.events < frames_by way c inputs
   more_frames law own c done g place ran h b not_last inputs k =
       let f = h.time.few inputs k in
@@ -113,7 +114,7 @@ module _ (way : Sharing) where
 
   -- A frame was begun.
   pub frame_begun : NotYetLast → OwnLength way → FrontsGrow → (c : Config) (done : List run.Event)
-      (g next : List Event → Type 0) (place after : Place) (ran now : Ran) → IsReadyFor c done g place ran
+      (g next : List Event → Type 0) (place after : Place) (ran now : GatewayRan) → IsReadyFor c done g place ran
       → after.phase ≡ Gives
       → now.frames ≡ ran.frames + 1 → now.units ≡ ran.units
       → ((events : List Event) → g events → IsLastBy way c events → ⊥)
@@ -154,7 +155,7 @@ module _ (way : Sharing) where
 
   -- No more frames come.
   pub frames_ended : (c : Config) (done : List run.Event) (g next : List Event → Type 0) (place after : Place)
-      (ran : Ran)
+      (ran : GatewayRan)
       → IsReadyFor c done g place ran → after.phase ≡ Rests
       → ((events : List Event) → g events → IsLastBy way c events)
       → ((events : List Event) → g events → next (events ++ Finished ∷ []))
@@ -193,7 +194,8 @@ module _ (way : Sharing) where
       }
 
   -- The same was done, and it goes on elsewhere.
-  pub moved_to : (c : Config) (done : List run.Event) (g next : List Event → Type 0) (place after : Place) (ran : Ran)
+  pub moved_to : (c : Config) (done : List run.Event) (g next : List Event
+      → Type 0) (place after : Place) (ran : GatewayRan)
       (h : Holds way c done g place ran) → next h.events → IsIn way c h.events h.tails after.phase
       → NoTails h.tails → Holds way c done next after ran
   moved_to c done g next place after ran h stands at none = record {
@@ -212,7 +214,7 @@ module _ (way : Sharing) where
 
   -- Another frame would be one too many.
   pub too_many : NotYetLast → OwnLength way → (c : Config) (done : List run.Event) (g : List Event → Type 0)
-      (place after : Place) (ran : Ran) → IsReadyFor c done g place ran → after.phase ≡ Stopped TooManyFrames
+      (place after : Place) (ran : GatewayRan) → IsReadyFor c done g place ran → after.phase ≡ Stopped TooManyFrames
       → ran.frames ≡ MOST_FRAMES
       → ((events : List Event) → g events → IsLastBy way c events → ⊥) → Holds way c done g place ran
       → Holds way c done g after ran

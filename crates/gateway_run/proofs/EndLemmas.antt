@@ -18,7 +18,7 @@ use Rattle.common_plp.specs.Sharing.{Sharing}
 use Rattle.common_plp.proofs.InputLemmas.{place_inside}
 use Rattle.gateway_run.specs.GatewayRun.{inputs_of, frames_of, units_of, Wants, WantsBad, MeetsBad, MeetsNone}
 use Rattle.gateway_run.specs.Laws.{MustRun, RunEnds}
-use Rattle.gateway_run.specs.declared.stop.Ran.{Ran}
+use Rattle.gateway_run.specs.declared.stop.GatewayRan.{GatewayRan}
 use Rattle.gateway_run.specs.declared.stop.GatewayStop.{GatewayStop}
 use Rattle.gateway_run.specs.declared.stop.GatewayStop.TheVariants.{Bad, TooManyFrames}
 use Rattle.gateway_run.proofs.OrderLemmas.{IsFirstOf, none_or_first}
@@ -101,7 +101,7 @@ module _ (way : Sharing) where
       ]
 
   ends_by : NotYetLast → OwnLength way → (c : Config) (files : ℕ → List ℕ) → IsPlan c
-      → (result : Result Ran GatewayStop) × MustRun way c files result
+      → (result : Result GatewayRan GatewayStop) × MustRun way c files result
   ends_by law own c files plan =
       elim (none_or_bad c files (MOST_FRAMES + 1)) [
         | inr bad ↦ (

@@ -13,7 +13,7 @@ use Rattle.gateway_core.specs.Events.{Event}
 use Rattle.gateway_run.specs.Holds.{Holds}
 use Rattle.gateway_run.specs.declared.place.Phase.TheVariants.{Gives}
 use Rattle.gateway_run.specs.declared.place.Place.{Place}
-use Rattle.gateway_run.specs.declared.stop.Ran.{Ran}
+use Rattle.gateway_run.specs.declared.stop.GatewayRan.{GatewayRan}
 
 none_over : (c : Config) (plp : ℕ) → slots_by c plp ((0 - 1) * c.ticks) ≡ 0
 none_over c plp =
@@ -27,7 +27,7 @@ none_complete c inputs = refl
 abbrev pub first_place : Place
 first_place = record { input = 0; phase = Gives }
 
-abbrev pub first_ran : Ran
+abbrev pub first_ran : GatewayRan
 first_ran = record { frames = 0; units = 0 }
 
 pub first : (way : Sharing) (c : Config) (g : List Event → Type 0) → IsPlan c → g []

@@ -1,7 +1,10 @@
 -- Units are given.
 use Rattle.std.proofs.Common.{◌≡◌, ℕ, ◌+◌, ◌-◌, ◌<◌, true, false, List, [], ◌∷◌, ◌++◌, length, refl, ap, sym, subst}
 use Rattle.std.proofs.Common.{◌∙◌}
-use Rattle.std.proofs.Common.{inl, inr, arith, append-nil}
+use Rattle.std.proofs.Common.{inl, inr, arith, append-nil, append_assoc, take, ◌≤◌}
+use Rattle.std.proofs.lemmas.List.{length-take-le, take-append-le}
+use Rattle.std.proofs.Math.Seq.{take-append-add}
+use borrow.Rule.Slice.PartMut.{put_mid, post_of}
 use Rattle.std.specs.Prelude.{Option, Some, None}
 use Rattle.plp_config.specs.declared.config.Config.{Config}
 use Rattle.t2mi_stream.specs.Complete.{complete_units}
@@ -9,7 +12,7 @@ use Rattle.file_run.specs.Events as run
 use Rattle.file_run.specs.Laws.{EventsTell}
 use Rattle.gateway_core.specs.Events.{Event, Gave, begun, finished}
 use Rattle.gateway_core.specs.Packets.{front_packets}
-use Rattle.gateway_core.specs.InputSoFar.{Told, told}
+use Rattle.gateway_core.specs.InputSoFar.{told}
 use Rattle.gateway_core.proofs.InputsLemmas.{nothing_told}
 use Rattle.gateway_core.proofs.HoldsLemmas.{given_with, begun_same, finished_same}
 use Rattle.gateway_run.specs.Holds.{AreComplete, AreAll, HasGiven, NoTails, IsIn, Holds}
@@ -21,13 +24,21 @@ use Rattle.gateway_run.specs.Ready.{place_by}
 use Rattle.gateway_run.specs.declared.place.Phase.{Phase}
 use Rattle.gateway_run.specs.declared.place.Phase.TheVariants.{Wants, Begins, Gives, Rests, Done, Stopped}
 use Rattle.gateway_run.specs.declared.place.Place.{Place}
-use Rattle.gateway_run.specs.declared.stop.Ran.{Ran}
+use Rattle.gateway_run.specs.declared.stop.GatewayRan.{GatewayRan}
 use Rattle.gateway_run.proofs.BeginLemmas.{moved_to}
 use Rattle.gateway_run.proofs.ContinueLemmas.{back_same}
 use Rattle.gateway_run.proofs.PhaseLemmas.{giving_cases}
 use Rattle.gateway_run.proofs.StreamLemmas.{still_last}
 use Rattle.gateway_run.proofs.StepLemmas.{sends_gave, time_same}
-use Rattle.gateway_run.proofs.TakeLemmas.{offered_as, looked_in}
+use Rattle.gateway_run.proofs.TakeLemmas.{offered_as, looked_in, holds_of}
+
+-- the bytes of a piece stand behind those before it
+piece_behind : (xs ys : List ℕ) (len k count : ℕ) → len ≤ length xs → count ≤ length ys
+    → take (len + count) (put_mid len k xs ys) ≡ take len xs ++ take count ys
+piece_behind xs ys len k count inside few =
+    ap (λ (n : ℕ). take (n + count) (put_mid len k xs ys)) (sym (length-take-le len xs inside))
+    ∙ take-append-add (take len xs) (ys ++ post_of len k xs) count
+    ∙ ap (λ (l : List ℕ). take len xs ++ l) (take-append-le count ys (post_of len k xs) few)
 
 module _ (way : Sharing) where
   no_tails : (phase : Phase) (c : Config) (events : List Event) (tails : ℕ → List ℕ) → IsGiving phase
@@ -84,7 +95,7 @@ module _ (way : Sharing) where
 
   -- A unit was given.
   pub unit_gave : EventsTell → (c : Config) (done : List run.Event) (g next : List Event → Type 0) (place : Place)
-      (ran now : Ran)
+      (ran now : GatewayRan)
       (unit bytes : List ℕ) → IsGiving place.phase → bytes ≡ unit → now.frames ≡ ran.frames → now.units ≡ ran.units + 1
       → ((events : List Event) → g events → IsNext way c events unit)
       → ((events : List Event) → g events → next (events ++ Gave ∷ []))
@@ -119,37 +130,40 @@ module _ (way : Sharing) where
 
   -- Nothing was given.
   pub nothing_gave : EventsTell → (c : Config) (done : List run.Event) (g : List Event → Type 0) (place : Place)
-      (ran : Ran)
+      (ran : GatewayRan)
       → Holds way c done g place ran → Holds way c (done ++ run.Gave [] ∷ []) g place ran
   nothing_gave tell c done g place ran h =
       let f = tell.given [] done in
-      record {
-        plan = h.plan;
-        events = h.events;
-        stands = h.stands;
-        frames = h.frames;
-        units = h.units;
-        tails = h.tails;
-        inputs = record {
-          each = λ plp lt.
-              let t : Told = told (place_of way c plp) h.events in
-              offered_as _ _ _ _ t t _ (f.fed plp) (f.ended plp) refl (h.inputs.each plp lt);
-          whole = h.inputs.whole;
-        };
-        time = h.time;
-        sends = record {
-          units = h.sends.units;
-          gave = f.gave ∙ append-nil (run.gave done) ∙ h.sends.gave;
-          count = h.sends.count;
-          front = h.sends.front;
-        };
-        is_in = h.is_in;
-        cut = λ plp some. elim (h.cut plp some) [ inl sync ↦ inl sync | inr on ↦ inr (f.ended plp ∙ on) ];
-      }
+      holds_of way c done (done ++ run.Gave [] ∷ []) g place ran f.fed f.ended (f.gave ∙ append-nil (run.gave done)) h
+
+  -- Two pieces that were given are one.
+  pub pieces_gave : EventsTell → (c : Config) (done : List run.Event) (g : List Event → Type 0) (place : Place)
+      (ran : GatewayRan) (a b all : List ℕ) → all ≡ a ++ b
+      → Holds way c ((done ++ run.Gave a ∷ []) ++ run.Gave b ∷ []) g place ran
+      → Holds way c (done ++ run.Gave all ∷ []) g place ran
+  pieces_gave tell c done g place ran a b all e h =
+      let f = tell.given a done in
+      let s = tell.given b (done ++ run.Gave a ∷ []) in
+      let w = tell.given all done in
+      holds_of way c ((done ++ run.Gave a ∷ []) ++ run.Gave b ∷ []) (done ++ run.Gave all ∷ []) g place ran
+      (λ input. w.fed input ∙ sym (s.fed input ∙ f.fed input))
+      (λ input. w.ended input ∙ sym (s.ended input ∙ f.ended input))
+      (w.gave ∙ ap (λ (l : List ℕ). run.gave done ++ l) e ∙ sym (append_assoc (run.gave done) a b)
+      ∙ sym (s.gave ∙ ap (λ (l : List ℕ). l ++ b) f.gave)) h
+
+  -- A piece more was given behind those before it.
+  pub piece_gave : EventsTell → (c : Config) (done : List run.Event) (g : List Event → Type 0) (place : Place)
+      (ran : GatewayRan) (xs ys : List ℕ) (len k count all : ℕ) → all ≡ len + count → len ≤ length xs
+      → count ≤ length ys
+      → Holds way c ((done ++ run.Gave (take len xs) ∷ []) ++ run.Gave (take count ys) ∷ []) g place ran
+      → Holds way c (done ++ run.Gave (take all (put_mid len k xs ys)) ∷ []) g place ran
+  piece_gave tell c done g place ran xs ys len k count all e inside few h =
+      pieces_gave tell c done g place ran (take len xs) (take count ys) (take all (put_mid len k xs ys))
+      (ap (λ (n : ℕ). take n (put_mid len k xs ys)) e ∙ piece_behind xs ys len k count inside few) h
 
   -- All units of the run were given.
   pub units_over : EventsTell → (c : Config) (done : List run.Event) (g next : List Event → Type 0)
-      (place after : Place) (ran : Ran)
+      (place after : Place) (ran : GatewayRan)
       → place.phase ≡ Rests → after.phase ≡ Done
       → ((events : List Event) → g events → next events)
       → ((events : List Event) → g events → finished events ≡ true → AreAll way c events)
@@ -163,7 +177,7 @@ module _ (way : Sharing) where
 
   -- All complete units of the frames begun were given.
   pub units_out : EventsTell → (c : Config) (done : List run.Event) (g next : List Event → Type 0) (place : Place)
-      (asked : Option ℕ) (ran : Ran) → place.phase ≡ Gives
+      (asked : Option ℕ) (ran : GatewayRan) → place.phase ≡ Gives
       → ((events : List Event) → g events → next events)
       → ((events : List Event) → g events → finished events ≡ false → AreComplete way c events)
       → ((events : List Event) → g events → finished events ≡ false)

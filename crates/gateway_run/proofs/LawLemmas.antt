@@ -14,7 +14,7 @@ use Rattle.common_plp.specs.Sharing.{Sharing}
 use Rattle.gateway_run.specs.Inputs.{IsBefore}
 use Rattle.gateway_run.specs.Laws.{OneRun}
 use Rattle.gateway_run.specs.GatewayRun.{WantsBad, MeetsBad, MeetsNone}
-use Rattle.gateway_run.specs.declared.stop.Ran.{Ran}
+use Rattle.gateway_run.specs.declared.stop.GatewayRan.{GatewayRan}
 use Rattle.gateway_run.specs.declared.stop.GatewayStop.{GatewayStop}
 use Rattle.gateway_run.specs.declared.stop.GatewayStop.TheVariants.{Bad, TooManyFrames}
 use Rattle.gateway_run.proofs.OrderLemmas.{before_or}
@@ -33,16 +33,17 @@ slots_rise c plp frame later le = quotient_rises (num c) (frame * c.ticks * den 
     (mul-le-mul_right (den c plp) (mul-le-mul_right c.ticks le))
 
 same_bad : (plp other packet next : ℕ) → plp ≡ other → packet ≡ next
-    → (let r : Result Ran GatewayStop = Err (Bad plp packet) in r)
+    → (let r : Result GatewayRan GatewayStop = Err (Bad plp packet) in r)
     ≡ Err (Bad other next)
 same_bad plp other packet next e f = rw (e, f) refl
 
-ran_of : (f g u v : ℕ) → f ≡ g → u ≡ v → (let r : Result Ran GatewayStop = Ok (record { frames = f; units = u }) in r)
+ran_of : (f g u v : ℕ) → f ≡ g → u ≡ v → (let r : Result GatewayRan GatewayStop = Ok
+    (record { frames = f; units = u }) in r)
     ≡ Ok (record { frames = g; units = v })
 ran_of f g u v e h = rw (e, h) refl
 
-same_ran : (ran other : Ran) → ran.frames ≡ other.frames → ran.units ≡ other.units
-    → (let r : Result Ran GatewayStop = Ok ran in r)
+same_ran : (ran other : GatewayRan) → ran.frames ≡ other.frames → ran.units ≡ other.units
+    → (let r : Result GatewayRan GatewayStop = Ok ran in r)
     ≡ Ok other
 same_ran ran other e f = ran_of ran.frames other.frames ran.units other.units e f
 
@@ -90,7 +91,7 @@ module _ (way : Sharing) where
   one_bad : (c : Config) (files : ℕ → List ℕ) (frame later plp other packet next : ℕ)
       → MeetsBad way c files frame plp packet
       → MeetsBad way c files later other next
-      → (let r : Result Ran GatewayStop = Err (Bad plp packet) in r) ≡ Err (Bad other next)
+      → (let r : Result GatewayRan GatewayStop = Err (Bad plp packet) in r) ≡ Err (Bad other next)
   one_bad c files frame later plp other packet next a b =
       let f = same_frame c files frame later plp other packet next a b in
       let p = same_plp c files frame plp other packet next a (subst (λ (n : ℕ). MeetsBad way c files n other next)

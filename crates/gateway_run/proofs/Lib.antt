@@ -4,7 +4,6 @@ pub mod BeginLemmas
 pub mod ContinueLemmas
 pub mod EndLemmas
 pub mod EventLemmas
-pub mod FileLemmas
 pub mod FirstLemmas
 pub mod GiveLemmas
 pub mod JointLemmas

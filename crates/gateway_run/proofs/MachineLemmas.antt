@@ -14,8 +14,8 @@ use Rattle.gateway_run.specs.Phases.{frame_read, reach_by}
 use Rattle.gateway_run.specs.declared.place.Phase.{Phase}
 use Rattle.gateway_run.specs.declared.place.Phase.TheVariants.{Wants}
 use Rattle.gateway_run.specs.declared.place.Place.{Place}
-use Rattle.gateway_run.specs.declared.stop.Ran.{Ran}
-use Rattle.gateway_run.proofs.FileLemmas.{joined_length}
+use Rattle.gateway_run.specs.declared.stop.GatewayRan.{GatewayRan}
+use Rattle.ts_packet.proofs.FileLemmas.{joined_length}
 use Rattle.gateway_run.proofs.LawLemmas.{slots_rise}
 use Rattle.gateway_run.proofs.TakeLemmas.{Waits}
 
@@ -32,7 +32,7 @@ reach_more c plp frame later le = let s = slots_rise c plp frame later le in ome
 
 -- What a frame wants of the input that is looked at can be read.
 pub wanted_by : (way : Sharing) (c : Config) (done : List run.Event) (g : List Event → Type 0) (place : Place)
-    (ran : Ran)
+    (ran : GatewayRan)
     (wants n inputs : ℕ) → place.phase ≡ Wants → inputs ≡ input_count way c → Waits way c done g place ran wants
     → n ≤ wants
     → (0 < wants → 0 < n) → Holds way c done g place ran

@@ -10,7 +10,7 @@ use Rattle.terms.proofs.ListLemmas.{same_front}
 use Rattle.t2mi_stream.proofs.CompleteLemmas.{shorter_front}
 use Rattle.plp_config.specs.SlotTime.{slots_by}
 use Rattle.plp_config.specs.declared.config.Config.{Config}
-use Rattle.ts_packet.specs.TsFile.{packets_in, HasBad, joined}
+use Rattle.ts_packet.specs.TsFile.{packets_in, HasBad, joined, ReadsNoBad}
 use Rattle.ts_packet.specs.declared.sizes.TheConstants.{SIZE}
 use Rattle.t2mi_stream.specs.Complete.{complete_units}
 use Rattle.t2mi_stream.specs.Pipe.{pipe}
@@ -22,16 +22,16 @@ use Rattle.gateway_core.specs.Packets.{front_packets, packets_of}
 use Rattle.common_plp.specs.Inputs.{place_of, input_count, streams_by}
 use Rattle.common_plp.specs.Sharing.{Sharing}
 use Rattle.gateway_run.specs.Inputs.{Continue}
-use Rattle.gateway_run.specs.GatewayRun.{inputs_of, frames_of, units_of, ReadsNoBad, MeetsNone, MeetsBad, BeginsUnits}
+use Rattle.gateway_run.specs.GatewayRun.{inputs_of, frames_of, units_of, MeetsNone, MeetsBad, BeginsUnits}
 use Rattle.gateway_run.specs.GatewayRun.{CompleteBefore}
 use Rattle.gateway_run.specs.Holds.{IsOffered, AreComplete, AreAll, HasGiven, HasAll, MetBad, NoTails, IsIn, Holds}
 use Rattle.gateway_run.specs.declared.place.Phase.{Phase}
 use Rattle.gateway_run.specs.declared.place.Phase.TheVariants.{Done, Stopped}
 use Rattle.gateway_run.specs.declared.stop.GatewayStop.TheVariants.{Bad}
 use Rattle.gateway_run.specs.declared.place.Place.{Place}
-use Rattle.gateway_run.specs.declared.stop.Ran.{Ran}
-use Rattle.gateway_run.proofs.FileLemmas.{IsRead, continues, taken_few, taken_all, none_bad, next_bad, not_wanted}
-use Rattle.gateway_run.proofs.FileLemmas.{still_bad}
+use Rattle.gateway_run.specs.declared.stop.GatewayRan.{GatewayRan}
+use Rattle.ts_packet.proofs.FileLemmas.{IsRead, taken_few, taken_all, none_bad, next_bad, not_wanted, still_bad}
+use Rattle.gateway_core.proofs.FileLemmas.{continues}
 use Rattle.gateway_run.proofs.MachineLemmas.{offered_length}
 use Rattle.gateway_run.proofs.OrderLemmas.{earlier_still}
 use Rattle.gateway_run.proofs.StreamLemmas.{frames_same}
@@ -46,7 +46,8 @@ read_of file bytes tail place ended over packets whole f o = record {
   end = λ on. ap (λ (l : List ℕ). l ++ f.more) (whole on) ∙ f.end (o.end (whole on) ∙ on);
 }
 
-module _ (way : Sharing) (c : Config) (done : List run.Event) (g : List Event → Type 0) (place : Place) (ran : Ran)
+module _ (way : Sharing) (c : Config) (done : List run.Event) (g : List Event
+    → Type 0) (place : Place) (ran : GatewayRan)
     (h : Holds way c done g place ran) (files : ℕ → List ℕ) (places : List ℕ)
     (are : AreFed (input_count way c) files places done) where
   -- what goes in the PLPs, and the packets of so many first frames

@@ -7,17 +7,18 @@ use Rattle.gateway_run.specs.Ready.{IsReady, IsCounted, place_by}
 use Rattle.gateway_run.specs.Seen.{Seen, Asks, IsIdle}
 use Rattle.gateway_run.specs.declared.place.Phase.TheVariants.{Wants, Begins, Gives}
 use Rattle.gateway_run.specs.declared.place.Place.{Place}
-use Rattle.gateway_run.specs.declared.stop.Ran.{Ran}
+use Rattle.gateway_run.specs.declared.stop.GatewayRan.{GatewayRan}
 
 module _ (way : Sharing) (c : Config) where
-  counted : (t u : Status) (ran : Ran) → IsCounted t ran → u.frame ≡ t.frame → u.left ≡ t.left → IsCounted u ran
+  counted : (t u : Status) (ran : GatewayRan) → IsCounted t ran → u.frame ≡ t.frame → u.left ≡ t.left → IsCounted u ran
   counted t u ran n frame left = record {
     frames = n.frames ∙ sym frame;
     early = n.early;
     few = (let f = n.few in omega (arith, f, left));
   }
 
-  asked_ready : (s : Seen) (t : Status) (asked : Option ℕ) (ran : Ran) → IsCounted t ran → IsIdle t → Asks way c s asked
+  asked_ready : (s : Seen) (t : Status) (asked : Option ℕ) (ran : GatewayRan) → IsCounted t ran → IsIdle t
+      → Asks way c s asked
       → IsReady way c s t (place_by asked) ran
   asked_ready s t None ran n idle a = record {
     is_of = a.is_of;
@@ -35,7 +36,7 @@ module _ (way : Sharing) (c : Config) where
   }
 
   -- behind a packet or an end of the input that was looked at
-  pub ready_on : (s next : Seen) (t u : Status) (place : Place) (asked : Option ℕ) (ran : Ran)
+  pub ready_on : (s next : Seen) (t u : Status) (place : Place) (asked : Option ℕ) (ran : GatewayRan)
       → IsReady way c s t place ran
       → place.phase ≡ Wants → u ≡ t → Asks way c next asked → IsReady way c next u (place_by asked) ran
   ready_on s next t u place asked ran r wants status a =
@@ -43,7 +44,7 @@ module _ (way : Sharing) (c : Config) where
       (asked_ready next t asked ran r.counted (r.wanting wants).1 a)
 
   -- behind the units of a frame
-  pub ready_behind : (s next : Seen) (t mid u : Status) (place : Place) (asked : Option ℕ) (ran : Ran)
+  pub ready_behind : (s next : Seen) (t mid u : Status) (place : Place) (asked : Option ℕ) (ran : GatewayRan)
       → IsReady way c s t place ran → place.phase ≡ Gives → mid.unit ≡ false → mid.finished ≡ t.finished
       → mid.frame ≡ t.frame
       → mid.left ≡ t.left → u ≡ mid → Asks way c next asked → IsReady way c next u (place_by asked) ran

@@ -1,17 +1,17 @@
 -- An input was fed, or ended.
 use Rattle.std.proofs.Common.{◌≡◌, ◌≢◌, ℕ, ◌+◌, ◌-◌, ◌*◌, ◌<◌, ◌≤◌, Bool, true, false, cond, List, [], ◌∷◌, ◌++◌}
-use Rattle.std.proofs.Common.{length, take}
-use Rattle.std.proofs.Common.{refl, ap, sym, subst, ◌∙◌, inl, inr, arith, append-nil, eq-eqb}
+use Rattle.std.proofs.Common.{length}
+use Rattle.std.proofs.Common.{refl, ap, sym, subst, ◌∙◌, inl, inr, arith, append-nil, append_assoc, eq-eqb}
 use Rattle.std.specs.Prelude.{◌==◌, ◌⊎◌, slice_index, Option, Some, None}
 use Rattle.std.proofs.lemmas.Bool.{cases_eq, ne_eqb}
-use Rattle.std.proofs.lemmas.List.{length_push, length-take-le}
+use Rattle.std.proofs.lemmas.List.{length_push}
 use Rattle.ts_packet.proofs.JoinedLemmas.{joined_push}
 use Rattle.common_plp.specs.Inputs.{place_of, input_count}
 use Rattle.common_plp.specs.Sharing.{Sharing}
 use Rattle.common_plp.proofs.InputLemmas.{place_apart}
 use Rattle.plp_config.specs.SlotTime.{slots_by}
 use Rattle.plp_config.specs.declared.config.Config.{Config}
-use Rattle.ts_packet.specs.TsFile.{joined, begins_with_packet}
+use Rattle.ts_packet.specs.TsFile.{joined, begins_with_packet, ArePackets}
 use Rattle.ts_packet.specs.declared.sizes.TheConstants.{SIZE, SYNC}
 use Rattle.file_run.specs.Events as run
 use Rattle.file_run.specs.Laws.{EventsTell}
@@ -19,7 +19,7 @@ use Rattle.gateway_core.specs.Events.{Event, Offered, Ended, offered, has_ended,
 use Rattle.gateway_core.specs.InputSoFar.{Told, told}
 use Rattle.gateway_core.proofs.InputsLemmas.{told_offered, told_ended}
 use Rattle.gateway_core.proofs.HoldsLemmas.{other_offered, other_ended}
-use Rattle.gateway_run.specs.Holds.{ArePackets, IsOffered, IsInTime, AreComplete, MetBad, StopsFor, NoTails, IsIn}
+use Rattle.gateway_run.specs.Holds.{IsOffered, IsInTime, AreComplete, MetBad, StopsFor, NoTails, IsIn}
 use Rattle.gateway_run.specs.Holds.{Holds}
 use Rattle.gateway_run.specs.Inputs.{IsBefore, IsLastBy}
 use Rattle.gateway_run.specs.Seen.{WantsFirst}
@@ -28,8 +28,8 @@ use Rattle.gateway_run.specs.declared.stop.GatewayStop.{GatewayStop}
 use Rattle.gateway_run.specs.declared.place.Phase.{Phase}
 use Rattle.gateway_run.specs.declared.place.Phase.TheVariants.{Stopped}
 use Rattle.gateway_run.specs.declared.place.Place.{Place}
-use Rattle.gateway_run.specs.declared.stop.Ran.{Ran}
-use Rattle.gateway_run.proofs.FileLemmas.{packets_push}
+use Rattle.gateway_run.specs.declared.stop.GatewayRan.{GatewayRan}
+use Rattle.ts_packet.proofs.FileLemmas.{packets_push}
 use Rattle.gateway_run.proofs.StepLemmas.{IsStep, step_offered, step_ended, complete_kept, sends_kept, few_kept}
 
 -- what holds of one input and of each other
@@ -101,12 +101,69 @@ module _ (way : Sharing) where
     pub is_going : finished events ≡ false
 
   -- so it is whatever a machine was done
-  abbrev pub Waits : Config → List run.Event → (List Event → Type 0) → Place → Ran → ℕ → Type 0
+  abbrev pub Waits : Config → List run.Event → (List Event → Type 0) → Place → GatewayRan → ℕ → Type 0
   Waits c done g place ran wants = (h : Holds way c done g place ran) → IsWaiting c h.events h.tails place.input wants
 
   last_none : (c : Config) (old new : List Event) → IsStep way c old new → finished old ≡ false → finished new ≡ true
       → IsLastBy way c new
   last_none c old new s off on = absurd (let z : true ≡ false = sym on ∙ s.finished_is ∙ off in cc)
+
+  -- Of what was done nothing counts but what was fed, ended and given.
+  pub holds_of : (c : Config) (done is : List run.Event) (g : List Event → Type 0) (place : Place) (ran : GatewayRan)
+      → ((input : ℕ) → run.fed input is ≡ run.fed input done)
+      → ((input : ℕ) → run.has_ended input is ≡ run.has_ended input done) → run.gave is ≡ run.gave done
+      → Holds way c done g place ran → Holds way c is g place ran
+  holds_of c done is g place ran fed ended gave h = record {
+    plan = h.plan;
+    events = h.events;
+    stands = h.stands;
+    frames = h.frames;
+    units = h.units;
+    tails = h.tails;
+    inputs = record {
+      each = λ plp lt.
+          let t : Told = told (place_of way c plp) h.events in
+          offered_as _ _ _ _ t t _ (fed plp) (ended plp) refl (h.inputs.each plp lt);
+      whole = h.inputs.whole;
+    };
+    time = h.time;
+    sends = record {
+      units = h.sends.units;
+      gave = gave ∙ h.sends.gave;
+      count = h.sends.count;
+      front = h.sends.front;
+    };
+    is_in = h.is_in;
+    cut = λ plp some. elim (h.cut plp some) [ inl sync ↦ inl sync | inr on ↦ inr (ended plp ∙ on) ];
+  }
+
+  -- Nothing was fed.
+  pub nothing_fed : EventsTell → (c : Config) (done : List run.Event) (g : List Event → Type 0) (place : Place)
+      (ran : GatewayRan) (at : ℕ)
+      → Holds way c done g place ran → Holds way c (done ++ run.Fed at [] ∷ []) g place ran
+  nothing_fed tell c done g place ran at h =
+      let f = tell.fed at [] done in
+      holds_of c done (done ++ run.Fed at [] ∷ []) g place ran
+      (each_input (λ k. run.fed k (done ++ run.Fed at [] ∷ []) ≡ run.fed k done) at
+      (f.here ∙ append-nil (run.fed at done)) f.others) f.ended f.gave h
+
+  -- Two pieces that were fed of an input are one.
+  pub pieces_fed : EventsTell → (c : Config) (done : List run.Event) (g : List Event → Type 0) (place : Place)
+      (ran : GatewayRan) (at : ℕ) (a b all : List ℕ) → all ≡ a ++ b
+      → Holds way c ((done ++ run.Fed at a ∷ []) ++ run.Fed at b ∷ []) g place ran
+      → Holds way c (done ++ run.Fed at all ∷ []) g place ran
+  pieces_fed tell c done g place ran at a b all e h =
+      let f = tell.fed at a done in
+      let s = tell.fed at b (done ++ run.Fed at a ∷ []) in
+      let w = tell.fed at all done in
+      holds_of c ((done ++ run.Fed at a ∷ []) ++ run.Fed at b ∷ []) (done ++ run.Fed at all ∷ []) g place ran
+      (each_input (λ k. run.fed k (done ++ run.Fed at all ∷ [])
+      ≡ run.fed k ((done ++ run.Fed at a ∷ []) ++ run.Fed at b ∷ [])) at
+      (w.here ∙ ap (λ (l : List ℕ). run.fed at done ++ l) e ∙ sym (append_assoc (run.fed at done) a b)
+      ∙ sym (s.here ∙ ap (λ (l : List ℕ). l ++ b) f.here))
+      (λ k differ. w.others k differ ∙ sym (s.others k differ ∙ f.others k differ)))
+      (λ input. w.ended input ∙ sym (s.ended input ∙ f.ended input))
+      (w.gave ∙ sym (s.gave ∙ f.gave)) h
 
   -- other inputs have other PLPs
   others_apart : (c : Config) (k plp : ℕ) → k ≢ plp → place_of way c k ≢ place_of way c plp
@@ -185,7 +242,7 @@ module _ (way : Sharing) where
 
   -- A packet was offered.
   pub packet_offered : EventsTell → (c : Config) (done : List run.Event) (g next : List Event → Type 0)
-      (place : Place) (asked : Option ℕ) (ran : Ran) (wants : ℕ) (packet bytes : List ℕ)
+      (place : Place) (asked : Option ℕ) (ran : GatewayRan) (wants : ℕ) (packet bytes : List ℕ)
       → Waits c done g place ran wants
       → packet ≡ bytes → length packet ≡ SIZE → slice_index packet 0 ≡ SYNC
       → ((events : List Event) → g events → next (events ++ Offered (place_of way c place.input) packet ∷ []))
@@ -232,7 +289,8 @@ module _ (way : Sharing) where
 
   -- An input ended.
   pub input_ended : EventsTell → (c : Config) (done : List run.Event) (g next : List Event → Type 0)
-      (place : Place) (asked : Option ℕ) (ran : Ran) (wants : ℕ) (bytes : List ℕ) → Waits c done g place ran wants
+      (place : Place) (asked : Option ℕ) (ran : GatewayRan) (wants : ℕ) (bytes : List ℕ)
+      → Waits c done g place ran wants
       → bytes ≡ []
       → ((events : List Event) → g events → next (events ++ Ended (place_of way c place.input) ∷ []))
       → Holds way c done g place ran → Holds way c (done ++ run.Ended place.input bytes ∷ []) next (place_by asked) ran
@@ -297,7 +355,7 @@ module _ (way : Sharing) where
 
   -- These bytes are no packet.
   stopped_at : (c : Config) (done is : List run.Event) (g : List Event → Type 0) (place after : Place)
-      (ran : Ran) (wants : ℕ) (bytes : List ℕ) (why : GatewayStop) → Waits c done g place ran wants
+      (ran : GatewayRan) (wants : ℕ) (bytes : List ℕ) (why : GatewayStop) → Waits c done g place ran wants
       → after.phase ≡ Stopped why → bytes ≢ []
       → (slice_index bytes 0 ≢ SYNC) ⊎ (run.has_ended place.input is ≡ true) → IsTold done is place.input bytes
       → (h : Holds way c done g place ran) → StopsFor way c h.events (one_tail place.input bytes) why
@@ -347,7 +405,7 @@ module _ (way : Sharing) where
       }
 
   pub fed_stopped : EventsTell → (c : Config) (done : List run.Event) (g : List Event → Type 0)
-      (place after : Place) (ran : Ran) (wants : ℕ) (bytes : List ℕ) (why : GatewayStop)
+      (place after : Place) (ran : GatewayRan) (wants : ℕ) (bytes : List ℕ) (why : GatewayStop)
       → Waits c done g place ran wants → after.phase ≡ Stopped why → bytes ≢ []
       → slice_index bytes 0 ≢ SYNC → (h : Holds way c done g place ran)
       → StopsFor way c h.events (one_tail place.input bytes) why
@@ -359,7 +417,7 @@ module _ (way : Sharing) where
       (record { here = f.here; others = f.others; ended = λ k differ. f.ended k; gave = f.gave }) h stops
 
   pub ended_stopped : EventsTell → (c : Config) (done : List run.Event) (g : List Event → Type 0)
-      (place after : Place) (ran : Ran) (wants : ℕ) (bytes : List ℕ) (why : GatewayStop)
+      (place after : Place) (ran : GatewayRan) (wants : ℕ) (bytes : List ℕ) (why : GatewayStop)
       → Waits c done g place ran wants → after.phase ≡ Stopped why → bytes ≢ []
       → (h : Holds way c done g place ran) → StopsFor way c h.events (one_tail place.input bytes) why
       → Holds way c (done ++ run.Ended place.input bytes ∷ []) g after ran
@@ -370,7 +428,7 @@ module _ (way : Sharing) where
       (record { here = f.here; others = f.others; ended = f.others_ended; gave = f.gave }) h stops
 
   -- The next packet of the input that is looked at is bad.
-  pub met_bad : (c : Config) (done : List run.Event) (g : List Event → Type 0) (place : Place) (ran : Ran)
+  pub met_bad : (c : Config) (done : List run.Event) (g : List Event → Type 0) (place : Place) (ran : GatewayRan)
       (wants : ℕ) (bytes : List ℕ)
       → Waits c done g place ran wants → bytes ≢ [] → begins_with_packet bytes ≡ false
       → (h : Holds way c done g place ran)
@@ -397,10 +455,6 @@ module _ (way : Sharing) where
         complete = w.complete;
         is_going = w.is_going;
       }
-
--- the first packet of enough bytes
-pub some_taken : (bytes : List ℕ) → SIZE ≤ length bytes → take SIZE bytes ≢ []
-some_taken bytes long e = let n = ap length e in let m = length-take-le SIZE bytes long in omega (arith, n, m)
 
 pub some_bytes : (bytes : List ℕ) → 0 < length bytes → bytes ≢ []
 some_bytes bytes some e = let n = ap length e in omega (arith, n, some)

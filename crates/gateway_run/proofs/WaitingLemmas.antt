@@ -10,11 +10,11 @@ use Rattle.gateway_run.specs.Seen.{Seen}
 use Rattle.gateway_run.specs.declared.place.Phase.{Phase}
 use Rattle.gateway_run.specs.declared.place.Phase.TheVariants.{Wants, Begins}
 use Rattle.gateway_run.specs.declared.place.Place.{Place}
-use Rattle.gateway_run.specs.declared.stop.Ran.{Ran}
+use Rattle.gateway_run.specs.declared.stop.GatewayRan.{GatewayRan}
 use Rattle.gateway_run.proofs.BeginLemmas.{IsReadyFor}
 use Rattle.gateway_run.proofs.TakeLemmas.{Waits}
 
-module _ (way : Sharing) (c : Config) (s : Seen) (t : Status) (place : Place) (ran : Ran)
+module _ (way : Sharing) (c : Config) (s : Seen) (t : Status) (place : Place) (ran : GatewayRan)
     (r : IsReady way c s t place ran)
     (done : List run.Event) where
   pub waits : place.phase ≡ Wants → Waits way c done s.stands place ran (s.wants place.input)

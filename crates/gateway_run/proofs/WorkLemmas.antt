@@ -38,7 +38,7 @@ use Rattle.gateway_run.specs.declared.stop.GatewayStop.TheVariants.{Bad, TooMany
 use Rattle.gateway_run.specs.declared.place.Phase.{Phase}
 use Rattle.gateway_run.specs.declared.place.Phase.TheVariants as phase
 use Rattle.gateway_run.specs.declared.place.Place.{Place}
-use Rattle.gateway_run.specs.declared.stop.Ran.{Ran}
+use Rattle.gateway_run.specs.declared.stop.GatewayRan.{GatewayRan}
 use Rattle.gateway_run.proofs.AheadLemmas.{reads_ahead}
 use Rattle.gateway_run.proofs.MachineLemmas.{offered_length}
 use Rattle.gateway_run.proofs.OrderLemmas.{earlier_still}
@@ -71,7 +71,7 @@ whole_slots fed packets place whole least near =
 
 -- ---- a gateway of which so much is known, and of whose files so much was read
 
-module _ (way : Sharing) (c : Config) (s : Seen) (t : Status) (place : Place) (ran : Ran)
+module _ (way : Sharing) (c : Config) (s : Seen) (t : Status) (place : Place) (ran : GatewayRan)
     (ready : IsReady way c s t place ran)
     (files : ℕ → List ℕ) (places : List ℕ) (events : List run.Event) (are : AreFed (input_count way c)
     files places events)
@@ -270,7 +270,7 @@ module _ (way : Sharing) (c : Config) (s : Seen) (t : Status) (place : Place) (r
 
 module _ (way : Sharing) (M : Type 0) (config_of : M → Config) (seen_of : M → Seen) (status_of : M → Status) (at : M
     → Place)
-    (ran_of : M → Ran) (ready : (m : M) → IsReady way (config_of m) (seen_of m) (status_of m) (at m) (ran_of m))
+    (ran_of : M → GatewayRan) (ready : (m : M) → IsReady way (config_of m) (seen_of m) (status_of m) (at m) (ran_of m))
     (units : UnitsLaw) (grow : FrontsGrow) (three : WaitsThreeFrames) (c : Config) (inputs : ℕ)
     (count : inputs ≡ input_count way c) where
   abbrev Came : List run.Event → M → Type 0

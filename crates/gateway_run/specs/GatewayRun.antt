@@ -4,7 +4,7 @@ use Rattle.std.specs.Prelude.{Err}
 use Rattle.plp_config.specs.SlotTime.{slots_by}
 use Rattle.plp_config.specs.declared.config.Config.{Config}
 use Rattle.plp_config.specs.declared.moment.TheConstants.{MOST_FRAMES}
-use Rattle.ts_packet.specs.TsFile.{packets_in, HasBad, joined}
+use Rattle.ts_packet.specs.TsFile.{packets_in, HasBad, ReadsNoBad, joined}
 use Rattle.ts_packet.specs.declared.sizes.TheConstants.{SIZE}
 use Rattle.t2mi_stream.specs.Pipe as piping
 use Rattle.t2mi_stream.specs.Pipe.{pipe, carried_len}
@@ -18,7 +18,7 @@ use Rattle.common_plp.specs.Sharing.{Sharing}
 use Rattle.gateway_run.specs.Inputs.{IsBefore, frames_by}
 use Rattle.gateway_run.specs.declared.stop.GatewayStop.{GatewayStop}
 use Rattle.gateway_run.specs.declared.stop.GatewayStop.TheVariants.{Bad, TooManyFrames}
-use Rattle.gateway_run.specs.declared.stop.Ran.{Ran}
+use Rattle.gateway_run.specs.declared.stop.GatewayRan.{GatewayRan}
 
 -- the packets of each file, up to its first bad one
 abbrev pub inputs_of : (ℕ → List ℕ) → ℕ → List (List ℕ)
@@ -69,7 +69,8 @@ CompleteBefore w c files frame bytes =
 
 -- A run to its end: all inputs were read to their ends and have no bad packet, the output is all units of all their
 -- packets, and the numbers told are those of the frames and the units.
-pub record RunsAll (w : Sharing) (c : Config) (files : ℕ → List ℕ) (ran : Ran) (places bytes : List ℕ) : Type 0 where
+pub record RunsAll (w : Sharing) (c : Config) (files : ℕ → List ℕ) (ran : GatewayRan)
+    (places bytes : List ℕ) : Type 0 where
   pub ends : AreWhole files places
   pub whole : (input : ℕ) → input < input_count w c → ¬ (HasBad (files input))
   pub early : ran.frames ≤ MOST_FRAMES
@@ -101,11 +102,6 @@ pub record StopsAtLate (w : Sharing) (c : Config) (files : ℕ → List ℕ) (pl
   pub no_further : ReadsNoFurther w c places MOST_FRAMES
   pub begins : BeginsUnits w c files bytes
   pub output : CompleteBefore w c files MOST_FRAMES bytes
-
--- Behind the packets of a file, up to its first bad one, fewer bytes were read than a packet has: so no bad packet was
--- read whole.
-abbrev pub ReadsNoBad : List ℕ → ℕ → Type 0
-ReadsNoBad file place = place < SIZE * (length (packets_in file) + 1)
 
 -- This input, of which a frame wants more than was read, gives no more: it could not be read on, or is too long. No bad
 -- packet of it was read whole, and none was met before. The output is the complete units of the frames before this one.
@@ -153,7 +149,7 @@ pub record StopsWriting (w : Sharing) (c : Config) (files : ℕ → List ℕ) (p
   pub ahead : ReadsAhead w c files places bytes
 
 -- What a run does, by what it tells.
-abbrev pub gateway_work : Sharing → Config → Work Ran GatewayStop
+abbrev pub gateway_work : Sharing → Config → Work GatewayRan GatewayStop
 gateway_work w c files (Ok ran) places bytes = RunsAll w c files ran places bytes
 gateway_work w c files (Err (Refused (Bad input packet))) places bytes = StopsAtBad w c files input packet places bytes
 gateway_work w c files (Err (Refused TooManyFrames)) places bytes = HasTooManyFrames w c files

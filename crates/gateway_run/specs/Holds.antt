@@ -1,14 +1,13 @@
 -- What a gateway between files holds. No public clause cites this module.
 use Rattle.std.specs.Prelude.{◌≡◌, ◌≢◌, ◌⊎◌, ℕ, ◌-◌, ◌*◌, ◌<◌, ◌≤◌, Bool, true, false, List, [], ◌++◌, length}
 use Rattle.std.specs.Prelude.{slice_index}
-use Rattle.std.specs.List.{AllByRecursion}
 use Rattle.plp_config.specs.Capacity.{IsPlan}
 use Rattle.plp_config.specs.RunLength.{frame_count}
 use Rattle.plp_config.specs.SlotTime.{slots_by}
 use Rattle.plp_config.specs.declared.config.Config.{Config}
 use Rattle.plp_config.specs.declared.moment.TheConstants.{MOST_FRAMES}
-use Rattle.ts_packet.specs.TsFile.{joined, begins_with_packet}
-use Rattle.ts_packet.specs.declared.sizes.TheConstants.{SIZE, SYNC}
+use Rattle.ts_packet.specs.TsFile.{joined, begins_with_packet, ArePackets}
+use Rattle.ts_packet.specs.declared.sizes.TheConstants.{SYNC}
 use Rattle.t2mi_stream.specs.Complete.{complete_units}
 use Rattle.t2mi_stream.specs.Pipe.{pipe}
 use Rattle.file_run.specs.Events as run
@@ -22,11 +21,7 @@ use Rattle.gateway_run.specs.declared.stop.GatewayStop.TheVariants.{Bad, TooMany
 use Rattle.gateway_run.specs.declared.place.Phase.{Phase}
 use Rattle.gateway_run.specs.declared.place.Phase.TheVariants.{Wants, Begins, Gives, Rests, Done, Stopped}
 use Rattle.gateway_run.specs.declared.place.Place.{Place}
-use Rattle.gateway_run.specs.declared.stop.Ran.{Ran}
-
--- Each is a packet of a file.
-abbrev pub ArePackets : List (List ℕ) → Type 0
-ArePackets packets = AllByRecursion (λ p. (length p ≡ SIZE) × (slice_index p 0 ≡ SYNC)) packets
+use Rattle.gateway_run.specs.declared.stop.GatewayRan.{GatewayRan}
 
 -- What an input was fed: packets, which were offered, and a tail that is none.
 pub record IsOffered (bytes : List ℕ) (ended : Bool) (packets : List (List ℕ)) (over : Bool) (tail : List ℕ) :
@@ -127,7 +122,7 @@ IsIn w c events tails (Stopped why) = StopsFor w c events tails why
 
 -- What was done to it as a machine, and what was done to the gateway.
 pub record Holds (w : Sharing) (c : Config) (done : List run.Event) (g : List Event → Type 0) (place : Place)
-    (ran : Ran) : Type 0 where
+    (ran : GatewayRan) : Type 0 where
   pub plan : IsPlan c
   pub events : List Event
   pub stands : g events

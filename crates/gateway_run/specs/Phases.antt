@@ -11,7 +11,7 @@ use Rattle.file_run.specs.declared.machine.Step.TheVariants.{Read, Give, End}
 use Rattle.gateway_run.specs.declared.stop.GatewayStop.{GatewayStop}
 use Rattle.gateway_run.specs.declared.stop.GatewayStop.TheVariants.{Bad}
 use Rattle.gateway_run.specs.declared.place.Place.{Place}
-use Rattle.gateway_run.specs.declared.stop.Ran.{Ran}
+use Rattle.gateway_run.specs.declared.stop.GatewayRan.{GatewayRan}
 use Rattle.gateway_run.specs.declared.place.Phase.{Phase}
 use Rattle.gateway_run.specs.declared.place.Phase.TheVariants.{Wants, Begins, Gives, Rests, Done, Stopped}
 
@@ -64,6 +64,6 @@ abbrev pub reach_by : Sharing → Config → Phase → ℕ → ℕ → ℕ
 reach_by w c phase frames input = SIZE * slots_by c (place_of w c input) (frame_read phase frames * c.ticks)
 
 -- what comes of a run that came so far
-abbrev pub ending_of : Phase → Ran → Result Ran GatewayStop
+abbrev pub ending_of : Phase → GatewayRan → Result GatewayRan GatewayStop
 ending_of (Stopped why) ran = Err why
 ending_of phase ran = Ok ran

@@ -13,5 +13,4 @@ mod stop;
 
 pub use laws::{one_run_law, run_ends_law};
 pub use running::{run, run_joined};
-pub use steps::front_packet;
-pub use stop::{GatewayStop, Ran};
+pub use stop::{GatewayRan, GatewayStop};

@@ -3,8 +3,8 @@ ghost use Rattle.gateway_run.specs.Ready.{IsReady, IsReady-prop};
 
 use crate::frame_gateway::FrameGateway;
 use crate::place::{Phase, Place};
-use crate::steps::{begin, end_input, give, take_packet};
-use crate::stop::{GatewayStop, Ran};
+use crate::steps::{begin, end_input, give, take_packets};
+use crate::stop::{GatewayRan, GatewayStop};
 use file_run::{Ending, Machine, Step, events_law};
 use plp_config::Plan;
 use ts_packet::SIZE;
@@ -16,7 +16,7 @@ pub struct GatewayMachine<'p, G: FrameGateway + Drop> {
     gateway: G,
     place: Place,
     // How many frames were begun, and how many units given.
-    ran: Ran,
+    ran: GatewayRan,
     ghost ready: { IsReady G.sharing plan.now (G.seen gateway plan.now) (G.status gateway) place ran } by { IsReady-prop G.sharing plan.now (G.seen gateway plan.now) (G.status gateway) place ran },
 }
 
@@ -52,8 +52,13 @@ impl<'p, G: FrameGateway + Drop> Machine for GatewayMachine<'p, G> {
     }
 
     fn feed(&mut self, _input: usize, bytes: &[u8]) -> usize {
-        self.place = take_packet(&mut self.gateway, self.plan, self.place, self.ran, bytes);
-        SIZE
+        take_packets(
+            &mut self.gateway,
+            self.plan,
+            &mut self.place,
+            self.ran,
+            bytes,
+        )
     }
 
     fn end_input(&mut self, _input: usize, bytes: &[u8]) {
@@ -71,7 +76,7 @@ impl<'p, G: FrameGateway + Drop> Machine for GatewayMachine<'p, G> {
             self.plan,
             &mut self.place,
             &mut self.ran,
-            out.first_chunk_mut().unwrap(),
+            out,
         )
     }
 }
@@ -79,13 +84,13 @@ impl<'p, G: FrameGateway + Drop> Machine for GatewayMachine<'p, G> {
 impl<'p, G: FrameGateway + Drop> Ending for GatewayMachine<'p, G> {
     ghost use Rattle.gateway_run.specs.Phases.{ending_of};
 
-    type Ran = Ran;
+    type Ran = GatewayRan;
 
     type Stop = GatewayStop;
 
     ghost ending = { λ m. ending_of m.place.phase m.ran };
 
-    fn ending(&self) -> Result<Ran, GatewayStop> {
+    fn ending(&self) -> Result<GatewayRan, GatewayStop> {
         match self.place.phase {
             Phase::Stopped(why) => Err(why),
             _ => Ok(self.ran),
@@ -115,7 +120,7 @@ impl<'p, G: FrameGateway + Drop> GatewayMachine<'p, G> {
                 input: 0,
                 phase: Phase::Gives,
             },
-            ran: Ran {
+            ran: GatewayRan {
                 frames: 0,
                 units: 0,
             },

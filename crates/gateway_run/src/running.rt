@@ -9,7 +9,7 @@ ghost use Rattle.gateway_run.specs.GatewayRun.{gateway_work};
 
 use crate::frame_gateway::FrameGateway;
 use crate::machine::GatewayMachine;
-use crate::stop::{GatewayStop, Ran};
+use crate::stop::{GatewayRan, GatewayStop};
 use file_run::{Output, RunStop, events_law, run_one};
 use gateway_core::{Gateway, SplitGateway, ahead_law, front_law, units_law};
 use plp_config::Plan;
@@ -24,7 +24,7 @@ fn run_with<G: FrameGateway + Drop, D: Desk>(
     out: &str,
     ins: &[Word],
     desk: &mut D,
-) -> Result<Ran, RunStop<GatewayStop>>
+) -> Result<GatewayRan, RunStop<GatewayStop>>
     requires is_of { (G.seen gateway plan.now).is_of }
     requires stands { (G.seen gateway plan.now).stands [] }
     requires status { G.status gateway ≡ new_status (length plan.now.plps) }
@@ -50,7 +50,7 @@ pub fn run<D: Desk>(
     out: &str,
     ins: &[Word],
     desk: &mut D,
-) -> Result<Ran, RunStop<GatewayStop>>
+) -> Result<GatewayRan, RunStop<GatewayStop>>
     requires count { length ins.now ≡ input_count Apart plan.now }
     requires apart { AreApart out.now ins.now }
     ensures ends { Ends (gateway_work Apart plan.now) (D.state desk.old) (D.state desk.new) (Into out.now) ins.now
@@ -69,7 +69,7 @@ pub fn run_joined<D: Desk>(
     out: &str,
     ins: &[Word],
     desk: &mut D,
-) -> Result<Ran, RunStop<GatewayStop>>
+) -> Result<GatewayRan, RunStop<GatewayStop>>
     requires count { length ins.now ≡ input_count Joint plan.now }
     requires apart { AreApart out.now ins.now }
     ensures ends { Ends (gateway_work Joint plan.now) (D.state desk.old) (D.state desk.new) (Into out.now) ins.now

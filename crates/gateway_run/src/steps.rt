@@ -1,5 +1,5 @@
 // The steps of a gateway between files.
-ghost use Rattle.std.specs.Prelude.{◌≡◌, ◌<◌, ◌≤◌, ◌++◌, ◌∷◌, List, [], length, take, Some};
+ghost use Rattle.std.specs.Prelude.{◌≡◌, ◌<◌, ◌≤◌, ◌++◌, ◌∷◌, ◌↔◌, List, [], length, take, IsTrue, Some};
 ghost use Rattle.plp_config.specs.declared.moment.TheConstants.{MOST_FRAMES};
 ghost use Rattle.common_plp.specs.Inputs.{place_of};
 ghost use Rattle.file_run.specs.Events.{Event, Fed, Ended, Gave};
@@ -12,20 +12,12 @@ ghost use Rattle.gateway_run.specs.declared.place.Phase.TheVariants.{Wants, Begi
 
 use crate::frame_gateway::FrameGateway;
 use crate::place::{Phase, Place};
-use crate::stop::{GatewayStop, Ran};
+use crate::stop::{GatewayRan, GatewayStop};
 use common_plp::split_law;
 use file_run::events_law;
 use gateway_core::{front_law, not_yet_last_law};
 use plp_config::{MOST_FRAMES, Plan};
 use ts_packet::{SIZE, SYNC, TsPacket};
-
-/// The packet at the front of some bytes.
-pub fn front_packet(bytes: &[u8]) -> TsPacket
-    requires { SIZE ≤ length bytes.now }
-    ensures { result ≡ take SIZE bytes.now }
-{
-    TsPacket::from_array(*bytes.first_chunk().unwrap())
-}
 
 // The place of a gateway that asks for this input, or for none.
 fn place_by(asked: Option<usize>) -> Place
@@ -66,12 +58,12 @@ fn bad<G: FrameGateway>(gateway: &G, plan: &Plan, input: usize, frames: u64) -> 
     }))
 }
 
-/// Takes the packet at the front of the bytes of the input that is looked at, or stops at it.
-pub fn take_packet<G: FrameGateway>(
+// Takes the packet at the front of the bytes of the input that is looked at, or stops at it.
+fn take_packet<G: FrameGateway>(
     gateway: &mut G,
     plan: &Plan,
     place: Place,
-    ran: Ran,
+    ran: GatewayRan,
     bytes: &[u8],
 ) -> Place
     requires ready { IsReady G.sharing plan.now (G.seen gateway.old plan.now) (G.status gateway.old) place ran }
@@ -85,11 +77,53 @@ pub fn take_packet<G: FrameGateway>(
         (G.seen gateway.new plan.now).stands result ran }
 {
     events_law();
-    let packet = front_packet(bytes);
+    let packet = TsPacket::front_of(bytes);
     if packet.as_array()[0] != SYNC {
         return bad(gateway, plan, place.input, ran.frames);
     }
     place_by(gateway.offer(plan, place.input, &packet))
+}
+
+// Whether this input is looked at.
+fn looks_at(place: Place, input: usize) -> bool
+    ensures { IsTrue result ↔ ((place.phase ≡ Wants) × (place.input ≡ input)) }
+{
+    match place.phase {
+        Phase::Wants => place.input == input,
+        _ => false,
+    }
+}
+
+/// Takes packets from the front of the bytes of the input that is looked at, as long as it is and one waits, and stops
+/// at a bad one: how many bytes.
+pub fn take_packets<G: FrameGateway>(
+    gateway: &mut G,
+    plan: &Plan,
+    place: &mut Place,
+    ran: GatewayRan,
+    bytes: &[u8],
+) -> usize
+    requires ready { IsReady G.sharing plan.now (G.seen gateway.old plan.now) (G.status gateway.old) place.old ran }
+    requires wants { place.old.phase ≡ Wants }
+    requires long { SIZE ≤ length bytes.now }
+    ensures some { 0 < result }
+    ensures few { result ≤ length bytes.now }
+    ensures ready { IsReady G.sharing plan.now (G.seen gateway.new plan.now) (G.status gateway.new) place.new ran }
+    ensures read { frame_read place.new.phase ran.frames ≡ ran.frames }
+    ensures holds { (done : List Event)
+        → Holds G.sharing plan.now done (G.seen gateway.old plan.now).stands place.old ran
+        → Holds G.sharing plan.now (done ++ Fed place.old.input (take result bytes.now) ∷ [])
+        (G.seen gateway.new plan.now).stands place.new ran }
+{
+    events_law();
+    let mut now = *place;
+    let mut len = 0;
+    'packets: while looks_at(now, place.input) && bytes.len() - len >= SIZE {
+        now = take_packet(gateway, plan, now, ran, &bytes[len..]);
+        len += SIZE;
+    }
+    *place = now;
+    len
 }
 
 /// The file of the input that is looked at has ended behind these bytes.
@@ -97,7 +131,7 @@ pub fn end_input<G: FrameGateway>(
     gateway: &mut G,
     plan: &Plan,
     place: Place,
-    ran: Ran,
+    ran: GatewayRan,
     bytes: &[u8],
 ) -> Place
     requires ready { IsReady G.sharing plan.now (G.seen gateway.old plan.now) (G.status gateway.old) place ran }
@@ -119,7 +153,12 @@ pub fn end_input<G: FrameGateway>(
 }
 
 /// Begins the next frame, or the rest if no frame comes.
-pub fn begin<G: FrameGateway>(gateway: &mut G, plan: &Plan, place: Place, ran: &mut Ran) -> Place
+pub fn begin<G: FrameGateway>(
+    gateway: &mut G,
+    plan: &Plan,
+    place: Place,
+    ran: &mut GatewayRan,
+) -> Place
     requires ready { IsReady G.sharing plan.now (G.seen gateway.old plan.now) (G.status gateway.old) place ran.old }
     requires begins { place.phase ≡ Begins }
     ensures ready { IsReady G.sharing plan.now (G.seen gateway.new plan.now) (G.status gateway.new) result ran.new }
@@ -146,18 +185,19 @@ pub fn begin<G: FrameGateway>(gateway: &mut G, plan: &Plan, place: Place, ran: &
     place_in(Phase::Gives)
 }
 
-/// Gives the next unit, or goes on behind the units: how many bytes.
-pub fn give<G: FrameGateway>(
+// Gives the next unit, or goes on behind the units: how many bytes.
+fn go_on<G: FrameGateway>(
     gateway: &mut G,
     plan: &Plan,
     place: &mut Place,
-    ran: &mut Ran,
+    ran: &mut GatewayRan,
     unit: &mut [u8; SIZE],
 ) -> usize
     requires ready { IsReady G.sharing plan.now (G.seen gateway.old plan.now) (G.status gateway.old) place.old ran.old }
     requires gives { IsGiving place.old.phase }
-    ensures count { result ≤ length unit.new }
+    ensures count { result ≤ SIZE }
     ensures whole { length unit.new ≡ SIZE }
+    ensures on { 0 < result → IsGiving place.new.phase }
     ensures ready { IsReady G.sharing plan.now (G.seen gateway.new plan.now) (G.status gateway.new) place.new ran.new }
     ensures left { left_by (G.status gateway.new).left place.new.phase ran.new.frames
         < left_by (G.status gateway.old).left place.old.phase ran.old.frames }
@@ -178,4 +218,64 @@ pub fn give<G: FrameGateway>(
     }
     *place = place_by(gateway.look(plan));
     0
+}
+
+// The same to the front of these bytes.
+fn go_on_front<G: FrameGateway>(
+    gateway: &mut G,
+    plan: &Plan,
+    place: &mut Place,
+    ran: &mut GatewayRan,
+    out: &mut [u8],
+) -> usize
+    requires ready { IsReady G.sharing plan.now (G.seen gateway.old plan.now) (G.status gateway.old) place.old ran.old }
+    requires gives { IsGiving place.old.phase }
+    requires room { SIZE ≤ length out.old }
+    ensures count { result ≤ SIZE }
+    ensures size { length out.new ≡ length out.old }
+    ensures on { 0 < result → IsGiving place.new.phase }
+    ensures ready { IsReady G.sharing plan.now (G.seen gateway.new plan.now) (G.status gateway.new) place.new ran.new }
+    ensures left { left_by (G.status gateway.new).left place.new.phase ran.new.frames
+        < left_by (G.status gateway.old).left place.old.phase ran.old.frames }
+    ensures read { frame_read place.old.phase ran.old.frames ≤ frame_read place.new.phase ran.new.frames }
+    ensures holds { (done : List Event)
+        → Holds G.sharing plan.now done (G.seen gateway.old plan.now).stands place.old ran.old
+        → Holds G.sharing plan.now (done ++ Gave (take result out.new) ∷ []) (G.seen gateway.new plan.now).stands
+        place.new ran.new }
+{
+    go_on(gateway, plan, place, ran, out.first_chunk_mut().unwrap())
+}
+
+/// Gives units to the front of these bytes, as long as one comes and there is room, and goes on behind the units: how
+/// many bytes.
+pub fn give<G: FrameGateway>(
+    gateway: &mut G,
+    plan: &Plan,
+    place: &mut Place,
+    ran: &mut GatewayRan,
+    out: &mut [u8],
+) -> usize
+    requires ready { IsReady G.sharing plan.now (G.seen gateway.old plan.now) (G.status gateway.old) place.old ran.old }
+    requires gives { IsGiving place.old.phase }
+    requires room { SIZE ≤ length out.old }
+    ensures count { result ≤ length out.old }
+    ensures ready { IsReady G.sharing plan.now (G.seen gateway.new plan.now) (G.status gateway.new) place.new ran.new }
+    ensures left { left_by (G.status gateway.new).left place.new.phase ran.new.frames
+        < left_by (G.status gateway.old).left place.old.phase ran.old.frames }
+    ensures read { frame_read place.old.phase ran.old.frames ≤ frame_read place.new.phase ran.new.frames }
+    ensures holds { (done : List Event)
+        → Holds G.sharing plan.now done (G.seen gateway.old plan.now).stands place.old ran.old
+        → Holds G.sharing plan.now (done ++ Gave (take result out.new) ∷ []) (G.seen gateway.new plan.now).stands
+        place.new ran.new }
+{
+    events_law();
+    let mut len = 0;
+    while out.len() - len >= SIZE {
+        let count = go_on_front(gateway, plan, place, ran, &mut out[len..]);
+        if count == 0 {
+            return len;
+        }
+        len += count;
+    }
+    len
 }

@@ -3,7 +3,7 @@ use thiserror::Error;
 
 /// A run to its end.
 #[derive(Clone, Copy, Debug, PartialEq, Eq)]
-pub struct Ran {
+pub struct GatewayRan {
     /// The number of T2 frames.
     pub frames: u64,
     /// The number of units written.

@@ -10,7 +10,7 @@ use Rattle.terms.proofs.CaseLemmas.{bool_cases}
 use Rattle.mended_frames.specs.Mended.{Made}
 use Rattle.mend_run.specs.Counted.{told, is_woven, last_from, span, counted}
 use Rattle.mend_run.specs.Shown.{with_frame, with_units, ran_of, first_of, behind_of, tally_of}
-use Rattle.mend_run.specs.declared.stop.Ran.{Ran}
+use Rattle.mend_run.specs.declared.stop.MendRan.{MendRan}
 use Rattle.mend_run.specs.declared.tally.Tally.{Tally}
 
 abbrev tally : ℕ → ℕ → ℕ → ℕ → ℕ → Tally
@@ -97,7 +97,7 @@ ran_is made bytes units small is =
     (missing_is (behind_of made - first_of made) (length made) (omega (arith, small))
     ∙ ap (λ (m : ℕ). m - length made) (sym (span_is made))) (ap told is)
   where
-    ran : ℕ → ℕ → ℕ → ℕ → Ran
+    ran : ℕ → ℕ → ℕ → ℕ → MendRan
     ran f w m u = record { frames = f; woven = w; missing = m; units = u }
 
 -- no frame was told exactly if none was sent

@@ -15,7 +15,7 @@ use Rattle.mend_run.specs.declared.phase.Phase.{Phase}
 use Rattle.mend_run.specs.declared.phase.Phase.TheVariants as phase
 use Rattle.mend_run.specs.declared.stop.MendStop.{MendStop}
 use Rattle.mend_run.specs.declared.stop.MendStop.TheVariants as stop
-use Rattle.mend_run.specs.declared.stop.Ran.{Ran}
+use Rattle.mend_run.specs.declared.stop.MendRan.{MendRan}
 
 -- To the first this was done, and then it is the second.
 abbrev pub Becomes : MendMachine → List Event → MendMachine → Type 0
@@ -46,5 +46,5 @@ abbrev pub left_of : MendMachine → ℕ
 left_of m = left_at m.phase m
 
 -- what came of it
-abbrev pub ending_of : MendMachine → Result Ran MendStop
+abbrev pub ending_of : MendMachine → Result MendRan MendStop
 ending_of m = if m.tally.frames == 0 then Err stop.NoFrame else Ok (ran_of m.tally)

@@ -2,7 +2,7 @@
 use Rattle.std.specs.Prelude.{ℕ, ◌+◌, ◌-◌, ◌^◌, Bool, List, [], ◌∷◌, length, min}
 use Rattle.std.specs.List.{filter}
 use Rattle.mended_frames.specs.Mended.{Made}
-use Rattle.mend_run.specs.declared.stop.Ran.{Ran}
+use Rattle.mend_run.specs.declared.stop.MendRan.{MendRan}
 
 -- a number as it is told: it has 64 bits, and stands still at the greatest
 abbrev pub told : ℕ → ℕ
@@ -23,7 +23,7 @@ span (x ∷ made) = last_from x.number made + 1 - x.number
 
 -- how many frames were sent, how many of them were woven, how many between the first and the last were not, and so many
 -- units
-abbrev pub counted : List Made → ℕ → Ran
+abbrev pub counted : List Made → ℕ → MendRan
 counted made units = record {
   frames = told (length made);
   woven = told (length (filter is_woven made));

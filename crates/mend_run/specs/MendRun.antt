@@ -16,10 +16,10 @@ use Rattle.file_run.specs.declared.stop.RunStop.TheVariants.{Refused, Files, Out
 use Rattle.mend_run.specs.Counted.{counted}
 use Rattle.mend_run.specs.declared.stop.MendStop.{MendStop}
 use Rattle.mend_run.specs.declared.stop.MendStop.TheVariants.{NoFrame}
-use Rattle.mend_run.specs.declared.stop.Ran.{Ran}
+use Rattle.mend_run.specs.declared.stop.MendRan.{MendRan}
 
 -- A frame is made of the files, the output is all units, and these are the numbers.
-pub record MendsAll (c : Config) (k : ℕ) (files : ℕ → List ℕ) (ran : Ran) (bytes : List ℕ) : Type 0 where
+pub record MendsAll (c : Config) (k : ℕ) (files : ℕ → List ℕ) (ran : MendRan) (bytes : List ℕ) : Type 0 where
   pub some : made_of_all c k files ≢ []
   pub output : bytes ≡ joined (units_of c k files)
   pub ran_is : ran ≡ counted (made_of_all c k files) (length (units_of c k files))
@@ -88,7 +88,7 @@ pub record HasSome (c : Config) (k : ℕ) (files : ℕ → List ℕ) (places byt
   pub since : IsPrefix (complete_by c k files last taken) bytes
 
 -- what a run did by its files, for each answer; want of memory is told before an input is opened, and never here
-abbrev pub mend_work : Config → ℕ → Work Ran MendStop
+abbrev pub mend_work : Config → ℕ → Work MendRan MendStop
 mend_work c k files (Ok ran) places bytes = AreWhole files places × MendsAll c k files ran bytes
 mend_work c k files (Err (Refused NoFrame)) places bytes = AreWhole files places × HasNone c k files bytes
 mend_work c k files (Err (Files (TooLong input))) places bytes = HasNearly c k input files places bytes

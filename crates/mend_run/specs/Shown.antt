@@ -24,7 +24,7 @@ use Rattle.mend_run.specs.Row.{HaveCome, AllGo, AllKnown, OnePasses}
 use Rattle.mend_run.specs.declared.machine.MendMachine.{MendMachine}
 use Rattle.mend_run.specs.declared.phase.Phase.{Phase}
 use Rattle.mend_run.specs.declared.phase.Phase.TheVariants as phase
-use Rattle.mend_run.specs.declared.stop.Ran.{Ran}
+use Rattle.mend_run.specs.declared.stop.MendRan.{MendRan}
 use Rattle.mend_run.specs.declared.tally.Tally.{Tally}
 
 -- ---- what is counted
@@ -44,7 +44,7 @@ abbrev pub with_units : Tally → ℕ → Tally
 with_units t units = record t { units = told (t.units + units) }
 
 -- what is told at the end
-abbrev pub ran_of : Tally → Ran
+abbrev pub ran_of : Tally → MendRan
 ran_of t = record { frames = t.frames; woven = t.woven; missing = t.behind - t.first - t.frames; units = t.units }
 
 -- the number of the first of some frames, and the number behind that of the last one

@@ -4,6 +4,7 @@
 mod feed_counts;
 mod machine;
 mod mending;
+mod missing;
 mod phase;
 mod row;
 mod running;
@@ -11,4 +12,4 @@ mod stop;
 mod tally;
 
 pub use running::run;
-pub use stop::{MendStop, Ran};
+pub use stop::{MendRan, MendStop};

@@ -8,9 +8,10 @@ ghost use Rattle.mended_frames.specs.declared.mender.Source.TheVariants as sourc
 ghost use Rattle.spaced_frames.specs.StandsFor.{config_of, is_idle, has_finished};
 ghost use Rattle.mend_run.specs.declared.phase.Phase.TheVariants as at;
 
+use crate::missing::none_missing;
 use crate::phase::Phase;
 use crate::row::{end_one, feed_one, next_step, open_feeds};
-use crate::stop::{MendStop, Ran};
+use crate::stop::{MendRan, MendStop};
 use crate::tally::Tally;
 use bit_slice::OutOfMemory;
 use feed_events::EventFeed;
@@ -18,6 +19,7 @@ use file_run::{Ending, FeedCounts, Machine, Step, events_law};
 use frame_weave::MarkedGroup;
 use mended_frames::Mender;
 use plp_config::Plan;
+use ports::{Desk, Note};
 use spaced_frames::Sender;
 use std::alloc::Global;
 
@@ -31,8 +33,9 @@ pub struct MendMachine<'p> {
     pub(crate) sender: Sender<'p>,
     pub(crate) phase: Phase,
     pub(crate) tally: Tally,
-    // For people: no definition reads it.
+    // For people: no definition reads them.
     pub(crate) counts: FeedCounts,
+    pub(crate) missing: Note,
     ghost pid: { plan.now.pid < 2 ^ 13 },
     ghost of: { AreOf plan.now feeds.items },
     ghost mends: { mender.plan.now ≡ plan.now },
@@ -91,18 +94,24 @@ impl<'p> Machine for MendMachine<'p> {
             Phase::Rests | Phase::Done => self.give_rest(out.first_chunk_mut().unwrap()),
         }
     }
+
+    // Which feeds had the frames whole, and which frames are not sent.
+    fn note<D: Desk>(&self, desk: &mut D) {
+        self.counts.note(desk, self.feeds.len());
+        desk.note(self.missing);
+    }
 }
 
 impl<'p> Ending for MendMachine<'p> {
     ghost use Rattle.mend_run.specs.AsMachine.{ending_of};
 
-    type Ran = Ran;
+    type Ran = MendRan;
 
     type Stop = MendStop;
 
     ghost ending = { ending_of };
 
-    fn ending(&self) -> Result<Ran, MendStop> {
+    fn ending(&self) -> Result<MendRan, MendStop> {
         if self.tally.frames == 0 {
             return Err(MendStop::NoFrame);
         }
@@ -128,12 +137,8 @@ impl<'p> MendMachine<'p> {
             sender: Sender::new(plan),
             phase: Phase::Looks,
             tally: Tally::NONE,
-            counts: FeedCounts::NONE,
+            counts: FeedCounts::none(),
+            missing: none_missing(),
         })
-    }
-
-    /// Which feeds had the frames whole.
-    pub(crate) fn counts(&self) -> &FeedCounts {
-        &self.counts
     }
 }

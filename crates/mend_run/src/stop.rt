@@ -3,7 +3,7 @@ use thiserror::Error;
 
 /// What was sent in a run. No number is greater than the greatest of 64 bits, where it stands still.
 #[derive(Clone, Copy, Debug, PartialEq, Eq)]
-pub struct Ran {
+pub struct MendRan {
     /// How many frames.
     pub frames: u64,
     /// How many of them no input had whole.

@@ -2,7 +2,7 @@
 ghost use Rattle.std.specs.Prelude.{◌≡◌, ◌<◌, ◌+◌, ◌^◌};
 ghost use Rattle.mend_run.specs.Shown.{with_frame, with_units, ran_of};
 
-use crate::stop::Ran;
+use crate::stop::MendRan;
 
 /// What was sent. The counts stand still at the greatest number.
 #[derive(Clone, Copy, Debug, PartialEq, Eq)]
@@ -52,11 +52,11 @@ impl Tally {
     }
 
     // The numbers that are told.
-    pub fn ran(&self) -> Ran
+    pub fn ran(&self) -> MendRan
         ensures { result ≡ ran_of self.now }
     {
         let span = self.behind.saturating_sub(self.first);
-        Ran {
+        MendRan {
             frames: self.frames,
             woven: self.woven,
             missing: span.saturating_sub(self.frames),

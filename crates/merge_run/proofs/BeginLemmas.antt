@@ -51,7 +51,7 @@ use Rattle.feed_merge.specs.Seen.{seen_of}
 use Rattle.merge_run.specs.declared.machine.MergeMachine.{MergeMachine}
 use Rattle.merge_run.specs.declared.phase.Phase.{Phase}
 use Rattle.merge_run.specs.declared.phase.Phase.TheVariants.{Reads, Gives, Rests}
-use Rattle.merge_run.specs.declared.stop.Ran.{Ran}
+use Rattle.merge_run.specs.declared.stop.MergeRan.{MergeRan}
 use Rattle.merge_run.proofs.LiveLemmas.{live_taken}
 use Rattle.merge_run.proofs.FeedLemmas.{TookFor, took_of, took_past, there_at, due_held, formed_due}
 use Rattle.feed_merge.proofs.BoundLemmas.{few_bodies}
@@ -439,12 +439,12 @@ module _ (follow : DueFollow) (grow : PicksGrow) (field : FieldRange) (c : Confi
     });
   }
     where
-      added_units : (r : Ran) (f : Feed) → (added r f).units ≡ r.units
+      added_units : (r : MergeRan) (f : Feed) → (added r f).units ≡ r.units
       added_units r A = refl
       added_units r B = refl
 
       units : new.ran.units ≡ m.ran.units
-      units = ap (λ (r : Ran). r.units) ran ∙ added_units m.ran from
+      units = ap (λ (r : MergeRan). r.units) ran ∙ added_units m.ran from
 
       frames_are : now ≡ frames ++ numbered n view ∷ []
       frames_are = ap frames_of picked ∙ frames_append (picks c s.given_a s.given_b)
@@ -452,25 +452,25 @@ module _ (follow : DueFollow) (grow : PicksGrow) (field : FieldRange) (c : Confi
 
       ran_now : new.ran ≡ counted (picks c given_a given_b) new.ran.units
       ran_now =
-          ran ∙ ap (λ (r : Ran). added r from) s.ran_is
+          ran ∙ ap (λ (r : MergeRan). added r from) s.ran_is
           ∙ sym (counted_push (picks c s.given_a s.given_b) (record { feed = from; frame = numbered n view })
           m.ran.units)
           ∙ ap (λ (ps : List Picked). counted ps m.ran.units) (sym picked)
           ∙ ap (counted (picks c given_a given_b)) (sym units)
 
-      added_frames : (r : Ran) (f : Feed) → (added r f).frames ≡ r.frames + 1
+      added_frames : (r : MergeRan) (f : Feed) → (added r f).frames ≡ r.frames + 1
       added_frames r A = refl
       added_frames r B = refl
 
-      added_parts : (r : Ran) (f : Feed) → (added r f).a + (added r f).b ≡ r.a + r.b + 1
+      added_parts : (r : MergeRan) (f : Feed) → (added r f).a + (added r f).b ≡ r.a + r.b + 1
       added_parts r A = omega arith
       added_parts r B = omega arith
 
       counts_now : CountsFrames new
       counts_now =
           let w = s.counts in
-          let count = ap (λ (r : Ran). r.frames) ran ∙ added_frames m.ran from in
-          let sum = ap (λ (r : Ran). r.a + r.b) ran ∙ added_parts m.ran from in
+          let count = ap (λ (r : MergeRan). r.frames) ran ∙ added_frames m.ran from in
+          let sum = ap (λ (r : MergeRan). r.a + r.b) ran ∙ added_parts m.ran from in
           let was_frames = w.frames in
           let was_parts = w.parts in
           let few = begun_few field c m.merger new.merger (feed_of new) n view s.plan formed s.sends.network i.idle b in
@@ -497,13 +497,13 @@ module _ (follow : DueFollow) (grow : PicksGrow) (field : FieldRange) (c : Confi
         (gave events)) (sym still)
         (subst (λ (ps : List Picked). Sends c new.merger [] (frames_of ps) new.ran.units (gave events)) (sym picked)
         (subst (λ (g : Merger). Sends c g [] frames new.ran.units (gave events)) (sym same)
-        (subst (λ (r : Ran). Sends c m.merger [] frames r.units (gave events)) (sym ran) sending)));
-    ran_is = ran ∙ s.ran_is ∙ ap₂ counted (sym picked) (ap (λ (r : Ran). r.units) (sym ran));
+        (subst (λ (r : MergeRan). Sends c m.merger [] frames r.units (gave events)) (sym ran) sending)));
+    ran_is = ran ∙ s.ran_is ∙ ap₂ counted (sym picked) (ap (λ (r : MergeRan). r.units) (sym ran));
     counts = (
         let w = s.counts in
-        let count = ap (λ (r : Ran). r.frames) ran in
-        let sum = ap (λ (r : Ran). r.a + r.b) ran in
-        let units = ap (λ (r : Ran). r.units) ran in
+        let count = ap (λ (r : MergeRan). r.frames) ran in
+        let sum = ap (λ (r : MergeRan). r.a + r.b) ran in
+        let units = ap (λ (r : MergeRan). r.units) ran in
         let was_frames = w.frames in
         let was_parts = w.parts in
         let e = next in
@@ -514,12 +514,13 @@ module _ (follow : DueFollow) (grow : PicksGrow) (field : FieldRange) (c : Confi
               ≤ new.next * frame_bytes + 184) (sym still) (omega (arith, was_units, units, e, low));
         });
     live = subst (λ (k : ℕ). IsLive c (fed 0 events) (fed 1 events) given_a given_b k new.ran.units) (sym next)
-        (subst (IsLive c (fed 0 events) (fed 1 events) given_a given_b (n + 1)) (ap (λ (r : Ran). r.units) (sym ran))
+        (subst (IsLive c (fed 0 events) (fed 1 events) given_a given_b (n + 1)) (ap (λ (r : MergeRan). r.units)
+        (sym ran))
         live);
     is_in = subst (IsIn c new now) (sym still) (subst (λ (ps : List Picked). IsReading c new.merger (frames_of ps)
         new.ran.units) (sym picked)
         (subst (λ (g : Merger). IsReading c g frames new.ran.units) (sym same)
-        (subst (λ (r : Ran). IsReading c m.merger frames r.units) (sym ran) i)));
+        (subst (λ (r : MergeRan). IsReading c m.merger frames r.units) (sym ran) i)));
   }
 
 -- ---- it goes on so often

@@ -42,7 +42,7 @@ use Rattle.merge_run.specs.Taking.{is_same, feed_in}
 use Rattle.merge_run.specs.declared.machine.MergeMachine.{MergeMachine}
 use Rattle.merge_run.specs.declared.phase.Phase.{Phase}
 use Rattle.merge_run.specs.declared.phase.Phase.TheVariants.{Reads, Gives, Rests, Done}
-use Rattle.merge_run.specs.declared.stop.Ran.{Ran}
+use Rattle.merge_run.specs.declared.stop.MergeRan.{MergeRan}
 use Rattle.feed_merge.proofs.HeldLemmas as held
 use Rattle.feed_merge.proofs.EventLemmas.{gave_both}
 use Rattle.merge_run.proofs.LiveLemmas.{live_given}
@@ -193,7 +193,7 @@ module _ (tell : EventsTell) (c : Config) (m : MergeMachine) (g : Merger) (event
     sends = subst (λ (p : Phase). Sends c g (left_at p g (feed_of m)) fs (m.ran.units + length n.units) (gave more))
         (sym gives)
         (sent (left_for g (feed_of m)) now);
-    ran_is = ap (λ (r : Ran). record r { units = m.ran.units + length n.units }) s.ran_is;
+    ran_is = ap (λ (r : MergeRan). record r { units = m.ran.units + length n.units }) s.ran_is;
     counts = record {
       frames = s.counts.frames;
       parts = s.counts.parts;
@@ -273,7 +273,7 @@ module _ (tell : EventsTell) (c : Config) (m : MergeMachine) (g : Merger) (event
         early = s.both.early;
       });
       sends = sent [] (n.spent off);
-      ran_is = ap (λ (r : Ran). record r { units = m.ran.units + length n.units }) s.ran_is;
+      ran_is = ap (λ (r : MergeRan). record r { units = m.ran.units + length n.units }) s.ran_is;
       counts = record {
         frames = s.counts.frames;
         parts = s.counts.parts;
@@ -353,7 +353,7 @@ module _ (tell : EventsTell) (c : Config) (m : MergeMachine) (g : Merger) (event
             ))
             (λ off. absurd (true≢false (sym j.over ∙ off)))
             (stands (remade_bodies c fs) m.ran.units ending.stands) ending);
-        ran_is = ap (λ (r : Ran). record r { units = m.ran.units + 1 }) s.ran_is;
+        ran_is = ap (λ (r : MergeRan). record r { units = m.ran.units + 1 }) s.ran_is;
         counts = record {
           frames = s.counts.frames;
           parts = s.counts.parts;

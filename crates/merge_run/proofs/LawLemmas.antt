@@ -10,7 +10,7 @@ use Rattle.merge_run.specs.MergeRun.{picked_of, units_of}
 use Rattle.feed_merge.specs.Fed.{AreEarly}
 use Rattle.merge_run.specs.declared.stop.MergeStop.{MergeStop}
 use Rattle.merge_run.specs.declared.stop.MergeStop.TheVariants.{NoSuperframe, TooManyFrames}
-use Rattle.merge_run.specs.declared.stop.Ran.{Ran}
+use Rattle.merge_run.specs.declared.stop.MergeRan.{MergeRan}
 use Rattle.feed_merge.proofs.EarlyLemmas.{not_late, early_none, early_or_late, some_is}
 use Rattle.feed_merge.proofs.FilesLemmas.{two}
 
@@ -33,7 +33,7 @@ one_run c files (Err TooManyFrames) (Err TooManyFrames) a b = refl
 pub run_ends : RunEnds
 run_ends c files = go (records_of c (files 0)) (records_of c (files 1)) refl refl
   where
-    done : (records_of c (files 0) ≢ []) ⊎ (records_of c (files 1) ≢ []) → (result : Result Ran MergeStop)
+    done : (records_of c (files 0) ≢ []) ⊎ (records_of c (files 1) ≢ []) → (result : Result MergeRan MergeStop)
         × MustRun c files result
     done some =
         elim (early_or_late (records_of c (files 0))) [
@@ -48,7 +48,7 @@ run_ends c files = go (records_of c (files 0)) (records_of c (files 1)) refl ref
         ]
 
     go : (xs ys : List FrameRecord) → records_of c (files 0) ≡ xs → records_of c (files 1) ≡ ys
-        → (result : Result Ran MergeStop) × MustRun c files result
+        → (result : Result MergeRan MergeStop) × MustRun c files result
     go [] [] a b = (Err NoSuperframe, two (λ (input : ℕ). records_of c (files input) ≡ []) a b)
     go [] (y ∷ ys) a b = done (inr (λ none. some_is y ys (sym b ∙ none)))
     go (x ∷ xs) ys a b = done (inl (λ none. some_is x xs (sym a ∙ none)))

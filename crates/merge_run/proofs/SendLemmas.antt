@@ -25,7 +25,7 @@ use Rattle.feed_merge.specs.StandsFor.{MergerStandsFor, config_of, has_finished}
 use Rattle.merge_run.specs.Counted.{from_first, from_second, counted, added}
 use Rattle.merge_run.specs.Sending.{BeginsAs}
 use Rattle.merge_run.specs.Shown.{Sends}
-use Rattle.merge_run.specs.declared.stop.Ran.{Ran}
+use Rattle.merge_run.specs.declared.stop.MergeRan.{MergeRan}
 
 -- ---- frames
 
@@ -163,7 +163,7 @@ counted_push ps p units = go p.feed refl
         (filter from_second (p ∷ []))
 
     made : (a b c d e f : ℕ) → a ≡ d → b ≡ e → c ≡ f
-        → record { frames = a; a = b; b = c; units = units } ≡ (let r : Ran =
+        → record { frames = a; a = b; b = c; units = units } ≡ (let r : MergeRan =
         record { frames = d; a = e; b = f; units = units } in r)
     made a b c d e f p q r = rw (p, q, r) refl
 

@@ -25,7 +25,7 @@ use Rattle.feed_merge.specs.declared.seen.Feed.TheVariants.{A, B}
 use Rattle.merge_run.specs.declared.phase.Phase.{Phase}
 use Rattle.merge_run.specs.declared.machine.MergeMachine.{MergeMachine}
 use Rattle.merge_run.specs.declared.phase.Phase.TheVariants.{Reads, Gives, Rests, Done}
-use Rattle.merge_run.specs.declared.stop.Ran.{Ran}
+use Rattle.merge_run.specs.declared.stop.MergeRan.{MergeRan}
 use Rattle.feed_merge.proofs.EventLemmas.{gave_both}
 use Rattle.merge_run.proofs.LiveLemmas.{live_all, live_given}
 use Rattle.merge_run.proofs.SplitLemmas.{picks_nothing}
@@ -64,7 +64,7 @@ live_opened c = record {
   done = (let none = none_complete c in omega (arith, none));
 }
 
-pub ran_opened : (c : Config) → (let r : Ran = record { frames = 0; a = 0; b = 0; units = 0 } in r) ≡ counted
+pub ran_opened : (c : Config) → (let r : MergeRan = record { frames = 0; a = 0; b = 0; units = 0 } in r) ≡ counted
     (picks c [] []) 0
 ran_opened c = sym (ap (λ (ps : List Picked). counted ps 0) (picks_nothing c))
 

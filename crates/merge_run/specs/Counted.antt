@@ -4,7 +4,7 @@ use Rattle.std.specs.List.{filter}
 use Rattle.feed_merge.specs.Picks.{Picked}
 use Rattle.feed_merge.specs.declared.seen.Feed.{Feed}
 use Rattle.feed_merge.specs.declared.seen.Feed.TheVariants.{A, B}
-use Rattle.merge_run.specs.declared.stop.Ran.{Ran}
+use Rattle.merge_run.specs.declared.stop.MergeRan.{MergeRan}
 
 -- whether a frame comes from the first input
 abbrev pub is_first : Feed → Bool
@@ -18,7 +18,7 @@ abbrev pub from_second : Picked → Bool
 from_second p = not (is_first p.feed)
 
 -- how many frames were picked, from either input, and so many units
-abbrev pub counted : List Picked → ℕ → Ran
+abbrev pub counted : List Picked → ℕ → MergeRan
 counted picked units = record {
   frames = length picked;
   a = length (filter from_first picked);
@@ -27,6 +27,6 @@ counted picked units = record {
 }
 
 -- one frame more
-abbrev pub added : Ran → Feed → Ran
+abbrev pub added : MergeRan → Feed → MergeRan
 added ran A = record { frames = ran.frames + 1; a = ran.a + 1; b = ran.b; units = ran.units }
 added ran B = record { frames = ran.frames + 1; a = ran.a; b = ran.b + 1; units = ran.units }

@@ -18,7 +18,7 @@ use Rattle.feed_merge.specs.Fed.{AreEarly, end_by, ReadsAhead}
 use Rattle.merge_run.specs.Counted.{counted}
 use Rattle.merge_run.specs.declared.stop.MergeStop.{MergeStop}
 use Rattle.merge_run.specs.declared.stop.MergeStop.TheVariants.{NoSuperframe, TooManyFrames}
-use Rattle.merge_run.specs.declared.stop.Ran.{Ran}
+use Rattle.merge_run.specs.declared.stop.MergeRan.{MergeRan}
 
 -- the frames that are picked of the records of two files, those below a number, and all
 abbrev pub picked_below : Config → (ℕ → List ℕ) → ℕ → List Picked
@@ -36,7 +36,7 @@ abbrev pub units_of : Config → (ℕ → List ℕ) → List (List ℕ)
 units_of c files = pipe c.pid (packets_of c (picked_of c files))
 
 -- One of the files has a record, none has a late one, the output is all units, and these are the numbers.
-pub record MergesAll (c : Config) (files : ℕ → List ℕ) (ran : Ran) (bytes : List ℕ) : Type 0 where
+pub record MergesAll (c : Config) (files : ℕ → List ℕ) (ran : MergeRan) (bytes : List ℕ) : Type 0 where
   pub some : (records_of c (files 0) ≢ []) ⊎ (records_of c (files 1) ≢ [])
   pub early : (input : ℕ) → input < 2 → AreEarly (records_of c (files input))
   pub output : bytes ≡ joined (units_of c files)
@@ -98,7 +98,7 @@ pub record HasNearly (c : Config) (input : ℕ) (files : ℕ → List ℕ) (plac
   pub within : taken ≤ longest_file
   pub has : HasRead c input taken files places bytes
 
-abbrev pub merge_work : Config → Work Ran MergeStop
+abbrev pub merge_work : Config → Work MergeRan MergeStop
 merge_work c files (Ok ran) places bytes = AreWhole files places × MergesAll c files ran bytes
 merge_work c files (Err (Refused NoSuperframe)) places bytes = AreWhole files places × HasNone c files bytes
 merge_work c files (Err (Refused TooManyFrames)) places bytes = HasLate c files bytes

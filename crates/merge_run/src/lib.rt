@@ -12,4 +12,4 @@ mod taking;
 
 pub use laws::{one_run_law, run_ends_law};
 pub use running::run;
-pub use stop::{MergeStop, Ran};
+pub use stop::{MergeRan, MergeStop};

@@ -1,6 +1,6 @@
 // The merger as a machine between files.
 use crate::phase::Phase;
-use crate::stop::{MergeStop, Ran};
+use crate::stop::{MergeRan, MergeStop};
 use bit_slice::OutOfMemory;
 use feed_merge::{Feed, FrameFeed, Merger, end_one, feed_one, next_step};
 use file_run::{Ending, FeedCounts, Machine, Step, events_law};
@@ -21,7 +21,7 @@ pub struct MergeMachine<'p> {
     // The number behind those of all records that were taken.
     pub next: u64,
     pub phase: Phase,
-    pub ran: Ran,
+    pub ran: MergeRan,
     // For people: no definition reads it.
     pub counts: FeedCounts,
 }
@@ -67,18 +67,25 @@ impl<'p> Machine for MergeMachine<'p> {
             _ => self.give_rest(out.first_chunk_mut().unwrap()),
         }
     }
+
+    // What each feed had whole, and which frames of it have a timestamp of another moment.
+    fn note<D: Desk>(&self, desk: &mut D) {
+        self.counts.note(desk, 2);
+        self.a.note(desk, 0);
+        self.b.note(desk, 1);
+    }
 }
 
 impl<'p> Ending for MergeMachine<'p> {
     ghost use Rattle.merge_run.specs.AsMachine.{ending_of};
 
-    type Ran = Ran;
+    type Ran = MergeRan;
 
     type Stop = MergeStop;
 
     ghost ending = { ending_of };
 
-    fn ending(&self) -> Result<Ran, MergeStop> {
+    fn ending(&self) -> Result<MergeRan, MergeStop> {
         match self.phase {
             Phase::Done => {
                 if self.next == 0 {
@@ -111,22 +118,13 @@ impl<'p> MergeMachine<'p> {
             source: Feed::A,
             next: 0,
             phase: Phase::Reads,
-            ran: Ran {
+            ran: MergeRan {
                 frames: 0,
                 a: 0,
                 b: 0,
                 units: 0,
             },
-            counts: FeedCounts::NONE,
+            counts: FeedCounts::none(),
         })
-    }
-
-    /// Notes what each feed had whole, and which frames of it have a timestamp of another moment.
-    pub fn note<D: Desk>(&self, desk: &mut D)
-        ensures { D.state desk.new ≡ D.state desk.old }
-    {
-        self.counts.note(desk, 2);
-        self.a.note(desk);
-        self.b.note(desk);
     }
 }

@@ -7,7 +7,7 @@ use thiserror::Error;
 
 /// A run to its end.
 #[derive(Clone, Copy, Debug, PartialEq, Eq)]
-pub struct Ran {
+pub struct MergeRan {
     /// How many frames were picked.
     pub frames: u64,
     /// How many of them are from the first input.
@@ -18,7 +18,7 @@ pub struct Ran {
     pub units: u64,
 }
 
-impl Ran {
+impl MergeRan {
     // Counts one frame more.
     pub(crate) fn add(&mut self, feed: Feed)
         requires frames { self.old.frames < 2 ^ 32 }

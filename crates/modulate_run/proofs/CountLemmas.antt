@@ -26,7 +26,7 @@ use Rattle.modulate_run.specs.GivenRecord.{held, added}
 use Rattle.modulate_run.specs.AsMachine.{IsNext, IsAll}
 use Rattle.modulate_run.specs.Counted.{is_muted, first_number, counted}
 use Rattle.modulate_run.specs.ModulateRun.{AreEarly}
-use Rattle.modulate_run.specs.declared.stop.Ran.{Ran}
+use Rattle.modulate_run.specs.declared.stop.ModulateRan.{ModulateRan}
 use Rattle.modulate_run.proofs.PlaceLemmas.{place, AllSome, place_within, place_end, place_all, place_of, none_left}
 use Rattle.modulate_run.proofs.PlaceLemmas.{same_cut, same_front}
 
@@ -69,7 +69,8 @@ muted_push before next mute e small =
     let none : length (filter is_muted (next ∷ [])) ≡ 0 = rw is refl in
     rw off (omega (arith, all, none)))
 
-same_ran : (a b c d e f : ℕ) → a ≡ b → c ≡ d → e ≡ f → ◌≡◌ {A = Ran} (record { first = a; records = c; muted = e })
+same_ran : (a b c d e f : ℕ) → a ≡ b → c ≡ d → e ≡ f → ◌≡◌ {A = ModulateRan}
+    (record { first = a; records = c; muted = e })
     (record { first = b; records = d; muted = f })
 same_ran a b c d e f p q r = rw (p, q, r) refl
 
@@ -184,7 +185,8 @@ given_one c before next all e =
     ∙ ap (λ (k : ℕ). length (flat_map (spelled c) before) + k) (ap length (append-nil (spelled c next)))
 
 -- some bytes of the record that waits were given, and it waits still
-pub still_next : DueFollow → (c : Config) (ended : Bool) (bytes taken piece : List ℕ) (w w' : Waiting) (ran : Ran)
+pub still_next : DueFollow → (c : Config) (ended : Bool) (bytes taken piece : List ℕ) (w w' : Waiting)
+    (ran : ModulateRan)
     (n : IsNext c ended bytes taken w ran) → w.frame < MOST_FRAMES
     → (a : WaitsAs c ended bytes (taken ++ piece) w') → length piece ≤ length n.waits.rest → w'.frame ≡ w.frame
     → IsNext c ended bytes (taken ++ piece) w' ran
@@ -201,7 +203,8 @@ still_next follow c ended bytes taken piece w w' ran n small a few same =
     }
 
 -- it was given whole, and the next one waits
-pub then_next : DueFollow → (c : Config) (ended : Bool) (bytes taken piece : List ℕ) (w w' : Waiting) (ran : Ran)
+pub then_next : DueFollow → (c : Config) (ended : Bool) (bytes taken piece : List ℕ) (w w' : Waiting)
+    (ran : ModulateRan)
     (n : IsNext c ended bytes taken w ran) → w.frame < MOST_FRAMES
     → (a : WaitsAs c ended bytes (taken ++ piece) w') → length piece ≤ length n.waits.rest → w'.frame ≢ w.frame
     → IsNext c ended bytes (taken ++ piece) w' (added ran w)
@@ -235,14 +238,14 @@ then_next follow c ended bytes taken piece w w' ran n small a few other =
         let none : length a.part ≡ 0 = omega (arith, given, t, u, p, both, all) in
         record {
           waits = a;
-          ran_is = ap (λ (r : Ran). added r w) n.ran_is ∙ added_one v.before v.next w v.number v.mute
+          ran_is = ap (λ (r : ModulateRan). added r w) n.ran_is ∙ added_one v.before v.next w v.number v.mute
               (before_few follow c ended bytes taken w v small) ∙ ap counted (sym before);
           early = subst AreEarly (sym before) (early_one v.before v.next n.early number);
           late = λ e. nil_from_length a.part none;
         }
 
 -- it was given whole, and was the last one
-pub then_all : DueFollow → (c : Config) (ended : Bool) (bytes taken piece : List ℕ) (w : Waiting) (ran : Ran)
+pub then_all : DueFollow → (c : Config) (ended : Bool) (bytes taken piece : List ℕ) (w : Waiting) (ran : ModulateRan)
     (n : IsNext c ended bytes taken w ran) → w.frame < MOST_FRAMES
     → bytes_due c ended bytes ≡ taken ++ piece → length piece ≤ length n.waits.rest
     → IsAll c ended bytes (taken ++ piece) (added ran w)
@@ -263,14 +266,14 @@ then_all follow c ended bytes taken piece w ran n small all few =
     let number : v.next.number < MOST_FRAMES = let m = v.number in omega (arith, m, small) in
     record {
       all = all;
-      ran_is = ap (λ (r : Ran). added r w) n.ran_is ∙ added_one v.before v.next w v.number v.mute
+      ran_is = ap (λ (r : ModulateRan). added r w) n.ran_is ∙ added_one v.before v.next w v.number v.mute
           (before_few follow c ended bytes taken w v small) ∙ ap counted (sym is);
       early = subst AreEarly (sym is) (early_one v.before v.next n.early number);
     }
 
 -- ---- bytes come, or the end does, when no record waits
 
-pub fed_next : (c : Config) (ended : Bool) (bytes more taken : List ℕ) (w : Waiting) (ran : Ran)
+pub fed_next : (c : Config) (ended : Bool) (bytes more taken : List ℕ) (w : Waiting) (ran : ModulateRan)
     → IsPrefix (records_due c false bytes) (records_due c ended (bytes ++ more)) → IsAll c false bytes taken ran
     → WaitsAs c ended (bytes ++ more) taken w → IsNext c ended (bytes ++ more) taken w ran
 fed_next c ended bytes more taken w ran prefix was a =
@@ -291,7 +294,7 @@ fed_next c ended bytes more taken w ran prefix was a =
       late = λ e. nil_from_length a.part (omega (arith, given, t, whole));
     }
 
-pub fed_all : (c : Config) (ended : Bool) (bytes more taken : List ℕ) (ran : Ran)
+pub fed_all : (c : Config) (ended : Bool) (bytes more taken : List ℕ) (ran : ModulateRan)
     → IsPrefix (records_due c false bytes) (records_due c ended (bytes ++ more)) → IsAll c false bytes taken ran
     → bytes_due c ended (bytes ++ more) ≡ taken → IsAll c ended (bytes ++ more) taken ran
 fed_all c ended bytes more taken ran prefix was all =

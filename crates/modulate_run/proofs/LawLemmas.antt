@@ -10,7 +10,7 @@ use Rattle.frame_groups.specs.Modulated.{FrameRecord}
 use Rattle.modulate_run.specs.Counted.{counted}
 use Rattle.modulate_run.specs.Laws.{MustRun, OneRun, RunEnds}
 use Rattle.modulate_run.specs.ModulateRun.{AreEarly}
-use Rattle.modulate_run.specs.declared.stop.Ran.{Ran}
+use Rattle.modulate_run.specs.declared.stop.ModulateRan.{ModulateRan}
 use Rattle.modulate_run.specs.declared.stop.ModulateStop.{ModulateStop}
 use Rattle.modulate_run.specs.declared.stop.ModulateStop.TheVariants.{NoSuperframe, TooManyFrames}
 
@@ -34,7 +34,8 @@ run_ends c file = go (records_of c file) refl
     some : (x : FrameRecord) (xs : List FrameRecord) → x ∷ xs ≢ []
     some x xs e = absurd (let n = ap length e in omega (arith, n))
 
-    go : (xs : List FrameRecord) → records_of c file ≡ xs → (result : Result Ran ModulateStop) × MustRun c file result
+    go : (xs : List FrameRecord) → records_of c file ≡ xs → (result : Result ModulateRan ModulateStop)
+        × MustRun c file result
     go [] e = (Err NoSuperframe, e)
     go (x ∷ xs) e =
         bool_cases (list_all (λ (x : FrameRecord). nat_lt x.number MOST_FRAMES) (records_of c file))

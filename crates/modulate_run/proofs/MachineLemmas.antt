@@ -22,7 +22,7 @@ use Rattle.modulator.specs.StandsFor.{fed_of, next_of, waits_for}
 use Rattle.modulate_run.specs.GivenRecord.{added}
 use Rattle.modulate_run.specs.AsMachine.{step_of, IsNext, IsAll, Behind, Shown}
 use Rattle.modulate_run.specs.declared.machine.ModulatorMachine.{ModulatorMachine}
-use Rattle.modulate_run.specs.declared.stop.Ran.{Ran}
+use Rattle.modulate_run.specs.declared.stop.ModulateRan.{ModulateRan}
 use Rattle.modulate_run.proofs.CountLemmas.{fed_next, fed_all, still_next, then_next, then_all, rest_of, first_next}
 use Rattle.modulate_run.proofs.CountLemmas.{first_all}
 use Rattle.modulate_run.proofs.FrontLemmas.{given_fed, given_more}
@@ -81,7 +81,7 @@ shown_opened m going none count stands tells = record {
   stands = stands;
   count = count;
   end = going;
-  behind = subst (λ (r : Ran). Behind (config_of m.modulator) m.ended [] [] m.waiting r) (sym none)
+  behind = subst (λ (r : ModulateRan). Behind (config_of m.modulator) m.ended [] [] m.waiting r) (sym none)
       (by (config_of m.modulator) m.ended m.waiting (next_of_machine m [] [] tells stands));
   front = λ k less. absurd (omega (arith, less));
 }
@@ -93,7 +93,7 @@ shown_opened m going none count stands tells = record {
 
 -- ---- it was fed
 
-behind_fed : (c : Config) (e : Bool) (bytes more taken : List ℕ) (ran : Ran) (o : Option Waiting)
+behind_fed : (c : Config) (e : Bool) (bytes more taken : List ℕ) (ran : ModulateRan) (o : Option Waiting)
     → IsPrefix (records_due c false bytes) (records_due c e (bytes ++ more)) → IsAll c false bytes taken ran
     → NextIs c e (bytes ++ more) taken o
     → Behind c e (bytes ++ more) taken o ran
@@ -169,7 +169,7 @@ shown_ended law now new bytes taken ended none going config end ran len stands t
 
 -- ---- it gave
 
-behind_gave : DueFollow → (c : Config) (e : Bool) (bytes taken piece : List ℕ) (w : Waiting) (ran : Ran)
+behind_gave : DueFollow → (c : Config) (e : Bool) (bytes taken piece : List ℕ) (w : Waiting) (ran : ModulateRan)
     (o : Option Waiting)
     (n : IsNext c e bytes taken w ran) → w.frame < MOST_FRAMES → length piece ≤ length n.waits.rest
     → NextIs c e bytes (taken ++ piece) o

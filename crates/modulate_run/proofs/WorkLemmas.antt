@@ -32,7 +32,7 @@ use Rattle.modulate_run.specs.Counted.{counted}
 use Rattle.modulate_run.specs.ModulateRun.{output_of, AreEarly, HasWritten, HasEarly, HasSome}
 use Rattle.modulate_run.specs.ModulateRun.{modulate_work}
 use Rattle.modulate_run.specs.declared.machine.ModulatorMachine.{ModulatorMachine}
-use Rattle.modulate_run.specs.declared.stop.Ran.{Ran}
+use Rattle.modulate_run.specs.declared.stop.ModulateRan.{ModulateRan}
 use Rattle.modulate_run.proofs.CountLemmas.{early_one}
 use Rattle.modulate_run.proofs.MachineLemmas.{falls_short}
 
@@ -47,7 +47,7 @@ record GivesEarly (c : Config) (ended : Bool) (bytes taken : List ℕ) : Type 0 
   rest : List ℕ
   is : flat_map (spelled c) given ≡ taken ++ rest
 
-gives_late : (c : Config) (ended : Bool) (bytes taken : List ℕ) (w : Waiting) (ran : Ran)
+gives_late : (c : Config) (ended : Bool) (bytes taken : List ℕ) (w : Waiting) (ran : ModulateRan)
     → IsNext c ended bytes taken w ran
     → w.frame ≡ MOST_FRAMES → GivesEarly c ended bytes taken
 gives_late c ended bytes taken w ran n late =
@@ -63,7 +63,7 @@ gives_late c ended bytes taken w ran n late =
           ∙ sym (append-nil taken);
     }
 
-gives_next : (c : Config) (ended : Bool) (bytes taken : List ℕ) (w : Waiting) (ran : Ran)
+gives_next : (c : Config) (ended : Bool) (bytes taken : List ℕ) (w : Waiting) (ran : ModulateRan)
     → IsNext c ended bytes taken w ran
     → w.frame < MOST_FRAMES → GivesEarly c ended bytes taken
 gives_next c ended bytes taken w ran n small =
@@ -81,7 +81,7 @@ gives_next c ended bytes taken w ran n small =
           ∙ ap (λ (l : List ℕ). l ++ a.rest) (sym a.taken_is);
     }
 
-gives_early : (c : Config) (ended : Bool) (bytes taken : List ℕ) (o : Option Waiting) (ran : Ran)
+gives_early : (c : Config) (ended : Bool) (bytes taken : List ℕ) (o : Option Waiting) (ran : ModulateRan)
     → Behind c ended bytes taken o ran → ((w : Waiting) → o ≡ Some w → w.frame ≤ MOST_FRAMES)
     → GivesEarly c ended bytes taken
 gives_early c ended bytes taken None ran b few =
@@ -182,14 +182,15 @@ module _ (law : DueFront) (start now : ModulatorMachine) (files : ℕ → List �
       let records : records_of c got ≡ records_of c (files 0) = ap (records_of c) whole in
       bool_cases (now.ran.records == 0)
       (λ zero.
-      let few : length (records_of c got) ≡ 0 = sym (ap (λ (x : Ran). x.records) a.ran_is)
+      let few : length (records_of c got) ≡ 0 = sym (ap (λ (x : ModulateRan). x.records) a.ran_is)
       ∙ eqb-true now.ran.records 0 zero in
       let empty : records_of c got ≡ [] = nil_from_length _ few in
       rw zero (ends, record { none = sym records ∙ empty; empty = sym a.all ∙ ap (flat_map (spelled c)) empty }))
       (λ some. rw some (
         ends,
         record {
-          some = λ e. eqb-false now.ran.records 0 some (ap (λ (x : Ran). x.records) a.ran_is ∙ ap length (records ∙ e));
+          some = λ e. eqb-false now.ran.records 0 some (ap (λ (x : ModulateRan). x.records) a.ran_is ∙ ap length
+              (records ∙ e));
           early = subst AreEarly records a.early;
           output = sym a.all ∙ ap (output_of c) whole;
           ran_is = a.ran_is ∙ ap counted records;

@@ -14,7 +14,7 @@ use Rattle.modulate_run.specs.Counted.{counted}
 use Rattle.file_run.specs.FileRun.{read_ahead}
 use Rattle.modulate_run.specs.ModulateRun.{AreEarly}
 use Rattle.modulate_run.specs.declared.machine.ModulatorMachine.{ModulatorMachine}
-use Rattle.modulate_run.specs.declared.stop.Ran.{Ran}
+use Rattle.modulate_run.specs.declared.stop.ModulateRan.{ModulateRan}
 use Rattle.modulate_run.specs.declared.stop.ModulateStop.{ModulateStop}
 use Rattle.modulate_run.specs.declared.stop.ModulateStop.TheVariants as stop
 
@@ -26,19 +26,19 @@ step_of None false = Read 0 1 read_ahead
 
 -- Behind the records that were counted, which are early, the one that waits comes next; or none does, and all were
 -- given.
-pub record IsNext (c : Config) (ended : Bool) (bytes taken : List ℕ) (w : Waiting) (ran : Ran) : Type 0 where
+pub record IsNext (c : Config) (ended : Bool) (bytes taken : List ℕ) (w : Waiting) (ran : ModulateRan) : Type 0 where
   pub waits : WaitsAs c ended bytes taken w
   pub ran_is : ran ≡ counted waits.before
   pub early : AreEarly waits.before
   -- nothing was given of one whose number none may have
   pub late : w.frame ≡ MOST_FRAMES → waits.part ≡ []
 
-pub record IsAll (c : Config) (ended : Bool) (bytes taken : List ℕ) (ran : Ran) : Type 0 where
+pub record IsAll (c : Config) (ended : Bool) (bytes taken : List ℕ) (ran : ModulateRan) : Type 0 where
   pub all : bytes_due c ended bytes ≡ taken
   pub ran_is : ran ≡ counted (records_due c ended bytes)
   pub early : AreEarly (records_due c ended bytes)
 
-abbrev pub Behind : Config → Bool → List ℕ → List ℕ → Option Waiting → Ran → Type 0
+abbrev pub Behind : Config → Bool → List ℕ → List ℕ → Option Waiting → ModulateRan → Type 0
 Behind c ended bytes taken None ran = IsAll c ended bytes taken ran
 Behind c ended bytes taken (Some w) ran = IsNext c ended bytes taken w ran
 
@@ -57,6 +57,6 @@ Becomes start events m = (config_of m.modulator ≡ config_of start.modulator)
     × Shown m (fed 0 events) (gave events) (has_ended 0 events)
 
 -- what comes of a run that came so far
-abbrev pub ending_of : Option Waiting → Ran → Result Ran ModulateStop
+abbrev pub ending_of : Option Waiting → ModulateRan → Result ModulateRan ModulateStop
 ending_of (Some w) ran = Err stop.TooManyFrames
 ending_of None ran = if ran.records == 0 then Err stop.NoSuperframe else Ok ran

@@ -16,7 +16,7 @@ use Rattle.file_run.specs.declared.stop.RunStop.TheVariants.{Refused, Files, Out
 use Rattle.modulate_run.specs.Counted.{counted}
 use Rattle.modulate_run.specs.declared.stop.ModulateStop.{ModulateStop}
 use Rattle.modulate_run.specs.declared.stop.ModulateStop.TheVariants.{NoSuperframe, TooManyFrames}
-use Rattle.modulate_run.specs.declared.stop.Ran.{Ran}
+use Rattle.modulate_run.specs.declared.stop.ModulateRan.{ModulateRan}
 
 -- the bytes of the records of a stream
 abbrev pub output_of : Config → List ℕ → List ℕ
@@ -56,7 +56,7 @@ pub record HasSome (c : Config) (place : ℕ) (file bytes : List ℕ) : Type 0 w
 
 -- There are records, each of a frame whose number one may have, the output has their bytes, and these are their
 -- numbers.
-pub record HasAll (c : Config) (file : List ℕ) (ran : Ran) (bytes : List ℕ) : Type 0 where
+pub record HasAll (c : Config) (file : List ℕ) (ran : ModulateRan) (bytes : List ℕ) : Type 0 where
   pub some : records_of c file ≢ []
   pub early : AreEarly (records_of c file)
   pub output : bytes ≡ output_of c file
@@ -74,7 +74,7 @@ pub record HasNearly (c : Config) (file bytes : List ℕ) : Type 0 where
   pub within : taken ≤ longest_file
   pub has : HasWritten c taken file bytes
 
-abbrev pub modulate_work : Config → Work Ran ModulateStop
+abbrev pub modulate_work : Config → Work ModulateRan ModulateStop
 modulate_work c files (Ok ran) places bytes = AreWhole files places × HasAll c (files 0) ran bytes
 modulate_work c files (Err (Refused NoSuperframe)) places bytes = AreWhole files places × HasNone c (files 0) bytes
 modulate_work c files (Err (Refused TooManyFrames)) places bytes = HasEarly c (files 0) bytes

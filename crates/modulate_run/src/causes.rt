@@ -3,7 +3,7 @@ ghost use Rattle.std.specs.Prelude.{◌≡◌, ◌<◌};
 ghost use Rattle.modulate_run.specs.declared.causes.TheConstants.{CAUSES};
 
 use frame_groups::{MuteCause, Waiting};
-use ports::{Desk, Note};
+use ports::{Desk, LACK_PACKET, Note, OTHER_MOMENT};
 
 /// How many causes there are.
 const CAUSES: usize = 6;
@@ -25,11 +25,11 @@ fn place(cause: MuteCause) -> usize
 // What is told of each cause, in the same order.
 const WORDS: [&str; CAUSES] = [
     "are not in the stream",
-    "lack a packet, or have one too many",
+    LACK_PACKET,
     "have another L1 signalling than the configuration's",
     "have cells that do not stand apart",
     "have more baseband frames than there is room for",
-    "have a timestamp of another moment or bandwidth",
+    OTHER_MOMENT,
 ];
 
 /// The muted frames of a run, by their causes.
@@ -42,36 +42,23 @@ impl Causes {
     /// None is muted.
     pub fn new() -> Causes {
         Causes {
-            notes: WORDS.map(|what| Note {
-                what,
-                count: 0,
-                first: 0,
-                last: 0,
-            }),
+            notes: WORDS.map(|what| Note::none(what)),
         }
     }
 
     /// Counts a record that was given.
     pub fn add(&mut self, given: Waiting) {
-        let Some(cause) = given.mute else {
-            return;
-        };
-        let note = &mut self.notes[place(cause)];
-        if note.count == 0 {
-            note.first = given.frame;
+        if let Some(cause) = given.mute {
+            self.notes[place(cause)].add(given.frame);
         }
-        note.last = given.frame;
-        note.count = note.count.saturating_add(1);
     }
 
-    /// Notes each cause for which a frame is muted.
+    /// Notes each cause, in their order, and how many frames are muted for it.
     pub fn note<D: Desk>(&self, desk: &mut D)
         ensures { D.state desk.new ≡ D.state desk.old }
     {
         for note in self.notes {
-            if note.count > 0 {
-                desk.note(note);
-            }
+            desk.note(note);
         }
     }
 }

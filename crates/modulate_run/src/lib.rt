@@ -9,4 +9,4 @@ mod stop;
 
 pub use laws::{one_run_law, run_ends_law};
 pub use running::run;
-pub use stop::{ModulateStop, Ran};
+pub use stop::{ModulateRan, ModulateStop};

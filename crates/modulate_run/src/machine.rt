@@ -5,12 +5,13 @@ ghost use Rattle.plp_config.specs.declared.moment.TheConstants.{MOST_FRAMES};
 ghost use Rattle.modulator.specs.StandsFor.{next_of, is_waiting, is_finished};
 
 use crate::causes::Causes;
-use crate::stop::{ModulateStop, Ran};
+use crate::stop::{ModulateRan, ModulateStop};
 use bit_slice::OutOfMemory;
 use file_run::{AHEAD, Ending, Machine, Step, Working, events_law};
 use frame_groups::Waiting;
 use modulator::{Modulator, due_records_law, is_of};
 use plp_config::{MOST_FRAMES, Plan};
+use ports::Desk;
 use std::alloc::Global;
 
 /// A modulator that is fed with the bytes of its input and gives the bytes of the records.
@@ -22,7 +23,7 @@ pub struct ModulatorMachine<'p> {
     // The input has ended.
     ended: bool,
     // The records that were given whole, and why they are muted.
-    ran: Ran,
+    ran: ModulateRan,
     causes: Causes,
     ghost waits: { is_some waiting ≡ is_waiting modulator },
     ghost number: { (w : Waiting) → waiting ≡ Some w → w.frame ≡ next_of modulator },
@@ -86,18 +87,23 @@ impl<'p> Machine for ModulatorMachine<'p> {
         }
         count
     }
+
+    // Why frames are muted so far.
+    fn note<D: Desk>(&self, desk: &mut D) {
+        self.causes.note(desk);
+    }
 }
 
 impl<'p> Ending for ModulatorMachine<'p> {
     ghost use Rattle.modulate_run.specs.AsMachine.{ending_of};
 
-    type Ran = Ran;
+    type Ran = ModulateRan;
 
     type Stop = ModulateStop;
 
     ghost ending = { λ m. ending_of m.waiting m.ran };
 
-    fn ending(&self) -> Result<Ran, ModulateStop> {
+    fn ending(&self) -> Result<ModulateRan, ModulateStop> {
         if self.waiting.is_some() {
             return Err(ModulateStop::TooManyFrames);
         }
@@ -137,17 +143,12 @@ impl<'p> ModulatorMachine<'p> {
             modulator,
             waiting,
             ended: false,
-            ran: Ran {
+            ran: ModulateRan {
                 first: 0,
                 records: 0,
                 muted: 0,
             },
             causes: Causes::new(),
         })
-    }
-
-    /// The muted frames so far, by their causes.
-    pub fn causes(&self) -> &Causes {
-        &self.causes
     }
 }

@@ -7,7 +7,7 @@ use thiserror::Error;
 
 /// The records of a run.
 #[derive(Clone, Copy, Debug, PartialEq, Eq)]
-pub struct Ran {
+pub struct ModulateRan {
     /// The number of the frame of the first one, 0 if there is none.
     pub first: u64,
     /// How many there are.
@@ -16,7 +16,7 @@ pub struct Ran {
     pub muted: u64,
 }
 
-impl Ran {
+impl ModulateRan {
     // Counts one record more. There are 2^31 at most, so no number stands still at the greatest.
     pub(crate) fn add(&mut self, given: Waiting)
         ensures { self.new ≡ added self.old given }

@@ -1,7 +1,7 @@
 -- The events of a damaged stream of a run have packets of the frames of their numbers.
-use Rattle.std.proofs.Common.{◌≡◌, ◌≢◌, ◌⊎◌, ℕ, zero, suc, ◌+◌, ◌/◌, ◌%◌, ◌<◌, ◌≤◌, ◌==◌, ◌&&◌, Bool, true, false}
+use Rattle.std.proofs.Common.{◌≡◌, ◌≢◌, ◌⊎◌, ℕ, zero, suc, ◌+◌, ◌<◌, ◌≤◌, ◌==◌, ◌&&◌, Bool, true, false}
 use Rattle.std.proofs.Common.{cond, List, []}
-use Rattle.std.proofs.Common.{◌∷◌, length, map, Option, Some, None, refl, ap, ap₂, sym, subst, ◌∙◌, ⊎_elim, arith}
+use Rattle.std.proofs.Common.{◌∷◌, length, map, Option, Some, None, refl, ap, sym, subst, ◌∙◌, ⊎_elim, arith}
 use Rattle.std.specs.Prelude.{nat_lt, slice_get}
 use Rattle.std.specs.List.{filter, items_where_true, range_with_len, zip, AllByRecursion}
 use Rattle.std.proofs.lemmas.Bool.{cases_Bool, cases_eq, cond-true, cond-false, and_parts, eqb-true}
@@ -16,7 +16,7 @@ use Rattle.t2mi_packet.specs.declared.packet.Packet.{Packet}
 use Rattle.t2mi_packet.specs.declared.packet.Stamp.{Stamp}
 use Rattle.frame_groups.specs.Groups.{is_same, Group, groups}
 use Rattle.frame_groups.specs.Numbers.{frame_key}
-use Rattle.frame_groups.specs.declared.key.Key.{Key}
+use Rattle.frame_groups.proofs.NumberLemmas.{same_key}
 use Rattle.frame_groups.specs.Carried.{stamps_of}
 use Rattle.frame_groups.specs.TestLaws.{FrameNamed}
 use Rattle.frame_groups.specs.Tests.{named_frame, rules}
@@ -75,9 +75,6 @@ frame_left n (s ∷ sent) (false ∷ survival) = go (s.frame == n) (frame_left n
 
 -- ---- its number
 
-abbrev key_with : ℕ → ℕ → Key
-key_with a b = record { superframe = a; frame = b }
-
 -- It is that of the frame, or none.
 abbrev pub IsNumber : Option ℕ → ℕ → Type 0
 IsNumber None n = Unit {0}
@@ -115,10 +112,7 @@ module _ (named : FrameNamed) (c : Config) (inputs : ℕ → List (List ℕ)) (p
       go true e =
           let same =
           (and_parts (nat_lt (m + 1) MOST_FRAMES) (is_same (frame_key c.frames (m + 1)) (frame_key c.frames n)) e).1 in
-          let p = and_parts ((m + 1) / c.frames % 16 == n / c.frames % 16) ((m + 1) % c.frames == n % c.frames) same in
-          sym (follows m refl (ap₂ key_with
-          (sym (eqb-true ((m + 1) / c.frames % 16) (n / c.frames % 16) p.0))
-          (sym (eqb-true ((m + 1) % c.frames) (n % c.frames) p.1))))
+          sym (follows m refl (sym (same_key (frame_key c.frames (m + 1)) (frame_key c.frames n) same)))
       go false e = tt
 
   -- a timestamp names it
@@ -148,7 +142,8 @@ module _ (named : FrameNamed) (c : Config) (inputs : ℕ → List (List ℕ)) (p
   IsTold last n = (m : ℕ) → last ≡ Some m → frame_key c.frames n ≡ frame_key c.frames (m + 1)
       → (n ≡ m + 1) ⊎ (has_stamp (frame_packets n left) ≡ true)
 
-  pub number_is : (last : Option ℕ) (n : ℕ) → n < count → IsTold last n → IsNumber (number_of (rules c) last (group_at n)) n
+  pub number_is : (last : Option ℕ) (n : ℕ) → n < count → IsTold last n
+      → IsNumber (number_of (rules c) last (group_at n)) n
   number_is last n inside told = go (has_stamp (frame_packets n left)) refl
     where
       go : (t : Bool) → has_stamp (frame_packets n left) ≡ t

@@ -15,5 +15,5 @@ pub use merge_laws::merge_law;
 pub use recover_laws::{
     epochs_law, plan_epochs_law, records_law, recover_law, taken_law, whole_law,
 };
-pub use run_feeds::{honest_feeds_law, whole_feed_law, woven_frames_law};
+pub use run_feeds::feeds_law;
 pub use swap_laws::{back_law, region_law, replaced_law, whole_region_law};

@@ -1,4 +1,4 @@
-// Laws of feeds that have nothing but packets of one run. Their functions do nothing.
+// The law of feeds that have nothing but packets of one run. Its function does nothing.
 ghost use Rattle.network_laws.specs.FeedsOfRun.{MadeAreOfRun, DamagedRunsMended, WholeFeedMade, WholeStreamMended};
 ghost use Rattle.network_laws.specs.FeedsOfRun.{WholeAmongDamaged, CameAreMade, CameOfDamagedMade, SurvivorsMended};
 ghost use Rattle.network_laws.specs.FeedsOfRun.{SurvivorAlone, NoneLostMended};
@@ -15,14 +15,28 @@ use scheduler::{field_law, order_law};
 use stream_laws::{group_law, near_law, sent_law, shown_law, stream_law};
 use t2mi_stream::{accepted_front_law, survivor_law, undamaged_law, unit_reads_law};
 
-/// If one of the feeds has all packets of all frames of the run, then what is sent is what the gateway sends, packet
-/// for packet, whatever the others lack; and if one of the streams is the whole stream of the run, then what is
-/// written is that stream.
-pub fn whole_feed_law()
-    ensures made { WholeFeedMade }
-    ensures stream { WholeStreamMended }
-    ensures damaged { WholeAmongDamaged }
+/// Feeds that have nothing but packets of one run, near one another, each in a group of its frame's number:
+///
+/// - Each frame that is made, of one feed or of several together, is the run's frame of that number, whatever each feed
+///   lacks.
+/// - Each frame is made of which every packet came in some feed, if none is silent too often; and of streams that
+///   together lost nothing of the run what is written is its stream.
+/// - If one of the feeds has all packets of all frames of the run, then what is sent is what the gateway sends, packet
+///   for packet; and if one of the streams is the whole stream of the run, then what is written is that stream.
+pub fn feeds_law()
+    ensures whole { WholeFeedMade }
+    ensures whole_stream { WholeStreamMended }
+    ensures whole_damaged { WholeAmongDamaged }
+    ensures made { MadeAreOfRun }
+    ensures damaged { DamagedRunsMended }
+    ensures come { CameAreMade }
+    ensures come_damaged { CameOfDamagedMade }
+    ensures survive { SurvivorsMended }
+    ensures alone { SurvivorAlone }
+    ensures none_lost { NoneLostMended }
 {
+    rise_law();
+    placed_law();
     sent_law();
     stream_law();
     named_law();
@@ -32,67 +46,6 @@ pub fn whole_feed_law()
     unit_reads_law();
     survivor_law();
     undamaged_law();
-    shown_law();
-    map_test_law();
-    parts_law();
-    shape_law();
-    pre_law();
-    conf_law();
-    dyn_law();
-    post_law();
-    bit_counts_law();
-    scramble_twice_law();
-    fit_law();
-    block_law();
-    spread_law();
-    interleaving_law();
-    field_law();
-    order_law();
-}
-
-/// If feeds have nothing but packets of one run, near one another, each in a group of its frame's number, then each
-/// frame that is made, of one feed or of several together, is the run's frame of that number.
-pub fn honest_feeds_law()
-    ensures made { MadeAreOfRun }
-    ensures damaged { DamagedRunsMended }
-{
-    placed_law();
-    named_law();
-    group_law();
-    sent_law();
-    shown_law();
-    map_test_law();
-    parts_law();
-    shape_law();
-    pre_law();
-    conf_law();
-    dyn_law();
-    post_law();
-    bit_counts_law();
-    scramble_twice_law();
-    fit_law();
-    block_law();
-    spread_law();
-    interleaving_law();
-    field_law();
-    order_law();
-}
-
-/// If feeds have nothing but packets of one run, near one another, each in a group of its frame's number, and none is
-/// silent too often, then each frame is made of which every packet came in some feed, whatever each feed lacks; and of
-/// streams that together lost nothing of the run what is written is its stream.
-pub fn woven_frames_law()
-    ensures come { CameAreMade }
-    ensures damaged { CameOfDamagedMade }
-    ensures streams { SurvivorsMended }
-    ensures alone { SurvivorAlone }
-    ensures none_lost { NoneLostMended }
-{
-    rise_law();
-    placed_law();
-    named_law();
-    group_law();
-    sent_law();
     shown_law();
     map_test_law();
     parts_law();

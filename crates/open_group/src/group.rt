@@ -12,7 +12,7 @@ use crate::faults::first_fault;
 use crate::l1::HeldL1;
 use crate::named::named;
 use crate::past::HeldPast;
-use crate::signalling::Signalling;
+use crate::signalling::Configurable;
 use crate::stamps::HeldStamps;
 use crate::writer::Writer;
 use bit_slice::{BitSlice, OutOfMemory};
@@ -37,7 +37,7 @@ pub struct PooledGroup<'p> {
     pub(crate) l1: HeldL1,
     pub(crate) blocks: HeldBlocks,
     past: HeldPast,
-    pub(crate) conf: Signalling,
+    pub(crate) conf: Configurable,
     pub(crate) writer: Writer,
     ghost rows: { length l1.dynamic.plps ≡ length network.plps },
     ghost open: { IsOpenFor blocks (length network.plps) },
@@ -74,7 +74,7 @@ impl<'p> PooledGroup<'p> {
             l1: HeldL1::open(alloc, plan)?,
             blocks: HeldBlocks::open(alloc, plan)?,
             past: HeldPast::open(alloc, plan)?,
-            conf: Signalling::open(alloc, plan)?,
+            conf: Configurable::open(alloc, plan)?,
             writer: Writer::open(alloc)?,
         })
     }

@@ -3,7 +3,7 @@ ghost use Rattle.std.specs.Prelude.{◌≡◌, ◌≤◌, true, length};
 ghost use Rattle.l1_signal.specs.declared.lengths.TheConstants.{MOST_DYN_BITS};
 
 use crate::parts::HeldParts;
-use crate::signalling::Signalling;
+use crate::signalling::Configurable;
 use crate::sizes::{block_count, rest_len};
 use crate::writer::Writer;
 use bit_slice::{BitSlice, OutOfMemory};
@@ -240,7 +240,7 @@ impl HeldL1 {
     pub fn begin_frame(
         &self,
         plan: &Plan,
-        conf: &Signalling,
+        conf: &Configurable,
         number: u64,
         moment: &Moment,
         frame_idx: u8,

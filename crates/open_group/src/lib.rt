@@ -26,7 +26,7 @@ pub use group::PooledGroup;
 pub use laws::record_law;
 pub use parts::HeldParts;
 pub use past::HeldPast;
-pub use signalling::Signalling;
+pub use signalling::Configurable;
 pub use sizes::{block_count, rest_len};
 pub use writer::Writer;
 pub use writer_laws::{short_law, written_law};

@@ -26,11 +26,11 @@ use std::marker::Model;
 
 /// The configurable part of L1-post, which stands in every frame of a network.
 #[derive(Drop)]
-pub struct Signalling {
+pub struct Configurable {
     conf: BitBuf,
 }
 
-impl Model for Signalling {
+impl Model for Configurable {
     ghost use Rattle.std.specs.Prelude.{◌≤◌, Bool, List, length};
     ghost use Rattle.l1_signal.specs.declared.lengths.TheConstants.{MOST_CONF_BITS};
 
@@ -41,20 +41,20 @@ impl Model for Signalling {
     ghost invariant = { λ s. length s.conf ≤ MOST_CONF_BITS };
 }
 
-impl Signalling {
+impl Configurable {
     ghost use Rattle.std.specs.Prelude.{◌≡◌, IfOk};
     ghost use Rattle.l1_signal.specs.L1Configurable.{conf_bits};
     ghost use Rattle.l1_signal.specs.L1Of.{conf_of};
 
     /// That of a network. It takes all the memory that it needs.
-    pub fn open(alloc: Global, plan: &Plan) -> Result<Signalling, OutOfMemory>
+    pub fn open(alloc: Global, plan: &Plan) -> Result<Configurable, OutOfMemory>
         ensures { IfOk result (λ s. s ≡ conf_bits (conf_of plan.now)) }
     {
         conf_law();
         plan.rules_law();
         let mut bits = BitBuf::new(alloc);
         match write_conf(&mut bits, &conf_of(alloc, plan)?) {
-            Ok(()) => Ok(Signalling { conf: bits }),
+            Ok(()) => Ok(Configurable { conf: bits }),
             Err(_) => Err(OutOfMemory),
         }
     }
@@ -168,7 +168,7 @@ pub fn put_muted(moment: &Moment, out: &mut Piece)
 }
 
 // Appends L1-post behind the number of its bits.
-fn put_post(conf: &Signalling, dynamic: BitSlice<'_>, out: &mut Piece)
+fn put_post(conf: &Configurable, dynamic: BitSlice<'_>, out: &mut Piece)
     requires short { length dynamic ≤ MOST_DYN_BITS }
     requires room { length out.old + 4 + MOST_POST_BYTES ≤ piece_len }
     ensures value { out.new ≡ out.old ++ (big_bytes 4 (length (crc_behind true (conf.now ++ dynamic.entry)))
@@ -185,7 +185,7 @@ fn put_post(conf: &Signalling, dynamic: BitSlice<'_>, out: &mut Piece)
 /// number of its blocks.
 pub fn put_front(
     plan: &Plan,
-    conf: &Signalling,
+    conf: &Configurable,
     moment: &Moment,
     dynamic: BitSlice<'_>,
     blocks: u16,

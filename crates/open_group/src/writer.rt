@@ -10,7 +10,7 @@ ghost use Rattle.open_group.specs.RecordBytes.{piece_len, list_at, front_of, Are
 ghost use Rattle.open_group.specs.declared.step.Step.TheVariants.{Blocks, Cells, Done};
 
 use crate::piece::Piece;
-use crate::signalling::{Signalling, put_front, put_muted};
+use crate::signalling::{Configurable, put_front, put_muted};
 use crate::step::Step;
 use bit_slice::{BitSlice, OutOfMemory};
 use byteorder::{BigEndian, ByteOrder};
@@ -267,7 +267,7 @@ impl Writer {
     pub fn begin_frame(
         &mut self,
         plan: &Plan,
-        conf: &Signalling,
+        conf: &Configurable,
         moment: &Moment,
         frame_idx: u8,
         dynamic: BitSlice<'_>,

@@ -5,21 +5,14 @@ ghost use Rattle.ports.specs.Counts.{with_fault};
 
 use crate::fault::fault;
 use crate::host_fault::{HostFault, Reason};
+use crate::node::{Node, is_told_to, node_of};
 use crate::{Counts, Desk, DeskFault, FaultKind, Note};
 use std::alloc::Global;
-use std::fs::{Metadata, OpenFile};
+use std::fs::OpenFile;
 use std::io::{ErrorKind, Read, Write};
 use std::marker::Model;
-use std::os::unix::fs::MetadataExt;
 use std::rt::Files;
 use std::{fs, io};
-
-/// A file of the system, whatever its names: its device and its number there.
-#[derive(Clone, Copy, PartialEq, Eq)]
-struct Node {
-    device: u64,
-    number: u64,
-}
 
 /// A file that was opened or created, under a name if there was memory for it; how many of its bytes were read, and
 /// whether the last read gave none.
@@ -35,7 +28,8 @@ struct Handle<F> {
 /// A desk over real files and standard output. It tells nothing of what they hold.
 ///
 /// That reads and writes of the runtime do what they say is trusted. A text is said by one write, with no buffer: so a
-/// full device or a closed pipe is a fault of that very call. No file that was opened is created, under whatever name.
+/// full device or a closed pipe is a fault of that very call. No file that was opened is created, under whatever name, nor
+/// one of the disc to which standard output or standard error goes.
 #[derive(Drop)]
 pub struct HostDesk<R: Files + Print + Drop> {
     rt: R,
@@ -66,14 +60,6 @@ impl<R: Files + Print + Drop> Model for HostDesk<R> {
     } };
 
     ghost invariant = { λ d. IsNone d.first ↔ (d.counts ≡ no_faults) };
-}
-
-fn node_of(file: io::Result<Metadata>) -> Option<Node> {
-    let file = file.ok()?;
-    Some(Node {
-        device: file.dev(),
-        number: file.ino(),
-    })
 }
 
 // A fault of a kind that is counted, and kept if it is the first.
@@ -252,6 +238,10 @@ impl<R: Files + Print + Drop> HostDesk<R> {
         if let Some(handle) = self.opened_as(name) {
             let name = self.name_of(handle);
             return Err(HostFault::IsRead { name });
+        }
+        if is_told_to(&self.rt, name) {
+            let name = self.name(name);
+            return Err(HostFault::IsTold { name });
         }
         match self.add_new(name) {
             Ok(out) => Ok(out),

@@ -44,6 +44,8 @@ pub enum HostFault {
     Write { name: Option<String>, why: Reason },
     /// A file was not created, since it is one that was opened, under another name: this one.
     IsRead { name: Option<String> },
+    /// A file of this name was not created, since standard output or standard error goes to it.
+    IsTold { name: Option<String> },
     /// Standard output took no more.
     Said { why: Reason },
 }

@@ -10,6 +10,7 @@ mod host_fault;
 mod laws;
 mod memory;
 mod memory_files;
+mod node;
 mod note;
 mod script;
 mod word;
@@ -21,6 +22,8 @@ pub use host::HostDesk;
 pub use host_fault::{HostFault, Reason};
 pub use laws::writes_law;
 pub use memory::MemoryDesk;
-pub use note::{MOST_FEEDS, Note};
+pub use note::{
+    ALONE_HAD_WHOLE, HAD_WHOLE, LACK_PACKET, MOST_FEEDS, NONE_HAD_WHOLE, Note, OTHER_MOMENT,
+};
 pub use script::CallKind;
 pub use word::Word;

@@ -44,7 +44,7 @@ use Rattle.plp_receiver.specs.Taken.{IsOfStream, block_read, IsTaken, IsGiven, b
 use Rattle.receive_run.specs.JoinedLaws.{MustRun, RunEnds}
 use Rattle.receive_run.specs.JoinedReceived.{GivesBack, Received}
 use Rattle.receive_run.specs.Received.{ran_of, expected_after, RefusesNext}
-use Rattle.receive_run.specs.declared.stop.Ran.{Ran}
+use Rattle.receive_run.specs.declared.stop.ReceiveRan.{ReceiveRan}
 use Rattle.receive_run.specs.declared.stop.ReceiveStop.{ReceiveStop}
 use Rattle.receive_run.specs.declared.stop.ReceiveStop.TheVariants.{RecordRefused}
 use Rattle.receive_run.proofs.SameLemmas.{successive_join, successive_none}
@@ -298,7 +298,7 @@ tail decides c (suc fuel) n (x ∷ file) few bytes enough = go (tail decides c f
 -- ---- endings
 
 abbrev Ends : Option ℕ → Config → ℕ → List ℕ → Type 0
-Ends joins c plp file = (result : Result Ran ReceiveStop) × MustRun joins c plp file result
+Ends joins c plp file = (result : Result ReceiveRan ReceiveStop) × MustRun joins c plp file result
 
 -- a PLP of a network, and what is joined with it
 record IsPlp (joins : Option ℕ) (c : Config) (plp : ℕ) : Type 0 where

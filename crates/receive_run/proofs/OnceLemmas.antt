@@ -21,7 +21,7 @@ use Rattle.receive_run.specs.JoinedLaws.{OneRun, OneOutput}
 use Rattle.receive_run.specs.JoinedRun.{HasAll, HasBefore}
 use Rattle.receive_run.specs.JoinedReceived.{GivesBack, Received}
 use Rattle.receive_run.specs.Received.{first_slot, ran_of, expected_after, RefusesNext}
-use Rattle.receive_run.specs.declared.stop.Ran.{Ran}
+use Rattle.receive_run.specs.declared.stop.ReceiveRan.{ReceiveRan}
 use Rattle.receive_run.specs.declared.stop.ReceiveStop.{ReceiveStop}
 use Rattle.receive_run.specs.declared.stop.ReceiveStop.TheVariants.{RecordRefused}
 use Rattle.site_frame.proofs.RecordSplitLemmas.{same_front}
@@ -30,7 +30,7 @@ use Rattle.receive_run.proofs.SameLemmas.{nothing_not_refused}
 
 -- ---- what records give back
 
-abbrev ran_with : ℕ → ℕ → Ran
+abbrev ran_with : ℕ → ℕ → ReceiveRan
 ran_with first slots = record { first = first; slots = slots }
 
 same_ran : JoinedOnce → OneFrame → (joins : Option ℕ) (c : Config) (plp : ℕ) → AllRules c
@@ -109,7 +109,7 @@ all_once one file vs ws h k = go (comparable one file [] [] vs ws h k)
 
 -- a file that is nothing but records is not refused
 all_not_refused : OneRecord → NoRefusal → OneFrame → (joins : Option ℕ) (c : Config) (plp : ℕ) → AllRules c
-    → (ran : Ran) (number : ℕ) (why : RecordWhy) (file bytes other : List ℕ) → HasAll joins c plp ran file bytes
+    → (ran : ReceiveRan) (number : ℕ) (why : RecordWhy) (file bytes other : List ℕ) → HasAll joins c plp ran file bytes
     → HasBefore joins c plp number why file other → ⊥
 all_not_refused one never frame joins c plp rules ran number why file bytes other a b =
     go (comparable one file [] b.rest a.views b.views a.records b.records)
@@ -126,7 +126,7 @@ all_not_refused one never frame joins c plp rules ran number why file bytes othe
         next_not_refused one never frame c rules b.received.first a.received.first b.views o os b.rest why len
         (subst (IsOnGrid c a.received.first) is a.received.successive) b.received.successive begins b.refused
 
-abbrev refused_as : ℕ → RecordWhy → Result Ran ReceiveStop
+abbrev refused_as : ℕ → RecordWhy → Result ReceiveRan ReceiveStop
 refused_as number why = Err (RecordRefused number why)
 
 -- two refusals behind the same records

@@ -26,7 +26,7 @@ use Rattle.receive_run.specs.JoinedReceived.{GivesBack}
 use Rattle.receive_run.specs.Received.{expected_after, IsMisplaced}
 use Rattle.receive_run.specs.Taking.{expected_by, Awaits, SamePlp, TakesRecord, TellsDue}
 use Rattle.receive_run.specs.declared.machine.ReceiverMachine.{ReceiverMachine}
-use Rattle.receive_run.specs.declared.stop.Ran.{Ran}
+use Rattle.receive_run.specs.declared.stop.ReceiveRan.{ReceiveRan}
 use Rattle.receive_run.specs.declared.stop.ReceiveStop.{ReceiveStop}
 use Rattle.receive_run.specs.declared.stop.ReceiveStop.TheVariants as stop
 
@@ -158,10 +158,10 @@ abbrev pub slot_by : Config → ℕ → Option ℕ → ℕ
 slot_by c plp None = 0
 slot_by c plp (Some first) = slots_over c plp (first - spread c.plps plp)
 
-abbrev pub ran_by : Config → ℕ → Option ℕ → ℕ → Ran
+abbrev pub ran_by : Config → ℕ → Option ℕ → ℕ → ReceiveRan
 ran_by c plp first slots = record { first = slot_by c plp first; slots = slots }
 
 -- what comes of a machine's run, at its end, by why the record of the next frame did not come
-abbrev pub ending_of : Option RecordWhy → ℕ → Ran → Result Ran ReceiveStop
+abbrev pub ending_of : Option RecordWhy → ℕ → ReceiveRan → Result ReceiveRan ReceiveStop
 ending_of (Some why) count ran = Err (stop.RecordRefused count why)
 ending_of None count ran = Ok ran

@@ -9,31 +9,32 @@ use Rattle.plp_receiver.specs.JoinedBack.{MayJoin}
 use Rattle.receive_run.specs.JoinedRun.{HasAll, HasBefore}
 use Rattle.receive_run.specs.JoinedReceived.{GivesBack}
 use Rattle.receive_run.specs.Received.{ran_of}
-use Rattle.receive_run.specs.declared.stop.Ran.{Ran}
+use Rattle.receive_run.specs.declared.stop.ReceiveRan.{ReceiveRan}
 use Rattle.receive_run.specs.declared.stop.ReceiveStop.{ReceiveStop}
 use Rattle.receive_run.specs.declared.stop.ReceiveStop.TheVariants.{RecordRefused}
 
 -- How a run must end over a file that is not too long, if nothing outside fails.
-abbrev pub MustRun : Option ℕ → Config → ℕ → List ℕ → Result Ran ReceiveStop → Type 0
+abbrev pub MustRun : Option ℕ → Config → ℕ → List ℕ → Result ReceiveRan ReceiveStop → Type 0
 MustRun joins c plp file (Ok ran) = (bytes : List ℕ) × HasAll joins c plp ran file bytes
 MustRun joins c plp file (Err (RecordRefused number why)) = (bytes : List ℕ)
     × HasBefore joins c plp number why file bytes
 
 -- A file decides how a run of a PLP of a plan over it must end.
 abbrev pub OneRun : Type 0
-OneRun = (joins : Option ℕ) (c : Config) (plp : ℕ) (file : List ℕ) (result other : Result Ran ReceiveStop) → IsPlan c
+OneRun = (joins : Option ℕ) (c : Config) (plp : ℕ) (file : List ℕ) (result other : Result ReceiveRan ReceiveStop)
+    → IsPlan c
     → MustRun joins c plp file result → MustRun joins c plp file other → result ≡ other
 
 -- A run over a file has an ending.
 abbrev pub RunEnds : Type 0
 RunEnds = (joins : Option ℕ) (c : Config) (plp : ℕ) (file : List ℕ) → IsPlan c → plp < length c.plps
     → MayJoin c plp joins
-    → AreBytes file → (result : Result Ran ReceiveStop) × MustRun joins c plp file result
+    → AreBytes file → (result : Result ReceiveRan ReceiveStop) × MustRun joins c plp file result
 
 -- Records of successive frames that are a whole file tell what a run over it writes, and its slots.
 abbrev pub OneOutput : Type 0
 OneOutput = (joins : Option ℕ) (c : Config) (plp : ℕ) (file : List ℕ) (first : ℕ) (views : List RecordView)
     (packets : List (List ℕ))
-    (ran : Ran) (bytes : List ℕ) → IsPlan c → AreRecords file views [] → IsOnGrid c first views
+    (ran : ReceiveRan) (bytes : List ℕ) → IsPlan c → AreRecords file views [] → IsOnGrid c first views
     → GivesBack joins c plp first views packets → HasAll joins c plp ran file bytes → (bytes ≡ concat packets)
     × (ran ≡ ran_of c plp first views packets)

@@ -12,12 +12,12 @@ use Rattle.file_run.specs.declared.stop.RunFault.TheVariants.{TooLong, ReadFault
 use Rattle.file_run.specs.declared.stop.RunStop.TheVariants.{Refused, Files, OutOfMemory}
 use Rattle.receive_run.specs.JoinedReceived.{Received}
 use Rattle.receive_run.specs.Received.{ran_of, expected_after, RefusesNext}
-use Rattle.receive_run.specs.declared.stop.Ran.{Ran}
+use Rattle.receive_run.specs.declared.stop.ReceiveRan.{ReceiveRan}
 use Rattle.receive_run.specs.declared.stop.ReceiveStop.{ReceiveStop}
 use Rattle.receive_run.specs.declared.stop.ReceiveStop.TheVariants.{RecordRefused}
 
 -- The file is nothing but records, the bytes are what they give back, and these are their slots.
-pub record HasAll (joins : Option ℕ) (c : Config) (plp : ℕ) (ran : Ran) (file bytes : List ℕ) : Type 0 where
+pub record HasAll (joins : Option ℕ) (c : Config) (plp : ℕ) (ran : ReceiveRan) (file bytes : List ℕ) : Type 0 where
   pub views : List RecordView
   pub records : AreRecords file views []
   pub received : Received joins c plp views bytes
@@ -75,7 +75,7 @@ pub record HasSome (joins : Option ℕ) (c : Config) (plp place : ℕ) (file byt
   pub late : List ℕ
   pub since : bytes ≡ early ++ late
 
-abbrev pub receive_work : Option ℕ → Config → ℕ → Work Ran ReceiveStop
+abbrev pub receive_work : Option ℕ → Config → ℕ → Work ReceiveRan ReceiveStop
 receive_work joins c plp files (Ok ran) places bytes = AreWhole files places × HasAll joins c plp ran (files 0) bytes
 receive_work joins c plp files (Err (Refused (RecordRefused number why))) places bytes =
     HasMetRefused joins c plp number why (slice_index places 0) (files 0) bytes

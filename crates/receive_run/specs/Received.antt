@@ -9,7 +9,7 @@ use Rattle.site_frame.specs.declared.fault.RecordWhy.{RecordWhy}
 use Rattle.site_frame.specs.declared.reading.RecordView.{RecordView}
 use Rattle.plp_receiver.specs.StandsFor.{slots_over}
 use Rattle.receive_run.specs.JoinedReceived as joined
-use Rattle.receive_run.specs.declared.stop.Ran.{Ran}
+use Rattle.receive_run.specs.declared.stop.ReceiveRan.{ReceiveRan}
 
 -- What a PLP is given back of the records of the frames from one on: nothing if there are none.
 abbrev pub GivesBack : Config → ℕ → ℕ → List RecordView → List (List ℕ) → Type 0
@@ -28,7 +28,7 @@ first_slot c plp first [] = 0
 first_slot c plp first (view ∷ views) = slots_over c plp (first - spread c.plps plp)
 
 -- that slot, and how many slots are given out after these records
-abbrev pub ran_of : Config → ℕ → ℕ → List RecordView → List (List ℕ) → Ran
+abbrev pub ran_of : Config → ℕ → ℕ → List RecordView → List (List ℕ) → ReceiveRan
 ran_of c plp first views packets = record { first = first_slot c plp first views; slots = length packets }
 
 -- the frame that is expected after records of the frames from one on: any if there are none

@@ -9,4 +9,4 @@ mod stop;
 
 pub use laws::{one_output_law, one_run_law, run_ends_law};
 pub use running::{run, run_joined};
-pub use stop::{Ran, ReceiveStop};
+pub use stop::{ReceiveRan, ReceiveStop};

@@ -9,7 +9,7 @@ ghost use Rattle.plp_receiver.specs.JointStandsFor.{IsFresh, network_of, plp_of,
 ghost use Rattle.receive_run.specs.Taking.{TellsDue};
 
 use crate::record::{Look, give_packet, take_record};
-use crate::stop::{Ran, ReceiveStop};
+use crate::stop::{ReceiveRan, ReceiveStop};
 use bit_slice::OutOfMemory;
 use common_plp::join_law;
 use file_run::{Ending, Machine, Step, events_law};
@@ -75,20 +75,20 @@ impl<'p> Ending for ReceiverMachine<'p> {
     ghost use Rattle.receive_run.specs.AsMachine.{ending_of, ran_by};
     ghost use Rattle.receive_run.specs.NextStep.{refusal_of};
 
-    type Ran = Ran;
+    type Ran = ReceiveRan;
 
     type Stop = ReceiveStop;
 
     ghost ending = { λ m. ending_of (refusal_of (coming_of m.feed) m.misplaced) (count_of m.feed)
         (ran_by (network_of m.receiver) (plp_of m.receiver) m.first m.slots) };
 
-    fn ending(&self) -> Result<Ran, ReceiveStop> {
+    fn ending(&self) -> Result<ReceiveRan, ReceiveStop> {
         match self.refusal() {
             Some(why) => Err(ReceiveStop::RecordRefused {
                 number: self.feed.count(),
                 why,
             }),
-            None => Ok(Ran {
+            None => Ok(ReceiveRan {
                 first: self.first_slot(),
                 slots: self.slots,
             }),

@@ -7,7 +7,7 @@ ghost use Rattle.receive_run.specs.JoinedRun as joined;
 ghost use Rattle.receive_run.specs.ReceiveRun.{receive_work};
 
 use crate::machine::ReceiverMachine;
-use crate::stop::{Ran, ReceiveStop};
+use crate::stop::{ReceiveRan, ReceiveStop};
 use common_plp::common_of;
 use file_run::{Output, RunStop, run_over};
 use plp_config::Plan;
@@ -24,7 +24,7 @@ fn run_with<D: Desk>(
     input: &str,
     out: &str,
     desk: &mut D,
-) -> Result<Ran, RunStop<ReceiveStop>>
+) -> Result<ReceiveRan, RunStop<ReceiveStop>>
     requires plp { plp < length plan.now.plps }
     requires may { MayJoin plan.now plp joins }
     requires apart { input.now ≢ out.now }
@@ -51,7 +51,7 @@ pub fn run<D: Desk>(
     input: &str,
     out: &str,
     desk: &mut D,
-) -> Result<Ran, RunStop<ReceiveStop>>
+) -> Result<ReceiveRan, RunStop<ReceiveStop>>
     requires plp { plp < length plan.now.plps }
     requires apart { input.now ≢ out.now }
     ensures ends { Ends (receive_work plan.now plp) (D.state desk.old) (D.state desk.new) (Into out.now)
@@ -70,7 +70,7 @@ pub fn run_joined<D: Desk>(
     input: &str,
     out: &str,
     desk: &mut D,
-) -> Result<Ran, RunStop<ReceiveStop>>
+) -> Result<ReceiveRan, RunStop<ReceiveStop>>
     requires plp { plp < length plan.now.plps }
     requires apart { input.now ≢ out.now }
     ensures ends { Ends (joined.receive_work (common_of plan.now plp) plan.now plp) (D.state desk.old)

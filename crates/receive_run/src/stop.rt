@@ -4,7 +4,7 @@ use thiserror::Error;
 
 /// The slots of a run.
 #[derive(Clone, Copy, Debug, PartialEq, Eq)]
-pub struct Ran {
+pub struct ReceiveRan {
     /// The slot at which the output begins, 0 if there is no record.
     pub first: u64,
     /// How many slots were given out.

@@ -107,7 +107,7 @@ impl Bench {
         let desk = mem::replace(&mut self.desk, MemoryDesk::new(self.alloc));
         let heard = Heard::new(self.alloc);
         let words = list.as_slice();
-        let (desk, outcome) = run_watched(self.alloc, &heard, desk, words, plan.as_ref())?;
+        let (desk, outcome) = run_watched(self.alloc, &heard, desk, words, plan.as_ref());
         self.desk = desk;
         Ok((outcome, heard.text()?))
     }

@@ -1,9 +1,9 @@
 // Runs that are watched, and what people are told of them.
-use bit_slice::OutOfMemory;
-use desk_watch::{RunCounts, Watched};
+use desk_watch::Watched;
 use plp_config::{Plan, fits, validate};
 use ports::MemoryDesk;
-use site_top::{Outcome, Request, Word, request_of, run};
+use site_console::{counts_of, say_counts};
+use site_top::{Outcome, Word, request_of, run};
 use std::alloc::{AllocError, Global};
 use std::cell::RefCell;
 use std::fmt::Display;
@@ -68,58 +68,6 @@ pub(crate) fn plan_of(alloc: Global, text: &[u8]) -> Option<Plan> {
     fits(validate(config).ok()?).ok()
 }
 
-// What is counted of a run.
-fn open<'a>(
-    alloc: Global,
-    request: Request<'a>,
-    plan: Option<&'a Plan>,
-) -> Result<RunCounts<'a>, OutOfMemory> {
-    match request {
-        Request::Gateway { ins, .. } => RunCounts::of_gateway(alloc, plan, ins, false),
-        Request::CommonGateway { ins, .. } => RunCounts::of_gateway(alloc, plan, ins, true),
-        Request::Modulate { input, .. } => RunCounts::of_modulate(alloc, plan, input),
-        Request::Receive { plp_id, input, .. } => RunCounts::of_receive(
-            alloc, plan, plp_id, false, input,
-        ),
-        Request::CommonReceive { plp_id, input, .. } => RunCounts::of_receive(
-            alloc, plan, plp_id, true, input,
-        ),
-        Request::Merge { a, b, .. } => RunCounts::of_merge(alloc, plan, a, b),
-        Request::Mend { ins, .. } => RunCounts::of_mend(alloc, plan, ins),
-        Request::Swap {
-            plp_id,
-            t2mi,
-            input,
-            ..
-        } => RunCounts::of_swap(alloc, plan, plp_id, t2mi, input),
-        Request::Compare { a, b, .. } => RunCounts::of_compare(alloc, plan, a, b),
-        _ => Ok(RunCounts::none(alloc)),
-    }
-}
-
-fn counts_of<'a>(
-    alloc: Global,
-    words: &'a [Word],
-    plan: Option<&'a Plan>,
-) -> Result<RunCounts<'a>, AllocError> {
-    let Some(request) = request_of(words) else {
-        return Ok(RunCounts::none(alloc));
-    };
-    match open(alloc, request, plan) {
-        Ok(counts) => Ok(counts),
-        Err(_) => Err(AllocError),
-    }
-}
-
-// Says what came of a run.
-fn say(heard: &Heard, counts: &RunCounts<'_>, outcome: Outcome) -> io::Result<()> {
-    match outcome {
-        Outcome::Done | Outcome::Differs { .. } => counts.say_done(heard),
-        Outcome::NoSuperframe => counts.say_none(heard),
-        _ => Ok(()),
-    }
-}
-
 /// Runs a command over a desk that is watched, and gives the desk back, and how the run ended. What people are told is
 /// kept.
 pub(crate) fn run_watched<'a>(
@@ -128,11 +76,11 @@ pub(crate) fn run_watched<'a>(
     desk: MemoryDesk,
     words: &'a [Word],
     plan: Option<&'a Plan>,
-) -> Result<(MemoryDesk, Outcome), AllocError> {
-    let counts = counts_of(alloc, words, plan)?;
+) -> (MemoryDesk, Outcome) {
+    let counts = counts_of(alloc, request_of(words), plan);
     let mut watched = Watched::new(desk, heard, false, counts);
     let outcome = run(alloc, words, &mut watched);
-    let _ = say(heard, &watched.counts, outcome);
+    let _ = say_counts(heard, &watched.counts, outcome);
     let desk = mem::replace(&mut watched.desk, MemoryDesk::new(alloc));
-    Ok((desk, outcome))
+    (desk, outcome)
 }

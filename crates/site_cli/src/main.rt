@@ -5,20 +5,11 @@ ghost use Rattle.std.specs.Prelude.{◌≡◌};
 ghost use Rattle.std.specs.Process.{exit_status};
 ghost use Rattle.site_top.specs.Outcomes.{status_of};
 
-mod advice;
-mod command;
-mod config_place;
-mod counts;
-mod front;
-mod help;
-mod named_file;
-mod pids;
 #[cfg(test)]
 mod tests;
 mod words;
 
-use advice::advise;
-use command::carry_out;
+use site_console::{advise, carry_out};
 use site_top::Outcome;
 use std::io::IsTerminal;
 use std::process::ExitCode;

@@ -21,7 +21,7 @@ use Rattle.feed_merge.specs.Fed.{names_of}
 use Rattle.compare_run.specs.Comparing.{answers, frames_of}
 use Rattle.compare_run.specs.AnswerLaws.{NoneDiffers}
 use Rattle.compare_run.specs.Runs.{first_differing}
-use Rattle.compare_run.specs.declared.counts.Counts.{Counts}
+use Rattle.compare_run.specs.declared.counts.CompareRan.{CompareRan}
 use Rattle.compare_run.specs.CompareRun.{compare_work}
 use Rattle.compare_run.specs.Laws.{MustRun as CompareMust, OneRun as OneComparison}
 use Rattle.compare_run.specs.declared.stop.CompareStop.{CompareStop}
@@ -48,7 +48,7 @@ differs_in (Differs frame) = true
 differs_in other = false
 
 -- what the outcome is if a frame differs
-pub never_differs : (c : Config) (mid new : State) (a b : List ℕ) (result : Result Counts (RunStop CompareStop))
+pub never_differs : (c : Config) (mid new : State) (a b : List ℕ) (result : Result CompareRan (RunStop CompareStop))
     (outcome : Outcome)
     → DamageIsAlike c → Ends (compare_work c) mid new Aloud (names_of a b) result
     → outcome ≡ run_outcome (stop_outcome compare_cause) result → NeverDiffers c mid a b outcome
@@ -58,7 +58,7 @@ never_differs c mid new a b result outcome law ends is = go result ends is
     not_so o e off = if_any mid.held _ (λ h inputs few d frame f. absurd (true≢false (sym (ap differs_in (sym e ∙ f))
         ∙ off)))
 
-    go : (result : Result Counts (RunStop CompareStop)) → Ends (compare_work c) mid new Aloud (names_of a b) result
+    go : (result : Result CompareRan (RunStop CompareStop)) → Ends (compare_work c) mid new Aloud (names_of a b) result
         → outcome ≡ run_outcome (stop_outcome compare_cause) result → NeverDiffers c mid a b outcome
     go (Ok counts) r is = not_so Done is refl
     go (Err (run.Refused stop.NoSuperframe)) r is = not_so NoSuperframe is refl
@@ -77,7 +77,7 @@ never_differs c mid new a b result outcome law ends is = go result ends is
 
 -- How it must end over a plan, if its inputs are not too long.
 abbrev pub ComparesIfShort : Held → List (List ℕ) → Config → Outcome → Type 0
-ComparesIfShort held ins c outcome = AreShort held ins → (result : Result Counts CompareStop)
+ComparesIfShort held ins c outcome = AreShort held ins → (result : Result CompareRan CompareStop)
     × CompareMust c (file_at held ins) result
     × (outcome ≡ run_outcome compare_cause result)
 

@@ -29,41 +29,41 @@ use Rattle.file_run.specs.declared.stop.RunStop.TheVariants as run
 use Rattle.file_run.proofs.EndsLemmas.{decides}
 use Rattle.gateway_run.specs.GatewayRun.{gateway_work}
 use Rattle.gateway_run.specs.Laws.{OneRun}
-use Rattle.gateway_run.specs.declared.stop.Ran.{Ran}
+use Rattle.gateway_run.specs.declared.stop.GatewayRan.{GatewayRan}
 use Rattle.gateway_run.specs.declared.stop.GatewayStop.{GatewayStop}
 use Rattle.gateway_run.specs.declared.stop.GatewayStop.TheVariants as gateway
 use Rattle.modulate_run.specs.Laws.{OneRun as OneModulation}
 use Rattle.modulate_run.specs.ModulateRun.{AreEarly, HasEarly, modulate_work}
-use Rattle.modulate_run.specs.declared.stop.Ran.{Ran as Modulated}
+use Rattle.modulate_run.specs.declared.stop.ModulateRan.{ModulateRan}
 use Rattle.modulate_run.specs.declared.stop.ModulateStop.{ModulateStop}
 use Rattle.modulate_run.specs.declared.stop.ModulateStop.TheVariants as modulate
 use Rattle.common_plp.specs.Inputs.{input_count}
 use Rattle.common_plp.specs.Sharing.{Sharing, joined_with, IsPlaceBy}
 use Rattle.receive_run.specs.JoinedLaws.{OneRun as OneReception}
 use Rattle.receive_run.specs.JoinedRun.{receive_work}
-use Rattle.receive_run.specs.declared.stop.Ran.{Ran as Received}
+use Rattle.receive_run.specs.declared.stop.ReceiveRan.{ReceiveRan}
 use Rattle.receive_run.specs.declared.stop.ReceiveStop.{ReceiveStop}
 use Rattle.receive_run.specs.declared.stop.ReceiveStop.TheVariants as receive
 use Rattle.merge_run.specs.Laws.{OneRun as OneMerging}
 use Rattle.merge_run.specs.MergeRun.{merge_work}
 use Rattle.feed_merge.specs.Fed.{names_of}
-use Rattle.merge_run.specs.declared.stop.Ran.{Ran as Merged}
+use Rattle.merge_run.specs.declared.stop.MergeRan.{MergeRan}
 use Rattle.merge_run.specs.declared.stop.MergeStop.{MergeStop}
 use Rattle.merge_run.specs.declared.stop.MergeStop.TheVariants as merge
 use Rattle.mend_run.specs.MendRun.{mend_work}
-use Rattle.mend_run.specs.declared.stop.Ran.{Ran as Mended}
+use Rattle.mend_run.specs.declared.stop.MendRan.{MendRan}
 use Rattle.mend_run.specs.declared.stop.MendStop.{MendStop}
 use Rattle.mend_run.specs.declared.stop.MendStop.TheVariants as mend
 use Rattle.swap_run.specs.Laws.{OneRun as OneSwapping}
 use Rattle.swap_run.specs.SwapRun.{swap_work}
-use Rattle.swap_run.specs.declared.stop.Ran.{Ran as Swapped}
+use Rattle.swap_run.specs.declared.stop.SwapRan.{SwapRan}
 use Rattle.swap_run.specs.declared.stop.SwapStop.{SwapStop}
 use Rattle.swap_run.specs.declared.stop.SwapStop.TheVariants as swap
 use Rattle.compare_run.specs.CompareRun.{compare_work}
 use Rattle.compare_run.specs.Laws.{OneRun as OneComparison}
 use Rattle.compare_run.specs.declared.stop.CompareStop.{CompareStop}
 use Rattle.compare_run.specs.declared.stop.CompareStop.TheVariants as compare
-use Rattle.compare_run.specs.declared.counts.Counts.{Counts as Compared}
+use Rattle.compare_run.specs.declared.counts.CompareRan.{CompareRan}
 use Rattle.show_run.specs.PacketText.{IsPacketText}
 use Rattle.show_run.specs.RecordText.{IsRecordText}
 use Rattle.show_run.specs.Shows.{Counted}
@@ -354,7 +354,7 @@ abbrev GatewayMust : Sharing → List (List ℕ) → Config → State → Outcom
 GatewayMust sharing ins c mid outcome = IfSome mid.held (λ h. GatewayIfShort sharing h ins c outcome)
 
 gateway_ran : (sharing : Sharing) (ins : List (List ℕ)) (c : Config) → length ins ≡ input_count sharing c → (h : Held)
-    (result : Result Ran GatewayStop) (places bytes : List ℕ)
+    (result : Result GatewayRan GatewayStop) (places bytes : List ℕ)
     → IsRightAtEnd (gateway_work sharing c) (file_at h ins) places bytes result
     → GatewayIfShort sharing h ins c (run_outcome gateway_cause result)
 gateway_ran sharing ins c count h (Ok ran) places bytes all =
@@ -414,7 +414,8 @@ not_early c file bytes h all =
     let n = h.number in
     absurd (omega (arith, less, n))
 
-modulated_so : (file : List ℕ) (c : Config) (h : Held) (result : Result Modulated ModulateStop) (places bytes : List ℕ)
+modulated_so : (file : List ℕ) (c : Config) (h : Held) (result : Result ModulateRan ModulateStop)
+    (places bytes : List ℕ)
     → IsRightAtEnd (modulate_work c) (file_at h (file ∷ [])) places bytes result
     → ModulatesIfShort (bytes_of h.files file) c (run_outcome modulate_cause result)
 modulated_so file c h (Ok ran) places bytes (whole, all) = λ short. (Ok ran, (all.some, all.early, all.ran_is), refl)
@@ -455,7 +456,7 @@ ReceptionMust sharing id file c mid outcome = IfSome mid.held (λ h. ReceivesIfS
 
 received_so : (sharing : Sharing) (id : ℕ) (file : List ℕ) (c : Config) (plp : ℕ) → IsPlaceBy sharing c id plp
     → (h : Held)
-    (result : Result Received ReceiveStop) (places bytes : List ℕ)
+    (result : Result ReceiveRan ReceiveStop) (places bytes : List ℕ)
     → IsRightAtEnd (receive_work (joined_with sharing c plp) c plp) (file_at h (file ∷ [])) places bytes result
     → ReceivesIfShort sharing (bytes_of h.files file) id c (run_outcome receive_cause result)
 received_so sharing id file c plp at h (Ok ran) places bytes (whole, all) = inr
@@ -504,7 +505,7 @@ receive_so one run sharing old new config id file out result does =
 abbrev MergingMust : List (List ℕ) → Config → State → Outcome → Type 0
 MergingMust ins c mid outcome = IfSome mid.held (λ h. MergesIfShort h ins c outcome)
 
-merged_so : (ins : List (List ℕ)) (c : Config) (h : Held) (result : Result Merged MergeStop) (places bytes : List ℕ)
+merged_so : (ins : List (List ℕ)) (c : Config) (h : Held) (result : Result MergeRan MergeStop) (places bytes : List ℕ)
     → IsRightAtEnd (merge_work c) (file_at h ins) places bytes result
     → MergesIfShort h ins c (run_outcome merge_cause result)
 merged_so ins c h (Ok ran) places bytes (whole, all) = λ short. (Ok ran, (all.some, all.early, all.ran_is), refl)
@@ -537,7 +538,7 @@ merge_so one run old new config a b out result does =
 abbrev MendingMust : List (List ℕ) → Config → State → Outcome → Type 0
 MendingMust ins c mid outcome = IfSome mid.held (λ h. MendsIfShort h ins c outcome)
 
-mended_so : (ins : List (List ℕ)) (c : Config) (h : Held) (result : Result Mended MendStop) (places bytes : List ℕ)
+mended_so : (ins : List (List ℕ)) (c : Config) (h : Held) (result : Result MendRan MendStop) (places bytes : List ℕ)
     → IsRightAtEnd (mend_work c (length ins)) (file_at h ins) places bytes result
     → MendsIfShort h ins c (run_outcome mend_cause result)
 mended_so ins c h (Ok ran) places bytes (whole, all) = λ short. (Ok ran, (all.some, all.ran_is), refl)
@@ -568,7 +569,7 @@ abbrev SwappingMust : List (List ℕ) → ℕ → Config → State → Outcome �
 SwappingMust ins id c mid outcome = IfSome mid.held (λ h. SwapsIfShort h ins id c outcome)
 
 swapped_so : (ins : List (List ℕ)) (id : ℕ) (c : Config) (plp : ℕ) → IsPlace c id plp
-    → (h : Held) (result : Result Swapped SwapStop)
+    → (h : Held) (result : Result SwapRan SwapStop)
     (places bytes : List ℕ) → IsRightAtEnd (swap_work c plp) (file_at h ins) places bytes result
     → SwapsIfShort h ins id c (run_outcome swap_cause result)
 swapped_so ins id c plp at h (Ok ran) places bytes (whole, all) = inr (plp, at, λ short. (Ok ran, (bytes, all), refl))
@@ -617,7 +618,7 @@ swap_so one run old new config id t2mi file out result does =
 abbrev ComparisonMust : List (List ℕ) → Config → State → Outcome → Type 0
 ComparisonMust ins c mid outcome = IfSome mid.held (λ h. ComparesIfShort h ins c outcome)
 
-compared_so : (ins : List (List ℕ)) (c : Config) (h : Held) (result : Result Compared CompareStop)
+compared_so : (ins : List (List ℕ)) (c : Config) (h : Held) (result : Result CompareRan CompareStop)
     (places bytes : List ℕ)
     → IsRightAtEnd (compare_work c) (file_at h ins) places bytes result
     → ComparesIfShort h ins c (run_outcome compare_cause result)

@@ -10,22 +10,22 @@ use Rattle.file_run.specs.ConfigLaws.{GivesPlan, OneConfig, OnePlan}
 use Rattle.file_run.specs.declared.config_stop.ConfigStop.{ConfigStop}
 use Rattle.file_run.specs.FileRun.{file_at}
 use Rattle.gateway_run.specs.Laws.{MustRun, OneRun}
-use Rattle.gateway_run.specs.declared.stop.Ran.{Ran}
+use Rattle.gateway_run.specs.declared.stop.GatewayRan.{GatewayRan}
 use Rattle.gateway_run.specs.declared.stop.GatewayStop.{GatewayStop}
 use Rattle.modulate_run.specs.Laws.{MustRun as ModulateMust, OneRun as OneModulation}
-use Rattle.modulate_run.specs.declared.stop.Ran.{Ran as Modulated}
+use Rattle.modulate_run.specs.declared.stop.ModulateRan.{ModulateRan}
 use Rattle.modulate_run.specs.declared.stop.ModulateStop.{ModulateStop}
 use Rattle.common_plp.specs.Inputs.{input_count}
 use Rattle.common_plp.specs.Sharing.{Sharing, joined_with, IsPlaceBy, HasNoPlaceBy}
 use Rattle.receive_run.specs.JoinedLaws.{MustRun as ReceiveMust, OneRun as OneReception}
-use Rattle.receive_run.specs.declared.stop.Ran.{Ran as Received}
+use Rattle.receive_run.specs.declared.stop.ReceiveRan.{ReceiveRan}
 use Rattle.receive_run.specs.declared.stop.ReceiveStop.{ReceiveStop}
 use Rattle.merge_run.specs.Laws.{MustRun as MergeMust, OneRun as OneMerging}
 use Rattle.feed_merge.specs.Fed.{names_of}
-use Rattle.merge_run.specs.declared.stop.Ran.{Ran as Merged}
+use Rattle.merge_run.specs.declared.stop.MergeRan.{MergeRan}
 use Rattle.merge_run.specs.declared.stop.MergeStop.{MergeStop}
 use Rattle.swap_run.specs.Laws.{MustRun as SwapMust, OneRun as OneSwapping}
-use Rattle.swap_run.specs.declared.stop.Ran.{Ran as Swapped}
+use Rattle.swap_run.specs.declared.stop.SwapRan.{SwapRan}
 use Rattle.swap_run.specs.declared.stop.SwapStop.{SwapStop}
 use Rattle.compare_run.specs.Laws.{OneRun as OneComparison}
 use Rattle.show_run.specs.Laws.{OneEnd, OneRecordsEnd}
@@ -95,7 +95,7 @@ one_by_plan one text Mine Must mine so outcome other (inr (c, plan, must)) b =
 -- How it must end over a plan, if its inputs are not too long.
 abbrev pub GatewayIfShort : Sharing → Held → List (List ℕ) → Config → Outcome → Type 0
 GatewayIfShort sharing held ins c outcome = Miscounts sharing c ins outcome
-    ⊎ ((length ins ≡ input_count sharing c) × (AreShort held ins → (result : Result Ran GatewayStop)
+    ⊎ ((length ins ≡ input_count sharing c) × (AreShort held ins → (result : Result GatewayRan GatewayStop)
     × MustRun sharing c (file_at held ins) result
     × (outcome ≡ run_outcome gateway_cause result)))
 
@@ -119,7 +119,7 @@ gateway_one run sharing held ins c result outcome (inr a) (inr b) =
 
 -- How it must end over a plan, if its input is not too long.
 abbrev pub ModulatesIfShort : List ℕ → Config → Outcome → Type 0
-ModulatesIfShort bytes c outcome = (length bytes < longest_file) → (result : Result Modulated ModulateStop)
+ModulatesIfShort bytes c outcome = (length bytes < longest_file) → (result : Result ModulateRan ModulateStop)
     × ModulateMust c bytes result × (outcome ≡ run_outcome modulate_cause result)
 
 pub modulate_one : OneModulation → (bytes : List ℕ) (c : Config) (result outcome : Outcome)
@@ -134,7 +134,8 @@ modulate_one run bytes c result outcome mine must =
 -- How it must end over a plan, if its input is not too long.
 abbrev pub ReceivesIfShort : Sharing → List ℕ → ℕ → Config → Outcome → Type 0
 ReceivesIfShort sharing bytes id c outcome = (HasNoPlaceBy sharing c id × (outcome ≡ UnknownPlp id))
-    ⊎ ((plp : ℕ) × IsPlaceBy sharing c id plp × ((length bytes < longest_file) → (result : Result Received ReceiveStop)
+    ⊎ ((plp : ℕ) × IsPlaceBy sharing c id plp × ((length bytes < longest_file)
+    → (result : Result ReceiveRan ReceiveStop)
     × ReceiveMust (joined_with sharing c plp) c plp bytes result × (outcome ≡ run_outcome receive_cause result)))
 
 one_place : (c : Config) (id plp other : ℕ) → IsPlace c id plp → IsPlace c id other → other ≡ plp
@@ -166,7 +167,7 @@ receive_if_short sharing bytes id c outcome (inr (plp, at, short, must)) = inr (
 
 -- How it must end over a plan, if its inputs are not too long.
 abbrev pub MergesIfShort : Held → List (List ℕ) → Config → Outcome → Type 0
-MergesIfShort held ins c outcome = AreShort held ins → (result : Result Merged MergeStop)
+MergesIfShort held ins c outcome = AreShort held ins → (result : Result MergeRan MergeStop)
     × MergeMust c (file_at held ins) result
     × (outcome ≡ run_outcome merge_cause result)
 
@@ -181,7 +182,7 @@ merge_one run held ins c result outcome mine must =
 -- How it must end over a plan, if its inputs are not too long.
 abbrev pub SwapsIfShort : Held → List (List ℕ) → ℕ → Config → Outcome → Type 0
 SwapsIfShort held ins id c outcome = (HasNoPlace c id × (outcome ≡ UnknownPlp id))
-    ⊎ ((plp : ℕ) × IsPlace c id plp × (AreShort held ins → (result : Result Swapped SwapStop)
+    ⊎ ((plp : ℕ) × IsPlace c id plp × (AreShort held ins → (result : Result SwapRan SwapStop)
     × SwapMust c plp (file_at held ins) result × (outcome ≡ run_outcome swap_cause result)))
 
 pub swap_one : OneSwapping → (held : Held) (ins : List (List ℕ)) (id : ℕ) (c : Config) (result outcome : Outcome)

@@ -12,7 +12,7 @@ use Rattle.file_run.specs.Work.{Ends as RunEnds, Into}
 use Rattle.file_run.specs.declared.stop.RunStop.{RunStop}
 use Rattle.gateway_run.specs.GatewayRun.{gateway_work}
 use Rattle.gateway_run.specs.declared.stop.GatewayStop.{GatewayStop}
-use Rattle.gateway_run.specs.declared.stop.Ran.{Ran}
+use Rattle.gateway_run.specs.declared.stop.GatewayRan.{GatewayRan}
 use Rattle.site_top.specs.declared.outcome.Outcome.{Outcome}
 use Rattle.site_top.specs.Commands.{is_empty, is_input, are_inputs}
 use Rattle.site_top.specs.GatewayCommand.{Ends, StopsSo, gateway_line}
@@ -41,7 +41,7 @@ apart out (file ∷ files) e (suc plp) inside = apart out files (and_parts (is_i
     (omega arith)
 
 pub gateway_told : (sharing : Sharing) (out : List ℕ) (ins : List (List ℕ)) (c : Config) (mid after new : State)
-    (run : Result Ran (RunStop GatewayStop)) (outcome : Outcome) → RunEnds (gateway_work sharing c) mid
+    (run : Result GatewayRan (RunStop GatewayStop)) (outcome : Outcome) → RunEnds (gateway_work sharing c) mid
     after (Into out) ins run
     → IfOk run (λ ran. Tells after new (gateway_line ran) outcome)
     → IfErr run (λ stop. (new ≡ after) × (outcome ≡ stop_outcome gateway_cause stop))

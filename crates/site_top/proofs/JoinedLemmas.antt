@@ -13,7 +13,7 @@ use Rattle.stream_laws.specs.Types.{TypesFit}
 use Rattle.file_run.specs.Work.{Ends, Into}
 use Rattle.receive_run.specs.JoinedReceived.{Received}
 use Rattle.receive_run.specs.JoinedRun.{receive_work}
-use Rattle.receive_run.specs.declared.stop.Ran.{Ran}
+use Rattle.receive_run.specs.declared.stop.ReceiveRan.{ReceiveRan}
 use Rattle.site_top.specs.CommonReceiveCommand.{JoinedComesBack, HoldsWhatIsJoined, ReceivedIsJoined}
 use Rattle.site_top.specs.ReceiveCommand.{ReceivedComesBack}
 use Rattle.site_top.proofs.RecoverLemmas.{FileLaws, packets_back, holds_with}
@@ -32,7 +32,7 @@ is_joined laws law c plan types alone plp file bytes views inside records r = re
       none r);
 }
 
-pub holds_joined : (c : Config) (plp : ℕ) (old new : State) (file out : List ℕ) (ran : Ran) → ReceivedIsJoined c
+pub holds_joined : (c : Config) (plp : ℕ) (old new : State) (file out : List ℕ) (ran : ReceiveRan) → ReceivedIsJoined c
     → plp < length c.plps → Ends (receive_work (common_of c plp) c plp) old new (Into out) (file ∷ []) (Ok ran)
     → HoldsWhatIsJoined c plp old new file out
 holds_joined c plp old new file out ran law inside r =

@@ -21,7 +21,7 @@ use Rattle.mend_run.specs.Counted.{counted}
 use Rattle.mend_run.specs.MendRun.{MendsAll, mend_work}
 use Rattle.mend_run.specs.declared.stop.MendStop.{MendStop}
 use Rattle.mend_run.specs.declared.stop.MendStop.TheVariants.{NoFrame}
-use Rattle.mend_run.specs.declared.stop.Ran.{Ran}
+use Rattle.mend_run.specs.declared.stop.MendRan.{MendRan}
 use Rattle.site_top.specs.declared.outcome.Outcome.{Outcome}
 use Rattle.site_top.specs.MendCommand.{MustMend, HoldsMended, UnitsAreMended, ComesOfMended}
 use Rattle.site_top.specs.Outcomes.{run_outcome, mend_cause}
@@ -56,7 +56,8 @@ are_mended c plan types laws k files bytes is = record {
 }
 
 -- OUT is all units of the frames that are made of the INs.
-pub holds_mended : (c : Config) (old new : State) (ins : List (List ℕ)) (out : List ℕ) (ran : Ran) → UnitsAreMended c
+pub holds_mended : (c : Config) (old new : State) (ins : List (List ℕ)) (out : List ℕ) (ran : MendRan)
+    → UnitsAreMended c
     → Ends (mend_work c (length ins)) old new (Into out) ins (Ok ran) → HoldsMended c old new ins out
 holds_mended c old new ins out ran law (counts, d) =
     go old.held new.held (works_of (λ files bytes. MendsAll c (length ins) files ran bytes) d d.does.1.1).holds
@@ -75,7 +76,8 @@ holds_mended c old new ins out ran law (counts, d) =
 
 -- ---- how it must end
 
-one_mend : (c : Config) (k : ℕ) (files : ℕ → List ℕ) (result other : Result Ran MendStop) → MustMend c k files result
+one_mend : (c : Config) (k : ℕ) (files : ℕ → List ℕ) (result other : Result MendRan MendStop)
+    → MustMend c k files result
     → MustMend c k files other → result ≡ other
 one_mend c k files (Ok ran) (Ok other) a b = ap Ok (a.1 ∙ sym b.1)
 one_mend c k files (Ok ran) (Err NoFrame) a b = absurd (a.0 b)
@@ -85,10 +87,12 @@ one_mend c k files (Err NoFrame) (Err NoFrame) a b = refl
 some_is : (x : Made) (made : List Made) → (x ∷ made) ≢ []
 some_is x made e = cc
 
-pub mend_ends : (c : Config) (k : ℕ) (files : ℕ → List ℕ) → (result : Result Ran MendStop) × MustMend c k files result
+pub mend_ends : (c : Config) (k : ℕ) (files : ℕ → List ℕ) → (result : Result MendRan MendStop)
+    × MustMend c k files result
 mend_ends c k files = go (made_of_all c k files) refl
   where
-    go : (made : List Made) → made_of_all c k files ≡ made → (result : Result Ran MendStop) × MustMend c k files result
+    go : (made : List Made) → made_of_all c k files ≡ made → (result : Result MendRan MendStop)
+        × MustMend c k files result
     go [] is = (Err NoFrame, is)
     go (x ∷ made) is = (
       Ok (counted (made_of_all c k files) (length (units_of c k files))),
@@ -97,7 +101,7 @@ mend_ends c k files = go (made_of_all c k files) refl
 
 -- How it must end over a plan, if its inputs are not too long.
 abbrev pub MendsIfShort : Held → List (List ℕ) → Config → Outcome → Type 0
-MendsIfShort held ins c outcome = AreShort held ins → (result : Result Ran MendStop)
+MendsIfShort held ins c outcome = AreShort held ins → (result : Result MendRan MendStop)
     × MustMend c (length ins) (file_at held ins) result × (outcome ≡ run_outcome mend_cause result)
 
 pub mend_one : (held : Held) (ins : List (List ℕ)) (c : Config) (result outcome : Outcome)

@@ -32,7 +32,7 @@ use Rattle.feed_merge.proofs.GrowLemmas.{test, pick, nothing, below_more, above_
 use Rattle.network_laws.specs.Merged.{merged, MergedComesBack}
 use Rattle.merge_run.specs.MergeRun.{MergesAll, merge_work}
 use Rattle.feed_merge.specs.Fed.{names_of}
-use Rattle.merge_run.specs.declared.stop.Ran.{Ran}
+use Rattle.merge_run.specs.declared.stop.MergeRan.{MergeRan}
 use Rattle.file_run.specs.FileRun.{file_at}
 use Rattle.file_run.specs.Work.{Ends, Into}
 use Rattle.file_run.proofs.WorkLemmas.{works_of}
@@ -141,7 +141,7 @@ are_merged c plan fit come law again a b bytes early_a early_b is = record {
 }
 
 -- OUT is all units of the frames that are picked.
-pub holds_merged : (c : Config) (old new : State) (a b out : List ℕ) (ran : Ran) → UnitsAreMerged c
+pub holds_merged : (c : Config) (old new : State) (a b out : List ℕ) (ran : MergeRan) → UnitsAreMerged c
     → Ends (merge_work c) old new (Into out) (names_of a b) (Ok ran) → HoldsMerged c old new a b out
 holds_merged c old new a b out ran law (counts, d) =
     go old.held new.held (works_of (λ files bytes. MergesAll c files ran bytes) d d.does.1.1).holds

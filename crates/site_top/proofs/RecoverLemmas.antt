@@ -38,7 +38,7 @@ use Rattle.file_run.proofs.WorkLemmas.{works_of}
 use Rattle.receive_run.specs.JoinedReceived as joined
 use Rattle.receive_run.specs.JoinedRun as run
 use Rattle.receive_run.specs.Received.{Received}
-use Rattle.receive_run.specs.declared.stop.Ran.{Ran}
+use Rattle.receive_run.specs.declared.stop.ReceiveRan.{ReceiveRan}
 use Rattle.network_laws.specs.RecoverLaws.{RunRecovers, RunComesBack, IsCanonical}
 use Rattle.network_laws.specs.ToldEpochs.{IsPacket}
 use Rattle.site_top.specs.ReceiveCommand.{ComesBack, HoldsWhatComesBack, ReceivedComesBack}
@@ -164,7 +164,7 @@ comes_back laws c plan types plp file bytes views inside records r = record {
 -- what is so of each file of records and what it gives back is so of IN and OUT
 pub holds_with : (P : List ℕ → List ℕ → Type 0) (joins : Option ℕ) (c : Config) (plp : ℕ) (old new : State)
     (file out : List ℕ)
-    (ran : Ran) → ((from bytes : List ℕ) (views : List RecordView) → AreRecords from views []
+    (ran : ReceiveRan) → ((from bytes : List ℕ) (views : List RecordView) → AreRecords from views []
     → joined.Received joins c plp views bytes → P from bytes)
     → Ends (run.receive_work joins c plp) old new (Into out) (file ∷ []) (Ok ran)
     → IfSome old.held (λ h. IfSome new.held (λ k. P (bytes_of h.files file) (bytes_of k.files out)))
@@ -185,7 +185,7 @@ holds_with P joins c plp old new file out ran law (counts, d) =
         subst (P (bytes_of x.files file)) here (law (bytes_of x.files file) w.2.0 w.2.2.views w.2.2.records
         w.2.2.received)
 
-pub holds_back : (c : Config) (plp : ℕ) (old new : State) (file out : List ℕ) (ran : Ran) → ReceivedComesBack c
+pub holds_back : (c : Config) (plp : ℕ) (old new : State) (file out : List ℕ) (ran : ReceiveRan) → ReceivedComesBack c
     → plp < length c.plps → Ends (run.receive_work None c plp) old new (Into out) (file ∷ []) (Ok ran)
     → HoldsWhatComesBack c plp old new file out
 holds_back c plp old new file out ran law inside r =

@@ -12,7 +12,7 @@ use Rattle.file_run.specs.declared.stop.RunStop.{RunStop}
 use Rattle.file_run.specs.declared.stop.RunStop.TheVariants.{Refused, Files, OutOfMemory}
 use Rattle.file_run.proofs.WorkLemmas.{works_of}
 use Rattle.modulate_run.specs.ModulateRun.{modulate_work}
-use Rattle.modulate_run.specs.declared.stop.Ran.{Ran}
+use Rattle.modulate_run.specs.declared.stop.ModulateRan.{ModulateRan}
 use Rattle.modulate_run.specs.declared.stop.ModulateStop.{ModulateStop}
 use Rattle.modulate_run.specs.declared.stop.ModulateStop.TheVariants.{NoSuperframe, TooManyFrames}
 use Rattle.stream_laws.specs.FrameLaws.{WrittenMustCome, UndamagedMustCome}
@@ -46,7 +46,7 @@ holds_so c old new file out honest undamaged d is =
         ∙ ap (λ (o : Option (List ℕ)). unwrap_or o []) w.2.1
         ∙ w.2.2)
 
-pub holds_records : (c : Config) (old new : State) (file out : List ℕ) (ran : Ran) → WrittenMustCome c
+pub holds_records : (c : Config) (old new : State) (file out : List ℕ) (ran : ModulateRan) → WrittenMustCome c
     → UndamagedMustCome c
     → Ends (modulate_work c) old new (Into out) (file ∷ []) (Ok ran) → HoldsWhatMustCome c old new file out
 holds_records c old new file out ran honest undamaged (counts, d) = holds_so c old new file out honest

@@ -23,7 +23,7 @@ use Rattle.file_run.proofs.WorkLemmas.{works_of}
 use Rattle.feed_merge.specs.Fed.{names_of}
 use Rattle.network_laws.specs.Region.{region_frames, region_of_run, RegionIsOfRun, RegionComesBack, WholeIsReplaced}
 use Rattle.swap_run.specs.SwapRun.{SwapsAll, swap_work}
-use Rattle.swap_run.specs.declared.stop.Ran.{Ran}
+use Rattle.swap_run.specs.declared.stop.SwapRan.{SwapRan}
 use Rattle.site_top.specs.SwapCommand.{ComesOfSwapped, HoldsSwapped, UnitsAreSwapped}
 
 pub are_swapped : (c : Config) → IsPlan c → TypesFit c → RegionIsOfRun → RegionComesBack → WholeIsReplaced
@@ -49,7 +49,8 @@ are_swapped c plan fit region back whole plp t2mi file bytes inside is =
     }
 
 -- OUT is all units of the frames of T2MI, with the PLP replaced by the packets of IN.
-pub holds_swapped : (c : Config) (plp : ℕ) (old new : State) (t2mi file out : List ℕ) (ran : Ran) → plp < length c.plps
+pub holds_swapped : (c : Config) (plp : ℕ) (old new : State) (t2mi file out : List ℕ) (ran : SwapRan)
+    → plp < length c.plps
     → UnitsAreSwapped c → Ends (swap_work c plp) old new (Into out) (names_of t2mi file) (Ok ran)
     → HoldsSwapped c plp old new t2mi file out
 holds_swapped c plp old new t2mi file out ran inside law (counts, d) =

@@ -9,7 +9,7 @@ use Rattle.file_run.specs.declared.stop.RunStop.{RunStop}
 use Rattle.feed_merge.specs.Fed.{names_of}
 use Rattle.compare_run.specs.Comparing.{answers, frames_of}
 use Rattle.compare_run.specs.Runs.{first_differing}
-use Rattle.compare_run.specs.declared.counts.Counts.{Counts}
+use Rattle.compare_run.specs.declared.counts.CompareRan.{CompareRan}
 use Rattle.compare_run.specs.CompareRun.{compare_work}
 use Rattle.compare_run.specs.declared.stop.CompareStop.{CompareStop}
 use Rattle.site_top.specs.declared.outcome.Outcome.{Outcome}
@@ -31,7 +31,7 @@ NeverDiffers c mid a b outcome = IfSome mid.held (λ h. (inputs : ℕ → List (
 
 -- the run, and its outcome: all lines were said in it
 abbrev pub Follows : List ℕ → List ℕ → Config → State → State → Outcome → Type 0
-Follows a b c mid new outcome = (result : Result Counts (RunStop CompareStop))
+Follows a b c mid new outcome = (result : Result CompareRan (RunStop CompareStop))
     × Ends (compare_work c) mid new Aloud (names_of a b) result
     × (outcome ≡ run_outcome (stop_outcome compare_cause) result) × NeverDiffers c mid a b outcome
 

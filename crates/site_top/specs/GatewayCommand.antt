@@ -9,17 +9,17 @@ use Rattle.file_run.specs.Work.{Ends as RunEnds, Into}
 use Rattle.file_run.specs.declared.stop.RunStop.{RunStop}
 use Rattle.gateway_run.specs.GatewayRun.{gateway_work}
 use Rattle.gateway_run.specs.declared.stop.GatewayStop.{GatewayStop}
-use Rattle.gateway_run.specs.declared.stop.Ran.{Ran}
+use Rattle.gateway_run.specs.declared.stop.GatewayRan.{GatewayRan}
 use Rattle.site_top.specs.declared.outcome.Outcome.{Outcome}
 use Rattle.site_top.specs.Outcomes.{gateway_cause, Miscounts}
 use Rattle.site_top.specs.PlanCommand.{RunsAndTells, ByPlan}
 
 -- the line of a run to its end
-abbrev pub gateway_line : Ran → List ℕ
+abbrev pub gateway_line : GatewayRan → List ℕ
 gateway_line ran = codes "frames=" ++ decimal ran.frames ++ codes " units=" ++ decimal ran.units ++ codes "\n"
 
 -- a run to its end, and one that stops
-abbrev pub Ends : Sharing → List ℕ → List (List ℕ) → Config → State → State → Ran → Type 0
+abbrev pub Ends : Sharing → List ℕ → List (List ℕ) → Config → State → State → GatewayRan → Type 0
 Ends sharing out ins c mid after ran = RunEnds (gateway_work sharing c) mid after (Into out) ins (Ok ran)
 
 abbrev pub StopsSo : Sharing → List ℕ → List (List ℕ) → Config → State → State → RunStop GatewayStop → Type 0

@@ -24,19 +24,19 @@ use Rattle.mend_run.specs.Counted.{counted}
 use Rattle.mend_run.specs.MendRun.{mend_work}
 use Rattle.mend_run.specs.declared.stop.MendStop.{MendStop}
 use Rattle.mend_run.specs.declared.stop.MendStop.TheVariants.{NoFrame}
-use Rattle.mend_run.specs.declared.stop.Ran.{Ran}
+use Rattle.mend_run.specs.declared.stop.MendRan.{MendRan}
 use Rattle.site_top.specs.declared.outcome.Outcome.{Outcome}
 use Rattle.site_top.specs.Outcomes.{mend_cause}
 use Rattle.site_top.specs.PlanCommand.{RunsAndTells, ByPlan}
 
 -- the line of a run to its end
-abbrev pub mend_line : Ran → List ℕ
+abbrev pub mend_line : MendRan → List ℕ
 mend_line ran = codes "mended frames=" ++ decimal ran.frames ++ codes " woven=" ++ decimal ran.woven
     ++ codes " missing="
     ++ decimal ran.missing ++ codes " units=" ++ decimal ran.units ++ codes "\n"
 
 -- How a run must end over so many files that are not too long, if nothing outside fails.
-abbrev pub MustMend : Config → ℕ → (ℕ → List ℕ) → Result Ran MendStop → Type 0
+abbrev pub MustMend : Config → ℕ → (ℕ → List ℕ) → Result MendRan MendStop → Type 0
 MustMend c k files (Ok ran) = (made_of_all c k files ≢ [])
     × (ran ≡ counted (made_of_all c k files) (length (units_of c k files)))
 MustMend c k files (Err NoFrame) = made_of_all c k files ≡ []
@@ -94,7 +94,7 @@ UnitsAreMended c = (k : ℕ) (files : ℕ → List ℕ) (bytes : List ℕ) → b
     → ComesOfMended c k files bytes
 
 -- a run to its end, and one that stops
-abbrev pub Ends : List ℕ → List (List ℕ) → Config → State → State → Ran → Type 0
+abbrev pub Ends : List ℕ → List (List ℕ) → Config → State → State → MendRan → Type 0
 Ends out ins c mid after ran =
     RunEnds (mend_work c (length ins)) mid after (Into out) ins (Ok ran) × HoldsMended c mid after ins out
 

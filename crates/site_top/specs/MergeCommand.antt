@@ -20,14 +20,14 @@ use Rattle.file_run.specs.Work.{Ends as RunEnds, Into}
 use Rattle.file_run.specs.declared.stop.RunStop.{RunStop}
 use Rattle.merge_run.specs.MergeRun.{merge_work}
 use Rattle.feed_merge.specs.Fed.{names_of, AreEarly}
-use Rattle.merge_run.specs.declared.stop.Ran.{Ran}
+use Rattle.merge_run.specs.declared.stop.MergeRan.{MergeRan}
 use Rattle.merge_run.specs.declared.stop.MergeStop.{MergeStop}
 use Rattle.site_top.specs.declared.outcome.Outcome.{Outcome}
 use Rattle.site_top.specs.Outcomes.{merge_cause}
 use Rattle.site_top.specs.PlanCommand.{RunsAndTells, ByPlan}
 
 -- the line of a run to its end
-abbrev pub merge_line : Ran → List ℕ
+abbrev pub merge_line : MergeRan → List ℕ
 merge_line ran = codes "merged frames=" ++ decimal ran.frames ++ codes " a=" ++ decimal ran.a ++ codes " b="
     ++ decimal ran.b
     ++ codes " units=" ++ decimal ran.units ++ codes "\n"
@@ -74,7 +74,7 @@ UnitsAreMerged c = (a b bytes : List ℕ) → AreEarly (records_due c true a) �
     → bytes ≡ joined (pipe c.pid (remade_packets c (merged c a b))) → ComesOfMerged c a b bytes
 
 -- a run to its end, and one that stops
-abbrev pub Ends : List ℕ → List ℕ → List ℕ → Config → State → State → Ran → Type 0
+abbrev pub Ends : List ℕ → List ℕ → List ℕ → Config → State → State → MergeRan → Type 0
 Ends a b out c mid after ran = RunEnds (merge_work c) mid after (Into out) (names_of a b) (Ok ran)
     × HoldsMerged c mid after a b out
 

@@ -12,7 +12,7 @@ use Rattle.file_run.specs.Work.{Ends as RunEnds, Into}
 use Rattle.file_run.specs.declared.stop.RunStop.{RunStop}
 use Rattle.file_run.specs.declared.stop.RunStop.TheVariants.{Refused, Files, OutOfMemory}
 use Rattle.modulate_run.specs.ModulateRun.{modulate_work}
-use Rattle.modulate_run.specs.declared.stop.Ran.{Ran}
+use Rattle.modulate_run.specs.declared.stop.ModulateRan.{ModulateRan}
 use Rattle.modulate_run.specs.declared.stop.ModulateStop.{ModulateStop}
 use Rattle.modulate_run.specs.declared.stop.ModulateStop.TheVariants.{NoSuperframe, TooManyFrames}
 use Rattle.site_top.specs.declared.outcome.Outcome.{Outcome}
@@ -20,7 +20,7 @@ use Rattle.site_top.specs.Outcomes.{modulate_cause}
 use Rattle.site_top.specs.PlanCommand.{RunsAndTells, ByPlan}
 
 -- the line of a run to its end
-abbrev pub modulate_line : Ran → List ℕ
+abbrev pub modulate_line : ModulateRan → List ℕ
 modulate_line ran = codes "first=" ++ decimal ran.first ++ codes " records=" ++ decimal ran.records ++ codes " muted="
     ++ decimal ran.muted ++ codes "\n"
 
@@ -50,7 +50,7 @@ StopsWith c old new file out (Files fault) = Unit {0}
 StopsWith c old new file out OutOfMemory = Unit {0}
 
 -- a run to its end, and one that stops
-abbrev pub Ends : List ℕ → List ℕ → Config → State → State → Ran → Type 0
+abbrev pub Ends : List ℕ → List ℕ → Config → State → State → ModulateRan → Type 0
 Ends file out c mid after ran = RunEnds (modulate_work c) mid after (Into out) (file ∷ []) (Ok ran)
     × HoldsWhatMustCome c mid after file out
 

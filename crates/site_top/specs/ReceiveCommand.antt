@@ -17,10 +17,10 @@ use Rattle.stream_laws.specs.SentFrames.{run_length}
 use Rattle.network_laws.specs.RecoverLaws.{IsCanonical}
 use Rattle.network_laws.specs.ToldEpochs.{IsPacket}
 use Rattle.receive_run.specs.Received.{Received}
-use Rattle.receive_run.specs.declared.stop.Ran.{Ran}
+use Rattle.receive_run.specs.declared.stop.ReceiveRan.{ReceiveRan}
 
 -- the line of a run to its end
-abbrev pub receive_line : Ran → List ℕ
+abbrev pub receive_line : ReceiveRan → List ℕ
 receive_line ran = codes "first=" ++ decimal ran.first ++ codes " slots=" ++ decimal ran.slots ++ codes "\n"
 
 -- If a file is records of the frames of a run, these bytes are what the frames give back of the PLP at a place: for

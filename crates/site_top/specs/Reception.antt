@@ -6,7 +6,7 @@ use Rattle.common_plp.specs.Sharing.{Sharing, Apart, Joint, joined_with, IsPlace
 use Rattle.file_run.specs.Work.{Ends as RunEnds, Into}
 use Rattle.file_run.specs.declared.stop.RunStop.{RunStop}
 use Rattle.receive_run.specs.JoinedRun.{receive_work}
-use Rattle.receive_run.specs.declared.stop.Ran.{Ran}
+use Rattle.receive_run.specs.declared.stop.ReceiveRan.{ReceiveRan}
 use Rattle.receive_run.specs.declared.stop.ReceiveStop.{ReceiveStop}
 use Rattle.site_top.specs.declared.outcome.Outcome.{Outcome}
 use Rattle.site_top.specs.declared.outcome.Outcome.TheVariants.{UnknownPlp}
@@ -21,7 +21,7 @@ HoldsBack Apart c plp old new file out = HoldsWhatComesBack c plp old new file o
 HoldsBack Joint c plp old new file out = HoldsWhatIsJoined c plp old new file out
 
 -- a run to its end, and one that stops
-abbrev pub Ends : Sharing → List ℕ → List ℕ → Config → ℕ → State → State → Ran → Type 0
+abbrev pub Ends : Sharing → List ℕ → List ℕ → Config → ℕ → State → State → ReceiveRan → Type 0
 Ends sharing file out c plp mid after ran =
     RunEnds (receive_work (joined_with sharing c plp) c plp) mid after (Into out) (file ∷ []) (Ok ran)
     × HoldsBack sharing c plp mid after file out

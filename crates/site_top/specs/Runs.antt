@@ -12,26 +12,26 @@ use Rattle.file_run.specs.Reading.{longest_file}
 use Rattle.file_run.specs.FileRun.{file_at}
 use Rattle.file_run.specs.declared.stop.RunStop.{RunStop}
 use Rattle.gateway_run.specs.Laws.{MustRun}
-use Rattle.gateway_run.specs.declared.stop.Ran.{Ran}
+use Rattle.gateway_run.specs.declared.stop.GatewayRan.{GatewayRan}
 use Rattle.gateway_run.specs.declared.stop.GatewayStop.{GatewayStop}
 use Rattle.modulate_run.specs.Laws.{MustRun as ModulateMust}
-use Rattle.modulate_run.specs.declared.stop.Ran.{Ran as Modulated}
+use Rattle.modulate_run.specs.declared.stop.ModulateRan.{ModulateRan}
 use Rattle.modulate_run.specs.declared.stop.ModulateStop.{ModulateStop}
 use Rattle.receive_run.specs.JoinedLaws.{MustRun as ReceiveMust}
-use Rattle.receive_run.specs.declared.stop.Ran.{Ran as Received}
+use Rattle.receive_run.specs.declared.stop.ReceiveRan.{ReceiveRan}
 use Rattle.receive_run.specs.declared.stop.ReceiveStop.{ReceiveStop}
 use Rattle.merge_run.specs.Laws.{MustRun as MergeMust}
 use Rattle.feed_merge.specs.Fed.{names_of}
-use Rattle.merge_run.specs.declared.stop.Ran.{Ran as Merged}
+use Rattle.merge_run.specs.declared.stop.MergeRan.{MergeRan}
 use Rattle.merge_run.specs.declared.stop.MergeStop.{MergeStop}
-use Rattle.mend_run.specs.declared.stop.Ran.{Ran as Mended}
+use Rattle.mend_run.specs.declared.stop.MendRan.{MendRan}
 use Rattle.mend_run.specs.declared.stop.MendStop.{MendStop}
 use Rattle.swap_run.specs.Laws.{MustRun as SwapMust}
-use Rattle.swap_run.specs.declared.stop.Ran.{Ran as Swapped}
+use Rattle.swap_run.specs.declared.stop.SwapRan.{SwapRan}
 use Rattle.swap_run.specs.declared.stop.SwapStop.{SwapStop}
 use Rattle.compare_run.specs.Laws.{MustRun as CompareMust}
 use Rattle.compare_run.specs.declared.stop.CompareStop.{CompareStop}
-use Rattle.compare_run.specs.declared.counts.Counts.{Counts as Compared}
+use Rattle.compare_run.specs.declared.counts.CompareRan.{CompareRan}
 use Rattle.show_run.specs.Laws.{PacketsEnd, RecordsEnd}
 use Rattle.show_run.specs.PacketText.{IsPacketText}
 use Rattle.show_run.specs.RecordText.{IsRecordText}
@@ -106,13 +106,13 @@ AreShortFor (Trial seed frames) held = Unit {0}
 -- has one, else as the run does over inputs that are not too long.
 abbrev pub PlanMustEnd : Sharing → Held → List (List ℕ) → Config → Outcome → Type 0
 PlanMustEnd sharing held ins c outcome = Miscounts sharing c ins outcome
-    ⊎ ((length ins ≡ input_count sharing c) × AreShort held ins × ((result : Result Ran GatewayStop)
+    ⊎ ((length ins ≡ input_count sharing c) × AreShort held ins × ((result : Result GatewayRan GatewayStop)
     × MustRun sharing c (file_at held ins) result × (outcome ≡ run_outcome gateway_cause result)))
 
 -- How `modulate` must end over a plan: as the run does over an input that is not too long.
 abbrev pub ModulateMustEnd : List ℕ → Config → Outcome → Type 0
 ModulateMustEnd bytes c outcome = (length bytes < longest_file)
-    × ((result : Result Modulated ModulateStop) × ModulateMust c bytes result
+    × ((result : Result ModulateRan ModulateStop) × ModulateMust c bytes result
     × (outcome ≡ run_outcome modulate_cause result))
 
 -- How `receive` and `common receive` must end over a plan: with the identifier if no PLP that can be asked for has it,
@@ -120,19 +120,19 @@ ModulateMustEnd bytes c outcome = (length bytes < longest_file)
 abbrev pub ReceiveMustEnd : Sharing → List ℕ → ℕ → Config → Outcome → Type 0
 ReceiveMustEnd sharing bytes id c outcome = (HasNoPlaceBy sharing c id × (outcome ≡ UnknownPlp id))
     ⊎ ((plp : ℕ) × IsPlaceBy sharing c id plp × (length bytes < longest_file)
-    × ((result : Result Received ReceiveStop) × ReceiveMust (joined_with sharing c plp) c plp bytes result
+    × ((result : Result ReceiveRan ReceiveStop) × ReceiveMust (joined_with sharing c plp) c plp bytes result
     × (outcome ≡ run_outcome receive_cause result)))
 
 -- How `merge` must end over a plan: as the run does over two inputs that are not too long.
 abbrev pub MergeMustEnd : Held → List (List ℕ) → Config → Outcome → Type 0
 MergeMustEnd held ins c outcome = AreShort held ins
-    × ((result : Result Merged MergeStop) × MergeMust c (file_at held ins) result
+    × ((result : Result MergeRan MergeStop) × MergeMust c (file_at held ins) result
     × (outcome ≡ run_outcome merge_cause result))
 
 -- How `mend` must end over a plan: as the run does over inputs that are not too long.
 abbrev pub MendMustEnd : Held → List (List ℕ) → Config → Outcome → Type 0
 MendMustEnd held ins c outcome = AreShort held ins
-    × ((result : Result Mended MendStop) × MustMend c (length ins) (file_at held ins) result
+    × ((result : Result MendRan MendStop) × MustMend c (length ins) (file_at held ins) result
     × (outcome ≡ run_outcome mend_cause result))
 
 -- How `swap` must end over a plan: with the identifier if no PLP has it, else as the run does over two inputs that are
@@ -140,13 +140,13 @@ MendMustEnd held ins c outcome = AreShort held ins
 abbrev pub SwapMustEnd : Held → List (List ℕ) → ℕ → Config → Outcome → Type 0
 SwapMustEnd held ins id c outcome = (HasNoPlace c id × (outcome ≡ UnknownPlp id))
     ⊎ ((plp : ℕ) × IsPlace c id plp × AreShort held ins
-    × ((result : Result Swapped SwapStop) × SwapMust c plp (file_at held ins) result
+    × ((result : Result SwapRan SwapStop) × SwapMust c plp (file_at held ins) result
     × (outcome ≡ run_outcome swap_cause result)))
 
 -- How `compare` must end over a plan: as the run does over two inputs that are not too long.
 abbrev pub CompareMustEnd : Held → List (List ℕ) → Config → Outcome → Type 0
 CompareMustEnd held ins c outcome = AreShort held ins
-    × ((result : Result Compared CompareStop) × CompareMust c (file_at held ins) result
+    × ((result : Result CompareRan CompareStop) × CompareMust c (file_at held ins) result
     × (outcome ≡ run_outcome compare_cause result))
 
 -- How a command must end whose CONFIG has this text: with its refusal, or as it must over the plan that it gives.

@@ -20,7 +20,7 @@ use Rattle.file_run.specs.Work.{Ends as RunEnds, Into}
 use Rattle.file_run.specs.declared.stop.RunStop.{RunStop}
 use Rattle.feed_merge.specs.Fed.{names_of}
 use Rattle.swap_run.specs.SwapRun.{swap_work}
-use Rattle.swap_run.specs.declared.stop.Ran.{Ran}
+use Rattle.swap_run.specs.declared.stop.SwapRan.{SwapRan}
 use Rattle.swap_run.specs.declared.stop.SwapStop.{SwapStop}
 use Rattle.site_top.specs.declared.outcome.Outcome.{Outcome}
 use Rattle.site_top.specs.declared.outcome.Outcome.TheVariants.{UnknownPlp}
@@ -28,7 +28,7 @@ use Rattle.site_top.specs.Outcomes.{swap_cause}
 use Rattle.site_top.specs.PlanCommand.{RunsAndTells, ByPlan}
 
 -- the line of a run to its end
-abbrev pub swap_line : Ran → List ℕ
+abbrev pub swap_line : SwapRan → List ℕ
 swap_line ran = codes "frames=" ++ decimal ran.frames ++ codes " muted=" ++ decimal ran.muted ++ codes " unsent="
     ++ decimal ran.unsent ++ codes " units=" ++ decimal ran.units ++ codes "\n"
 
@@ -65,7 +65,7 @@ UnitsAreSwapped c = (plp : ℕ) (t2mi file bytes : List ℕ) → plp < length c.
     → ComesOfSwapped c plp t2mi file bytes
 
 -- a run to its end, and one that stops
-abbrev pub Ends : List ℕ → List ℕ → List ℕ → Config → ℕ → State → State → Ran → Type 0
+abbrev pub Ends : List ℕ → List ℕ → List ℕ → Config → ℕ → State → State → SwapRan → Type 0
 Ends t2mi file out c plp mid after ran = RunEnds (swap_work c plp) mid after (Into out) (names_of t2mi file) (Ok ran)
     × HoldsSwapped c plp mid after t2mi file out
 

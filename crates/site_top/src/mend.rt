@@ -8,7 +8,7 @@ use crate::outcome::Outcome;
 use crate::run_end::tell_run;
 use file_run::read_plan;
 use mended_frames::{near_law, pass_law, rise_law};
-use network_laws::{honest_feeds_law, mend_law, whole_feed_law, woven_frames_law};
+use network_laws::{feeds_law, mend_law};
 use plp_config::Plan;
 use ports::{Desk, Word};
 use std::alloc::Global;
@@ -24,9 +24,7 @@ fn mended_law(plan: &Plan)
     rise_law();
     near_law();
     mend_law();
-    honest_feeds_law();
-    whole_feed_law();
-    woven_frames_law();
+    feeds_law();
 }
 
 /// Makes one T2-MI stream of one or more of a network, by the named configuration: each frame of which they have every

@@ -7,15 +7,15 @@ use crate::config_commands::tell;
 use crate::outcome::{Outcome, file_outcome};
 use compare_run::CompareStop;
 use file_run::{Line, RunStop};
-use gateway_run::GatewayStop;
-use mend_run::MendStop;
-use merge_run::MergeStop;
-use modulate_run::ModulateStop;
+use gateway_run::{GatewayRan, GatewayStop};
+use mend_run::{MendRan, MendStop};
+use merge_run::{MergeRan, MergeStop};
+use modulate_run::{ModulateRan, ModulateStop};
 use plp_config::MOST_FRAMES;
 use ports::Desk;
-use receive_run::ReceiveStop;
+use receive_run::{ReceiveRan, ReceiveStop};
 use show_run::ShowStop;
-use swap_run::SwapStop;
+use swap_run::{SwapRan, SwapStop};
 
 /// A machine's own cause why its run is no success.
 pub trait Cause: Copy {
@@ -167,7 +167,7 @@ pub trait Ran: Copy {
         ensures { result ≡ line self };
 }
 
-impl Ran for gateway_run::Ran {
+impl Ran for GatewayRan {
     ghost use Rattle.site_top.specs.GatewayCommand.{gateway_line};
 
     ghost line = { gateway_line };
@@ -181,7 +181,7 @@ impl Ran for gateway_run::Ran {
     }
 }
 
-impl Ran for modulate_run::Ran {
+impl Ran for ModulateRan {
     ghost use Rattle.site_top.specs.ModulateCommand.{modulate_line};
 
     ghost line = { modulate_line };
@@ -196,7 +196,7 @@ impl Ran for modulate_run::Ran {
     }
 }
 
-impl Ran for receive_run::Ran {
+impl Ran for ReceiveRan {
     ghost use Rattle.site_top.specs.ReceiveCommand.{receive_line};
 
     ghost line = { receive_line };
@@ -210,7 +210,7 @@ impl Ran for receive_run::Ran {
     }
 }
 
-impl Ran for merge_run::Ran {
+impl Ran for MergeRan {
     ghost use Rattle.site_top.specs.MergeCommand.{merge_line};
 
     ghost line = { merge_line };
@@ -226,7 +226,7 @@ impl Ran for merge_run::Ran {
     }
 }
 
-impl Ran for mend_run::Ran {
+impl Ran for MendRan {
     ghost use Rattle.site_top.specs.MendCommand.{mend_line};
 
     ghost line = { mend_line };
@@ -242,7 +242,7 @@ impl Ran for mend_run::Ran {
     }
 }
 
-impl Ran for swap_run::Ran {
+impl Ran for SwapRan {
     ghost use Rattle.site_top.specs.SwapCommand.{swap_line};
 
     ghost line = { swap_line };

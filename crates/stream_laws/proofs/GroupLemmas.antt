@@ -6,7 +6,7 @@ use Rattle.std.proofs.Common.{[], ◌∷◌, ◌++◌, map, length, Option, Some
 use Rattle.std.proofs.Common.{◌∙◌, ⊎_elim}
 use Rattle.std.proofs.Common.{arith, div-lt_iff_lt-mul, add-mul, mul-le-mul_right}
 use Rattle.std.specs.List.{filter, items_where_true, range_with_len, AllByRecursion}
-use Rattle.std.proofs.lemmas.Bool.{cases_lt, cases_eq, cond_both, cond-true, cond-false, both_ways, and_parts, and_from}
+use Rattle.std.proofs.lemmas.Bool.{cases_lt, cases_eq, cond_both, cond-true, cond-false, both_ways, and_from}
 use Rattle.std.proofs.lemmas.Bool.{false_from_ne_true, eqb-true, eq-eqb, ne_eqb, lt-ltb}
 use Rattle.std.proofs.lemmas.Nat.{div-add-mod', mod_below}
 use Rattle.t2mi_packet.specs.declared.packet.Body.{Body}
@@ -17,6 +17,7 @@ use Rattle.frame_groups.specs.Groups.{is_same, body_counts, is_counted, body_key
 use Rattle.frame_groups.specs.Groups.{in_front}
 use Rattle.frame_groups.specs.Groups.{key_runs, groups}
 use Rattle.frame_groups.specs.Numbers.{frame_key}
+use Rattle.frame_groups.proofs.NumberLemmas.{same_key}
 use Rattle.stream_laws.specs.SentPackets.{Sent, packets_of, frame_packets, frame_group, IsTimestamp, TellsFrame}
 use Rattle.stream_laws.specs.SentPackets.{IsOfFrame, Follows, FollowsSome, InFrameOrder, AreFrames}
 use Rattle.stream_laws.specs.SentPackets.{IsNearSome, AreNear, IsApart, IsApartSome, AreApart}
@@ -265,11 +266,9 @@ unlike_one frames n s o f a = ⊎_elim
     (eq-eqb (n % frames) (s.frame % frames) (ap (λ (k : ℕ). k % frames) e)) ∙ sym (eq-eqb n s.frame e))
     (λ (e : n ≡ s.frame → ⊥).
     false_from_ne_true _ (λ (t : is_same (frame_key frames n) (frame_key frames s.frame) ≡ true).
-    let p = and_parts (n / frames % 16 == s.frame / frames % 16) (n % frames == s.frame % frames) t in
     e (sym (a (key_told frames (Some n) s.frame s.packet.body s.packet.superframe o.superframe o.frame
     (apart_begins frames (Some n) s o f a)
-    ∙ sym (ap₂ key_with (eqb-true (n / frames % 16) (s.frame / frames % 16) p.0)
-    (eqb-true (n % frames) (s.frame % frames) p.1))))))
+    ∙ sym (same_key (frame_key frames n) (frame_key frames s.frame) t)))))
     ∙ sym (ne_eqb n s.frame e))
     (cases_eq n s.frame)
 

@@ -30,7 +30,7 @@ use Rattle.file_run.specs.Events.{Event, fed, has_ended, gave}
 use Rattle.file_run.specs.FileRun.{AreFed, IsFed, read_ahead}
 use Rattle.file_run.specs.declared.machine.Step.TheVariants.{Give, End}
 use Rattle.gateway_core.specs.InputSoFar.{Continues}
-use Rattle.gateway_run.proofs.FileLemmas.{NextIsBad}
+use Rattle.ts_packet.proofs.FileLemmas.{NextIsBad}
 use Rattle.feed_merge.specs.Fed.{AreEarly}
 use Rattle.feed_merge.specs.Fed.{IsFedWith, NoneComes}
 use Rattle.feed_merge.specs.Reading.{is_idle}
@@ -53,7 +53,7 @@ use Rattle.swap_run.specs.SwapRun.{ReadsAhead}
 use Rattle.swap_run.specs.Steps.{step_in, step_of, wanted_in, input_reach, drained}
 use Rattle.swap_run.specs.declared.phase.Phase.{Phase}
 use Rattle.swap_run.specs.declared.phase.Phase.TheVariants as phase
-use Rattle.swap_run.specs.declared.stop.Ran.{Ran}
+use Rattle.swap_run.specs.declared.stop.SwapRan.{SwapRan}
 use Rattle.swap_run.specs.declared.stop.SwapStop.TheVariants.{NoSuperframe, InputRefused, TooManyFrames}
 use Rattle.swap_run.specs.declared.machine.SwapMachine.{SwapMachine}
 use Rattle.swap_run.proofs.GoLemmas.{slots_rise}
@@ -67,13 +67,20 @@ nothing_piped : (c : Config) (plp : ℕ) (input : List (List ℕ))
 unfolding remade_packets units_in
 nothing_piped c plp input = refl
 
-ran_same : (r : Ran) (f m u n : ℕ) → r.frames ≡ f → r.muted ≡ m → r.unsent ≡ u → r.units ≡ n
-    → r ≡ (let x : Ran = record { frames = f; muted = m; unsent = u; units = n } in x)
+ran_same : (r : SwapRan) (f m u n : ℕ) → r.frames ≡ f → r.muted ≡ m → r.unsent ≡ u → r.units ≡ n
+    → r ≡ (let x : SwapRan = record { frames = f; muted = m; unsent = u; units = n } in x)
 ran_same r f m u n a b d e =
-    subst (λ (x : ℕ). r ≡ (let y : Ran = record { frames = x; muted = m; unsent = u; units = n } in y)) a
-    (subst (λ (x : ℕ). r ≡ (let y : Ran = record { frames = r.frames; muted = x; unsent = u; units = n } in y)) b
-    (subst (λ (x : ℕ). r ≡ (let y : Ran = record { frames = r.frames; muted = r.muted; unsent = x; units = n } in y)) d
-    (subst (λ (x : ℕ). r ≡ (let y : Ran = record { frames = r.frames; muted = r.muted; unsent = r.unsent; units = x } in
+    subst (λ (x : ℕ). r ≡ (let y : SwapRan = record { frames = x; muted = m; unsent = u; units = n } in y)) a
+    (subst (λ (x : ℕ). r ≡ (let y : SwapRan = record { frames = r.frames; muted = x; unsent = u; units = n } in y)) b
+    (subst (λ (x : ℕ). r ≡ (let y : SwapRan = record { frames = r.frames; muted = r.muted; unsent = x; units = n }
+    in y)) d
+    (subst (λ (x : ℕ). r ≡ (let y : SwapRan = record {
+      frames = r.frames;
+      muted = r.muted;
+      unsent = r.unsent;
+      units
+          = x;
+    } in
     y)) e refl)))
 
 module _ (front : DueFront) (follow : DueFollow) (law : CompleteLaw) (rises : CountRises) (slot : SlotLength)

@@ -18,7 +18,7 @@ use Rattle.feed_merge.proofs.NumberLemmas.{above_append, below_append}
 use Rattle.swap_run.specs.Laws.{MustRun, OneRun, RunEnds}
 use Rattle.swap_run.specs.SwapRun.{WantBad, SwapsAll, HasNone, MeetsBad, HasLate, slots_of, units_of, complete_of}
 use Rattle.swap_run.specs.SwapRun.{counted}
-use Rattle.swap_run.specs.declared.stop.Ran.{Ran}
+use Rattle.swap_run.specs.declared.stop.SwapRan.{SwapRan}
 use Rattle.swap_run.specs.declared.stop.SwapStop.{SwapStop}
 use Rattle.swap_run.specs.declared.stop.SwapStop.TheVariants.{NoSuperframe, InputRefused, TooManyFrames}
 use Rattle.swap_run.proofs.GoLemmas.{slots_rise}
@@ -100,14 +100,14 @@ want_more rises slot c plp file xs bs more plan lt e want =
 
 module _ (rises : CountRises) (slot : SlotLength) (c : Config) (plp : ℕ) (files : ℕ → List ℕ) (plan : IsPlan c)
     (lt : plp < length c.plps) where
-  all_none : (ran : Ran) (bytes other : List ℕ) → SwapsAll c plp files ran bytes → HasNone c files other → ⊥
+  all_none : (ran : SwapRan) (bytes other : List ℕ) → SwapsAll c plp files ran bytes → HasNone c files other → ⊥
   all_none ran bytes other a n = a.some n.none
 
-  all_bad : (ran : Ran) (packet : ℕ) (bytes other : List ℕ) → SwapsAll c plp files ran bytes
+  all_bad : (ran : SwapRan) (packet : ℕ) (bytes other : List ℕ) → SwapsAll c plp files ran bytes
       → MeetsBad c plp files packet other → ⊥
   all_bad ran packet bytes other a m = a.whole m.bad
 
-  all_late : (ran : Ran) (bytes other : List ℕ) → SwapsAll c plp files ran bytes → HasLate c plp files other → ⊥
+  all_late : (ran : SwapRan) (bytes other : List ℕ) → SwapsAll c plp files ran bytes → HasLate c plp files other → ⊥
   all_late ran bytes other a h = not_late h.before h.late h.after (subst AreEarly h.parts a.early) h.number
 
   none_bad : (packet : ℕ) (bytes other : List ℕ) → HasNone c files bytes → MeetsBad c plp files packet other → ⊥
@@ -133,7 +133,8 @@ module _ (rises : CountRises) (slot : SlotLength) (c : Config) (plp : ℕ) (file
           h.unwanted (want_more rises slot c plp (files 1) (m.before ++ x ∷ []) h.before f.0 plan lt
           f.1 (wanted (some_is x after)))
 
-  one : (result other : Result Ran SwapStop) → MustRun c plp files result → MustRun c plp files other → result ≡ other
+  one : (result other : Result SwapRan SwapStop) → MustRun c plp files result → MustRun c plp files other
+      → result ≡ other
   one (Ok ran) (Ok other) a b = ap Ok (a.1.ran_is ∙ sym b.1.ran_is)
   one (Ok ran) (Err NoSuperframe) a b = absurd (all_none ran a.0 b.0 a.1 b.1)
   one (Ok ran) (Err (InputRefused packet)) a b = absurd (all_bad ran packet a.0 b.0 a.1 b.1)
@@ -158,7 +159,7 @@ one_run rises slot c plp files result other plan lt a b = one rises slot c plp f
 -- ---- and one at least
 
 abbrev HasEnd : Config → ℕ → (ℕ → List ℕ) → Type 0
-HasEnd c plp files = (result : Result Ran SwapStop) × MustRun c plp files result
+HasEnd c plp files = (result : Result SwapRan SwapStop) × MustRun c plp files result
 
 -- all were sent
 sent : (c : Config) (plp : ℕ) (files : ℕ → List ℕ) (before : List FrameRecord) → records_of c (files 0) ≢ []
@@ -187,7 +188,8 @@ sent c plp files before some parts early unwanted = elim (bad_or_not (files 1))
 
     ends : ¬ (HasBad (files 1)) → HasEnd c plp files
     ends none =
-        let ran : Ran = counted c plp (records_of c (files 0)) (packets_in (files 1)) (length (units_of c plp files)) in
+        let ran : SwapRan = counted c plp (records_of c (files 0)) (packets_in (files 1)) (length
+        (units_of c plp files)) in
         let bytes : List ℕ = joined (units_of c plp files) in
         let all : SwapsAll c plp files ran bytes =
         record { some = some; early = subst AreEarly (sym parts) early; whole = none; output = refl; ran_is = refl } in

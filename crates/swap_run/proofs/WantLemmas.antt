@@ -19,7 +19,7 @@ use Rattle.feed_merge.specs.FeedStandsFor.{waiting_of, fed_of}
 use Rattle.feed_merge.specs.FeedStandsFor as feed
 use Rattle.feed_merge.specs.Picks.{above_all}
 use Rattle.gateway_core.specs.InputSoFar.{Told}
-use Rattle.gateway_run.proofs.FileLemmas.{joined_length}
+use Rattle.ts_packet.proofs.FileLemmas.{joined_length}
 use Rattle.feed_merge.specs.Reading.{is_idle}
 use Rattle.feed_merge.proofs.StepLemmas.{idle_is}
 use Rattle.region_swap.specs.StandsFor.{wants_of}

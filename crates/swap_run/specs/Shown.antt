@@ -6,7 +6,7 @@ use Rattle.plp_config.specs.Capacity.{IsPlan}
 use Rattle.plp_config.specs.SlotTime.{slots_by}
 use Rattle.plp_config.specs.declared.config.Config.{Config}
 use Rattle.plp_config.specs.declared.moment.TheConstants.{MOST_FRAMES}
-use Rattle.ts_packet.specs.TsFile.{joined, begins_with_packet}
+use Rattle.ts_packet.specs.TsFile.{joined, begins_with_packet, ArePackets}
 use Rattle.ts_packet.specs.declared.sizes.TheConstants.{SYNC}
 use Rattle.terms.specs.Lists.{IsPrefix}
 use Rattle.frame_groups.specs.Modulated.{FrameRecord}
@@ -22,7 +22,6 @@ use Rattle.feed_merge.specs.FeedStandsFor.{waiting_of}
 use Rattle.feed_merge.specs.declared.feed.FrameFeed.{FrameFeed}
 use Rattle.feed_merge.specs.Picks.{above_all}
 use Rattle.gateway_core.specs.InputSoFar.{Told, Continues}
-use Rattle.gateway_run.specs.Holds.{ArePackets}
 use Rattle.feed_merge.specs.Fed.{NoneComes}
 use Rattle.feed_merge.specs.Both.{OfFeed}
 use Rattle.region_swap.specs.StandsFor.{SwapperStandsFor, Status, status_of, has_unit, is_fed, left_for, bytes_left}

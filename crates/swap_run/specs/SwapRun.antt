@@ -5,7 +5,7 @@ use Rattle.std.specs.Prelude.{take, slice_index, Ok, Err}
 use Rattle.plp_config.specs.SlotTime.{slots_by}
 use Rattle.plp_config.specs.declared.config.Config.{Config}
 use Rattle.plp_config.specs.declared.moment.TheConstants.{MOST_FRAMES}
-use Rattle.ts_packet.specs.TsFile.{packets_in, HasBad, joined}
+use Rattle.ts_packet.specs.TsFile.{packets_in, HasBad, joined, ReadsNoBad}
 use Rattle.ts_packet.specs.declared.sizes.TheConstants.{SIZE}
 use Rattle.t2mi_stream.specs.Complete.{complete_units}
 use Rattle.t2mi_stream.specs.Pipe.{pipe}
@@ -15,14 +15,13 @@ use Rattle.modulator.specs.StandsFor.{records_due, records_of}
 use Rattle.stream_laws.specs.Remade.{remade_packets}
 use Rattle.feed_merge.specs.Picks.{above_all}
 use Rattle.feed_merge.specs.Fed.{AreEarly}
-use Rattle.gateway_run.specs.GatewayRun.{ReadsNoBad}
 use Rattle.region_swap.specs.Swapped.{swapped, frames_in}
 use Rattle.file_run.specs.Reading.{longest_file}
 use Rattle.file_run.specs.FileRun.{read_ahead}
 use Rattle.file_run.specs.Work.{Work, AreWhole}
 use Rattle.file_run.specs.declared.stop.RunFault.TheVariants.{TooLong, ReadFault, WriteFault}
 use Rattle.file_run.specs.declared.stop.RunStop.TheVariants.{Refused, Files, OutOfMemory}
-use Rattle.swap_run.specs.declared.stop.Ran.{Ran}
+use Rattle.swap_run.specs.declared.stop.SwapRan.{SwapRan}
 use Rattle.swap_run.specs.declared.stop.SwapStop.{SwapStop}
 use Rattle.swap_run.specs.declared.stop.SwapStop.TheVariants.{NoSuperframe, InputRefused, TooManyFrames}
 
@@ -46,7 +45,7 @@ slots_of c plp records = slots_by c plp ((above_all records - 1) * c.ticks)
 
 -- what a run counts: frames, muted records, the packets of the slots that are not over when the last frame begins, and
 -- units
-abbrev pub counted : Config → ℕ → List FrameRecord → List (List ℕ) → ℕ → Ran
+abbrev pub counted : Config → ℕ → List FrameRecord → List (List ℕ) → ℕ → SwapRan
 counted c plp records packets units = record {
   frames = length (frames_in c records);
   muted = length records - length (frames_in c records);
@@ -62,7 +61,7 @@ WantBad c plp file records = HasBad file × (length (packets_in file) < slots_of
 
 -- The first file has a record and no late one, the second no bad packet; the output is all units, and these are the
 -- numbers.
-pub record SwapsAll (c : Config) (plp : ℕ) (files : ℕ → List ℕ) (ran : Ran) (bytes : List ℕ) : Type 0 where
+pub record SwapsAll (c : Config) (plp : ℕ) (files : ℕ → List ℕ) (ran : SwapRan) (bytes : List ℕ) : Type 0 where
   pub some : records_of c (files 0) ≢ []
   pub early : AreEarly (records_of c (files 0))
   pub whole : ¬ (HasBad (files 1))
@@ -196,7 +195,7 @@ pub record HasNearly (c : Config) (plp input : ℕ) (files : ℕ → List ℕ) (
 -- What a run tells, by its cause. A record that none may have waits, or a bad packet was met: then of the second file
 -- no more was read than the frame wants that comes next, or those before the record, and of the first no more than its
 -- record wants.
-abbrev pub swap_work : Config → ℕ → Work Ran SwapStop
+abbrev pub swap_work : Config → ℕ → Work SwapRan SwapStop
 swap_work c plp files (Ok ran) places bytes = AreWhole files places × SwapsAll c plp files ran bytes
 swap_work c plp files (Err (Refused NoSuperframe)) places bytes =
     (slice_index places 0 ≡ length (files 0)) × (slice_index places 1 ≡ 0) × HasNone c files bytes

@@ -10,4 +10,4 @@ mod swapping;
 
 pub use laws::{one_run_law, run_ends_law};
 pub use running::run;
-pub use stop::{Ran, SwapStop};
+pub use stop::{SwapRan, SwapStop};

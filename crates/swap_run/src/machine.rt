@@ -1,11 +1,12 @@
 // The swapper as a machine between files.
 use crate::phase::Phase;
-use crate::stop::{Ran, SwapStop};
+use crate::stop::{SwapRan, SwapStop};
 use bit_slice::OutOfMemory;
 use feed_merge::FrameFeed;
 use file_run::{Ending, Machine, Step, events_law};
 use modulator::due_records_law;
 use plp_config::{Plan, length_law, slot_time_law};
+use ports::Desk;
 use region_swap::Swapper;
 use std::alloc::Global;
 use ts_packet::SIZE;
@@ -26,7 +27,7 @@ pub struct SwapMachine<'p> {
     pub ended: bool,
     pub draining: bool,
     pub phase: Phase,
-    pub ran: Ran,
+    pub ran: SwapRan,
 }
 
 impl<'p> Machine for SwapMachine<'p> {
@@ -94,18 +95,23 @@ impl<'p> Machine for SwapMachine<'p> {
             _ => self.give_rest(out.first_chunk_mut().unwrap()),
         }
     }
+
+    // Which frames of the stream have a timestamp of another moment.
+    fn note<D: Desk>(&self, desk: &mut D) {
+        self.feed.note(desk, 0);
+    }
 }
 
 impl<'p> Ending for SwapMachine<'p> {
     ghost use Rattle.swap_run.specs.AsMachine.{ending_of};
 
-    type Ran = Ran;
+    type Ran = SwapRan;
 
     type Stop = SwapStop;
 
     ghost ending = { ending_of };
 
-    fn ending(&self) -> Result<Ran, SwapStop> {
+    fn ending(&self) -> Result<SwapRan, SwapStop> {
         match self.phase {
             Phase::Stopped(why) => Err(why),
             _ => Ok(self.ran),
@@ -141,7 +147,7 @@ impl<'p> SwapMachine<'p> {
             ended: false,
             draining: false,
             phase: Phase::Records,
-            ran: Ran {
+            ran: SwapRan {
                 frames: 0,
                 muted: 0,
                 unsent: 0,

@@ -5,7 +5,7 @@ ghost use Rattle.feed_merge.specs.Fed.{names_of};
 ghost use Rattle.swap_run.specs.SwapRun.{swap_work};
 
 use crate::machine::SwapMachine;
-use crate::stop::{Ran, SwapStop};
+use crate::stop::{SwapRan, SwapStop};
 use file_run::{Output, RunStop, run_over_two};
 use modulator::due_records_law;
 use plp_config::{Plan, length_law, slot_time_law};
@@ -26,7 +26,7 @@ pub fn run<D: Desk>(
     input: &str,
     out: &str,
     desk: &mut D,
-) -> Result<Ran, RunStop<SwapStop>>
+) -> Result<SwapRan, RunStop<SwapStop>>
     requires place { plp < length plan.now.plps }
     requires apart_t2mi { t2mi.now ≢ out.now }
     requires apart_input { input.now ≢ out.now }
@@ -38,7 +38,5 @@ pub fn run<D: Desk>(
     slot_time_law();
     length_law();
     let mut machine = SwapMachine::open(alloc, plan, plp)?;
-    let ended = run_over_two(alloc, &mut machine, t2mi, input, Output::File(out), desk);
-    machine.feed.note(desk);
-    ended
+    run_over_two(alloc, &mut machine, t2mi, input, Output::File(out), desk)
 }

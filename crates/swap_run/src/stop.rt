@@ -5,7 +5,7 @@ use thiserror::Error;
 
 /// A run to its end.
 #[derive(Clone, Copy, Debug, PartialEq, Eq)]
-pub struct Ran {
+pub struct SwapRan {
     /// How many frames were sent on.
     pub frames: u64,
     /// How many other records there were: those of muted frames.
@@ -16,7 +16,7 @@ pub struct Ran {
     pub units: u64,
 }
 
-impl Ran {
+impl SwapRan {
     // Counts units.
     pub(crate) fn add_units(&mut self, count: usize)
         requires few { self.old.units + count < 2 ^ 64 }

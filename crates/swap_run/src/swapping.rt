@@ -20,12 +20,11 @@ use crate::stop::SwapStop;
 use feed_merge::is_idle;
 use file_run::{AHEAD, Step, events_law};
 use frame_groups::Waiting;
-use gateway_run::front_packet;
 use modulator::due_records_law;
 use plp_config::{MOST_FRAMES, block_law, length_law, slot_time_law};
 use record_laws::fit_law;
 use stream_laws::formed_law;
-use ts_packet::{SIZE, SYNC};
+use ts_packet::{SIZE, SYNC, TsPacket};
 
 // No more packets than these are to wait.
 const PACKETS: u64 = 1 << 30;
@@ -109,7 +108,7 @@ impl<'p> SwapMachine<'p> {
         ensures reach { (other : ℕ) → reach_of self.old other ≤ reach_of self.new other }
     {
         events_law();
-        let packet = front_packet(bytes);
+        let packet = TsPacket::front_of(bytes);
         if packet.as_array()[0] != SYNC {
             self.refuse();
             return;
@@ -130,7 +129,7 @@ impl<'p> SwapMachine<'p> {
         ensures reach { (other : ℕ) → reach_of self.old other ≤ reach_of self.new other }
     {
         events_law();
-        let packet = front_packet(bytes);
+        let packet = TsPacket::front_of(bytes);
         if packet.as_array()[0] != SYNC {
             self.refuse();
             return;

@@ -25,9 +25,9 @@ use Rattle.file_run.proofs.WorkLemmas.{told_of, works_of}
 use Rattle.gateway_run.specs.GatewayRun.{frames_of, units_of, inputs_of, gateway_work}
 use Rattle.modulate_run.specs.Counted.{counted}
 use Rattle.modulate_run.specs.ModulateRun.{modulate_work, output_of}
-use Rattle.modulate_run.specs.declared.stop.Ran.{Ran}
+use Rattle.modulate_run.specs.declared.stop.ModulateRan.{ModulateRan}
 use Rattle.receive_run.specs.ReceiveRun.{HasAll, receive_work}
-use Rattle.receive_run.specs.declared.stop.Ran.{Ran as Received}
+use Rattle.receive_run.specs.declared.stop.ReceiveRan.{ReceiveRan}
 use Rattle.trial_run.specs.Stages.{HasFile, HasInputs, IsSent, input_names}
 use Rattle.trial_run.specs.Trial.{ComesOf}
 use Rattle.trial_run.specs.declared.stages.Sent.{Sent}
@@ -115,7 +115,8 @@ written old new out ins places Has h holds works =
       has = left.2.2;
     }
 
-pub modulated : (c : Config) (old new : State) (name out stream records : List ℕ) (ran : Ran) → HasFile old name stream
+pub modulated : (c : Config) (old new : State) (name out stream records : List ℕ) (ran : ModulateRan)
+    → HasFile old name stream
     → Ends (modulate_work c) old new (Into out) (name ∷ []) (Ok ran) → records ≡ unwrap_or (file_of new out) []
     → (records ≡ output_of c stream) × (ran ≡ counted (records_of c stream))
 modulated c old new name out stream records ran has (same, d) is =
@@ -127,7 +128,7 @@ modulated c old new name out stream records ran has (same, d) is =
     let counts = rw has.holds at ran_is in
     (is ∙ left.is ∙ left.has ∙ ap (output_of c) has.is, counts ∙ ap (λ (s : List ℕ). counted (records_of c s)) has.is)
 
-pub received : (c : Config) (plp : ℕ) (old new : State) (name out records bytes : List ℕ) (ran : Received)
+pub received : (c : Config) (plp : ℕ) (old new : State) (name out records bytes : List ℕ) (ran : ReceiveRan)
     → HasFile old name records
     → Ends (receive_work c plp) old new (Into out) (name ∷ []) (Ok ran) → bytes ≡ unwrap_or (file_of new out) []
     → ComesOf c plp records bytes

@@ -15,9 +15,9 @@ use Rattle.common_plp.specs.Sharing.{Apart}
 use Rattle.gateway_run.specs.GatewayRun.{frames_of, units_of}
 use Rattle.modulate_run.specs.Counted.{counted}
 use Rattle.modulate_run.specs.ModulateRun.{output_of}
-use Rattle.modulate_run.specs.declared.stop.Ran.{Ran}
+use Rattle.modulate_run.specs.declared.stop.ModulateRan.{ModulateRan}
 use Rattle.receive_run.specs.ReceiveRun.{HasAll}
-use Rattle.receive_run.specs.declared.stop.Ran.{Ran as Received}
+use Rattle.receive_run.specs.declared.stop.ReceiveRan.{ReceiveRan}
 use Rattle.trial_run.specs.Counts.{AreCut, filled_packets, same_count}
 use Rattle.trial_run.specs.Losses.{kept_from}
 use Rattle.trial_run.specs.TrialInput.{input_of, start_of}
@@ -41,17 +41,17 @@ stream_line frames units stream = codes "frames=" ++ decimal frames ++ codes " u
     ++ crc_word stream ++ codes "\n"
 
 -- of a modulator: the number of its first record, how many there are, and how many of them are muted
-abbrev pub records_part : Ran → List ℕ
+abbrev pub records_part : ModulateRan → List ℕ
 records_part ran = codes " first=" ++ decimal ran.first ++ codes " records=" ++ decimal ran.records ++ codes " muted="
     ++ decimal ran.muted
 
 -- the line of the one that reads all, with the CRC-32 of its records
-abbrev pub whole_line : Ran → List ℕ → List ℕ
+abbrev pub whole_line : ModulateRan → List ℕ → List ℕ
 whole_line ran records = codes "a" ++ records_part ran ++ codes " crc=" ++ crc_word records ++ codes "\n"
 
 -- the line of the one that loses units, which tells how many of its records of frames are also among those of the other
 -- one
-abbrev pub lossy_line : Ran → ℕ → List ℕ → List ℕ
+abbrev pub lossy_line : ModulateRan → ℕ → List ℕ → List ℕ
 lossy_line ran same records = codes "b" ++ records_part ran ++ codes " same=" ++ decimal same ++ codes " crc="
     ++ crc_word records
     ++ codes "\n"
@@ -66,7 +66,7 @@ plp_line id input whole lossy = codes "plp=" ++ decimal id ++ codes " packets=" 
 
 -- These bytes are what a PLP is given back of a file of records.
 abbrev pub ComesOf : Config → ℕ → List ℕ → List ℕ → Type 0
-ComesOf c plp records bytes = (ran : Received) × HasAll c plp ran records bytes
+ComesOf c plp records bytes = (ran : ReceiveRan) × HasAll c plp ran records bytes
 
 -- This is the line of the PLP at a place.
 pub record IsPlpLine (c : Config) (frames seed plp : ℕ) (line : List ℕ) : Type 0 where

@@ -9,6 +9,7 @@ use crate::counts::filled_packets;
 use crate::stages::{Modulated, Sent};
 use bit_slice::{BitSlice, OutOfMemory, crc32};
 use file_run::Line;
+use modulate_run::ModulateRan;
 
 // Digits of a number at most: those of 2^64 - 1.
 const DIGITS: usize = 20;
@@ -50,7 +51,7 @@ pub fn stream_line(sent: &Sent) -> Result<Line, OutOfMemory>
 }
 
 // The numbers of a modulator's records.
-fn push_records(line: &mut Line, ran: &modulate_run::Ran)
+fn push_records(line: &mut Line, ran: &ModulateRan)
     requires { length line.old + RECORDS_ROOM ≤ ROOM }
     ensures text { line.new ≡ line.old ++ records_part ran.now }
     ensures len { length line.new ≤ length line.old + RECORDS_ROOM }

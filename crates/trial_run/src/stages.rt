@@ -17,8 +17,11 @@ ghost use Rattle.trial_run.specs.Trial.{ComesOf};
 use crate::stop::TrialStop;
 use bit_slice::OutOfMemory;
 use gateway_core::front_law;
+use gateway_run::GatewayRan;
+use modulate_run::ModulateRan;
 use plp_config::Plan;
 use ports::{MemoryDesk, Word};
+use receive_run::ReceiveRan;
 use std::alloc::Global;
 
 // What a run reads, and what it writes.
@@ -30,14 +33,14 @@ const OUT: &str = "out";
 #[derive(Drop)]
 pub struct Sent {
     pub stream: Vec<u8>,
-    pub ran: gateway_run::Ran,
+    pub ran: GatewayRan,
 }
 
 /// What a run of a modulator writes, and its numbers.
 #[derive(Drop)]
 pub struct Modulated {
     pub records: Vec<u8>,
-    pub ran: modulate_run::Ran,
+    pub ran: ModulateRan,
 }
 
 // A desk with one file.
@@ -79,11 +82,7 @@ fn names_of_inputs(alloc: Global) -> Result<[Word; 3], OutOfMemory>
     ])
 }
 
-fn run_gateway(
-    alloc: Global,
-    plan: &Plan,
-    desk: &mut MemoryDesk,
-) -> Result<gateway_run::Ran, TrialStop>
+fn run_gateway(alloc: Global, plan: &Plan, desk: &mut MemoryDesk) -> Result<GatewayRan, TrialStop>
     requires plps { length plan.now.plps ≡ 3 }
     ensures { IfOk result (λ ran.
         Ends (gateway_work Apart plan.now) desk.old.state desk.new.state (Into (codes "out")) input_names (Ok ran)) }
@@ -110,7 +109,7 @@ fn run_modulator(
     alloc: Global,
     plan: &Plan,
     desk: &mut MemoryDesk,
-) -> Result<modulate_run::Ran, TrialStop>
+) -> Result<ModulateRan, TrialStop>
     ensures { IfOk result (λ ran.
         Ends (modulate_work plan.now) desk.old.state desk.new.state (Into (codes "out")) (codes "in" ∷ []) (Ok ran)) }
 {
@@ -133,7 +132,7 @@ fn run_receiver(
     plan: &Plan,
     plp: usize,
     desk: &mut MemoryDesk,
-) -> Result<receive_run::Ran, TrialStop>
+) -> Result<ReceiveRan, TrialStop>
     requires inside { plp < length plan.now.plps }
     ensures { IfOk result (λ ran.
         Ends (receive_work plan.now plp) desk.old.state desk.new.state (Into (codes "out")) (codes "in" ∷ [])

@@ -4,3 +4,4 @@ pub mod LawLemmas
 pub mod WritingLemmas
 pub mod ToldLemmas
 pub mod JoinedLemmas
+pub mod FileLemmas

@@ -1,7 +1,7 @@
 -- Files of transport packets that stand back to back (ISO/IEC 13818-1, clause 2.4.3).
-use Rattle.std.specs.Prelude.{◌≢◌, ℕ, zero, suc, ◌*◌, ◌==◌, ◌&&◌, nat_le, Bool, List, [], ◌∷◌, length, take, drop}
-use Rattle.std.specs.Prelude.{slice_index}
-use Rattle.std.specs.Prelude.{flat_map, if◌then◌else◌}
+use Rattle.std.specs.Prelude.{◌≡◌, ◌≢◌, ℕ, zero, suc, ◌+◌, ◌*◌, ◌<◌, ◌==◌, ◌&&◌, nat_le, Bool, List, [], ◌∷◌, length}
+use Rattle.std.specs.Prelude.{take, drop, slice_index, flat_map, if◌then◌else◌}
+use Rattle.std.specs.List.{AllByRecursion}
 use Rattle.ts_packet.specs.declared.sizes.TheConstants.{SIZE, SYNC}
 
 -- A packet stands at the front: there are enough bytes, and the first is the sync byte.
@@ -29,3 +29,12 @@ HasBad file = left_in file ≢ []
 -- packets, joined
 abbrev pub joined : List (List ℕ) → List ℕ
 joined packets = flat_map (λ packet. packet) packets
+
+-- Each is a packet of a file.
+abbrev pub ArePackets : List (List ℕ) → Type 0
+ArePackets packets = AllByRecursion (λ p. (length p ≡ SIZE) × (slice_index p 0 ≡ SYNC)) packets
+
+-- Behind the packets of a file, up to its first bad one, fewer bytes were read than a packet has: so no bad packet was
+-- read whole.
+abbrev pub ReadsNoBad : List ℕ → ℕ → Type 0
+ReadsNoBad file place = place < SIZE * (length (packets_in file) + 1)

@@ -1,5 +1,5 @@
 // A transport packet as its bytes.
-ghost use Rattle.std.specs.Prelude.{◌≡◌, length};
+ghost use Rattle.std.specs.Prelude.{◌≡◌, ◌≤◌, length, take};
 ghost use Rattle.ts_packet.specs.Null.{is_null, null_packet};
 
 use crate::header::{field_at, header_of};
@@ -31,6 +31,14 @@ impl TsPacket {
         ensures { result ≡ bytes }
     {
         TsPacket { bytes }
+    }
+
+    /// The packet at the front of these bytes, which are at least `SIZE`.
+    pub fn front_of(bytes: &[u8]) -> TsPacket
+        requires { SIZE ≤ length bytes.now }
+        ensures { result ≡ take SIZE bytes.now }
+    {
+        TsPacket::from_array(*bytes.first_chunk().unwrap())
     }
 
     /// The bytes of the packet.

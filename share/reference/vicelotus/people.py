@@ -23,8 +23,12 @@ WHOLE = (
     "its units are whole, and their counters fit: bytes in them were damaged, 16 of them or a multiple were lost, or it was so "
     "before it became units"
 )
+NO_PACKETS = (
+    "; packets of 192 or 204 bytes, bytes lost, or no transport stream: share/cut/cut.py in front makes whole packets"
+)
 OTHER_MOMENTS = (
-    "timestamps are of other moments: if 16 superframes or more were lost in a row, frames behind the loss stand at wrong moments; "
+    "timestamps are of other moments: if 16 superframes or more were lost in a row, or units came twice or out of order, "
+    "frames behind that stand at wrong moments; "
     "give what came behind it to another run"
 )
 ENDS_MUTED = (
@@ -97,15 +101,20 @@ class Units:
     def on_pid(self):
         return self.count - len(self.no_sync) - len(self.other)
 
+    def lacks_sync(self):
+        return len(self.no_sync) > self.count // 2
+
     def why_none(self):
         if self.count == 0:
             return "it has no unit of 188 bytes"
-        if len(self.no_sync) > self.count // 2:
-            return "most of its units do not begin with 0x47: it is no transport stream, begins inside a unit, or bytes were lost"
+        if self.lacks_sync():
+            return "most of its units do not begin with 0x47"
         if self.pid is None:
             return "CONFIG is not read twice, so it is not known which units are on its PID; `show t2mi` tells which PIDs come"
         if self.on_pid() == 0:
             return "none of its units is on the PID of CONFIG; `show t2mi` tells which PIDs come"
+        if len(self.idle) == self.on_pid():
+            return "all its units on the PID are idle: the feed was silent; see the link"
         if len(self.unread) + len(self.idle) == self.on_pid():
             return "all units on the PID are marked as wrong or scrambled, or have no payload"
         return "units come on the PID: their L1 or timestamps are not those of CONFIG, or no first frame of a superframe came whole"
@@ -125,8 +134,10 @@ class Units:
             if what.startswith("not") and self.slip:
                 line += (
                     f"; at byte {self.slip[0]} no unit begins, and one does {self.slip[1]} bytes on: bytes were lost or added before; "
-                    "units are counted from the front, so give what begins there to another run"
+                    "share/cut/cut.py in front goes on there"
                 )
+            elif what.startswith("not") and self.lacks_sync():
+                line += NO_PACKETS
         yield line
 
 
@@ -226,11 +237,13 @@ def of_receive(plan, desk, name, plp_id, is_joined):
         if own in followed and len(block) >= 10 and not has_header(block)
     ]
     count = len(found)
+    if not found:
+        yield f"{name}: it has no record; OUT is empty"
     if muted:
         yield f"{name}: muted frames: {len(muted)} of {count}, records {in_runs(muted)}, {NULLS_STAND}"
     if foreign:
         line = f"{name}: frames whose L1 is not that of CONFIG: {len(foreign)} of {count}"
-        yield f"{line}, records {in_runs(foreign)}, {NULLS_STAND}"
+        yield f"{line}, records {in_runs(foreign)}, {NULLS_STAND}; see that CONFIG is that of the network"
     if blocks:
         places = in_runs(sorted(set(blocks)))
         yield f"{name}: blocks whose header is damaged: {len(blocks)}, in records {places}, {NULLS_STAND}"
@@ -298,6 +311,12 @@ def of_mend(plan, desk, names):
         alone = [frame.number for frame in own if len(frame.wholes) == 1 and len(names) > 1]
         numbers = [frame.number for frame in own]
         yield from whole_frames(units.name, numbers, alone, len(sent), "no other IN had whole")
+    gaps = [range(one.number + 1, other.number) for one, other in zip(sent, sent[1:]) if one.number + 1 < other.number]
+    count = sum(map(len, gaps))
+    if count == 1:
+        yield f"frames that were not sent: 1: frame {gaps[0][0]} of CONFIG"
+    elif gaps:
+        yield f"frames that were not sent: {count}: the first is frame {gaps[0][0]} of CONFIG, the last frame {gaps[-1][-1]}"
 
 
 def of_swap(plan, desk, plp_id, t2mi, name):

@@ -1,9 +1,8 @@
 // The status with which each command ends, and the first line that tells people why.
 use super::{CONFIG, Outside, words_from};
-use crate::advice::advise;
-use crate::command::carry_out;
 use crate::exit_code;
 use bit_slice::OutOfMemory;
+use site_console::{advise, carry_out};
 use site_frame::RecordWhy;
 use site_top::Outcome;
 use std::fs::{self, Files};
@@ -143,7 +142,7 @@ struct Told {
 }
 
 #[rattlefmt::skip]
-static TOLD: [Told; 45] = [
+static TOLD: [Told; 46] = [
     Told { words: &["plan", "c"], outcome: Outcome::Done, begins: "" },
     Told { words: &[], outcome: Outcome::Usage, begins:
         "these words are no command\nusage:\n  site_cli gateway CONFIG OUT IN..\n" },
@@ -160,7 +159,7 @@ static TOLD: [Told; 45] = [
     Told { words: &["common", "receive", "c", "1", "i"], outcome: Outcome::Usage,
         begins: "these are too few words\nusage:\n  site_cli common receive CONFIG PLP IN OUT\n" },
     Told { words: &["common", "send", "c", "1", "i"], outcome: Outcome::Usage,
-        begins: "these words are no command\nusage:\n  site_cli common gateway CONFIG OUT IN..\n" },
+        begins: "common wants one of gateway, receive\nusage:\n  site_cli common gateway CONFIG OUT IN..\n" },
     Told { words: &["common", "receive", "c", "01", "i", "o"], outcome: Outcome::Usage, begins:
         "PLP must be a decimal number from 0 to 255, " },
     Told { words: &["receive", "c", "-1", "i", "o"], outcome: Outcome::Usage, begins:
@@ -176,8 +175,10 @@ static TOLD: [Told; 45] = [
         begins: "these words are no command\nusage:\n  site_cli receive CONFIG PLP IN OUT\n" },
     Told { words: &["gatway"], outcome: Outcome::Usage, begins:
         "these words are no command\nusage:\n  site_cli gateway CONFIG OUT IN..\n" },
-    Told { words: &["show", "t2m", "f"], outcome: Outcome::Usage,
-        begins: "these words are no command\nusage:\n  site_cli show config FILE\n" },
+    Told { words: &["show", "t2m", "f"], outcome: Outcome::Usage, begins:
+        "show wants one of config, packets, t2mi, frames\nusage:\n  site_cli show config FILE\n" },
+    Told { words: &["plan", ""], outcome: Outcome::Usage, begins:
+        "word 2 is empty or not UTF-8: the file wants another name\nusage:\n  site_cli plan CONFIG\n" },
     Told { words: &["marge"], outcome: Outcome::Usage, begins:
         "these words are no command\nusage:\n  site_cli merge CONFIG A B OUT\n" },
     Told { words: &["mod"], outcome: Outcome::Usage, begins:

@@ -1,8 +1,7 @@
 // What is told of the files of a run that is done.
 use super::{CONFIG, Outside, words_from};
-use crate::command::carry_out;
-use crate::front::front_of;
 use bit_slice::OutOfMemory;
+use site_console::{carry_out, front_of};
 use site_top::Outcome;
 use std::fs::{self, Files};
 use std::io;
@@ -63,7 +62,8 @@ two.ts: frames that it had whole: 4, of 4 that were sent; the last is frame 3 of
 two.ts: no frame was taken from it: two.ts had each of the 4 that it had whole
 " },
     Heard { words: &["merge", "two.txt", "two.ts", "two.none", "two.out"],
-        told: "two.ts: frames that it had whole: 4, of 4 that were sent; the last is frame 3 of CONFIG
+        told: "two.none: its frames are not whole from frame 0 of CONFIG on; the other has some of them whole
+two.ts: frames that it had whole: 4, of 4 that were sent; the last is frame 3 of CONFIG
 of these 4 the other had not whole: the first is frame 0 of CONFIG, the last frame 3
 two.none: no frame came from it: it has no unit of 188 bytes
 " },
@@ -71,7 +71,8 @@ two.none: no frame came from it: it has no unit of 188 bytes
         told: "two.ts: frames that it had whole: 4, of 4 that were sent; the last is frame 3 of CONFIG
 " },
     Heard { words: &["mend", "two.txt", "two.out", "two.none", "two.ts"],
-        told: "two.none: no frame came from it: it has no unit of 188 bytes
+        told: "two.none: its frames are not whole from frame 0 of CONFIG on; the other has some of them whole
+two.none: no frame came from it: it has no unit of 188 bytes
 two.ts: frames that it had whole: 4, of 4 that were sent; the last is frame 3 of CONFIG
 of these 4 no other IN had whole: the first is frame 0 of CONFIG, the last frame 3
 " },
@@ -93,7 +94,7 @@ struct Damaged {
 #[rattlefmt::skip]
 static DAMAGED: [Damaged; 2] = [
     Damaged { place: 24,
-        told: "two.damaged: frames whose L1 is not that of CONFIG: 1 of 4, records 0, counted from 0; null packets stand in OUT for what they carried\n" },
+        told: "two.damaged: frames whose L1 is not that of CONFIG: 1 of 4, records 0, counted from 0; null packets stand in OUT for what they carried; see that CONFIG is that of the network\n" },
     Damaged { place: 160_103 + 24 + 25 + 4 + 44 + 2 + 4,
         told: "two.damaged: blocks whose header is damaged: 1, in records 1, counted from 0; null packets stand in OUT for what they carried\n" },
 ];
@@ -173,7 +174,11 @@ fn it_is_told_what_came_of_each_file(rt: HostRuntime) -> Result<(), Fail> {
     assert!(rt; tells(&rt, &words, LOSS)?, "loss");
     let words = ["modulate", "two.txt", "two.ts", "two.out"];
     assert!(rt;
-        begins(&rt, &words, "\r\x1b[K0 frames, 0 kB/s, 0:00:00\r\x1b[K")?,
+        begins(
+            &rt,
+            &words,
+            "\r\x1b[K0 frames, 0 kB/s, 0:00:00, at 0:00:02 UTC\r\x1b[K"
+        )?,
         "progress"
     );
     remove_files(&rt)?;

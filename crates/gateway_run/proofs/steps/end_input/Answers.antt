@@ -5,7 +5,7 @@ use Rattle.gateway_run.specs.Holds.{Holds}
 use Rattle.gateway_run.specs.Phases.{frame_read}
 use Rattle.gateway_run.specs.Ready.{IsReady}
 use Rattle.gateway_run.specs.declared.place.Place.{Place}
-use Rattle.gateway_run.proofs.FileLemmas.{no_short}
+use Rattle.ts_packet.proofs.FileLemmas.{no_short}
 use Rattle.gateway_run.proofs.TakeLemmas.{input_ended, ended_stopped, met_bad, some_bytes}
 use Rattle.gateway_run.proofs.PhaseLemmas.{looked_read}
 use Rattle.gateway_run.proofs.ReadyLemmas.{ready_on}

@@ -6,8 +6,8 @@ use Rattle.gateway_run.specs.Holds.{Holds}
 use Rattle.gateway_run.specs.Phases.{frame_read}
 use Rattle.gateway_run.specs.Ready.{IsReady}
 use Rattle.gateway_run.specs.declared.place.Place.{Place}
-use Rattle.gateway_run.proofs.FileLemmas.{no_sync}
-use Rattle.gateway_run.proofs.TakeLemmas.{packet_offered, fed_stopped, met_bad, some_taken}
+use Rattle.ts_packet.proofs.FileLemmas.{no_sync, some_taken}
+use Rattle.gateway_run.proofs.TakeLemmas.{packet_offered, fed_stopped, met_bad}
 use Rattle.gateway_run.proofs.PhaseLemmas.{looked_read}
 use Rattle.gateway_run.proofs.ReadyLemmas.{ready_on}
 use Rattle.gateway_run.proofs.WaitingLemmas.{waits}
@@ -17,7 +17,7 @@ pub returns-then-as_array-ne-SYNC-clause-holds : goal.returns-then-as_array-ne-S
 returns-then-as_array-ne-SYNC-clause-holds g c = λ done h.
     let way = g.G.FrameGateway.sharing in
     let s = g.G.FrameGateway.seen c.args.gateway.now c.args.plan.now in
-    let first = ap (λ (l : List ℕ). slice_index_or l 0 0) (c.as_array.ensures.bytes ∙ c.front_packet-packet.ensures) in
+    let first = ap (λ (l : List ℕ). slice_index_or l 0 0) (c.as_array.ensures.bytes ∙ c.front_of-packet.ensures) in
     let some = some_taken _ c.requires.long in
     let w = waits way c.args.plan.now s _ c.args.place c.args.ran c.requires.ready done c.requires.wants in
     let m = met_bad way c.args.plan.now done s.stands c.args.place c.args.ran (s.wants c.args.place.input)
@@ -38,10 +38,10 @@ returns-clause-holds g c = λ done h.
     c.args.ran) (sym c.place_by.ensures)
     (packet_offered way c.events_law.ensures c.args.plan.now done s.stands next.stands c.args.place c.offer.result
     c.args.ran
-    (s.wants c.args.place.input) c.front_packet-packet.result (take SIZE c.args.bytes.now)
+    (s.wants c.args.place.input) c.front_of-packet.result (take SIZE c.args.bytes.now)
     (waits way c.args.plan.now s _ c.args.place c.args.ran c.requires.ready done c.requires.wants)
-    c.front_packet-packet.ensures
-    (ap length c.front_packet-packet.ensures ∙ length-take-le SIZE c.args.bytes.now c.requires.long)
+    c.front_of-packet.ensures
+    (ap length c.front_of-packet.ensures ∙ length-take-le SIZE c.args.bytes.now c.requires.long)
     (let a = c.as_array.ensures.bytes in let f = c.if-as_array-ne-SYNC.false in cc) c.offer.ensures.stands h)
 
 pub returns-then-as_array-ne-SYNC-clause-read : goal.returns-then-as_array-ne-SYNC-clause-read

@@ -8,9 +8,9 @@ returns c =
       rise = c.rise_law.ensures;
       near = c.near_law.ensures;
       comes = c.mend_law.ensures;
-      honest = c.honest_feeds_law.ensures.damaged;
-      come = c.woven_frames_law.ensures.damaged;
-      survive = c.woven_frames_law.ensures.streams;
-      none_lost = c.woven_frames_law.ensures.none_lost;
-      whole = c.whole_feed_law.ensures.damaged;
+      honest = c.feeds_law.ensures.damaged;
+      come = c.feeds_law.ensures.come_damaged;
+      survive = c.feeds_law.ensures.survive;
+      none_lost = c.feeds_law.ensures.none_lost;
+      whole = c.feeds_law.ensures.whole_damaged;
     })

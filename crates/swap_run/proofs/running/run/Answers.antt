@@ -1,6 +1,5 @@
-use Rattle.std.proofs.Common.{ℕ, subst, sym}
+use Rattle.std.proofs.Common.{ℕ, subst}
 use Rattle.plp_config.specs.declared.config.Config.{Config}
-use Rattle.ports.specs.Desk.{State}
 use Rattle.file_run.specs.Work.{Ends, Into}
 use Rattle.file_run.proofs.WorkLemmas.{ends_so}
 use Rattle.feed_merge.specs.Fed.{names_of}
@@ -11,10 +10,7 @@ use Rattle.swap_run.proofs.running.run.Goals as goal
 pub returns : goal.returns
 returns g c =
     let old = g.D.Desk.state c.args.desk.now in
-    let out = Into c.args.out.now in
-    let ins = names_of c.args.t2mi.now c.args.input.now in
-    let ended = c.run_over_two-ended in
-    let new = g.D.Desk.state ended.new.desk in
+    let new = g.D.Desk.state c.run_over_two.new.desk in
     let law : Laws = record {
       front = c.due_records_law.ensures.front;
       follow = c.due_records_law.ensures.follow;
@@ -25,11 +21,11 @@ returns g c =
     } in
     let machine = c.in_ok-machine.machine in
     record {
-      ends = subst (λ (last : State). Ends (swap_work c.args.plan.now c.args.plp) old last out ins ended.result)
-          (sym c.note.ensures)
-          (subst (λ (p : ℕ). Ends (swap_work c.args.plan.now p) old new out ins ended.result)
-          c.in_ok-machine.ensures.place
-          (subst (λ (k : Config). Ends (swap_work k (plp_of machine)) old new out ins ended.result)
-          c.in_ok-machine.ensures.plan
-          (ends_so _ _ _ _ _ _ _ _ _ _ (swap_does law machine) ended.result ended.ensures)));
+      ends = subst (λ (p : ℕ). Ends (swap_work c.args.plan.now p) old new (Into c.args.out.now)
+          (names_of c.args.t2mi.now c.args.input.now)
+          c.run_over_two.result) c.in_ok-machine.ensures.place
+          (subst (λ (k : Config). Ends (swap_work k (plp_of machine)) old new (Into c.args.out.now)
+          (names_of c.args.t2mi.now c.args.input.now)
+          c.run_over_two.result) c.in_ok-machine.ensures.plan
+          (ends_so _ _ _ _ _ _ _ _ _ _ (swap_does law machine) c.run_over_two.result c.run_over_two.ensures));
     }

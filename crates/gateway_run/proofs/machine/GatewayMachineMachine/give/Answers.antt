@@ -1,10 +1,6 @@
-use Rattle.std.proofs.Common.{ap, arith, ℕ, List, [], ◌∷◌, ◌++◌, drop, sym, subst}
-use Rattle.std.proofs.lemmas.List.{take-append-le}
-use Rattle.ts_packet.specs.declared.sizes.TheConstants.{SIZE}
+use Rattle.std.proofs.Common.{ap, arith}
 use Rattle.common_plp.specs.Inputs.{place_of}
-use Rattle.file_run.specs.Events.{Gave}
 use Rattle.gateway_run.specs.Phases.{frame_read}
-use Rattle.gateway_run.specs.Holds.{Holds}
 use Rattle.gateway_run.specs.declared.place.Phase.{Phase}
 use Rattle.gateway_run.proofs.GiveLemmas.{nothing_gave}
 use Rattle.gateway_run.proofs.MachineLemmas.{reach_more}
@@ -29,18 +25,9 @@ pub returns : goal.returns
 returns g c =
     let m = c.args.self.now in
     let e = c.give.ensures in
-    let front = take-append-le c.give.result c.give.new.unit (drop SIZE c.args.out.now) e.count in
     record {
-      count = (let n = e.count in let w = e.whole in let r = c.requires.room in omega (arith, n, w, r));
-      becomes =
-          λ start events h. (
-            h.0,
-            subst
-                (λ (l : List ℕ). Holds g.G.FrameGateway.sharing m.plan.now (events ++ Gave l ∷ [])
-                (g.G.FrameGateway.seen c.give.new.gateway m.plan.now).stands c.give.new.place c.give.new.ran)
-                (sym front)
-                (e.holds events h.1),
-          );
+      count = e.count;
+      becomes = λ start events h. (h.0, e.holds events h.1);
       left = e.left;
       reach = λ other. reach_more m.plan.now (place_of g.G.FrameGateway.sharing m.plan.now other) _ _ e.read;
     }

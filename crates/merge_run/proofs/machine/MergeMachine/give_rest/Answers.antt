@@ -3,7 +3,7 @@ use Rattle.std.proofs.lemmas.List.{take_all}
 use Rattle.ts_packet.specs.declared.sizes.TheConstants.{SIZE}
 use Rattle.file_run.specs.Events.{Gave}
 use Rattle.merge_run.specs.Shown.{Shown, HasShown}
-use Rattle.merge_run.specs.declared.stop.Ran.{Ran}
+use Rattle.merge_run.specs.declared.stop.MergeRan.{MergeRan}
 use Rattle.feed_merge.proofs.BothCameLemmas.{less_of, test_of}
 use Rattle.merge_run.proofs.GiveLemmas.{resting, few_units, shown_rest, left_rest, shown_done, left_done}
 use Rattle.merge_run.proofs.machine.MergeMachine.give_rest.Goals as goal
@@ -17,7 +17,7 @@ returns-then-rest-clause-shown c = λ k events s.
     let on = c.if-rest.true in
     subst (λ (l : List ℕ). Shown k (events ++ Gave l ∷ []) (record m { merger = g; ran = c.add_units.new.self }))
     (sym (take_all SIZE unit (omega (arith, c.rest.array_long))))
-    (subst (λ (r : Ran). Shown k (events ++ Gave unit ∷ []) (record m { merger = g; ran = r }))
+    (subst (λ (r : MergeRan). Shown k (events ++ Gave unit ∷ []) (record m { merger = g; ran = r }))
     (sym c.add_units.ensures)
     (shown_rest c.events_law.ensures k m g events unit s c.requires.rests n.config n.finished n.fed (n.unit on)
     (n.stands on) (n.less on)))

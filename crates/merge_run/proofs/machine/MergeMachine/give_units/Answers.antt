@@ -8,7 +8,7 @@ use Rattle.feed_merge.specs.declared.feed.FrameFeed.{FrameFeed}
 use Rattle.merge_run.specs.Shown.{Shown, HasShown}
 use Rattle.merge_run.specs.Taking.{is_same, feed_in}
 use Rattle.merge_run.specs.declared.phase.Phase.TheVariants.{Reads}
-use Rattle.merge_run.specs.declared.stop.Ran.{Ran}
+use Rattle.merge_run.specs.declared.stop.MergeRan.{MergeRan}
 use Rattle.feed_merge.specs.declared.seen.Feed.TheVariants.{A, B}
 use Rattle.feed_merge.proofs.BothCameLemmas.{test_of, less_of}
 use Rattle.merge_run.proofs.GiveLemmas.{giving, same_network, left_behind, whole_first, whole_second, early_first}
@@ -68,7 +68,7 @@ returns-then-not-full-clause-shown c = λ k events s.
     let t = c.skip_source.ensures in
     let e = counted_units _ _ _ _ u.result.0 u.new.out (let s = u.ensures.size in let k = u.ensures.count in
     omega (arith, s, k)) n.2 in
-    subst (λ (r : Ran). Shown k (events ++ Gave (take u.result.0 u.new.out) ∷ [])
+    subst (λ (r : MergeRan). Shown k (events ++ Gave (take u.result.0 u.new.out) ∷ [])
     (record m { a = c.skip_source.new.a; b = c.skip_source.new.b; merger = u.new.merger; phase = Reads; ran = r }))
     (sym (c.add_units.ensures ∙ ap (λ (q : ℕ). record m.ran { units = m.ran.units + q }) e))
     (shown_behind c.events_law.ensures k m u.new.merger events s c.requires.gives n.0 is u.result.1 _ n.2
@@ -92,7 +92,7 @@ returns-else-not-full-clause-shown c = λ k events s.
     let is = subst (λ (f : FrameFeed). IsFrameOf f n.0) c.source_of-feed.ensures n.1 in
     let e = counted_units _ _ _ _ u.result.0 u.new.out (let s = u.ensures.size in let k = u.ensures.count in
     omega (arith, s, k)) n.2 in
-    subst (λ (r : Ran). Shown k (events ++ Gave (take u.result.0 u.new.out) ∷ [])
+    subst (λ (r : MergeRan). Shown k (events ++ Gave (take u.result.0 u.new.out) ∷ [])
     (record m { merger = u.new.merger; ran = r }))
     (sym (c.add_units.ensures ∙ ap (λ (q : ℕ). record m.ran { units = m.ran.units + q }) e))
     (shown_units c.events_law.ensures k m u.new.merger events s c.requires.gives n.0 is u.result.1 _ n.2)

@@ -1,5 +1,5 @@
 use Rattle.std.proofs.Common.{[], ◌∷◌, ◌++◌, inr, true, refl, ap, ◌∙◌, arith}
-use Rattle.gateway_run.proofs.FileLemmas.{no_short}
+use Rattle.ts_packet.proofs.FileLemmas.{no_short}
 use Rattle.file_run.specs.Events.{Ended, fed}
 use Rattle.region_swap.specs.StandsFor.{Status}
 use Rattle.swap_run.specs.Steps.{wanted_in}

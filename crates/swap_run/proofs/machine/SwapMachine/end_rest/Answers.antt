@@ -1,5 +1,5 @@
 use Rattle.std.proofs.Common.{[], ◌∷◌, ◌++◌, inr, true, ◌∙◌, arith, refl}
-use Rattle.gateway_run.proofs.FileLemmas.{no_short}
+use Rattle.ts_packet.proofs.FileLemmas.{no_short}
 use Rattle.file_run.specs.Events.{Ended, fed}
 use Rattle.swap_run.specs.declared.phase.Phase.TheVariants as phase
 use Rattle.swap_run.proofs.ShownLemmas.{shown_over, shown_refuse, can_drains}

@@ -4,7 +4,7 @@ use Rattle.feed_merge.proofs.BothCameLemmas.{less_of}
 use Rattle.region_swap.specs.StandsFor.{Status}
 use Rattle.swap_run.specs.Shown.{Shown, HasShown}
 use Rattle.swap_run.specs.declared.phase.Phase.TheVariants as phase
-use Rattle.swap_run.specs.declared.stop.Ran.{Ran}
+use Rattle.swap_run.specs.declared.stop.SwapRan.{SwapRan}
 use Rattle.swap_run.specs.Steps.{wanted_in}
 use Rattle.swap_run.proofs.GoLemmas.{few_more, less_left, shown_full, shown_behind}
 use Rattle.swap_run.proofs.NextLemmas.{left_by, number_most, reach_on, drained_on, slots_behind, slots_status, frame_is}
@@ -71,7 +71,7 @@ returns-then-full-clause-shown c = λ k plp events s.
     let e = counted_units _ _ _ _ u.result.0 u.new.out (let s = u.ensures.size in let k = u.ensures.count in
     omega (arith, s, k))
     u.ensures.gives in
-    subst (λ (r : Ran). Shown k plp (events ++ Gave bytes ∷ []) (record m { swapper = u.new.self; ran = r }))
+    subst (λ (r : SwapRan). Shown k plp (events ++ Gave bytes ∷ []) (record m { swapper = u.new.self; ran = r }))
     (sym (c.add_units.ensures ∙ ap (λ (q : ℕ). record m.ran { units = m.ran.units + q }) e))
     (shown_full k plp events m s c.requires.units c.frame-frame.result c.frame-frame.ensures.is u.new.self
     u.result.1 bytes u.ensures.gives
@@ -97,7 +97,7 @@ returns-then-full-clause-reach c =
     let q = c.give-len.new.self in
     reach_on m (record m { swapper = q; ran = c.add_units.new.self }) (omega arith)
     (slots_status m q (wanted_in m.phase m.number) (ap (λ (x : Status). x.plp) c.give-len.ensures.status))
-    (drained_on m.draining m.ran.unsent c.add_units.new.self.unsent (let e = ap (λ (r : Ran). r.unsent)
+    (drained_on m.draining m.ran.unsent c.add_units.new.self.unsent (let e = ap (λ (r : SwapRan). r.unsent)
     c.add_units.ensures in omega (arith, e)))
 
 pub returns-clause-shown : goal.returns-clause-shown
@@ -110,7 +110,7 @@ returns-clause-shown c = λ k plp events s.
     let e = counted_units _ _ _ _ u.result.0 u.new.out (let s = u.ensures.size in let k = u.ensures.count in
     omega (arith, s, k))
     u.ensures.gives in
-    subst (λ (r : Ran). Shown k plp (events ++ Gave bytes ∷ [])
+    subst (λ (r : SwapRan). Shown k plp (events ++ Gave bytes ∷ [])
     (record m {
       feed = c.skip.new.self;
       swapper = c.pass.new.self;
@@ -148,5 +148,5 @@ returns-clause-reach c =
     (omega (arith, f))
     (slots_behind m q phase.Units c.requires.units refl
     (ap (λ (x : Status). x.plp) c.pass.ensures.status ∙ ap (λ (x : Status). x.plp) c.give-len.ensures.status))
-    (drained_on m.draining m.ran.unsent c.add_units.new.self.unsent (let e = ap (λ (r : Ran). r.unsent)
+    (drained_on m.draining m.ran.unsent c.add_units.new.self.unsent (let e = ap (λ (r : SwapRan). r.unsent)
     c.add_units.ensures in omega (arith, e)))

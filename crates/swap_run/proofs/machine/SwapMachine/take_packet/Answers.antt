@@ -2,8 +2,7 @@ use Rattle.std.proofs.Common.{ℕ, ◌+◌, List, [], ◌∷◌, ◌++◌, take,
 use Rattle.std.proofs.lemmas.List.{length-take-le}
 use Rattle.ts_packet.specs.declared.sizes.TheConstants.{SIZE}
 use Rattle.file_run.specs.Events.{Fed}
-use Rattle.gateway_run.proofs.FileLemmas.{no_sync}
-use Rattle.gateway_run.proofs.TakeLemmas.{some_taken}
+use Rattle.ts_packet.proofs.FileLemmas.{no_sync, some_taken}
 use Rattle.gateway_core.specs.InputSoFar.{with_packet}
 use Rattle.region_swap.specs.StandsFor.{SwapperStandsFor, Status}
 use Rattle.swap_run.specs.Steps.{wanted_in}
@@ -16,7 +15,7 @@ pub returns-then-as_array-ne-SYNC-clause-shown : goal.returns-then-as_array-ne-S
 returns-then-as_array-ne-SYNC-clause-shown c = λ k plp events s.
     let m = c.args.self.now in
     let p = take SIZE c.args.bytes.now in
-    let first = ap (λ (l : List ℕ). slice_index_or l 0 0) (c.as_array.ensures.bytes ∙ c.front_packet-packet.ensures) in
+    let first = ap (λ (l : List ℕ). slice_index_or l 0 0) (c.as_array.ensures.bytes ∙ c.front_of-packet.ensures) in
     let tell = c.events_law.ensures in
     rw c.refuse.ensures (shown_refuse k plp events m s p (events ++ Fed 1 p ∷ [])
     (can_packets k plp events m s c.requires.packets c.requires.wanted)
@@ -39,10 +38,10 @@ returns-clause-shown c = λ k plp events s.
     (fed_same tell 1 0 p events zero_one) (tell.fed 1 p events).here ((tell.fed 1 p events).ended 1)
     (tell.fed 1 p events).gave
     (length-take-le SIZE c.args.bytes.now c.requires.long)
-    (let a = c.as_array.ensures.bytes in let b = c.front_packet-packet.ensures in let f = c.if-as_array-ne-SYNC.false in
+    (let a = c.as_array.ensures.bytes in let b = c.front_of-packet.ensures in let f = c.if-as_array-ne-SYNC.false in
     ap (λ (l : List ℕ). slice_index_or l 0 0) (sym (a ∙ b)) ∙ f)
     (λ a b t left fs n st. subst (λ (l : List ℕ). SwapperStandsFor c.offer.new.self a b (with_packet t l) left fs n)
-    c.front_packet-packet.ensures
+    c.front_of-packet.ensures
     (o.stands a b t left fs n st))
     o.unit o.status
 

@@ -1,8 +1,9 @@
 // What the program does with its words.
-use crate::advice::{advise, warn};
-use crate::counts::{counts_of, plan_of};
+use crate::advice::advise;
+use crate::counts::{counts_of, plan_of, say_counts};
 use crate::help::{self, Asked};
-use desk_watch::{RunCounts, Told, Watched};
+use crate::warning::warn;
+use desk_watch::{Told, Watched};
 use plp_config::Plan;
 use ports::{Desk, HostDesk, HostFault, Reason};
 use site_top::{Outcome, Word, request_of, run};
@@ -22,25 +23,29 @@ fn run_watched<D: Desk, R: Clock + Eprint>(
     outcome
 }
 
-// Says what was counted of a run that ended so, as far as standard error takes it.
-fn say_counts(rt: &impl Eprint, counts: &RunCounts<'_>, outcome: Outcome) {
-    let _ = match outcome {
-        Outcome::Done | Outcome::Differs { .. } => counts.say_done(rt),
-        Outcome::NoSuperframe => counts.say_none(rt),
-        _ => Ok(()),
-    };
+// A desk that keeps what failed first on it.
+trait Failing: Desk {
+    fn first_fault(&self) -> Option<&HostFault>;
 }
 
-// Carries a command out, and tells people what came of it, with what is counted by a plan of its configuration.
-fn follow<R: Files + Print + Eprint + Clock + AllocGlobal>(
+impl<R: Files + Print + Drop> Failing for HostDesk<R> {
+    fn first_fault(&self) -> Option<&HostFault> {
+        HostDesk::first_fault(self)
+    }
+}
+
+// Carries a command out over a desk, and tells people what came of it, with what is counted by a plan of its
+// configuration.
+fn follow<D: Failing + Drop, R: Files + Eprint + Clock + AllocGlobal>(
     rt: &R,
+    desk: D,
     program: &str,
     words: &[Word],
     wanted: bool,
     plan: Option<&Plan>,
 ) -> Outcome {
     let counts = counts_of(rt.alloc(), request_of(words), plan);
-    let mut desk = Watched::new(HostDesk::new(rt, rt.alloc()), rt, wanted, counts);
+    let mut desk = Watched::new(desk, rt, wanted, counts);
     let outcome = run_watched(rt.alloc(), words, &mut desk);
     advise(
         rt,
@@ -50,7 +55,8 @@ fn follow<R: Files + Print + Eprint + Clock + AllocGlobal>(
         desk.desk.first_fault(),
         desk.lines == 1,
     );
-    say_counts(rt, &desk.counts, outcome);
+    // As far as standard error takes it.
+    let _ = say_counts(rt, &desk.counts, outcome);
     outcome
 }
 
@@ -82,7 +88,9 @@ pub fn carry_out<R: Files + Print + Eprint + Clock + AllocGlobal>(
     if let Some(asked) = help::asked_of(words) {
         return answer(rt, program, asked);
     }
-    warn(rt, words);
-    let plan = plan_of(rt, request_of(words));
-    follow(rt, program, words, wanted, plan.as_ref())
+    let request = request_of(words);
+    warn(rt, words, request);
+    let plan = plan_of(rt, request);
+    let desk = HostDesk::new(rt, rt.alloc());
+    follow(rt, desk, program, words, wanted, plan.as_ref())
 }

@@ -29,6 +29,11 @@ const SHORTEST: usize = 3;
 
 const NO_COMMAND: &str = "these words are no command";
 
+// What the second word of a command may be.
+const SHOW_WANTS: &str = "show wants one of config, packets, t2mi, frames";
+
+const COMMON_WANTS: &str = "common wants one of gateway, receive";
+
 // Whether a word of a command stands for another one.
 fn is_place(own: &str) -> bool {
     own.as_bytes()
@@ -146,7 +151,7 @@ pub const COMMANDS: [Command; 15] = [
     Command {
         name: "mend",
         words: "mend CONFIG OUT IN..",
-        what: "writes to OUT one T2-MI stream of one to eight of a network, the INs: each frame of which they have every packet together, at the instant that its timestamp tells",
+        what: "writes to OUT one T2-MI stream of one to eight of a network, the INs: each frame of which they have every packet together, at the instant that its timestamp tells; OUT stands in front of the INs, and is overwritten",
         example: "mend small.txt mended.ts stream.ts late.ts",
         rule: Some("there must be one to eight INs, and OUT must be neither CONFIG nor an IN"),
     },
@@ -234,15 +239,19 @@ fn is_named(words: &[Word]) -> bool {
 
 /// Why words are no command.
 pub fn why_no_command(words: &[Word]) -> &'static str {
-    if words.is_empty() {
+    let Some(first) = words.first() else {
         return NO_COMMAND;
-    }
+    };
     for command in &COMMANDS {
         if command.fits(words) {
             return command.why_not(words);
         }
     }
-    NO_COMMAND
+    match first.as_str() {
+        "show" => SHOW_WANTS,
+        "common" => COMMON_WANTS,
+        _ => NO_COMMAND,
+    }
 }
 
 /// What is asked: the version or help by the first word, or help on a command by a word behind its name.

@@ -1,13 +1,14 @@
 // What is said for people, on standard error: what was wrong, where, and what to do.
+use crate::bad_input::{say_bad_packet, say_no_packet, say_no_record};
 use crate::config_place::{config_again, is_data, plp_line, text_of};
+use crate::group::say_common;
 use crate::help::{COMMANDS, may_mean, meant_by, why_no_command};
-use crate::named_file::file_of;
+use crate::named_file::{file_of, out_of};
 use crate::pids::say_pids;
 use config_text::{TextFault, TextWhy};
 use desk_watch::{Shown, Told};
 use plp_config::{CapacityFault, Config, ConfigFault, MOST_FRAMES, PlpType, SUPERFRAME_PERIOD};
 use ports::HostFault;
-use site_frame::RecordWhy;
 use site_top::{ConfigCause, Outcome, Request, Word, request_of};
 use std::fmt::{self, Display, Formatter, Write};
 use std::fs::Files;
@@ -29,15 +30,6 @@ fn say_commands(
     Ok(())
 }
 
-/// Says of a word `-` that it is the name of a file, which it is not for other programs.
-pub fn warn(rt: &impl Eprint, words: &[Word]) {
-    if words.iter().any(|word| word.as_str() == "-") {
-        let _ = eprintln!(rt;
-            "- is taken as the name of a file; standard input is /dev/stdin, and a stream is written to a descriptor of its own: /dev/fd/3 with 3>.."
-        );
-    }
-}
-
 // The first word that is written as an option.
 fn option_in(words: &[Word]) -> Option<&str> {
     for word in words {
@@ -50,8 +42,11 @@ fn option_in(words: &[Word]) -> Option<&str> {
 
 // Says why words are refused.
 fn say_refused(rt: &impl Eprint, words: &[Word]) -> io::Result<()> {
-    if words.iter().any(|word| word.as_str().is_empty()) {
-        return eprintln!(rt; "a word is empty or not UTF-8");
+    if let Some(place) = words.iter().position(|word| word.as_str().is_empty()) {
+        return eprintln!(rt;
+            "word {} is empty or not UTF-8: the file wants another name",
+            place.saturating_add(1)
+        );
     }
     match option_in(words) {
         Some(option) if option == "--help" => eprintln!(rt;
@@ -108,7 +103,7 @@ fn say_text(
         TextWhy::TooLong => eprintln!(rt; "{file}: {why}; shorten it"),
         TextWhy::EndsEarly => eprintln!(rt; "{file}: {why}; add the lines that are missing"),
         why => eprintln!(rt;
-            "{file}: {}; mend that line",
+            "{file}: {}; correct that line",
             TextFault::Refused { line, why }
         ),
     }
@@ -123,7 +118,7 @@ fn say_cause(
         ConfigCause::Text { line, why } => say_text(rt, name, line, why),
         ConfigCause::Rule { rule, plp } => {
             eprintln!(rt;
-                "{}: {}; mend the configuration",
+                "{}: {}; correct the configuration",
                 Shown(name),
                 ConfigFault { rule, plp }
             )?;
@@ -133,7 +128,15 @@ fn say_cause(
 }
 
 // Says what failed first, as the system tells it.
-fn say_fault(rt: &impl Eprint, fault: Option<&HostFault>) -> io::Result<()> {
+fn say_fault(
+    rt: &impl Eprint,
+    request: Option<Request<'_>>,
+    fault: Option<&HostFault>,
+) -> io::Result<()> {
+    match (fault, out_of(request)) {
+        (Some(HostFault::IsRead { .. }), Some(out)) => eprint!(rt; "{}: ", Shown(out))?,
+        _ => {}
+    }
     match fault {
         Some(fault) => eprintln!(rt; "{}", Told(fault)),
         None => Ok(()),
@@ -192,41 +195,6 @@ fn say_differs(rt: &impl Eprint, request: Option<Request<'_>>, frame: u64) -> io
             Shown(b)
         ),
         _ => Ok(()),
-    }
-}
-
-// Why bytes are no record, for people.
-#[derive(Clone, Copy)]
-struct WhyNoRecord(RecordWhy);
-
-impl Display for WhyNoRecord {
-    fn fmt<W: Write>(&self, f: &mut Formatter<W>) -> fmt::Result {
-        match self.0 {
-            RecordWhy::Length => write!(
-                f,
-                "the file ends inside it, or its parts do not fill its length"
-            ),
-            why => write!(f, "{why}"),
-        }
-    }
-}
-
-// Says which record is refused.
-fn say_record(
-    rt: &impl Eprint,
-    request: Option<Request<'_>>,
-    file: Shown<'_>,
-    number: u64,
-    why: RecordWhy,
-) -> io::Result<()> {
-    let why = WhyNoRecord(why);
-    match request {
-        Some(Request::Receive { .. } | Request::CommonReceive { .. }) => eprintln!(rt;
-            "{file}: record {number}, counted from 0: {why}; OUT holds what the records before it give back; see that the file holds the records of successive frames of CONFIG and nothing else"
-        ),
-        _ => eprintln!(rt;
-            "{file}: record {number}, counted from 0: {why}; the records before it were shown; see that the file holds whole records and nothing else"
-        ),
     }
 }
 
@@ -320,7 +288,7 @@ fn say_capacity(
         need,
         have,
     };
-    eprintln!(rt; "{}: {fault}; mend the configuration", Shown(name))?;
+    eprintln!(rt; "{}: {fault}; correct the configuration", Shown(name))?;
     say_plp(rt, name, plp)
 }
 
@@ -339,27 +307,24 @@ fn say(
     match outcome {
         Outcome::Done => match request {
             Some(Request::ShowT2mi { file }) => say_pids(rt, file, none_came),
+            Some(Request::Receive { config, plp_id, .. }) => say_common(rt, config, plp_id),
             _ => Ok(()),
         },
         Outcome::Usage => say_usage(rt, program, words),
         Outcome::WrongInputs { plps, inputs } => say_wrong_inputs(rt, request, file, plps, inputs),
         Outcome::ConfigRefused { cause } => say_cause(rt, name, cause),
         Outcome::CapacityRefused { .. } => say_capacity(rt, name, outcome),
-        Outcome::InputRefused { packet, .. } => eprintln!(rt;
-            "{file}: packet {packet}, counted from 0, does not begin with the sync byte 0x47, or the file ends inside it; OUT holds the units of the frames before; mend the file"
-        ),
+        Outcome::InputRefused { packet, .. } => say_bad_packet(rt, name, packet),
         Outcome::NoSuperframe => say_no_superframe(rt, request, file),
         Outcome::TooLong { count: MOST_FRAMES } => say_too_many_frames(rt, request, file),
         Outcome::TooLong { count } => eprintln!(rt;
             "{file}: it gave {count} bytes, which is more than a file may have; split it"
         ),
-        Outcome::PacketRefused { at, why } => eprintln!(rt;
-            "{file}: no T2-MI packet begins at byte {at}: {why}; the packets before it were shown; see that the file holds whole packets and nothing else"
-        ),
+        Outcome::PacketRefused { .. } => say_no_packet(rt, name, outcome),
         Outcome::UnknownPlp { plp_id } => say_unknown_plp(rt, request, name, plp_id),
         Outcome::Differs { frame } => say_differs(rt, request, frame),
-        Outcome::RecordRefused { number, why } => say_record(rt, request, file, number, why),
-        Outcome::ReadFault | Outcome::WriteFault => say_fault(rt, fault),
+        Outcome::RecordRefused { number, why } => say_no_record(rt, request, name, number, why),
+        Outcome::ReadFault | Outcome::WriteFault => say_fault(rt, request, fault),
         Outcome::OutOfMemory => eprintln!(rt; "out of memory; the command did not come to its end"),
         Outcome::TrialFault => eprintln!(rt;
             "a run inside the trial ended otherwise than it must; tell the maintainers the words of the command"

@@ -1,9 +1,11 @@
 use Rattle.stream_laws.proofs.FormedSignalLemmas.{Knows}
 use Rattle.stream_laws.proofs.PassLemmas.{Given, given_by}
 use Rattle.network_laws.proofs.CameMadeLemmas.{came_are_made}
+use Rattle.network_laws.proofs.HonestFeedLemmas.{made_are_of_run, damaged_runs_mended, whole_among_damaged}
 use Rattle.network_laws.proofs.LossyRunLemmas.{came_of_damaged, survivors_mended}
 use Rattle.network_laws.proofs.NoneLostLemmas.{none_lost_mended, survivor_alone}
-use Rattle.network_laws.proofs.run_feeds.woven_frames_law.Goals as goal
+use Rattle.network_laws.proofs.WholeFeedLemmas.{whole_feed_made, whole_stream_mended}
+use Rattle.network_laws.proofs.run_feeds.feeds_law.Goals as goal
 
 given_at : goal.After-order_law → Given
 given_at c =
@@ -33,20 +35,49 @@ knows_at c =
       dyn_size = c.dyn_law.ensures.len;
     }
 
+pub returns-clause-whole : goal.returns-clause-whole
+returns-clause-whole c =
+    whole_feed_made (given_at c) (knows_at c) c.sent_law.ensures.carries c.scramble_twice_law.ensures
+    c.pre_law.ensures.bits c.post_law.ensures.len c.post_law.ensures.conf c.shown_law.ensures
+
+pub returns-clause-whole_stream : goal.returns-clause-whole_stream
+returns-clause-whole_stream c =
+    whole_stream_mended (given_at c) (knows_at c) c.sent_law.ensures.carries c.scramble_twice_law.ensures
+    c.pre_law.ensures.bits c.post_law.ensures.len c.post_law.ensures.conf c.shown_law.ensures
+    c.accepted_front_law.ensures c.unit_reads_law.ensures c.survivor_law.ensures.survive c.undamaged_law.ensures
+    c.group_law.ensures c.near_law.ensures.later c.stream_law.ensures c.named_law.ensures
+
+pub returns-clause-whole_damaged : goal.returns-clause-whole_damaged
+returns-clause-whole_damaged c =
+    whole_among_damaged (given_at c) (knows_at c) c.sent_law.ensures.carries c.sent_law.ensures.frames
+    c.group_law.ensures c.named_law.ensures (returns-clause-whole_stream c)
+
+pub returns-clause-made : goal.returns-clause-made
+returns-clause-made c =
+    made_are_of_run c.placed_law.ensures.stood c.placed_law.ensures.frame (given_at c) (knows_at c)
+    c.sent_law.ensures.carries c.scramble_twice_law.ensures c.pre_law.ensures.bits c.post_law.ensures.len
+    c.post_law.ensures.conf c.shown_law.ensures
+
+pub returns-clause-damaged : goal.returns-clause-damaged
+returns-clause-damaged c =
+    damaged_runs_mended c.placed_law.ensures.stood c.placed_law.ensures.frame (given_at c) (knows_at c)
+    c.sent_law.ensures.carries c.scramble_twice_law.ensures c.pre_law.ensures.bits c.post_law.ensures.len
+    c.post_law.ensures.conf c.shown_law.ensures c.named_law.ensures c.sent_law.ensures.frames c.group_law.ensures
+
 pub returns-clause-come : goal.returns-clause-come
 returns-clause-come c =
     came_are_made c.placed_law.ensures.stood c.placed_law.ensures.frame (given_at c) (knows_at c)
     c.sent_law.ensures.carries c.scramble_twice_law.ensures c.pre_law.ensures.bits c.post_law.ensures.len
     c.post_law.ensures.conf c.shown_law.ensures
 
-pub returns-clause-damaged : goal.returns-clause-damaged
-returns-clause-damaged c =
+pub returns-clause-come_damaged : goal.returns-clause-come_damaged
+returns-clause-come_damaged c =
     came_of_damaged c.placed_law.ensures.stood c.placed_law.ensures.frame (given_at c) (knows_at c)
     c.sent_law.ensures.carries c.scramble_twice_law.ensures c.pre_law.ensures.bits c.post_law.ensures.len
     c.post_law.ensures.conf c.shown_law.ensures c.named_law.ensures c.sent_law.ensures.frames c.group_law.ensures
 
-pub returns-clause-streams : goal.returns-clause-streams
-returns-clause-streams c =
+pub returns-clause-survive : goal.returns-clause-survive
+returns-clause-survive c =
     survivors_mended c.placed_law.ensures.stood c.placed_law.ensures.frame (given_at c) (knows_at c)
     c.sent_law.ensures.carries c.scramble_twice_law.ensures c.pre_law.ensures.bits c.post_law.ensures.len
     c.post_law.ensures.conf c.shown_law.ensures c.named_law.ensures c.sent_law.ensures.frames c.group_law.ensures

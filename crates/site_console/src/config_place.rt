@@ -27,9 +27,12 @@ pub fn plan_again(rt: &(impl Files + AllocGlobal), name: &str) -> Option<Plan> {
     fits(valid).ok()
 }
 
-/// Whether it begins as a transport stream or as other data that is no text.
+// Bytes below this one, the tabulator, stand in no text.
+const LEAST_OF_TEXT: u8 = 9;
+
+/// Whether a front is that of data, and of no text.
 pub fn is_data(front: &[u8]) -> bool {
-    matches!(front.first(), Some(0 | 0x47))
+    front.iter().any(|byte| *byte < LEAST_OF_TEXT)
 }
 
 /// The line of the PLP at a place, counted from 1, and its identifier.

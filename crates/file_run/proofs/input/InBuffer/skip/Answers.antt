@@ -1,7 +1,7 @@
 use Rattle.std.proofs.Common.{◌≡◌, ℕ, ◌+◌, ◌-◌, length, ap, sym, ◌∙◌, arith, take, drop}
 use Rattle.terms.proofs.BitLemmas.{length-part}
 use Rattle.file_run.proofs.InputLemmas.{skipped}
-use Rattle.file_run.proofs.input.Input.skip.Goals as goal
+use Rattle.file_run.proofs.input.InBuffer.skip.Goals as goal
 
 pub returns : goal.returns
 returns c =

@@ -56,10 +56,14 @@ pub fn say_pids(
         return Ok(());
     }
     let file = Shown(name);
-    let pids = pids_in(rt, &front_of(rt, name, UNITS * SIZE)?)?;
+    let front = front_of(rt, name, UNITS * SIZE)?;
+    if front.len() < SIZE {
+        return eprintln!(rt; "{file}: it has no unit of 188 bytes");
+    }
+    let pids = pids_in(rt, &front)?;
     let Some((first, others)) = pids.split_first() else {
         return eprintln!(rt;
-            "{file}: no unit of 188 bytes in its first {UNITS} is a transport packet with a payload"
+            "{file}: no unit of 188 bytes in its first {UNITS} is a transport packet with a payload, other than a null packet"
         );
     };
     if !none_came {

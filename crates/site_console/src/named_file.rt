@@ -1,4 +1,4 @@
-// Which file an outcome speaks of.
+// Which file an outcome speaks of, and which one is made.
 use plp_config::MOST_FRAMES;
 use site_top::{Outcome, Request};
 
@@ -20,6 +20,21 @@ fn first_of(request: Request<'_>) -> &str {
         | Request::ShowFrames { file }
         | Request::ShowConfig { file } => file,
         Request::Trial { .. } => "",
+    }
+}
+
+/// The file that a request makes, if it makes one.
+pub fn out_of(request: Option<Request<'_>>) -> Option<&str> {
+    match request? {
+        Request::Gateway { out, .. }
+        | Request::CommonGateway { out, .. }
+        | Request::Modulate { out, .. }
+        | Request::Receive { out, .. }
+        | Request::CommonReceive { out, .. }
+        | Request::Merge { out, .. }
+        | Request::Mend { out, .. }
+        | Request::Swap { out, .. } => Some(out),
+        _ => None,
     }
 }
 

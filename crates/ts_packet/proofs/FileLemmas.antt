@@ -4,11 +4,9 @@ use Rattle.std.proofs.Common.{length, take}
 use Rattle.std.proofs.Common.{drop, refl, ap, sym, ◌∙◌, arith, append_assoc, append-nil, length-append, inl, inr}
 use Rattle.std.specs.Prelude.{slice_index, nat_le, ◌==◌, ◌⊎◌}
 use Rattle.std.proofs.lemmas.Bool.{cases_Bool, ne_eqb, and_right}
-use Rattle.std.proofs.lemmas.List.{take_at, drop_at, length-drop, drop-drop, get_or_append_left}
-use Rattle.gateway_core.specs.InputSoFar.{Told, Continues}
-use Rattle.ts_packet.specs.TsFile.{begins_with_packet, packets_up_to, packets_in, left_in, joined, HasBad}
+use Rattle.std.proofs.lemmas.List.{take_at, drop_at, length-drop, length-take-le, drop-drop, get_or_append_left}
+use Rattle.ts_packet.specs.TsFile.{begins_with_packet, packets_up_to, packets_in, left_in, joined, HasBad, ArePackets}
 use Rattle.ts_packet.specs.declared.sizes.TheConstants.{SIZE, SYNC}
-use Rattle.gateway_run.specs.Holds.{ArePackets}
 
 le_true : (a b : ℕ) → a ≤ b → nat_le a b ≡ true
 le_true a b le = grind (arith)
@@ -136,15 +134,6 @@ pub none_bad : (file : List ℕ) (packets : List (List ℕ)) (left : List ℕ) �
 none_bad file packets left r bad =
     bad (ap left_in r.parts ∙ left_joined packets left r.each ∙ ap left_in (r.end refl) ∙ nothing_left)
 
-pub continues : (file : List ℕ) (packets : List (List ℕ)) (ended : Bool) (left : List ℕ) (frame : ℕ)
-    → IsRead file packets ended left
-    → Continues (let t : Told = record { packets = packets; ended = ended; frame = frame } in t) (packets_in file)
-continues file packets ended left frame r = record {
-  rest = packets_in left;
-  front = taken_first file packets ended left r;
-  whole = λ on. ap packets_in (r.end on) ∙ nothing_in;
-}
-
 -- A bad packet is not wanted if all that was wanted was there.
 pub not_wanted : (file : List ℕ) (packets : List (List ℕ)) (ended : Bool) (left : List ℕ) (slots : ℕ)
     → IsRead file packets ended left → (ended ≡ false → slots ≤ length packets)
@@ -186,3 +175,7 @@ still_bad tail more ended some off (inl sync) end = no_sync (tail ++ more) (λ e
     ∙ e))
 still_bad tail more ended some off (inr on) end = ap (λ (l : List ℕ). begins_with_packet (tail ++ l)) (end on)
     ∙ ap begins_with_packet (append-nil tail) ∙ off
+
+-- the first packet of enough bytes
+pub some_taken : (bytes : List ℕ) → SIZE ≤ length bytes → take SIZE bytes ≢ []
+some_taken bytes long e = let n = ap length e in let m = length-take-le SIZE bytes long in omega (arith, n, m)

@@ -3,9 +3,10 @@ use crate::config_place::plan_again;
 use bit_slice::OutOfMemory;
 use desk_watch::RunCounts;
 use plp_config::Plan;
-use site_top::Request;
+use site_top::{Outcome, Request};
 use std::alloc::Global;
 use std::fs::Files;
+use std::io::{self, Eprint};
 
 // The configuration of a command of which something is counted.
 fn config_of(request: Request<'_>) -> Option<&str> {
@@ -69,5 +70,14 @@ pub fn counts_of<'a>(
     match opened {
         Ok(counts) => counts,
         Err(_) => RunCounts::none(alloc),
+    }
+}
+
+/// Says what was counted of a run that ended so.
+pub fn say_counts(rt: &impl Eprint, counts: &RunCounts<'_>, outcome: Outcome) -> io::Result<()> {
+    match outcome {
+        Outcome::Done | Outcome::Differs { .. } => counts.say_done(rt),
+        Outcome::NoSuperframe => counts.say_none(rt),
+        _ => Ok(()),
     }
 }
