@@ -1,7 +1,6 @@
 -- No frame differs of two streams that are honest damage of one run.
-use Rattle.std.proofs.Common.{◌≡◌, ℕ, zero, suc, ◌+◌, ◌-◌, ◌%◌, ◌<◌, ◌≤◌, ◌==◌, ◌&&◌, max, Bool, true, false}
-use Rattle.std.proofs.Common.{List, [], ◌∷◌, map, length, find, Option, Some, None, refl, ap, ap₂, sym, ◌∙◌, ⊎_elim}
-use Rattle.std.proofs.Common.{arith}
+use Rattle.std.proofs.Common.{◌≡◌, ℕ, zero, suc, ◌+◌, ◌-◌, ◌%◌, ◌<◌, ◌≤◌, ◌==◌, ◌&&◌, max, Bool, true, false, List, []}
+use Rattle.std.proofs.Common.{◌∷◌, map, length, find, Option, Some, None, refl, ap, ap₂, sym, ◌∙◌, ⊎_elim, arith}
 use Rattle.std.specs.Prelude.{option_map, option_to_list, if◌then◌else◌}
 use Rattle.std.specs.List.{filter, flat_map, items_where_true, range_with_len}
 use Rattle.std.specs.Option.{option_or}

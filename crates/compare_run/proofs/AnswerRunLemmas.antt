@@ -1,7 +1,6 @@
 -- Runs of frames, one frame more.
 use Rattle.std.proofs.Common.{◌≡◌, ℕ, ◌+◌, ◌==◌, ◌&&◌, Bool, true, false, cond, List, [], ◌∷◌, ◌++◌, length, filter}
-use Rattle.std.proofs.Common.{find}
-use Rattle.std.proofs.Common.{Option, Some, None, refl, ap, sym, ◌∙◌, arith, length-append, eqb-true}
+use Rattle.std.proofs.Common.{find, Option, Some, None, refl, ap, sym, ◌∙◌, arith, length-append, eqb-true}
 use Rattle.std.specs.Prelude.{nat_lt, option_map, option_to_list}
 use Rattle.std.specs.Option.{option_or}
 use Rattle.std.proofs.lemmas.Bool.{true≢false, and_parts, ltb-true, ne_eqb}
@@ -11,9 +10,8 @@ use Rattle.std.proofs.lemmas.Option.{same_Some}
 use Rattle.terms.proofs.OptionLemmas.{none_some}
 use Rattle.compare_run.specs.Comparing.{Answered}
 use Rattle.compare_run.specs.Runs.{kind, is_differing, is_same, is_one, single, in_front, runs_of, known, open_run}
-use Rattle.compare_run.specs.Runs.{goes_on, longer_by}
-use Rattle.compare_run.specs.Runs.{single_open, next_open, single_known, told_by, first_differing, counts_of, counted}
-use Rattle.compare_run.specs.Runs.{one_if}
+use Rattle.compare_run.specs.Runs.{goes_on, longer_by, single_open, next_open, single_known, told_by, first_differing}
+use Rattle.compare_run.specs.Runs.{counts_of, counted, one_if}
 use Rattle.compare_run.specs.declared.answer.Answer.{Answer}
 use Rattle.compare_run.specs.declared.counts.CompareRan.{CompareRan}
 use Rattle.compare_run.specs.declared.answer_run.Run.{Run}

@@ -1,7 +1,6 @@
 -- The record of a frame that is whole: its group is the one of its number, and passes the tests.
 use Rattle.std.proofs.Common.{◌≡◌, ℕ, ◌+◌, ◌-◌, ◌==◌, Bool, true, false, List, [], ◌∷◌, Option, Some, None, refl, ap}
-use Rattle.std.proofs.Common.{ap₂, sym, subst}
-use Rattle.std.proofs.Common.{◌∙◌, ⊎_elim}
+use Rattle.std.proofs.Common.{ap₂, sym, subst, ◌∙◌, ⊎_elim}
 use Rattle.std.specs.List.{AllByRecursion, position_or_len, range_with_len}
 use Rattle.std.proofs.lemmas.Bool.{cases_Bool, cond-true, cond-false, eqb-true, false≢true}
 use Rattle.std.proofs.lemmas.List.Folds.{find_at}
@@ -14,9 +13,8 @@ use Rattle.t2mi_packet.specs.declared.packet.Packet.{Packet}
 use Rattle.t2mi_stream.specs.Units.{accepted_of}
 use Rattle.frame_groups.specs.Groups.{Group, groups}
 use Rattle.frame_groups.specs.Modulated.{Content, FrameRecord, Numbered, content_of, gap_record, number_behind}
-use Rattle.frame_groups.specs.Modulated.{past_with}
-use Rattle.frame_groups.specs.Modulated.{past_behind, past_after, gaps_behind, own_record, records_with, records_from}
-use Rattle.frame_groups.specs.Modulated.{modulated}
+use Rattle.frame_groups.specs.Modulated.{past_with, past_behind, past_after, gaps_behind, own_record, records_with}
+use Rattle.frame_groups.specs.Modulated.{records_from, modulated}
 use Rattle.frame_groups.specs.Modulated.Content.{Whole, Muted}
 use Rattle.frame_groups.specs.declared.cause.MuteCause.{MuteCause}
 use Rattle.frame_groups.specs.Begun.{packets_at}

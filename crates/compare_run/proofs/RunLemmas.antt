@@ -1,7 +1,6 @@
 -- What a comparison does by its files.
-use Rattle.std.proofs.Common.{◌≡◌, ℕ, ◌+◌, ◌-◌, ◌<◌, ◌≤◌, ◌==◌, Bool, true, false, List, [], ◌∷◌, ◌++◌}
-use Rattle.std.proofs.Common.{length, Option, Some, None, refl, ap, ap₂, sym, subst, ◌∙◌, inl, inr, arith, append_assoc}
-use Rattle.std.proofs.Common.{append-nil}
+use Rattle.std.proofs.Common.{◌≡◌, ℕ, ◌+◌, ◌-◌, ◌<◌, ◌≤◌, ◌==◌, Bool, true, false, List, [], ◌∷◌, ◌++◌, length, Option}
+use Rattle.std.proofs.Common.{Some, None, refl, ap, ap₂, sym, subst, ◌∙◌, inl, inr, arith, append_assoc, append-nil}
 use Rattle.std.specs.Prelude.{Err, slice_index}
 use Rattle.std.proofs.lemmas.Bool.{ltb-false}
 use Rattle.terms.proofs.CaseLemmas.{bool_cases}
@@ -26,8 +25,8 @@ use Rattle.file_run.proofs.StandsLemmas.{fed_since}
 use Rattle.feed_merge.specs.Both.{IsDueBelow}
 use Rattle.feed_merge.specs.Fed.{AreEarly, end_by, ReadsAhead, IsBehind}
 use Rattle.feed_merge.proofs.BothLemmas.{above_a, above_b, none_given, split_a, split_b, ends_before, reads_ahead}
-use Rattle.feed_merge.proofs.BothLemmas.{all_a, all_b, whole_all}
-use Rattle.feed_merge.proofs.BothLemmas.{early_all, none_all, some_all, due_below, ends_next, late_a, late_b, late_is}
+use Rattle.feed_merge.proofs.BothLemmas.{all_a, all_b, whole_all, early_all, none_all, some_all, due_below, ends_next}
+use Rattle.feed_merge.proofs.BothLemmas.{late_a, late_b, late_is}
 use Rattle.feed_merge.proofs.StepLemmas.{Wants, IsLate, is_late, needs_by, short_by}
 use Rattle.feed_merge.proofs.WantLemmas.{fed_count}
 use Rattle.compare_run.specs.Comparing.{Answered, answers, answers_below, PlpDifference}
@@ -41,13 +40,11 @@ use Rattle.compare_run.proofs.PlpLemmas.{no_plp}
 use Rattle.compare_run.proofs.LineLemmas.{nothing_told, known_front}
 use Rattle.compare_run.specs.AsMachine.{Becomes, ending_by, ending_in, ending_of}
 use Rattle.compare_run.specs.CompareRun.{compared_below, compared_of, differing_of, all_text, text_below, HaveRecords}
-use Rattle.compare_run.specs.CompareRun.{AreAlike, AreOther, HasNone}
-use Rattle.compare_run.specs.CompareRun.{IsKnownBelow, HasLate, HasSaid, MaySay, HasSome}
+use Rattle.compare_run.specs.CompareRun.{AreAlike, AreOther, HasNone, IsKnownBelow, HasLate, HasSaid, MaySay, HasSome}
 use Rattle.compare_run.specs.CompareRun.{compare_work, HasRead}
 use Rattle.compare_run.specs.Shown.{Shown, IsTold, text_in, untold}
 use Rattle.compare_run.specs.Steps.{step_of, reach_of, is_telling}
-use Rattle.compare_run.specs.declared.machine.CompareMachine.{CompareMachine}
-use Rattle.compare_run.specs.declared.machine.CompareMachine.{CompareMachine}
+use Rattle.compare_run.specs.declared.machine.CompareMachine.{CompareMachine, CompareMachine}
 use Rattle.compare_run.proofs.SplitLemmas.{answers_front, answers_split, none_above}
 use Rattle.compare_run.proofs.StepLemmas.{asked, ends_told, ends}
 

@@ -1,7 +1,6 @@
 -- Whole frames make the same record exactly if their L1 and the blocks that begin there are the same.
 use Rattle.std.proofs.Common.{◌≡◌, ℕ, ◌%◌, ◌<◌, ◌^◌, Bool, true, false, List, [], ◌∷◌, ◌++◌, length, map, Option, Some}
-use Rattle.std.proofs.Common.{None}
-use Rattle.std.proofs.Common.{refl, ap, ap₂, sym, ◌∙◌, ⊎_elim, arith}
+use Rattle.std.proofs.Common.{None, refl, ap, ap₂, sym, ◌∙◌, ⊎_elim, arith}
 use Rattle.std.specs.Prelude.{option_map, slice_get, slice_index}
 use Rattle.std.specs.List.{filter_map}
 use Rattle.std.specs.Option.{option_map_or}

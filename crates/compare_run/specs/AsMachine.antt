@@ -1,6 +1,5 @@
 -- Two feeds that are compared, as a machine over files. No public clause cites this module.
-use Rattle.std.specs.Prelude.{ℕ, ◌==◌, Bool, List, Result, Ok, Err, Option, Some, None}
-use Rattle.std.specs.Prelude.{if◌then◌else◌}
+use Rattle.std.specs.Prelude.{ℕ, ◌==◌, Bool, List, Result, Ok, Err, Option, Some, None, if◌then◌else◌}
 use Rattle.file_run.specs.Events.{Event}
 use Rattle.compare_run.specs.TallyStandsFor.{counts_in}
 use Rattle.compare_run.specs.declared.counts.CompareRan.{CompareRan}

@@ -1,7 +1,6 @@
 // Laws of the definitions. Their functions do nothing.
-ghost use Rattle.compare_run.specs.AnswerLaws.{AnswersGrow, KnownBegins, NoneDiffers, CarriesOwn};
-ghost use Rattle.compare_run.specs.AnswerLaws.{OthersAreFirst, SameHasNone, BlockIsFirst};
-ghost use Rattle.compare_run.specs.AnswerLaws.{SameIsWritten, WrittenIsBegun, SameIsExact};
+ghost use Rattle.compare_run.specs.AnswerLaws.{AnswersGrow, KnownBegins, NoneDiffers, CarriesOwn, OthersAreFirst};
+ghost use Rattle.compare_run.specs.AnswerLaws.{SameHasNone, BlockIsFirst, SameIsWritten, WrittenIsBegun, SameIsExact};
 
 use bb_frame::{bit_counts_law, scramble_twice_law};
 use frame_groups::parts_law;

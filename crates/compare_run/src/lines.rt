@@ -3,10 +3,9 @@ ghost use Rattle.std.specs.Prelude.{◌≡◌, ◌≤◌, ◌<◌, ◌*◌, ◌^
 ghost use Rattle.compare_run.specs.declared.answer_run.Run.{Run};
 ghost use Rattle.compare_run.specs.Comparing.{answered, difference};
 ghost use Rattle.compare_run.specs.Lines.{place_text as text_of_place, span_line as line_of_span};
-ghost use Rattle.compare_run.specs.Lines.{differs_line as line_of_differing};
-ghost use Rattle.compare_run.specs.Lines.{other_text as text_of_other, plp_line as line_of_plp};
-ghost use Rattle.compare_run.specs.Lines.{run_line as line_of_run, compared_line as line_of_counts, lines_of};
-ghost use Rattle.compare_run.specs.Lines.{rest_text};
+ghost use Rattle.compare_run.specs.Lines.{differs_line as line_of_differing, other_text as text_of_other};
+ghost use Rattle.compare_run.specs.Lines.{plp_line as line_of_plp, run_line as line_of_run};
+ghost use Rattle.compare_run.specs.Lines.{compared_line as line_of_counts, lines_of, rest_text};
 ghost use Rattle.compare_run.specs.Runs.{single_known, told_by};
 
 use crate::answer::{Answer, Other, Place};

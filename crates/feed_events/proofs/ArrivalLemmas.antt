@@ -1,7 +1,6 @@
 -- What arrives, unit by unit.
 use Rattle.std.proofs.Common.{◌≡◌, ℕ, suc, ◌+◌, ◌-◌, ◌*◌, ◌/◌, ◌%◌, ◌<◌, ◌≤◌, List, [], ◌++◌, ap, ap₂, sym, ◌∙◌, arith}
-use Rattle.std.proofs.Common.{length, take, drop}
-use Rattle.std.proofs.Common.{append_assoc, length-append}
+use Rattle.std.proofs.Common.{length, take, drop, append_assoc, length-append}
 use Rattle.std.specs.Prelude.{map}
 use Rattle.std.proofs.lemmas.List.{take-append-le, drop-append-le, take_all, drop_all}
 use Rattle.t2mi_stream.specs.Accepted.{AcceptedPacket}

@@ -1,8 +1,7 @@
 -- What arrives in a feed: the packets that are accepted, and idle units (ISO/IEC 13818-1, clause 2.4.3; ETSI TS 102
 -- 773, clause 6).
 use Rattle.std.specs.Prelude.{ℕ, ◌+◌, ◌*◌, ◌/◌, ◌==◌, ◌&&◌, not, Bool, false, List, [], ◌∷◌, ◌++◌, map, length, take}
-use Rattle.std.specs.Prelude.{drop, Option, Some, None}
-use Rattle.std.specs.Prelude.{if◌then◌else◌}
+use Rattle.std.specs.Prelude.{drop, Option, Some, None, if◌then◌else◌}
 use Rattle.std.specs.List.{flat_map, range_with_len}
 use Rattle.ts_packet.specs.FieldsIn.{fields_in}
 use Rattle.ts_packet.specs.TransportPacket.{Fields}

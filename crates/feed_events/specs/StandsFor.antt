@@ -1,7 +1,6 @@
 -- What a feed of events stands for.
 use Rattle.std.specs.Prelude.{◌≡◌, ℕ, ◌+◌, ◌-◌, ◌*◌, ◌/◌, ◌%◌, ◌<◌, ◌≤◌, Bool, true, false, List, [], ◌∷◌, ◌++◌, map}
-use Rattle.std.specs.Prelude.{length, drop, Option, Some}
-use Rattle.std.specs.Prelude.{if◌then◌else◌}
+use Rattle.std.specs.Prelude.{length, drop, Option, Some, if◌then◌else◌}
 use Rattle.ts_packet.specs.declared.sizes.TheConstants.{SIZE}
 use Rattle.t2mi_stream.specs.Events.{UnpiperEvent, fed, released}
 use Rattle.t2mi_stream.specs.Units.{accepted_of}

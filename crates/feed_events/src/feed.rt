@@ -36,9 +36,8 @@ impl<G: OpenGroup + Drop> EventFeed<G> {
     ghost use Rattle.ts_packet.specs.declared.sizes.TheConstants.{SIZE};
     ghost use Rattle.feed_events.specs.Arrivals.{Arrival};
     ghost use Rattle.feed_events.specs.FeedEvents.{FeedEvent, feed_events};
-    ghost use Rattle.feed_events.specs.StandsFor.{CanBecome, IsNext};
-    ghost use Rattle.feed_events.specs.StandsFor.{EventFeedStandsFor, head_of, fed_of, left_of, group_of, has_ended};
-    ghost use Rattle.feed_events.specs.StandsFor.{is_event, shown};
+    ghost use Rattle.feed_events.specs.StandsFor.{CanBecome, IsNext, EventFeedStandsFor, head_of, fed_of, left_of};
+    ghost use Rattle.feed_events.specs.StandsFor.{group_of, has_ended, is_event, shown};
     ghost use Rattle.feed_events.specs.declared.course.Head.TheVariants as head;
 
     /// A feed, on the PID of its network, with a group to which nothing was added. No byte was fed.

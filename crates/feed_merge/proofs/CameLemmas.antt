@@ -1,7 +1,7 @@
 -- What came of the frame that waits, in every stream that begins with the bytes that were fed.
 use Rattle.std.proofs.Common.{◌≡◌, ◌≢◌, ℕ, ◌+◌, ◌<◌, ◌≤◌, ◌==◌, ◌&&◌, Bool, true, false, cond, List, [], ◌∷◌, ◌++◌}
-use Rattle.std.proofs.Common.{length}
-use Rattle.std.proofs.Common.{take, drop, Option, Some, None, refl, ap, sym, subst, ◌∙◌, ⊎_elim, arith, append-nil}
+use Rattle.std.proofs.Common.{length, take, drop, Option, Some, None, refl, ap, sym, subst, ◌∙◌, ⊎_elim, arith}
+use Rattle.std.proofs.Common.{append-nil}
 use Rattle.std.specs.Prelude.{nat_lt, nat_le, is_some, slice_index_or}
 use Rattle.std.proofs.lemmas.Bool.{false≢true, true≢false, ltb-true, and_parts}
 use Rattle.std.proofs.lemmas.List.{take_all}
@@ -41,8 +41,7 @@ use Rattle.feed_merge.specs.FeedStandsFor.{FrameFeedStandsFor, config_of, waitin
 use Rattle.feed_merge.specs.declared.feed.FrameFeed.{FrameFeed}
 use Rattle.feed_merge.proofs.FeedLemmas.{now, whole_is, own_now}
 use Rattle.feed_merge.proofs.GroupsLemmas.{GoesAhead, open_ahead, ended_ahead, last_ahead, worked_on, Follower}
-use Rattle.feed_merge.proofs.GroupsLemmas.{follower}
-use Rattle.feed_merge.proofs.GroupsLemmas.{own_at, below_at, gap_at, carries, room_needs}
+use Rattle.feed_merge.proofs.GroupsLemmas.{follower, own_at, below_at, gap_at, carries, room_needs}
 
 -- a group that stays as it is
 stays : (closed rest : List Group) (h : Group) (closing : Bool) (all : List Group) → all ≡ closed ++ h ∷ rest

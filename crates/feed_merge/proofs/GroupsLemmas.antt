@@ -34,8 +34,7 @@ use Rattle.frame_groups.proofs.RunLemmas.{grown}
 use Rattle.frame_groups.specs.Begun.{is_begin, packets_at}
 use Rattle.frame_groups.specs.Tally.{tally}
 use Rattle.frame_groups.specs.Tests.{rules, unless, pool_need, pool_chunks, capped, room_test, begun_test}
-use Rattle.frame_groups.specs.Tests.{first_failure, pool_test}
-use Rattle.frame_groups.specs.Tests.{packets_fault, group_fault}
+use Rattle.frame_groups.specs.Tests.{first_failure, pool_test, packets_fault, group_fault}
 use Rattle.frame_groups.proofs.BegunLemmas.{at_own, at_other}
 use Rattle.frame_groups.proofs.TallyLemmas.{need_is}
 use Rattle.open_group.specs.HoldsBlocks.{HoldsCounts}

@@ -1,7 +1,6 @@
 -- A picked frame of an honest feed is that of the run.
 use Rattle.std.proofs.Common.{◌≡◌, ℕ, zero, suc, ◌+◌, ◌-◌, ◌%◌, ◌<◌, ◌≤◌, ◌==◌, ◌&&◌, Bool, true, false, List, [], ◌∷◌}
-use Rattle.std.proofs.Common.{map}
-use Rattle.std.proofs.Common.{find, Option, Some, None, refl, ap, sym, subst, ◌∙◌, ⊎_elim, arith, true≢false}
+use Rattle.std.proofs.Common.{map, find, Option, Some, None, refl, ap, sym, subst, ◌∙◌, ⊎_elim, arith, true≢false}
 use Rattle.std.proofs.Common.{option_map}
 use Rattle.std.specs.Prelude.{if◌then◌else◌}
 use Rattle.std.specs.List.{range_with_len, items_where_true, AllByRecursion}

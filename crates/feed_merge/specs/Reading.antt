@@ -1,6 +1,5 @@
 -- What two feeds want next, by the records that wait.
-use Rattle.std.specs.Prelude.{ℕ, ◌+◌, ◌==◌, nat_lt, min, Bool, true, false, Option, Some, None}
-use Rattle.std.specs.Prelude.{if◌then◌else◌}
+use Rattle.std.specs.Prelude.{ℕ, ◌+◌, ◌==◌, nat_lt, min, Bool, true, false, Option, Some, None, if◌then◌else◌}
 use Rattle.plp_config.specs.declared.moment.TheConstants.{MOST_FRAMES}
 use Rattle.frame_groups.specs.declared.waiting.Waiting.{Waiting}
 use Rattle.file_run.specs.FileRun.{read_ahead}

@@ -40,8 +40,7 @@ pub struct FrameFeed<'p> {
 
 impl<'p> FrameFeed<'p> {
     ghost use Rattle.std.specs.Prelude.{◌≡◌, ◌<◌, ◌≤◌, ◌+◌, ◌^◌, ◌++◌, ◌∷◌, ℕ, Bool, List, [], IfOk, IfSome, IfNone};
-    ghost use Rattle.std.specs.Prelude.{IsSome, Some, None, length};
-    ghost use Rattle.std.specs.Prelude.{take, true, false};
+    ghost use Rattle.std.specs.Prelude.{IsSome, Some, None, length, take, true, false};
     ghost use Rattle.plp_config.specs.declared.moment.TheConstants.{MOST_FRAMES};
     ghost use Rattle.frame_groups.specs.Groups.{Group};
     ghost use Rattle.frame_groups.specs.Modulated.{FrameRecord, Numbered};

@@ -1,7 +1,6 @@
 -- What events tell of inputs and of the output, one behind another.
 use Rattle.std.proofs.Common.{◌≡◌, ◌≢◌, ℕ, ◌==◌, Bool, true, false, cond, List, [], ◌∷◌, ◌++◌, refl, ap, sym, ◌∙◌}
-use Rattle.std.proofs.Common.{append-nil}
-use Rattle.std.proofs.Common.{eq-eqb}
+use Rattle.std.proofs.Common.{append-nil, eq-eqb}
 use Rattle.std.specs.Prelude.{◌||◌}
 use Rattle.std.proofs.lemmas.Bool.{ne_eqb}
 use Rattle.std.proofs.lemmas.Grind.{flat_map-append}

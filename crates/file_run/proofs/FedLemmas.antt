@@ -1,7 +1,6 @@
 -- A machine was fed in a run.
 use Rattle.std.proofs.Common.{◌≡◌, ◌≢◌, ℕ, ◌+◌, ◌-◌, ◌<◌, ◌≤◌, Bool, true, false, List, [], ◌∷◌, ◌++◌, length, Option}
-use Rattle.std.proofs.Common.{Some, None, refl}
-use Rattle.std.proofs.Common.{ap, sym, subst, ◌∙◌, inl, inr, arith, append_assoc, length-append}
+use Rattle.std.proofs.Common.{Some, None, refl, ap, sym, subst, ◌∙◌, inl, inr, arith, append_assoc, length-append}
 use Rattle.std.specs.Prelude.{slice_index, slice_index_or, slice_set, option_map, ◌⊎◌}
 use Rattle.std.specs.List.{sum_by}
 use Rattle.std.proofs.lemmas.List.{nil_from_length, length-set}
@@ -13,8 +12,7 @@ use Rattle.file_run.specs.declared.ahead.ReadStop.TheVariants as stop
 use Rattle.file_run.specs.Events.{Event, Fed, Ended, Gave, fed, has_ended, gave}
 use Rattle.file_run.specs.FileRun.{file_at, Stands, HoldsAll, Stops}
 use Rattle.file_run.specs.Running.{Start, reading_at, places_of, Reached, IsRead, IsWhole, GoesOn, Runs, IsTaken}
-use Rattle.file_run.specs.Running.{IsMarked, Feeds}
-use Rattle.file_run.specs.Running.{read_fault}
+use Rattle.file_run.specs.Running.{IsMarked, Feeds, read_fault}
 use Rattle.std.proofs.lemmas.Bool.{true≢false}
 use Rattle.file_run.specs.Steps.{Needs, FallsShort}
 use Rattle.file_run.specs.declared.machine.Step.{Step}

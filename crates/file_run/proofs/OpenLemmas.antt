@@ -1,28 +1,25 @@
 -- Opening the inputs of a run and beginning its output.
 use Rattle.std.proofs.Common.{◌≡◌, ℕ, zero, suc, ◌+◌, ◌<◌, ◌≤◌, Bool, true, false, List, [], ◌∷◌, ◌++◌, length, take}
-use Rattle.std.proofs.Common.{Option, Some, None}
-use Rattle.std.proofs.Common.{refl, ap, sym, subst, ◌∙◌, inl, inr, arith, append_assoc, append-nil, length-append}
+use Rattle.std.proofs.Common.{Option, Some, None, refl, ap, sym, subst, ◌∙◌, inl, inr, arith, append_assoc, append-nil}
+use Rattle.std.proofs.Common.{length-append}
 use Rattle.std.specs.Prelude.{IsSome, slice_index_or, slice_set, option_map, option_and_then}
 use Rattle.std.specs.FinMap.{get}
 use Rattle.std.proofs.lemmas.Bool.{cases_eq}
 use Rattle.std.proofs.lemmas.List.{length-map, length-take-le, get_or-take, get_or-map, map-append, length_push}
-use Rattle.std.proofs.lemmas.List.{get_or_push}
-use Rattle.std.proofs.lemmas.List.{get_or_append_left, take_more, take_more_set}
+use Rattle.std.proofs.lemmas.List.{get_or_push, get_or_append_left, take_more, take_more_set}
 use Rattle.terms.proofs.OptionLemmas.{was_some}
 use Rattle.ports.specs.declared.counts.Counts.{Counts}
 use Rattle.ports.specs.declared.fault.FaultKind.TheVariants as kind
 use Rattle.ports.specs.Counts.{Rose, first_of}
-use Rattle.ports.specs.Desk.{State, Held, Files, SameCounts, Keeps, Opens, FailsToCreate, with_name, left_of}
-use Rattle.ports.specs.Desk.{bytes_of, SameButFor, has_run_out}
+use Rattle.ports.specs.Desk.{State, Held, Files, SameCounts, Keeps, Opens, FailsToCreate, with_name, left_of, bytes_of}
+use Rattle.ports.specs.Desk.{SameButFor, has_run_out}
 use Rattle.file_run.specs.Faults.{ReadsFail, WritesFail}
 use Rattle.file_run.specs.DeskLaws.{CreatesEmpty}
 use Rattle.file_run.specs.Reading.{Reading, given_of, rest_of}
 use Rattle.file_run.specs.FileRun.{file_at, AreStarts, AreNamed, OpensInputs, FailsToCreateOutput, SameFiles}
 use Rattle.file_run.specs.FileRun.{OtherFiles}
 use Rattle.file_run.specs.Running.{Start, reading_from, no_reading, reading_at, places_of, HasOut, HoldsOut, Reached}
-use Rattle.file_run.specs.Running.{IsRead}
-use Rattle.file_run.specs.Running.{Runs}
-use Rattle.file_run.specs.Running.{HoldsIns, AreOpened, IsBegun}
+use Rattle.file_run.specs.Running.{IsRead, Runs, HoldsIns, AreOpened, IsBegun}
 use Rattle.file_run.specs.Sink.{AreOthers, Begins, creates}
 use Rattle.file_run.specs.declared.output.OpenOutput.{OpenOutput}
 use Rattle.file_run.proofs.SinkLemmas.{some_is, of_some, begins_at, holds_first, left_first, said_none}

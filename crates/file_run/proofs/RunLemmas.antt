@@ -5,17 +5,14 @@ use Rattle.std.specs.Prelude.{IsSome, slice_index, slice_index_or, slice_set, op
 use Rattle.std.specs.FinMap.{get}
 use Rattle.std.proofs.lemmas.Bool.{cases_eq}
 use Rattle.std.proofs.lemmas.List.{length-set, length-map, map-set, get_or-set_same, get_or-set_other}
-use Rattle.std.proofs.lemmas.List.{get_or-append-add}
-use Rattle.std.proofs.lemmas.List.{set-append_right, get_or-map}
+use Rattle.std.proofs.lemmas.List.{get_or-append-add, set-append_right, get_or-map}
 use Rattle.ports.specs.Desk.{State, Held, SameCounts, left_of, has_run_out}
 use Rattle.file_run.specs.Reading.{Reading, given_of, longest_file, ReadsOn}
 use Rattle.file_run.specs.Events.{Event, fed, has_ended, gave, OnlyGave}
 use Rattle.file_run.specs.FileRun.{file_at, AreNamed, OtherFiles, SameFiles, Passes, IsFed, AreFed, Stands, HoldsAll}
-use Rattle.file_run.specs.FileRun.{AllShort}
-use Rattle.file_run.specs.FileRun.{StopsWriting}
+use Rattle.file_run.specs.FileRun.{AllShort, StopsWriting}
 use Rattle.file_run.specs.Running.{Start, place_of, no_reading, reading_at, places_of, HasOut, SaysOut, HoldsOut}
-use Rattle.file_run.specs.Running.{Reached, IsRead}
-use Rattle.file_run.specs.Running.{Relates, Runs, Drains, DrainsFront, IsWhole}
+use Rattle.file_run.specs.Running.{Reached, IsRead, Relates, Runs, Drains, DrainsFront, IsWhole}
 use Rattle.file_run.specs.Sink.{Sink, Into, Aloud, creates, AreOthers, Puts}
 use Rattle.file_run.specs.declared.machine.Step.{Step}
 use Rattle.file_run.specs.declared.machine.Step.TheVariants.{Give}

@@ -1,7 +1,6 @@
 -- The machine of a run is where it came to.
 use Rattle.std.proofs.Common.{◌≡◌, ◌≢◌, ℕ, ◌+◌, ◌<◌, ◌≤◌, false, List, [], ◌++◌, ◌∷◌, length, refl, ap, sym, subst, ◌∙◌}
-use Rattle.std.proofs.Common.{inr}
-use Rattle.std.proofs.Common.{arith}
+use Rattle.std.proofs.Common.{inr, arith}
 use Rattle.std.specs.Prelude.{◌⊎◌, slice_index_or, slice_set}
 use Rattle.std.proofs.lemmas.List.{get_or_default}
 use Rattle.ports.specs.Desk.{State, SameCounts, has_run_out}
@@ -12,8 +11,7 @@ use Rattle.file_run.specs.declared.ahead.ReadStop.{ReadStop}
 use Rattle.file_run.specs.Events.{Event, fed, has_ended}
 use Rattle.file_run.specs.FileRun.{FailsToBegin, StopsWriting, RunsAll, Stops}
 use Rattle.file_run.specs.Running.{Start, place_of, no_reading, reading_at, AreOpened, IsBegun, Drains, DrainsFront}
-use Rattle.file_run.specs.Running.{Feeds, IsRunning}
-use Rattle.file_run.specs.Running.{IsReader, read_fault}
+use Rattle.file_run.specs.Running.{Feeds, IsRunning, IsReader, read_fault}
 use Rattle.file_run.specs.Sink.{Sink, Into, Aloud, creates, out_of, AreOthers, IsOpen}
 use Rattle.file_run.specs.declared.output.OpenOutput.{OpenOutput}
 use Rattle.file_run.specs.declared.output.OpenOutput.TheVariants.{File, Standard}

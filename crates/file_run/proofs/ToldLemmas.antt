@@ -1,7 +1,6 @@
 -- How a run ends that says what its machine gives.
 use Rattle.std.proofs.Common.{◌≡◌, ◌≢◌, ℕ, ◌-◌, ◌≤◌, List, [], length, refl, ap, sym, subst, ◌∙◌, inl, inr, arith, Ok}
-use Rattle.std.proofs.Common.{Err}
-use Rattle.std.proofs.Common.{Option, Some, None}
+use Rattle.std.proofs.Common.{Err, Option, Some, None}
 use Rattle.std.specs.Prelude.{Result, IfErr, OnOk}
 use Rattle.ports.specs.declared.counts.Counts.{Counts}
 use Rattle.ports.specs.declared.fault.FaultKind.{FaultKind}

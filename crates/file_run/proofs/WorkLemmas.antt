@@ -1,7 +1,6 @@
 -- A run of a machine that does a work ends as one must that does it.
 use Rattle.std.proofs.Common.{◌≡◌, ℕ, ◌-◌, ◌<◌, true, List, [], ◌++◌, length, Option, Some, None, refl, ap, sym, subst}
-use Rattle.std.proofs.Common.{◌∙◌}
-use Rattle.std.proofs.Common.{inl, inr, arith, length-append, append_assoc}
+use Rattle.std.proofs.Common.{◌∙◌, inl, inr, arith, length-append, append_assoc}
 use Rattle.std.specs.Prelude.{Result, Ok, Err, IfSome, IsSome, slice_index, slice_index_or, replicate}
 use Rattle.std.specs.FinMap.{get}
 use Rattle.std.proofs.lemmas.List.{length-replicate}

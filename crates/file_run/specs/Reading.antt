@@ -1,7 +1,6 @@
 -- How a file is read ahead.
 use Rattle.std.specs.Prelude.{◌≡◌, ◌≢◌, ℕ, ◌+◌, ◌-◌, ◌^◌, ◌<◌, ◌≤◌, Bool, if◌then◌else◌, List, ◌++◌, length}
-use Rattle.std.specs.Prelude.{slice_index}
-use Rattle.std.specs.Prelude.{slice_set, Option, option_map}
+use Rattle.std.specs.Prelude.{slice_index, slice_set, Option, option_map}
 use Rattle.ports.specs.Desk.{State, SameCounts, left_of, has_run_out}
 use Rattle.file_run.specs.Faults.{ReadsFail}
 use Rattle.file_run.specs.declared.ahead.ReadStop.{ReadStop}

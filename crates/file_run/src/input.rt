@@ -1,7 +1,6 @@
 // What was read of a file and not yet taken.
 ghost use Rattle.std.specs.Prelude.{◌≡◌, ◌↔◌, IsTrue, ◌+◌, ◌-◌, ◌<◌, ◌≤◌, ◌==◌, [], false, length, take, drop, IfOk, ℕ};
-ghost use Rattle.std.specs.Prelude.{max, vec_capacity, vec_len};
-ghost use Rattle.std.specs.Prelude.{OnErr};
+ghost use Rattle.std.specs.Prelude.{max, vec_capacity, vec_len, OnErr};
 ghost use Rattle.ports.specs.Desk.{Keeps, Reads, has_run_out};
 ghost use Rattle.ports.specs.Counts.{MayFailReading};
 ghost use Rattle.file_run.specs.Ahead.{ReadsAhead, IsAtEnd};
@@ -29,8 +28,8 @@ struct Span {
 /// Bytes that were read of a file and not yet taken, seen as a list. After `open` it takes no memory.
 #[derive(Drop)]
 pub struct InBuffer {
-    // Room for `BUFFER` bytes, laid out as far as was read: a gateway has a file for each PLP, and pages that are not
-    // touched cost nothing.
+    // Room for `BUFFER` bytes, laid out as far as reads asked for: a gateway has a file for each PLP, and pages that are
+    // not touched cost nothing.
     bytes: Vec<u8>,
     // Where they wait.
     span: Span,

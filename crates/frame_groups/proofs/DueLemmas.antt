@@ -1,7 +1,6 @@
 -- The records that are due.
 use Rattle.std.proofs.Common.{◌≡◌, ℕ, ◌+◌, ◌≤◌, ◌<◌, ◌==◌, ◌&&◌, cond, ⊎_elim, Bool, true, false, List, [], ◌∷◌, ◌++◌}
-use Rattle.std.proofs.Common.{Option}
-use Rattle.std.proofs.Common.{Some, None, refl, ap, sym, subst, ◌∙◌, arith, append_assoc, append-nil}
+use Rattle.std.proofs.Common.{Option, Some, None, refl, ap, sym, subst, ◌∙◌, arith, append_assoc, append-nil}
 use Rattle.std.specs.Prelude.{is_some, nat_lt}
 use Rattle.std.proofs.lemmas.Bool.{true≢false, cond-true, cond-false, lt-ltb, le-ltb, ltb-true, ltb-false, eqb-true}
 use Rattle.std.proofs.lemmas.Bool.{cases_lt}
@@ -12,8 +11,8 @@ use Rattle.t2mi_packet.specs.declared.packet.Packet.{Packet}
 use Rattle.frame_groups.specs.Groups.{Group, key_behind}
 use Rattle.frame_groups.specs.Grouping.{Grouped, no_groups, all_groups, one_packet}
 use Rattle.frame_groups.specs.Modulated.{Numbered, Rules, FrameRecord, content_of, gap_record, group_record}
-use Rattle.frame_groups.specs.Modulated.{number_behind}
-use Rattle.frame_groups.specs.Modulated.{gaps_behind, own_record, records_with, records_from, past_after, modulated}
+use Rattle.frame_groups.specs.Modulated.{number_behind, gaps_behind, own_record, records_with, records_from, past_after}
+use Rattle.frame_groups.specs.Modulated.{modulated}
 use Rattle.frame_groups.specs.Laws.{without_last}
 use Rattle.frame_groups.proofs.FrontLemmas.{none_before, without_last-append}
 use Rattle.frame_groups.specs.Sequenced.{gaps_from, Follows, known_number, kept_groups, Sequenced, Ends, record_now}

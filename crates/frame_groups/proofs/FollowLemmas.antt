@@ -1,7 +1,6 @@
 -- A group after another.
 use Rattle.std.proofs.Common.{◌≡◌, ℕ, suc, ◌+◌, ◌-◌, ◌<◌, ◌≤◌, Bool, true, false, List, [], ◌∷◌, ◌++◌, map, Option}
-use Rattle.std.proofs.Common.{Some, None}
-use Rattle.std.proofs.Common.{refl, ap, ap₂, sym, subst, ◌∙◌, arith, append_assoc, append-nil}
+use Rattle.std.proofs.Common.{Some, None, refl, ap, ap₂, sym, subst, ◌∙◌, arith, append_assoc, append-nil}
 use Rattle.std.specs.List.{range_with_len}
 use Rattle.std.proofs.lemmas.Bool.{true≢false}
 use Rattle.std.proofs.lemmas.Option.{same_Some}
@@ -11,9 +10,8 @@ use Rattle.frame_groups.specs.declared.key.Key.{Key}
 use Rattle.frame_groups.specs.Groups.{Group}
 use Rattle.frame_groups.specs.Numbers.{IsKey, next_number}
 use Rattle.frame_groups.specs.Modulated.{Numbered, Rules, FrameRecord, gap_record, group_record, number_behind}
-use Rattle.frame_groups.specs.Modulated.{join_number}
-use Rattle.frame_groups.specs.Modulated.{past_with, past_behind, gaps_behind, own_record, records_with, records_from}
-use Rattle.frame_groups.specs.Modulated.{past_after}
+use Rattle.frame_groups.specs.Modulated.{join_number, past_with, past_behind, gaps_behind, own_record, records_with}
+use Rattle.frame_groups.specs.Modulated.{records_from, past_after}
 use Rattle.frame_groups.proofs.FrontLemmas.{none_before, records_append}
 use Rattle.frame_groups.proofs.NumberLemmas.{next_law}
 use Rattle.frame_groups.specs.Sequenced.{IsAbove, known_number, gaps_from, HasGiven, Follows}

@@ -1,7 +1,6 @@
 -- What follows changes no record but the last.
 use Rattle.std.proofs.Common.{◌≡◌, ℕ, Bool, true, false, cond, List, [], ◌∷◌, ◌++◌, Option, Some, None, refl, ap, sym}
-use Rattle.std.proofs.Common.{subst, ◌∙◌}
-use Rattle.std.proofs.Common.{append_assoc, append-nil}
+use Rattle.std.proofs.Common.{subst, ◌∙◌, append_assoc, append-nil}
 use Rattle.std.specs.List.{filter}
 use Rattle.std.proofs.lemmas.List.Elements.{filter-append}
 use Rattle.std.proofs.lemmas.Bool.{true≢false}
@@ -11,8 +10,7 @@ use Rattle.frame_groups.specs.Grouping.{Grouped, one_packet, one_more, grouped_f
 use Rattle.frame_groups.specs.declared.key.Key.{Key}
 use Rattle.frame_groups.specs.Modulated.{Numbered, Rules, FrameRecord, past_with, past_behind, past_after, join_number}
 use Rattle.frame_groups.specs.Modulated.{gaps_behind, gaps_between, own_record, group_record, records_with}
-use Rattle.frame_groups.specs.Modulated.{records_from}
-use Rattle.frame_groups.specs.Modulated.{modulated}
+use Rattle.frame_groups.specs.Modulated.{records_from, modulated}
 use Rattle.frame_groups.specs.Numbers.{next_number}
 use Rattle.frame_groups.specs.Laws.{without_last}
 use Rattle.terms.specs.Lists.{IsPrefix}

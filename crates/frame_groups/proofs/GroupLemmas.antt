@@ -1,14 +1,12 @@
 -- Groups that grow.
 use Rattle.std.proofs.Common.{◌≡◌, Bool, true, false, cond, List, [], ◌∷◌, ◌++◌, Option, Some, None, refl, ap, sym}
-use Rattle.std.proofs.Common.{subst, ◌∙◌}
-use Rattle.std.proofs.Common.{append_assoc, append-nil}
+use Rattle.std.proofs.Common.{subst, ◌∙◌, append_assoc, append-nil}
 use Rattle.std.specs.Prelude.{flat_map, option_to_list}
 use Rattle.std.proofs.lemmas.List.Concat.{flat_map-append}
 use Rattle.t2mi_packet.specs.declared.packet.Packet.{Packet}
 use Rattle.frame_groups.specs.Groups.{is_same, Group, key_behind}
 use Rattle.frame_groups.specs.Grouping.{Grouped, one_packet, one_more, joins, key_of, with_packet, grouped_from}
-use Rattle.frame_groups.specs.Grouping.{no_groups}
-use Rattle.frame_groups.specs.Grouping.{grouped, all_groups}
+use Rattle.frame_groups.specs.Grouping.{no_groups, grouped, all_groups}
 use Rattle.frame_groups.specs.declared.key.Key.{Key}
 use Rattle.frame_groups.specs.Laws.{AreApart}
 

@@ -1,7 +1,6 @@
 -- How many records a group can still bring.
 use Rattle.std.proofs.Common.{◌≡◌, ◌⊎◌, ℕ, ◌+◌, ◌<◌, ◌≤◌, ◌==◌, ◌&&◌, Bool, true, false, cond, Option, Some, None, refl}
-use Rattle.std.proofs.Common.{sym, inl}
-use Rattle.std.proofs.Common.{inr, ⊎_elim, arith}
+use Rattle.std.proofs.Common.{sym, inl, inr, ⊎_elim, arith}
 use Rattle.std.specs.Prelude.{nat_lt, is_some}
 use Rattle.std.proofs.lemmas.Bool.{true≢false, ltb-true, eqb-true, and_parts}
 use Rattle.frame_groups.specs.declared.cause.MuteCause.{MuteCause}

@@ -1,7 +1,6 @@
 -- The test of a shape says whether it passes.
 use Rattle.std.proofs.Common.{◌≡◌, ℕ, zero, suc, ◌+◌, ◌-◌, ◌*◌, ◌/◌, ◌%◌, ◌<◌, ◌==◌, ◌&&◌, ◌||◌, not, Bool, true, false}
-use Rattle.std.proofs.Common.{List}
-use Rattle.std.proofs.Common.{[], ◌∷◌, cond, length, refl, sym, ap, ◌∙◌, subst, arith}
+use Rattle.std.proofs.Common.{List, [], ◌∷◌, cond, length, refl, sym, ap, ◌∙◌, subst, arith}
 use Rattle.std.specs.Prelude.{slice_index, nat_le, filter}
 use Rattle.std.specs.List.{list_all, range_with_len}
 use Rattle.std.proofs.Math.Nat.{mod-lt}
@@ -15,8 +14,7 @@ use Rattle.cell_map.specs.Address.{IsCarried, position_of, part_of, address_at, 
 use Rattle.cell_map.specs.CellMap.{Passes, is_carried, carried_cells}
 use Rattle.cell_map.specs.Laws.{PartsRepeat}
 use Rattle.frame_groups.specs.MapTest.{each_below, each_cell, is_within, are_apart, all_apart, counts_within}
-use Rattle.frame_groups.specs.MapTest.{frame_passes}
-use Rattle.frame_groups.specs.MapTest.{map_passes}
+use Rattle.frame_groups.specs.MapTest.{frame_passes, map_passes}
 use Rattle.frame_groups.specs.TestLaws.{MapPasses}
 
 -- each number from one on passes

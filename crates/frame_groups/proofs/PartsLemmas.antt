@@ -1,7 +1,6 @@
 -- The test of an L1-current says whether it is the configuration's and the frame's.
 use Rattle.std.proofs.Common.{◌≡◌, ℕ, ◌%◌, ◌==◌, ◌&&◌, Bool, true, false, List, [], ◌∷◌, map, length, Option, Some}
-use Rattle.std.proofs.Common.{None, Ok, Err}
-use Rattle.std.proofs.Common.{refl, ap, sym, subst, ◌∙◌, arith, append-nil}
+use Rattle.std.proofs.Common.{None, Ok, Err, refl, ap, sym, subst, ◌∙◌, arith, append-nil}
 use Rattle.std.specs.Prelude.{is_some, unwrap_or, nat_eq}
 use Rattle.std.specs.Cmp.Lexicographic.{pointwise, pointwise_decides, bytes_decides}
 use Rattle.std.proofs.lemmas.Bool.{and_from, and_parts, eqb-true, eq-eqb, ne_eqb, cond-false, false≢true}
@@ -10,8 +9,7 @@ use Rattle.plp_config.specs.declared.config.Config.{Config}
 use Rattle.plp_config.specs.declared.plp.Plp.{Plp}
 use Rattle.l1_signal.specs.Fields.{Row, values, Reading}
 use Rattle.l1_signal.specs.L1Configurable.{conf_first_rows, conf_more_rows, conf_plp_rows, conf_back_rows, conf_plp_at}
-use Rattle.l1_signal.specs.L1Configurable.{conf_at}
-use Rattle.l1_signal.specs.L1Configurable.{conf_read, info_size, ConfSpells}
+use Rattle.l1_signal.specs.L1Configurable.{conf_at, conf_read, info_size, ConfSpells}
 use Rattle.l1_signal.specs.L1Dynamic.{dyn_read, DynSpells}
 use Rattle.l1_signal.specs.L1Of.{pre_of, conf_plp_of, conf_of}
 use Rattle.l1_signal.specs.L1Pre.{pre_rows, pre_at, pre_reading, PreSpells}
@@ -25,8 +23,7 @@ use Rattle.l1_signal.specs.declared.pre.L1Pre.{L1Pre}
 use Rattle.frame_groups.specs.Carried.{L1Parts}
 use Rattle.frame_groups.specs.TestLaws.{IsOfFrame, PreValues, ConfTold, PartsTold}
 use Rattle.frame_groups.specs.Tests.{read_whole, same_told, pre_agrees, same_conf, conf_agrees, dyn_agrees}
-use Rattle.frame_groups.specs.Tests.{read_dynamic}
-use Rattle.frame_groups.specs.Tests.{parts_agree}
+use Rattle.frame_groups.specs.Tests.{read_dynamic, parts_agree}
 
 -- what is read whole
 read_pair : {A : Type 0} (y : A) (rest : List Bool) (x : A) → read_whole (Ok (y, rest)) ≡ Some x

@@ -1,7 +1,6 @@
 -- Packets one at a time.
 use Rattle.std.proofs.Common.{◌≡◌, ℕ, ◌+◌, ◌<◌, ◌≤◌, ◌==◌, ◌&&◌, Bool, true, false, cond, List, [], ◌∷◌, ◌++◌, Option}
-use Rattle.std.proofs.Common.{Some, None}
-use Rattle.std.proofs.Common.{refl, ap, sym, subst, ◌∙◌, arith}
+use Rattle.std.proofs.Common.{Some, None, refl, ap, sym, subst, ◌∙◌, arith}
 use Rattle.std.specs.Prelude.{is_some, nat_lt}
 use Rattle.std.specs.List.{filter}
 use Rattle.std.proofs.lemmas.Bool.{true≢false, cond-true, cond-false, ltb-true, ltb-false, eqb-true, eqb-false}
@@ -16,17 +15,14 @@ use Rattle.t2mi_packet.specs.declared.packet.Packet.{Packet}
 use Rattle.frame_groups.specs.Groups.{Group, is_counted, body_counts, is_same, key_behind, body_key, stamp_key}
 use Rattle.frame_groups.specs.Grouping.{Grouped, grouped, no_groups, with_packet, one_packet, one_more, key_of}
 use Rattle.frame_groups.specs.Numbers.{IsKey, next_number}
-use Rattle.frame_groups.specs.Modulated.{Numbered, Rules, FrameRecord, past_with, gap_record, group_record}
-use Rattle.frame_groups.specs.Modulated.{join_number}
+use Rattle.frame_groups.specs.Modulated.{Numbered, Rules, FrameRecord, past_with, gap_record, group_record, join_number}
 use Rattle.frame_groups.proofs.GroupLemmas.{grouped_more}
 use Rattle.frame_groups.specs.declared.cause.MuteCause.TheVariants.{Gap}
 use Rattle.frame_groups.specs.Sequenced.{IsAbove, past_of, number_now, Follows, kept_groups, Sequenced, record_now}
 use Rattle.frame_groups.specs.Waits.{waits_by}
 use Rattle.frame_groups.specs.declared.waiting.Waiting.{Waiting}
 use Rattle.frame_groups.proofs.FollowLemmas.{known_is, number_above, close_joined, close_first, start_joined}
-use Rattle.frame_groups.proofs.FollowLemmas.{start_first}
-use Rattle.frame_groups.proofs.FollowLemmas.{goes_on}
-use Rattle.frame_groups.proofs.FollowLemmas.{begins, gap_given, own_given}
+use Rattle.frame_groups.proofs.FollowLemmas.{start_first, goes_on, begins, gap_given, own_given}
 
 pub kept_more : (r : Rules) (ps : List Packet) (p : Packet) → is_counted r.frames p ≡ true
     → kept_groups r (ps ++ p ∷ [])

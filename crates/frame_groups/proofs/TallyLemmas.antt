@@ -1,7 +1,6 @@
 -- The tests, packet by packet.
 use Rattle.std.proofs.Common.{◌≡◌, ℕ, zero, suc, ◌+◌, ◌*◌, ◌<◌, ◌≤◌, ◌==◌, ◌&&◌, ◌||◌, not, Bool, true, false, List, []}
-use Rattle.std.proofs.Common.{◌∷◌}
-use Rattle.std.proofs.Common.{◌++◌, map, length, Option, Some, None, refl, ap, ap₂, sym, ◌∙◌, arith, length-append}
+use Rattle.std.proofs.Common.{◌∷◌, ◌++◌, map, length, Option, Some, None, refl, ap, ap₂, sym, ◌∙◌, arith, length-append}
 use Rattle.std.specs.Prelude.{slice_index, slice_get, if◌then◌else◌, nat_le, nat_lt, is_some, cond, option_map}
 use Rattle.std.specs.List.{range_with_len, list_all, find, filter}
 use Rattle.std.specs.Option.{option_or, option_and_then, option_map_or}
@@ -23,20 +22,15 @@ use Rattle.t2mi_packet.specs.declared.packet.Stamp.{Stamp}
 use Rattle.frame_groups.specs.Modulated.{Numbered}
 use Rattle.frame_groups.specs.declared.cause.MuteCause.TheVariants.{PacketMissing, L1Refused, PoolFull}
 use Rattle.frame_groups.specs.Carried.{body_block, has_length, blocks_of, right_blocks, L1Parts, body_l1, l1s_of}
-use Rattle.frame_groups.specs.Carried.{body_stamp}
-use Rattle.frame_groups.specs.Carried.{stamps_of}
+use Rattle.frame_groups.specs.Carried.{body_stamp, stamps_of}
 use Rattle.frame_groups.specs.TestLaws.{TestsAreTallied, TallyGrows}
 use Rattle.frame_groups.specs.Tally.{Tally, all_alike, is_unlike, first_unlike, tally, alike_behind, unlike_behind}
-use Rattle.frame_groups.specs.Tally.{tally_need}
-use Rattle.frame_groups.specs.Tally.{tally_room, tally_pool, tally_missing, tally_l1, first_late, tally_time}
-use Rattle.frame_groups.specs.Tally.{tally_counts}
-use Rattle.frame_groups.specs.Tally.{tally_blocks}
-use Rattle.frame_groups.specs.Tally.{tally_map, tally_fault}
+use Rattle.frame_groups.specs.Tally.{tally_need, tally_room, tally_pool, tally_missing, tally_l1, first_late}
+use Rattle.frame_groups.specs.Tally.{tally_time, tally_counts, tally_blocks, tally_map, tally_fault}
 use Rattle.frame_groups.specs.Tests.{unless, begins_superframe, pool_chunks, capped, pool_need, room_test, begun_test}
-use Rattle.frame_groups.specs.Tests.{first_failure, has_count, pool_test, missing_test}
-use Rattle.frame_groups.specs.Tests.{same_parts, parts_agree, l1s_agree, l1_test, stamp_agrees, disagrees, time_test}
-use Rattle.frame_groups.specs.Tests.{first_shape}
-use Rattle.frame_groups.specs.Tests.{has_counts, is_known, blocks_test, map_test, packets_fault}
+use Rattle.frame_groups.specs.Tests.{first_failure, has_count, pool_test, missing_test, same_parts, parts_agree}
+use Rattle.frame_groups.specs.Tests.{l1s_agree, l1_test, stamp_agrees, disagrees, time_test, first_shape, has_counts}
+use Rattle.frame_groups.specs.Tests.{is_known, blocks_test, map_test, packets_fault}
 
 -- one packet more
 blocks_more : (c : Config) (packets : List Packet) (p : Packet) (plp : ℕ) → blocks_of c plp (packets ++ p ∷ [])

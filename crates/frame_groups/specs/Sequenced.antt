@@ -1,8 +1,6 @@
 -- How far the records of groups have come, as `Sequence` and the crates above it say it.
 use Rattle.std.specs.Prelude.{◌≡◌, ℕ, ◌+◌, ◌-◌, ◌<◌, ◌≤◌, nat_lt, Bool, true, false, List, [], ◌∷◌, ◌++◌, map, Option}
-use Rattle.std.specs.Prelude.{Some}
-use Rattle.std.specs.Prelude.{None}
-use Rattle.std.specs.Prelude.{if◌then◌else◌}
+use Rattle.std.specs.Prelude.{Some, None, if◌then◌else◌}
 use Rattle.std.specs.List.{filter, range_with_len}
 use Rattle.frame_groups.specs.declared.cause.MuteCause.{MuteCause}
 use Rattle.frame_groups.specs.declared.key.Key.{Key}
@@ -12,8 +10,7 @@ use Rattle.frame_groups.specs.Grouping.{Grouped, grouped, no_groups}
 use Rattle.frame_groups.specs.declared.waiting.Progress.{Progress}
 use Rattle.frame_groups.specs.Numbers.{IsKey}
 use Rattle.frame_groups.specs.Modulated.{Numbered, Rules, FrameRecord, gap_record, group_record, number_behind}
-use Rattle.frame_groups.specs.Modulated.{past_with}
-use Rattle.frame_groups.specs.Modulated.{gaps_behind, records_with, records_from, past_after}
+use Rattle.frame_groups.specs.Modulated.{past_with, gaps_behind, records_with, records_from, past_after}
 
 -- the number of a group: under way it is known behind the join alone
 abbrev pub known_number : Rules → List Numbered → Group → Option ℕ

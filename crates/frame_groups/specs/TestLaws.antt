@@ -23,9 +23,8 @@ use Rattle.frame_groups.specs.Carried.{L1Parts, stamps_of}
 use Rattle.frame_groups.specs.MapTest.{map_passes}
 use Rattle.frame_groups.specs.Tally.{tally, tally_with, tally_fault}
 use Rattle.plp_config.specs.declared.moment.TheConstants.{MOST_FRAMES}
-use Rattle.frame_groups.specs.Tests.{room_test, pool_test, has_count}
-use Rattle.frame_groups.specs.Tests.{read_whole, same_told, conf_agrees, parts_agree, packets_fault, moment_of}
-use Rattle.frame_groups.specs.Tests.{named_frame}
+use Rattle.frame_groups.specs.Tests.{room_test, pool_test, has_count, read_whole, same_told, conf_agrees, parts_agree}
+use Rattle.frame_groups.specs.Tests.{packets_fault, moment_of, named_frame}
 
 -- The test of a shape, which goes over the frames of one superframe, says whether it passes in every frame of a plan.
 abbrev pub MapPasses : Type 0

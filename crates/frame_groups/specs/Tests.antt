@@ -1,10 +1,8 @@
 -- Why the packets of a group are not those of a frame: the first of our six tests that fails. The fields are those of
 -- ETSI TS 102 773, clause 5.
 use Rattle.std.specs.Prelude.{ℕ, ◌*◌, ◌/◌, ◌%◌, ◌-◌, ◌^◌, ◌==◌, ◌&&◌, ◌||◌, not, min, nat_eq, nat_lt, nat_le, Bool}
-use Rattle.std.specs.Prelude.{true, false}
-use Rattle.std.specs.Prelude.{List, [], ◌∷◌, length, map, sum_by, slice_get, slice_index, Option, Some, None}
-use Rattle.std.specs.Prelude.{option_map, Ok, Err}
-use Rattle.std.specs.Prelude.{if◌then◌else◌}
+use Rattle.std.specs.Prelude.{true, false, List, [], ◌∷◌, length, map, sum_by, slice_get, slice_index, Option, Some}
+use Rattle.std.specs.Prelude.{None, option_map, Ok, Err, if◌then◌else◌}
 use Rattle.std.specs.Bool.{beq}
 use Rattle.std.specs.Cmp.Lexicographic.{pointwise}
 use Rattle.std.specs.List.{find, list_any, list_all, range_with_len}

@@ -109,8 +109,7 @@ pub struct Sequence<G: OpenGroup + Drop> {
 
 impl<G: OpenGroup + Drop> Sequence<G> {
     ghost use Rattle.std.specs.Prelude.{◌≡◌, ◌<◌, ◌≤◌, ◌+◌, ◌-◌, ◌++◌, ◌∷◌, ℕ, List, [], Option, Some, None, is_some};
-    ghost use Rattle.std.specs.Prelude.{true};
-    ghost use Rattle.std.specs.Prelude.{false};
+    ghost use Rattle.std.specs.Prelude.{true, false};
     ghost use Rattle.plp_config.specs.declared.moment.TheConstants.{MOST_FRAMES};
     ghost use Rattle.t2mi_packet.specs.declared.packet.Packet.{Packet};
     ghost use Rattle.frame_groups.specs.Groups.{Group, is_counted, is_same, key_behind};

@@ -1,7 +1,6 @@
 // Laws of the definitions. Their functions do nothing.
 ghost use Rattle.frame_groups.specs.TestLaws.{MapPasses, PreValues, ConfTold, PartsTold, TestsAreTallied, TallyGrows};
-ghost use Rattle.frame_groups.specs.TestLaws.{FrameNamed};
-ghost use Rattle.frame_groups.specs.TestLaws.{TestsAlone};
+ghost use Rattle.frame_groups.specs.TestLaws.{FrameNamed, TestsAlone};
 
 use cell_map::map_law;
 use l1_signal::{conf_law, dyn_law, pre_law};

@@ -9,8 +9,7 @@ use Rattle.std.proofs.lemmas.Slice.Eq.{bytes_eq-Decides}
 use Rattle.frame_weave.proofs.SlotLemmas.{at}
 use Rattle.frame_weave.specs.Laws.{Stood, StoodBehind, AllStood, IsOfFrame}
 use Rattle.frame_weave.specs.Placed.{Placed, next_place, place_of, has_place, one_placed, first_behind, placed_from}
-use Rattle.frame_weave.specs.Placed.{stands_at}
-use Rattle.frame_weave.specs.Placed.{blocks_at, are_alike}
+use Rattle.frame_weave.specs.Placed.{stands_at, blocks_at, are_alike}
 use Rattle.frame_weave.specs.Places.{start_of}
 
 -- packet_count tells the place if it is near

@@ -1,7 +1,6 @@
 -- One packet more is made.
 use Rattle.std.proofs.Common.{◌≡◌, ◌≤◌, ◌+◌, ◌-◌, ℕ, Bool, true, List, [], ◌∷◌, ◌++◌, map, Option, Some, None, is_some}
-use Rattle.std.proofs.Common.{refl, ap, sym}
-use Rattle.std.proofs.Common.{◌<◌, subst, ◌∙◌, ⊎_elim, arith, append-nil, append_assoc}
+use Rattle.std.proofs.Common.{refl, ap, sym, ◌<◌, subst, ◌∙◌, ⊎_elim, arith, append-nil, append_assoc}
 use Rattle.std.specs.Prelude.{slice_index, slice_index_or}
 use Rattle.std.specs.List.{flat_map, range_with_len}
 use Rattle.std.proofs.lemmas.Grind.{flat_map-append}

@@ -1,7 +1,6 @@
 -- What an L1-current of a frame tells.
 use Rattle.std.proofs.Common.{◌≡◌, ℕ, ◌≤◌, ◌&&◌, Bool, true, false, List, [], ◌∷◌, ◌++◌, map, length, Option, Some}
-use Rattle.std.proofs.Common.{None, is_some}
-use Rattle.std.proofs.Common.{refl, ap, sym, subst, ◌∙◌, arith}
+use Rattle.std.proofs.Common.{None, is_some, refl, ap, sym, subst, ◌∙◌, arith}
 use Rattle.std.specs.Prelude.{cond}
 use Rattle.std.specs.Option.{option_map, option_map_or, option_and_then}
 use Rattle.std.proofs.lemmas.Bool.{and_parts, false≢true}
@@ -19,8 +18,7 @@ use Rattle.t2mi_packet.specs.declared.packet.Packet.{Packet}
 use Rattle.frame_groups.specs.Carried.{L1Parts}
 use Rattle.frame_groups.specs.TestLaws.{PartsTold}
 use Rattle.frame_groups.specs.Tests.{read_whole, pre_agrees, conf_agrees, dyn_agrees, read_dynamic, parts_agree}
-use Rattle.frame_groups.specs.Tests.{first_shape}
-use Rattle.frame_groups.specs.Tests.{l1_shape, begins_superframe}
+use Rattle.frame_groups.specs.Tests.{first_shape, l1_shape, begins_superframe}
 use Rattle.frame_writer.specs.FramePackets.{packet_with, stamp_of}
 use Rattle.open_group.specs.Signals.{first_parts, signals}
 use Rattle.frame_weave.specs.Made.{Fitting}

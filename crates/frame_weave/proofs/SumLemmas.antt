@@ -1,7 +1,6 @@
 -- Sums over the places of a frame, PLP by PLP.
 use Rattle.std.proofs.Common.{◌≡◌, ℕ, zero, suc, ◌+◌, ◌-◌, ◌*◌, ◌<◌, ◌≤◌, List, [], ◌∷◌, length, get_or, sum_by, refl}
-use Rattle.std.proofs.Common.{ap, sym, ◌∙◌}
-use Rattle.std.proofs.Common.{⊎_elim, arith, Bool, true, false, subst}
+use Rattle.std.proofs.Common.{ap, sym, ◌∙◌, ⊎_elim, arith, Bool, true, false, subst}
 use Rattle.std.specs.Prelude.{slice_index}
 use Rattle.std.specs.List.{range_with_len, list_all}
 use Rattle.std.proofs.lemmas.List.Folds.{list_all_at}

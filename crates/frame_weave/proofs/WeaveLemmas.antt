@@ -1,6 +1,6 @@
 -- One group more is looked at, or placed.
-use Rattle.std.proofs.Common.{◌≡◌, ℕ, ◌<◌, ◌&&◌, Bool, true, false, List, [], ◌∷◌, ◌++◌, length, Option, Some}
-use Rattle.std.proofs.Common.{refl, ap, ap₂, sym, subst, ◌∙◌, arith, append-nil}
+use Rattle.std.proofs.Common.{◌≡◌, ℕ, ◌<◌, ◌&&◌, Bool, true, false, List, [], ◌∷◌, ◌++◌, length, Option, Some, refl, ap}
+use Rattle.std.proofs.Common.{ap₂, sym, subst, ◌∙◌, arith, append-nil}
 use Rattle.std.specs.Bool.{beq}
 use Rattle.std.specs.Cmp.Lexicographic.{pointwise}
 use Rattle.std.specs.List.{flat_map, list_all}
@@ -29,8 +29,7 @@ use Rattle.frame_weave.specs.Places.{has_room}
 use Rattle.frame_weave.specs.Slots.{IsLaid, HoldsPlaced, AreSized, Fills}
 use Rattle.frame_weave.specs.Weaves.{State, Signalled, TakesFirst}
 use Rattle.frame_weave.specs.Woven.{signalling, same_dynamic, counts_by, placed_in, placed_by, placed_of, origin_of}
-use Rattle.frame_weave.specs.Woven.{stamp_bodies}
-use Rattle.frame_weave.specs.Woven.{front_bodies, l1_bodies, group_with}
+use Rattle.frame_weave.specs.Woven.{stamp_bodies, front_bodies, l1_bodies, group_with}
 use Rattle.frame_weave.specs.declared.slots.Slots.{Slots}
 
 -- the signalling groups, with one more

@@ -1,7 +1,6 @@
 -- Where the blocks of a group stand in its frame (ETSI TS 102 773, clause 5.1): packet_count tells it modulo 256.
 use Rattle.std.specs.Prelude.{ℕ, ◌+◌, ◌*◌, ◌%◌, ◌==◌, ◌&&◌, max, nat_lt, Bool, true, bytes_eq, List, length, [], ◌∷◌}
-use Rattle.std.specs.Prelude.{◌++◌, map, filter}
-use Rattle.std.specs.Prelude.{slice_index_or, if◌then◌else◌}
+use Rattle.std.specs.Prelude.{◌++◌, map, filter, slice_index_or, if◌then◌else◌}
 use Rattle.std.specs.List.{list_all}
 use Rattle.frame_weave.specs.Marked.{MarkedBlock}
 use Rattle.frame_weave.specs.Places.{start_of}

@@ -29,8 +29,7 @@ impl<'p> MarkedGroup<'p> {
     ghost use Rattle.frame_groups.specs.Grouping.{one_more};
     ghost use Rattle.open_group.specs.Holds.{Holds};
     ghost use Rattle.open_group.specs.Signals.{fits_pool};
-    ghost use Rattle.frame_weave.specs.Holds.{HoldsMarks};
-    ghost use Rattle.frame_weave.specs.Holds.{HoldsMarked, AreMarks};
+    ghost use Rattle.frame_weave.specs.Holds.{HoldsMarks, HoldsMarked, AreMarks};
     ghost use Rattle.frame_weave.specs.Marked.{marked_blocks, first_count};
 
     /// A group in a network of this plan: none yet. It takes all the memory that a group needs.

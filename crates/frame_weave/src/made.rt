@@ -43,8 +43,7 @@ fn stamp_of(plan: &Plan, number: u64) -> Stamp
 }
 
 impl<'p> MadeGroup<'p> {
-    ghost use Rattle.std.specs.Prelude.{◌≡◌, ◌<◌, ◌≤◌, ◌^◌, ◌++◌, ◌∷◌, [], true, false, List, None};
-    ghost use Rattle.std.specs.Prelude.{IfOk, length};
+    ghost use Rattle.std.specs.Prelude.{◌≡◌, ◌<◌, ◌≤◌, ◌^◌, ◌++◌, ◌∷◌, [], true, false, List, None, IfOk, length};
     ghost use Rattle.t2mi_packet.specs.T2miPacket.{Fits};
     ghost use Rattle.t2mi_packet.specs.declared.packet.Body.{Body};
     ghost use Rattle.t2mi_packet.specs.declared.packet.Packet.{Packet};

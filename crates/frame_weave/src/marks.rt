@@ -30,8 +30,7 @@ pub struct HeldMarks {
 
 impl HeldMarks {
     ghost use Rattle.std.specs.Prelude.{◌≡◌, ◌≤◌, ◌<◌, ◌∷◌, ◌++◌, ◌*◌, [], ℕ, Bool, List, Option, Some, None, true};
-    ghost use Rattle.std.specs.Prelude.{IfOk, length};
-    ghost use Rattle.std.specs.Prelude.{vec_len, if◌then◌else◌, nat_lt};
+    ghost use Rattle.std.specs.Prelude.{IfOk, length, vec_len, if◌then◌else◌, nat_lt};
     ghost use Rattle.std.specs.Option.{option_or};
     ghost use Rattle.frame_groups.specs.Tests.{pool_chunks};
     ghost use Rattle.open_group.specs.Signals.{fits_pool};

@@ -50,9 +50,8 @@ fn clear_lists(pool: &mut Pool, lists: u32)
 }
 
 impl Slots {
-    ghost use Rattle.std.specs.Prelude.{◌≡◌, ◌≤◌, ◌<◌, ◌&&◌, ℕ, [], true, length, take, bytes_eq};
-    ghost use Rattle.std.specs.Prelude.{IfOk};
-    ghost use Rattle.std.specs.Prelude.{slice_index_or, nat_lt};
+    ghost use Rattle.std.specs.Prelude.{◌≡◌, ◌≤◌, ◌<◌, ◌&&◌, ℕ, [], true, length, take, bytes_eq, IfOk, slice_index_or};
+    ghost use Rattle.std.specs.Prelude.{nat_lt};
     ghost use Rattle.std.specs.List.{list_all, range_with_len};
     ghost use Rattle.linked_pool.specs.Pool.{list_at, chunks_for, appended};
     ghost use Rattle.frame_groups.specs.Tests.{pool_chunks};

@@ -1,7 +1,6 @@
 -- Packets are built and fed, one by one.
 use Rattle.std.proofs.Common.{◌≡◌, ℕ, ◌+◌, ◌%◌, ◌<◌, ◌≤◌, ◌==◌, Bool, true, false, List, [], ◌∷◌, ◌++◌, length, take}
-use Rattle.std.proofs.Common.{drop, refl, ap, sym}
-use Rattle.std.proofs.Common.{subst, ◌∙◌, arith, append-nil, append_assoc, Some, inl, inr}
+use Rattle.std.proofs.Common.{drop, refl, ap, sym, subst, ◌∙◌, arith, append-nil, append_assoc, Some, inl, inr}
 use Rattle.std.specs.Prelude.{slice_get}
 use Rattle.std.proofs.lemmas.Bool.{cases_lt}
 use Rattle.std.proofs.lemmas.Grind.{flat_map-append}

@@ -1,7 +1,6 @@
 -- When a flow is dry, and when it has its end.
 use Rattle.std.proofs.Common.{◌≡◌, ◌+◌, ◌-◌, ◌<◌, ◌≤◌, ℕ, Bool, true, false, List, [], length, take, drop, refl, ap}
-use Rattle.std.proofs.Common.{sym, subst}
-use Rattle.std.proofs.Common.{◌∙◌, arith, le-leb, length-drop}
+use Rattle.std.proofs.Common.{sym, subst, ◌∙◌, arith, le-leb, length-drop}
 use Rattle.std.specs.Prelude.{nat_le, ◌||◌}
 use Rattle.std.proofs.lemmas.Bool.{lt-leb}
 use Rattle.std.proofs.lemmas.List.{take_all}

@@ -1,7 +1,6 @@
 -- How many bytes of the frames begun wait for a unit at most.
 use Rattle.std.proofs.Common.{◌≡◌, ℕ, ◌+◌, ◌-◌, ◌%◌, ◌<◌, ◌≤◌, Bool, true, List, [], ◌∷◌, ◌++◌, length, ap, sym, ◌∙◌}
-use Rattle.std.proofs.Common.{inl, inr}
-use Rattle.std.proofs.Common.{arith, length-append}
+use Rattle.std.proofs.Common.{inl, inr, arith, length-append}
 use Rattle.std.specs.Prelude.{◌==◌}
 use Rattle.std.proofs.lemmas.Bool.{cases_lt, cases_Bool}
 use Rattle.std.proofs.lemmas.Grind.{flat_map-append}
@@ -23,8 +22,7 @@ use Rattle.t2mi_stream.specs.Pipe.{items, joined, carried_len}
 use Rattle.frame_writer.specs.Carried.{of_frame}
 use Rattle.gateway_core.specs.Laws.{WaitsThreeFrames}
 use Rattle.frame_writer.specs.FramePackets.{l1_body, packet_with, packets_from}
-use Rattle.gateway_core.specs.Packets.{plp_bodies, frame_bodies, bodies_before}
-use Rattle.gateway_core.specs.Packets.{front_packets}
+use Rattle.gateway_core.specs.Packets.{plp_bodies, frame_bodies, bodies_before, front_packets}
 use Rattle.frame_writer.specs.Signalling.{pre_part, conf_part}
 use Rattle.gateway_core.specs.Signalling.{dyn_part}
 use Rattle.frame_writer.proofs.CarriedLemmas.{packets_append}

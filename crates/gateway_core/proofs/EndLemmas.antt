@@ -1,7 +1,6 @@
 -- The last frame.
 use Rattle.std.proofs.Common.{◌≡◌, ℕ, ◌*◌, ◌<◌, ◌≤◌, Bool, true, List, [], length, refl, ap, sym, ◌∙◌, arith}
-use Rattle.std.proofs.Common.{length-take}
-use Rattle.std.proofs.Common.{append-nil}
+use Rattle.std.proofs.Common.{length-take, append-nil}
 use Rattle.std.specs.Prelude.{◌↔◌}
 use Rattle.std.specs.declared.option.Option.{Option}
 use Rattle.terms.proofs.CaseLemmas.{bool_cases}

@@ -1,15 +1,12 @@
 -- An input takes packets, and its chain null packets behind them.
 use Rattle.std.proofs.Common.{◌≡◌, ℕ, zero, suc, ◌+◌, ◌-◌, ◌*◌, ◌<◌, ◌≤◌, Bool, true, false, cond, List, [], ◌∷◌, ◌++◌}
-use Rattle.std.proofs.Common.{Option}
-use Rattle.std.proofs.Common.{Some, None, length, map, replicate, is_some, refl, ap, sym, subst, ◌∙◌, arith, append-nil}
-use Rattle.std.proofs.Common.{append_assoc, max, inl, inr, ◌^◌}
-use Rattle.std.specs.Prelude.{IfSome}
+use Rattle.std.proofs.Common.{Option, Some, None, length, map, replicate, is_some, refl, ap, sym, subst, ◌∙◌, arith}
+use Rattle.std.proofs.Common.{append-nil, append_assoc, max, inl, inr, ◌^◌}
+use Rattle.std.specs.Prelude.{IfSome, slice_index_or, Result, Ok, Err, OnOk, IfErr, IsOk}
 use Rattle.std.proofs.Math.Nat.{mul-le-mul_right}
 use Rattle.std.proofs.Math.Logic.{∥∥₁_map}
-use Rattle.std.proofs.lemmas.Grind.{not_there}
-use Rattle.std.specs.Prelude.{slice_index_or, Result, Ok, Err, OnOk, IfErr, IsOk}
+use Rattle.std.proofs.lemmas.Grind.{not_there, flat_map-append}
 use Rattle.std.proofs.lemmas.Bool.{cases_eq}
-use Rattle.std.proofs.lemmas.Grind.{flat_map-append}
 use Rattle.std.proofs.lemmas.List.{replicate_more, get_or_append_left, length_push, length-map}
 use Rattle.std.proofs.lemmas.List.Sums.{sum_by-append}
 use Rattle.terms.specs.Bits.{bits_of}

@@ -1,7 +1,6 @@
 -- Which packet is wanted first.
 use Rattle.std.proofs.Common.{◌≡◌, ℕ, ◌-◌, ◌*◌, ◌<◌, ◌≤◌, true, false, List, length, Some, None, refl, ap, sym, subst}
-use Rattle.std.proofs.Common.{◌∙◌}
-use Rattle.std.proofs.Common.{inl, inr, arith, ⊎_elim}
+use Rattle.std.proofs.Common.{◌∙◌, inl, inr, arith, ⊎_elim}
 use Rattle.std.specs.Prelude.{unwrap_or}
 use Rattle.std.specs.declared.option.Option.{Option}
 use Rattle.std.proofs.lemmas.Bool.{cases_lt, true≢false}

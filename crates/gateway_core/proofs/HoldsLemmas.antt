@@ -1,8 +1,7 @@
 -- A gateway after one event more.
 use Rattle.std.proofs.Common.{◌≡◌, ◌≢◌, ℕ, ◌+◌, ◌-◌, ◌%◌, ◌<◌, Bool, true, false, cond, List, [], ◌∷◌, ◌++◌, Option}
-use Rattle.std.proofs.Common.{Some, None}
-use Rattle.std.proofs.Common.{is_some, length, map, replicate, refl, ap, sym, subst, ◌∙◌, inl, inr, arith, append-nil}
-use Rattle.std.proofs.Common.{append_assoc}
+use Rattle.std.proofs.Common.{Some, None, is_some, length, map, replicate, refl, ap, sym, subst, ◌∙◌, inl, inr, arith}
+use Rattle.std.proofs.Common.{append-nil, append_assoc}
 use Rattle.std.specs.Prelude.{slice_get, slice_index_or, slice_index, ◌==◌, ◌||◌, ◌↔◌}
 use Rattle.std.specs.List.{flat_map, range_with_len}
 use Rattle.std.proofs.lemmas.Bool.{cases_eq, ne_eqb}
@@ -10,7 +9,7 @@ use Rattle.std.proofs.lemmas.Grind.{flat_map-append}
 use Rattle.std.proofs.lemmas.List.{get_or-map, get_or-replicate, length-replicate}
 use Rattle.std.proofs.lemmas.List.Folds.{list_any-append}
 use Rattle.std.proofs.lemmas.List.Sums.{sum_by-append}
-use Rattle.terms.proofs.RangeLemmas.{flat_same}
+use Rattle.terms.proofs.RangeLemmas.{flat_same, range_more}
 use Rattle.linked_pool.specs.Fits.{frame_chunks}
 use Rattle.linked_pool.specs.Pool.{State}
 use Rattle.plp_config.specs.Plps.{plp_at}
@@ -23,8 +22,7 @@ use Rattle.gateway_core.specs.BlocksLeft.{blocks_left}
 use Rattle.gateway_core.specs.Lists.{bits_in}
 use Rattle.frame_writer.specs.Carried.{of_frame}
 use Rattle.gateway_core.specs.Events.{Event, Offered, Ended, Begun, Gave, Finished, offered, has_ended, begins, begun}
-use Rattle.gateway_core.specs.Events.{gives}
-use Rattle.gateway_core.specs.Events.{given, finishes, finished}
+use Rattle.gateway_core.specs.Events.{gives, given, finishes, finished}
 use Rattle.frame_writer.specs.Flowing.{Flows}
 use Rattle.gateway_core.specs.InputsStandFor.{HasFrame, AllFed, AllContinue, AllEnded, HaveEnded, AreSupplied}
 use Rattle.gateway_core.specs.InputsStandFor.{CountsStay}
@@ -35,8 +33,7 @@ use Rattle.t2mi_stream.specs.Complete.{complete_units}
 use Rattle.t2mi_stream.specs.Pipe.{pipe}
 use Rattle.mode_adapt.specs.Blocks.{own_blocks, told_counts}
 use Rattle.frame_writer.specs.FramePackets.{packets_from, l1_body}
-use Rattle.gateway_core.specs.Packets.{front_packets, block_bodies, plp_bodies, frame_bodies}
-use Rattle.gateway_core.specs.Packets.{bodies_before}
+use Rattle.gateway_core.specs.Packets.{front_packets, block_bodies, plp_bodies, frame_bodies, bodies_before}
 use Rattle.frame_writer.specs.Signalling.{pre_part, conf_part}
 use Rattle.gateway_core.specs.Signalling.{dyn_part}
 use Rattle.gateway_core.specs.StandsFor.{Holds, IsLast, wants_by}
@@ -51,7 +48,6 @@ use Rattle.gateway_core.proofs.EpochLemmas.{begins_at_once}
 use Rattle.gateway_core.proofs.FedLemmas.{wants}
 use Rattle.gateway_core.proofs.InputsLemmas.{nothing_told, told_offered, told_ended, told_begun, back_begun}
 use Rattle.gateway_core.proofs.LeftLemmas.{bodies_more as more_left}
-use Rattle.terms.proofs.RangeLemmas.{range_more}
 
 -- what continues with an event continues without it
 pub cont_packet : (t : Told) (packet : List ℕ) (input : List (List ℕ)) → t.ended ≡ false

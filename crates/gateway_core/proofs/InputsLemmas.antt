@@ -1,14 +1,12 @@
 -- One of the inputs changes, and the others stay.
 use Rattle.std.proofs.Common.{◌≡◌, ◌≢◌, ℕ, ◌+◌, ◌*◌, ◌<◌, ◌≤◌, Bool, true, false, cond, List, [], ◌∷◌, ◌++◌, length}
-use Rattle.std.proofs.Common.{map, refl}
-use Rattle.std.proofs.Common.{ap, sym, subst, ◌∙◌, inl, inr, arith, append-nil, eq-eqb}
+use Rattle.std.proofs.Common.{map, refl, ap, sym, subst, ◌∙◌, inl, inr, arith, append-nil, eq-eqb}
 use Rattle.std.specs.Prelude.{slice_index_or, slice_index, slice_set, ◌==◌, ◌||◌}
 use Rattle.std.proofs.Math.Bool.{or-true}
 use Rattle.std.proofs.lemmas.Bool.{cases_eq, cases_lt, cases_Bool, ne_eqb}
 use Rattle.std.proofs.lemmas.Grind.{flat_map-append, same_number_lists, not_there}
 use Rattle.std.proofs.lemmas.List.{length-map, map-set, length-set, get_or-set_same, get_or-set_other, get_or-map}
-use Rattle.std.proofs.lemmas.List.{get_or_default}
-use Rattle.std.proofs.lemmas.List.{get_or_append_left, get_or_push}
+use Rattle.std.proofs.lemmas.List.{get_or_default, get_or_append_left, get_or_push}
 use Rattle.std.proofs.lemmas.List.Folds.{list_any-append}
 use Rattle.std.proofs.lemmas.List.FromFn.{length-map-range_with_len, get_or-map-range_with_len}
 use Rattle.std.proofs.lemmas.List.Sums.{sum_by-append}
@@ -29,8 +27,7 @@ use Rattle.mode_adapt.specs.Deletion.{packet_at}
 use Rattle.gateway_core.specs.Events.{Event, Offered, Ended, Begun, packets_to, offered, ends, has_ended, begins, begun}
 use Rattle.gateway_core.specs.IsFed.{IsFed, IsSupplied, wanted, most}
 use Rattle.gateway_core.specs.InputsStandFor.{AllFed, AreFor, AllContinue, AreBlocks, HasCut, CutsOne, CutUntil}
-use Rattle.gateway_core.specs.InputsStandFor.{HasFrame}
-use Rattle.gateway_core.specs.InputsStandFor.{SameMost, AreSupplied, GoesOn, CountsStay}
+use Rattle.gateway_core.specs.InputsStandFor.{HasFrame, SameMost, AreSupplied, GoesOn, CountsStay}
 use Rattle.gateway_core.specs.Lists.{bits_in, own_in, later_in}
 use Rattle.gateway_core.specs.InputSoFar.{Told, told, with_packet, at_end, in_next, Continues}
 use Rattle.gateway_core.specs.declared.input.Input.{Input}

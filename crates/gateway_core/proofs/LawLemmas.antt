@@ -1,7 +1,6 @@
 -- How many frames a run has, and what decides their packets.
 use Rattle.std.proofs.Common.{◌≡◌, ℕ, zero, suc, ◌+◌, ◌-◌, ◌*◌, ◌%◌, ◌<◌, ◌≤◌, Bool, true, List, [], ◌∷◌, ◌++◌, length}
-use Rattle.std.proofs.Common.{max}
-use Rattle.std.proofs.Common.{cond, refl, ap, sym, subst, ◌∙◌, inl, inr, arith, append-nil, append_assoc, add-one}
+use Rattle.std.proofs.Common.{max, cond, refl, ap, sym, subst, ◌∙◌, inl, inr, arith, append-nil, append_assoc, add-one}
 use Rattle.std.specs.Int.{div_ceil}
 use Rattle.std.proofs.lemmas.Bool.{cases_lt}
 use Rattle.std.proofs.Math.Nat.{mul-le-mul_right}
@@ -21,10 +20,8 @@ use Rattle.frame_writer.specs.Carried.{of_frame}
 use Rattle.gateway_core.specs.Events.{offered}
 use Rattle.gateway_core.specs.Laws.{NotYetLast, FrontsGrow, UnitsLaw, FrontsDecided, LastIsAll}
 use Rattle.mode_adapt.specs.Blocks.{plp_blocks, own_blocks, told_count, told_counts}
-use Rattle.frame_writer.specs.FramePackets.{l1_body, with_stamp}
-use Rattle.gateway_core.specs.Packets.{block_bodies, plp_bodies, frame_bodies, bodies_before}
-use Rattle.frame_writer.specs.FramePackets.{packets_from}
-use Rattle.gateway_core.specs.Packets.{front_packets}
+use Rattle.frame_writer.specs.FramePackets.{l1_body, with_stamp, packets_from}
+use Rattle.gateway_core.specs.Packets.{block_bodies, plp_bodies, frame_bodies, bodies_before, front_packets}
 use Rattle.frame_writer.specs.Signalling.{pre_part, conf_part}
 use Rattle.gateway_core.specs.Signalling.{dyn_part}
 use Rattle.frame_writer.proofs.CarriedLemmas.{packets_append}

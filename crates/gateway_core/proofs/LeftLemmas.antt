@@ -1,9 +1,7 @@
 -- The blocks that are left, one by one.
 use Rattle.std.proofs.Common.{◌≡◌, ◌≢◌, ℕ, zero, suc, ◌+◌, ◌-◌, ◌%◌, ◌<◌, ◌≤◌, Bool, true, false, List, [], ◌∷◌, ◌++◌}
-use Rattle.std.proofs.Common.{length}
-use Rattle.std.proofs.Common.{map, drop, refl, ap, sym, subst, ◌∙◌, inl, inr, arith, eq-eqb, get_or-set_same}
-use Rattle.std.proofs.Common.{get_or-set_other}
-use Rattle.std.proofs.Common.{cond}
+use Rattle.std.proofs.Common.{length, map, drop, refl, ap, sym, subst, ◌∙◌, inl, inr, arith, eq-eqb, get_or-set_same}
+use Rattle.std.proofs.Common.{get_or-set_other, cond}
 use Rattle.std.specs.Prelude.{◌==◌, ◌||◌, not, slice_index_or}
 use Rattle.std.specs.List.{flat_map, range_with_len}
 use Rattle.std.proofs.lemmas.Bool.{cases_lt, cases_eq, cases_Bool, ne_eqb, lt-ltb, le-ltb}
@@ -23,12 +21,11 @@ use Rattle.frame_writer.specs.FramePackets.{packet_with}
 use Rattle.gateway_core.specs.Packets.{block_bodies, plp_bodies}
 use Rattle.frame_writer.specs.Builds.{Builds}
 use Rattle.gateway_core.specs.Left.{early_until, early_at}
-use Rattle.frame_writer.specs.FirstPacket.{from_step}
+use Rattle.frame_writer.specs.FirstPacket.{from_step, first_step}
 use Rattle.frame_writer.specs.Whole.{IsWhole}
 use Rattle.frame_writer.specs.declared.step.FrameStep.{FrameStep}
 use Rattle.frame_writer.specs.declared.step.FrameStep.TheVariants.{Stamp, Signal, Blocks}
 use Rattle.gateway_core.specs.BlocksLeft.{blocks_left}
-use Rattle.frame_writer.specs.FirstPacket.{first_step}
 use Rattle.gateway_core.specs.Lists.{bits_in, own_in, later_in, AllShort, IsNext}
 
 -- the PLPs from one on are that one and the others

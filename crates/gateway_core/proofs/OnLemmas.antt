@@ -20,8 +20,7 @@ use Rattle.gateway_core.specs.Slots.{pass_events}
 use Rattle.gateway_core.specs.Splitting.{Splits}
 use Rattle.gateway_core.specs.Works.{Works}
 use Rattle.gateway_core.proofs.EventLemmas.{offered_append, ended_append, AreQuiet, all_quiet, passed_quiet}
-use Rattle.gateway_core.proofs.EventLemmas.{passed_ends, passed_later}
-use Rattle.gateway_core.proofs.EventLemmas.{passed_offers}
+use Rattle.gateway_core.proofs.EventLemmas.{passed_ends, passed_later, passed_offers}
 use Rattle.gateway_core.proofs.MemberLemmas.{own_of, alone_is}
 use Rattle.gateway_core.proofs.PassedLemmas.{slot_passed, stream_ended}
 use Rattle.gateway_core.proofs.RangeLemmas.{not_found}

@@ -1,9 +1,8 @@
 -- What goes on of the inputs of a group, one after the other.
 use Rattle.std.proofs.Common.{◌≡◌, ◌≢◌, ℕ, ◌+◌, ◌<◌, ◌≤◌, ◌==◌, ◌&&◌, not, Bool, true, false, List, [], ◌∷◌, ◌++◌, Some}
-use Rattle.std.proofs.Common.{None, refl, ap, sym, subst, ◌∙◌, inl, inr}
-use Rattle.std.proofs.Common.{arith, append_assoc, append-nil}
+use Rattle.std.proofs.Common.{None, refl, ap, sym, subst, ◌∙◌, inl, inr, arith, append_assoc, append-nil}
 use Rattle.std.specs.declared.option.Option.{Option}
-use Rattle.std.specs.Prelude.{is_some}
+use Rattle.std.specs.Prelude.{is_some, if◌then◌else◌}
 use Rattle.std.proofs.lemmas.Bool.{cases_eq, true≢false, and_parts}
 use Rattle.plp_config.specs.declared.config.Config.{Config}
 use Rattle.common_plp.specs.Groups.{is_common, group_of, is_own_in}
@@ -13,7 +12,6 @@ use Rattle.gateway_core.specs.Events.{Event, Offered}
 use Rattle.gateway_core.specs.StandsFor.{GatewayStandsFor, status_of, wants_of}
 use Rattle.gateway_core.specs.declared.gateway.Gateway.{Gateway}
 use Rattle.gateway_core.specs.Order.{is_member}
-use Rattle.std.specs.Prelude.{if◌then◌else◌}
 use Rattle.gateway_core.specs.Slots.{held_at, offered_of, kept_of, passed_of, passed, PassesOne, PassesOn, HeldWanted}
 use Rattle.gateway_core.specs.Slots.{any_held, is_held_in, slot_in, share_events}
 use Rattle.gateway_core.proofs.RangeLemmas.{flat_more, not_found}

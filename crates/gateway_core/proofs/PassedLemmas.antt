@@ -1,6 +1,6 @@
 -- A slot of a group went on, or the stream of its common PLP ended: what holds behind it.
-use Rattle.std.proofs.Common.{◌≡◌, ◌≢◌, ℕ, ◌+◌, ◌<◌, ◌≤◌, Bool, true, false, inl, inr, List, [], ◌∷◌, ◌++◌}
-use Rattle.std.proofs.Common.{length, Some, None, refl, ap, sym, subst, ◌∙◌, arith, append-nil, length-append}
+use Rattle.std.proofs.Common.{◌≡◌, ◌≢◌, ℕ, ◌+◌, ◌<◌, ◌≤◌, Bool, true, false, inl, inr, List, [], ◌∷◌, ◌++◌, length}
+use Rattle.std.proofs.Common.{Some, None, refl, ap, sym, subst, ◌∙◌, arith, append-nil, length-append}
 use Rattle.std.specs.Prelude.{slice_get, unwrap_or, if◌then◌else◌}
 use Rattle.std.specs.declared.option.Option.{Option}
 use Rattle.std.proofs.lemmas.Bool.{cases_eq, true≢false}
@@ -20,8 +20,7 @@ use Rattle.gateway_core.proofs.MemberLemmas.{member_input, self_member, alone_is
 use Rattle.gateway_core.proofs.MemberLemmas.{longest_some}
 use Rattle.gateway_core.proofs.SplitLemmas.{past_none}
 use Rattle.gateway_core.proofs.SlotLemmas.{IsReady, IsPassed, HasSome, Known, passing, known, some_within, next_packet}
-use Rattle.gateway_core.proofs.SlotLemmas.{lead_packet}
-use Rattle.gateway_core.proofs.SlotLemmas.{more_given}
+use Rattle.gateway_core.proofs.SlotLemmas.{lead_packet, more_given}
 
 -- an option by cases
 by_option : (P : Type 0) (o : Option (List ℕ)) → (o ≡ None → P) → ((x : List ℕ) → o ≡ Some x → P) → P

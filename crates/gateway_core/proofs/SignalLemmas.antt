@@ -1,7 +1,6 @@
 -- A sink with room for all bits takes them all.
 use Rattle.std.proofs.Common.{◌≡◌, ℕ, ◌-◌, ◌*◌, ◌≤◌, Bool, false, List, [], ◌++◌, length, take, Some, Result, Ok, Err}
-use Rattle.std.proofs.Common.{ap, ◌∙◌}
-use Rattle.std.proofs.Common.{arith, length-append, refl}
+use Rattle.std.proofs.Common.{ap, ◌∙◌, arith, length-append, refl}
 use Rattle.std.specs.Prelude.{OnOk, IfErr, IsOk}
 use Rattle.std.proofs.lemmas.List.{length-take}
 use Rattle.bit_slice.specs.Sink.{State, Puts, Stops}

@@ -1,11 +1,9 @@
 -- What came of the inputs, and what went on of it.
 use Rattle.std.proofs.Common.{◌≡◌, ◌≢◌, ◌⊎◌, ℕ, zero, suc, ◌+◌, ◌<◌, ◌≤◌, Bool, true, false, inl, inr, List, [], ◌∷◌}
-use Rattle.std.proofs.Common.{◌++◌}
-use Rattle.std.proofs.Common.{length, take, drop, Some, None, refl, ap, sym, subst, ◌∙◌, arith, append-nil}
-use Rattle.std.proofs.Common.{length-append}
+use Rattle.std.proofs.Common.{◌++◌, length, take, drop, Some, None, refl, ap, sym, subst, ◌∙◌, arith, append-nil}
+use Rattle.std.proofs.Common.{length-append, ⊎_elim, get_or}
 use Rattle.std.specs.Prelude.{slice_get}
 use Rattle.std.specs.declared.option.Option.{Option}
-use Rattle.std.proofs.Common.{⊎_elim, get_or}
 use Rattle.std.proofs.lemmas.Bool.{cases_eq, cases_lt, true≢false}
 use Rattle.std.proofs.lemmas.List.{take-append-drop, take-append-le, drop_all}
 use Rattle.std.proofs.lemmas.Option.{slice_get-get_or}

@@ -1,16 +1,14 @@
 -- What a gateway with common PLPs stands for behind each call.
 use Rattle.std.proofs.Common.{◌≡◌, ◌≢◌, ℕ, ◌+◌, ◌-◌, ◌*◌, ◌<◌, ◌≤◌, Bool, true, false, List, [], ◌∷◌, ◌++◌, length}
-use Rattle.std.proofs.Common.{Some, None}
-use Rattle.std.proofs.Common.{refl, ap, sym, subst, ◌∙◌, inl, inr, arith, replicate, ⊎_elim}
+use Rattle.std.proofs.Common.{Some, None, refl, ap, sym, subst, ◌∙◌, inl, inr, arith, replicate, ⊎_elim, ◌||◌, cond}
+use Rattle.std.proofs.Common.{append-nil}
 use Rattle.std.specs.Prelude.{slice_get}
 use Rattle.std.specs.declared.option.Option.{Option}
 use Rattle.std.proofs.Math.Logic.{∥∥₁_map}
-use Rattle.std.proofs.Common.{◌||◌, cond, append-nil}
 use Rattle.std.specs.List.{list_any}
 use Rattle.std.proofs.lemmas.Bool.{cases_eq, cases_lt, true≢false}
-use Rattle.std.proofs.lemmas.List.{get_or-replicate}
+use Rattle.std.proofs.lemmas.List.{get_or-replicate, length-replicate}
 use Rattle.std.proofs.Math.ListN.{get_or-eq_default}
-use Rattle.std.proofs.lemmas.List.{length-replicate}
 use Rattle.gateway_core.proofs.WantLemmas.{wants_is, some_wanted}
 use Rattle.plp_config.specs.Rules.{AllRules}
 use Rattle.plp_config.specs.declared.config.Config.{Config}
@@ -30,8 +28,7 @@ use Rattle.gateway_core.specs.InputsStandFor.{AllContinue}
 use Rattle.gateway_core.specs.StandsFor.{GatewayStandsFor, plps_of, wants_of}
 use Rattle.gateway_core.specs.declared.gateway.Gateway.{Gateway}
 use Rattle.gateway_core.proofs.HoldsLemmas.{other_offered, other_ended, begun_same, given_same, finished_same}
-use Rattle.gateway_core.proofs.HoldsLemmas.{begun_with}
-use Rattle.gateway_core.proofs.HoldsLemmas.{given_with}
+use Rattle.gateway_core.proofs.HoldsLemmas.{begun_with, given_with}
 use Rattle.gateway_core.proofs.InputsLemmas.{told_offered, told_ended}
 use Rattle.gateway_core.specs.Continuing.{InputsContinue}
 use Rattle.gateway_core.specs.Order.{IsInput}

@@ -1,7 +1,6 @@
 -- What a gateway wants, and what holds behind a slot that went on.
 use Rattle.std.proofs.Common.{◌≡◌, ◌≢◌, ℕ, zero, suc, ◌+◌, ◌-◌, ◌*◌, ◌<◌, ◌≤◌, ◌||◌, Bool, true, false, List, [], ◌++◌}
-use Rattle.std.proofs.Common.{length, Some, None}
-use Rattle.std.proofs.Common.{refl, ap, sym, ◌∙◌, inl, inr, arith}
+use Rattle.std.proofs.Common.{length, Some, None, refl, ap, sym, ◌∙◌, inl, inr, arith}
 use Rattle.std.specs.Prelude.{is_some, unwrap_or, if◌then◌else◌}
 use Rattle.std.specs.declared.option.Option.{Option}
 use Rattle.std.proofs.lemmas.Bool.{true≢false, and_parts}

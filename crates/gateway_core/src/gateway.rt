@@ -50,8 +50,7 @@ fn pid_of(plan: &Plan) -> u16
 
 impl<'p> Gateway<'p> {
     ghost use Rattle.std.specs.Prelude.{◌≡◌, ◌≢◌, ◌<◌, ◌≤◌, ◌+◌, ◌^◌, ◌++◌, ◌∷◌, ◌↔◌, ℕ, List, [], true, false, length};
-    ghost use Rattle.std.specs.Prelude.{Some};
-    ghost use Rattle.std.specs.Prelude.{IfOk, slice_get};
+    ghost use Rattle.std.specs.Prelude.{Some, IfOk, slice_get};
     ghost use Rattle.plp_config.specs.declared.config.Config.{Config};
     ghost use Rattle.t2mi_stream.specs.Complete.{complete_units};
     ghost use Rattle.t2mi_stream.specs.Pipe.{pipe};

@@ -61,8 +61,7 @@ fn end_frame(chain: &mut Chain, pool: &mut Pool, list: u32) -> u16
 
 impl Input {
     ghost use Rattle.std.specs.Prelude.{◌≡◌, ◌<◌, ◌≤◌, ◌+◌, ◌*◌, ◌^◌, ℕ, List, Bool, [], true, false, length, IfOk};
-    ghost use Rattle.std.specs.Prelude.{IfSome};
-    ghost use Rattle.std.specs.Prelude.{is_some};
+    ghost use Rattle.std.specs.Prelude.{IfSome, is_some};
     ghost use Rattle.linked_pool.specs.Pool.{Others, IsWhole};
     ghost use Rattle.plp_config.specs.InterleavingFrames.{is_first};
     ghost use Rattle.plp_config.specs.Plps.{plp_at};

@@ -1,7 +1,6 @@
 // The inputs of all PLPs.
 ghost use Rattle.std.specs.Prelude.{◌≡◌, ◌≢◌, ◌<◌, ◌≤◌, ◌+◌, ◌^◌, ◌++◌, ◌∷◌, [], ℕ, List, Bool, length, map};
-ghost use Rattle.std.specs.Prelude.{slice_index};
-ghost use Rattle.std.specs.Prelude.{slice_index_or, IfOk};
+ghost use Rattle.std.specs.Prelude.{slice_index, slice_index_or, IfOk};
 ghost use Rattle.linked_pool.specs.Pool.{IsWhole, list_at};
 ghost use Rattle.plp_config.specs.declared.moment.TheConstants.{MOST_FRAMES};
 ghost use Rattle.plp_config.specs.Plps.{plp_at};
@@ -11,8 +10,7 @@ ghost use Rattle.mode_adapt.specs.Blocks.{told_counts};
 ghost use Rattle.gateway_core.specs.IsFed.{IsSupplied, wanted, most};
 ghost use Rattle.gateway_core.specs.Events.{Event, Offered, Ended, Begun, begun};
 ghost use Rattle.gateway_core.specs.InputsStandFor.{AllFed, AreFor, AllContinue, AreBlocks, CutsOne, SameMost};
-ghost use Rattle.gateway_core.specs.InputsStandFor.{HasFrame};
-ghost use Rattle.gateway_core.specs.InputsStandFor.{AreSupplied, CountsStay};
+ghost use Rattle.gateway_core.specs.InputsStandFor.{HasFrame, AreSupplied, CountsStay};
 ghost use Rattle.gateway_core.specs.Lists.{bits_in, later_in, AllShort};
 ghost use Rattle.gateway_core.specs.declared.input.Input.{Input};
 

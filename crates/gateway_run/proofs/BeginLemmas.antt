@@ -1,7 +1,6 @@
 -- A frame begins, or none comes.
 use Rattle.std.proofs.Common.{◌≡◌, ℕ, ◌+◌, ◌-◌, ◌*◌, ◌<◌, true, false, List, [], ◌∷◌, ◌++◌, length, refl, ap, sym}
-use Rattle.std.proofs.Common.{subst}
-use Rattle.std.proofs.Common.{◌∙◌, inl, inr, arith, length-append, append-nil}
+use Rattle.std.proofs.Common.{subst, ◌∙◌, inl, inr, arith, length-append, append-nil}
 use Rattle.ts_packet.specs.TsFile.{joined, ArePackets}
 use Rattle.std.proofs.lemmas.Bool.{cases_eq}
 use Rattle.plp_config.specs.SlotTime.{slots_by}
@@ -13,8 +12,7 @@ use Rattle.gateway_core.specs.Events.{Event, Begun, Finished, offered, has_ended
 use Rattle.gateway_core.specs.Laws.{NotYetLast, FrontsGrow}
 use Rattle.gateway_core.specs.Packets.{front_packets}
 use Rattle.gateway_core.specs.InputSoFar.{Told, told}
-use Rattle.gateway_core.proofs.HoldsLemmas.{finished_now, begun_with, begun_same, given_same}
-use Rattle.gateway_core.proofs.HoldsLemmas.{finished_same}
+use Rattle.gateway_core.proofs.HoldsLemmas.{finished_now, begun_with, begun_same, given_same, finished_same}
 use Rattle.gateway_core.proofs.InputsLemmas.{nothing_told, told_begun}
 use Rattle.gateway_run.specs.Holds.{AreOffered, IsInTime, AreComplete, HasAll, NoTails, IsIn, Holds}
 use Rattle.common_plp.specs.Inputs.{place_of, input_count, streams_by}

@@ -1,13 +1,11 @@
 -- Units are given.
 use Rattle.std.proofs.Common.{◌≡◌, ℕ, ◌+◌, ◌-◌, ◌<◌, true, false, List, [], ◌∷◌, ◌++◌, length, refl, ap, sym, subst}
-use Rattle.std.proofs.Common.{◌∙◌}
-use Rattle.std.proofs.Common.{inl, inr, arith, append-nil, append_assoc, take, ◌≤◌}
-use Rattle.std.proofs.lemmas.List.{length-take-le, take-append-le}
-use Rattle.std.proofs.Math.Seq.{take-append-add}
-use borrow.Rule.Slice.PartMut.{put_mid, post_of}
+use Rattle.std.proofs.Common.{◌∙◌, inl, inr, arith, append-nil, append_assoc, take, ◌≤◌}
+use borrow.Rule.Slice.PartMut.{put_mid}
 use Rattle.std.specs.Prelude.{Option, Some, None}
 use Rattle.plp_config.specs.declared.config.Config.{Config}
 use Rattle.t2mi_stream.specs.Complete.{complete_units}
+use Rattle.frame_writer.proofs.UnitsLemmas.{piece_taken}
 use Rattle.file_run.specs.Events as run
 use Rattle.file_run.specs.Laws.{EventsTell}
 use Rattle.gateway_core.specs.Events.{Event, Gave, begun, finished}
@@ -31,14 +29,6 @@ use Rattle.gateway_run.proofs.PhaseLemmas.{giving_cases}
 use Rattle.gateway_run.proofs.StreamLemmas.{still_last}
 use Rattle.gateway_run.proofs.StepLemmas.{sends_gave, time_same}
 use Rattle.gateway_run.proofs.TakeLemmas.{offered_as, looked_in, holds_of}
-
--- the bytes of a piece stand behind those before it
-piece_behind : (xs ys : List ℕ) (len k count : ℕ) → len ≤ length xs → count ≤ length ys
-    → take (len + count) (put_mid len k xs ys) ≡ take len xs ++ take count ys
-piece_behind xs ys len k count inside few =
-    ap (λ (n : ℕ). take (n + count) (put_mid len k xs ys)) (sym (length-take-le len xs inside))
-    ∙ take-append-add (take len xs) (ys ++ post_of len k xs) count
-    ∙ ap (λ (l : List ℕ). take len xs ++ l) (take-append-le count ys (post_of len k xs) few)
 
 module _ (way : Sharing) where
   no_tails : (phase : Phase) (c : Config) (events : List Event) (tails : ℕ → List ℕ) → IsGiving phase
@@ -159,7 +149,7 @@ module _ (way : Sharing) where
       → Holds way c (done ++ run.Gave (take all (put_mid len k xs ys)) ∷ []) g place ran
   piece_gave tell c done g place ran xs ys len k count all e inside few h =
       pieces_gave tell c done g place ran (take len xs) (take count ys) (take all (put_mid len k xs ys))
-      (ap (λ (n : ℕ). take n (put_mid len k xs ys)) e ∙ piece_behind xs ys len k count inside few) h
+      (ap (λ (n : ℕ). take n (put_mid len k xs ys)) e ∙ piece_taken xs ys len k count inside few) h
 
   -- All units of the run were given.
   pub units_over : EventsTell → (c : Config) (done : List run.Event) (g next : List Event → Type 0)

@@ -1,7 +1,6 @@
 -- What events more leave of what was.
 use Rattle.std.proofs.Common.{◌≡◌, ℕ, ◌+◌, ◌-◌, ◌*◌, ◌≤◌, true, false, List, [], ◌∷◌, ◌++◌, length, refl, ap, sym, ◌∙◌}
-use Rattle.std.proofs.Common.{arith}
-use Rattle.std.proofs.Common.{append_assoc}
+use Rattle.std.proofs.Common.{arith, append_assoc}
 use Rattle.std.specs.Prelude.{slice_get}
 use Rattle.std.proofs.lemmas.List.{length_push}
 use Rattle.terms.proofs.ListLemmas.{next_element}
@@ -12,15 +11,13 @@ use Rattle.plp_config.specs.declared.config.Config.{Config}
 use Rattle.t2mi_stream.specs.Complete.{complete_units}
 use Rattle.t2mi_stream.specs.Pipe.{pipe}
 use Rattle.gateway_core.specs.Events.{Event, Offered, Ended, Begun, Gave, Finished, has_ended, begins, begun, gives}
-use Rattle.gateway_core.specs.Events.{given}
-use Rattle.gateway_core.specs.Events.{finished}
+use Rattle.gateway_core.specs.Events.{given, finished}
 use Rattle.gateway_core.specs.Laws.{FrontsGrow}
 use Rattle.gateway_core.specs.Packets.{front_packets}
 use Rattle.gateway_core.specs.InputSoFar.{Told, told}
 use Rattle.gateway_core.proofs.InputsLemmas.{nothing_told}
 use Rattle.file_run.specs.Events as run
-use Rattle.gateway_core.proofs.HoldsLemmas.{begun_with, given_with, begun_same}
-use Rattle.gateway_core.proofs.HoldsLemmas.{given_same, finished_same}
+use Rattle.gateway_core.proofs.HoldsLemmas.{begun_with, given_with, begun_same, given_same, finished_same}
 use Rattle.common_plp.specs.Inputs.{place_of, streams_by}
 use Rattle.common_plp.specs.Sharing.{Sharing}
 use Rattle.gateway_run.specs.Holds.{AreComplete, Sends, IsInTime}

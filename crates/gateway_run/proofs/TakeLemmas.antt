@@ -1,7 +1,6 @@
 -- An input was fed, or ended.
 use Rattle.std.proofs.Common.{◌≡◌, ◌≢◌, ℕ, ◌+◌, ◌-◌, ◌*◌, ◌<◌, ◌≤◌, Bool, true, false, cond, List, [], ◌∷◌, ◌++◌}
-use Rattle.std.proofs.Common.{length}
-use Rattle.std.proofs.Common.{refl, ap, sym, subst, ◌∙◌, inl, inr, arith, append-nil, append_assoc, eq-eqb}
+use Rattle.std.proofs.Common.{length, refl, ap, sym, subst, ◌∙◌, inl, inr, arith, append-nil, append_assoc, eq-eqb}
 use Rattle.std.specs.Prelude.{◌==◌, ◌⊎◌, slice_index, Option, Some, None}
 use Rattle.std.proofs.lemmas.Bool.{cases_eq, ne_eqb}
 use Rattle.std.proofs.lemmas.List.{length_push}
@@ -19,8 +18,7 @@ use Rattle.gateway_core.specs.Events.{Event, Offered, Ended, offered, has_ended,
 use Rattle.gateway_core.specs.InputSoFar.{Told, told}
 use Rattle.gateway_core.proofs.InputsLemmas.{told_offered, told_ended}
 use Rattle.gateway_core.proofs.HoldsLemmas.{other_offered, other_ended}
-use Rattle.gateway_run.specs.Holds.{IsOffered, IsInTime, AreComplete, MetBad, StopsFor, NoTails, IsIn}
-use Rattle.gateway_run.specs.Holds.{Holds}
+use Rattle.gateway_run.specs.Holds.{IsOffered, IsInTime, AreComplete, MetBad, StopsFor, NoTails, IsIn, Holds}
 use Rattle.gateway_run.specs.Inputs.{IsBefore, IsLastBy}
 use Rattle.gateway_run.specs.Seen.{WantsFirst}
 use Rattle.gateway_run.specs.Ready.{place_by}

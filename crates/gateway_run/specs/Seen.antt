@@ -1,6 +1,5 @@
 -- What is seen of a gateway between files. No public clause cites this module.
-use Rattle.std.specs.Prelude.{◌≡◌, ◌<◌, ◌-◌, ◌*◌, ℕ, true, false, List, length, Option, Some, None}
-use Rattle.std.specs.Prelude.{slice_get, ◌++◌, []}
+use Rattle.std.specs.Prelude.{◌≡◌, ◌<◌, ◌-◌, ◌*◌, ℕ, true, false, List, length, Option, Some, None, slice_get, ◌++◌, []}
 use Rattle.plp_config.specs.SlotTime.{slots_by}
 use Rattle.plp_config.specs.declared.config.Config.{Config}
 use Rattle.t2mi_stream.specs.Pipe.{pipe}

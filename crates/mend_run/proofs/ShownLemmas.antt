@@ -32,8 +32,7 @@ use Rattle.file_run.specs.Steps.{HasCome}
 use Rattle.mend_run.specs.AsMachine.{Becomes}
 use Rattle.mend_run.specs.Row.{Goes, FeedHas, HaveCome, AllGo, LastCame, GoOn, Pass, AllKnown, OnePasses}
 use Rattle.mend_run.specs.Shown.{Place, Looks, Passes, Sends, Rests, Done, Splits, HasSent, IsSending, IsAt, AllEnded}
-use Rattle.mend_run.specs.Shown.{HasDue, ShownAt, Shown, known_by}
-use Rattle.mend_run.specs.Shown.{HasShown, place_of, tally_of, with_frame}
+use Rattle.mend_run.specs.Shown.{HasDue, ShownAt, Shown, known_by, HasShown, place_of, tally_of, with_frame}
 use Rattle.mend_run.specs.declared.machine.MendMachine.{MendMachine}
 use Rattle.mend_run.specs.declared.phase.Phase.{Phase}
 use Rattle.mend_run.specs.declared.tally.Tally.{Tally}

@@ -4,7 +4,6 @@
 mod feed_counts;
 mod machine;
 mod mending;
-mod missing;
 mod phase;
 mod row;
 mod running;

@@ -8,7 +8,6 @@ ghost use Rattle.mended_frames.specs.declared.mender.Source.TheVariants as sourc
 ghost use Rattle.spaced_frames.specs.StandsFor.{config_of, is_idle, has_finished};
 ghost use Rattle.mend_run.specs.declared.phase.Phase.TheVariants as at;
 
-use crate::missing::none_missing;
 use crate::phase::Phase;
 use crate::row::{end_one, feed_one, next_step, open_feeds};
 use crate::stop::{MendRan, MendStop};
@@ -19,7 +18,7 @@ use file_run::{Ending, FeedCounts, Machine, Step, events_law};
 use frame_weave::MarkedGroup;
 use mended_frames::Mender;
 use plp_config::Plan;
-use ports::{Desk, Note};
+use ports::{Desk, NOT_SENT, Note};
 use spaced_frames::Sender;
 use std::alloc::Global;
 
@@ -138,7 +137,7 @@ impl<'p> MendMachine<'p> {
             phase: Phase::Looks,
             tally: Tally::NONE,
             counts: FeedCounts::none(),
-            missing: none_missing(),
+            missing: Note::none(NOT_SENT),
         })
     }
 }

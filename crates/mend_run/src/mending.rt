@@ -4,7 +4,6 @@ ghost use Rattle.mended_frames.specs.StandsFor.{is_woven_by};
 
 use crate::feed_counts::count_frame;
 use crate::machine::MendMachine;
-use crate::missing::add_missing;
 use crate::phase::Phase;
 use crate::row::pass_next;
 use file_run::events_law;
@@ -82,8 +81,8 @@ impl<'p> MendMachine<'p> {
     {
         let frame = self.mender.frame(&self.feeds, from);
         self.sender.begin(number, &frame);
-        if self.tally.frames > 0 {
-            add_missing(&mut self.missing, self.tally.behind, number);
+        if self.tally.frames > 0 && self.tally.behind < number {
+            self.missing.add_run(self.tally.behind, number - 1);
         }
         self.tally.add_frame(number, is_woven(from));
         self.phase = Phase::Sends { number, from };

@@ -1,7 +1,6 @@
 -- Frames that are made.
 use Rattle.std.proofs.Common.{◌≡◌, ◌<◌, ◌≤◌, ℕ, zero, suc, ◌+◌, ◌%◌, ◌==◌, Bool, true, false, cond, List, [], ◌∷◌, ◌++◌}
-use Rattle.std.proofs.Common.{length, Option, Some, None}
-use Rattle.std.proofs.Common.{refl, ap, sym, subst, ◌∙◌, arith}
+use Rattle.std.proofs.Common.{length, Option, Some, None, refl, ap, sym, subst, ◌∙◌, arith}
 use Rattle.std.specs.Prelude.{nat_lt, find, option_map, option_to_list}
 use Rattle.std.specs.List.{AllByRecursion}
 use Rattle.std.specs.Option.{option_or}
@@ -22,8 +21,7 @@ use Rattle.spaced_frames.proofs.NearLemmas.{spaced_near}
 use Rattle.mended_frames.specs.Feeds.{all_of, made_of_all}
 use Rattle.mended_frames.specs.Laws.{PassBehind, MadePass, MadeRise, MadeAreNear}
 use Rattle.mended_frames.specs.Mended.{Made, passes, made_as, own_of, woven_of, made_of, with_made, past_with, low_of}
-use Rattle.mended_frames.specs.Mended.{taking, mended}
-use Rattle.mended_frames.specs.Mended.{frames_of}
+use Rattle.mended_frames.specs.Mended.{taking, mended, frames_of}
 
 -- ---- they pass
 

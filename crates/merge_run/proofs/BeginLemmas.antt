@@ -38,13 +38,14 @@ use Rattle.feed_merge.specs.declared.feed.FrameFeed.{FrameFeed}
 use Rattle.feed_merge.specs.StandsFor.{MergerStandsFor, has_unit, has_finished, is_fed, bytes_left}
 use Rattle.feed_merge.specs.StandsFor as merger
 use Rattle.feed_merge.specs.declared.merger.Merger.{Merger}
-use Rattle.feed_merge.proofs.LeastLemmas.{next_taken, none_comes}
+use Rattle.feed_merge.proofs.LeastLemmas.{next_taken, none_comes, least_first, least_second, least_most, least_none}
+use Rattle.feed_merge.proofs.LeastLemmas.{some_taken, are_of}
 use Rattle.merge_run.specs.Counted.{counted, added}
 use Rattle.merge_run.specs.Sending.{frame_by, left_for, BeginsAs, Begins}
-use Rattle.merge_run.specs.Shown.{Sends, IsReading, IsLive, IsIn, is_held}
+use Rattle.merge_run.specs.Shown.{Sends, IsReading, IsLive, IsIn, is_held, feed_of, left_at, more_units, frame_bytes}
+use Rattle.merge_run.specs.Shown.{CountsFrames, Shown}
 use Rattle.feed_merge.specs.Both.{IsHeld, OfFeed, IsPast, AreFedWith}
 use Rattle.feed_merge.specs.Fed.{IsFedWith}
-use Rattle.merge_run.specs.Shown.{feed_of, left_at, more_units, frame_bytes, CountsFrames, Shown}
 use Rattle.merge_run.specs.Steps.{left_in, left_of}
 use Rattle.merge_run.specs.Taking.{is_from, leaves, feed_in}
 use Rattle.feed_merge.specs.Seen.{seen_of}
@@ -56,9 +57,7 @@ use Rattle.merge_run.proofs.LiveLemmas.{live_taken}
 use Rattle.merge_run.proofs.FeedLemmas.{TookFor, took_of, took_past, there_at, due_held, formed_due}
 use Rattle.feed_merge.proofs.BoundLemmas.{few_bodies}
 use Rattle.feed_merge.proofs.NumberLemmas.{below_of}
-use Rattle.merge_run.proofs.PickLemmas.{PickIs, pick_first}
-use Rattle.feed_merge.proofs.LeastLemmas.{least_first, least_second, least_most, least_none, some_taken, are_of}
-use Rattle.merge_run.proofs.PickLemmas.{pick_second, pick_none}
+use Rattle.merge_run.proofs.PickLemmas.{PickIs, pick_first, pick_second, pick_none}
 use Rattle.merge_run.proofs.SendLemmas.{frames_append, sends_begun, sends_over, counted_push}
 use Rattle.merge_run.proofs.ShownLemmas.{reading}
 

@@ -22,9 +22,8 @@ use Rattle.file_run.specs.Events.{Event, fed, gave}
 use Rattle.file_run.specs.FileRun.{AreFed}
 use Rattle.file_run.specs.Work.{AreWithin}
 use Rattle.merge_run.specs.Counted.{counted}
-use Rattle.merge_run.specs.MergeRun.{complete_by, picked_below, picked_of, packets_of, units_of, MergesAll}
-use Rattle.merge_run.specs.MergeRun.{HasNone, AreCompleteBelow, HasLate, HasWritten, MayWrite}
-use Rattle.merge_run.specs.MergeRun.{HasRead}
+use Rattle.merge_run.specs.MergeRun.{complete_by, picked_below, picked_of, packets_of, units_of, MergesAll, HasNone}
+use Rattle.merge_run.specs.MergeRun.{AreCompleteBelow, HasLate, HasWritten, MayWrite, HasRead}
 use Rattle.merge_run.specs.Steps.{reach_of}
 use Rattle.feed_merge.specs.declared.seen.Feed.TheVariants.{A, B}
 use Rattle.feed_merge.specs.Both.{IsPast}
@@ -34,8 +33,7 @@ use Rattle.merge_run.specs.declared.phase.Phase.{Phase}
 use Rattle.merge_run.specs.declared.phase.Phase.TheVariants as phase
 use Rattle.feed_merge.specs.Fed.{AreEarly, end_by, ReadsAhead, IsBehind, NoneComes}
 use Rattle.feed_merge.proofs.BothLemmas.{none_given, split_a, split_b, ends_before, reads_ahead, all_a, all_b}
-use Rattle.feed_merge.proofs.BothLemmas.{early_all, none_all, some_all}
-use Rattle.feed_merge.proofs.BothLemmas.{ends_next, late_a, late_b, late_is}
+use Rattle.feed_merge.proofs.BothLemmas.{early_all, none_all, some_all, ends_next, late_a, late_b, late_is}
 use Rattle.feed_merge.proofs.NumberLemmas.{below_of}
 use Rattle.feed_merge.proofs.StepLemmas.{Wants, IsLate}
 use Rattle.feed_merge.proofs.FrontLemmas.{packets_more, given_front}

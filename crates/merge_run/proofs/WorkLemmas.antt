@@ -1,6 +1,6 @@
 -- What a merger does by its files.
-use Rattle.std.proofs.Common.{◌≡◌, ℕ, ◌-◌, ◌<◌, ◌==◌, List, [], ◌∷◌, ◌++◌}
-use Rattle.std.proofs.Common.{length, refl, ap, subst, ◌∙◌, arith, append_assoc}
+use Rattle.std.proofs.Common.{◌≡◌, ℕ, ◌-◌, ◌<◌, ◌==◌, List, [], ◌∷◌, ◌++◌, length, refl, ap, subst, ◌∙◌, arith}
+use Rattle.std.proofs.Common.{append_assoc}
 use Rattle.std.specs.Prelude.{Err, slice_index}
 use Rattle.terms.proofs.CaseLemmas.{bool_cases}
 use Rattle.plp_config.specs.declared.config.Config.{Config}
@@ -18,8 +18,7 @@ use Rattle.file_run.specs.declared.stop.RunFault.TheVariants.{TooLong, ReadFault
 use Rattle.file_run.specs.declared.stop.RunStop.TheVariants.{Files}
 use Rattle.file_run.proofs.StandsLemmas.{fed_since}
 use Rattle.merge_run.specs.AsMachine.{Becomes, ending_in, ending_of}
-use Rattle.merge_run.specs.MergeRun.{MayWrite, HasSome}
-use Rattle.merge_run.specs.MergeRun.{merge_work}
+use Rattle.merge_run.specs.MergeRun.{MayWrite, HasSome, merge_work}
 use Rattle.merge_run.specs.Shown.{Shown, IsDone, IsIn, is_held}
 use Rattle.feed_merge.specs.declared.seen.Feed.TheVariants.{A, B}
 use Rattle.feed_merge.specs.Reading.{step_for}

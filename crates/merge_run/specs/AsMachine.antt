@@ -1,6 +1,5 @@
 -- Two feeds and a merger as a machine between files. No public clause cites this module.
-use Rattle.std.specs.Prelude.{ℕ, ◌==◌, List, Result, Ok, Err}
-use Rattle.std.specs.Prelude.{if◌then◌else◌}
+use Rattle.std.specs.Prelude.{ℕ, ◌==◌, List, Result, Ok, Err, if◌then◌else◌}
 use Rattle.file_run.specs.Events.{Event}
 use Rattle.merge_run.specs.Shown.{Shown}
 use Rattle.merge_run.specs.declared.machine.MergeMachine.{MergeMachine}

@@ -1,7 +1,7 @@
 -- What a machine does by its file.
 use Rattle.std.proofs.Common.{◌≡◌, ◌≢◌, ℕ, ◌+◌, ◌-◌, ◌<◌, ◌≤◌, ◌==◌, Bool, true, false, cond, List, [], ◌∷◌, ◌++◌}
-use Rattle.std.proofs.Common.{length, take}
-use Rattle.std.proofs.Common.{Option, Some, None, refl, ap, sym, subst, ◌∙◌, arith, append_assoc, append-nil, eqb-true}
+use Rattle.std.proofs.Common.{length, take, Option, Some, None, refl, ap, sym, subst, ◌∙◌, arith, append_assoc}
+use Rattle.std.proofs.Common.{append-nil, eqb-true}
 use Rattle.std.specs.Prelude.{Err, nat_lt, slice_index, flat_map}
 use Rattle.std.proofs.lemmas.Bool.{eqb-false, ltb-false, ltb-true}
 use Rattle.std.proofs.lemmas.List.{take_at, take-append-le, nil_from_length}
@@ -29,8 +29,7 @@ use Rattle.file_run.proofs.StandsLemmas.{fed_since}
 use Rattle.file_run.proofs.WorkLemmas.{are_whole}
 use Rattle.modulate_run.specs.AsMachine.{step_of, Behind, IsNext, IsAll, Becomes, ending_of}
 use Rattle.modulate_run.specs.Counted.{counted}
-use Rattle.modulate_run.specs.ModulateRun.{output_of, AreEarly, HasWritten, HasEarly, HasSome}
-use Rattle.modulate_run.specs.ModulateRun.{modulate_work}
+use Rattle.modulate_run.specs.ModulateRun.{output_of, AreEarly, HasWritten, HasEarly, HasSome, modulate_work}
 use Rattle.modulate_run.specs.declared.machine.ModulatorMachine.{ModulatorMachine}
 use Rattle.modulate_run.specs.declared.stop.ModulateRan.{ModulateRan}
 use Rattle.modulate_run.proofs.CountLemmas.{early_one}

@@ -1,7 +1,6 @@
 -- Laws of the records that are due.
 use Rattle.std.proofs.Common.{◌≡◌, ℕ, ◌+◌, ◌-◌, Bool, true, false, List, [], ◌∷◌, ◌++◌, map, Option, Some, None, refl}
-use Rattle.std.proofs.Common.{ap, sym}
-use Rattle.std.proofs.Common.{subst, ◌∙◌, append_assoc}
+use Rattle.std.proofs.Common.{ap, sym, subst, ◌∙◌, append_assoc}
 use Rattle.std.specs.List.{AllByRecursion, range_with_len}
 use Rattle.std.proofs.lemmas.Bool.{true≢false}
 use Rattle.std.proofs.lemmas.List.{map-append}
@@ -15,9 +14,8 @@ use Rattle.frame_groups.specs.Due.{due}
 use Rattle.frame_groups.specs.Groups.{Group, groups}
 use Rattle.frame_groups.specs.Laws.{AreFrom, without_last, ModulatedFront, NumbersFollow}
 use Rattle.frame_groups.specs.Modulated.{FrameRecord, Content, content_of, gap_record, group_record, gaps_behind}
-use Rattle.frame_groups.specs.Modulated.{own_record}
-use Rattle.frame_groups.specs.Modulated.{Numbered, number_behind, past_behind, past_after, records_with, records_from}
-use Rattle.frame_groups.specs.Modulated.{modulated}
+use Rattle.frame_groups.specs.Modulated.{own_record, Numbered, number_behind, past_behind, past_after, records_with}
+use Rattle.frame_groups.specs.Modulated.{records_from, modulated}
 use Rattle.frame_groups.specs.Modulated.Content.{Whole, Muted}
 use Rattle.frame_groups.specs.declared.cause.MuteCause.{MuteCause}
 use Rattle.frame_groups.specs.declared.cause.MuteCause.TheVariants.{Gap}

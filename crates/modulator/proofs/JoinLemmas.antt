@@ -1,7 +1,6 @@
 -- Whether a group that is closed was the join: then records are due, and else none.
 use Rattle.std.proofs.Common.{◌≡◌, ℕ, ◌-◌, ◌≤◌, ◌<◌, ◌==◌, Bool, true, false, List, [], ◌∷◌, ◌++◌, length, Option, Some}
-use Rattle.std.proofs.Common.{None}
-use Rattle.std.proofs.Common.{refl, ap, sym, subst, ◌∙◌, arith, append-nil, length-append}
+use Rattle.std.proofs.Common.{None, refl, ap, sym, subst, ◌∙◌, arith, append-nil, length-append}
 use Rattle.std.specs.Prelude.{is_some, nat_lt, map}
 use Rattle.std.specs.List.{range_with_len}
 use Rattle.std.proofs.lemmas.Bool.{true≢false, ltb-false, eqb-false}
@@ -10,8 +9,7 @@ use Rattle.t2mi_packet.specs.declared.packet.Packet.{Packet}
 use Rattle.t2mi_stream.specs.UnpiperStandsFor.{is_ready}
 use Rattle.frame_groups.specs.Groups.{Group}
 use Rattle.frame_groups.specs.Modulated.{Numbered, Rules, FrameRecord, gap_record, group_record, number_behind}
-use Rattle.frame_groups.specs.Modulated.{gaps_behind}
-use Rattle.frame_groups.specs.Modulated.{own_record, past_with, past_after, records_with, records_from}
+use Rattle.frame_groups.specs.Modulated.{gaps_behind, own_record, past_with, past_after, records_with, records_from}
 use Rattle.frame_groups.specs.Laws.{ModulatedFront}
 use Rattle.frame_groups.specs.Due.{RecordsAreDue}
 use Rattle.frame_groups.specs.Records.{record_of}

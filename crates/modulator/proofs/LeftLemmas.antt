@@ -1,7 +1,6 @@
 -- How much can be taken before bytes are wanted.
 use Rattle.std.proofs.Common.{◌≡◌, ℕ, suc, ◌+◌, ◌*◌, ◌≤◌, ◌<◌, Bool, true, false, cond, Option, Some, None, refl, ap}
-use Rattle.std.proofs.Common.{sym, arith}
-use Rattle.std.proofs.Common.{◌∙◌, ◌++◌, List, length, take, length-append}
+use Rattle.std.proofs.Common.{sym, arith, ◌∙◌, ◌++◌, List, length, take, length-append}
 use Rattle.std.proofs.lemmas.List.{length-take-le}
 use Rattle.std.proofs.Math.Nat.{mul-le-mul_right, suc-mul}
 use Rattle.std.proofs.lemmas.Bool.{true≢false}

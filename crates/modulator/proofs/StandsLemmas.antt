@@ -1,8 +1,7 @@
 -- Bytes in, records out.
 use Rattle.std.proofs.Common.{◌≡◌, ℕ, zero, suc, ◌+◌, ◌-◌, ◌≤◌, ◌<◌, Bool, true, false, List, [], ◌∷◌, ◌++◌, length}
-use Rattle.std.proofs.Common.{take, drop}
-use Rattle.std.proofs.Common.{Option, Some, None, refl, ap, ap₂, sym, subst, ◌∙◌, ⊎_elim, inl, inr, arith, append_assoc}
-use Rattle.std.proofs.Common.{append-nil, length-append}
+use Rattle.std.proofs.Common.{take, drop, Option, Some, None, refl, ap, ap₂, sym, subst, ◌∙◌, ⊎_elim, inl, inr, arith}
+use Rattle.std.proofs.Common.{append_assoc, append-nil, length-append}
 use Rattle.std.specs.Prelude.{is_some, option_map, slice_get, IfSome, IfNone}
 use Rattle.std.proofs.Math.Seq.{take-add}
 use Rattle.std.proofs.lemmas.Bool.{true≢false, false_from_ne_true, cases_lt}
@@ -33,8 +32,7 @@ use Rattle.open_group.specs.Holds.{Holds}
 use Rattle.open_group.specs.declared.group.PooledGroup.{PooledGroup}
 use Rattle.plp_config.specs.declared.config.Config.{Config}
 use Rattle.modulator.specs.Modulating.{packet_of, packets_of, worked, IsAhead, StandsAt, IsSettled, has_record, Course}
-use Rattle.modulator.specs.Modulating.{course_of}
-use Rattle.modulator.specs.Modulating.{HoldsOn}
+use Rattle.modulator.specs.Modulating.{course_of, HoldsOn}
 use Rattle.modulator.specs.StandsFor.{records_due}
 use Rattle.modulator.specs.declared.modulating.Modulating.{Modulating}
 

@@ -1,7 +1,6 @@
 -- What a modulator tells of its next record, and what a front of a file has of its records.
 use Rattle.std.proofs.Common.{◌≡◌, ℕ, ◌+◌, Bool, true, false, List, [], ◌∷◌, ◌++◌, length, Option, Some, None, sym}
-use Rattle.std.proofs.Common.{subst, refl, ap, ◌∙◌, arith}
-use Rattle.std.proofs.Common.{append-nil}
+use Rattle.std.proofs.Common.{subst, refl, ap, ◌∙◌, arith, append-nil}
 use Rattle.std.specs.Prelude.{IfSome, IfNone}
 use Rattle.plp_config.specs.declared.config.Config.{Config}
 use Rattle.frame_groups.specs.Laws.{AreFrom}
@@ -10,8 +9,7 @@ use Rattle.frame_groups.specs.Modulated.{FrameRecord}
 use Rattle.frame_groups.specs.declared.waiting.Waiting.{Waiting}
 use Rattle.modulator.specs.Laws.{DueFront}
 use Rattle.modulator.specs.StandsFor.{ModulatorStandsFor, WaitsAs, config_of, is_finished, is_waiting, next_of}
-use Rattle.modulator.specs.StandsFor.{records_due}
-use Rattle.modulator.specs.StandsFor.{bytes_due, records_of}
+use Rattle.modulator.specs.StandsFor.{records_due, bytes_due, records_of}
 use Rattle.modulator.specs.declared.modulator.Modulator.{Modulator}
 
 -- This waits, or nothing.

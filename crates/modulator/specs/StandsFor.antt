@@ -1,7 +1,6 @@
 -- What a `Modulator` stands for.
 use Rattle.std.specs.Prelude.{◌≡◌, ℕ, ◌+◌, ◌*◌, ◌<◌, ◌≤◌, ◌==◌, Bool, true, false, List, ◌++◌, ◌∷◌, length, Option}
-use Rattle.std.specs.Prelude.{Some, None, flat_map}
-use Rattle.std.specs.Prelude.{if◌then◌else◌}
+use Rattle.std.specs.Prelude.{Some, None, flat_map, if◌then◌else◌}
 use Rattle.plp_config.specs.declared.config.Config.{Config}
 use Rattle.t2mi_stream.specs.Units.{accepted_of}
 use Rattle.t2mi_stream.specs.UnpiperStandsFor.{fed_len}

@@ -14,8 +14,7 @@ pub struct Modulating<'p> {
 
 impl<'p> Modulating<'p> {
     ghost use Rattle.std.specs.Prelude.{◌≡◌, ◌<◌, ◌≤◌, ◌+◌, ◌⊎◌, ◌↔◌, ◌^◌, ◌++◌, ◌∷◌, ℕ, List, [], Some, IfSome};
-    ghost use Rattle.std.specs.Prelude.{IfNone, length};
-    ghost use Rattle.std.specs.Prelude.{take, true, false};
+    ghost use Rattle.std.specs.Prelude.{IfNone, length, take, true, false};
     ghost use Rattle.plp_config.specs.declared.moment.TheConstants.{MOST_FRAMES};
     ghost use Rattle.frame_groups.specs.Groups.{Group};
     ghost use Rattle.frame_groups.specs.Modulated.{FrameRecord};

@@ -23,13 +23,11 @@ pub struct Modulator<'p> {
 
 impl<'p> Modulator<'p> {
     ghost use Rattle.std.specs.Prelude.{◌≡◌, ◌<◌, ◌≤◌, ◌+◌, ◌⊎◌, ◌↔◌, ◌^◌, ◌++◌, ℕ, List, [], IfOk, IfSome, IfNone};
-    ghost use Rattle.std.specs.Prelude.{length, take};
-    ghost use Rattle.std.specs.Prelude.{drop, true, false};
+    ghost use Rattle.std.specs.Prelude.{length, take, drop, true, false};
     ghost use Rattle.terms.specs.Lists.{IsPrefix};
     ghost use Rattle.plp_config.specs.declared.moment.TheConstants.{MOST_FRAMES};
     ghost use Rattle.modulator.specs.StandsFor.{ModulatorStandsFor, WaitsAs, TakesOf, records_due, bytes_due};
-    ghost use Rattle.modulator.specs.StandsFor.{config_of};
-    ghost use Rattle.modulator.specs.StandsFor.{is_finished, fed_of, next_of, is_waiting, left_of};
+    ghost use Rattle.modulator.specs.StandsFor.{config_of, is_finished, fed_of, next_of, is_waiting, left_of};
 
     /// A modulator of a network, to which nothing was fed.
     pub fn open(alloc: Global, plan: &'p Plan) -> Result<Modulator<'p>, OutOfMemory>

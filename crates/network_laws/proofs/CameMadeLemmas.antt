@@ -1,12 +1,10 @@
 -- Each frame of a run of which every packet came in some feed is made.
-use Rattle.std.proofs.Common.{◌≡◌, ◌⊎◌, inl, inr, ℕ, zero, suc, ◌+◌, ◌<◌, ◌≤◌, Bool, true, false}
-use Rattle.std.proofs.Common.{List, [], ◌∷◌, ◌++◌, length, Option, Some, None, refl, ap, sym, subst, ◌∙◌, ⊎_elim}
-use Rattle.std.proofs.Common.{arith}
+use Rattle.std.proofs.Common.{◌≡◌, ◌⊎◌, inl, inr, ℕ, zero, suc, ◌+◌, ◌<◌, ◌≤◌, Bool, true, false, List, [], ◌∷◌, ◌++◌}
+use Rattle.std.proofs.Common.{length, Option, Some, None, refl, ap, sym, subst, ◌∙◌, ⊎_elim, arith}
 use Rattle.std.specs.Prelude.{not, nat_lt, is_some, find, option_map, option_to_list, slice_get}
 use Rattle.std.specs.List.{AllByRecursion}
 use Rattle.std.specs.Option.{option_or}
-use Rattle.std.proofs.lemmas.Bool.{cases_eq, cases_lt, cond-true, cond-false, ltb-true}
-use Rattle.std.proofs.lemmas.Bool.{false_from_ne_true}
+use Rattle.std.proofs.lemmas.Bool.{cases_eq, cases_lt, cond-true, cond-false, ltb-true, false_from_ne_true}
 use Rattle.std.proofs.lemmas.Option.{same_Some}
 use Rattle.terms.proofs.OptionLemmas.{none_some}
 use Rattle.bb_frame.specs.Laws.{ScramblesBack}
@@ -31,17 +29,16 @@ use Rattle.stream_laws.proofs.PassLemmas.{Given}
 use Rattle.frame_weave.specs.Laws.{StoodIsPlaced, PlacedIsOfFrame}
 use Rattle.frame_weave.specs.Woven.{woven}
 use Rattle.feed_events.specs.FeedEvents.{is_stamp}
-use Rattle.mended_frames.specs.Picks.{Coming, number_next, least_next, groups_next}
-use Rattle.mended_frames.specs.Picks.{all_behind, picked_of, pick_next, picked_from, events_in}
+use Rattle.mended_frames.specs.Picks.{Coming, number_next, least_next, groups_next, all_behind, picked_of, pick_next}
+use Rattle.mended_frames.specs.Picks.{picked_from, events_in}
 use Rattle.mended_frames.specs.Mended.{Made, passes as test_passes, made_as, made_of, past_with, low_of, taking, mended}
 use Rattle.mended_frames.proofs.PickLemmas.{passes_least}
-use Rattle.network_laws.specs.FeedsOfRun.{run_packets, CameNear, IsNearOfRun, IsRunFrame}
-use Rattle.network_laws.specs.FeedsOfRun.{AllCame, HaveCome, HasNumber, GoesOn, GoOn}
-use Rattle.network_laws.specs.FeedsOfRun.{HasRunFrame, CameAreMade}
+use Rattle.network_laws.specs.FeedsOfRun.{run_packets, CameNear, IsNearOfRun, IsRunFrame, AllCame, HaveCome, HasNumber}
+use Rattle.network_laws.specs.FeedsOfRun.{GoesOn, GoOn, HasRunFrame, CameAreMade}
 use Rattle.network_laws.proofs.DamagedFeedLemmas.{of_run}
 use Rattle.network_laws.proofs.WholeFeedLemmas.{run_has, least_most, step_is, PastOfRun, BegunMade, passes_behind}
-use Rattle.network_laws.proofs.HonestFeedLemmas.{run_row, behind_near, all_groups_near, least_inside}
-use Rattle.network_laws.proofs.HonestFeedLemmas.{near_of, MadeHas, made_has, all_run}
+use Rattle.network_laws.proofs.HonestFeedLemmas.{run_row, behind_near, all_groups_near, least_inside, near_of, MadeHas}
+use Rattle.network_laws.proofs.HonestFeedLemmas.{made_has, all_run}
 use Rattle.network_laws.proofs.WovenRunLemmas.{woven_has}
 use Rattle.network_laws.proofs.CameBlockLemmas.{OneBrings, IsPlain, l1_place, l1_plain}
 use Rattle.network_laws.proofs.CameWovenLemmas.{woven_some}

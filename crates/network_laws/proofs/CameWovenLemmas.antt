@@ -1,7 +1,6 @@
 -- Groups of a run's frame in which each of its packets came make that frame.
-use Rattle.std.proofs.Common.{◌≡◌, ℕ, ◌+◌, ◌-◌, ◌%◌, ◌<◌, ◌==◌, ◌&&◌, Bool, true, false, cond}
-use Rattle.std.proofs.Common.{List, [], ◌∷◌, length, map, Option, Some, None, refl, ap, sym, subst, ◌∙◌}
-use Rattle.std.proofs.Common.{⊎_elim, arith}
+use Rattle.std.proofs.Common.{◌≡◌, ℕ, ◌+◌, ◌-◌, ◌%◌, ◌<◌, ◌==◌, ◌&&◌, Bool, true, false, cond, List, [], ◌∷◌, length}
+use Rattle.std.proofs.Common.{map, Option, Some, None, refl, ap, sym, subst, ◌∙◌, ⊎_elim, arith}
 use Rattle.std.specs.Prelude.{slice_get, unwrap_or, nat_lt, if◌then◌else◌}
 use Rattle.std.specs.Cmp.{booleans_Decides}
 use Rattle.std.specs.Cmp.Lexicographic.{pointwise_decides}
@@ -34,8 +33,8 @@ use Rattle.frame_weave.specs.Laws.{StoodIsPlaced, PlacedIsOfFrame}
 use Rattle.frame_weave.specs.Marked.{first_count}
 use Rattle.frame_weave.specs.Placed.{Placed, blocks_at, is_one, are_alike}
 use Rattle.frame_weave.specs.Places.{place_count, has_room}
-use Rattle.frame_weave.specs.Woven.{signalling, same_dynamic, placed_in, placed_by, woven_bodies, group_with}
-use Rattle.frame_weave.specs.Woven.{is_whole, woven_by, woven}
+use Rattle.frame_weave.specs.Woven.{signalling, same_dynamic, placed_in, placed_by, woven_bodies, group_with, is_whole}
+use Rattle.frame_weave.specs.Woven.{woven_by, woven}
 use Rattle.network_laws.specs.FeedsOfRun.{HasCome}
 use Rattle.network_laws.proofs.RowGroupLemmas.{row_packets}
 use Rattle.network_laws.proofs.RunPlaceLemmas.{at_place}

@@ -1,8 +1,7 @@
 -- What comes of the frames of a run that are sent again.
 use Rattle.std.proofs.Common.{◌≡◌, ◌≢◌, ℕ, zero, suc, ◌+◌, ◌-◌, ◌%◌, ◌<◌, ◌≤◌, ◌==◌, ◌&&◌, Bool, true, false, List, []}
-use Rattle.std.proofs.Common.{◌∷◌, map, length}
-use Rattle.std.proofs.Common.{find, replicate, Option, Some, None, refl, ap, sym, subst, ◌∙◌, ⊎_elim, inl, inr, arith}
-use Rattle.std.proofs.Common.{eq-eqb}
+use Rattle.std.proofs.Common.{◌∷◌, map, length, find, replicate, Option, Some, None, refl, ap, sym, subst, ◌∙◌, ⊎_elim}
+use Rattle.std.proofs.Common.{inl, inr, arith, eq-eqb}
 use Rattle.std.specs.Prelude.{if◌then◌else◌}
 use Rattle.std.specs.List.{filter, list_all, range_with_len, items_where_true, AllByRecursion}
 use Rattle.std.proofs.Math.Nat.{mod-eq_of_lt}

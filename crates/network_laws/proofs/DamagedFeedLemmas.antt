@@ -1,11 +1,10 @@
 -- The events of a damaged stream of a run have packets of the frames of their numbers.
-use Rattle.std.proofs.Common.{◌≡◌, ◌≢◌, ◌⊎◌, ℕ, zero, suc, ◌+◌, ◌<◌, ◌≤◌, ◌==◌, ◌&&◌, Bool, true, false}
-use Rattle.std.proofs.Common.{cond, List, []}
+use Rattle.std.proofs.Common.{◌≡◌, ◌≢◌, ◌⊎◌, ℕ, zero, suc, ◌+◌, ◌<◌, ◌≤◌, ◌==◌, ◌&&◌, Bool, true, false, cond, List, []}
 use Rattle.std.proofs.Common.{◌∷◌, length, map, Option, Some, None, refl, ap, sym, subst, ◌∙◌, ⊎_elim, arith}
 use Rattle.std.specs.Prelude.{nat_lt, slice_get}
 use Rattle.std.specs.List.{filter, items_where_true, range_with_len, zip, AllByRecursion}
-use Rattle.std.proofs.lemmas.Bool.{cases_Bool, cases_eq, cond-true, cond-false, and_parts, eqb-true}
-use Rattle.std.proofs.lemmas.Bool.{eqb-false, ltb-true, true≢false}
+use Rattle.std.proofs.lemmas.Bool.{cases_Bool, cases_eq, cond-true, cond-false, and_parts, eqb-true, eqb-false}
+use Rattle.std.proofs.lemmas.Bool.{ltb-true, true≢false}
 use Rattle.std.proofs.lemmas.Option.{same_Some}
 use Rattle.terms.proofs.AllLemmas.{all_append}
 use Rattle.terms.proofs.OptionLemmas.{none_some}
@@ -29,12 +28,10 @@ use Rattle.stream_laws.specs.SentFrames.{sent_frames, run_length}
 use Rattle.stream_laws.proofs.CarriedLemmas.{HasFrame}
 use Rattle.stream_laws.proofs.LossLemmas.{is_left}
 use Rattle.feed_events.specs.FeedEvents.{FeedEvent, has_stamp, number_after, number_of, event_of, numbered_from}
-use Rattle.feed_events.specs.FeedEvents.{events_between}
-use Rattle.feed_events.specs.FeedEvents.{feed_events}
+use Rattle.feed_events.specs.FeedEvents.{events_between, feed_events}
 use Rattle.feed_events.specs.FeedEvents.FeedEvent.{Has, Silent}
 use Rattle.network_laws.specs.FeedsOfRun.{run_packets, FewLack, CameNear, IsOfRun, IsNearOfRun, frame_survival}
-use Rattle.network_laws.specs.FeedsOfRun.{SurvivesOfRun, NextIsTold, left_of}
-use Rattle.network_laws.specs.FeedsOfRun.{surviving, IsDamagedRun}
+use Rattle.network_laws.specs.FeedsOfRun.{SurvivesOfRun, NextIsTold, left_of, surviving, IsDamagedRun}
 use Rattle.network_laws.proofs.RunEventLemmas.{stamp_told}
 
 -- ---- what survives of a frame

@@ -1,7 +1,6 @@
 -- The blocks of an epoch, one behind another.
 use Rattle.std.proofs.Common.{◌≡◌, ℕ, zero, suc, ◌+◌, ◌-◌, ◌*◌, ◌<◌, ◌≤◌, List, [], ◌++◌, length, map, ap, ◌∙◌, sym}
-use Rattle.std.proofs.Common.{subst, arith}
-use Rattle.std.proofs.Common.{add-one, length-append}
+use Rattle.std.proofs.Common.{subst, arith, add-one, length-append}
 use Rattle.std.specs.Prelude.{min}
 use Rattle.std.specs.Int.{div_ceil}
 use Rattle.std.specs.List.{flat_map, range_with_len}

@@ -1,13 +1,11 @@
 -- Lists of user packets, and searches in them.
 use Rattle.std.proofs.Common.{◌≡◌, ◌⊎◌, ℕ, zero, suc, ◌+◌, ◌<◌, ◌≤◌, ◌==◌, ◌||◌, Bool, true, false, List, [], ◌∷◌, ◌++◌}
-use Rattle.std.proofs.Common.{length}
-use Rattle.std.proofs.Common.{map, drop, get_or, Option, Some, None, refl, ap, ap₂, ◌∙◌, sym, subst, arith, inl, inr}
-use Rattle.std.proofs.Common.{cond}
+use Rattle.std.proofs.Common.{length, map, drop, get_or, Option, Some, None, refl, ap, ap₂, ◌∙◌, sym, subst, arith, inl}
+use Rattle.std.proofs.Common.{inr, cond}
 use Rattle.std.specs.List.{AllByRecursion, range_with_len, list_any, find, filter}
 use Rattle.std.proofs.lemmas.List.{take_all, take-append-le}
 use Rattle.std.proofs.lemmas.Bool.{both_ways, cases_eq, eq-eqb, eqb-true, or_parts}
-use Rattle.plp_receiver.specs.Packets.{packet_of}
-use Rattle.plp_receiver.specs.Packets.{UserPacket}
+use Rattle.plp_receiver.specs.Packets.{packet_of, UserPacket}
 use Rattle.mode_adapt.specs.UserPackets.{user_packet}
 
 -- Ranges and filters.

@@ -1,10 +1,7 @@
 -- What a PLP is given back of the frames of a run.
 use Rattle.std.proofs.Common.{◌≡◌, ℕ, zero, suc, ◌+◌, ◌-◌, ◌*◌, ◌/◌, ◌<◌, ◌≤◌, ◌%◌, ◌==◌, ◌&&◌, not, Bool, true, false}
-use Rattle.std.proofs.Common.{cond}
-use Rattle.std.proofs.Common.{List, []}
-use Rattle.std.proofs.Common.{◌∷◌, ◌++◌, length, map, replicate, get_or, Option, Some, None, refl, ap, ap₂, ◌∙◌, sym}
-use Rattle.std.proofs.Common.{subst}
-use Rattle.std.proofs.Common.{arith, eq-eqb, eqb-true}
+use Rattle.std.proofs.Common.{cond, List, [], ◌∷◌, ◌++◌, length, map, replicate, get_or, Option, Some, None, refl, ap}
+use Rattle.std.proofs.Common.{ap₂, ◌∙◌, sym, subst, arith, eq-eqb, eqb-true}
 use Rattle.std.specs.Prelude.{find, ◌||◌, nat_le, nat_lt}
 use Rattle.std.specs.List.{AllByRecursion, range_with_len, filter}
 use Rattle.std.proofs.lemmas.Bool.{le-leb, lt-ltb}
@@ -37,8 +34,7 @@ use Rattle.plp_receiver.specs.Laws.{ReadbackOnce}
 use Rattle.plp_receiver.specs.Epochs.{epochs_in, slot_rule, Readback}
 use Rattle.network_laws.specs.ToldEpochs.{IsPacket, ArePackets, is_lost, ended_epochs}
 use Rattle.network_laws.specs.RecoverLaws.{LostEnded, ReadbackRecovers, RunRecovers, RecordsRecover, IsCanonical}
-use Rattle.network_laws.specs.RecoverLaws.{WholeComesBack}
-use Rattle.network_laws.specs.RecoverLaws.{RunComesBack}
+use Rattle.network_laws.specs.RecoverLaws.{WholeComesBack, RunComesBack}
 use Rattle.network_laws.proofs.ReadableLemmas as R
 use Rattle.network_laws.proofs.TellLemmas as T
 

@@ -1,7 +1,7 @@
 -- Frames that are made of packets of one run are its frames.
 use Rattle.std.proofs.Common.{◌≡◌, ℕ, zero, suc, ◌+◌, ◌<◌, ◌≤◌, ◌==◌, Bool, true, false, cond, List, [], ◌∷◌, ◌++◌}
-use Rattle.std.proofs.Common.{length, map}
-use Rattle.std.proofs.Common.{Option, Some, None, refl, ap, ap₂, sym, subst, ◌∙◌, ⊎_elim, arith, append-nil}
+use Rattle.std.proofs.Common.{length, map, Option, Some, None, refl, ap, ap₂, sym, subst, ◌∙◌, ⊎_elim, arith}
+use Rattle.std.proofs.Common.{append-nil}
 use Rattle.std.specs.Prelude.{nat_lt, find, option_map, option_to_list}
 use Rattle.std.specs.List.{flat_map, range_with_len, AllByRecursion}
 use Rattle.std.specs.Option.{option_or}
@@ -40,8 +40,7 @@ use Rattle.stream_laws.proofs.FullLemmas.{packets_step, sent_append, packets_app
 use Rattle.feed_events.specs.FeedEvents.{FeedEvent, feed_events}
 use Rattle.feed_events.specs.FeedEvents.FeedEvent.{Has, Silent}
 use Rattle.mended_frames.specs.Picks.{Coming, number_next, least_next, is_number, group_next, groups_next, behind}
-use Rattle.mended_frames.specs.Picks.{all_behind}
-use Rattle.mended_frames.specs.Picks.{one_waits, picked_of, pick_next, picked_from, events_in}
+use Rattle.mended_frames.specs.Picks.{all_behind, one_waits, picked_of, pick_next, picked_from, events_in}
 use Rattle.mended_frames.specs.Mended.{Made, passes, made_as, made_of, past_with, low_of, taking, mended}
 use Rattle.network_laws.specs.FeedsOfRun.{run_packets, CameNear, IsNearOfRun, IsRunFrame, MadeAreOfRun}
 use Rattle.network_laws.specs.FeedsOfRun.{WholeStreamMended, DamagedRunsMended, WholeAmongDamaged}

@@ -1,7 +1,6 @@
 -- The first frame of a modulator is its join, which begins a superframe.
 use Rattle.std.proofs.Common.{◌≡◌, ◌⊎◌, inl, inr, ℕ, ◌+◌, ◌%◌, ◌<◌, ◌≤◌, ◌==◌, ◌&&◌, Bool, true, false, List, [], ◌∷◌}
-use Rattle.std.proofs.Common.{◌++◌}
-use Rattle.std.proofs.Common.{find, Option, Some, None, refl, ap, sym, subst, ◌∙◌, ⊎_elim, arith, cond}
+use Rattle.std.proofs.Common.{◌++◌, find, Option, Some, None, refl, ap, sym, subst, ◌∙◌, ⊎_elim, arith, cond}
 use Rattle.std.specs.Prelude.{option_map}
 use Rattle.std.specs.List.{AllByRecursion}
 use Rattle.std.specs.Option.{option_or}
@@ -14,8 +13,7 @@ use Rattle.t2mi_stream.specs.Units.{accepted_of}
 use Rattle.frame_groups.specs.Groups.{Group, groups}
 use Rattle.frame_groups.specs.Laws.{AreFrom}
 use Rattle.frame_groups.specs.Modulated.{FrameRecord, content_of, gaps_behind, own_record, join_number, passing}
-use Rattle.frame_groups.specs.Modulated.{unless_fault}
-use Rattle.frame_groups.specs.Modulated.{past_with, records_from, modulated}
+use Rattle.frame_groups.specs.Modulated.{unless_fault, past_with, records_from, modulated}
 use Rattle.frame_groups.specs.declared.cause.MuteCause.{MuteCause}
 use Rattle.frame_groups.specs.declared.key.Key.{Key}
 use Rattle.frame_groups.specs.TestLaws.{FrameNamed}

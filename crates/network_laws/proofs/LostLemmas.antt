@@ -1,8 +1,6 @@
 -- Which of the epochs that are not there carry something of a slot that is due, and Readback of those that end.
 use Rattle.std.proofs.Common.{◌≡◌, ◌⊎◌, ℕ, zero, suc, ◌+◌, ◌-◌, ◌*◌, ◌/◌, ◌<◌, ◌≤◌, ◌&&◌, ◌||◌, not, Bool, true, false}
-use Rattle.std.proofs.Common.{List}
-use Rattle.std.proofs.Common.{length}
-use Rattle.std.proofs.Common.{refl, ap, ◌∙◌, sym, subst, arith, inl, inr, cond}
+use Rattle.std.proofs.Common.{List, length, refl, ap, ◌∙◌, sym, subst, arith, inl, inr, cond}
 use Rattle.std.specs.List.{range_with_len, list_any, filter}
 use Rattle.std.proofs.lemmas.List.Elements.{filter-append}
 use Rattle.std.proofs.lemmas.List.Folds.{list_any-append}

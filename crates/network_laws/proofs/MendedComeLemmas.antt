@@ -1,8 +1,7 @@
 -- The records that come of frames that were made and sent.
-use Rattle.std.proofs.Common.{◌≡◌, ℕ, zero, suc, ◌+◌, ◌-◌, ◌*◌, ◌/◌, ◌%◌, ◌<◌, ◌≤◌, ◌==◌, Bool, true, false, cond}
-use Rattle.std.proofs.Common.{List, [], ◌∷◌, ◌++◌}
-use Rattle.std.proofs.Common.{length, map, Option, Some, None, refl, ap, ap₂, sym, ◌∙◌, ⊎_elim, arith, append_assoc}
-use Rattle.std.proofs.Common.{mul-le-mul_right, add-mul}
+use Rattle.std.proofs.Common.{◌≡◌, ℕ, zero, suc, ◌+◌, ◌-◌, ◌*◌, ◌/◌, ◌%◌, ◌<◌, ◌≤◌, ◌==◌, Bool, true, false, cond, List}
+use Rattle.std.proofs.Common.{[], ◌∷◌, ◌++◌, length, map, Option, Some, None, refl, ap, ap₂, sym, ◌∙◌, ⊎_elim, arith}
+use Rattle.std.proofs.Common.{append_assoc, mul-le-mul_right, add-mul}
 use Rattle.std.specs.Prelude.{is_some}
 use Rattle.std.specs.List.{range_with_len}
 use Rattle.std.specs.Option.{option_or}
@@ -21,9 +20,8 @@ use Rattle.t2mi_packet.specs.declared.packet.Packet.{Packet}
 use Rattle.frame_groups.specs.Groups.{Group, groups}
 use Rattle.frame_groups.specs.Laws.{NextIsFound}
 use Rattle.frame_groups.specs.Modulated.{Numbered, FrameRecord, content_of, group_record, gap_record, gaps_between}
-use Rattle.frame_groups.specs.Modulated.{passing}
-use Rattle.frame_groups.specs.Modulated.{join_number, past_with, gaps_behind, own_record, records_from, modulated}
-use Rattle.frame_groups.specs.Modulated.{unless_fault}
+use Rattle.frame_groups.specs.Modulated.{passing, join_number, past_with, gaps_behind, own_record, records_from}
+use Rattle.frame_groups.specs.Modulated.{modulated, unless_fault}
 use Rattle.frame_groups.specs.Numbers.{frame_key, next_number}
 use Rattle.frame_groups.specs.declared.cause.MuteCause.{MuteCause}
 use Rattle.frame_groups.specs.Tests.{room_test, pool_test, missing_test, packets_fault, group_fault, named_frame, rules}
@@ -43,8 +41,7 @@ use Rattle.mended_frames.specs.Mended.{Made, with_made, frame_of, frames_of}
 use Rattle.network_laws.specs.MendedRun.{made_record, muted_record, muted_between, records_behind, mended_records}
 use Rattle.network_laws.specs.MendedRun.{due_record}
 use Rattle.network_laws.proofs.BehindMadeLemmas.{room_none, Follows, EndsBelow, ends_with, follows_none, follows_stamp}
-use Rattle.network_laws.proofs.BehindMadeLemmas.{follows_frame}
-use Rattle.network_laws.proofs.BehindMadeLemmas.{comes, sent_blocks, passes_behind}
+use Rattle.network_laws.proofs.BehindMadeLemmas.{follows_frame, comes, sent_blocks, passes_behind}
 use Rattle.network_laws.proofs.RowGroupLemmas.{IsStep, AreSteps, row_packets, row_group, row_groups, rows_grouped}
 use Rattle.network_laws.proofs.SmallNumberLemmas.{AllBelow}
 use Rattle.network_laws.proofs.SpacedRowLemmas.{stamp_row, stamp_rows, rows_between, made_rows, spaced_rows, all_rows}

@@ -1,10 +1,8 @@
 -- What comes next of feeds whose numbers rise and that are not silent too often: all of the least number that is there.
-use Rattle.std.proofs.Common.{◌≡◌, ◌⊎◌, inl, inr, ℕ, zero, suc, ◌+◌, ◌-◌, ◌<◌, ◌≤◌, ◌==◌, Bool, true, false, cond}
-use Rattle.std.proofs.Common.{List, [], ◌∷◌, ◌++◌, length, Some, refl, ap, ap₂, sym, subst, ◌∙◌, ⊎_elim}
-use Rattle.std.proofs.Common.{arith}
+use Rattle.std.proofs.Common.{◌≡◌, ◌⊎◌, inl, inr, ℕ, zero, suc, ◌+◌, ◌-◌, ◌<◌, ◌≤◌, ◌==◌, Bool, true, false, cond, List}
+use Rattle.std.proofs.Common.{[], ◌∷◌, ◌++◌, length, Some, refl, ap, ap₂, sym, subst, ◌∙◌, ⊎_elim, arith}
 use Rattle.std.specs.List.{filter, flat_map, range_with_len}
-use Rattle.std.proofs.lemmas.Bool.{cases_eq, cases_lt, cond-true, cond-false, eq-eqb, ne_eqb}
-use Rattle.std.proofs.lemmas.Bool.{false_from_ne_true}
+use Rattle.std.proofs.lemmas.Bool.{cases_eq, cases_lt, cond-true, cond-false, eq-eqb, ne_eqb, false_from_ne_true}
 use Rattle.std.proofs.lemmas.Option.{same_Some}
 use Rattle.terms.proofs.OptionLemmas.{none_some}
 use Rattle.plp_config.specs.declared.config.Config.{Config}
@@ -14,8 +12,7 @@ use Rattle.feed_events.specs.FeedEvents.{FeedEvent}
 use Rattle.feed_events.specs.FeedEvents.FeedEvent.{Has, Silent}
 use Rattle.mended_frames.specs.Picks.{Coming, number_next, least_next, group_next, behind}
 use Rattle.mended_frames.proofs.PickLemmas.{lesser_is}
-use Rattle.network_laws.specs.FeedsOfRun.{run_packets, HasCome}
-use Rattle.network_laws.specs.FeedsOfRun.{BringsPacket, HasNumber, count_between, GoesOn}
+use Rattle.network_laws.specs.FeedsOfRun.{run_packets, HasCome, BringsPacket, HasNumber, count_between, GoesOn}
 use Rattle.network_laws.proofs.WholeFeedLemmas.{least_most}
 use Rattle.network_laws.proofs.CameBlockLemmas.{OneBrings}
 

@@ -1,6 +1,6 @@
 -- Of streams that together lost nothing of a run, its stream is made.
-use Rattle.std.proofs.Common.{◌≡◌, ℕ, zero, suc, ◌+◌, ◌<◌, ◌≤◌, ◌==◌, List, [], ◌∷◌, map, None, refl, ap, ap₂}
-use Rattle.std.proofs.Common.{sym, subst, ◌∙◌, ⊎_elim, arith}
+use Rattle.std.proofs.Common.{◌≡◌, ℕ, zero, suc, ◌+◌, ◌<◌, ◌≤◌, ◌==◌, List, [], ◌∷◌, map, None, refl, ap, ap₂, sym}
+use Rattle.std.proofs.Common.{subst, ◌∙◌, ⊎_elim, arith}
 use Rattle.std.specs.Prelude.{nat_lt}
 use Rattle.std.specs.List.{range_with_len, AllByRecursion}
 use Rattle.std.proofs.lemmas.Bool.{eq-eqb, eqb-true, lt-ltb, ltb-true}
@@ -27,8 +27,7 @@ use Rattle.mended_frames.specs.Feeds.{made_of_all}
 use Rattle.mended_frames.specs.Laws.{MadeRise}
 use Rattle.mended_frames.specs.Mended.{Made, frames_of}
 use Rattle.mended_frames.proofs.MendLemmas.{RiseOn}
-use Rattle.network_laws.specs.FeedsOfRun.{run_frame, IsRunFrame, HasRunFrame, AllSurvive, SurvivorAlone}
-use Rattle.network_laws.specs.FeedsOfRun.{NoneLostMended}
+use Rattle.network_laws.specs.FeedsOfRun.{run_frame, IsRunFrame, HasRunFrame, AllSurvive, SurvivorAlone, NoneLostMended}
 use Rattle.network_laws.proofs.HonestFeedLemmas.{damaged_runs_mended}
 use Rattle.network_laws.proofs.LossyRunLemmas.{damaged_of, survivors_mended}
 use Rattle.network_laws.proofs.WholeFeedLemmas.{run_spaced}

@@ -1,7 +1,6 @@
 -- Kept slots and the bytes of the string, by their numbers; more slots change none of them.
 use Rattle.std.proofs.Common.{◌≡◌, ℕ, zero, suc, ◌+◌, ◌-◌, ◌<◌, ◌≤◌, Bool, true, false, List, [], ◌∷◌, ◌++◌, length}
-use Rattle.std.proofs.Common.{get_or, refl}
-use Rattle.std.proofs.Common.{ap, ◌∙◌, sym, subst, arith, cond, append_assoc, length-append}
+use Rattle.std.proofs.Common.{get_or, refl, ap, ◌∙◌, sym, subst, arith, cond, append_assoc, length-append}
 use Rattle.std.specs.List.{range_with_len, filter, flat_map}
 use Rattle.std.proofs.lemmas.Grind.{flat_map-append}
 use Rattle.std.proofs.lemmas.List.{get_or_append_left, get_or-append_right}

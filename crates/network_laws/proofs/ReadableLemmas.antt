@@ -1,7 +1,6 @@
 -- The record of a frame of a plan is readable, and its shape is that of the frame.
 use Rattle.std.proofs.Common.{◌%◌, ◌≡◌, ℕ, ◌<◌, ◌==◌, ◌&&◌, Bool, true, false, List, [], length, Option, Some, None}
-use Rattle.std.proofs.Common.{refl}
-use Rattle.std.proofs.Common.{ap, ◌∙◌, subst, arith, cond, eq-eqb}
+use Rattle.std.proofs.Common.{refl, ap, ◌∙◌, subst, arith, cond, eq-eqb}
 use Rattle.std.specs.Prelude.{option_map, slice_index}
 use Rattle.std.specs.Cmp.Lexicographic.{pointwise}
 use Rattle.std.proofs.lemmas.Bool.{and_from}

@@ -1,6 +1,6 @@
 -- The packet of a slot, by the epochs of a gateway of which some are lost.
-use Rattle.std.proofs.Common.{◌≡◌, ℕ, ◌+◌, ◌-◌, ◌*◌, ◌<◌, ◌≤◌, ◌==◌, ◌&&◌, Bool, true, false, List, [], length}
-use Rattle.std.proofs.Common.{Option, refl, ap, ap₂, ◌∙◌, sym, subst, arith, inl, inr, cond}
+use Rattle.std.proofs.Common.{◌≡◌, ℕ, ◌+◌, ◌-◌, ◌*◌, ◌<◌, ◌≤◌, ◌==◌, ◌&&◌, Bool, true, false, List, [], length, Option}
+use Rattle.std.proofs.Common.{refl, ap, ap₂, ◌∙◌, sym, subst, arith, inl, inr, cond}
 use Rattle.std.specs.Prelude.{not, option_map, unwrap_or, if◌then◌else◌}
 use Rattle.std.specs.List.{range_with_len, list_any, find, filter}
 use Rattle.std.proofs.lemmas.Bool.{cases_lt, cases_eq, both_ways, le-leb, lt-ltb, false_from_ne_true, eqb-true}
@@ -28,8 +28,7 @@ use Rattle.network_laws.specs.ToldEpochs.{ArePackets}
 use Rattle.network_laws.specs.RecoverLaws.{InterleavingIsEpoch, SlotRecovers}
 use Rattle.network_laws.proofs.NumberLemmas.{is_kept_slot, own_number}
 use Rattle.network_laws.proofs.FoundLemmas.{all_in_range, each_in_range, filter_all, all_filter, none_any, any_none}
-use Rattle.network_laws.proofs.FoundLemmas.{all_kept, Has}
-use Rattle.network_laws.proofs.FoundLemmas.{finds, finds_none, packet_back}
+use Rattle.network_laws.proofs.FoundLemmas.{all_kept, Has, finds, finds_none, packet_back}
 use Rattle.network_laws.proofs.CarriedLemmas as C
 use Rattle.network_laws.proofs.SentLemmas as S
 use Rattle.network_laws.proofs.RunLemmas as R

@@ -1,7 +1,6 @@
 -- Strings as a gateway makes them: user packet n stands from place up_len * n on, and no byte is missing.
 use Rattle.std.specs.Prelude.{◌≡◌, ◌⊎◌, ℕ, ◌+◌, ◌-◌, ◌*◌, ◌<◌, ◌≤◌, ◌%◌, ◌^◌, suc, true, None, ◌++◌, ◌∷◌, map, List}
-use Rattle.std.specs.Prelude.{length}
-use Rattle.std.specs.Prelude.{get_or, Some, if◌then◌else◌}
+use Rattle.std.specs.Prelude.{length, get_or, Some, if◌then◌else◌}
 use Rattle.plp_receiver.specs.declared.slot_rule.SlotRule.{SlotRule}
 use Rattle.plp_receiver.specs.declared.mark.Mark.TheVariants.{Inside, Next, Timed}
 use Rattle.plp_receiver.specs.Strings.{Item, Block, block_items, first_mark, gap}

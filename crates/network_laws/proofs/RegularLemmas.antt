@@ -1,9 +1,7 @@
 -- Every user packet that stands whole in a string of the gateway gets its own slot.
 use Rattle.std.proofs.Common.{◌≡◌, ◌⊎◌, ℕ, zero, suc, ◌+◌, ◌-◌, ◌*◌, ◌%◌, ◌<◌, ◌≤◌, ◌++◌, ◌&&◌, Bool, true, false, List}
-use Rattle.std.proofs.Common.{[], ◌∷◌}
-use Rattle.std.proofs.Common.{length, take, drop, get_or, Option, Some, None, refl, ap, ap₂, ◌∙◌, sym, subst, arith}
-use Rattle.std.proofs.Common.{inl, inr}
-use Rattle.std.proofs.Common.{cond, length-take, length-append}
+use Rattle.std.proofs.Common.{[], ◌∷◌, length, take, drop, get_or, Option, Some, None, refl, ap, ap₂, ◌∙◌, sym, subst}
+use Rattle.std.proofs.Common.{arith, inl, inr, cond, length-take, length-append}
 use Rattle.std.specs.Prelude.{if◌then◌else◌}
 use Rattle.std.proofs.lemmas.List.{get_or-take, get_or-drop, drop_more, get_or_append_left, get_or-append_right}
 use Rattle.std.proofs.lemmas.Bool.{cases_lt, cases_eq}
@@ -15,11 +13,9 @@ use Rattle.plp_receiver.specs.declared.mark.Mark.TheVariants.{Inside, Next}
 use Rattle.plp_receiver.specs.Strings.{Item, Block, is_start, is_inside, first_mark, mark_at, item_at, items_from}
 use Rattle.plp_receiver.specs.Strings.{block_items}
 use Rattle.plp_receiver.proofs.BlockLemmas.{Ends, ends_field, ends_start, none_marks, mark_before, mark_first}
-use Rattle.plp_receiver.proofs.BlockLemmas.{mark_next}
-use Rattle.plp_receiver.proofs.BlockLemmas.{mark_inner}
+use Rattle.plp_receiver.proofs.BlockLemmas.{mark_next, mark_inner}
 use Rattle.plp_receiver.specs.Packets.{all_inside, is_one, is_complete, last_item, first_item, no_item, slot_by}
-use Rattle.plp_receiver.specs.Packets.{slot_of}
-use Rattle.plp_receiver.specs.Packets.{dnp_of, slot_before, slots_at, window}
+use Rattle.plp_receiver.specs.Packets.{slot_of, dnp_of, slot_before, slots_at, window}
 use Rattle.plp_config.specs.SlotTimes.{slot_of_iscr}
 use Rattle.plp_receiver.specs.Sound.{IsSound}
 use Rattle.plp_receiver.proofs.OneLemmas.{one_from}

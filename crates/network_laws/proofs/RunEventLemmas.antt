@@ -1,9 +1,7 @@
 -- The events of the whole stream of a run: all packets of all frames, each with its number.
 use Rattle.std.proofs.Common.{◌≡◌, ◌≢◌, ℕ, zero, suc, ◌+◌, ◌*◌, ◌/◌, ◌%◌, ◌^◌, ◌<◌, ◌≤◌, ◌==◌, ◌&&◌, ◌||◌, not, Bool}
-use Rattle.std.proofs.Common.{true, false, cond}
-use Rattle.std.proofs.Common.{List, [], ◌∷◌, ◌++◌, length, map, take, drop, replicate, Option, Some, None, refl, ap}
-use Rattle.std.proofs.Common.{ap₂, sym, ◌∙◌}
-use Rattle.std.proofs.Common.{⊎_elim, arith, append-nil, length-append}
+use Rattle.std.proofs.Common.{true, false, cond, List, [], ◌∷◌, ◌++◌, length, map, take, drop, replicate, Option, Some}
+use Rattle.std.proofs.Common.{None, refl, ap, ap₂, sym, ◌∙◌, ⊎_elim, arith, append-nil, length-append}
 use Rattle.std.specs.Prelude.{nat_lt, slice_get}
 use Rattle.std.specs.List.{flat_map, filter, cons_option, items_where_true, range_with_len, AllByRecursion}
 use Rattle.std.proofs.lemmas.Bool.{cases_Bool, cond-true, cond-false, and_right, and_parts, and_from, eq-eqb, ne_eqb}
@@ -33,8 +31,7 @@ use Rattle.feed_events.specs.Arrivals.{Arrival, came_of, is_idle, is_idle_of, ac
 use Rattle.feed_events.specs.Arrivals.{arrivals_from, arrivals}
 use Rattle.feed_events.specs.Arrivals.Arrival.{Came}
 use Rattle.feed_events.specs.FeedEvents.{FeedEvent, is_timestamp, has_stamp, number_after, number_of, event_of}
-use Rattle.feed_events.specs.FeedEvents.{numbered_from, in_first}
-use Rattle.feed_events.specs.FeedEvents.{between_idle, events_between, feed_events}
+use Rattle.feed_events.specs.FeedEvents.{numbered_from, in_first, between_idle, events_between, feed_events}
 use Rattle.frame_groups.specs.Groups.{is_same, Group, groups}
 use Rattle.frame_groups.specs.Numbers.{frame_key}
 use Rattle.frame_groups.specs.declared.key.Key.{Key}

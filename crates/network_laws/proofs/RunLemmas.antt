@@ -1,8 +1,7 @@
 -- The user packets of the epochs of a gateway: those that stand whole in runs of epochs that are not lost.
 use Rattle.std.proofs.Common.{◌≡◌, ℕ, zero, suc, ◌+◌, ◌-◌, ◌*◌, ◌<◌, ◌≤◌, ◌&&◌, Bool, true, false, List, [], ◌∷◌, ◌++◌}
 use Rattle.std.proofs.Common.{length, map, take, drop, get_or, Some, refl, ap, ap₂, ◌∙◌, sym, subst, arith, inl, inr}
-use Rattle.std.proofs.Common.{cond}
-use Rattle.std.proofs.Common.{append-nil, append_assoc, length-take, length-drop, length-append}
+use Rattle.std.proofs.Common.{cond, append-nil, append_assoc, length-take, length-drop, length-append}
 use Rattle.std.specs.Int.{div_ceil}
 use Rattle.std.specs.List.{AllByRecursion}
 use Rattle.std.proofs.lemmas.List.{get_or-take, get_or-drop, length-map}

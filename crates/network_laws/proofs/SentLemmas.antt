@@ -1,8 +1,7 @@
 -- A block and an epoch of the gateway: its items are the bytes of the stream from its place on.
 use Rattle.std.proofs.Common.{◌≡◌, ℕ, suc, ◌+◌, ◌-◌, ◌*◌, ◌<◌, ◌≤◌, Bool, true, false, List, [], ◌∷◌, ◌++◌, length, map}
-use Rattle.std.proofs.Common.{drop}
-use Rattle.std.proofs.Common.{get_or, min, Option, Some, refl, ap, ◌∙◌, sym, subst, arith, inl, inr, cond, length-take}
-use Rattle.std.proofs.Common.{length-drop, length-append}
+use Rattle.std.proofs.Common.{drop, get_or, min, Option, Some, refl, ap, ◌∙◌, sym, subst, arith, inl, inr, cond}
+use Rattle.std.proofs.Common.{length-take, length-drop, length-append}
 use Rattle.std.specs.Prelude.{if◌then◌else◌}
 use Rattle.std.specs.Int.{div_ceil}
 use Rattle.std.specs.List.{flat_map}

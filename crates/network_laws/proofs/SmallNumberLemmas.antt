@@ -1,7 +1,6 @@
 -- The numbers of frames that are made are below 2^31: a number is that of a timestamp, or the next one.
 use Rattle.std.proofs.Common.{◌≡◌, ℕ, zero, suc, ◌+◌, ◌<◌, ◌&&◌, Bool, true, false, cond, List, [], ◌∷◌, ◌++◌, Option}
-use Rattle.std.proofs.Common.{Some, None}
-use Rattle.std.proofs.Common.{refl, arith}
+use Rattle.std.proofs.Common.{Some, None, refl, arith}
 use Rattle.std.specs.Prelude.{IfSome, nat_lt, option_to_list, option_map}
 use Rattle.std.specs.Option.{option_or}
 use Rattle.std.specs.List.{AllByRecursion}
@@ -19,12 +18,10 @@ use Rattle.frame_groups.specs.TestLaws.{FrameNamed}
 use Rattle.frame_groups.specs.Tests.{named_frame, rules}
 use Rattle.feed_events.specs.Arrivals.{arrivals}
 use Rattle.feed_events.specs.FeedEvents.{FeedEvent, has_stamp, number_after, number_of, event_of, numbered_from}
-use Rattle.feed_events.specs.FeedEvents.{between_idle, closed_of}
-use Rattle.feed_events.specs.FeedEvents.{events_between, feed_events}
+use Rattle.feed_events.specs.FeedEvents.{between_idle, closed_of, events_between, feed_events}
 use Rattle.feed_events.specs.FeedEvents.FeedEvent.{Has, Silent}
 use Rattle.mended_frames.specs.Picks.{Coming, number_next, lesser, least_next, is_number, behind, all_behind, one_waits}
-use Rattle.mended_frames.specs.Picks.{picked_of}
-use Rattle.mended_frames.specs.Picks.{pick_next, picked_from, events_in}
+use Rattle.mended_frames.specs.Picks.{picked_of, pick_next, picked_from, events_in}
 use Rattle.mended_frames.specs.Feeds.{all_of, made_of_all}
 use Rattle.mended_frames.specs.Mended.{Made, made_as, own_of, woven_of, made_of, past_with, low_of, taking, mended}
 

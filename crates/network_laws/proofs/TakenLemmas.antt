@@ -1,9 +1,7 @@
 -- The bits of a gateway's blocks are taken as what was sent.
 use Rattle.std.proofs.Common.{◌≡◌, ◌⊎◌, ℕ, zero, suc, ◌+◌, ◌-◌, ◌*◌, ◌^◌, ◌<◌, ◌≤◌, ◌==◌, Bool, true, false, List, []}
-use Rattle.std.proofs.Common.{◌∷◌, ◌++◌}
-use Rattle.std.proofs.Common.{length, map, take, drop, get_or, min, Option, Some, None, refl, ap, ◌∙◌, sym, subst}
-use Rattle.std.proofs.Common.{arith, inl}
-use Rattle.std.proofs.Common.{inr, cond, append-nil}
+use Rattle.std.proofs.Common.{◌∷◌, ◌++◌, length, map, take, drop, get_or, min, Option, Some, None, refl, ap, ◌∙◌, sym}
+use Rattle.std.proofs.Common.{subst, arith, inl, inr, cond, append-nil}
 use Rattle.std.specs.Prelude.{if◌then◌else◌, slice_get, option_map}
 use Rattle.std.specs.Int.{div_ceil}
 use Rattle.std.specs.List.{AllZip, AllByRecursion, flat_map, range_with_len}
@@ -25,8 +23,7 @@ use Rattle.mode_adapt.specs.Matype.{matype1, matype2, is_constant}
 use Rattle.mode_adapt.specs.Queue.{sent, sent_before}
 use Rattle.mode_adapt.specs.UserPackets.{keeps_of, user_packet}
 use Rattle.mode_adapt.specs.Blocks.{rates_of, plp_keeps, plp_string, header_at, up_with, first_up, with_place}
-use Rattle.mode_adapt.specs.Blocks.{data_field}
-use Rattle.mode_adapt.specs.Blocks.{block_bits, block_places, blocks_of}
+use Rattle.mode_adapt.specs.Blocks.{data_field, block_bits, block_places, blocks_of}
 use Rattle.network_laws.specs.ToldEpochs.{told_block, told_blocks, ArePackets}
 use Rattle.plp_receiver.specs.Taken.{block_read, IsOfStream, IsTaken}
 use Rattle.network_laws.proofs.GatewayLemmas.{ceil_parts}

@@ -1,11 +1,7 @@
 -- What the records of a gateway's frames tell of the interleaving frames of a PLP.
 use Rattle.std.proofs.Common.{◌≡◌, ℕ, zero, suc, ◌+◌, ◌-◌, ◌*◌, ◌/◌, ◌%◌, ◌<◌, ◌≤◌, ◌==◌, ◌&&◌, Bool, true, false, List}
-use Rattle.std.proofs.Common.{[], ◌∷◌}
-use Rattle.std.proofs.Common.{length}
-use Rattle.std.proofs.Common.{map, take, drop, get_or, Option, Some, None, refl, ap, ap₂, ◌∙◌, sym, subst, arith, inl}
-use Rattle.std.proofs.Common.{inr, cond}
-use Rattle.std.proofs.Common.{eq-eqb}
-use Rattle.std.proofs.Common.{eqb-true, sum}
+use Rattle.std.proofs.Common.{[], ◌∷◌, length, map, take, drop, get_or, Option, Some, None, refl, ap, ap₂, ◌∙◌, sym}
+use Rattle.std.proofs.Common.{subst, arith, inl, inr, cond, eq-eqb, eqb-true, sum}
 use Rattle.std.specs.Prelude.{not, ◌||◌, nat_le, nat_lt, option_map, slice_get, slice_index, if◌then◌else◌}
 use Rattle.std.specs.List.{AllZip, AllByRecursion, range_with_len, list_all}
 use Rattle.std.specs.Option.{option_map_or}
@@ -45,8 +41,7 @@ use Rattle.plp_receiver.proofs.TimeLemmas.{epoch_at}
 use Rattle.plp_receiver.specs.Parts.{Part, part_with, count_of, is_cell, stands, all_stand}
 use Rattle.plp_receiver.specs.Taken.{IsTaken, IsGiven, bytes_at}
 use Rattle.plp_receiver.specs.Epochs.{part_of, with_part, parts_of, agree, agreeing, epoch_parts, cells_stand, place_of}
-use Rattle.plp_receiver.specs.Epochs.{TellsBlocks, Tells}
-use Rattle.plp_receiver.specs.Epochs.{epochs_in, TellAll}
+use Rattle.plp_receiver.specs.Epochs.{TellsBlocks, Tells, epochs_in, TellAll}
 use Rattle.stream_laws.specs.Types.{TypesFit}
 use Rattle.stream_laws.proofs.BlockLemmas.{blocks_long}
 use Rattle.network_laws.specs.ToldEpochs.{ArePackets, told_blocks, told_epoch, is_lost, ended_epochs}

@@ -1,9 +1,7 @@
 -- Of feeds of one run, of which one is whole, all frames are made.
 use Rattle.std.proofs.Common.{◌≡◌, ◌⊎◌, inl, inr, ℕ, zero, suc, ◌+◌, ◌*◌, ◌/◌, ◌%◌, ◌<◌, ◌≤◌, ◌==◌, ◌||◌, Bool, true}
-use Rattle.std.proofs.Common.{false, cond}
-use Rattle.std.proofs.Common.{List, [], ◌∷◌, ◌++◌, length, map, replicate, Option, Some, None, refl, ap, ap₂, sym}
-use Rattle.std.proofs.Common.{subst, ◌∙◌, ⊎_elim, arith}
-use Rattle.std.proofs.Common.{mul-le-mul_right, add-mul}
+use Rattle.std.proofs.Common.{false, cond, List, [], ◌∷◌, ◌++◌, length, map, replicate, Option, Some, None, refl, ap}
+use Rattle.std.proofs.Common.{ap₂, sym, subst, ◌∙◌, ⊎_elim, arith, mul-le-mul_right, add-mul}
 use Rattle.std.specs.Prelude.{not, min, nat_lt, is_some, find, option_map, option_to_list}
 use Rattle.std.specs.List.{flat_map, range_with_len, AllByRecursion}
 use Rattle.std.specs.Option.{option_or}
@@ -57,11 +55,10 @@ use Rattle.stream_laws.proofs.PassLemmas.{Given, own_few, passes}
 use Rattle.feed_events.specs.FeedEvents.{FeedEvent, feed_events}
 use Rattle.feed_events.specs.FeedEvents.FeedEvent.{Has, Silent}
 use Rattle.mended_frames.specs.Picks.{Coming, Picked, waits_by, one_waits, number_next, lesser, least_next, is_number}
-use Rattle.mended_frames.specs.Picks.{group_next, groups_next}
-use Rattle.mended_frames.specs.Picks.{behind, all_behind, picked_of, pick_next, picked_from, events_in}
+use Rattle.mended_frames.specs.Picks.{group_next, groups_next, behind, all_behind, picked_of, pick_next, picked_from}
+use Rattle.mended_frames.specs.Picks.{events_in}
 use Rattle.mended_frames.specs.Mended.{Made, passes as test_passes, made_as, woven_of, made_of, past_with, low_of}
-use Rattle.mended_frames.specs.Mended.{taking, mended}
-use Rattle.mended_frames.specs.Mended.{frame_of, frames_of, packets_of}
+use Rattle.mended_frames.specs.Mended.{taking, mended, frame_of, frames_of, packets_of}
 use Rattle.network_laws.specs.FeedsOfRun.{run_packets, CameOf, IsOfRun, AreOfRun, run_event, run_events, WholeFeedMade}
 use Rattle.network_laws.specs.FeedsOfRun.{WholeStreamMended}
 use Rattle.network_laws.proofs.RunEventLemmas.{all_came, run_stream_events}

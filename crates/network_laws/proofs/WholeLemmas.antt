@@ -1,7 +1,7 @@
 -- The user packets of a string of the gateway, as a list.
 use Rattle.std.proofs.Common.{◌≡◌, ℕ, zero, suc, ◌+◌, ◌-◌, ◌*◌, ◌%◌, ◌^◌, ◌<◌, ◌≤◌, List, [], ◌∷◌, ◌++◌, length, map}
-use Rattle.std.proofs.Common.{take, drop}
-use Rattle.std.proofs.Common.{Option, None, refl, ap, ap₂, ◌∙◌, sym, arith, inl, inr, append-nil, append_assoc}
+use Rattle.std.proofs.Common.{take, drop, Option, None, refl, ap, ap₂, ◌∙◌, sym, arith, inl, inr, append-nil}
+use Rattle.std.proofs.Common.{append_assoc}
 use Rattle.std.specs.List.{range_with_len}
 use Rattle.std.proofs.lemmas.Bool.{cases_lt, cases_eq}
 use Rattle.std.proofs.lemmas.List.{drop_more}
@@ -12,8 +12,7 @@ use Rattle.plp_config.specs.Laws.{IscrFindsSlot}
 use Rattle.plp_receiver.specs.declared.slot_rule.SlotRule.{SlotRule}
 use Rattle.plp_receiver.specs.Strings.{Item, gap, is_start}
 use Rattle.plp_receiver.specs.Packets.{UserPacket, is_one, no_item, slot_of, slot_before, slots_at, window, with_slot}
-use Rattle.plp_receiver.specs.Packets.{packets_at}
-use Rattle.plp_receiver.specs.Packets.{user_packets}
+use Rattle.plp_receiver.specs.Packets.{packets_at, user_packets}
 use Rattle.plp_receiver.specs.Machine.{State, state_of, turn, after, given}
 use Rattle.plp_receiver.specs.Sound.{IsSound}
 use Rattle.plp_receiver.proofs.OneLemmas.{none_alone}

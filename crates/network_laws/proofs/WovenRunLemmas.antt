@@ -1,9 +1,7 @@
 -- What is woven of packets of a run's frame is that frame.
-use Rattle.std.proofs.Common.{◌≡◌, ◌⊎◌, inl, inr, ℕ, zero, suc, ◌+◌, ◌-◌, ◌%◌, ◌<◌, ◌≤◌, ◌==◌, ◌&&◌, Bool, true}
-use Rattle.std.proofs.Common.{false, cond, List, []}
-use Rattle.std.proofs.Common.{◌∷◌, ◌++◌, length, map, Option, Some, None, refl, ap, ap₂, sym, subst, ◌∙◌, ⊎_elim}
-use Rattle.std.proofs.Common.{arith, append_assoc}
-use Rattle.std.proofs.Common.{length-append, get_or}
+use Rattle.std.proofs.Common.{◌≡◌, ◌⊎◌, inl, inr, ℕ, zero, suc, ◌+◌, ◌-◌, ◌%◌, ◌<◌, ◌≤◌, ◌==◌, ◌&&◌, Bool, true, false}
+use Rattle.std.proofs.Common.{cond, List, [], ◌∷◌, ◌++◌, length, map, Option, Some, None, refl, ap, ap₂, sym, subst}
+use Rattle.std.proofs.Common.{◌∙◌, ⊎_elim, arith, append_assoc, length-append, get_or}
 use Rattle.std.specs.Prelude.{slice_index, slice_get, unwrap_or, nat_lt, if◌then◌else◌}
 use Rattle.std.specs.List.{flat_map, filter, filter_map, cons_option, items_where_true, range_with_len, list_all}
 use Rattle.std.specs.List.{AllByRecursion}
@@ -57,15 +55,13 @@ use Rattle.frame_weave.specs.Laws.{Stood, StoodIsPlaced, PlacedIsOfFrame}
 use Rattle.frame_weave.specs.Placed.{Placed, placed_from, blocks_at, block_at, is_one, are_alike}
 use Rattle.frame_weave.specs.Places.{start_of, place_count, has_room}
 use Rattle.frame_weave.specs.Woven.{signalling, same_dynamic, counts_by, placed_in, placed_by, block_body, plp_bodies}
-use Rattle.frame_weave.specs.Woven.{l1_bodies}
-use Rattle.frame_weave.specs.Woven.{stamp_bodies, woven_bodies, group_with, is_whole, woven_by, woven}
+use Rattle.frame_weave.specs.Woven.{l1_bodies, stamp_bodies, woven_bodies, group_with, is_whole, woven_by, woven}
 use Rattle.frame_weave.proofs.SumLemmas.{start_more, start_least}
 use Rattle.network_laws.specs.FeedsOfRun.{FewLack}
 use Rattle.network_laws.proofs.HonestGroupLemmas.{own_told}
 use Rattle.network_laws.proofs.RowGroupLemmas.{row_packets, row_carries}
 use Rattle.network_laws.proofs.RunPlaceLemmas.{AreAt, are_appended, came_placed, Bring, bring_appended, came_marked}
-use Rattle.network_laws.proofs.RunPlaceLemmas.{plp_stood, plp_brings}
-use Rattle.network_laws.proofs.RunPlaceLemmas.{at_place, plp_at_places, found_at_places}
+use Rattle.network_laws.proofs.RunPlaceLemmas.{plp_stood, plp_brings, at_place, plp_at_places, found_at_places}
 
 -- ---- bodies but for intl_frame_start
 

@@ -1,8 +1,7 @@
 -- What a gateway sends for a PLP in each interleaving frame, as records tell it to a receiver. An interleaving frame is
 -- an epoch here, and in each slot of the PLP is the packet that `at` tells.
 use Rattle.std.specs.Prelude.{◌≡◌, ◌<◌, ◌≤◌, ℕ, ◌+◌, ◌-◌, ◌*◌, ◌^◌, not, Bool, List, map, length, slice_index, min}
-use Rattle.std.specs.Prelude.{Some}
-use Rattle.std.specs.Prelude.{if◌then◌else◌}
+use Rattle.std.specs.Prelude.{Some, if◌then◌else◌}
 use Rattle.std.specs.List.{range_with_len}
 use Rattle.ts_packet.specs.declared.sizes.TheConstants.{SIZE, SYNC}
 use Rattle.plp_config.specs.Capacity.{field_bytes, up_bytes, capacity}

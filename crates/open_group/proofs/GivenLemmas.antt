@@ -1,8 +1,7 @@
 -- A group that passes gives its frame.
 use Rattle.std.proofs.Common.{◌≡◌, ℕ, zero, suc, ◌+◌, ◌*◌, ◌%◌, ◌<◌, ◌≤◌, ◌==◌, ◌&&◌, Bool, true, false, cond, List, []}
-use Rattle.std.proofs.Common.{◌∷◌}
-use Rattle.std.proofs.Common.{◌++◌, map, length, get_or, Option, Some, None, refl, ap, ap₂, sym, subst, ◌∙◌, ⊎_elim}
-use Rattle.std.proofs.Common.{arith}
+use Rattle.std.proofs.Common.{◌∷◌, ◌++◌, map, length, get_or, Option, Some, None, refl, ap, ap₂, sym, subst, ◌∙◌}
+use Rattle.std.proofs.Common.{⊎_elim, arith}
 use Rattle.std.specs.Prelude.{slice_index, slice_index_or, is_some, sum_by}
 use Rattle.std.specs.List.{concat, filter, flat_map, list_all, list_any, cons_option, range_with_len}
 use Rattle.std.specs.Option.{option_or, unwrap_or}
@@ -32,9 +31,7 @@ use Rattle.frame_groups.specs.Carried.{body_block, has_length, blocks_of, right_
 use Rattle.frame_groups.specs.Modulated.{Numbered}
 use Rattle.frame_groups.specs.Begun.{packets_at}
 use Rattle.frame_groups.specs.Tests.{pool_test, missing_test, l1_test, time_test, first_shape, has_begun, has_count}
-use Rattle.frame_groups.specs.Tests.{has_counts}
-use Rattle.frame_groups.specs.Tests.{body_known, is_known}
-use Rattle.frame_groups.specs.Tests.{blocks_test, map_test, packets_fault}
+use Rattle.frame_groups.specs.Tests.{has_counts, body_known, is_known, blocks_test, map_test, packets_fault}
 use Rattle.record_laws.specs.Frames.{sent_block, sent_blocks, frame_view}
 use Rattle.record_laws.specs.Laws.{rest_size}
 use Rattle.site_frame.specs.Whole.{written_rest, record_bytes}

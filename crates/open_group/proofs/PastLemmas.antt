@@ -1,7 +1,7 @@
 -- The groups before: none, and one more.
-use Rattle.std.proofs.Common.{◌≡◌, ◌≢◌, ℕ, zero, suc, ◌+◌, ◌-◌, ◌*◌, ◌/◌, ◌%◌, ◌<◌, ◌≤◌, ◌^◌, true, false}
-use Rattle.std.proofs.Common.{List, [], ◌∷◌, length, replicate, Option, Some, None, is_some, refl, ap, sym, subst, ◌∙◌}
-use Rattle.std.proofs.Common.{⊎_elim, arith}
+use Rattle.std.proofs.Common.{◌≡◌, ◌≢◌, ℕ, zero, suc, ◌+◌, ◌-◌, ◌*◌, ◌/◌, ◌%◌, ◌<◌, ◌≤◌, ◌^◌, true, false, List, []}
+use Rattle.std.proofs.Common.{◌∷◌, length, replicate, Option, Some, None, is_some, refl, ap, sym, subst, ◌∙◌, ⊎_elim}
+use Rattle.std.proofs.Common.{arith}
 use Rattle.std.specs.Prelude.{slice_index, slice_index_or}
 use Rattle.std.specs.List.{range_with_len}
 use Rattle.std.proofs.Math.Nat.{mul-le-mul_right, zero-mod}
@@ -23,8 +23,7 @@ use Rattle.frame_groups.specs.Carried.{blocks_of, right_blocks}
 use Rattle.frame_groups.specs.Tally.{tally}
 use Rattle.frame_groups.specs.Tests.{pool_chunks, pool_need, capped, room_test, begun_test, first_failure}
 use Rattle.frame_groups.proofs.BegunLemmas.{at_own, at_other, no_need, none_begins, none_fails, one_fails, has_room}
-use Rattle.frame_groups.proofs.BegunLemmas.{lacks_room}
-use Rattle.frame_groups.proofs.BegunLemmas.{no_room_asked}
+use Rattle.frame_groups.proofs.BegunLemmas.{lacks_room, no_room_asked}
 use Rattle.frame_groups.proofs.TallyLemmas.{at_place, need_is}
 use Rattle.open_group.specs.HoldsBlocks.{HoldsCounts}
 use Rattle.open_group.specs.HoldsPast.{begun_at, need_at, noted, AreFalling, IsBegun, IsNeeded, HoldsPast}

@@ -13,8 +13,7 @@ use Rattle.frame_groups.specs.declared.cause.MuteCause.{MuteCause}
 use Rattle.frame_groups.specs.declared.cause.MuteCause.TheVariants.{PoolFull}
 use Rattle.frame_groups.specs.Carried.{right_blocks}
 use Rattle.frame_groups.specs.Tally.{Tally, tally_need, tally_room, tally_pool, tally_missing, tally_l1, tally_time}
-use Rattle.frame_groups.specs.Tally.{tally_blocks}
-use Rattle.frame_groups.specs.Tally.{tally_map, tally_fault}
+use Rattle.frame_groups.specs.Tally.{tally_blocks, tally_map, tally_fault}
 use Rattle.frame_groups.specs.Tests.{unless, pool_chunks, capped, begun_test, first_failure}
 use Rattle.open_group.specs.HoldsBlocks.{HoldsCounts, HoldsLists}
 use Rattle.open_group.specs.Sent.{held_bytes}

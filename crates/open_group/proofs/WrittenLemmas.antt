@@ -1,8 +1,6 @@
 -- What a writer gives of a frame is its record.
 use Rattle.std.proofs.Common.{◌≡◌, ℕ, suc, ◌+◌, ◌*◌, ◌^◌, ◌<◌, ◌≤◌, Bool, List, [], ◌∷◌, ◌++◌, length, refl, sym, subst}
-use Rattle.std.proofs.Common.{ap}
-use Rattle.std.proofs.Common.{ap₂}
-use Rattle.std.proofs.Common.{◌∙◌, arith, append_assoc, append-nil, length-append}
+use Rattle.std.proofs.Common.{ap, ap₂, ◌∙◌, arith, append_assoc, append-nil, length-append}
 use Rattle.std.specs.Prelude.{map, sum, sum_by, slice_index, slice_index_or}
 use Rattle.std.specs.List.{concat, flat_map, range_with_len, AllByRecursion}
 use Rattle.std.proofs.lemmas.List.FromFn.{length-map-range_with_len}
@@ -27,8 +25,7 @@ use Rattle.l1_signal.specs.L1Of.{conf_of}
 use Rattle.l1_signal.specs.Laws.{PreBitsLength, ConfPartLength}
 use Rattle.site_frame.specs.Laws.{BlocksInOrder}
 use Rattle.site_frame.specs.Record.{Block, frame_kind, muted_kind, head_bytes, block_bytes as spelled_block}
-use Rattle.site_frame.specs.Record.{blocks_bytes}
-use Rattle.site_frame.specs.Record.{cell_bytes}
+use Rattle.site_frame.specs.Record.{blocks_bytes, cell_bytes}
 use Rattle.site_frame.specs.Whole.{written_rest, block_size}
 use Rattle.record_laws.specs.Frames.{l1_pre, frame_cells, HasByteIds}
 use Rattle.record_laws.specs.Laws.{IsSentBlock, EveryFrameFits, blocks_size}
@@ -36,8 +33,7 @@ use Rattle.site_frame.specs.Words.{words}
 use Rattle.open_group.specs.Front.{post_with}
 use Rattle.open_group.specs.RecordBytes.{own_count, list_at, plp_block, sent_bytes, list_blocks, lists_bytes}
 use Rattle.open_group.specs.WriterLaws.{written_frame, RecordWritten, MutedWritten, HasBlocks, BlockCount, post_size}
-use Rattle.open_group.specs.WriterLaws.{RestLength}
-use Rattle.open_group.specs.WriterLaws.{RecordFits}
+use Rattle.open_group.specs.WriterLaws.{RestLength, RecordFits}
 use Rattle.record_laws.proofs.FitLemmas.{length-l1_pre, room_for_all}
 use Rattle.open_group.proofs.FittingLemmas.{length-crc_behind}
 use Rattle.open_group.proofs.ScrambleLemmas.{length-scrambled_bytes}

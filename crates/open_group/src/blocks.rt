@@ -58,10 +58,8 @@ fn clear_pool(pool: &mut Pool, lists: u32)
 
 impl HeldBlocks {
     ghost use Rattle.std.specs.Prelude.{◌≡◌, ◌↔◌, ◌<◌, ◌≤◌, ◌+◌, ◌*◌, ◌%◌, ◌^◌, ◌++◌, ◌∷◌, [], true, false, Some};
-    ghost use Rattle.std.specs.Prelude.{length};
-    ghost use Rattle.std.specs.Prelude.{drop, replicate, vec_len, slice_set};
-    ghost use Rattle.std.specs.Prelude.{slice_index};
-    ghost use Rattle.std.specs.Prelude.{IfOk, List, Bool, ℕ};
+    ghost use Rattle.std.specs.Prelude.{length, drop, replicate, vec_len, slice_set, slice_index, IfOk, List, Bool, ℕ};
+    ghost use Rattle.std.specs.Prelude.{◌↔◌, ◌⊎◌, take, drop};
     ghost use Rattle.linked_pool.specs.Pool.{list_at, chunks_for, used_chunks, appended};
     ghost use Rattle.plp_config.specs.Capacity.{block_bytes};
     ghost use Rattle.t2mi_packet.specs.declared.packet.Packet.{Packet};
@@ -70,7 +68,6 @@ impl HeldBlocks {
     ghost use Rattle.frame_groups.specs.Tests.{pool_chunks, capped};
     ghost use Rattle.open_group.specs.HoldsBlocks.{IsOpenFor, HoldsCounts, HoldsLists, held_of};
     ghost use Rattle.open_group.specs.Sent.{held_bytes};
-    ghost use Rattle.std.specs.Prelude.{◌↔◌, ◌⊎◌, take, drop};
     ghost use Rattle.open_group.specs.Writes.{bytes_left, IsLast, IsReady, is_done};
 
     /// Takes the memory for the PLPs of a plan. Nothing is held yet.

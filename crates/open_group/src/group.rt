@@ -49,9 +49,8 @@ pub struct PooledGroup<'p> {
 }
 
 impl<'p> PooledGroup<'p> {
-    ghost use Rattle.std.specs.Prelude.{◌≡◌, ◌<◌, ◌++◌, ◌∷◌, [], ℕ, List, Option, Some, None, true};
-    ghost use Rattle.std.specs.Prelude.{IfOk};
-    ghost use Rattle.std.specs.Prelude.{is_some, length};
+    ghost use Rattle.std.specs.Prelude.{◌≡◌, ◌<◌, ◌++◌, ◌∷◌, [], ℕ, List, Option, Some, None, true, IfOk, is_some};
+    ghost use Rattle.std.specs.Prelude.{length};
     ghost use Rattle.t2mi_packet.specs.T2miPacket.{Fits};
     ghost use Rattle.t2mi_packet.specs.declared.packet.Packet.{Packet};
     ghost use Rattle.frame_groups.specs.Groups.{Group};

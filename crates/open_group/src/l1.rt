@@ -37,23 +37,19 @@ pub struct HeldL1 {
 
 impl HeldL1 {
     ghost use Rattle.std.specs.Prelude.{◌≡◌, ◌&&◌, ◌+◌, ◌≤◌, ◌∷◌, [], true, false, Bool, Option, Some, None, length};
-    ghost use Rattle.std.specs.Prelude.{IfOk};
-    ghost use Rattle.std.specs.Prelude.{IfSome};
+    ghost use Rattle.std.specs.Prelude.{IfOk, IfSome, List, ℕ, ◌++◌, sum_by};
     ghost use Rattle.std.specs.Option.{option_and_then, option_copied, option_map_or};
     ghost use Rattle.plp_config.specs.declared.config.Config.{Config};
-    ghost use Rattle.frame_groups.specs.Carried.{L1Parts};
-    ghost use Rattle.frame_groups.specs.Tests.{dyn_agrees, read_dynamic, parts_agree, l1_shape};
-    ghost use Rattle.frame_groups.specs.Carried.{l1s_of};
+    ghost use Rattle.frame_groups.specs.Carried.{L1Parts, l1s_of};
+    ghost use Rattle.frame_groups.specs.Tests.{dyn_agrees, read_dynamic, parts_agree, l1_shape, has_map};
     ghost use Rattle.t2mi_packet.specs.T2miPacket.{Fits};
     ghost use Rattle.open_group.specs.declared.parts.TheConstants.{MOST_BITS};
     ghost use Rattle.open_group.specs.HoldsL1.{HasRead, HoldsL1, AddsL1, shape_told};
     ghost use Rattle.open_group.specs.Parts.{parts_of};
-    ghost use Rattle.std.specs.Prelude.{List, ℕ, ◌++◌, sum_by};
     ghost use Rattle.plp_config.specs.Places.{places};
     ghost use Rattle.open_group.specs.RecordBytes.{own_count};
     ghost use Rattle.l1_signal.specs.L1Configurable.{conf_bits};
     ghost use Rattle.l1_signal.specs.L1Of.{conf_of};
-    ghost use Rattle.frame_groups.specs.Tests.{has_map};
     ghost use Rattle.record_laws.specs.Laws.{rest_size};
     ghost use Rattle.open_group.specs.Front.{front_bytes};
     ghost use Rattle.open_group.specs.WriterLaws.{post_size};

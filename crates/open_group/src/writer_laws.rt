@@ -1,7 +1,6 @@
 // Laws of the definitions. Their functions do nothing.
 ghost use Rattle.open_group.specs.WriterLaws.{RecordWritten, MutedWritten, EmptyIsShort, AppendedIsShort, BlockCount};
-ghost use Rattle.open_group.specs.WriterLaws.{RestLength};
-ghost use Rattle.open_group.specs.WriterLaws.{RecordFits};
+ghost use Rattle.open_group.specs.WriterLaws.{RestLength, RecordFits};
 
 use l1_signal::{post_law, pre_law};
 use plp_config::block_law;

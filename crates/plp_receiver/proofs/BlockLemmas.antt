@@ -1,8 +1,7 @@
 -- A data field is its pieces: the bytes before the first user packet, and then user packets, the last one perhaps cut
 -- off.
 use Rattle.std.proofs.Common.{◌≡◌, ◌≢◌, ℕ, suc, ◌+◌, ◌-◌, ◌%◌, ◌<◌, ◌≤◌, ◌==◌, ◌||◌, Bool, true, false, List, [], ◌∷◌}
-use Rattle.std.proofs.Common.{◌++◌}
-use Rattle.std.proofs.Common.{length, Option, Some, None, ap, ap₂, ◌∙◌, arith, cond, eq-eqb}
+use Rattle.std.proofs.Common.{◌++◌, length, Option, Some, None, ap, ap₂, ◌∙◌, arith, cond, eq-eqb}
 use Rattle.std.specs.Prelude.{nat_lt, if◌then◌else◌}
 use Rattle.std.proofs.Math.Bool.{or-true}
 use Rattle.std.proofs.lemmas.Bool.{lt-ltb, le-ltb, false_from_ne_true, eqb-true}

@@ -1,7 +1,6 @@
 -- The window shows what the assembler found.
 use Rattle.std.proofs.Common.{◌≡◌, ℕ, ◌+◌, ◌-◌, ◌*◌, ◌^◌, ◌<◌, Bool, true, false, List, [], ◌∷◌, ◌++◌, take, Option}
-use Rattle.std.proofs.Common.{Some, None}
-use Rattle.std.proofs.Common.{ap, ap₂, ◌∙◌, sym, subst, arith, inl, inr, append-nil, cond}
+use Rattle.std.proofs.Common.{Some, None, ap, ap₂, ◌∙◌, sym, subst, arith, inl, inr, append-nil, cond}
 use Rattle.std.specs.Prelude.{nat_lt, nat_le, if◌then◌else◌}
 use Rattle.std.proofs.lemmas.List.{take-take}
 use Rattle.std.proofs.lemmas.Bool.{cases_lt, lt-ltb, le-ltb, and_parts, ltb-true}
@@ -10,8 +9,7 @@ use Rattle.plp_receiver.specs.declared.slot_rule.SlotRule.{SlotRule}
 use Rattle.plp_receiver.specs.declared.assembler.Found.{Found}
 use Rattle.plp_receiver.specs.Sound.{IsSound}
 use Rattle.plp_receiver.specs.Strings.{Item, item_values}
-use Rattle.plp_receiver.specs.Packets.{packet_of}
-use Rattle.plp_receiver.specs.Packets.{UserPacket, user_packets}
+use Rattle.plp_receiver.specs.Packets.{packet_of, UserPacket, user_packets}
 use Rattle.plp_receiver.specs.Assembles.{Gains, IsFound}
 use Rattle.plp_receiver.specs.Readback.{counts_by, counts}
 use Rattle.plp_config.specs.SlotTimes.{over_by, delay_of}

@@ -1,9 +1,7 @@
 -- The pieces that are taken of a data field are its items, one piece behind another.
 use Rattle.std.proofs.Common.{◌≡◌, ℕ, ◌+◌, ◌-◌, ◌*◌, ◌/◌, ◌%◌, ◌^◌, ◌<◌, ◌≤◌, ◌==◌, Bool, true, false, List, [], ◌∷◌}
-use Rattle.std.proofs.Common.{◌++◌}
-use Rattle.std.proofs.Common.{length, take, drop, Option, Some, None, refl, ap, ◌∙◌, sym, subst, arith, inl, inr}
-use Rattle.std.proofs.Common.{append_assoc}
-use Rattle.std.proofs.Common.{length-drop, length-take, cond, eq-eqb}
+use Rattle.std.proofs.Common.{◌++◌, length, take, drop, Option, Some, None, refl, ap, ◌∙◌, sym, subst, arith, inl, inr}
+use Rattle.std.proofs.Common.{append_assoc, length-drop, length-take, cond, eq-eqb}
 use Rattle.std.specs.Prelude.{min, if◌then◌else◌}
 use Rattle.std.proofs.lemmas.List.{take_all}
 use Rattle.std.proofs.lemmas.Bool.{cases_lt, cases_eq, false_from_ne_true, eqb-true}
@@ -16,8 +14,7 @@ use Rattle.plp_receiver.specs.Sound.{IsSound}
 use Rattle.plp_receiver.specs.Strings.{Item, Block, is_start, first_mark, mark_at, items_from, block_items}
 use Rattle.plp_receiver.specs.Pieces.{piece_items}
 use Rattle.plp_receiver.proofs.BlockLemmas.{Ends, items_append, piece_is, ends_field, ends_start, none_marks}
-use Rattle.plp_receiver.proofs.BlockLemmas.{mark_before}
-use Rattle.plp_receiver.proofs.BlockLemmas.{mark_first, mark_next, mark_inner}
+use Rattle.plp_receiver.proofs.BlockLemmas.{mark_before, mark_first, mark_next, mark_inner}
 use Rattle.plp_receiver.specs.TakenBlocks.{front_of, IsBegun, IsStart}
 
 mod_step : (n t len : ℕ) → n % len ≡ 0 → t < len → (n + t) % len ≡ t

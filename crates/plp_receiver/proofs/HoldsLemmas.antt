@@ -1,11 +1,9 @@
 -- What an assembler keeps is the machine's state, piece by piece.
 use Rattle.std.proofs.Common.{◌≡◌, ℕ, suc, ◌+◌, ◌-◌, ◌^◌, ◌<◌, ◌≤◌, ◌==◌, ◌&&◌, Bool, true, false, List, [], ◌∷◌, ◌++◌}
-use Rattle.std.proofs.Common.{length}
-use Rattle.std.proofs.Common.{take, get_or, Option, Some, None, refl, ap, ap₂, ◌∙◌, sym, subst, arith, length-append}
-use Rattle.std.proofs.Common.{cond}
-use Rattle.std.proofs.Common.{eq-eqb}
+use Rattle.std.proofs.Common.{length, take, get_or, Option, Some, None, refl, ap, ap₂, ◌∙◌, sym, subst, arith}
+use Rattle.std.proofs.Common.{length-append, cond, eq-eqb}
 use Rattle.std.specs.Prelude.{min, option_map, if◌then◌else◌, IfSome}
-use Rattle.std.proofs.lemmas.List.{get_or-take}
+use Rattle.std.proofs.lemmas.List.{get_or-take, map-append}
 use Rattle.std.proofs.lemmas.Bool.{both_ways, false_from_ne_true, eqb-true}
 use Rattle.plp_receiver.specs.declared.slot_rule.SlotRule.{SlotRule}
 use Rattle.plp_receiver.specs.declared.mark.Mark.{Mark}
@@ -15,15 +13,13 @@ use Rattle.plp_receiver.specs.declared.assembler.Found.{Found}
 use Rattle.plp_receiver.specs.Sound.{IsSound}
 use Rattle.plp_receiver.specs.Strings.{Item, item_values, is_start, is_inside}
 use Rattle.plp_receiver.specs.Packets.{UserPacket, is_one, all_inside, last_item, last_of, no_item, first_item, dnp_of}
-use Rattle.plp_receiver.specs.Packets.{slot_by}
-use Rattle.plp_receiver.specs.Packets.{slot_of, with_slot, user_packets}
+use Rattle.plp_receiver.specs.Packets.{slot_by, slot_of, with_slot, user_packets}
 use Rattle.plp_receiver.specs.Machine.{State, Turn, state_of, turn_of, before_next, ended, given, Follows}
 use Rattle.plp_receiver.specs.Pieces.{item, piece_items, piece_grown, piece_inside, piece_turn}
 use Rattle.plp_receiver.specs.Base.{far, capped, slot_with, IsBase, Holds, next_len, is_idle}
 use Rattle.plp_receiver.specs.Assembles.{IsEpoch, next_base, AssemblerStands, kept_dnp, found_of, Gives, Gains}
 use Rattle.plp_receiver.proofs.OneLemmas.{one_parts, one_from}
 use Rattle.plp_receiver.proofs.TurnLemmas.{reads}
-use Rattle.std.proofs.lemmas.List.{map-append}
 use Rattle.plp_receiver.proofs.PieceLemmas.{piece_runs, lt_cond, ge_cond}
 
 -- Lists of items.

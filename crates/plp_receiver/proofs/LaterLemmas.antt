@@ -1,9 +1,7 @@
 -- A complete user packet, by the blocks of a run.
 use Rattle.std.proofs.Common.{◌≡◌, ℕ, zero, suc, ◌+◌, ◌-◌, ◌*◌, ◌/◌, ◌%◌, ◌<◌, ◌≤◌, ◌==◌, ◌&&◌, ◌||◌, Bool, true, false}
-use Rattle.std.proofs.Common.{List, []}
-use Rattle.std.proofs.Common.{◌∷◌, length, take, drop, get_or, Option, Some, None, refl, ap, ap₂, ◌∙◌, sym, subst}
-use Rattle.std.proofs.Common.{arith, inl}
-use Rattle.std.proofs.Common.{inr, length-append, length-take, length-drop}
+use Rattle.std.proofs.Common.{List, [], ◌∷◌, length, take, drop, get_or, Option, Some, None, refl, ap, ap₂, ◌∙◌, sym}
+use Rattle.std.proofs.Common.{subst, arith, inl, inr, length-append, length-take, length-drop}
 use Rattle.std.proofs.lemmas.Bool.{cases_lt, cases_eq, both_ways, and_parts, false_from_ne_true, eqb-true}
 use Rattle.std.proofs.lemmas.List.{get_or-take, get_or-drop, drop_more, get_or_append_left, get_or-append_right}
 use Rattle.std.proofs.lemmas.Nat.{mod-mul-add, div-add-mod'}
@@ -15,8 +13,7 @@ use Rattle.plp_receiver.specs.Strings.{Item, Block, is_start, is_inside, mark_at
 use Rattle.plp_receiver.specs.Packets.{all_inside, is_one, is_complete, last_item, no_item, window}
 use Rattle.plp_receiver.proofs.OneLemmas.{one_parts, one_from}
 use Rattle.plp_receiver.proofs.BlockLemmas.{Ends, ends_field, ends_start, none_marks, mark_before, mark_first}
-use Rattle.plp_receiver.proofs.BlockLemmas.{mark_next}
-use Rattle.plp_receiver.proofs.BlockLemmas.{mark_inner}
+use Rattle.plp_receiver.proofs.BlockLemmas.{mark_next, mark_inner}
 use Rattle.plp_receiver.proofs.FieldLemmas.{is_first}
 use Rattle.plp_receiver.proofs.PlaceLemmas.{last_is}
 use Rattle.plp_receiver.specs.TakenBlocks.{IsPlace}

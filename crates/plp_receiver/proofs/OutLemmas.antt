@@ -1,7 +1,6 @@
 -- One lemma for each way out of `piece`, over the parts of the assembler.
 use Rattle.std.proofs.Common.{◌≡◌, ℕ, ◌+◌, ◌^◌, ◌<◌, ◌≤◌, true, false, List, [], ◌∷◌, ◌++◌, length, take, Option, None}
-use Rattle.std.proofs.Common.{refl, ap}
-use Rattle.std.proofs.Common.{◌∙◌, sym, subst, arith, append-nil}
+use Rattle.std.proofs.Common.{refl, ap, ◌∙◌, sym, subst, arith, append-nil}
 use Rattle.std.specs.Prelude.{IfSome}
 use Rattle.plp_receiver.specs.declared.slot_rule.SlotRule.{SlotRule}
 use Rattle.plp_receiver.specs.declared.mark.Mark.{Mark}

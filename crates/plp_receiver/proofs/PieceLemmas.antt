@@ -1,7 +1,6 @@
 -- What a piece does to the machine, all its bytes at once.
 use Rattle.std.proofs.Common.{◌≡◌, ℕ, ◌+◌, ◌<◌, ◌≤◌, ◌&&◌, Bool, true, false, List, [], ◌∷◌, ◌++◌, length, Option, None}
-use Rattle.std.proofs.Common.{refl, ap}
-use Rattle.std.proofs.Common.{◌∙◌, sym, arith, inl, inr, append-nil, append_assoc, length-append, cond}
+use Rattle.std.proofs.Common.{refl, ap, ◌∙◌, sym, arith, inl, inr, append-nil, append_assoc, length-append, cond}
 use Rattle.std.specs.Prelude.{nat_lt, if◌then◌else◌}
 use Rattle.std.proofs.lemmas.Bool.{cases_lt, lt-ltb, le-ltb}
 use Rattle.plp_receiver.specs.declared.mark.Mark.{Mark}

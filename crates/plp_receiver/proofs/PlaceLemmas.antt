@@ -1,7 +1,6 @@
 -- Where the user packets of a string begin and end, and in which epochs.
 use Rattle.std.proofs.Common.{◌≡◌, ℕ, zero, suc, ◌+◌, ◌-◌, ◌<◌, ◌≤◌, List, [], ◌∷◌, ◌++◌, length, take, drop, get_or}
-use Rattle.std.proofs.Common.{Option}
-use Rattle.std.proofs.Common.{Some, None, refl, ap, ◌∙◌, sym, subst, arith, inl, inr, append-nil, append_assoc}
+use Rattle.std.proofs.Common.{Option, Some, None, refl, ap, ◌∙◌, sym, subst, arith, inl, inr, append-nil, append_assoc}
 use Rattle.std.proofs.Common.{length-append}
 use Rattle.std.specs.List.{AllByRecursion}
 use Rattle.std.proofs.lemmas.Bool.{cases_lt}
@@ -9,8 +8,7 @@ use Rattle.terms.proofs.AllLemmas.{all_append}
 use Rattle.plp_receiver.specs.declared.slot_rule.SlotRule.{SlotRule}
 use Rattle.plp_receiver.specs.Strings.{Item}
 use Rattle.plp_receiver.specs.Packets.{UserPacket, window, first_item, last_item, last_of, no_item, slot_of}
-use Rattle.plp_receiver.specs.Packets.{slot_before}
-use Rattle.plp_receiver.specs.Packets.{slots_at, with_slot, packets_at, user_packets}
+use Rattle.plp_receiver.specs.Packets.{slot_before, slots_at, with_slot, packets_at, user_packets}
 use Rattle.plp_receiver.proofs.SlotLemmas.{same_packets}
 use Rattle.plp_receiver.specs.SlotsHold.{From, UpTo, Since}
 

@@ -1,7 +1,6 @@
 -- What comes of later epochs changes no packet of a slot that is given out.
 use Rattle.std.proofs.Common.{◌≡◌, ℕ, suc, ◌+◌, ◌-◌, ◌*◌, ◌<◌, ◌≤◌, ◌==◌, ◌&&◌, Bool, true, false, List, [], ◌∷◌, ◌++◌}
-use Rattle.std.proofs.Common.{length}
-use Rattle.std.proofs.Common.{map, Option, Some, None, refl, ap, ◌∙◌, sym, arith, inl, inr, append_assoc}
+use Rattle.std.proofs.Common.{length, map, Option, Some, None, refl, ap, ◌∙◌, sym, arith, inl, inr, append_assoc}
 use Rattle.std.specs.Prelude.{nat_lt, nat_le, option_map, unwrap_or}
 use Rattle.std.specs.Option.{option_or}
 use Rattle.std.specs.List.{AllByRecursion, range_with_len, find, filter, flat_map}
@@ -16,8 +15,7 @@ use Rattle.plp_config.specs.Laws.{CountRises, ReleasedFirst}
 use Rattle.plp_receiver.specs.declared.slot_rule.SlotRule.{SlotRule}
 use Rattle.plp_receiver.specs.Sound.{IsSound}
 use Rattle.plp_receiver.specs.Strings.{Item, Block, gap, items_from, block_items, item_values}
-use Rattle.plp_receiver.specs.Packets.{packet_of}
-use Rattle.plp_receiver.specs.Packets.{UserPacket, user_packets, first_item, last_item}
+use Rattle.plp_receiver.specs.Packets.{packet_of, UserPacket, user_packets, first_item, last_item}
 use Rattle.plp_receiver.specs.Readback.{counts, counted, found_for, slot_packet}
 use Rattle.plp_receiver.specs.SlotEpochs.{Epoch, HaveEnded, block_or_gap, epoch_items, string_of, first_slot, readback}
 use Rattle.plp_config.specs.SlotTimes.{over_by, delay_of}

@@ -1,8 +1,6 @@
 -- The cells of a block all stand exactly if none is missed when the record is gone over beside the map.
 use Rattle.std.proofs.Common.{◌≡◌, ℕ, zero, suc, ◌+◌, ◌%◌, ◌<◌, ◌&&◌, ◌==◌, Bool, true, false, List, [], ◌∷◌, length}
-use Rattle.std.proofs.Common.{get_or}
-use Rattle.std.proofs.Common.{Option}
-use Rattle.std.proofs.Common.{Some, None, refl, ap, ap₂, sym, subst, ◌∙◌, arith}
+use Rattle.std.proofs.Common.{get_or, Option, Some, None, refl, ap, ap₂, sym, subst, ◌∙◌, arith}
 use Rattle.std.specs.Prelude.{slice_get, not, ◌||◌}
 use Rattle.std.specs.FinMap.{get}
 use Rattle.std.specs.List.{list_all, range_with_len}

@@ -1,7 +1,7 @@
 -- The blocks of a frame of a shape, each with its length.
 use Rattle.std.proofs.Common.{◌≡◌, ℕ, zero, suc, ◌+◌, ◌-◌, ◌<◌, ◌≤◌, ◌&&◌, ◌==◌, Bool, true, false, List, [], ◌∷◌, ◌++◌}
-use Rattle.std.proofs.Common.{length}
-use Rattle.std.proofs.Common.{take, drop, get_or, replicate, Option, refl, ap, sym, subst, ◌∙◌, arith, cond, ◌%◌}
+use Rattle.std.proofs.Common.{length, take, drop, get_or, replicate, Option, refl, ap, sym, subst, ◌∙◌, arith, cond}
+use Rattle.std.proofs.Common.{◌%◌}
 use Rattle.std.specs.Prelude.{slice_index, sum}
 use Rattle.std.specs.Option.{option_map_or}
 use Rattle.std.specs.Cmp.Lexicographic.{pointwise}
@@ -10,13 +10,12 @@ use Rattle.std.proofs.lemmas.List.{length-drop}
 use Rattle.std.proofs.lemmas.List.Sums.{sum_by-cons}
 use Rattle.plp_config.specs.Capacity.{block_bytes}
 use Rattle.plp_config.specs.InterleavingFrames.{is_first}
-use Rattle.plp_config.specs.Plps.{plp_at}
+use Rattle.plp_config.specs.Plps.{plp_at, spread}
 use Rattle.plp_config.specs.declared.config.Config.{Config}
 use Rattle.scheduler.specs.Shape.{FrameShape}
 use Rattle.std.proofs.lemmas.List.FromFn.{get_or-map-range_with_len}
 use Rattle.site_frame.specs.Record.{Block}
 use Rattle.frame_groups.specs.Readable.{BlockSize, coming, has_size, block_sizes}
-use Rattle.plp_config.specs.Plps.{spread}
 use Rattle.plp_receiver.specs.Sizes.{size_of, plp_sizes, sizes_from}
 use Rattle.plp_receiver.specs.Taken.{bytes_at}
 use Rattle.plp_receiver.specs.Taking.{HaveLength}

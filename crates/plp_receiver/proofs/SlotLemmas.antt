@@ -1,16 +1,13 @@
 -- Slots and user packets of a string that grows by one item.
 use Rattle.std.proofs.Common.{◌≡◌, ℕ, zero, suc, ◌+◌, ◌-◌, ◌<◌, ◌≤◌, ◌&&◌, Bool, false, List, [], ◌∷◌, ◌++◌, length}
-use Rattle.std.proofs.Common.{take, drop}
-use Rattle.std.proofs.Common.{Option, None, refl, ap, ap₂, ◌∙◌, sym, arith, inl, inr, append-nil, length-append}
-use Rattle.std.proofs.Common.{length-drop}
-use Rattle.std.proofs.Common.{cond}
+use Rattle.std.proofs.Common.{take, drop, Option, None, refl, ap, ap₂, ◌∙◌, sym, arith, inl, inr, append-nil}
+use Rattle.std.proofs.Common.{length-append, length-drop, cond}
 use Rattle.std.proofs.lemmas.Bool.{cases_lt}
 use Rattle.std.proofs.lemmas.List.{take-append-le, drop-append-le, take_all, drop_all}
 use Rattle.plp_receiver.specs.declared.slot_rule.SlotRule.{SlotRule}
 use Rattle.plp_receiver.specs.Strings.{Item}
 use Rattle.plp_receiver.specs.Packets.{UserPacket, is_one, last_item, slot_by, slot_of, dnp_of, first_item, window}
-use Rattle.plp_receiver.specs.Packets.{latest}
-use Rattle.plp_receiver.specs.Packets.{slot_before, slots_at, with_slot, packets_at, user_packets}
+use Rattle.plp_receiver.specs.Packets.{latest, slot_before, slots_at, with_slot, packets_at, user_packets}
 
 pub none_of : (r : SlotRule) (w : List Item) (before : Option ℕ) → is_one w ≡ false → slot_of r w before ≡ None
 unfolding slot_of

@@ -1,7 +1,6 @@
 -- Ranges, filters and searches.
 use Rattle.std.proofs.Common.{◌≡◌, ◌≢◌, ℕ, zero, suc, ◌+◌, ◌-◌, ◌<◌, ◌≤◌, Bool, true, false, List, [], ◌∷◌, ◌++◌, map}
-use Rattle.std.proofs.Common.{replicate}
-use Rattle.std.proofs.Common.{Option, Some, None, refl, ap, ap₂, ◌∙◌, sym, arith, inl, inr, cond}
+use Rattle.std.proofs.Common.{replicate, Option, Some, None, refl, ap, ap₂, ◌∙◌, sym, arith, inl, inr, cond}
 use Rattle.std.specs.List.{AllByRecursion, range_with_len, find, filter}
 use Rattle.std.proofs.lemmas.Bool.{cases_eq}
 use Rattle.terms.proofs.RangeLemmas.{map_same}

@@ -1,10 +1,7 @@
 -- What a `PacketSlots` stands for, call by call, over its parts.
 use Rattle.std.proofs.Common.{◌≡◌, ℕ, suc, ◌+◌, ◌-◌, ◌/◌, ◌%◌, ◌==◌, ◌<◌, ◌≤◌, List, [], ◌∷◌, ◌++◌, length, map, drop}
-use Rattle.std.proofs.Common.{get_or}
-use Rattle.std.proofs.Common.{replicate, Bool, true, false, cond, Option, Some, None, refl, ap, ap₂, ◌∙◌, sym, subst}
-use Rattle.std.proofs.Common.{arith}
-use Rattle.std.proofs.Common.{append-nil}
-use Rattle.std.proofs.Common.{append_assoc, length-append, eq-eqb}
+use Rattle.std.proofs.Common.{get_or, replicate, Bool, true, false, cond, Option, Some, None, refl, ap, ap₂, ◌∙◌, sym}
+use Rattle.std.proofs.Common.{subst, arith, append-nil, append_assoc, length-append, eq-eqb}
 use Rattle.std.specs.Prelude.{unwrap_or, slice_get, nat_lt, if◌then◌else◌}
 use Rattle.std.proofs.lemmas.Bool.{ltb-true, ltb-false, eqb-true, both_ways}
 use Rattle.std.specs.List.{range_with_len}
@@ -23,8 +20,7 @@ use Rattle.plp_receiver.specs.SlotsHold.{Shows}
 use Rattle.plp_receiver.specs.Window.{Status, status_of, Reaches, begun, entered, left, given, front_packet}
 use Rattle.plp_receiver.specs.Readback.{slot_option, slot_packet}
 use Rattle.plp_receiver.specs.SlotEpochs.{Epoch, HaveEnded, block_or_gap, epoch_items, string_of, first_slot, reached}
-use Rattle.plp_receiver.specs.SlotEpochs.{lost_epoch}
-use Rattle.plp_receiver.specs.SlotEpochs.{epoch_with, readback, held_slots}
+use Rattle.plp_receiver.specs.SlotEpochs.{lost_epoch, epoch_with, readback, held_slots}
 use Rattle.plp_receiver.specs.Times.{epoch_of, over_after, due_after}
 use Rattle.plp_receiver.proofs.TimeLemmas.{next_epoch, same_epoch, all_rise, ended_over, none_over, none_given}
 use Rattle.plp_receiver.proofs.ReadbackLemmas.{up_to_string, string_append}

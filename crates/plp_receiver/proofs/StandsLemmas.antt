@@ -1,7 +1,6 @@
 -- What a receiver stands for, record by record.
 use Rattle.std.proofs.Common.{◌≡◌, ◌≢◌, ℕ, zero, suc, ◌+◌, ◌-◌, ◌%◌, ◌≤◌, ◌==◌, Bool, true, false, List, [], ◌∷◌, ◌++◌}
-use Rattle.std.proofs.Common.{length}
-use Rattle.std.proofs.Common.{Option, Some, refl, ap, sym, subst, ◌∙◌, arith, length-append, eq-eqb}
+use Rattle.std.proofs.Common.{length, Option, Some, refl, ap, sym, subst, ◌∙◌, arith, length-append, eq-eqb}
 use Rattle.std.specs.Prelude.{slice_get, nat_lt, if◌then◌else◌}
 use Rattle.std.proofs.lemmas.Bool.{eqb-true, both_ways}
 use Rattle.terms.proofs.CaseLemmas.{bool_cases}
@@ -20,8 +19,7 @@ use Rattle.plp_receiver.specs.Holds.{Holds, seen, joined, Sees}
 use Rattle.plp_receiver.specs.Taking.{EndsRecord}
 use Rattle.plp_receiver.specs.declared.held.HeldBlocks.{HeldBlocks}
 use Rattle.plp_receiver.proofs.EpochLemmas.{seen_begun, seen_on, seen_anew, begun_joined, told_on, told_more}
-use Rattle.plp_receiver.proofs.EpochLemmas.{first_seen}
-use Rattle.plp_receiver.proofs.EpochLemmas.{none_told}
+use Rattle.plp_receiver.proofs.EpochLemmas.{first_seen, none_told}
 
 -- the frame that comes next, and the rule by which it counts
 next_is : (p : PacketSlots) (r : SlotRule) (first count : ℕ) (told : List Epoch) (released : ℕ)

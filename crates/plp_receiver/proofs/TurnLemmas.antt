@@ -1,9 +1,7 @@
 -- One item of the machine: the user packets that a string gains by one item are those that the machine gives.
 use Rattle.std.proofs.Common.{◌≡◌, ◌≢◌, ℕ, ◌+◌, ◌-◌, ◌<◌, ◌≤◌, Bool, true, false, List, [], ◌∷◌, ◌++◌, length, take}
-use Rattle.std.proofs.Common.{drop, Option}
-use Rattle.std.proofs.Common.{None, refl, ap, ap₂, ◌∙◌, sym, subst, arith, inl, inr, append-nil, append_assoc}
-use Rattle.std.proofs.Common.{length-append}
-use Rattle.std.proofs.Common.{length-drop, length-take, cond}
+use Rattle.std.proofs.Common.{drop, Option, None, refl, ap, ap₂, ◌∙◌, sym, subst, arith, inl, inr, append-nil}
+use Rattle.std.proofs.Common.{append_assoc, length-append, length-drop, length-take, cond}
 use Rattle.std.proofs.lemmas.Bool.{cases_lt, lt-ltb, le-ltb}
 use Rattle.std.proofs.lemmas.List.{drop-append-le, drop_at, drop_all, drop-drop, take-append-drop}
 use Rattle.plp_receiver.specs.declared.mark.Mark.{Mark}
@@ -12,8 +10,7 @@ use Rattle.plp_receiver.specs.Strings.{Item, is_start, is_inside}
 use Rattle.plp_receiver.specs.declared.mark.Mark.TheVariants.{Gap, Inside, Next, Timed}
 use Rattle.plp_receiver.specs.Packets.{UserPacket, is_one, slot_of, slot_before, slots_at, with_slot, user_packets}
 use Rattle.plp_receiver.specs.Machine.{State, Turn, state_of, turn_of, before_next, ended, grown, inside, turn_by, turn}
-use Rattle.plp_receiver.specs.Machine.{after}
-use Rattle.plp_receiver.specs.Machine.{given, idle_or_one, Follows}
+use Rattle.plp_receiver.specs.Machine.{after, given, idle_or_one, Follows}
 use Rattle.plp_receiver.proofs.OneLemmas.{none_on, none_cut, one_on, one_alone, none_alone, one_parts}
 use Rattle.plp_receiver.proofs.SlotLemmas.{same_before, before_none, one_more_slot, one_more_packet, none_ends, Stays}
 use Rattle.plp_receiver.proofs.SlotLemmas.{no_end}

@@ -1,7 +1,6 @@
 -- A PLP is given back one list of packets: its rule is one, and records tell one thing.
 use Rattle.std.proofs.Common.{◌≡◌, ℕ, suc, ◌+◌, ◌-◌, ◌/◌, ◌==◌, ◌<◌, ◌≤◌, Bool, true, false, List, [], ◌∷◌, ◌++◌}
-use Rattle.std.proofs.Common.{length, Option}
-use Rattle.std.proofs.Common.{Some, None, refl, ap, ap₂, sym, ◌∙◌, subst, cond, arith, length-append}
+use Rattle.std.proofs.Common.{length, Option, Some, None, refl, ap, ap₂, sym, ◌∙◌, subst, cond, arith, length-append}
 use Rattle.std.specs.List.{AllZip, range_with_len}
 use Rattle.terms.specs.Bits.{bits_of, bytes_of}
 use Rattle.bb_frame.specs.Scrambled.{scrambled}

@@ -1,9 +1,7 @@
 -- What a window shows of the string so far, at each thing that happens to it.
 use Rattle.std.proofs.Common.{◌≡◌, ◌≢◌, ℕ, suc, ◌+◌, ◌-◌, ◌*◌, ◌^◌, ◌<◌, ◌≤◌, ◌==◌, ◌&&◌, Bool, true, false, List, []}
-use Rattle.std.proofs.Common.{◌∷◌, ◌++◌}
-use Rattle.std.proofs.Common.{map, drop, replicate, get_or, Option, Some, None, refl, ap, ap₂, ◌∙◌, sym, arith, inl}
-use Rattle.std.proofs.Common.{inr}
-use Rattle.std.proofs.Common.{append-nil, cond, eq-eqb}
+use Rattle.std.proofs.Common.{◌∷◌, ◌++◌, map, drop, replicate, get_or, Option, Some, None, refl, ap, ap₂, ◌∙◌, sym}
+use Rattle.std.proofs.Common.{arith, inl, inr, append-nil, cond, eq-eqb}
 use Rattle.std.specs.Prelude.{nat_lt, nat_le, option_map, min}
 use Rattle.std.specs.Option.{option_or}
 use Rattle.std.specs.List.{range_with_len, find, filter}

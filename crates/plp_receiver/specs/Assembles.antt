@@ -1,9 +1,7 @@
 -- What an `Assembler` stands for.
 use Rattle.std.specs.Prelude.{◌≡◌, ℕ, ◌-◌, ◌<◌, ◌++◌, ◌==◌, slice_index, min, option_map, true, false, List, [], ◌∷◌}
-use Rattle.std.specs.Prelude.{take}
-use Rattle.std.specs.Prelude.{Option, Some, None, if◌then◌else◌}
-use Rattle.plp_config.specs.declared.moment.TheConstants.{MOST_FRAMES}
-use Rattle.plp_config.specs.declared.moment.TheConstants.{ISCR_TICKS}
+use Rattle.std.specs.Prelude.{take, Option, Some, None, if◌then◌else◌}
+use Rattle.plp_config.specs.declared.moment.TheConstants.{MOST_FRAMES, ISCR_TICKS}
 use Rattle.plp_receiver.specs.declared.slot_rule.SlotRule.{SlotRule}
 use Rattle.plp_receiver.specs.declared.assembler.Assembler.{Assembler}
 use Rattle.plp_receiver.specs.declared.assembler.Base.{Base}

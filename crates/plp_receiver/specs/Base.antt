@@ -1,7 +1,6 @@
 -- What an `Assembler` keeps of the machine's state. No public clause cites this module.
 use Rattle.std.specs.Prelude.{◌≡◌, ℕ, ◌+◌, ◌^◌, ◌==◌, Bool, false, List, [], ◌∷◌, length, take, Option, if◌then◌else◌}
-use Rattle.std.specs.Prelude.{option_map}
-use Rattle.std.specs.Prelude.{min}
+use Rattle.std.specs.Prelude.{option_map, min}
 use Rattle.plp_receiver.specs.declared.mark.Mark.{Mark}
 use Rattle.plp_receiver.specs.declared.mark.Mark.TheVariants.{Gap, Inside, Next, Timed}
 use Rattle.plp_receiver.specs.declared.slot_rule.SlotRule.{SlotRule}

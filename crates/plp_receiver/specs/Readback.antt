@@ -4,11 +4,10 @@ use Rattle.std.specs.List.{find, filter}
 use Rattle.ts_packet.specs.Null.{null_packet}
 use Rattle.plp_config.specs.SlotTime.{slot_start}
 use Rattle.plp_receiver.specs.declared.slot_rule.SlotRule.{SlotRule}
-use Rattle.plp_receiver.specs.Packets.{packet_of}
+use Rattle.plp_receiver.specs.Packets.{packet_of, UserPacket, user_packets, first_item, last_item}
 use Rattle.plp_config.specs.SlotTimes.{delay_of, over_by}
 use Rattle.plp_receiver.specs.Times.{last_frame}
 use Rattle.plp_receiver.specs.Strings.{Item, item_values}
-use Rattle.plp_receiver.specs.Packets.{UserPacket, user_packets, first_item, last_item}
 
 -- A slot is in the range of the epoch in which its user packet begins, and is not given out when the last frame begins
 -- of the epoch in which it ends.

@@ -96,13 +96,11 @@ fn is_idle(len: usize, mark: Mark) -> bool
 }
 
 impl Assembler {
-    ghost use Rattle.std.specs.Prelude.{◌≡◌, ◌^◌, ◌-◌, ◌<◌, ◌≤◌, ◌++◌, ◌∷◌, [], length, ℕ, List, Some};
-    ghost use Rattle.std.specs.Prelude.{IfSome};
+    ghost use Rattle.std.specs.Prelude.{◌≡◌, ◌^◌, ◌-◌, ◌<◌, ◌≤◌, ◌++◌, ◌∷◌, [], length, ℕ, List, Some, IfSome};
     ghost use Rattle.std.specs.Prelude.{if◌then◌else◌};
     ghost use Rattle.plp_receiver.specs.declared.slot_rule.SlotRule.{SlotRule};
     ghost use Rattle.plp_receiver.specs.Strings.{Item, gap};
-    ghost use Rattle.plp_receiver.specs.Packets.{user_packets};
-    ghost use Rattle.plp_receiver.specs.Packets.{packet_of};
+    ghost use Rattle.plp_receiver.specs.Packets.{user_packets, packet_of};
     ghost use Rattle.plp_receiver.specs.Pieces.{piece_items};
     ghost use Rattle.plp_receiver.specs.Assembles.{next_base, kept_dnp, IsEpoch, IsCleared, Ends, Gains};
     ghost use Rattle.plp_receiver.specs.Assembles.{AssemblerStandsFor};

@@ -1,7 +1,6 @@
 // Taking the blocks of an epoch.
-ghost use Rattle.std.specs.Prelude.{◌≡◌, ◌+◌, ◌-◌, ◌%◌, ◌<◌, ◌≤◌, ◌++◌, ◌==◌, length, min};
-ghost use Rattle.std.specs.Prelude.{List, ℕ};
-ghost use Rattle.std.specs.Prelude.{Some, Option, if◌then◌else◌};
+ghost use Rattle.std.specs.Prelude.{◌≡◌, ◌+◌, ◌-◌, ◌%◌, ◌<◌, ◌≤◌, ◌++◌, ◌==◌, length, min, List, ℕ, Some, Option};
+ghost use Rattle.std.specs.Prelude.{if◌then◌else◌};
 ghost use Rattle.plp_receiver.specs.declared.slot_rule.SlotRule.{SlotRule};
 ghost use Rattle.plp_config.specs.declared.moment.TheConstants.{MOST_FRAMES};
 ghost use Rattle.plp_receiver.specs.Strings.{Item, first_mark, block_items};

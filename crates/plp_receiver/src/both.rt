@@ -1,9 +1,8 @@
 // What is done to the receiver of a common PLP, if there is one.
 ghost use Rattle.std.specs.Prelude.{◌≡◌, ◌<◌, length, IfOk, IfSome};
 ghost use Rattle.plp_config.specs.declared.moment.TheConstants.{MOST_FRAMES};
-ghost use Rattle.plp_receiver.specs.StandsFor.{frame_of};
+ghost use Rattle.plp_receiver.specs.StandsFor.{frame_of, TellsDue};
 ghost use Rattle.plp_receiver.specs.Both.{OnBoth, Begins, Takes, Gives, GivesJoined, CommonTellsDue, CommonIs};
-ghost use Rattle.plp_receiver.specs.StandsFor.{TellsDue};
 ghost use Rattle.plp_receiver.specs.JointStandsFor.{CommonIsFresh, common_due};
 
 use crate::receiver::Receiver;

@@ -1,6 +1,5 @@
 // The blocks of an interleaving frame of a PLP, from its first record to its last one.
-ghost use Rattle.std.specs.Prelude.{◌≡◌, ◌*◌, ◌^◌, ◌<◌, ◌≤◌, ℕ, true, false, length, vec_len, take};
-ghost use Rattle.std.specs.Prelude.{slice_index_or};
+ghost use Rattle.std.specs.Prelude.{◌≡◌, ◌*◌, ◌^◌, ◌<◌, ◌≤◌, ℕ, true, false, length, vec_len, take, slice_index_or};
 ghost use Rattle.plp_config.specs.declared.moment.TheConstants.{MOST_FRAMES};
 ghost use Rattle.plp_receiver.specs.SlotsStandFor.{frame_of, is_within, slots_status};
 
@@ -33,8 +32,7 @@ pub struct HeldBlocks {
 }
 
 impl HeldBlocks {
-    ghost use Rattle.std.specs.Prelude.{◌&&◌, IfOk};
-    ghost use Rattle.std.specs.Prelude.{◌==◌, slice_index, List};
+    ghost use Rattle.std.specs.Prelude.{◌&&◌, IfOk, ◌==◌, slice_index, List};
     ghost use Rattle.site_frame.specs.Record.{Block};
     ghost use Rattle.cell_map.specs.CellMap.{Passes};
     ghost use Rattle.plp_receiver.specs.Parts.{all_stand, part_with};

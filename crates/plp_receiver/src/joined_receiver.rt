@@ -39,8 +39,7 @@ impl<'p> JoinedReceiver<'p> {
     ghost use Rattle.plp_receiver.specs.StandsFor.{new_status};
     ghost use Rattle.plp_receiver.specs.JoinedBack.{MayJoin, JoinedBackWith};
     ghost use Rattle.plp_receiver.specs.JointStandsFor.{JoinedReceiverStandsFor, IsFresh, network_of, plp_of, frame_of};
-    ghost use Rattle.plp_receiver.specs.JointStandsFor.{due_of};
-    ghost use Rattle.plp_receiver.specs.JointStandsFor.{joins_of, status_of};
+    ghost use Rattle.plp_receiver.specs.JointStandsFor.{due_of, joins_of, status_of};
 
     /// Takes all the memory that is needed to receive the PLP at a place, and the common PLP of its group if its
     /// packets are to be joined: `joins` is then that PLP's place, else `None`.

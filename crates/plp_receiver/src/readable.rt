@@ -1,13 +1,12 @@
 // Which records of frames are readable (EN 302 755, clauses 5 to 8).
-ghost use Rattle.std.specs.Prelude.{◌≡◌, ◌&&◌, ◌-◌, ◌<◌, ◌≤◌, ◌==◌, true, Some, None, List, length, take};
-ghost use Rattle.std.specs.Prelude.{replicate, ◌++◌};
-ghost use Rattle.std.specs.Prelude.{if◌then◌else◌};
+ghost use Rattle.std.specs.Prelude.{◌≡◌, ◌&&◌, ◌-◌, ◌<◌, ◌≤◌, ◌==◌, true, Some, None, List, length, take, replicate};
+ghost use Rattle.std.specs.Prelude.{◌++◌, if◌then◌else◌};
 ghost use Rattle.std.specs.Bool.{beq};
 ghost use Rattle.std.specs.Cmp.Lexicographic.{pointwise};
 ghost use Rattle.l1_signal.specs.Laws.{crc_behind};
 ghost use Rattle.l1_signal.specs.declared.lengths.TheConstants.{CRC_BITS};
-ghost use Rattle.frame_groups.specs.Readable.{told_dynamic, post_agrees, BlockSize};
-ghost use Rattle.frame_groups.specs.Readable.{has_size, block_sizes, coming, shape_agrees, readable};
+ghost use Rattle.frame_groups.specs.Readable.{told_dynamic, post_agrees, BlockSize, has_size, block_sizes, coming};
+ghost use Rattle.frame_groups.specs.Readable.{shape_agrees, readable};
 ghost use Rattle.plp_receiver.specs.Sizes.{size_of};
 
 use crate::parts::begun_count;

@@ -1,7 +1,6 @@
 // The receiver of a PLP.
 ghost use Rattle.std.specs.Prelude.{◌≡◌, ◌<◌, ◌≤◌, ◌+◌, ◌-◌, ◌++◌, ◌∷◌, [], List, ℕ, IfOk, true, false, length};
-ghost use Rattle.std.specs.Prelude.{vec_len};
-ghost use Rattle.std.specs.Prelude.{slice_get, Some, nat_lt, if◌then◌else◌};
+ghost use Rattle.std.specs.Prelude.{vec_len, slice_get, Some, nat_lt, if◌then◌else◌};
 ghost use Rattle.plp_config.specs.Plps.{plp_at, spread};
 ghost use Rattle.plp_config.specs.Capacity.{block_bytes};
 ghost use Rattle.plp_config.specs.SlotTime.{window, window_slots};
@@ -69,8 +68,7 @@ impl<'p> Receiver<'p> {
     ghost use Rattle.std.specs.Prelude.{Option};
     ghost use Rattle.plp_receiver.specs.Taking.{EndsRecord, TellsEpoch};
     ghost use Rattle.plp_receiver.specs.StandsFor.{ReceiverStandsFor, IsFresh, slots_come, network_of, plp_of};
-    ghost use Rattle.plp_receiver.specs.StandsFor.{frame_of, due_of};
-    ghost use Rattle.plp_receiver.specs.StandsFor.{status_of, new_status, unseen_of};
+    ghost use Rattle.plp_receiver.specs.StandsFor.{frame_of, due_of, status_of, new_status, unseen_of};
 
     /// Takes all the memory that is needed to receive the PLP at a place.
     ///

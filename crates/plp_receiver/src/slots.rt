@@ -1,7 +1,6 @@
 // The slots of a PLP.
 ghost use Rattle.std.specs.Prelude.{◌≡◌, ◌<◌, ◌≤◌, ◌+◌, ◌-◌, ◌++◌, ◌∷◌, [], length, List, ℕ, IfOk, true, false};
-ghost use Rattle.std.specs.Prelude.{slice_get, Some};
-ghost use Rattle.std.specs.Prelude.{None, Option, if◌then◌else◌};
+ghost use Rattle.std.specs.Prelude.{slice_get, Some, None, Option, if◌then◌else◌};
 ghost use Rattle.plp_config.specs.SlotTime.{window_slots};
 ghost use Rattle.plp_config.specs.SlotTimes.{delay_of};
 ghost use Rattle.plp_receiver.specs.Times.{due_after};

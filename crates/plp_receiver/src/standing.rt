@@ -1,8 +1,6 @@
 // Whether the cells of the blocks of a PLP stand at their addresses (EN 302 755, clause 8).
 ghost use Rattle.std.specs.Prelude.{◌≡◌, ◌<◌, ◌≤◌, ◌+◌, ◌*◌, ◌^◌, ◌&&◌, ℕ, false, length, slice_index, slice_index_or};
-ghost use Rattle.std.specs.Prelude.{sum};
-ghost use Rattle.std.specs.Prelude.{take, List};
-ghost use Rattle.std.specs.Prelude.{Some};
+ghost use Rattle.std.specs.Prelude.{sum, take, List, Some};
 ghost use Rattle.cell_map.specs.CellMap.{Passes};
 ghost use Rattle.site_frame.specs.Record.{Block};
 ghost use Rattle.plp_receiver.specs.Parts.{is_cell, all_stand, part_with};

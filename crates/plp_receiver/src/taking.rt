@@ -1,7 +1,6 @@
 // What is taken of the bytes of a block (EN 302 755, clause 5.1.7).
 ghost use Rattle.std.specs.Prelude.{◌≡◌, ◌↔◌, ◌==◌, ◌+◌, ◌/◌, ◌≤◌, ◌<◌, ◌^◌, IsTrue, IfSome, length, take, drop, None};
-ghost use Rattle.std.specs.Prelude.{Some};
-ghost use Rattle.std.specs.Prelude.{if◌then◌else◌};
+ghost use Rattle.std.specs.Prelude.{Some, if◌then◌else◌};
 ghost use Rattle.terms.specs.Bits.{bits_of};
 ghost use Rattle.bb_frame.specs.declared.header.TheConstants.{NO_START, HEADER_BYTES};
 ghost use Rattle.plp_receiver.specs.Strings.{Block};

@@ -1,7 +1,6 @@
 -- A map of texts to vectors, seen as a finite map of names to bytes.
 use Rattle.std.proofs.Common.{◌≡◌, ℕ, Bool, true, false, cond, List, [], ◌∷◌, Option, Some, map, refl, ap, sym, ◌∙◌}
-use Rattle.std.proofs.Common.{Vec, String}
-use Rattle.std.proofs.Common.{Global, string_bytes}
+use Rattle.std.proofs.Common.{Vec, String, Global, string_bytes}
 use Rattle.std.specs.Prelude.{option_map}
 use Rattle.std.specs.Ordering.{nat_cmp, is_eq, eq_by_cmp}
 use Rattle.std.specs.Cmp.{eq_by_cmp_equiv}

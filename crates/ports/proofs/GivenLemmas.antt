@@ -1,7 +1,6 @@
 -- How many bytes the reads of a file gave, after one more handle and after one more read.
 use Rattle.std.proofs.Common.{◌≡◌, ℕ, ◌+◌, ◌-◌, ◌^◌, ◌<◌, min, Bool, true, false, zero, suc, cond, List, [], ◌∷◌, ◌++◌}
-use Rattle.std.proofs.Common.{length}
-use Rattle.std.proofs.Common.{take, map, set, get_or, ap, sym, ◌∙◌, arith, string_bytes, add_assoc}
+use Rattle.std.proofs.Common.{length, take, map, set, get_or, ap, sym, ◌∙◌, arith, string_bytes, add_assoc}
 use Rattle.std.proofs.lemmas.List.{take_more, length-map}
 use Rattle.std.specs.Str.{bytes_eq}
 use Rattle.ports.specs.declared.memory_files.Handle.{Handle}

@@ -1,10 +1,8 @@
 -- What the places of handles are, and what a handle has left, after it was read.
 use Rattle.std.proofs.Common.{◌≡◌, ◌==◌, ℕ, Bool, false, ◌+◌, ◌-◌, ◌<◌, ◌≤◌, List, [], ◌++◌, length, take, drop, map}
-use Rattle.std.proofs.Common.{set, get_or, Some, refl, ap}
-use Rattle.std.proofs.Common.{sym, ◌∙◌, arith, ◌↔◌, string_bytes}
+use Rattle.std.proofs.Common.{set, get_or, Some, refl, ap, sym, ◌∙◌, arith, ◌↔◌, string_bytes}
 use Rattle.std.proofs.lemmas.List.{map-set, get_or-map, get_or-set_same, get_or-set_other, take_all, take-append-drop}
-use Rattle.std.proofs.lemmas.List.{drop-drop}
-use Rattle.std.proofs.lemmas.List.{length-map, length-drop, length-take-le}
+use Rattle.std.proofs.lemmas.List.{drop-drop, length-map, length-drop, length-take-le}
 use Rattle.std.proofs.Math.Seq.{map-set_same, take-append_seam}
 use Rattle.ports.specs.declared.counts.Counts.{Counts}
 use Rattle.ports.specs.declared.memory_files.Handle.{Handle}

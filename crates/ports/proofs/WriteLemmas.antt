@@ -1,8 +1,7 @@
 -- What a file that is set or written leaves: two writes of a handle are one, and other names keep their bytes.
 use Rattle.std.proofs.Common.{◌≡◌, ◌≢◌, ℕ, ◌+◌, Bool, true, false, cond, List, [], ◌∷◌, ◌++◌, length, drop, get_or}
-use Rattle.std.proofs.Common.{Option, Some}
-use Rattle.std.proofs.Common.{None, refl, ap, sym, ◌∙◌, append_assoc, length-append, inl, inr, Vec, String, Global}
-use Rattle.std.proofs.Common.{string_bytes}
+use Rattle.std.proofs.Common.{Option, Some, None, refl, ap, sym, ◌∙◌, append_assoc, length-append, inl, inr, Vec}
+use Rattle.std.proofs.Common.{String, Global, string_bytes}
 use Rattle.std.specs.Prelude.{IfSome, slice_index, slice_index_or, unwrap_or, option_map}
 use Rattle.std.specs.Ordering.{nat_cmp, eq_by_cmp}
 use Rattle.std.specs.Cmp.Lexicographic.{slice_cmp, nat_list_cmp_total}

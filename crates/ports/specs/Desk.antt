@@ -1,8 +1,7 @@
 -- What a desk means, and what its calls do.
 use Rattle.std.specs.Prelude.{◌≡◌, ◌≢◌, ◌⊎◌, ◌↔◌, ℕ, ◌+◌, ◌<◌, ◌==◌, Bool, false, List, [], ◌∷◌, ◌++◌, length, take}
-use Rattle.std.specs.Prelude.{drop}
-use Rattle.std.specs.Prelude.{slice_index, slice_index_or, slice_set, unwrap_or, None, Some, IsSome, IfSome, option_map}
-use Rattle.std.specs.Prelude.{option_and_then}
+use Rattle.std.specs.Prelude.{drop, slice_index, slice_index_or, slice_set, unwrap_or, None, Some, IsSome, IfSome}
+use Rattle.std.specs.Prelude.{option_map, option_and_then}
 use Rattle.std.specs.declared.option.Option.{Option}
 use Rattle.std.specs.Ordering.{nat_cmp}
 use Rattle.std.specs.Cmp.Lexicographic.{slice_cmp}

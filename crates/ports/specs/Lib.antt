@@ -5,6 +5,7 @@ pub mod Faults
 pub mod HostDesk
 pub mod Laws
 pub mod MemoryDesk
+pub mod Notes
 pub mod Script
 -- inner: no public clause cites these
 pub mod CallsCode

@@ -23,7 +23,8 @@ pub use host_fault::{HostFault, Reason};
 pub use laws::writes_law;
 pub use memory::MemoryDesk;
 pub use note::{
-    ALONE_HAD_WHOLE, HAD_WHOLE, LACK_PACKET, MOST_FEEDS, NONE_HAD_WHOLE, Note, OTHER_MOMENT,
+    ALONE_HAD_WHOLE, HAD_WHOLE, LACK_PACKET, MOST_FEEDS, NONE_HAD_WHOLE, NOT_SENT, Note,
+    OTHER_MOMENT,
 };
 pub use script::CallKind;
 pub use word::Word;

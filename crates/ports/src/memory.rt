@@ -1,7 +1,6 @@
 // A desk in memory.
-ghost use Rattle.std.specs.Prelude.{◌≡◌, ◌⊎◌, min, option_map, ◌<◌, ◌≤◌, ◌+◌, ◌-◌, ◌^◌, ◌++◌, ◌∷◌, ◌↔◌, []};
-ghost use Rattle.std.specs.Prelude.{length, map, vec_len};
-ghost use Rattle.std.specs.Prelude.{vec_capacity, take, false, option_copied, IfSome, OnOk, OnErr};
+ghost use Rattle.std.specs.Prelude.{◌≡◌, ◌⊎◌, min, option_map, ◌<◌, ◌≤◌, ◌+◌, ◌-◌, ◌^◌, ◌++◌, ◌∷◌, ◌↔◌, [], length};
+ghost use Rattle.std.specs.Prelude.{map, vec_len, vec_capacity, take, false, option_copied, IfSome, OnOk, OnErr};
 ghost use Rattle.std.specs.Prelude.{string_bytes};
 ghost use Rattle.std.specs.List.{concat};
 ghost use Rattle.ports.specs.MemoryDesk.{given_by};

@@ -1,7 +1,6 @@
 // The files of a desk in memory, and the handles of those that were opened.
-ghost use Rattle.std.specs.Prelude.{◌≡◌, min, ◌==◌, ◌<◌, ◌≤◌, ◌+◌, ◌-◌, ◌^◌, ◌++◌, ◌↔◌, []};
-ghost use Rattle.std.specs.Prelude.{length, map, take, drop, true, false, option_copied, IfSome, OnOk, OnErr};
-ghost use Rattle.std.specs.Prelude.{string_bytes};
+ghost use Rattle.std.specs.Prelude.{◌≡◌, min, ◌==◌, ◌<◌, ◌≤◌, ◌+◌, ◌-◌, ◌^◌, ◌++◌, ◌↔◌, [], length, map, take, drop};
+ghost use Rattle.std.specs.Prelude.{true, false, option_copied, IfSome, OnOk, OnErr, string_bytes};
 ghost use Rattle.std.specs.FinMap.{get, insert};
 ghost use Rattle.ports.specs.Desk.{bytes_of};
 ghost use Rattle.ports.specs.MemoryDesk.{given_by};

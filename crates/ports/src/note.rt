@@ -1,4 +1,6 @@
 // What a run tells people besides.
+ghost use Rattle.std.specs.Prelude.{◌≡◌, ◌≤◌};
+ghost use Rattle.ports.specs.Notes.{with_run};
 
 /// How many feeds of a stream a command reads at most.
 pub const MOST_FEEDS: usize = 8;
@@ -15,6 +17,9 @@ pub const NONE_HAD_WHOLE: &str = "none had whole";
 /// Of frames of which a packet is missing.
 pub const LACK_PACKET: &str = "lack a packet, or have one too many";
 
+/// Of frames that are left out of what is sent.
+pub const NOT_SENT: &str = "were not sent";
+
 /// Of frames whose timestamp is not that of their number.
 pub const OTHER_MOMENT: &str = "have a timestamp of another moment or bandwidth";
 
@@ -25,18 +30,18 @@ pub struct Note {
     pub input: usize,
     /// What was met, in words.
     pub what: &'static str,
+    /// How many, at most 2^64 - 1.
     pub count: u64,
+    /// The number of the first of them; 0 if there is none.
     pub first: u64,
+    /// The number of the last of them; 0 if there is none.
     pub last: u64,
 }
 
 impl Note {
-    ghost use Rattle.std.specs.Prelude.{◌≡◌};
-
     /// None was met.
     pub fn none(what: &'static str) -> Note
-        ensures none { (result.count ≡ 0) × (result.input ≡ 0) }
-        ensures what { result.what.now ≡ what.now }
+        ensures { result ≡ record { input = 0; what = what.entry; count = 0; first = 0; last = 0 } }
     {
         Note {
             input: 0,
@@ -49,21 +54,27 @@ impl Note {
 
     /// The same of the input at a place.
     pub fn of(self, input: usize) -> Note
-        ensures input { result.input ≡ input }
-        ensures same { (result.what.now ≡ self.what.now) × (result.count ≡ self.count) }
+        ensures { result ≡ record self { input = input } }
     {
         Note { input, ..self }
     }
 
     /// One more was met, behind all before.
     pub fn add(&mut self, number: u64)
-        ensures same { (self.new.what.now ≡ self.old.what.now) × (self.new.input ≡ self.old.input) }
-        ensures last { self.new.last ≡ number }
+        ensures { self.new ≡ with_run self.old number number }
+    {
+        self.add_run(number, number);
+    }
+
+    /// Those of two numbers and all between were met, behind all before.
+    pub fn add_run(&mut self, first: u64, last: u64)
+        requires { first ≤ last }
+        ensures { self.new ≡ with_run self.old first last }
     {
         if self.count == 0 {
-            self.first = number;
+            self.first = first;
         }
-        self.last = number;
-        self.count = self.count.saturating_add(1);
+        self.last = last;
+        self.count = self.count.saturating_add(last - first).saturating_add(1);
     }
 }

@@ -1,9 +1,7 @@
 -- A file has an ending.
 use Rattle.std.proofs.Common.{◌≡◌, ◌≢◌, ◌⊎◌, ℕ, zero, suc, ◌+◌, ◌/◌, ◌%◌, ◌^◌, ◌<◌, ◌≤◌, ◌==◌, Bool, true, false, inl}
-use Rattle.std.proofs.Common.{inr, List}
-use Rattle.std.proofs.Common.{[], ◌∷◌, ◌++◌, length, drop, Option, Some, None, refl, ap, sym, subst, ◌∙◌, arith}
-use Rattle.std.proofs.Common.{append_assoc}
-use Rattle.std.proofs.Common.{length-append, length-drop, eqb-true}
+use Rattle.std.proofs.Common.{inr, List, [], ◌∷◌, ◌++◌, length, drop, Option, Some, None, refl, ap, sym, subst, ◌∙◌}
+use Rattle.std.proofs.Common.{arith, append_assoc, length-append, length-drop, eqb-true}
 use Rattle.std.specs.Prelude.{nat_lt, bit_xor, Result, Ok, Err, if◌then◌else◌}
 use Rattle.std.specs.List.{AllZip, range_with_len, concat}
 use Rattle.std.proofs.lemmas.Bool.{eqb-false, ltb-true, ltb-false}

@@ -1,7 +1,6 @@
 -- A file has one ending at most.
 use Rattle.std.proofs.Common.{◌≡◌, ℕ, ◌+◌, List, [], ◌∷◌, length, take, drop, Option, Some, refl, ap, ap₂, sym, subst}
-use Rattle.std.proofs.Common.{◌∙◌, inl}
-use Rattle.std.proofs.Common.{inr, append-nil}
+use Rattle.std.proofs.Common.{◌∙◌, inl, inr, append-nil}
 use Rattle.std.specs.List.{concat}
 use Rattle.std.specs.Prelude.{◌⊎◌, Result, Ok, Err}
 use Rattle.std.proofs.lemmas.List.{take-append-drop}

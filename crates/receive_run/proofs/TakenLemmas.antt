@@ -17,8 +17,7 @@ use Rattle.plp_receiver.specs.declared.joined_receiver.JoinedReceiver.{JoinedRec
 use Rattle.file_run.specs.Events.{Event, fed, has_ended, gave}
 use Rattle.receive_run.specs.Received.{expected_after, IsMisplaced}
 use Rattle.receive_run.specs.AsMachine.{IsTaken, SameTaken, IsRefused, IsStopped, IsLookedAt, Judged, GavePackets}
-use Rattle.receive_run.specs.AsMachine.{Given}
-use Rattle.receive_run.specs.AsMachine.{first_of, Shown, Becomes}
+use Rattle.receive_run.specs.AsMachine.{Given, first_of, Shown, Becomes}
 use Rattle.receive_run.specs.Taking.{expected_by, SamePlp, TakesView, TakesRecord}
 use Rattle.receive_run.specs.declared.machine.ReceiverMachine.{ReceiverMachine}
 use Rattle.receive_run.proofs.CameLemmas.{came_given, first_after, expected_is}

@@ -1,7 +1,6 @@
 -- A receiver as a machine between files. No public clause cites this module.
 use Rattle.std.specs.Prelude.{◌≡◌, ◌≢◌, ◌⊎◌, ℕ, ◌+◌, ◌-◌, ◌<◌, ◌≤◌, Bool, List, [], ◌∷◌, ◌++◌, length, take, Option}
-use Rattle.std.specs.Prelude.{Some}
-use Rattle.std.specs.Prelude.{None, unwrap_or, Result, Ok, Err}
+use Rattle.std.specs.Prelude.{Some, None, unwrap_or, Result, Ok, Err}
 use Rattle.std.specs.List.{concat}
 use Rattle.plp_config.specs.Plps.{spread}
 use Rattle.plp_config.specs.declared.config.Config.{Config}

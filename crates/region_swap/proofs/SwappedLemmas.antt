@@ -1,7 +1,6 @@
 -- A frame that is held is sent with a PLP replaced as its record says.
 use Rattle.std.proofs.Common.{◌≡◌, ℕ, suc, ◌+◌, ◌-◌, ◌%◌, ◌<◌, ◌==◌, Bool, true, false, List, [], ◌∷◌, ◌++◌, length}
-use Rattle.std.proofs.Common.{map, None, refl, ap, ap₂, sym, subst}
-use Rattle.std.proofs.Common.{◌∙◌, ⊎_elim, arith}
+use Rattle.std.proofs.Common.{map, None, refl, ap, ap₂, sym, subst, ◌∙◌, ⊎_elim, arith}
 use Rattle.std.specs.Prelude.{slice_index_or, slice_set, if◌then◌else◌}
 use Rattle.std.specs.List.{flat_map, range_with_len}
 use Rattle.std.proofs.lemmas.Bool.{cases_eq, cond-true, cond-false, eq-eqb, ne_eqb}

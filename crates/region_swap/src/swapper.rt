@@ -82,8 +82,7 @@ impl<'p> Swapper<'p> {
     ghost use Rattle.region_swap.specs.Held.{IsHeld, HasRecord};
     ghost use Rattle.region_swap.specs.Swapped.{swapped, swapped_view};
     ghost use Rattle.region_swap.specs.StandsFor.{SwapperStandsFor, GivesUnits, wants_of, wants_by, frame_of, has_unit};
-    ghost use Rattle.region_swap.specs.StandsFor.{is_fed};
-    ghost use Rattle.region_swap.specs.StandsFor.{status_of, new_status, none_told, left_in, bytes_left};
+    ghost use Rattle.region_swap.specs.StandsFor.{is_fed, status_of, new_status, none_told, left_in, bytes_left};
 
     /// A swapper to which nothing was given, for the PLP at a place of a plan. Frame 0 is under way. It takes all the
     /// memory that it needs.

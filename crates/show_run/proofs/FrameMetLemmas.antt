@@ -1,12 +1,11 @@
 -- What the lines of records tell of the file: the records that were met, and what stands behind them.
-use Rattle.std.proofs.Common.{◌≡◌, ℕ, zero, suc, ◌+◌, ◌-◌, ◌<◌, ◌≤◌, List, [], ◌∷◌, ◌++◌, length, refl, ap}
-use Rattle.std.proofs.Common.{sym, subst, ◌∙◌, inl, inr, arith, append-nil, length-append}
+use Rattle.std.proofs.Common.{◌≡◌, ℕ, zero, suc, ◌+◌, ◌-◌, ◌<◌, ◌≤◌, List, [], ◌∷◌, ◌++◌, length, refl, ap, sym, subst}
+use Rattle.std.proofs.Common.{◌∙◌, inl, inr, arith, append-nil, length-append}
 use Rattle.std.specs.Prelude.{codes, ◌⊎◌, Ok, Err}
 use Rattle.file_run.specs.declared.input.TheConstants.{BUFFER}
-use Rattle.file_run.specs.Telling.{most_waiting}
+use Rattle.file_run.specs.Telling.{most_waiting, StartsWith}
 use Rattle.file_run.specs.Events.{Event, fed, has_ended, gave}
 use Rattle.file_run.specs.FileRun.{IsFed}
-use Rattle.file_run.specs.Telling.{StartsWith}
 use Rattle.file_run.specs.declared.machine.Step.TheVariants.{Read, Give, End}
 use Rattle.site_frame.specs.RecordFile.{AreRecords, EndsWithin, bytes_before}
 use Rattle.site_frame.specs.declared.fault.RecordWhy.{RecordWhy}

@@ -1,7 +1,6 @@
 -- What was told of the lines of records is what a file of records asks for.
 use Rattle.std.proofs.Common.{◌≡◌, ◌≢◌, ℕ, ◌+◌, ◌-◌, ◌<◌, List, [], ◌++◌, length, refl, ap, sym, subst, ◌∙◌, inl, inr}
-use Rattle.std.proofs.Common.{arith}
-use Rattle.std.proofs.Common.{append-nil, length-append}
+use Rattle.std.proofs.Common.{arith, append-nil, length-append}
 use Rattle.std.specs.Prelude.{◌⊎◌, IfSome, Result, Err}
 use Rattle.std.proofs.lemmas.List.{nil_from_length}
 use Rattle.std.proofs.lemmas.Option.{IfSome_then}

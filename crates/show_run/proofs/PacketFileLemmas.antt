@@ -1,7 +1,6 @@
 -- Packets back to back: one more, and their bytes and lines.
 use Rattle.std.proofs.Common.{◌≡◌, ℕ, ◌+◌, ◌≤◌, List, [], ◌∷◌, ◌++◌, length, drop, refl, ap, sym, subst, ◌∙◌, arith}
-use Rattle.std.proofs.Common.{append_assoc}
-use Rattle.std.proofs.Common.{length-drop}
+use Rattle.std.proofs.Common.{append_assoc, length-drop}
 use Rattle.std.proofs.lemmas.List.{take-append-le, length-take}
 use Rattle.show_run.specs.PacketFile.{Begins, Packs, bytes_in}
 use Rattle.show_run.specs.SaidLines.{line_of, lines_of}

@@ -1,6 +1,6 @@
 -- What the lines of packets tell of the file: the packets that were met, and what stands behind them.
-use Rattle.std.proofs.Common.{◌≡◌, ℕ, ◌+◌, ◌-◌, ◌<◌, ◌≤◌, Bool, true, List, [], ◌∷◌, ◌++◌, length, refl, ap, sym}
-use Rattle.std.proofs.Common.{subst, ◌∙◌, inl, inr, arith, append-nil, length-append}
+use Rattle.std.proofs.Common.{◌≡◌, ℕ, ◌+◌, ◌-◌, ◌<◌, ◌≤◌, Bool, true, List, [], ◌∷◌, ◌++◌, length, refl, ap, sym, subst}
+use Rattle.std.proofs.Common.{◌∙◌, inl, inr, arith, append-nil, length-append}
 use Rattle.std.specs.Fmt.{decimal}
 use Rattle.std.specs.Prelude.{codes, ◌⊎◌, Ok, Err}
 use Rattle.ports.specs.declared.counts.Counts.{Counts}
@@ -8,11 +8,10 @@ use Rattle.ports.specs.Desk.{State}
 use Rattle.file_run.specs.Faults.{ReadsFail}
 use Rattle.file_run.specs.Opening.{Opened, Unopened}
 use Rattle.t2mi_packet.specs.declared.fault.PacketWhy.{PacketWhy}
-use Rattle.file_run.specs.Telling.{most_waiting}
+use Rattle.file_run.specs.Telling.{most_waiting, StartsWith, ReadsFailAtLeast}
 use Rattle.file_run.specs.Events.{Event, fed, has_ended, gave}
 use Rattle.file_run.specs.FileRun.{IsFed}
 use Rattle.file_run.specs.Steps.{Needs, FallsShort}
-use Rattle.file_run.specs.Telling.{StartsWith, ReadsFailAtLeast}
 use Rattle.file_run.specs.declared.machine.Step.TheVariants.{Give, End}
 use Rattle.show_run.specs.PacketFile.{Packs, IsRefused}
 use Rattle.show_run.specs.PacketLines.{next_from, next_of, IsWhole, Behind, Given, Shown, Comes}

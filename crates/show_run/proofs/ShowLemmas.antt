@@ -31,9 +31,8 @@ use Rattle.show_run.specs.declared.stop.ShowStop.{ShowStop}
 use Rattle.show_run.proofs.EndLemmas.{packs_within, same_packets}
 use Rattle.show_run.proofs.PacketFileLemmas.{packs_first, lines_of-append}
 use Rattle.show_run.proofs.PacketMetLemmas.{packs_file, none_first, said_first, closed_counted, opened_counted}
-use Rattle.show_run.proofs.PacketMetLemmas.{needs_reads}
-use Rattle.show_run.proofs.PacketMetLemmas.{short_reads, starts_fed, all_met, some_met, none_met, all_first, ends_idle}
-use Rattle.show_run.proofs.PacketMetLemmas.{finished_text, refused_text}
+use Rattle.show_run.proofs.PacketMetLemmas.{needs_reads, short_reads, starts_fed, all_met, some_met, none_met}
+use Rattle.show_run.proofs.PacketMetLemmas.{all_first, ends_idle, finished_text, refused_text}
 
 abbrev shows : State → State → List ℕ → Result ℕ (RunStop ShowStop) → Type 0
 shows old new name result = Shows IsPacketText old new name result

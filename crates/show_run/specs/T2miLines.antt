@@ -1,7 +1,6 @@
 -- How far the lines of packets have come that stand in units. No public clause cites this module.
 use Rattle.std.specs.Prelude.{◌≡◌, ◌⊎◌, ℕ, ◌+◌, ◌-◌, ◌*◌, ◌≤◌, nat_lt, Bool, true, false, if◌then◌else◌, List, [], ◌∷◌}
-use Rattle.std.specs.Prelude.{◌++◌}
-use Rattle.std.specs.Prelude.{length, map, take, drop, Some}
+use Rattle.std.specs.Prelude.{◌++◌, length, map, take, drop, Some}
 use Rattle.file_run.specs.declared.input.TheConstants.{BUFFER}
 use Rattle.ts_packet.specs.declared.sizes.TheConstants.{SIZE}
 use Rattle.ts_packet.specs.FieldsIn.{fields_in}

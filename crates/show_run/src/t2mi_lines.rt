@@ -90,14 +90,12 @@ fn released_law(unpiper: &Unpiper)
 
 impl T2miLines {
     ghost use Rattle.std.specs.Prelude.{ℕ, List, [], ◌∷◌, ◌++◌, true, false, Some, None};
-    ghost use Rattle.file_run.specs.Events.{Event, Fed, Gave};
+    ghost use Rattle.file_run.specs.Events.{Event, Fed, Gave, fed, gave};
     ghost use Rattle.file_run.specs.declared.machine.TheConstants.{PIECE};
     ghost use Rattle.show_run.specs.declared.t2mi_lines.Search.TheVariants.{Seeks, Unpipes};
     ghost use Rattle.ts_packet.specs.FieldsIn.{fields_in};
-    ghost use Rattle.t2mi_stream.specs.FirstPid.{pid_of};
-    ghost use Rattle.file_run.specs.Events.{fed, gave};
+    ghost use Rattle.t2mi_stream.specs.FirstPid.{pid_of, t2mi_packets_in};
     ghost use Rattle.file_run.specs.Steps.{Needs};
-    ghost use Rattle.t2mi_stream.specs.FirstPid.{t2mi_packets_in};
     ghost use Rattle.show_run.specs.T2miLines.{Comes, left_of, next_of};
     ghost use Rattle.show_run.specs.T2miText.{place_lines};
 

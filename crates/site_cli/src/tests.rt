@@ -1,6 +1,7 @@
 // The program's endings, and what it tells people. Files are real ones; standard output and standard error are kept
 // here.
 mod endings;
+mod looked_at;
 mod streams;
 mod watched;
 

@@ -1,7 +1,6 @@
 -- Every command is complete: if nothing outside fails, it ends as its files say.
 use Rattle.std.proofs.Common.{◌≡◌, ◌⊎◌, ℕ, zero, suc, ◌<◌, ◌≤◌, ◌^◌, inl, inr, ⊎_elim, List, [], ◌∷◌, length, Option}
-use Rattle.std.proofs.Common.{Some, None, refl}
-use Rattle.std.proofs.Common.{ap, sym, subst, ◌∙◌, arith}
+use Rattle.std.proofs.Common.{Some, None, refl, ap, sym, subst, ◌∙◌, arith}
 use Rattle.std.specs.Prelude.{IfSome, option_map, nat_lt, Result, Ok, Err}
 use Rattle.std.specs.List.{list_all}
 use Rattle.std.proofs.lemmas.Option.{IfSome_then}
@@ -73,9 +72,7 @@ use Rattle.show_run.specs.declared.stop.ShowStop.TheVariants as show
 use Rattle.site_top.specs.declared.outcome.Outcome.{Outcome}
 use Rattle.site_top.specs.declared.outcome.Outcome.TheVariants.{Done, ReadFault, WriteFault, OutOfMemory}
 use Rattle.site_top.specs.Commands.{Command, ShowPackets, ShowT2mi, ShowFrames, ShowConfig, Plan, Gateway, Modulate}
-use Rattle.site_top.specs.Commands.{Receive}
-use Rattle.site_top.specs.Commands.{Merge, Mend, Swap, Trial}
-use Rattle.site_top.specs.Commands.{Compare}
+use Rattle.site_top.specs.Commands.{Receive, Merge, Mend, Swap, Trial, Compare}
 use Rattle.site_top.specs.CompareCommand as compares
 use Rattle.site_top.specs.Outcomes.{compare_cause}
 use Rattle.site_top.specs.Runs.{CompareMustEnd}
@@ -88,14 +85,12 @@ use Rattle.site_top.specs.MendCommand as mends
 use Rattle.site_top.specs.MergeCommand as merges
 use Rattle.site_top.specs.ModulateCommand as modulates
 use Rattle.site_top.specs.Outcomes.{run_outcome, stop_outcome, config_outcome, gateway_cause, modulate_cause}
-use Rattle.site_top.specs.Outcomes.{receive_cause}
-use Rattle.site_top.specs.Outcomes.{merge_cause, mend_cause, swap_cause, show_cause}
+use Rattle.site_top.specs.Outcomes.{receive_cause, merge_cause, mend_cause, swap_cause, show_cause}
 use Rattle.site_top.specs.PlanCommand.{RunsAndTells, ByPlan}
 use Rattle.site_top.specs.ReceiveCommand.{receive_line}
 use Rattle.site_top.specs.Reception as receives
 use Rattle.site_top.specs.Runs.{PlanMustEnd, ModulateMustEnd, ReceiveMustEnd, MergeMustEnd, OverPlan, MustEnd}
-use Rattle.site_top.specs.Runs.{IsComplete}
-use Rattle.site_top.specs.Runs.{MendMustEnd, SwapMustEnd}
+use Rattle.site_top.specs.Runs.{IsComplete, MendMustEnd, SwapMustEnd}
 use Rattle.site_top.proofs.MendLemmas.{MendsIfShort, mend_one}
 use Rattle.site_top.specs.Saying.{Tells}
 use Rattle.site_top.specs.SwapCommand as swaps

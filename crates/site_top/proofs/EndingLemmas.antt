@@ -29,20 +29,17 @@ use Rattle.swap_run.specs.declared.stop.SwapRan.{SwapRan}
 use Rattle.swap_run.specs.declared.stop.SwapStop.{SwapStop}
 use Rattle.compare_run.specs.Laws.{OneRun as OneComparison}
 use Rattle.show_run.specs.Laws.{OneEnd, OneRecordsEnd}
-use Rattle.site_top.specs.Commands.{Compare}
-use Rattle.site_top.specs.Runs.{CompareMustEnd}
+use Rattle.site_top.specs.Commands.{Compare, ShowPackets, ShowT2mi, ShowFrames, ShowConfig, Plan, Gateway, Modulate}
+use Rattle.site_top.specs.Commands.{Receive, Merge, Trial, Mend, Swap}
+use Rattle.site_top.specs.Runs.{CompareMustEnd, AreShort, PlanMustEnd, ModulateMustEnd, ReceiveMustEnd, MergeMustEnd}
+use Rattle.site_top.specs.Runs.{OverPlan, MendMustEnd, SwapMustEnd}
 use Rattle.site_top.proofs.CompareLemmas.{ComparesIfShort, compare_one}
 use Rattle.site_top.specs.declared.outcome.Outcome.{Outcome}
 use Rattle.site_top.specs.declared.outcome.Outcome.TheVariants.{UnknownPlp}
-use Rattle.site_top.specs.Commands.{ShowPackets, ShowT2mi, ShowFrames, ShowConfig, Plan, Gateway, Modulate, Receive}
-use Rattle.site_top.specs.Commands.{Merge, Trial}
-use Rattle.site_top.specs.Commands.{Mend, Swap}
 use Rattle.site_top.specs.Laws.{OneEnding}
 use Rattle.site_top.specs.Outcomes.{run_outcome, gateway_cause, modulate_cause, receive_cause, merge_cause, show_cause}
 use Rattle.site_top.specs.Outcomes.{swap_cause, config_outcome, Miscounts}
 use Rattle.file_run.specs.Reading.{longest_file}
-use Rattle.site_top.specs.Runs.{AreShort, PlanMustEnd, ModulateMustEnd, ReceiveMustEnd, MergeMustEnd, OverPlan}
-use Rattle.site_top.specs.Runs.{MendMustEnd, SwapMustEnd}
 use Rattle.site_top.proofs.MendLemmas.{MendsIfShort, mend_one}
 use Rattle.site_top.proofs.PlaceLemmas.{place_by, never_by}
 

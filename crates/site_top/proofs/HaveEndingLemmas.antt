@@ -20,20 +20,15 @@ use Rattle.feed_merge.specs.Fed.{names_of}
 use Rattle.swap_run.specs.Laws.{RunEnds as SwappingEnds}
 use Rattle.compare_run.specs.Laws.{RunEnds as ComparisonEnds}
 use Rattle.show_run.specs.Laws.{EachEnds, EachRecordsEnd}
-use Rattle.site_top.specs.Commands.{Compare}
-use Rattle.site_top.specs.Outcomes.{compare_cause}
-use Rattle.site_top.specs.Runs.{CompareMustEnd}
+use Rattle.site_top.specs.Commands.{Compare, ShowPackets, ShowT2mi, ShowFrames, ShowConfig, Plan, Gateway, Modulate}
+use Rattle.site_top.specs.Commands.{Receive, Merge, Trial, Mend, Swap}
+use Rattle.site_top.specs.Outcomes.{compare_cause, run_outcome, config_outcome, gateway_cause, modulate_cause}
+use Rattle.site_top.specs.Outcomes.{receive_cause, merge_cause, mend_cause, swap_cause, show_cause}
+use Rattle.site_top.specs.Runs.{CompareMustEnd, AreShort, PlanMustEnd, ModulateMustEnd, ReceiveMustEnd, MergeMustEnd}
+use Rattle.site_top.specs.Runs.{OverPlan, MendMustEnd, SwapMustEnd}
 use Rattle.site_top.specs.declared.outcome.Outcome.{Outcome}
 use Rattle.site_top.specs.declared.outcome.Outcome.TheVariants.{Done, UnknownPlp, WrongInputs}
-use Rattle.site_top.specs.Commands.{ShowPackets, ShowT2mi, ShowFrames, ShowConfig, Plan, Gateway, Modulate, Receive}
-use Rattle.site_top.specs.Commands.{Merge, Trial}
-use Rattle.site_top.specs.Commands.{Mend, Swap}
 use Rattle.site_top.specs.Laws.{CommandsHaveEnding}
-use Rattle.site_top.specs.Outcomes.{run_outcome, config_outcome, gateway_cause, modulate_cause, receive_cause}
-use Rattle.site_top.specs.Outcomes.{merge_cause}
-use Rattle.site_top.specs.Outcomes.{mend_cause, swap_cause, show_cause}
-use Rattle.site_top.specs.Runs.{AreShort, PlanMustEnd, ModulateMustEnd, ReceiveMustEnd, MergeMustEnd, OverPlan}
-use Rattle.site_top.specs.Runs.{MendMustEnd, SwapMustEnd}
 use Rattle.site_top.proofs.MendLemmas.{mend_ends}
 use Rattle.site_top.proofs.PlaceLemmas.{has_place_by, place_by, may_join, has_place}
 

@@ -1,7 +1,6 @@
 -- What holds of two streams that were merged.
 use Rattle.std.proofs.Common.{◌≡◌, ℕ, zero, suc, ◌+◌, ◌-◌, ◌<◌, ◌≤◌, true, List, [], ◌∷◌, ◌++◌, map, max, Option, Some}
-use Rattle.std.proofs.Common.{None, refl}
-use Rattle.std.proofs.Common.{ap, ap₂, sym, ◌∙◌, arith, append-nil}
+use Rattle.std.proofs.Common.{None, refl, ap, ap₂, sym, ◌∙◌, arith, append-nil}
 use Rattle.std.specs.Prelude.{Ok, IsSome, IfSome, unwrap_or, option_map, option_to_list}
 use Rattle.std.specs.FinMap.{get}
 use Rattle.std.specs.List.{flat_map, find, range_with_len}

@@ -1,7 +1,6 @@
 -- The names of inputs, one by one, and the number that a word names.
 use Rattle.std.proofs.Common.{◌≡◌, ◌≢◌, ℕ, zero, suc, ◌+◌, ◌-◌, ◌<◌, ◌≤◌, ◌^◌, ◌&&◌, Bool, true, false, cond, List}
-use Rattle.std.proofs.Common.{length, drop}
-use Rattle.std.proofs.Common.{Option, Some, None, refl, ap, sym, subst, ◌∙◌, arith, bytes_eq}
+use Rattle.std.proofs.Common.{length, drop, Option, Some, None, refl, ap, sym, subst, ◌∙◌, arith, bytes_eq}
 use Rattle.std.specs.Prelude.{slice_index_or, IfSome, IfNone}
 use Rattle.std.specs.Fmt.{decimal}
 use Rattle.std.specs.List.{find, range_with_len}

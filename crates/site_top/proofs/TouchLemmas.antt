@@ -1,7 +1,6 @@
 -- However a command ends, it changes no file but the one that it writes.
 use Rattle.std.proofs.Common.{◌≡◌, ℕ, suc, ◌+◌, ◌≤◌, ⊎_elim, List, [], ◌∷◌, ◌++◌, length, Option, Some, None, refl, ap}
-use Rattle.std.proofs.Common.{sym}
-use Rattle.std.proofs.Common.{subst, ◌∙◌, arith, append_assoc, append-nil, length-append}
+use Rattle.std.proofs.Common.{sym, subst, ◌∙◌, arith, append_assoc, append-nil, length-append}
 use Rattle.std.specs.Prelude.{option_map, IfSome, Result, Ok, Err}
 use Rattle.std.proofs.lemmas.Option.{IfSome_then}
 use Rattle.std.specs.FinMap.{get}
@@ -34,9 +33,7 @@ use Rattle.show_run.specs.declared.stop.ShowStop.{ShowStop}
 use Rattle.site_top.specs.declared.outcome.Outcome.{Outcome}
 use Rattle.site_top.specs.declared.outcome.Outcome.TheVariants as outcome
 use Rattle.site_top.specs.Commands.{Command, ShowPackets, ShowT2mi, ShowFrames, ShowConfig, Plan, Gateway, Modulate}
-use Rattle.site_top.specs.Commands.{Receive}
-use Rattle.site_top.specs.Commands.{Merge, Mend, Swap, Trial}
-use Rattle.site_top.specs.Commands.{Compare}
+use Rattle.site_top.specs.Commands.{Receive, Merge, Mend, Swap, Trial, Compare}
 use Rattle.site_top.specs.CompareCommand as compares
 use Rattle.site_top.specs.ConfigCommands.{ShowsConfig, Plans}
 use Rattle.site_top.specs.GatewayCommand as gateways

@@ -1,7 +1,6 @@
 -- The commands, and the words that name them.
 use Rattle.std.specs.Prelude.{◌≡◌, ℕ, ◌+◌, ◌-◌, ◌^◌, Bool, true, false, not, ◌&&◌, List, [], ◌∷◌, codes, if◌then◌else◌}
-use Rattle.std.specs.Prelude.{Some}
-use Rattle.std.specs.Prelude.{None, length, nat_lt, nat_le}
+use Rattle.std.specs.Prelude.{Some, None, length, nat_lt, nat_le}
 use Rattle.std.specs.declared.option.Option.{Option}
 use Rattle.std.specs.Fmt.{decimal}
 use Rattle.std.specs.List.{find, list_all, range_with_len}

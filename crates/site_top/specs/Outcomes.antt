@@ -11,8 +11,7 @@ use Rattle.site_frame.specs.declared.fault.RecordWhy.{RecordWhy}
 use Rattle.site_frame.specs.declared.fault.RecordWhy.TheVariants.{Head, Kind, Length, Order, OffGrid}
 use Rattle.config_text.specs.declared.fault.TextWhy.{TextWhy}
 use Rattle.config_text.specs.declared.fault.TextWhy.TheVariants.{NotAscii, WrongKey, WrongCount, BadWord, BadNumber}
-use Rattle.config_text.specs.declared.fault.TextWhy.TheVariants.{EndsEarly}
-use Rattle.config_text.specs.declared.fault.TextWhy.TheVariants.{TooLong as TextTooLong}
+use Rattle.config_text.specs.declared.fault.TextWhy.TheVariants.{EndsEarly, TooLong as TextTooLong}
 use Rattle.file_run.specs.declared.config_stop.ConfigCause.TheVariants.{Text, Rule}
 use Rattle.file_run.specs.declared.config_stop.ConfigStop.{ConfigStop}
 use Rattle.file_run.specs.declared.config_stop.ConfigStop.TheVariants as config
@@ -42,12 +41,9 @@ use Rattle.trial_run.specs.declared.stop.TrialStop.{TrialStop}
 use Rattle.trial_run.specs.declared.stop.TrialStop.TheVariants as trial
 use Rattle.site_top.specs.declared.outcome.Outcome.{Outcome}
 use Rattle.site_top.specs.declared.outcome.Outcome.TheVariants.{Done, Usage, WrongInputs, ConfigRefused}
-use Rattle.site_top.specs.declared.outcome.Outcome.TheVariants.{CapacityRefused}
-use Rattle.site_top.specs.declared.outcome.Outcome.TheVariants.{InputRefused, NoSuperframe, RecordRefused, UnknownPlp}
-use Rattle.site_top.specs.declared.outcome.Outcome.TheVariants.{TooLong}
-use Rattle.site_top.specs.declared.outcome.Outcome.TheVariants.{PacketRefused, ReadFault, WriteFault, OutOfMemory}
-use Rattle.site_top.specs.declared.outcome.Outcome.TheVariants.{TrialFault}
-use Rattle.site_top.specs.declared.outcome.Outcome.TheVariants.{Differs}
+use Rattle.site_top.specs.declared.outcome.Outcome.TheVariants.{CapacityRefused, InputRefused, NoSuperframe}
+use Rattle.site_top.specs.declared.outcome.Outcome.TheVariants.{RecordRefused, UnknownPlp, TooLong, PacketRefused}
+use Rattle.site_top.specs.declared.outcome.Outcome.TheVariants.{ReadFault, WriteFault, OutOfMemory, TrialFault, Differs}
 
 -- the status that the program ends with
 abbrev pub status_of : Outcome → ℕ

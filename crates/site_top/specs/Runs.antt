@@ -42,11 +42,11 @@ use Rattle.site_frame.specs.RecordFile.{AreBytes}
 use Rattle.site_top.specs.declared.outcome.Outcome.{Outcome}
 use Rattle.site_top.specs.declared.outcome.Outcome.TheVariants.{Done, UnknownPlp, OutOfMemory, TrialFault}
 use Rattle.site_top.specs.Commands.{Command, ShowPackets, ShowT2mi, ShowFrames, ShowConfig, Plan, Gateway, Modulate}
-use Rattle.site_top.specs.Commands.{Receive}
-use Rattle.site_top.specs.Commands.{Merge, Mend, Swap, Trial}
-use Rattle.site_top.specs.Commands.{Compare}
+use Rattle.site_top.specs.Commands.{Receive, Merge, Mend, Swap, Trial, Compare}
 use Rattle.site_top.specs.CompareCommand.{Compares}
-use Rattle.site_top.specs.Outcomes.{compare_cause}
+use Rattle.site_top.specs.Outcomes.{compare_cause, run_outcome, stop_outcome, gateway_cause, modulate_cause}
+use Rattle.site_top.specs.Outcomes.{receive_cause, merge_cause, mend_cause, swap_cause, show_cause, config_outcome}
+use Rattle.site_top.specs.Outcomes.{Miscounts}
 use Rattle.site_top.specs.ConfigCommands.{ShowsConfig, Plans}
 use Rattle.site_top.specs.GatewayCommand.{Gateways}
 use Rattle.site_top.specs.MendCommand.{Mends, MustMend}
@@ -55,9 +55,6 @@ use Rattle.site_top.specs.ModulateCommand.{Modulates}
 use Rattle.site_top.specs.Reception.{Receives}
 use Rattle.site_top.specs.SwapCommand.{Swaps}
 use Rattle.site_top.specs.TrialCommand.{Tries}
-use Rattle.site_top.specs.Outcomes.{run_outcome, stop_outcome, gateway_cause, modulate_cause, receive_cause}
-use Rattle.site_top.specs.Outcomes.{merge_cause}
-use Rattle.site_top.specs.Outcomes.{mend_cause, swap_cause, show_cause, config_outcome, Miscounts}
 
 -- A file is shown by the text that a definition asks for.
 abbrev pub Shows : (List ℕ → ℕ → Result ℕ (RunStop ShowStop) → List ℕ → List ℕ → Type 0) → State → State

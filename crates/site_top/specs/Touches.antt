@@ -3,9 +3,7 @@ use Rattle.std.specs.Prelude.{◌≡◌, ◌≢◌, ℕ, ◌+◌, ◌≤◌, Lis
 use Rattle.std.specs.FinMap.{get}
 use Rattle.ports.specs.Desk.{State, Held}
 use Rattle.site_top.specs.Commands.{Command, ShowPackets, ShowT2mi, ShowFrames, ShowConfig, Plan, Gateway, Modulate}
-use Rattle.site_top.specs.Commands.{Receive}
-use Rattle.site_top.specs.Commands.{Merge, Mend, Swap, Trial}
-use Rattle.site_top.specs.Commands.{Compare}
+use Rattle.site_top.specs.Commands.{Receive, Merge, Mend, Swap, Trial, Compare}
 
 -- the file that a command writes, if it writes one
 abbrev pub out_of : Command → Option (List ℕ)

@@ -2,16 +2,13 @@
 ghost use Rattle.std.specs.Prelude.{◌≡◌, ◌≤◌, ◌∷◌, [], IfSome};
 ghost use Rattle.std.specs.Option.{option_map};
 ghost use Rattle.site_top.specs.Commands.{command_of, shown as shown_by, show_of as show_by, is_input, are_inputs};
-ghost use Rattle.common_plp.specs.Sharing.{Apart, Joint};
 ghost use Rattle.site_top.specs.Commands.{gateway_of as gateway_by, modulate_of as modulate_by};
-ghost use Rattle.site_top.specs.Commands.{number_named as number_by};
-ghost use Rattle.site_top.specs.Commands.{common_of as common_by, common_receive_of as common_receive_by};
+ghost use Rattle.site_top.specs.Commands.{number_named as number_by, common_of as common_by};
+ghost use Rattle.site_top.specs.Commands.{common_receive_of as common_receive_by};
 ghost use Rattle.site_top.specs.Commands.{common_counted_of as common_counted_by, counted_of as counted_by};
 ghost use Rattle.site_top.specs.Commands.{receive_of as receive_by, merge_of as merge_by, trial_of as trial_by, meant};
-ghost use Rattle.site_top.specs.Commands.{IsApart};
-ghost use Rattle.site_top.specs.Commands.{swap_of as swap_by};
-ghost use Rattle.site_top.specs.Commands.{mend_of as mend_by};
-ghost use Rattle.site_top.specs.Commands.{compare_of as compare_by};
+ghost use Rattle.site_top.specs.Commands.{IsApart, swap_of as swap_by, mend_of as mend_by, compare_of as compare_by};
+ghost use Rattle.common_plp.specs.Sharing.{Apart, Joint};
 
 use crate::request::Request;
 use config_text::number_within;

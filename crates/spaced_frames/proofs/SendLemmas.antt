@@ -1,8 +1,7 @@
 -- Units of frames.
 use Rattle.std.proofs.Common.{◌≡◌, ◌≢◌, ◌⊎◌, ℕ, suc, ◌+◌, ◌*◌, ◌/◌, ◌<◌, ◌≤◌, Option, Some, None, Bool, true, false}
-use Rattle.std.proofs.Common.{List, [], ◌∷◌, ◌++◌, length, drop}
-use Rattle.std.proofs.Common.{refl, ap, ap₂, sym, subst, ◌∙◌, inl, inr, ⊎_elim, arith, append-nil, append_assoc}
-use Rattle.std.proofs.Common.{length-append}
+use Rattle.std.proofs.Common.{List, [], ◌∷◌, ◌++◌, length, drop, refl, ap, ap₂, sym, subst, ◌∙◌, inl, inr, ⊎_elim}
+use Rattle.std.proofs.Common.{arith, append-nil, append_assoc, length-append}
 use Rattle.std.specs.Prelude.{slice_get}
 use Rattle.std.proofs.lemmas.Bool.{true≢false}
 use Rattle.terms.proofs.ListLemmas.{same_front, next_element, all_of}
@@ -23,8 +22,7 @@ use Rattle.frame_writer.proofs.CarriedLemmas.{carries_more, packets_append}
 use Rattle.spaced_frames.specs.Spaced.{SentFrame, spacer, spacers, spacers_behind, spacers_between, spaced}
 use Rattle.spaced_frames.specs.Spaced.{spaced_behind, last_behind}
 use Rattle.spaced_frames.specs.StandsFor.{Sends, Content, SenderStandsFor, Continues, sent_as, bodies_as, left_in}
-use Rattle.spaced_frames.specs.StandsFor.{number_in}
-use Rattle.spaced_frames.specs.StandsFor.{later_in, HasGiven, stages_in, left_of}
+use Rattle.spaced_frames.specs.StandsFor.{number_in, later_in, HasGiven, stages_in, left_of}
 use Rattle.spaced_frames.specs.declared.sender.Sender.{Sender}
 use Rattle.spaced_frames.specs.declared.stage.Stage.{Stage}
 use Rattle.spaced_frames.specs.declared.stage.Stage.TheVariants as at

@@ -76,9 +76,8 @@ impl<'p> Sender<'p> {
     ghost use Rattle.frame_writer.specs.Carried.{of_frame};
     ghost use Rattle.spaced_frames.specs.Spaced.{SentFrame, spaced, spacer, spacers_behind, spacers_between};
     ghost use Rattle.spaced_frames.specs.StandsFor.{SenderStandsFor, Content, content_of, bodies_as, is_idle, has_unit};
-    ghost use Rattle.spaced_frames.specs.StandsFor.{has_finished};
-    ghost use Rattle.spaced_frames.specs.StandsFor.{Begun, GoesOn, sent_as, config_of, HasGiven, left_in, left_of};
-    ghost use Rattle.spaced_frames.specs.StandsFor.{rest_of, most_left};
+    ghost use Rattle.spaced_frames.specs.StandsFor.{has_finished, Begun, GoesOn, sent_as, config_of, HasGiven, left_in};
+    ghost use Rattle.spaced_frames.specs.StandsFor.{left_of, rest_of, most_left};
     ghost use Rattle.frame_writer.specs.Flowing.{bytes_bound, at_hand, packet_bound};
     ghost use Rattle.spaced_frames.specs.declared.stage.Stage.TheVariants as at;
 

@@ -11,16 +11,14 @@ use Rattle.plp_config.specs.declared.config.Config.{Config}
 use Rattle.t2mi_packet.specs.declared.packet.Packet.{Packet}
 use Rattle.mode_adapt.specs.Blocks.{own_blocks, told_counts}
 use Rattle.frame_groups.specs.Carried.{body_block, blocks_of, has_length, right_blocks, L1Parts, body_l1, l1s_of}
-use Rattle.frame_groups.specs.Carried.{body_stamp}
-use Rattle.frame_groups.specs.Carried.{stamps_of}
+use Rattle.frame_groups.specs.Carried.{body_stamp, stamps_of}
 use Rattle.frame_groups.specs.Tests.{begins_superframe, body_known, is_known}
 use Rattle.frame_writer.specs.FramePackets.{stamp_of}
 use Rattle.gateway_core.specs.Packets.{frame_bodies}
 use Rattle.frame_writer.specs.Signalling.{pre_part, conf_part}
 use Rattle.gateway_core.specs.Signalling.{dyn_part}
 use Rattle.stream_laws.proofs.MadeLemmas.{all_bodies, carried_by, made_parts, made_bodies, frame_l1, frame_stamps}
-use Rattle.stream_laws.proofs.MadeLemmas.{frame_blocks}
-use Rattle.stream_laws.proofs.MadeLemmas.{known_frame, all_right}
+use Rattle.stream_laws.proofs.MadeLemmas.{frame_blocks, known_frame, all_right}
 use Rattle.stream_laws.proofs.BlockLemmas.{own_long}
 use Rattle.stream_laws.proofs.FrameSignalLemmas.{l1_parts, frame_parts}
 

@@ -1,7 +1,6 @@
 -- Packets that carry what a written frame's record says come back as that frame.
 use Rattle.std.proofs.Common.{◌≡◌, ℕ, zero, suc, ◌+◌, ◌*◌, ◌%◌, ◌<◌, ◌≤◌, ◌==◌, ◌&&◌, ◌||◌, not, Bool, true, false}
-use Rattle.std.proofs.Common.{List, []}
-use Rattle.std.proofs.Common.{◌∷◌, length, map, Option, Some, None, refl, ap, sym, subst, ◌∙◌, ⊎_elim, arith}
+use Rattle.std.proofs.Common.{List, [], ◌∷◌, length, map, Option, Some, None, refl, ap, sym, subst, ◌∙◌, ⊎_elim, arith}
 use Rattle.std.proofs.Common.{sum_by}
 use Rattle.std.specs.Prelude.{slice_get, slice_index, if◌then◌else◌, nat_le, nat_lt, unwrap_or, option_map}
 use Rattle.std.specs.List.{filter, filter_map, find, range_with_len, list_all, AllByRecursion}
@@ -33,17 +32,13 @@ use Rattle.site_frame.specs.Record.{Block as SentBlock}
 use Rattle.site_frame.specs.declared.reading.RecordView.{RecordView}
 use Rattle.frame_groups.specs.Begun.{is_begin, packets_at}
 use Rattle.frame_groups.specs.Carried.{body_block, blocks_of, has_length, right_blocks, L1Parts, body_l1, l1s_of}
-use Rattle.frame_groups.specs.Carried.{body_stamp}
-use Rattle.frame_groups.specs.Carried.{stamps_of}
+use Rattle.frame_groups.specs.Carried.{body_stamp, stamps_of}
 use Rattle.frame_groups.specs.TestLaws.{FrameNamed}
 use Rattle.frame_groups.specs.Readable.{told_dynamic}
 use Rattle.frame_groups.specs.Tests.{unless, begins_superframe, body_known, is_known, pool_need, pool_chunks, capped}
-use Rattle.frame_groups.specs.Tests.{room_test}
-use Rattle.frame_groups.specs.Tests.{begun_test, pool_test, missing_test, parts_agree, l1s_agree, l1_test, stamp_agrees}
-use Rattle.frame_groups.specs.Tests.{disagrees}
-use Rattle.frame_groups.specs.Tests.{time_test, l1_shape, first_shape, has_begun, has_count, has_counts, blocks_test}
-use Rattle.frame_groups.specs.Tests.{has_map}
-use Rattle.frame_groups.specs.Tests.{map_test, packets_fault}
+use Rattle.frame_groups.specs.Tests.{room_test, begun_test, pool_test, missing_test, parts_agree, l1s_agree, l1_test}
+use Rattle.frame_groups.specs.Tests.{stamp_agrees, disagrees, time_test, l1_shape, first_shape, has_begun, has_count}
+use Rattle.frame_groups.specs.Tests.{has_counts, blocks_test, has_map, map_test, packets_fault}
 use Rattle.frame_groups.proofs.BegunLemmas.{none_fails}
 use Rattle.record_laws.specs.Frames.{sent_block, sent_blocks, frame_view}
 use Rattle.open_group.specs.Front.{post_with}
@@ -55,8 +50,7 @@ use Rattle.stream_laws.specs.Remade.{view_bodies}
 use Rattle.stream_laws.proofs.BackLemmas.{view_carries, counted_view}
 use Rattle.stream_laws.proofs.FormedLemmas.{told, shape_is, right_counts, dynamic_is, view_shape}
 use Rattle.stream_laws.proofs.MadeLemmas.{all_bodies, carried_by, made_parts, made_bodies, frame_l1, frame_stamps}
-use Rattle.stream_laws.proofs.MadeLemmas.{frame_blocks}
-use Rattle.stream_laws.proofs.MadeLemmas.{known_frame, all_right}
+use Rattle.stream_laws.proofs.MadeLemmas.{frame_blocks, known_frame, all_right}
 use Rattle.stream_laws.proofs.PassedLemmas.{Passed, passed}
 use Rattle.stream_laws.proofs.FormedSignalLemmas.{Knows, pre_spelled, conf_spelled, told_is, dynamic_read}
 use Rattle.stream_laws.proofs.SizeLemmas.{AreLong, right_long}

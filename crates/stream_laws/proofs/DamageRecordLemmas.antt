@@ -1,23 +1,18 @@
 -- The records of survivors are those that must come.
 use Rattle.std.proofs.Common.{◌≡◌, ◌≢◌, ℕ, zero, suc, ◌+◌, ◌-◌, ◌%◌, ◌<◌, ◌≤◌, ◌==◌, ◌&&◌, ◌||◌, Bool, true, false}
-use Rattle.std.proofs.Common.{List, [], ◌∷◌}
-use Rattle.std.proofs.Common.{◌++◌}
-use Rattle.std.proofs.Common.{map, find, Option, Some, None, is_some, refl, ap, ap₂, sym, ◌∙◌, ⊎_elim, arith}
-use Rattle.std.proofs.Common.{append_assoc}
-use Rattle.std.proofs.Common.{true≢false}
+use Rattle.std.proofs.Common.{List, [], ◌∷◌, ◌++◌, map, find, Option, Some, None, is_some, refl, ap, ap₂, sym, ◌∙◌}
+use Rattle.std.proofs.Common.{⊎_elim, arith, append_assoc, true≢false}
 use Rattle.std.specs.List.{items_where_true, last_or, list_any, range_with_len}
 use Rattle.std.specs.Option.{option_map_or}
 use Rattle.std.proofs.lemmas.Bool.{cases_eq, cases_Bool, cond_both, cond-true, cond-false, and_parts, and_cases}
-use Rattle.std.proofs.lemmas.Bool.{and_left}
-use Rattle.std.proofs.lemmas.Bool.{false_from_ne_true, eqb-true}
+use Rattle.std.proofs.lemmas.Bool.{and_left, false_from_ne_true, eqb-true}
 use Rattle.std.proofs.lemmas.List.{map-append}
 use Rattle.t2mi_packet.specs.declared.packet.Packet.{Packet}
 use Rattle.frame_groups.specs.Groups.{Group}
 use Rattle.frame_groups.specs.Laws.{NextIsFound}
 use Rattle.frame_groups.specs.Modulated.{Content, FrameRecord, Numbered, Rules, content_of, group_record, gap_record}
 use Rattle.frame_groups.specs.Modulated.{unless_fault, passing, join_number, past_with, gaps_between, gaps_behind}
-use Rattle.frame_groups.specs.Modulated.{own_record}
-use Rattle.frame_groups.specs.Modulated.{records_from, modulated}
+use Rattle.frame_groups.specs.Modulated.{own_record, records_from, modulated}
 use Rattle.frame_groups.specs.Modulated.Content.{Whole, Muted}
 use Rattle.frame_groups.specs.Numbers.{frame_key, next_number}
 use Rattle.frame_groups.specs.declared.cause.MuteCause.{MuteCause}
@@ -33,9 +28,8 @@ use Rattle.stream_laws.specs.Survivors.{survivor_records}
 use Rattle.stream_laws.specs.DamageLaws.{Survive, AreMet, IsMet, RulesMeet, ModulatedIsRecords}
 use Rattle.terms.proofs.RangeLemmas.{range_append, map_same}
 use Rattle.stream_laws.proofs.GroupLemmas.{not_empty, Met, group_as, key_groups, with_sent, frame_runs, some_met}
-use Rattle.stream_laws.proofs.GroupLemmas.{frames_met}
-use Rattle.stream_laws.proofs.GroupLemmas.{order_survivors}
-use Rattle.stream_laws.proofs.GroupLemmas.{below_survivors, runs_met, groups_are_met, Steps, StepsIn, steps_met}
+use Rattle.stream_laws.proofs.GroupLemmas.{frames_met, order_survivors, below_survivors, runs_met, groups_are_met}
+use Rattle.stream_laws.proofs.GroupLemmas.{Steps, StepsIn, steps_met}
 use Rattle.stream_laws.proofs.WholeLemmas.{whole_is_all}
 
 -- the first number that passes

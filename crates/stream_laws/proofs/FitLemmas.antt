@@ -1,7 +1,6 @@
 -- Each packet of a run fits its fields.
 use Rattle.std.proofs.Common.{◌≡◌, ℕ, zero, suc, ◌+◌, ◌-◌, ◌*◌, ◌%◌, ◌^◌, ◌<◌, ◌≤◌, ◌==◌, Bool, true, false, List, []}
-use Rattle.std.proofs.Common.{◌∷◌, map}
-use Rattle.std.proofs.Common.{length, arith, length-append}
+use Rattle.std.proofs.Common.{◌∷◌, map, length, arith, length-append}
 use Rattle.std.specs.List.{flat_map, range_with_len, AllByRecursion}
 use Rattle.std.proofs.lemmas.Bool.{cond_both}
 use Rattle.std.proofs.lemmas.Nat.{mod_below}

@@ -16,7 +16,7 @@ use Rattle.scheduler.specs.Shape.{FrameShape, blank}
 use Rattle.l1_signal.specs.L1Of.{told_shape}
 use Rattle.l1_signal.specs.declared.dyn_plp.DynPlp.{DynPlp}
 use Rattle.t2mi_packet.specs.declared.packet.Packet.{Packet}
-use Rattle.frame_groups.specs.Groups.{Group}
+use Rattle.frame_groups.specs.Groups.{Group, groups}
 use Rattle.frame_groups.specs.Modulated.{Numbered, FrameRecord, Content, past_after}
 use Rattle.frame_groups.specs.Carried.{L1Parts, right_blocks}
 use Rattle.frame_groups.specs.TestLaws.{MapPasses, IsOfFrame}
@@ -30,7 +30,6 @@ use Rattle.open_group.specs.Written.{dynamic_in, shape_in, packets_view, content
 use Rattle.open_group.proofs.GivenLemmas.{has_blocks}
 use Rattle.modulator.specs.Laws.{DuePass, IsRight}
 use Rattle.modulator.specs.StandsFor.{records_due}
-use Rattle.frame_groups.specs.Groups.{groups}
 use Rattle.t2mi_stream.specs.Units.{accepted_of}
 use Rattle.modulator.specs.Modulating.{packets_of}
 use Rattle.stream_laws.specs.Formed.{Forms, IsFormed}

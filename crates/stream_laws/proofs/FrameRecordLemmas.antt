@@ -1,7 +1,7 @@
 -- The records that must come of what is received of a run.
 use Rattle.std.proofs.Common.{◌≡◌, ℕ, zero, suc, ◌+◌, ◌-◌, ◌%◌, ◌<◌, ◌≤◌, ◌==◌, ◌&&◌, Bool, true, false, List, [], ◌∷◌}
-use Rattle.std.proofs.Common.{◌++◌, map}
-use Rattle.std.proofs.Common.{length, drop, replicate, Option, Some, None, refl, ap, ap₂, sym, ◌∙◌, ⊎_elim, arith}
+use Rattle.std.proofs.Common.{◌++◌, map, length, drop, replicate, Option, Some, None, refl, ap, ap₂, sym, ◌∙◌, ⊎_elim}
+use Rattle.std.proofs.Common.{arith}
 use Rattle.std.specs.Prelude.{find, if◌then◌else◌}
 use Rattle.std.specs.List.{flat_map, range_with_len, items_where_true, last_or, AllByRecursion}
 use Rattle.std.specs.Option.{option_map_or}
@@ -26,8 +26,7 @@ use Rattle.stream_laws.specs.Survivors.{is_whole, loss_of, sent_content, sent_re
 use Rattle.stream_laws.specs.UnitLaws.{SurvivalLength, HonestRecords, KeptHonest}
 use Rattle.stream_laws.specs.Streams.{Stream, IsStream, stream_survival}
 use Rattle.stream_laws.specs.FrameLaws.{SentAreFrames, FramesAreStream, TestsMeet, WrittenIsFrame, KeptIsHonest}
-use Rattle.stream_laws.specs.FrameLaws.{WrittenMustCome}
-use Rattle.stream_laws.specs.FrameLaws.{UndamagedMustCome}
+use Rattle.stream_laws.specs.FrameLaws.{WrittenMustCome, UndamagedMustCome}
 use Rattle.stream_laws.specs.SentFrames.{sent_frames, frames_stream}
 use Rattle.stream_laws.specs.Types.{TypesFit}
 

@@ -1,10 +1,7 @@
 -- The groups of survivors of which different frames are apart are those of their frames.
 use Rattle.std.proofs.Common.{◌≡◌, ◌≢◌, ℕ, zero, suc, ◌+◌, ◌*◌, ◌/◌, ◌%◌, ◌<◌, ◌≤◌, ◌==◌, Bool, true, false, cond}
-use Rattle.std.proofs.Common.{if◌then◌else◌}
-use Rattle.std.proofs.Common.{List}
-use Rattle.std.proofs.Common.{[], ◌∷◌, ◌++◌, map, length, Option, Some, None, option_map, refl, ap, ap₂, sym, subst}
-use Rattle.std.proofs.Common.{◌∙◌, ⊎_elim}
-use Rattle.std.proofs.Common.{arith, div-lt_iff_lt-mul, add-mul, mul-le-mul_right}
+use Rattle.std.proofs.Common.{if◌then◌else◌, List, [], ◌∷◌, ◌++◌, map, length, Option, Some, None, option_map, refl, ap}
+use Rattle.std.proofs.Common.{ap₂, sym, subst, ◌∙◌, ⊎_elim, arith, div-lt_iff_lt-mul, add-mul, mul-le-mul_right}
 use Rattle.std.specs.List.{filter, items_where_true, range_with_len, AllByRecursion}
 use Rattle.std.proofs.lemmas.Bool.{cases_lt, cases_eq, cond_both, cond-true, cond-false, both_ways, and_from}
 use Rattle.std.proofs.lemmas.Bool.{false_from_ne_true, eqb-true, eq-eqb, ne_eqb, lt-ltb}
@@ -14,13 +11,12 @@ use Rattle.t2mi_packet.specs.declared.packet.Body.TheVariants.{Block, L1Current,
 use Rattle.t2mi_packet.specs.declared.packet.Packet.{Packet}
 use Rattle.frame_groups.specs.declared.key.Key.{Key}
 use Rattle.frame_groups.specs.Groups.{is_same, body_counts, is_counted, body_key, key_behind, Keyed, keyed, Group}
-use Rattle.frame_groups.specs.Groups.{in_front}
-use Rattle.frame_groups.specs.Groups.{key_runs, groups}
+use Rattle.frame_groups.specs.Groups.{in_front, key_runs, groups}
 use Rattle.frame_groups.specs.Numbers.{frame_key}
 use Rattle.frame_groups.proofs.NumberLemmas.{same_key}
 use Rattle.stream_laws.specs.SentPackets.{Sent, packets_of, frame_packets, frame_group, IsTimestamp, TellsFrame}
-use Rattle.stream_laws.specs.SentPackets.{IsOfFrame, Follows, FollowsSome, InFrameOrder, AreFrames}
-use Rattle.stream_laws.specs.SentPackets.{IsNearSome, AreNear, IsApart, IsApartSome, AreApart}
+use Rattle.stream_laws.specs.SentPackets.{IsOfFrame, Follows, FollowsSome, InFrameOrder, AreFrames, IsNearSome, AreNear}
+use Rattle.stream_laws.specs.SentPackets.{IsApart, IsApartSome, AreApart}
 use Rattle.stream_laws.specs.Survivors.{has_packets}
 use Rattle.stream_laws.specs.DamageLaws.{Survive, GroupsAreFrames}
 use Rattle.stream_laws.proofs.PacketLemmas.{packets_here, packets_other}

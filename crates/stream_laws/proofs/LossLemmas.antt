@@ -1,16 +1,13 @@
 -- What survives of a frame of which a packet is missing, and what the tests say of it.
 use Rattle.std.proofs.Common.{◌≡◌, ℕ, zero, suc, ◌+◌, ◌-◌, ◌%◌, ◌<◌, ◌≤◌, ◌==◌, ◌&&◌, ◌||◌, not, Bool, true, false}
-use Rattle.std.proofs.Common.{cond, List}
-use Rattle.std.proofs.Common.{[], ◌∷◌, map, length, Option, Some, None, refl, ap, sym, subst, ◌∙◌, ◌⊎◌, inl, inr}
-use Rattle.std.proofs.Common.{⊎_elim, arith}
+use Rattle.std.proofs.Common.{cond, List, [], ◌∷◌, map, length, Option, Some, None, refl, ap, sym, subst, ◌∙◌, ◌⊎◌, inl}
+use Rattle.std.proofs.Common.{inr, ⊎_elim, arith}
 use Rattle.std.specs.Prelude.{slice_get, slice_index, nat_lt, is_some, count_by}
 use Rattle.std.specs.List.{filter, filter_map, cons_option, flat_map, range_with_len, items_where_true, list_all}
-use Rattle.std.specs.List.{list_any}
-use Rattle.std.specs.List.{AllByRecursion}
+use Rattle.std.specs.List.{list_any, AllByRecursion}
 use Rattle.std.specs.Option.{option_or, option_and_then}
 use Rattle.std.proofs.lemmas.Bool.{and_from, and_parts, cases_Bool, cond_both, cond-true, cond-false, eq-eqb, eqb-true}
-use Rattle.std.proofs.lemmas.Bool.{eqb-false}
-use Rattle.std.proofs.lemmas.Bool.{ltb-true, true_from_ne_false, true≢false, false≢true}
+use Rattle.std.proofs.lemmas.Bool.{eqb-false, ltb-true, true_from_ne_false, true≢false, false≢true}
 use Rattle.std.proofs.lemmas.List.Elements.{All-from_recursion, All-contains}
 use Rattle.std.proofs.lemmas.List.FromFn.{length-range_with_len, get_or-range_with_len}
 use Rattle.std.proofs.lemmas.List.Sums.{sum_by-cons, length-filter, count_by-le-length, AllPass-from_list_all}
@@ -33,11 +30,10 @@ use Rattle.frame_groups.specs.declared.cause.MuteCause.{MuteCause}
 use Rattle.frame_groups.specs.declared.cause.MuteCause.TheVariants.{PacketMissing}
 use Rattle.frame_groups.specs.Begun.{packets_at}
 use Rattle.frame_groups.specs.Carried.{body_block, has_length, blocks_of, right_blocks, L1Parts, body_l1, l1s_of}
-use Rattle.frame_groups.specs.Carried.{body_stamp}
-use Rattle.frame_groups.specs.Carried.{stamps_of}
+use Rattle.frame_groups.specs.Carried.{body_stamp, stamps_of}
 use Rattle.frame_groups.specs.Tests.{unless, begins_superframe, pool_test, missing_test, l1_test, time_test, l1_shape}
-use Rattle.frame_groups.specs.Tests.{first_shape}
-use Rattle.frame_groups.specs.Tests.{has_begun, has_count, has_counts, is_known, blocks_test, map_test, packets_fault}
+use Rattle.frame_groups.specs.Tests.{first_shape, has_begun, has_count, has_counts, is_known, blocks_test, map_test}
+use Rattle.frame_groups.specs.Tests.{packets_fault}
 use Rattle.frame_writer.specs.FramePackets.{stamp_of}
 use Rattle.gateway_core.specs.Packets.{block_bodies, frame_bodies}
 use Rattle.stream_laws.specs.SentPackets.{Sent, packets_of, frame_packets}

@@ -1,7 +1,6 @@
 -- Packets of which only those at the front are lost.
 use Rattle.std.proofs.Common.{◌≡◌, ◌≢◌, ℕ, zero, suc, ◌+◌, ◌*◌, ◌/◌, ◌%◌, ◌<◌, ◌≤◌, true, List, [], ◌∷◌, replicate}
-use Rattle.std.proofs.Common.{Option, Some}
-use Rattle.std.proofs.Common.{None, refl, ap, ◌∙◌, ⊎_elim, arith, div-lt_iff_lt-mul, add-mul}
+use Rattle.std.proofs.Common.{Option, Some, None, refl, ap, ◌∙◌, ⊎_elim, arith, div-lt_iff_lt-mul, add-mul}
 use Rattle.std.specs.List.{items_where_true}
 use Rattle.std.specs.Prelude.{slice_get}
 use Rattle.std.proofs.lemmas.Bool.{cases_lt}

@@ -1,6 +1,6 @@
 -- From the join on, each group has the number of its frame.
-use Rattle.std.proofs.Common.{◌≡◌, ◌≢◌, ℕ, zero, suc, ◌+◌, ◌<◌, ◌≤◌, cond, List, [], ◌∷◌, ◌++◌, map, length}
-use Rattle.std.proofs.Common.{Option, Some, None, refl, ap, ap₂, sym, ◌∙◌, ⊎_elim, arith}
+use Rattle.std.proofs.Common.{◌≡◌, ◌≢◌, ℕ, zero, suc, ◌+◌, ◌<◌, ◌≤◌, cond, List, [], ◌∷◌, ◌++◌, map, length, Option}
+use Rattle.std.proofs.Common.{Some, None, refl, ap, ap₂, sym, ◌∙◌, ⊎_elim, arith}
 use Rattle.std.specs.Prelude.{nat_le, nat_lt}
 use Rattle.std.specs.List.{filter, items_where_true, range_with_len}
 use Rattle.std.proofs.lemmas.Bool.{cases_eq, cond-true, cond-false, false_from_ne_true, leb-true, le-leb, lt-ltb}
@@ -13,8 +13,7 @@ use Rattle.frame_groups.specs.Numbers.{frame_key, next_number}
 use Rattle.stream_laws.specs.SentPackets.{Sent, frame_packets, frame_group}
 use Rattle.stream_laws.specs.GroupNumbers.{numbers_behind, is_met, number_from, JoinsAt, GroupsNumbered}
 use Rattle.stream_laws.proofs.GroupLemmas.{not_empty, Met, group_as, key_groups, some_met, frames_met, groups_are_met}
-use Rattle.stream_laws.proofs.GroupLemmas.{Steps, StepsIn}
-use Rattle.stream_laws.proofs.GroupLemmas.{steps_met}
+use Rattle.stream_laws.proofs.GroupLemmas.{Steps, StepsIn, steps_met}
 
 -- the frames of which a packet survives, from one on
 met_frames : (ss : List Sent) (from count : ℕ) → map (λ (g : Met). g.frame) (frames_met from count ss)

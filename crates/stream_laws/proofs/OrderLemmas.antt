@@ -1,7 +1,6 @@
 -- The order of these packets, and how near they are.
 use Rattle.std.proofs.Common.{◌≡◌, ◌≢◌, ℕ, zero, suc, ◌+◌, ◌-◌, ◌%◌, ◌<◌, ◌≤◌, ◌==◌, Bool, true, false, List, [], ◌∷◌}
-use Rattle.std.proofs.Common.{◌++◌}
-use Rattle.std.proofs.Common.{length, Option, Some, None, refl, ap, sym, subst, ◌∙◌, ⊎_elim, arith}
+use Rattle.std.proofs.Common.{◌++◌, length, Option, Some, None, refl, ap, sym, subst, ◌∙◌, ⊎_elim, arith}
 use Rattle.std.specs.List.{AllByRecursion}
 use Rattle.std.proofs.lemmas.Bool.{cases_eq, cases_lt, cond_both, eqb-true, eq-eqb, ne_eqb}
 use Rattle.terms.proofs.AllLemmas.{all_append}
@@ -16,8 +15,7 @@ use Rattle.stream_laws.specs.Remade.{NumberedView, view_bodies, frame_pairs, rem
 use Rattle.stream_laws.proofs.MadeLemmas.{all_bodies, made_l1, made_bodies}
 use Rattle.stream_laws.specs.Coming.{end_after, is_complete}
 use Rattle.stream_laws.proofs.FullLemmas.{packets_step, pairs, sent_append, stand_in, stand_ins, lost_by, lost, full}
-use Rattle.stream_laws.proofs.FullLemmas.{RisesFrom, own, own_here}
-use Rattle.stream_laws.proofs.FullLemmas.{packets_append}
+use Rattle.stream_laws.proofs.FullLemmas.{RisesFrom, own, own_here, packets_append}
 
 -- The packets of a frame carry what a written frame has.
 pub record Made (c : Config) (f : NumberedView) : Type 0 where

@@ -1,7 +1,7 @@
 -- The six tests of the packets of a frame, and what they say of fewer.
 use Rattle.std.proofs.Common.{◌≡◌, ℕ, zero, suc, ◌+◌, ◌*◌, ◌/◌, ◌<◌, ◌≤◌, ◌==◌, ◌&&◌, ◌||◌, not, Bool, true, false}
-use Rattle.std.proofs.Common.{List, [], ◌∷◌}
-use Rattle.std.proofs.Common.{length, Option, Some, None, refl, ap, sym, subst, ◌∙◌, ⊎_elim, arith, sum_by}
+use Rattle.std.proofs.Common.{List, [], ◌∷◌, length, Option, Some, None, refl, ap, sym, subst, ◌∙◌, ⊎_elim, arith}
+use Rattle.std.proofs.Common.{sum_by}
 use Rattle.std.specs.Prelude.{slice_get, slice_index, if◌then◌else◌, nat_le, nat_lt}
 use Rattle.std.specs.Bool.{beq}
 use Rattle.std.specs.Cmp.{booleans_Decides}
@@ -9,8 +9,7 @@ use Rattle.std.specs.Cmp.Lexicographic.{pointwise, pointwise_decides}
 use Rattle.std.specs.Int.{div_ceil}
 use Rattle.std.specs.List.{list_all, range_with_len, AllByRecursion}
 use Rattle.std.specs.Option.{option_and_then}
-use Rattle.std.proofs.lemmas.Bool.{and_from, cases_Bool, cond-true, cond-false, eq-eqb, le-leb}
-use Rattle.std.proofs.lemmas.Bool.{cond_both}
+use Rattle.std.proofs.lemmas.Bool.{and_from, cases_Bool, cond-true, cond-false, eq-eqb, le-leb, cond_both}
 use Rattle.std.proofs.lemmas.List.Folds.{fold-map}
 use Rattle.std.proofs.lemmas.List.FromFn.{fill_by_all}
 use Rattle.std.proofs.lemmas.List.Sums.{sum_by-cons}
@@ -39,12 +38,9 @@ use Rattle.frame_groups.specs.Begun.{is_begin, packets_at}
 use Rattle.frame_groups.specs.Carried.{blocks_of, right_blocks, L1Parts, l1s_of, stamps_of}
 use Rattle.frame_groups.specs.TestLaws.{MapPasses, PartsTold}
 use Rattle.frame_groups.specs.Tests.{begins_superframe, pool_chunks, pool_need, capped, room_test, begun_test}
-use Rattle.frame_groups.specs.Tests.{pool_test}
-use Rattle.frame_groups.specs.Tests.{missing_test, same_parts, parts_agree, l1s_agree, l1_test}
-use Rattle.frame_groups.specs.Tests.{time_test, l1_shape}
-use Rattle.frame_groups.specs.Tests.{first_shape, has_begun, has_count, has_counts, is_known, blocks_test, has_map}
-use Rattle.frame_groups.specs.Tests.{map_test}
-use Rattle.frame_groups.specs.Tests.{packets_fault}
+use Rattle.frame_groups.specs.Tests.{pool_test, missing_test, same_parts, parts_agree, l1s_agree, l1_test, time_test}
+use Rattle.frame_groups.specs.Tests.{l1_shape, first_shape, has_begun, has_count, has_counts, is_known, blocks_test}
+use Rattle.frame_groups.specs.Tests.{has_map, map_test, packets_fault}
 use Rattle.frame_groups.proofs.BegunLemmas.{none_fails}
 use Rattle.frame_writer.specs.FramePackets.{stamp_of}
 use Rattle.stream_laws.proofs.CarryLemmas.{unless_true, own_stamps, time_passes, each_place}

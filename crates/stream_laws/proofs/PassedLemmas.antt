@@ -14,10 +14,8 @@ use Rattle.frame_groups.specs.declared.cause.MuteCause.TheVariants.{L1Refused, M
 use Rattle.frame_groups.specs.Carried.{L1Parts, l1s_of}
 use Rattle.frame_groups.specs.MapTest.{map_passes}
 use Rattle.frame_groups.specs.Tests.{begun_test, first_failure, room_test, pool_test, missing_test, same_parts}
-use Rattle.frame_groups.specs.Tests.{parts_agree}
-use Rattle.frame_groups.specs.Tests.{l1s_agree, l1_test, time_test, l1_shape, first_shape, blocks_test, has_map}
-use Rattle.frame_groups.specs.Tests.{map_test}
-use Rattle.frame_groups.specs.Tests.{packets_fault}
+use Rattle.frame_groups.specs.Tests.{parts_agree, l1s_agree, l1_test, time_test, l1_shape, first_shape, blocks_test}
+use Rattle.frame_groups.specs.Tests.{has_map, map_test, packets_fault}
 use Rattle.open_group.proofs.GivenLemmas.{map_none}
 use Rattle.open_group.proofs.RoomLemmas.{none_first, none_behind}
 

@@ -1,14 +1,12 @@
 -- What comes of frames that were sent again.
 use Rattle.std.proofs.Common.{◌≡◌, ℕ, zero, suc, ◌+◌, ◌-◌, ◌%◌, ◌<◌, ◌≤◌, ◌==◌, ◌&&◌, ◌||◌, Bool, true, false, List, []}
 use Rattle.std.proofs.Common.{◌∷◌, ◌++◌, length, map, find, get_or, count_by, Option, Some, None, refl, ap, ap₂, sym}
-use Rattle.std.proofs.Common.{subst, ◌∙◌}
-use Rattle.std.proofs.Common.{⊎_elim, arith, append-nil, length-append}
+use Rattle.std.proofs.Common.{subst, ◌∙◌, ⊎_elim, arith, append-nil, length-append}
 use Rattle.std.specs.Prelude.{if◌then◌else◌, nat_le}
 use Rattle.std.specs.List.{filter, range_with_len, items_where_true, last_or, list_all, list_any, AllByRecursion}
 use Rattle.std.specs.Option.{option_map_or}
 use Rattle.std.proofs.lemmas.Bool.{cases_Bool, cases_lt, cond-true, cond-false, and_from, and_left, eq-eqb, or_parts}
-use Rattle.std.proofs.lemmas.Bool.{or_left}
-use Rattle.std.proofs.lemmas.Bool.{le-leb, true≢false}
+use Rattle.std.proofs.lemmas.Bool.{or_left, le-leb, true≢false}
 use Rattle.std.proofs.lemmas.List.{length-map}
 use Rattle.std.proofs.lemmas.List.FromFn.{length-range_with_len, get_or-range_with_len}
 use Rattle.std.proofs.lemmas.List.Sums.{length-filter, AllPass-from_list_all}
@@ -47,11 +45,9 @@ use Rattle.stream_laws.proofs.BackLemmas.{view_carries}
 use Rattle.stream_laws.proofs.PassedLemmas.{passed}
 use Rattle.stream_laws.proofs.FormedSignalLemmas.{Knows}
 use Rattle.stream_laws.specs.Coming.{remade_sent, frame_at, blocks_at, is_complete, complete_view, view_at, end_after}
-use Rattle.stream_laws.specs.Coming.{IsWrittenFrame}
-use Rattle.stream_laws.specs.Coming.{RemadeComesBack}
+use Rattle.stream_laws.specs.Coming.{IsWrittenFrame, RemadeComesBack}
 use Rattle.stream_laws.proofs.FullLemmas.{pairs, sent_append, stand_in, full, kept, length-kept, kept_are, filter_full}
-use Rattle.stream_laws.proofs.FullLemmas.{lost_by}
-use Rattle.stream_laws.proofs.FullLemmas.{RisesFrom, Has, Look, look, at_before}
+use Rattle.stream_laws.proofs.FullLemmas.{lost_by, RisesFrom, Has, Look, look, at_before}
 use Rattle.stream_laws.proofs.FullLemmas.Look.{Found, Missing}
 use Rattle.stream_laws.proofs.OrderLemmas.{Made, AllMade, order_full, below_full, end_above, some_full, some_bodies}
 use Rattle.stream_laws.proofs.OrderLemmas.{near_all}

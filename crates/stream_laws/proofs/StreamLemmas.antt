@@ -1,7 +1,6 @@
 -- From the bytes of a stream to its packets.
 use Rattle.std.proofs.Common.{◌≡◌, ℕ, suc, ◌+◌, ◌<◌, ◌≤◌, Bool, true, false, List, [], ◌∷◌, ◌++◌, map, length}
-use Rattle.std.proofs.Common.{slice_get, Option}
-use Rattle.std.proofs.Common.{Some, None, refl, ap, sym, subst, ◌∙◌}
+use Rattle.std.proofs.Common.{slice_get, Option, Some, None, refl, ap, sym, subst, ◌∙◌}
 use Rattle.std.specs.List.{items_where_true}
 use Rattle.std.proofs.lemmas.List.{length-map}
 use Rattle.std.proofs.lemmas.Simd.{map-map}
@@ -20,8 +19,7 @@ use Rattle.stream_laws.specs.DamageLaws.{Survive, GroupsAreFrames, ModulatedIsRe
 use Rattle.stream_laws.specs.Streams.{Stream, IsStream, stream_survival, Honest}
 use Rattle.stream_laws.specs.GroupNumbers.{numbers_behind, GroupsNumbered}
 use Rattle.stream_laws.specs.UnitLaws.{SurvivalLength, ReadAreSurvivors, HonestGroups, HonestNumbers, HonestRecords}
-use Rattle.stream_laws.specs.UnitLaws.{KeptHonest}
-use Rattle.stream_laws.specs.UnitLaws.{KeptWhole}
+use Rattle.stream_laws.specs.UnitLaws.{KeptHonest, KeptWhole}
 
 map-items_where_true : {X Y : Type 0} (f : X → Y) (tests : List Bool) (xs : List X) → map f (items_where_true tests xs)
     ≡ items_where_true tests (map f xs)

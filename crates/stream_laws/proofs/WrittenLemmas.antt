@@ -1,6 +1,5 @@
 -- What is written of the packets of a frame is the frame.
-use Rattle.std.proofs.Common.{◌≡◌, ℕ, ◌%◌, Bool, List, [], length, Option, refl, ap}
-use Rattle.std.proofs.Common.{◌∙◌, arith, map}
+use Rattle.std.proofs.Common.{◌≡◌, ℕ, ◌%◌, Bool, List, [], length, Option, refl, ap, ◌∙◌, arith, map}
 use Rattle.std.specs.Prelude.{slice_get, unwrap_or}
 use Rattle.std.specs.Option.{option_map_or, option_and_then}
 use Rattle.terms.proofs.RangeLemmas.{flat_same}

@@ -1,7 +1,6 @@
 -- What comes of frames that were sent again.
 use Rattle.std.specs.Prelude.{◌≡◌, true, ℕ, ◌+◌, ◌-◌, ◌%◌, ◌==◌, ◌||◌, ◌<◌, Bool, List, [], ◌∷◌, map, Option, Some}
-use Rattle.std.specs.Prelude.{None}
-use Rattle.std.specs.Prelude.{if◌then◌else◌}
+use Rattle.std.specs.Prelude.{None, if◌then◌else◌}
 use Rattle.std.specs.List.{range_with_len, list_all, AllByRecursion}
 use Rattle.std.specs.Option.{option_map_or}
 use Rattle.plp_config.specs.Capacity.{IsPlan}

@@ -1,7 +1,6 @@
 -- Laws of frames of which packets are lost.
 use Rattle.std.specs.Prelude.{◌≡◌, ◌≢◌, ◌%◌, ℕ, ◌<◌, ◌≤◌, true, false, Bool, List, [], length, slice_get, Some, None}
-use Rattle.std.specs.Prelude.{is_some}
-use Rattle.std.specs.Prelude.{count_by, ◌+◌, ◌*◌, ◌/◌, ◌==◌}
+use Rattle.std.specs.Prelude.{is_some, count_by, ◌+◌, ◌*◌, ◌/◌, ◌==◌}
 use Rattle.std.specs.List.{filter, items_where_true, Contains}
 use Rattle.plp_config.specs.Places.{FramesStandAlone}
 use Rattle.plp_config.specs.declared.config.Config.{Config}

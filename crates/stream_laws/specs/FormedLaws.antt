@@ -4,18 +4,16 @@ use Rattle.std.specs.List.{AllByRecursion}
 use Rattle.plp_config.specs.Capacity.{IsPlan}
 use Rattle.plp_config.specs.declared.config.Config.{Config}
 use Rattle.frame_groups.specs.Groups.{Group}
-use Rattle.frame_groups.specs.Modulated.{FrameRecord}
+use Rattle.frame_groups.specs.Modulated.{FrameRecord, Numbered}
 use Rattle.frame_groups.specs.Modulated.Content.{Whole}
-use Rattle.open_group.specs.Written.{content_view}
+use Rattle.open_group.specs.Written.{content_view, packets_view}
 use Rattle.modulator.specs.StandsFor.{records_due}
 use Rattle.stream_laws.specs.Formed.{IsFormed}
 use Rattle.t2mi_packet.specs.declared.packet.Packet.{Packet}
-use Rattle.frame_groups.specs.Modulated.{Numbered}
 use Rattle.frame_groups.specs.Tests.{packets_fault}
 use Rattle.frame_writer.specs.Bodies.{pool_bodies}
 use Rattle.frame_writer.specs.Signalling.{pre_part, conf_part}
 use Rattle.open_group.specs.Shown.{Shows}
-use Rattle.open_group.specs.Written.{packets_view}
 use Rattle.stream_laws.specs.Remade.{view_bodies}
 
 -- If a record is not muted, it is a frame formed for its number.

@@ -1,7 +1,6 @@
 -- Frames as T2-MI packets again (ETSI TS 102 773, clause 5).
 use Rattle.std.specs.Prelude.{◌≡◌, ℕ, ◌+◌, ◌*◌, ◌/◌, ◌%◌, ◌<◌, ◌==◌, not, Bool, true, List, [], ◌∷◌, length, map, take}
-use Rattle.std.specs.Prelude.{Option}
-use Rattle.std.specs.Prelude.{Some, None}
+use Rattle.std.specs.Prelude.{Option, Some, None}
 use Rattle.std.specs.List.{flat_map}
 use Rattle.terms.specs.Bits.{bits_of, part}
 use Rattle.bb_frame.specs.Scrambled.{scrambled}

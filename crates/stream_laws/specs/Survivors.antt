@@ -1,7 +1,6 @@
 -- Sent packets of which some survive, and the records that must come of them.
 use Rattle.std.specs.Prelude.{ℕ, ◌+◌, ◌==◌, ◌&&◌, ◌||◌, Bool, true, false, List, [], ◌∷◌, ◌++◌, map, length, replicate}
-use Rattle.std.specs.Prelude.{None}
-use Rattle.std.specs.Prelude.{if◌then◌else◌}
+use Rattle.std.specs.Prelude.{None, if◌then◌else◌}
 use Rattle.std.specs.List.{filter, list_all, list_any, items_where_true, last_or, range_with_len, zip}
 use Rattle.std.specs.Option.{option_map_or}
 use Rattle.t2mi_packet.specs.declared.packet.Body.{Body}

@@ -1,7 +1,6 @@
 // Laws of the definitions. Their functions do nothing.
 ghost use Rattle.stream_laws.specs.DamageLaws.{GroupsAreFrames, ModulatedIsRecords, WholeTold, WholeIsAll};
-ghost use Rattle.stream_laws.specs.DamageLaws.{NotWholeMisses, LaterNear};
-ghost use Rattle.stream_laws.specs.DamageLaws.{CarriesAlone, NearTold};
+ghost use Rattle.stream_laws.specs.DamageLaws.{NotWholeMisses, LaterNear, CarriesAlone, NearTold};
 ghost use Rattle.stream_laws.specs.GroupNumbers.{GroupsNumbered};
 
 use frame_groups::next_law;

@@ -1,7 +1,6 @@
 // Laws of the definitions. Their functions do nothing.
 ghost use Rattle.stream_laws.specs.FrameLaws.{SentAreFrames, FrameCarries, FramesAreStream, TestsMeet, WrittenIsFrame};
-ghost use Rattle.stream_laws.specs.FrameLaws.{KeptIsHonest};
-ghost use Rattle.stream_laws.specs.FrameLaws.{WholeArrives, WholeComes};
+ghost use Rattle.stream_laws.specs.FrameLaws.{KeptIsHonest, WholeArrives, WholeComes};
 
 use crate::damage_laws::whole_law;
 use crate::unit_laws::kept_law;

@@ -1,7 +1,6 @@
 // Laws of streams. Their functions do nothing.
 ghost use Rattle.stream_laws.specs.UnitLaws.{SurvivalLength, ReadAreSurvivors, HonestGroups, HonestNumbers};
-ghost use Rattle.stream_laws.specs.UnitLaws.{HonestRecords};
-ghost use Rattle.stream_laws.specs.UnitLaws.{KeptHonest, KeptWhole};
+ghost use Rattle.stream_laws.specs.UnitLaws.{HonestRecords, KeptHonest, KeptWhole};
 
 use crate::damage_laws::{group_law, near_law, number_law, record_law, whole_law};
 use t2mi_stream::{survives_law, survivor_law, undamaged_law};

@@ -31,8 +31,7 @@ use Rattle.file_run.specs.FileRun.{AreFed, IsFed, read_ahead}
 use Rattle.file_run.specs.declared.machine.Step.TheVariants.{Give, End}
 use Rattle.gateway_core.specs.InputSoFar.{Continues}
 use Rattle.ts_packet.proofs.FileLemmas.{NextIsBad}
-use Rattle.feed_merge.specs.Fed.{AreEarly}
-use Rattle.feed_merge.specs.Fed.{IsFedWith, NoneComes}
+use Rattle.feed_merge.specs.Fed.{AreEarly, IsFedWith, NoneComes}
 use Rattle.feed_merge.specs.Reading.{is_idle}
 use Rattle.feed_merge.proofs.BothFeedLemmas.{IsDue, due_of, due_given, waits_above}
 use Rattle.feed_merge.proofs.NumberLemmas.{below_of, above_append, below_append}
@@ -47,9 +46,8 @@ use Rattle.swap_run.specs.Shown.{Read, Shown, HasCaughtUp, WereGiven, IsIn, IsDo
 use Rattle.swap_run.specs.Shown.{finished_in}
 use Rattle.swap_run.specs.Shown as shown
 use Rattle.swap_run.specs.SwapRun.{packets_of, units_of, complete_of, slots_of, counted, WantBad, SwapsAll, HasNone}
-use Rattle.swap_run.specs.SwapRun.{MeetsBad}
-use Rattle.swap_run.specs.SwapRun.{ReadsNoFurther, TakesNoFurther, HasLate, HasSwapped, WantsMore, AreWritten, MayWrite}
-use Rattle.swap_run.specs.SwapRun.{ReadsAhead}
+use Rattle.swap_run.specs.SwapRun.{MeetsBad, ReadsNoFurther, TakesNoFurther, HasLate, HasSwapped, WantsMore, AreWritten}
+use Rattle.swap_run.specs.SwapRun.{MayWrite, ReadsAhead}
 use Rattle.swap_run.specs.Steps.{step_in, step_of, wanted_in, input_reach, drained}
 use Rattle.swap_run.specs.declared.phase.Phase.{Phase}
 use Rattle.swap_run.specs.declared.phase.Phase.TheVariants as phase

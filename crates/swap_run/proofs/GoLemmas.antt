@@ -51,12 +51,11 @@ use Rattle.record_laws.specs.Laws.{ToldCountsFit}
 use Rattle.region_swap.specs.Held.{IsHeld, HasRecord}
 use Rattle.region_swap.specs.Left.{left_by, own_list}
 use Rattle.region_swap.specs.StandsFor.{SwapperStandsFor, GivesUnits, Status, status_of, wants_of, frame_of, has_unit}
-use Rattle.region_swap.specs.StandsFor.{is_fed}
-use Rattle.region_swap.specs.StandsFor.{left_in, left_for, bytes_left}
+use Rattle.region_swap.specs.StandsFor.{is_fed, left_in, left_for, bytes_left}
 use Rattle.region_swap.specs.Swapped.{frame_in, frames_in, swapped, swapped_view}
 use Rattle.region_swap.specs.declared.swapper.Swapper.{Swapper}
-use Rattle.swap_run.specs.Shown.{ReadsPackets, Sends, HasCaughtUp, Read, IsIn, ShownAt, Shown, IsBound}
-use Rattle.swap_run.specs.Shown.{begun_in, left_at, more_units, next_in, status_in, frame_bytes}
+use Rattle.swap_run.specs.Shown.{ReadsPackets, Sends, HasCaughtUp, Read, IsIn, ShownAt, Shown, IsBound, begun_in}
+use Rattle.swap_run.specs.Shown.{left_at, more_units, next_in, status_in, frame_bytes}
 use Rattle.swap_run.specs.SwapRun.{slots_of}
 use Rattle.swap_run.specs.declared.phase.Phase.{Phase}
 use Rattle.swap_run.specs.declared.phase.Phase.TheVariants as phase
@@ -66,8 +65,7 @@ use Rattle.swap_run.proofs.BoundLemmas.{idle_left, few_swapped}
 use Rattle.swap_run.proofs.PacketLemmas.{reads_same}
 use Rattle.swap_run.proofs.SendLemmas.{frames_push, sends_told, caught_told, sends_begun, sends_units, sends_over}
 use Rattle.swap_run.proofs.ShownLemmas.{Same, feed_same, bound_as, in_records, in_packets, in_units, in_drains}
-use Rattle.swap_run.proofs.ShownLemmas.{in_rests, all_there}
-use Rattle.swap_run.proofs.ShownLemmas.{feed_network, of_in, sends_in, status_at, bound_at}
+use Rattle.swap_run.proofs.ShownLemmas.{in_rests, all_there, feed_network, of_in, sends_in, status_at, bound_at}
 use Rattle.swap_run.proofs.LiveLemmas.{live_on, live_push}
 
 -- as many slots are over at a later frame

@@ -1,17 +1,15 @@
 -- What was taken of the input of the region, event by event.
 use Rattle.std.proofs.Common.{◌≡◌, ◌≢◌, ◌⊎◌, ℕ, ◌+◌, ◌<◌, ◌≤◌, Bool, true, false, List, [], ◌∷◌, ◌++◌, length, refl, ap}
-use Rattle.std.proofs.Common.{sym, subst, ◌∙◌}
-use Rattle.std.proofs.Common.{arith, append-nil, append_assoc, length-append}
+use Rattle.std.proofs.Common.{sym, subst, ◌∙◌, arith, append-nil, append_assoc, length-append}
 use Rattle.std.specs.Prelude.{slice_index}
 use Rattle.std.proofs.lemmas.Bool.{true≢false}
-use Rattle.ts_packet.proofs.JoinedLemmas.{joined_push}
+use Rattle.ts_packet.proofs.JoinedLemmas.{joined_push, joined_append}
 use Rattle.ts_packet.specs.TsFile.{joined, begins_with_packet, packets_in, HasBad, ArePackets}
 use Rattle.ts_packet.specs.declared.sizes.TheConstants.{SIZE, SYNC}
-use Rattle.ts_packet.proofs.JoinedLemmas.{joined_append}
 use Rattle.file_run.specs.FileRun.{IsFed}
 use Rattle.gateway_core.specs.InputSoFar.{Told, with_packet, at_end, Continues}
-use Rattle.ts_packet.proofs.FileLemmas.{packets_push, IsRead, taken_few, taken_all, none_bad, not_wanted}
-use Rattle.ts_packet.proofs.FileLemmas.{next_bad, NextIsBad, still_bad}
+use Rattle.ts_packet.proofs.FileLemmas.{packets_push, IsRead, taken_few, taken_all, none_bad, not_wanted, next_bad}
+use Rattle.ts_packet.proofs.FileLemmas.{NextIsBad, still_bad}
 use Rattle.gateway_core.proofs.FileLemmas.{continues}
 use Rattle.swap_run.specs.Shown.{ReadsPackets}
 

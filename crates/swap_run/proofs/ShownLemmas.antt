@@ -1,8 +1,7 @@
 -- What is shown of bytes that came, and of their end.
 use Rattle.std.proofs.Common.{◌≡◌, ◌≢◌, ◌⊎◌, ℕ, ◌+◌, ◌-◌, ◌*◌, ◌<◌, ◌≤◌, Bool, true, false, cond, List, [], ◌∷◌, ◌++◌}
-use Rattle.std.proofs.Common.{length}
+use Rattle.std.proofs.Common.{length, refl, ap, sym, subst, ◌∙◌, arith, length-append, inl, inr}
 use Rattle.std.proofs.Math.Logic.{∥∥₁_map}
-use Rattle.std.proofs.Common.{refl, ap, sym, subst, ◌∙◌, arith, length-append, inl, inr}
 use Rattle.std.specs.Prelude.{slice_index}
 use Rattle.std.proofs.lemmas.Bool.{true≢false}
 use Rattle.gateway_core.proofs.HoldsLemmas.{cont_packet, cont_end}
@@ -27,9 +26,8 @@ use Rattle.region_swap.specs.declared.swapper.Swapper.{Swapper}
 use Rattle.region_swap.proofs.SwapLemmas.{wants_told}
 use Rattle.swap_run.specs.AsMachine.{Becomes}
 use Rattle.swap_run.specs.Shown.{HasShown, ReadsPackets, Sends, HasCaughtUp, Read, InRecords, InPackets, InUnits}
-use Rattle.swap_run.specs.Shown.{InDrains, InRests}
-use Rattle.swap_run.specs.Shown.{IsBehindAll, IsWanted, IsIn, ShownAt, Shown, IsBound, begun_in, next_in, left_at}
-use Rattle.swap_run.specs.Shown.{more_units, status_in}
+use Rattle.swap_run.specs.Shown.{InDrains, InRests, IsBehindAll, IsWanted, IsIn, ShownAt, Shown, IsBound, begun_in}
+use Rattle.swap_run.specs.Shown.{next_in, left_at, more_units, status_in}
 use Rattle.swap_run.specs.declared.phase.Phase.{Phase}
 use Rattle.swap_run.specs.declared.phase.Phase.TheVariants as phase
 use Rattle.swap_run.specs.declared.stop.SwapStop.TheVariants.{InputRefused}

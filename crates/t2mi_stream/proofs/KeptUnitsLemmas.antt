@@ -1,9 +1,7 @@
 -- Units that are kept go on with a run, and each byte of it that begins a packet begins whole packets up to the end.
 use Rattle.std.proofs.Common.{◌≡◌, ℕ, zero, suc, ◌+◌, ◌-◌, ◌*◌, ◌%◌, ◌^◌, ◌<◌, ◌≤◌, Bool, true, false, List, [], ◌∷◌}
-use Rattle.std.proofs.Common.{◌++◌}
-use Rattle.std.proofs.Common.{length, take, drop, Option, Some, refl, ap, sym, subst, ◌∙◌, inl, inr, ⊎_elim, arith}
-use Rattle.std.proofs.Common.{append_assoc}
-use Rattle.std.proofs.Common.{append-nil, length-append, length-drop, eq-eqb, take-add}
+use Rattle.std.proofs.Common.{◌++◌, length, take, drop, Option, Some, refl, ap, sym, subst, ◌∙◌, inl, inr, ⊎_elim}
+use Rattle.std.proofs.Common.{arith, append_assoc, append-nil, length-append, length-drop, eq-eqb, take-add}
 use Rattle.std.specs.Prelude.{option_to_list, option_map, flat_map}
 use Rattle.std.proofs.lemmas.List.{drop-drop, drop_at, take_all, drop_all}
 use Rattle.std.proofs.lemmas.Bool.{cond-true, cond-false, cond_both, cases_lt, both_ways}

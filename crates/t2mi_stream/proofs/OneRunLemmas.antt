@@ -1,9 +1,7 @@
 -- Units that are kept, one behind another, are one run, and each start of it begins a packet.
-use Rattle.std.proofs.Common.{◌≡◌, ℕ, zero, suc, ◌+◌, ◌-◌, ◌*◌, ◌%◌, ◌^◌, ◌<◌, ◌≤◌, true, false, List, [], ◌∷◌}
-use Rattle.std.proofs.Common.{◌++◌, length, take, drop, Option, Some, option_map, refl, ap, sym, subst}
-use Rattle.std.proofs.Common.{◌∙◌, inl, inr, ⊎_elim, arith, append_assoc, append-nil, length-append, length-drop}
-use Rattle.std.proofs.Common.{eq-eqb}
-use Rattle.std.proofs.Common.{take-append-drop}
+use Rattle.std.proofs.Common.{◌≡◌, ℕ, zero, suc, ◌+◌, ◌-◌, ◌*◌, ◌%◌, ◌^◌, ◌<◌, ◌≤◌, true, false, List, [], ◌∷◌, ◌++◌}
+use Rattle.std.proofs.Common.{length, take, drop, Option, Some, option_map, refl, ap, sym, subst, ◌∙◌, inl, inr, ⊎_elim}
+use Rattle.std.proofs.Common.{arith, append_assoc, append-nil, length-append, length-drop, eq-eqb, take-append-drop}
 use Rattle.std.specs.Prelude.{flat_map}
 use Rattle.std.proofs.lemmas.List.{drop-drop, drop_at, drop_all, length-take-le}
 use Rattle.std.proofs.lemmas.List.Concat.{flat_map-append}
@@ -20,8 +18,7 @@ use Rattle.t2mi_stream.specs.Pipes.{is_first}
 use Rattle.t2mi_stream.specs.Received.{Fate, left_of, left_number, fate_of}
 use Rattle.t2mi_stream.specs.Received.Fate.{Kept}
 use Rattle.t2mi_stream.specs.Laws.{Among, ArePackets, IsStart, EndsAt}
-use Rattle.t2mi_stream.specs.Survivors.{placed_from}
-use Rattle.t2mi_stream.specs.Survivors.{AreKept}
+use Rattle.t2mi_stream.specs.Survivors.{placed_from, AreKept}
 use Rattle.t2mi_stream.specs.SpellLaws.{SpellLaws}
 use Rattle.t2mi_stream.proofs.PipeLemmas.{length-values, part_size, length-items}
 use Rattle.t2mi_stream.proofs.FitLemmas.{Fits, fits_append, fits_drop, fits_len, There, fits_packet}

@@ -1,7 +1,7 @@
 -- A sent packet is accepted at its place if the units that carry it are kept.
-use Rattle.std.proofs.Common.{◌≡◌, ℕ, zero, suc, ◌+◌, ◌-◌, ◌*◌, ◌%◌, ◌^◌, ◌<◌, ◌≤◌, true, List, [], ◌∷◌, ◌++◌}
-use Rattle.std.proofs.Common.{length, take, drop, Some, refl, ap, sym, subst, ◌∙◌, ⊎_elim, arith, append_assoc}
-use Rattle.std.proofs.Common.{length-append, length-drop, take-add}
+use Rattle.std.proofs.Common.{◌≡◌, ℕ, zero, suc, ◌+◌, ◌-◌, ◌*◌, ◌%◌, ◌^◌, ◌<◌, ◌≤◌, true, List, [], ◌∷◌, ◌++◌, length}
+use Rattle.std.proofs.Common.{take, drop, Some, refl, ap, sym, subst, ◌∙◌, ⊎_elim, arith, append_assoc, length-append}
+use Rattle.std.proofs.Common.{length-drop, take-add}
 use Rattle.std.specs.Prelude.{option_map, flat_map}
 use Rattle.std.proofs.lemmas.List.{drop-append-le, drop-drop, drop_at, drop_all, length-take-le}
 use Rattle.std.proofs.lemmas.List.Concat.{flat_map-append}
@@ -23,10 +23,8 @@ use Rattle.t2mi_stream.proofs.StartsLemmas.{starts_law}
 use Rattle.t2mi_stream.proofs.FitLemmas.{Fits, fits_append, fits_drop, fits_len, chain, stands_there}
 use Rattle.t2mi_stream.proofs.ReadsLemmas.{UnitLaws, unit_reads, carried_fits, carried_mark}
 use Rattle.t2mi_stream.proofs.KeptUnitsLemmas.{one_unit, entered, GoesOn, goes_along, kept_front, among_left}
-use Rattle.t2mi_stream.proofs.KeptUnitsLemmas.{among_right, Whole}
-use Rattle.t2mi_stream.proofs.KeptUnitsLemmas.{whole_drop, whole_joined, take_over, first_take, first_append, Least}
-use Rattle.t2mi_stream.proofs.KeptUnitsLemmas.{least_first}
-use Rattle.t2mi_stream.proofs.KeptUnitsLemmas.{place_at, between}
+use Rattle.t2mi_stream.proofs.KeptUnitsLemmas.{among_right, Whole, whole_drop, whole_joined, take_over, first_take}
+use Rattle.t2mi_stream.proofs.KeptUnitsLemmas.{first_append, Least, least_first, place_at, between}
 
 -- A packet that begins in the first of the units, and whose units are kept.
 module _ (g : SpellLaws) (w : UnitLaws) (front : AcceptedFront) (pid : ℕ) (fits_pid : pid < 2 ^ 13) (p : List ℕ)

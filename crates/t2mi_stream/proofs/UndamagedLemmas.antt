@@ -1,8 +1,7 @@
 -- If all units from one on are kept, they are one run: every accepted packet is a sent one at its place, and the
 -- packets that begin in these units survive.
-use Rattle.std.proofs.Common.{◌≡◌, ℕ, suc, ◌+◌, ◌-◌, ◌*◌, ◌^◌, ◌<◌, ◌≤◌, Bool, true, false, nat_le, List, [], ◌∷◌}
-use Rattle.std.proofs.Common.{◌++◌, map, length, drop, Option, Some, None, option_map, replicate, refl, ap, ap₂, sym}
-use Rattle.std.proofs.Common.{subst}
+use Rattle.std.proofs.Common.{◌≡◌, ℕ, suc, ◌+◌, ◌-◌, ◌*◌, ◌^◌, ◌<◌, ◌≤◌, Bool, true, false, nat_le, List, [], ◌∷◌, ◌++◌}
+use Rattle.std.proofs.Common.{map, length, drop, Option, Some, None, option_map, replicate, refl, ap, ap₂, sym, subst}
 use Rattle.std.proofs.Common.{◌∙◌, ⊎_elim, arith, append_assoc, append-nil, length-append, length-drop}
 use Rattle.std.specs.Prelude.{flat_map}
 use Rattle.std.proofs.lemmas.List.Concat.{flat_map-append}
@@ -12,13 +11,11 @@ use Rattle.t2mi_packet.specs.Spell.{spell}
 use Rattle.t2mi_stream.specs.Accepted.{Byte, AcceptedPacket, packet_of, accepted}
 use Rattle.t2mi_stream.specs.Candidate.{placed}
 use Rattle.t2mi_stream.specs.Units.{Cut, goes_on, no_cut, piped_units, runs, accepted_of}
-use Rattle.t2mi_stream.specs.Pipe.{JoinedByte, items, joined, pipe}
-use Rattle.t2mi_stream.specs.Pipe.{carried_len, offset_in}
+use Rattle.t2mi_stream.specs.Pipe.{JoinedByte, items, joined, pipe, carried_len, offset_in}
 use Rattle.t2mi_stream.specs.Received.{Fate, AlteredWhole}
 use Rattle.t2mi_stream.specs.Laws.{Among, ArePackets, Survives}
 use Rattle.t2mi_stream.specs.Survivors.{unit_number, received_place, placed_from, sent_packets, received_packets}
-use Rattle.t2mi_stream.specs.Survivors.{is_accepted}
-use Rattle.t2mi_stream.specs.Survivors.{AreSent, begun_from, AreKept}
+use Rattle.t2mi_stream.specs.Survivors.{is_accepted, AreSent, begun_from, AreKept}
 use Rattle.t2mi_stream.specs.SurvivorLaws.{IsUndamaged, KeptUndamaged, SurvivalTold}
 use Rattle.t2mi_stream.specs.SpellLaws.{SpellLaws}
 use Rattle.t2mi_stream.proofs.PipeLemmas.{carried_add, carried_mono, length-items}
@@ -27,8 +24,7 @@ use Rattle.t2mi_stream.proofs.ReadsLemmas.{UnitLaws}
 use Rattle.t2mi_stream.proofs.SurviveLemmas.{Later, later}
 use Rattle.t2mi_stream.proofs.SurvivorLemmas.{Carries, carries, flag_at}
 use Rattle.t2mi_stream.proofs.OneRunLemmas.{carried_all, one_run, all_fits, place_in_run, units_all, all_left}
-use Rattle.t2mi_stream.proofs.OneRunLemmas.{kept_number}
-use Rattle.t2mi_stream.proofs.OneRunLemmas.{placed_there, IsOne, is_one}
+use Rattle.t2mi_stream.proofs.OneRunLemmas.{kept_number, placed_there, IsOne, is_one}
 
 -- The place of a byte that is received.
 module _ (pid : ℕ) (packets : List (List ℕ)) (from : ℕ) (fates : List Fate) where

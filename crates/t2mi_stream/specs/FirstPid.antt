@@ -1,7 +1,6 @@
 -- The PID of the T2-MI in a file of units: the first one that a unit tells.
 use Rattle.std.specs.Prelude.{◌≡◌, ℕ, ◌*◌, ◌/◌, ◌<◌, ◌≤◌, ◌==◌, ◌&&◌, nat_lt, not, List, [], ◌++◌, length, map, take}
-use Rattle.std.specs.Prelude.{slice_get}
-use Rattle.std.specs.Prelude.{option_to_list, flat_map, Some, None, if◌then◌else◌}
+use Rattle.std.specs.Prelude.{slice_get, option_to_list, flat_map, Some, None, if◌then◌else◌}
 use Rattle.std.specs.List.{range_with_len}
 use Rattle.std.specs.declared.option.Option.{Option}
 use Rattle.ts_packet.specs.declared.sizes.TheConstants.{SIZE}

@@ -1,7 +1,6 @@
 -- What is accepted, and which sent packets that are.
 use Rattle.std.specs.Prelude.{◌≡◌, ℕ, ◌+◌, ◌^◌, ◌<◌, ◌≤◌, true, false, List, [], ◌∷◌, ◌++◌, length, drop, map}
-use Rattle.std.specs.Prelude.{replicate}
-use Rattle.std.specs.Prelude.{slice_get, Some}
+use Rattle.std.specs.Prelude.{replicate, slice_get, Some}
 use Rattle.std.specs.List.{items_where_true}
 use Rattle.t2mi_stream.specs.Accepted.{Byte, AcceptedPacket, front_packet}
 use Rattle.t2mi_stream.specs.Units.{runs, accepted_of}

@@ -1,7 +1,6 @@
 -- Sent packets among the packets that are accepted of what is received.
 use Rattle.std.specs.Prelude.{◌≡◌, ◌<◌, ℕ, zero, suc, ◌+◌, ◌-◌, ◌==◌, ◌&&◌, nat_lt, nat_le, Bool, false, List, [], ◌∷◌}
-use Rattle.std.specs.Prelude.{length}
-use Rattle.std.specs.Prelude.{drop, map, bytes_eq, Option, Some, None, option_map, if◌then◌else◌}
+use Rattle.std.specs.Prelude.{length, drop, map, bytes_eq, Option, Some, None, option_map, if◌then◌else◌}
 use Rattle.std.specs.List.{list_any}
 use Rattle.t2mi_stream.specs.Accepted.{AcceptedPacket}
 use Rattle.t2mi_stream.specs.Laws.{Among}

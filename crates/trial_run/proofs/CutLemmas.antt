@@ -1,7 +1,6 @@
 -- Packets that are counted, and records that are cut, one by one.
 use Rattle.std.proofs.Common.{◌≡◌, ℕ, ◌+◌, Bool, true, false, cond, List, [], ◌∷◌, ◌++◌, length, take, drop, refl, ap}
-use Rattle.std.proofs.Common.{sym, ◌∙◌}
-use Rattle.std.proofs.Common.{length-append, ◌<◌}
+use Rattle.std.proofs.Common.{sym, ◌∙◌, length-append, ◌<◌}
 use Rattle.std.specs.Prelude.{not, ◌||◌, slice_index_or}
 use Rattle.std.specs.List.{filter, range_with_len}
 use Rattle.std.specs.Str.{bytes_eq}

@@ -1,7 +1,6 @@
 -- Runs over desks in memory: what such a desk holds at first, and what a run leaves on it.
 use Rattle.std.proofs.Common.{◌≡◌, ℕ, zero, suc, ◌<◌, List, [], ◌∷◌, codes, length, Option, Some, refl, ap, sym, subst}
-use Rattle.std.proofs.Common.{◌∙◌}
-use Rattle.std.proofs.Common.{arith, ◌≢◌, map, get_or, Vec, Global}
+use Rattle.std.proofs.Common.{◌∙◌, arith, ◌≢◌, map, get_or, Vec, Global}
 use Rattle.std.specs.Prelude.{Ok, IfSome, unwrap_or, option_and_then, slice_index_or}
 use Rattle.std.specs.List.{range_with_len}
 use Rattle.std.proofs.lemmas.List.{get_or-map, length-map}

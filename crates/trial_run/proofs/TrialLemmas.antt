@@ -1,8 +1,7 @@
 -- A trial, from its inputs to its lines.
 use Rattle.std.proofs.Common.{◌≡◌, ℕ, suc, ◌+◌, ◌*◌, ◌<◌, ◌≤◌, ◌⊎◌, List, [], ◌∷◌, ◌++◌, length, map, refl, ap, sym}
-use Rattle.std.proofs.Common.{subst}
-use Rattle.std.proofs.Common.{◌∙◌, arith, inl, inr, append-nil, append_assoc, length-append, get_or-append-add, Vec}
-use Rattle.std.proofs.Common.{Global}
+use Rattle.std.proofs.Common.{subst, ◌∙◌, arith, inl, inr, append-nil, append_assoc, length-append, get_or-append-add}
+use Rattle.std.proofs.Common.{Vec, Global}
 use Rattle.std.specs.Prelude.{slice_index_or}
 use Rattle.std.specs.List.{concat, range_with_len}
 use Rattle.std.proofs.lemmas.Bool.{cases_lt}
@@ -19,8 +18,7 @@ use Rattle.trial_run.specs.Losses.{kept_from}
 use Rattle.trial_run.specs.Made.{IsModulated, IsMade, HasLines}
 use Rattle.trial_run.specs.Stages.{AreFiles, IsSent}
 use Rattle.trial_run.specs.Trial.{stream_of, lossy_of, stream_line, whole_line, lossy_line, plp_line, ComesOf}
-use Rattle.trial_run.specs.Trial.{IsPlpLine}
-use Rattle.trial_run.specs.Trial.{IsSameCount, ArePlpLines, IsNetworkText}
+use Rattle.trial_run.specs.Trial.{IsPlpLine, IsSameCount, ArePlpLines, IsNetworkText}
 use Rattle.trial_run.specs.TrialInput.{behind, input_len, input_from, start_of, input_of}
 use Rattle.trial_run.specs.declared.stages.Modulated.{Modulated}
 use Rattle.trial_run.specs.declared.stages.Sent.{Sent}

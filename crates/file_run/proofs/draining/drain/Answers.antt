@@ -1,8 +1,7 @@
 use Rattle.std.proofs.Common.{refl, sym, ◌∙◌, inl, inr, arith}
 use Rattle.std.proofs.lemmas.Result.{on_ok_weaker, on_err_weaker, err_from_is_err_and}
 use Rattle.file_run.proofs.DrainLemmas.{drained_none, drained_some, drained_more, drained_all, drained_short}
-use Rattle.file_run.proofs.DrainLemmas.{gave_first}
-use Rattle.file_run.proofs.DrainLemmas.{waits_first, came_on}
+use Rattle.file_run.proofs.DrainLemmas.{gave_first, waits_first, came_on}
 use Rattle.file_run.proofs.draining.drain.Goals as goal
 
 pub loop-desk-init : goal.loop-desk-init

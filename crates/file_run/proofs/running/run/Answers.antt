@@ -3,9 +3,8 @@ use Rattle.file_run.specs.Running.{start_of}
 use Rattle.file_run.specs.Sink.{sink_of}
 use Rattle.file_run.proofs.FedLemmas.{less_left}
 use Rattle.file_run.proofs.RunningLemmas.{running_first, running_drained, stopped_drained, running_fed, stopped_fed}
-use Rattle.file_run.proofs.RunningLemmas.{run_all}
-use Rattle.file_run.proofs.RunningLemmas.{at_end, not_ended, can_go_on, reader_of, place_first, is_open, stays_open}
-use Rattle.file_run.proofs.RunningLemmas.{running_came, came_fed}
+use Rattle.file_run.proofs.RunningLemmas.{run_all, at_end, not_ended, can_go_on, reader_of, place_first, is_open}
+use Rattle.file_run.proofs.RunningLemmas.{stays_open, running_came, came_fed}
 use Rattle.file_run.proofs.running.run.Goals as goal
 
 pub returns-in-Err-clause-err : goal.returns-in-Err-clause-err

@@ -1,6 +1,5 @@
 use Rattle.std.proofs.Common.{rules, ◌≡◌, ◌+◌, ◌-◌, ◌<◌, ◌++◌, ◌∷◌, ◌∙◌, [], ℕ, List, true, false, length, drop, take}
-use Rattle.std.proofs.Common.{ap, sym}
-use Rattle.std.proofs.Common.{subst}
+use Rattle.std.proofs.Common.{ap, sym, subst}
 use Rattle.std.specs.Prelude.{slice_get, Some}
 use Rattle.std.proofs.lemmas.List.{drop-drop}
 use Rattle.terms.specs.Bits.{bytes_of}
@@ -13,8 +12,7 @@ use Rattle.t2mi_stream.specs.PiperStandsFor.{PiperStandsFor, is_finished}
 use Rattle.frame_writer.specs.Carried.{Standing, AfterPiece, Carries}
 use Rattle.frame_writer.specs.Flowing.{Flows, rest_of}
 use Rattle.frame_writer.proofs.CarriedLemmas.{carries_unit, carries_none, carries_given, carries_complete}
-use Rattle.frame_writer.proofs.CarriedLemmas.{carries_caught_up}
-use Rattle.frame_writer.proofs.CarriedLemmas.{carries_feed, piece_after, unit_after, known_after}
+use Rattle.frame_writer.proofs.CarriedLemmas.{carries_caught_up, carries_feed, piece_after, unit_after, known_after}
 use Rattle.frame_writer.proofs.FlowLemmas.{going_when, rest_from}
 use Rattle.frame_writer.proofs.flow.Outlet.next.Goals as goal
 

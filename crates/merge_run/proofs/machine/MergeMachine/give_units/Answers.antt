@@ -12,8 +12,7 @@ use Rattle.merge_run.specs.declared.stop.MergeRan.{MergeRan}
 use Rattle.feed_merge.specs.declared.seen.Feed.TheVariants.{A, B}
 use Rattle.feed_merge.proofs.BothCameLemmas.{test_of, less_of}
 use Rattle.merge_run.proofs.GiveLemmas.{giving, same_network, left_behind, whole_first, whole_second, early_first}
-use Rattle.merge_run.proofs.GiveLemmas.{early_second}
-use Rattle.merge_run.proofs.GiveLemmas.{few_more, shown_units, left_full, shown_behind, counted_units}
+use Rattle.merge_run.proofs.GiveLemmas.{early_second, few_more, shown_units, left_full, shown_behind, counted_units}
 use Rattle.merge_run.proofs.TakeLemmas.{can_whole}
 use Rattle.merge_run.proofs.machine.MergeMachine.give_units.Goals as goal
 

@@ -1,6 +1,5 @@
 use Rattle.std.proofs.Common.{◌≡◌, ◌⊎◌, ◌<◌, ◌+◌, ◌++◌, ◌∙◌, ℕ, List, false, take, ap, sym, subst, inl, inr, ⊎_elim}
-use Rattle.std.proofs.Common.{arith, rules}
-use Rattle.std.proofs.Common.{length-drop}
+use Rattle.std.proofs.Common.{arith, rules, length-drop}
 use Rattle.std.proofs.lemmas.List.{take_rest}
 use Rattle.std.proofs.lemmas.Bool.{true≢false}
 use Rattle.plp_config.specs.declared.moment.TheConstants.{MOST_FRAMES}

@@ -4,8 +4,7 @@ use Rattle.plp_config.specs.Capacity.{block_bytes}
 use Rattle.linked_pool.specs.Pool.{appended, chunks_for}
 use Rattle.open_group.specs.Sent.{held_bytes}
 use Rattle.open_group.proofs.BlockLemmas.{stray_counted, stray_listed, wrong_counted, wrong_listed, right_counted}
-use Rattle.open_group.proofs.BlockLemmas.{right_listed}
-use Rattle.open_group.proofs.BlockLemmas.{kept_right}
+use Rattle.open_group.proofs.BlockLemmas.{right_listed, kept_right}
 use Rattle.open_group.specs.HoldsBlocks.{Held}
 use Rattle.open_group.proofs.blocks.HeldBlocks.add_block.Goals as goal
 

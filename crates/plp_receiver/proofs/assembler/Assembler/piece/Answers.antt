@@ -2,8 +2,7 @@ use Rattle.std.proofs.Common.{◌+◌, ◌++◌, length, ℕ, List, arith, subst
 use Rattle.plp_receiver.specs.Pieces.{piece_items}
 use Rattle.plp_receiver.specs.Assembles.{AssemblerStands, Gains, AssemblerStandsFor}
 use Rattle.plp_receiver.proofs.OutLemmas.{idle_out, idle_gains_out, over_out, over_gains_out, short_out}
-use Rattle.plp_receiver.proofs.OutLemmas.{short_gains_out, end_out}
-use Rattle.plp_receiver.proofs.OutLemmas.{end_gains_out, front_is}
+use Rattle.plp_receiver.proofs.OutLemmas.{short_gains_out, end_out, end_gains_out, front_is}
 use Rattle.plp_receiver.proofs.assembler.Assembler.piece.Goals as goal
 
 pub returns-then-is_idle-clause-stands : goal.returns-then-is_idle-clause-stands

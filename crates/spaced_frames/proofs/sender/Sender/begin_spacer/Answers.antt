@@ -1,5 +1,4 @@
-use Rattle.std.proofs.Common.{◌∙◌, ap}
-use Rattle.std.proofs.Common.{◌∷◌, [], ℕ}
+use Rattle.std.proofs.Common.{◌∙◌, ap, ◌∷◌, [], ℕ}
 use Rattle.t2mi_packet.specs.declared.packet.Body.TheVariants.{Timestamp}
 use Rattle.frame_writer.specs.FramePackets.{stamp_of}
 use Rattle.spaced_frames.proofs.SendLemmas.{sends_begun_as}

@@ -8,9 +8,8 @@ use Rattle.swap_run.specs.declared.stop.SwapRan.{SwapRan}
 use Rattle.swap_run.specs.Steps.{wanted_in}
 use Rattle.swap_run.proofs.GoLemmas.{few_more, less_left, shown_full, shown_behind}
 use Rattle.swap_run.proofs.NextLemmas.{left_by, number_most, reach_on, drained_on, slots_behind, slots_status, frame_is}
-use Rattle.swap_run.proofs.NextLemmas.{units_begun, sent_in}
-use Rattle.swap_run.proofs.NextLemmas.{units_early, units_whole, units_waits, units_at, counted_units, gave_same}
-use Rattle.swap_run.proofs.NextLemmas.{some_units}
+use Rattle.swap_run.proofs.NextLemmas.{units_begun, sent_in, units_early, units_whole, units_waits, units_at}
+use Rattle.swap_run.proofs.NextLemmas.{counted_units, gave_same, some_units}
 use Rattle.swap_run.proofs.machine.SwapMachine.give_units.Goals as goal
 
 pub frame-frame-requires : goal.frame-frame-requires

@@ -8,9 +8,8 @@ use Rattle.swap_run.specs.Shown.{HasShown, more_units, frame_bytes}
 use Rattle.swap_run.specs.declared.phase.Phase.TheVariants as phase
 use Rattle.swap_run.proofs.GoLemmas.{shown_skip, shown_begin, is_frame, held_there, begun_few}
 use Rattle.swap_run.proofs.NextLemmas.{left_by, number_most, few_counted, reach_on, slots_in, slots_behind}
-use Rattle.swap_run.proofs.NextLemmas.{slots_status, frame_is}
-use Rattle.swap_run.proofs.NextLemmas.{packets_early, packets_behind, packets_idle, packets_free, packets_open}
-use Rattle.swap_run.proofs.NextLemmas.{is_muted, not_muted, sent_in}
+use Rattle.swap_run.proofs.NextLemmas.{slots_status, frame_is, packets_early, packets_behind, packets_idle}
+use Rattle.swap_run.proofs.NextLemmas.{packets_free, packets_open, is_muted, not_muted, sent_in}
 use Rattle.swap_run.proofs.machine.SwapMachine.take_record.Goals as goal
 
 pub skip-requires-clause-waits : goal.skip-requires-clause-waits

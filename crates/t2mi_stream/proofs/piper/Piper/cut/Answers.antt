@@ -1,11 +1,9 @@
 use Rattle.std.proofs.Common.{rules, ◌≡◌, ◌+◌, ◌-◌, ◌%◌, ◌≤◌, ◌++◌, ◌∙◌, ℕ, List, Some, length, take, drop, set, ap}
-use Rattle.std.proofs.Common.{sym, arith}
-use Rattle.std.proofs.Common.{refl}
+use Rattle.std.proofs.Common.{sym, arith, refl}
 use Rattle.ts_packet.specs.Written.{written_bytes}
 use Rattle.t2mi_stream.specs.Pipe.{Part, part_of}
 use Rattle.t2mi_stream.proofs.PiperLemmas.{next_some, stands_next, left_is, kept_bytes, joined_size, may_give}
-use Rattle.t2mi_stream.proofs.PiperLemmas.{front_taken}
-use Rattle.t2mi_stream.proofs.PiperLemmas.{same_stands}
+use Rattle.t2mi_stream.proofs.PiperLemmas.{front_taken, same_stands}
 use Rattle.t2mi_stream.proofs.piper.Piper.cut.Goals as goal
 
 pub returns-clause-unit : goal.returns-clause-unit

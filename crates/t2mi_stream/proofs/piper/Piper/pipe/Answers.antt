@@ -1,6 +1,5 @@
 use Rattle.std.proofs.Common.{rules, ◌≡◌, ◌+◌, ◌-◌, ◌<◌, ◌++◌, ◌∙◌, ◌==◌, ◌&&◌, ◌||◌, ℕ, Bool, true, false, List}
-use Rattle.std.proofs.Common.{length, take}
-use Rattle.std.proofs.Common.{ap, sym, subst, arith, refl, length-take-le}
+use Rattle.std.proofs.Common.{length, take, ap, sym, subst, arith, refl, length-take-le}
 use Rattle.std.specs.Prelude.{slice_get}
 use Rattle.t2mi_stream.specs.Complete.{complete_of}
 use Rattle.t2mi_stream.specs.Pipe.{units_of, carried_len}
