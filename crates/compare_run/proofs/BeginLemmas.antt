@@ -438,9 +438,6 @@ shown_told tell c m events line s lt is = record {
   over = s.over;
 }
 
-pub left_told : (m : CompareMachine) → m.plp < plps_in m.carried → left_of (record m { plp = m.plp + 1 }) < left_of m
-left_told m lt = omega (arith, lt)
-
 -- ---- no more frames come
 
 pub shown_finished : EventsTell → (c : Config) (m : CompareMachine) (events : List Event) (line : List ℕ)

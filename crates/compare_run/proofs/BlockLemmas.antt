@@ -90,10 +90,6 @@ pub none_left : {X : Type 0} (xs : List X) → length xs ≡ 0 → xs ≡ []
 none_left [] e = refl
 none_left (x ∷ xs) e = absurd (omega (arith, e))
 
-pub either_none : (a : List (List ℕ)) → first_other [] a ≡ first_other a []
-either_none [] = refl
-either_none (x ∷ a) = refl
-
 -- ---- all blocks that are the same
 
 pub other_none : (a : List (List ℕ)) → first_other a a ≡ None

@@ -66,18 +66,6 @@ waits_at n (Some w) e = (w, refl, eqb-true w.frame n e)
 
 -- ---- what both sides are to each other
 
--- it goes by what two whole frames are only if both are whole
-pub sides_same : (x y : Side) (a b : Answer) → (x ≡ Whole → y ≡ Whole → a ≡ b) → sides_answer x y a ≡ sides_answer x y b
-sides_same Absent Absent a b same = refl
-sides_same Absent Muted a b same = refl
-sides_same Absent Whole a b same = refl
-sides_same Muted Absent a b same = refl
-sides_same Muted Muted a b same = refl
-sides_same Muted Whole a b same = refl
-sides_same Whole Absent a b same = refl
-sides_same Whole Muted a b same = refl
-sides_same Whole Whole a b same = ap Some (same refl refl)
-
 not_so : (a b : Answer) → Some a ≡ Some b → is_differing a ≡ true → is_differing b ≡ false → ⊥
 not_so a b e on off = true≢false (sym on ∙ ap is_differing (same_Some a b e) ∙ off)
 

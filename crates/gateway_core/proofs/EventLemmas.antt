@@ -3,23 +3,24 @@ use Rattle.std.proofs.Common.{◌≡◌, ◌≢◌, ℕ, zero, suc, ◌+◌, ◌
 use Rattle.std.proofs.Common.{None, refl, ap, sym, subst, ◌∙◌, inl, inr, arith, append_assoc, append-nil}
 use Rattle.std.specs.Prelude.{if◌then◌else◌}
 use Rattle.std.specs.declared.option.Option.{Option}
-use Rattle.std.proofs.lemmas.Bool.{cases_eq, ne_eqb}
+use Rattle.std.proofs.lemmas.Bool.{cases_eq, ne_eqb, cond_both}
 use Rattle.std.proofs.lemmas.Bool.Decides.{Decides-eqb}
 use Rattle.std.proofs.lemmas.Grind.{flat_map-append}
+use Rattle.std.proofs.lemmas.List.Folds.{list_any-append}
 use Rattle.plp_config.specs.declared.config.Config.{Config}
 use Rattle.gateway_core.specs.Events.{Event, Offered, Ended, Begun, Gave, Finished, packets_to, offered, ends}
 use Rattle.gateway_core.specs.Events.{has_ended, begun, given, finished}
 use Rattle.gateway_core.proofs.HoldsLemmas.{begun_same, given_same, finished_same}
 use Rattle.gateway_core.specs.Order.{is_member}
 use Rattle.gateway_core.specs.Slots.{held_at, offered_of, passed_of, passed}
-use Rattle.gateway_core.proofs.RangeLemmas.{flat_more, any_append}
+use Rattle.gateway_core.proofs.RangeLemmas.{flat_more}
 use Rattle.gateway_core.proofs.SlotLemmas.{passing}
 
 pub offered_append : (plp : ℕ) (xs ys : List Event) → offered plp (xs ++ ys) ≡ offered plp xs ++ offered plp ys
 offered_append plp xs ys = flat_map-append (packets_to plp) xs ys
 
 pub ended_append : (plp : ℕ) (xs ys : List Event) → has_ended plp (xs ++ ys) ≡ (has_ended plp xs || has_ended plp ys)
-ended_append plp xs ys = any_append (ends plp) xs ys
+ended_append plp xs ys = list_any-append (ends plp) xs ys
 
 -- ---- events that are packets and ends alone
 
@@ -79,10 +80,6 @@ one_with : (plp : ℕ) (shared : Bool) (o : Option (List ℕ)) → AreQuiet (off
 one_with plp shared None = tt
 one_with plp shared (Some packet) = (tt, tt)
 
-one_if : (b : Bool) (es : List Event) → AreQuiet es → AreQuiet (if b then es else [])
-one_if true es q = q
-one_if false es q = tt
-
 pub passed_quiet : (c : Config) (held : List (Option (List ℕ))) (turn : ℕ) (shared : Bool) (n : ℕ)
     → AreQuiet (passed c held turn shared n)
 passed_quiet c held turn shared zero = tt
@@ -91,17 +88,13 @@ passed_quiet c held turn shared (suc n) =
     subst (λ (m : ℕ). AreQuiet (passed c held turn shared m)) (sym e)
     (subst AreQuiet (sym (flat_more (passed_of c held turn shared) n))
     (quiet_append (passed c held turn shared n) (passed_of c held turn shared n) (passed_quiet c held turn shared n)
-    (one_if (is_member c turn n) (offered_of n shared (held_at held n)) (one_with n shared (held_at held n)))))
+    (cond_both (is_member c turn n) (offered_of n shared (held_at held n)) [] AreQuiet
+    (λ _. one_with n shared (held_at held n)) (λ _. tt))))
 
 -- no input ends
 no_end : (plp k : ℕ) (shared : Bool) (o : Option (List ℕ)) → has_ended plp (offered_of k shared o) ≡ false
 no_end plp k shared None = refl
 no_end plp k shared (Some packet) = refl
-
-no_end_if : (plp : ℕ) (b : Bool) (es : List Event) → has_ended plp es ≡ false
-    → has_ended plp (if b then es else []) ≡ false
-no_end_if plp true es e = e
-no_end_if plp false es e = refl
 
 pub passed_ends : (c : Config) (held : List (Option (List ℕ))) (turn : ℕ) (shared : Bool) (n plp : ℕ)
     → has_ended plp (passed c held turn shared n) ≡ false
@@ -113,7 +106,8 @@ passed_ends c held turn shared (suc n) plp =
     ∙ ended_append plp (passed c held turn shared n) (passed_of c held turn shared n)
     ∙ rw (
       passed_ends c held turn shared n plp,
-      no_end_if plp (is_member c turn n) (offered_of n shared (held_at held n)) (no_end plp n shared (held_at held n)),
+      cond_both (is_member c turn n) (offered_of n shared (held_at held n)) []
+          (λ (l : List Event). has_ended plp l ≡ false) (λ _. no_end plp n shared (held_at held n)) (λ _. refl),
     ) refl
 
 -- what each PLP is offered
@@ -133,10 +127,6 @@ other_with : (plp k : ℕ) (shared : Bool) (o : Option (List ℕ)) → plp ≢ k
 other_with plp k shared None d = refl
 other_with plp k shared (Some packet) d = rw (ne_eqb k plp (λ e. d (sym e))) refl
 
-other_if : (plp : ℕ) (b : Bool) (es : List Event) → offered plp es ≡ [] → offered plp (if b then es else []) ≡ []
-other_if plp true es e = e
-other_if plp false es e = refl
-
 step_is : (c : Config) (held : List (Option (List ℕ))) (turn : ℕ) (shared : Bool) (n plp : ℕ)
     → offered plp (passed c held turn shared (n + 1))
     ≡ offered plp (passed c held turn shared n) ++ offered plp (passed_of c held turn shared n)
@@ -147,8 +137,8 @@ step_is c held turn shared n plp =
 others_with : (c : Config) (held : List (Option (List ℕ))) (turn : ℕ) (shared : Bool) (n plp : ℕ) → plp ≢ n
     → offered plp (passed_of c held turn shared n) ≡ []
 others_with c held turn shared n plp d =
-    other_if plp (is_member c turn n) (offered_of n shared (held_at held n))
-    (other_with plp n shared (held_at held n) d)
+    cond_both (is_member c turn n) (offered_of n shared (held_at held n)) [] (λ (l : List Event). offered plp l ≡ [])
+    (λ _. other_with plp n shared (held_at held n) d) (λ _. refl)
 
 pub passed_later : (c : Config) (held : List (Option (List ℕ))) (turn : ℕ) (shared : Bool) (n plp : ℕ) → n ≤ plp
     → offered plp (passed c held turn shared n) ≡ []

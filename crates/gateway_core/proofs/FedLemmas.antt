@@ -6,7 +6,7 @@ use Rattle.std.specs.Prelude.{IfSome, slice_index_or, Result, Ok, Err, OnOk, IfE
 use Rattle.std.proofs.Math.Nat.{mul-le-mul_right}
 use Rattle.std.proofs.Math.Logic.{∥∥₁_map}
 use Rattle.std.proofs.lemmas.Grind.{not_there, flat_map-append}
-use Rattle.std.proofs.lemmas.Bool.{cases_eq}
+use Rattle.std.proofs.lemmas.Bool.{cases_eq, true≢false}
 use Rattle.std.proofs.lemmas.List.{replicate_more, get_or_append_left, length_push, length-map}
 use Rattle.std.proofs.lemmas.List.Sums.{sum_by-append}
 use Rattle.terms.specs.Bits.{bits_of}
@@ -64,85 +64,6 @@ wants total true n gap lt e = absurd (let z : 0 < 0 = subst (λ (o : Option ℕ)
     omega (arith, z))
 wants total false n gap lt e = record { still = refl; some = subst (λ (o : Option ℕ). 0 < cond (is_some o) 0 gap) e lt }
 
-room : (chain : Chain) (due slot : ℕ) (total : Option ℕ) (c : Config) (plp : ℕ) (t : Told) (early : List (List Bool))
-    (h : Fed chain due slot total c plp t early)
-    → slot < due → HasRoom c plp h.events
-room chain due slot total c plp t early h lt = omega (arith, h.within, h.slot_is, lt)
-
--- the interleaving frame that begins in the next frame is the next one
-cut_with : (chain : Chain) (due slot : ℕ) (total : Option ℕ) (c : Config) (plp : ℕ) (t : Told)
-    (early : List (List Bool))
-    (h : Fed chain due slot total c plp t early) → is_first c plp t.frame ≡ true
-    → queue.cuts h.events * epoch_ticks c plp ≡ t.frame * c.ticks
-cut_with chain due slot total c plp t early h on =
-    ap (λ (m : ℕ). m * epoch_ticks c plp) h.cuts ∙ begins_with c plp t.frame on
-
-is_due : (chain : Chain) (due slot : ℕ) (total : Option ℕ) (c : Config) (plp : ℕ) (t : Told) (early : List (List Bool))
-    (h : Fed chain due slot total c plp t early) → is_first c plp t.frame ≡ true
-    → slot ≡ due → IsDue c plp h.events
-is_due chain due slot total c plp t early h on e =
-    sym h.slot_is ∙ e ∙ h.due_is ∙ ap (slots_by c plp) (sym (cut_with chain due slot total c plp t early h on))
-
-one_more : (packets : List (List ℕ)) (x : List ℕ) (n : ℕ) → n ≡ 0 → (packets ++ replicate n null_packet) ++ x ∷ []
-    ≡ (packets ++ x ∷ []) ++ replicate n null_packet
-one_more packets x n e = rw (e, append-nil packets, append-nil (packets ++ x ∷ [])) refl
-
-pub fed_offer : (old new : Chain) (due slot : ℕ) (total : Option ℕ) (c : Config) (plp : ℕ) (t : Told) (packet : List ℕ)
-    (was is : State) (list : ℕ) → TakesIfReady old new packet was is list → HasPlace c plp was list
-    → 0 < cond (is_some total) 0 (due - slot) → Fed old due slot total c plp t (bits_in was list)
-    → Fed new due (slot + 1) total c plp (with_packet t packet) (bits_in is list)
-fed_offer old new due slot total c plp t packet was is list takes place lt h =
-    let w = wants total t.ended (length t.packets) (due - slot) lt h.total_is in
-    let before : slot < due = omega (arith, w.some) in
-    let ended : t.ended ≡ false = w.still in
-    let took = takes c plp h.events (record { stands = h.stands; put = h.early_is; place = place })
-    (room old due slot total c plp t (bits_in was list) h before) in
-    record {
-      events = h.events ++ queue.Offered packet ∷ [];
-      stands = took.stands;
-      nulls = h.nulls;
-      given = offered_push h.events packet ∙ ap (λ (l : List (List ℕ)). l ++ packet ∷ []) h.given
-          ∙ one_more t.packets packet h.nulls (h.still w.still);
-      cuts = cuts_stay h.events packet ∙ h.cuts;
-      due_is = h.due_is;
-      within = rw (cuts_stay h.events packet) h.within;
-      slot_is = ap (λ (n : ℕ). n + 1) h.slot_is ∙ sym (length_push (queue.offered h.events) packet)
-          ∙ sym (ap length (offered_push h.events packet));
-      total_is = h.total_is ∙ rw ended refl;
-      still = h.still;
-      early_is = took.blocks h.early_is;
-    }
-
-null_more : (packets : List (List ℕ)) (n : ℕ) → (packets ++ replicate n null_packet) ++ null_packet ∷ []
-    ≡ packets ++ replicate (n + 1) null_packet
-null_more packets n = append_assoc packets (replicate n null_packet) (null_packet ∷ [])
-    ∙ ap (λ (l : List (List ℕ)). packets ++ l)
-    (replicate_more n null_packet)
-
-pub fed_null : (old new : Chain) (due slot : ℕ) (total : Option ℕ) (c : Config) (plp : ℕ) (t : Told)
-    (was is : State) (list : ℕ)
-    → TakesIfReady old new null_packet was is list → HasPlace c plp was list → t.ended ≡ true
-    → slot < due → Fed old due slot total c plp t (bits_in was list)
-    → Fed new due (slot + 1) total c plp t (bits_in is list)
-fed_null old new due slot total c plp t was is list takes place ended before h =
-    let took = takes c plp h.events (record { stands = h.stands; put = h.early_is; place = place })
-    (room old due slot total c plp t (bits_in was list) h before) in
-    record {
-      events = h.events ++ queue.Offered null_packet ∷ [];
-      stands = took.stands;
-      nulls = h.nulls + 1;
-      given = offered_push h.events null_packet ∙ ap (λ (l : List (List ℕ)). l ++ null_packet ∷ []) h.given
-          ∙ null_more t.packets h.nulls;
-      cuts = cuts_stay h.events null_packet ∙ h.cuts;
-      due_is = h.due_is;
-      within = rw (cuts_stay h.events null_packet) h.within;
-      slot_is = ap (λ (n : ℕ). n + 1) h.slot_is ∙ sym (length_push (queue.offered h.events) null_packet)
-          ∙ sym (ap length (offered_push h.events null_packet));
-      total_is = h.total_is;
-      still = λ off. absurd (let z : true ≡ false = sym ended ∙ off in cc);
-      early_is = took.blocks h.early_is;
-    }
-
 alike : (n k : ℕ) (x : List ℕ) → slice_index_or (replicate n x) k x ≡ x
 alike zero k x = refl
 alike (suc n) zero x = refl
@@ -166,20 +87,6 @@ same_slots packets rest false n k still whole lt =
     let inside : k < length packets = rw none at lt in
     rw none (sym (get_or_append_left packets rest null_packet k inside))
 
--- the packets of the slots that are over are those of any input that continues
-given_blocks : BlocksLaw → (old : Chain) (due slot : ℕ) (total : Option ℕ) (c : Config) (plp : ℕ) (t : Told)
-    (early : List (List Bool)) (h : Fed old due slot total c plp t early) (input : List (List ℕ)) → IsPlan c
-    → plp < length c.plps → is_first c plp t.frame ≡ true → slot ≡ due → Continues t input
-    → blocks_of c plp (epoch_ticks c plp) (packet_at (queue.offered h.events)) (queue.cuts h.events)
-    ≡ blocks_of c plp (epoch_ticks c plp) (packet_at input) (queue.cuts h.events)
-given_blocks law old due slot total c plp t early h input plan lt on e more =
-    law c plp (packet_at (queue.offered h.events)) (packet_at input) (queue.cuts h.events) plan lt (λ k inside.
-    let by : k < slots_by c plp (t.frame * c.ticks) =
-    subst (λ (tick : ℕ). k < slots_by c plp tick) (cut_with old due slot total c plp t early h on) inside in
-    let within : k < length (t.packets ++ replicate h.nulls null_packet) = rw (← h.given, ← h.slot_is, e, h.due_is)
-    by in
-    rw (h.given, more.front) (same_slots t.packets more.rest t.ended h.nulls k h.still more.whole within))
-
 -- When the next interleaving frame begins, no fewer slots are over than when a frame does of which so many begin
 -- before.
 due_within : CountRises → SlotLength → SpreadDividesFrames → (c : Config) (plp frame due cuts : ℕ) → IsPlan c
@@ -192,66 +99,128 @@ due_within rises slot spreads c plp frame due cuts plan lt e n =
     (omega (arith, s.0, s.2)) (begins_behind c plp frame some) in
     rw (e, n) up
 
--- What the end of an interleaving frame leaves.
-pub fed_cut : BlocksLaw → CountRises → SlotLength → SpreadDividesFrames → (old new : Chain) (due slot next : ℕ)
-    (total : Option ℕ) (c : Config) (plp : ℕ) (t : Told) (was is : State) (list count : ℕ)
-    → EndsIfReady old new was is list count
-    → IsPlan c → plp < length c.plps
-    → HasPlace c plp was list → is_first c plp t.frame ≡ true → slot ≡ due
-    → next ≡ slots_by c plp ((t.frame + 1) * c.ticks)
-    → Fed old due slot total c plp t (bits_in was list)
-    → Cuts new next slot total c plp t is count
-fed_cut law rises length_of spreads old new due slot next total c plp t was is list count ends plan lt place on e n h =
-    let end = ends c plp h.events (record { stands = h.stands; put = h.early_is; place = place })
-    (is_due old due slot total c plp t (bits_in was list) h on e) in
-    let put = end.blocks h.early_is in
-    let here : list_at is plp ≡ list_at is list = ap (list_at is) (sym place.place) in
-    let some = (spreads c plp plan.rules lt).0 in
-    let cuts : queue.cuts (h.events ++ queue.Cut ∷ []) ≡ begun_before c plp (t.frame + 1) =
-    cuts_push h.events ∙ ap (λ (n : ℕ). n + 1) h.cuts ∙ sym (before_next c plp t.frame some on) in
-    record {
-      fed = record {
-        events = h.events ++ queue.Cut ∷ [];
-        stands = end.stands;
+one_more : (packets : List (List ℕ)) (x : List ℕ) (n : ℕ) → n ≡ 0 → (packets ++ replicate n null_packet) ++ x ∷ []
+    ≡ (packets ++ x ∷ []) ++ replicate n null_packet
+one_more packets x n e = rw (e, append-nil packets, append-nil (packets ++ x ∷ [])) refl
+
+null_more : (packets : List (List ℕ)) (n : ℕ) → (packets ++ replicate n null_packet) ++ null_packet ∷ []
+    ≡ packets ++ replicate (n + 1) null_packet
+null_more packets n = append_assoc packets (replicate n null_packet) (null_packet ∷ [])
+    ∙ ap (λ (l : List (List ℕ)). packets ++ l)
+    (replicate_more n null_packet)
+
+module _ {chain : Chain} {due slot : ℕ} {total : Option ℕ} {c : Config} {plp : ℕ} {t : Told} {early : List (List Bool)}
+    (h : Fed chain due slot total c plp t early) where
+  -- the interleaving frame that begins in the next frame is the next one
+  cut_with : is_first c plp t.frame ≡ true → queue.cuts h.events * epoch_ticks c plp ≡ t.frame * c.ticks
+  cut_with on = ap (λ (m : ℕ). m * epoch_ticks c plp) h.cuts ∙ begins_with c plp t.frame on
+
+  -- the packets of the slots that are over are those of any input that continues
+  given_blocks : BlocksLaw → (input : List (List ℕ)) → IsPlan c → plp < length c.plps → is_first c plp t.frame ≡ true
+      → slot ≡ due → Continues t input
+      → blocks_of c plp (epoch_ticks c plp) (packet_at (queue.offered h.events)) (queue.cuts h.events)
+      ≡ blocks_of c plp (epoch_ticks c plp) (packet_at input) (queue.cuts h.events)
+  given_blocks law input plan lt on e more =
+      law c plp (packet_at (queue.offered h.events)) (packet_at input) (queue.cuts h.events) plan lt (λ k inside.
+      let by : k < slots_by c plp (t.frame * c.ticks) =
+      subst (λ (tick : ℕ). k < slots_by c plp tick) (cut_with on) inside in
+      let within : k < length (t.packets ++ replicate h.nulls null_packet) =
+      rw (← h.given, ← h.slot_is, e, h.due_is) by in
+      rw (h.given, more.front) (same_slots t.packets more.rest t.ended h.nulls k h.still more.whole within))
+
+  -- A frame in which no interleaving frame begins leaves what there is.
+  pub fed_pass : CountRises → SlotLength → SpreadDividesFrames → (next : ℕ) → IsPlan c → plp < length c.plps
+      → is_first c plp t.frame ≡ false → next ≡ slots_by c plp ((t.frame + 1) * c.ticks)
+      → Fed chain next slot total c plp (in_next t) early
+  fed_pass rises length_of spreads next plan lt off n =
+      let some = (spreads c plp plan.rules lt).0 in
+      let cuts : queue.cuts h.events ≡ begun_before c plp (t.frame + 1) =
+      h.cuts ∙ sym (before_same c plp t.frame some off) in
+      record {
+        events = h.events;
+        stands = h.stands;
         nulls = h.nulls;
-        given = offered_stay h.events ∙ h.given;
+        given = h.given;
         cuts = cuts;
         due_is = n;
         within = due_within rises length_of spreads c plp (t.frame + 1) next _ plan lt n cuts;
-        slot_is = h.slot_is ∙ sym (ap length (offered_stay h.events));
+        slot_is = h.slot_is;
         total_is = h.total_is;
         still = h.still;
-        early_is = sym end.none_put;
-      };
-      blocks = λ input more. ap (map bits_of) here ∙ put
-          ∙ given_blocks law old due slot total c plp t (bits_in was list) h input plan lt on e more
-          ∙ ap (blocks_of c plp (epoch_ticks c plp) (packet_at input)) (h.cuts ∙ before_first c plp t.frame on);
-      count_is = end.answer ∙ ap length (sym put) ∙ length-map (list_at is list) bits_of ∙ ap length (sym here);
-    }
+        early_is = h.early_is;
+      }
 
--- A frame in which no interleaving frame begins leaves what there is.
-pub fed_pass : CountRises → SlotLength → SpreadDividesFrames → (chain : Chain) (due slot next : ℕ) (total : Option ℕ)
-    (c : Config)
-    (plp : ℕ) (t : Told) (early : List (List Bool)) → IsPlan c → plp < length c.plps → is_first c plp t.frame ≡ false
-    → next ≡ slots_by c plp ((t.frame + 1) * c.ticks) → Fed chain due slot total c plp t early
-    → Fed chain next slot total c plp (in_next t) early
-fed_pass rises length_of spreads chain due slot next total c plp t early plan lt off n h =
-    let some = (spreads c plp plan.rules lt).0 in
-    let cuts : queue.cuts h.events ≡ begun_before c plp (t.frame + 1) =
-    h.cuts ∙ sym (before_same c plp t.frame some off) in
-    record {
-      events = h.events;
-      stands = h.stands;
-      nulls = h.nulls;
-      given = h.given;
-      cuts = cuts;
-      due_is = n;
-      within = due_within rises length_of spreads c plp (t.frame + 1) next _ plan lt n cuts;
-      slot_is = h.slot_is;
-      total_is = h.total_is;
-      still = h.still;
-      early_is = h.early_is;
-    }
+module _ {old new : Chain} {due slot : ℕ} {total : Option ℕ} {c : Config} {plp : ℕ} {t : Told} (was is : State)
+    (list : ℕ)
+    (place : HasPlace c plp was list) (h : Fed old due slot total c plp t (bits_in was list)) where
+  -- a packet of the next slot, or a null packet behind the end
+  fed_take : (u : Told) (packet : List ℕ) (nulls : ℕ) → TakesIfReady old new packet was is list → slot < due
+      → u.frame ≡ t.frame
+      → (t.packets ++ replicate h.nulls null_packet) ++ packet ∷ [] ≡ u.packets ++ replicate nulls null_packet
+      → total ≡ cond u.ended (Some (length u.packets)) None → (u.ended ≡ false → nulls ≡ 0)
+      → Fed new due (slot + 1) total c plp u (bits_in is list)
+  fed_take u packet nulls takes before frame given total_is still =
+      let took = takes c plp h.events (record { stands = h.stands; put = h.early_is; place = place })
+      (omega (arith, h.within, h.slot_is, before)) in
+      record {
+        events = h.events ++ queue.Offered packet ∷ [];
+        stands = took.stands;
+        nulls = nulls;
+        given = offered_push h.events packet ∙ ap (λ (l : List (List ℕ)). l ++ packet ∷ []) h.given ∙ given;
+        cuts = rw frame (cuts_stay h.events packet ∙ h.cuts);
+        due_is = rw frame h.due_is;
+        within = rw (cuts_stay h.events packet) h.within;
+        slot_is = ap (λ (n : ℕ). n + 1) h.slot_is ∙ sym (length_push (queue.offered h.events) packet)
+            ∙ sym (ap length (offered_push h.events packet));
+        total_is = total_is;
+        still = still;
+        early_is = took.blocks h.early_is;
+      }
+
+  pub fed_offer : (packet : List ℕ) → TakesIfReady old new packet was is list → 0 < cond (is_some total) 0 (due - slot)
+      → Fed new due (slot + 1) total c plp (with_packet t packet) (bits_in is list)
+  fed_offer packet takes lt =
+      let w = wants total t.ended (length t.packets) (due - slot) lt h.total_is in
+      let ended : t.ended ≡ false = w.still in
+      fed_take (with_packet t packet) packet h.nulls takes (omega (arith, w.some)) refl
+      (one_more t.packets packet h.nulls (h.still w.still)) (h.total_is ∙ rw ended refl) h.still
+
+  pub fed_null : TakesIfReady old new null_packet was is list → t.ended ≡ true → slot < due
+      → Fed new due (slot + 1) total c plp t (bits_in is list)
+  fed_null takes ended before =
+      fed_take t null_packet (h.nulls + 1) takes before refl (null_more t.packets h.nulls) h.total_is
+      (λ off. absurd (true≢false (sym ended ∙ off)))
+
+  -- What the end of an interleaving frame leaves.
+  pub fed_cut : BlocksLaw → CountRises → SlotLength → SpreadDividesFrames → (next count : ℕ)
+      → EndsIfReady old new was is list count → IsPlan c → plp < length c.plps → is_first c plp t.frame ≡ true
+      → slot ≡ due → next ≡ slots_by c plp ((t.frame + 1) * c.ticks) → Cuts new next slot total c plp t is count
+  fed_cut law rises length_of spreads next count ends plan lt on e n =
+      let due_now : IsDue c plp h.events = sym h.slot_is ∙ e ∙ h.due_is ∙ ap (slots_by c plp) (sym (cut_with h on)) in
+      let end = ends c plp h.events (record { stands = h.stands; put = h.early_is; place = place }) due_now in
+      let put = end.blocks h.early_is in
+      let here : list_at is plp ≡ list_at is list = ap (list_at is) (sym place.place) in
+      let some = (spreads c plp plan.rules lt).0 in
+      let cuts : queue.cuts (h.events ++ queue.Cut ∷ []) ≡ begun_before c plp (t.frame + 1) =
+      cuts_push h.events ∙ ap (λ (n : ℕ). n + 1) h.cuts ∙ sym (before_next c plp t.frame some on) in
+      record {
+        fed = record {
+          events = h.events ++ queue.Cut ∷ [];
+          stands = end.stands;
+          nulls = h.nulls;
+          given = offered_stay h.events ∙ h.given;
+          cuts = cuts;
+          due_is = n;
+          within = due_within rises length_of spreads c plp (t.frame + 1) next _ plan lt n cuts;
+          slot_is = h.slot_is ∙ sym (ap length (offered_stay h.events));
+          total_is = h.total_is;
+          still = h.still;
+          early_is = sym end.none_put;
+        };
+        blocks = λ input more. ap (map bits_of) here ∙ put ∙ given_blocks h law input plan lt on e more
+            ∙ ap (blocks_of c plp (epoch_ticks c plp) (packet_at input)) (h.cuts ∙ before_first c plp t.frame on);
+        count_is = end.answer ∙ ap length (sym put) ∙ length-map (list_at is list) bits_of ∙ ap length (sym here);
+      }
 
 -- at the next frame no fewer slots are over
 pub next_due : CountRises → SlotLength → (c : Config) (plp m due next : ℕ) → AllRules c → plp < length c.plps

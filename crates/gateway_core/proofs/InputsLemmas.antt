@@ -1,9 +1,9 @@
 -- One of the inputs changes, and the others stay.
 use Rattle.std.proofs.Common.{◌≡◌, ◌≢◌, ℕ, ◌+◌, ◌*◌, ◌<◌, ◌≤◌, Bool, true, false, cond, List, [], ◌∷◌, ◌++◌, length}
-use Rattle.std.proofs.Common.{map, refl, ap, sym, subst, ◌∙◌, inl, inr, arith, append-nil, eq-eqb}
+use Rattle.std.proofs.Common.{map, refl, ap, sym, subst, ◌∙◌, inl, inr, arith, append-nil, append_assoc, eq-eqb}
 use Rattle.std.specs.Prelude.{slice_index_or, slice_index, slice_set, ◌==◌, ◌||◌}
 use Rattle.std.proofs.Math.Bool.{or-true}
-use Rattle.std.proofs.lemmas.Bool.{cases_eq, cases_lt, cases_Bool, ne_eqb}
+use Rattle.std.proofs.lemmas.Bool.{cases_eq, cases_lt, ne_eqb, true≢false}
 use Rattle.std.proofs.lemmas.Grind.{flat_map-append, same_number_lists, not_there}
 use Rattle.std.proofs.lemmas.List.{length-map, map-set, length-set, get_or-set_same, get_or-set_other, get_or-map}
 use Rattle.std.proofs.lemmas.List.{get_or_default, get_or_append_left, get_or_push}
@@ -11,6 +11,7 @@ use Rattle.std.proofs.lemmas.List.Folds.{list_any-append}
 use Rattle.std.proofs.lemmas.List.FromFn.{length-map-range_with_len, get_or-map-range_with_len}
 use Rattle.std.proofs.lemmas.List.Sums.{sum_by-append}
 use Rattle.terms.specs.Bits.{bits_of}
+use Rattle.terms.proofs.CaseLemmas.{bool_cases}
 use Rattle.linked_pool.specs.Fits.{ListFits}
 use Rattle.linked_pool.specs.Pool.{State, list_at, Others}
 use Rattle.plp_config.specs.Capacity.{IsPlan}
@@ -33,11 +34,11 @@ use Rattle.gateway_core.specs.InputSoFar.{Told, told, with_packet, at_end, in_ne
 use Rattle.gateway_core.specs.declared.input.Input.{Input}
 use Rattle.gateway_core.proofs.EpochLemmas.{same_number}
 
-told_is : (p q : List (List ℕ)) (b d : Bool) (m n : ℕ) → p ≡ q → b ≡ d → m ≡ n
+told_is : {p q : List (List ℕ)} {b d : Bool} {m n : ℕ} → p ≡ q → b ≡ d → m ≡ n
     → (let t : Told = record { packets = p; ended = b; frame = m } in t) ≡ record { packets = q; ended = d; frame = n }
-told_is p q b d m n e f g = rw (e, f, g) refl
+told_is e f g = λ i. record { packets = e i; ended = f i; frame = g i }
 
-or_false : (b : Bool) → (b || false) ≡ b
+pub or_false : (b : Bool) → (b || false) ≡ b
 or_false true = refl
 or_false false = refl
 
@@ -45,8 +46,7 @@ or_false false = refl
 pub nothing_told : (j : ℕ) (events : List Event) (e : Event) → packets_to j e ≡ [] → ends j e ≡ false → begins e ≡ false
     → told j (events ++ e ∷ []) ≡ told j events
 nothing_told j events e none still same =
-    told_is _ _ _ _ _ _
-    (flat_map-append (packets_to j) events (e ∷ []) ∙ rw none (append-nil (offered j events)))
+    told_is (flat_map-append (packets_to j) events (e ∷ []) ∙ rw none (append-nil (offered j events)))
     (list_any-append (ends j) events (e ∷ []) ∙ rw still (or_false (has_ended j events)))
     (let s = sum_by-append (λ (e : Event). cond (begins e) 1 0) events (e ∷ []) in
     omega (arith, s, ap (λ (b : Bool). cond {A = ℕ} b 1 0) same))
@@ -55,23 +55,20 @@ pub told_offered : (plp : ℕ) (events : List Event) (packet : List ℕ) → tol
     ≡ with_packet (told plp events) packet
 told_offered plp events packet =
     let self : (plp == plp) ≡ true = eq-eqb plp plp refl in
-    told_is _ _ _ _ _ _
-    (flat_map-append (packets_to plp) events (Offered plp packet ∷ []) ∙ rw self refl)
+    told_is (flat_map-append (packets_to plp) events (Offered plp packet ∷ []) ∙ rw self refl)
     (list_any-append (ends plp) events (Offered plp packet ∷ []) ∙ or_false (has_ended plp events))
     (let s = sum_by-append (λ (e : Event). cond (begins e) 1 0) events (Offered plp packet ∷ []) in omega (arith, s))
 
 pub told_ended : (plp : ℕ) (events : List Event) → told plp (events ++ Ended plp ∷ []) ≡ at_end (told plp events)
 told_ended plp events =
     let self : (plp == plp) ≡ true = eq-eqb plp plp refl in
-    told_is _ _ _ _ _ _
-    (flat_map-append (packets_to plp) events (Ended plp ∷ []) ∙ append-nil (offered plp events))
+    told_is (flat_map-append (packets_to plp) events (Ended plp ∷ []) ∙ append-nil (offered plp events))
     (list_any-append (ends plp) events (Ended plp ∷ []) ∙ rw self (or-true (has_ended plp events)))
     (let s = sum_by-append (λ (e : Event). cond (begins e) 1 0) events (Ended plp ∷ []) in omega (arith, s))
 
 pub told_begun : (j : ℕ) (events : List Event) → told j (events ++ Begun ∷ []) ≡ in_next (told j events)
 told_begun j events =
-    told_is _ _ _ _ _ _
-    (flat_map-append (packets_to j) events (Begun ∷ []) ∙ append-nil (offered j events))
+    told_is (flat_map-append (packets_to j) events (Begun ∷ []) ∙ append-nil (offered j events))
     (list_any-append (ends j) events (Begun ∷ []) ∙ or_false (has_ended j events))
     (let s = sum_by-append (λ (e : Event). cond (begins e) 1 0) events (Begun ∷ []) in omega (arith, s))
 
@@ -79,13 +76,21 @@ told_begun j events =
 pub cont_next : (t : Told) (input : List (List ℕ)) → Continues (in_next t) input → Continues t input
 cont_next t input h = record { rest = h.rest; front = h.front; whole = h.whole }
 
-pub back_begun : (c : Config) (events : List Event) (all : ℕ → List (List ℕ)) → AllContinue c (events ++ Begun ∷ []) all
+-- So it does with any event that is no packet of an input that ended.
+pub back : (c : Config) (events : List Event) (e : Event) (all : ℕ → List (List ℕ))
+    → ((j : ℕ) → has_ended j events ≡ true → packets_to j e ≡ []) → AllContinue c (events ++ e ∷ []) all
     → AllContinue c events all
-back_begun c events all h =
-    λ j lt. cont_next (told j events) (all j) (subst (λ (t : Told). Continues t (all j)) (told_begun j events) (h j lt))
-
-differs : (a b : ℕ) → a ≢ b → (a == b) ≡ false
-differs a b ne = ne_eqb a b ne
+back c events e all none h = λ j lt.
+    let more = h j lt in
+    let front : offered j (events ++ e ∷ []) ≡ offered j events ++ packets_to j e =
+    flat_map-append (packets_to j) events (e ∷ [])
+    ∙ ap (λ (l : List (List ℕ)). offered j events ++ l) (append-nil (packets_to j e)) in
+    record {
+      rest = packets_to j e ++ more.rest;
+      front = more.front ∙ ap (λ (l : List (List ℕ)). l ++ more.rest) front
+          ∙ append_assoc (offered j events) (packets_to j e) more.rest;
+      whole = λ on. rw (none j on) (more.whole (list_any-append (ends j) events (e ∷ []) ∙ rw on refl));
+    }
 
 -- one input has one event more, and perhaps put a block; d is any default
 one_fed : (items : List Input) (s : ℕ) (d new : Input) (early late : ℕ → List (List Bool)) (c : Config)
@@ -142,7 +147,7 @@ pub fed_offered : EarlyFits → (items : List Input) (s : ℕ) (d new : Input) (
     → AllFed (slice_set items s new) (bits_in is) c (events ++ Offered s packet ∷ [])
 fed_offered fits items s d new packet was is c events lt more o whole frame h =
     one_fed items s d new (bits_in was) (bits_in is) c events (Offered s packet) lt
-    (λ j differ. nothing_told j events (Offered s packet) (rw (differs s j (λ e. differ (sym e))) refl) refl refl)
+    (λ j differ. nothing_told j events (Offered s packet) (rw (ne_eqb s j (λ e. differ (sym e))) refl) refl refl)
     (λ j differ. ap (map bits_of) (o.lists j differ))
     (λ old. subst (λ (t : Told). IsFed new c s t (bits_in is s)) (sym (told_offered s events packet))
     (more c s (told s events) (has_place fits items d was s c events whole frame h) old)) h
@@ -155,7 +160,7 @@ pub fed_ended : (items : List Input) (s : ℕ) (d new : Input) (early : ℕ → 
     → AllFed items early c events → AllFed (slice_set items s new) early c (events ++ Ended s ∷ [])
 fed_ended items s d new early c events lt more h =
     one_fed items s d new early early c events (Ended s) lt
-    (λ j differ. nothing_told j events (Ended s) refl (rw (differs s j (λ e. differ (sym e))) refl) refl)
+    (λ j differ. nothing_told j events (Ended s) refl (ne_eqb s j (λ e. differ (sym e))) refl)
     (λ j differ. refl)
     (λ old. subst (λ (t : Told). IsFed new c s t (early s)) (sym (told_ended s events))
     (more c s (told s events) (early s) old))
@@ -181,13 +186,17 @@ most_stays old new same items c e f len kept are = λ j d lt.
     ap most (ap (λ (l : List Input). slice_index_or l j d) f) ∙ kept j d
     ∙ ap most (ap (λ (l : List Input). slice_index_or l j d) e) ∙ are j d (omega (arith, lt, ap length f, len))
 
+-- any of some items
+pub any_of : {X : Type 0} (items : List X) (j : ℕ) → j < length items → X
+any_of [] j lt = absurd (omega arith)
+any_of (x ∷ items) j lt = x
+
 pub same_wanted : (new old : List Input) (j : ℕ) → length new ≡ length old → j < length new
     → ((d : Input) → slice_index_or new j d ≡ slice_index_or old j d)
     → slice_index (map wanted new) j ≡ slice_index (map wanted old) j
-same_wanted [] old j len lt h = absurd (omega arith)
-same_wanted (x ∷ xs) old j len lt h =
-    let inside : j < length old = omega arith in
-    get_or-map wanted (x ∷ xs) j x 0 lt ∙ ap wanted (h x) ∙ sym (get_or-map wanted old j x 0 inside)
+same_wanted new old j len lt h =
+    let d : Input = any_of new j lt in
+    get_or-map wanted new j d 0 lt ∙ ap wanted (h d) ∙ sym (get_or-map wanted old j d 0 (omega arith))
 
 -- more of a list, one item longer
 abbrev pub Below : {X : Type 0} → (ℕ → X → Type 0) → List X → ℕ → Type 0
@@ -208,15 +217,6 @@ pushed {X} P items n y len h here = λ j d lt.
           (subst (λ (x : X). P n x) (sym at) here)
     ]
 
-goes_cut : (i : Input) (c : Config) (plp : ℕ) (t : Told) (pool : State) (before count : ℕ)
-    → is_first c plp t.frame ≡ true
-    → HasCut i c plp t pool count → GoesOn i c plp t pool before count
-goes_cut i c plp t pool before count on h = record {
-  cut = λ _. h;
-  fed = λ off. absurd (let z : true ≡ false = sym on ∙ off in cc);
-  stays = λ off. absurd (let z : true ≡ false = sym on ∙ off in cc);
-}
-
 -- An input that ends an interleaving frame goes on behind the frame.
 pub cuts_one : (items : List Input) (s : ℕ) (d new : Input) (c : Config) (frame due : ℕ) (was is : State)
     (before count : ℕ)
@@ -236,111 +236,143 @@ cuts_one items s d new c frame due was is before count lt plan inside on e cut f
       on = λ f t at place h.
           let here : slice_index_or (slice_set items s new) s f ≡ new = get_or-set_same items s new f lt in
           let first : is_first c s t.frame ≡ true = ap (λ (m : ℕ). is_first c s m) at ∙ on in
-          goes_cut (slice_index_or (slice_set items s new) s f) c s t is before count first
-          (subst (λ (i : Input). HasCut i c s t is count) (sym here)
-          (cut c s t plan inside place first (e ∙ ap (λ (m : ℕ). slots_by c s ((m + 1) * c.ticks)) (sym at))
-          (subst (λ (i : Input). IsFed i c s t (bits_in was s)) (old f) h)));
+          record {
+            cut = λ _. subst (λ (i : Input). HasCut i c s t is count) (sym here)
+                (cut c s t plan inside place first (e ∙ ap (λ (m : ℕ). slots_by c s ((m + 1) * c.ticks)) (sym at))
+                (subst (λ (i : Input). IsFed i c s t (bits_in was s)) (old f) h));
+            fed = λ off. absurd (true≢false (sym first ∙ off));
+            stays = λ off. absurd (true≢false (sym first ∙ off));
+          };
     }
-
--- what was put stays while its list does
-goes_stays : (i : Input) (c : Config) (plp : ℕ) (t : Told) (was is : State) (before count : ℕ)
-    → list_at is plp ≡ list_at was plp → GoesOn i c plp t was before count → GoesOn i c plp t is before count
-goes_stays i c plp t was is before count e h = record {
-  cut = λ on. record {
-    fed = (h.cut on).fed;
-    blocks = λ input more. ap (map bits_of) e ∙ (h.cut on).blocks input more;
-    count_is = (h.cut on).count_is ∙ ap length (sym e);
-  };
-  fed = λ off. subst (λ (l : List (List ℕ)). IsFed i c plp (in_next t) (map bits_of l)) (sym e) (h.fed off);
-  stays = h.stays;
-}
 
 -- packets continue themselves
 no_more : (t : Told) → Continues t t.packets
 no_more t = record { rest = []; front = sym (append-nil t.packets); whole = λ on. refl }
 
--- Its list holds no more than an interleaving frame,
-goes_fits : EarlyFits → BlocksFit → (i : Input) (c : Config) (plp : ℕ) (t : Told) (pool : State) (before count : ℕ)
-    → IsPlan c
-    → plp < length c.plps → GoesOn i c plp t pool before count → ListFits c plp (list_at pool plp)
-goes_fits early late i c plp t pool before count plan lt h =
-    elim (cases_Bool (is_first c plp t.frame)) [
-      | inl on ↦ late c plp (packet_at t.packets) (interleaving_frame c plp t.frame) (list_at pool plp) plan lt
-          ((h.cut on).blocks t.packets (no_more t))
-      | inr off ↦ list_fits early i c plp (in_next t) pool (h.fed off)
-    ]
+module _ {i : Input} {c : Config} {plp : ℕ} {t : Told} {pool : State} {before count : ℕ}
+    (h : GoesOn i c plp t pool before count) where
+  -- what was put stays while its list does
+  goes_stays : (is : State) → list_at is plp ≡ list_at pool plp → GoesOn i c plp t is before count
+  goes_stays is e = record {
+    cut = λ on. record {
+      fed = (h.cut on).fed;
+      blocks = λ input more. ap (map bits_of) e ∙ (h.cut on).blocks input more;
+      count_is = (h.cut on).count_is ∙ ap length (sym e);
+    };
+    fed = λ off. subst (λ (l : List (List ℕ)). IsFed i c plp (in_next t) (map bits_of l)) (sym e) (h.fed off);
+    stays = h.stays;
+  }
 
--- the blocks that are not sent are what it put for later,
-goes_fed : (i : Input) (c : Config) (plp : ℕ) (t : Told) (pool : State) (before count : ℕ)
-    → GoesOn i c plp t pool before count
-    → IsFed i c plp (in_next t) (later_in c t.frame pool plp)
-goes_fed i c plp t pool before count h =
-    elim (cases_Bool (is_first c plp t.frame)) [
-      | inl on ↦ rw on (h.cut on).fed
-      | inr off ↦ rw off (h.fed off)
-    ]
+  -- Its list holds no more than an interleaving frame,
+  goes_fits : EarlyFits → BlocksFit → IsPlan c → plp < length c.plps → ListFits c plp (list_at pool plp)
+  goes_fits early late plan lt = bool_cases (is_first c plp t.frame)
+      (λ on. late c plp (packet_at t.packets) (interleaving_frame c plp t.frame) (list_at pool plp) plan lt
+      ((h.cut on).blocks t.packets (no_more t)))
+      (λ off. list_fits early i c plp (in_next t) pool (h.fed off))
 
--- those that are sent are those of its interleaving frame,
-goes_blocks : (i : Input) (c : Config) (plp : ℕ) (t : Told) (pool : State) (before count : ℕ) (inputs : ℕ
-    → List (List ℕ))
-    → GoesOn i c plp t pool before count → Continues t (inputs plp)
-    → own_in c t.frame pool plp ≡ own_blocks c inputs t.frame plp
-goes_blocks i c plp t pool before count inputs h more =
-    elim (cases_Bool (is_first c plp t.frame)) [
-      | inl on ↦ rw on ((h.cut on).blocks (inputs plp) more)
-      | inr off ↦ rw off refl
-    ]
+  -- the blocks that are not sent are what it put for later,
+  goes_fed : IsFed i c plp (in_next t) (later_in c t.frame pool plp)
+  goes_fed = bool_cases (is_first c plp t.frame) (λ on. rw on (h.cut on).fed) (λ off. rw off (h.fed off))
 
--- and so many it has.
-goes_count : (i : Input) (c : Config) (plp : ℕ) (t : Told) (pool : State) (before count : ℕ) (inputs : ℕ
-    → List (List ℕ))
-    → GoesOn i c plp t pool before count → Continues t (inputs plp)
-    → (is_first c plp t.frame ≡ false → before ≡ told_count c inputs t.frame plp)
-    → count ≡ told_count c inputs t.frame plp
-goes_count i c plp t pool before count inputs h more stays =
-    elim (cases_Bool (is_first c plp t.frame)) [
-      | inl on ↦ (h.cut on).count_is ∙ sym (length-map (list_at pool plp) bits_of)
-          ∙ ap length ((h.cut on).blocks (inputs plp) more)
-      | inr off ↦ h.stays off ∙ stays off
-    ]
+  -- those that are sent are those of its interleaving frame,
+  goes_blocks : (inputs : ℕ → List (List ℕ)) → Continues t (inputs plp)
+      → own_in c t.frame pool plp ≡ own_blocks c inputs t.frame plp
+  goes_blocks inputs more = bool_cases (is_first c plp t.frame)
+      (λ on. rw on ((h.cut on).blocks (inputs plp) more)) (λ off. rw off refl)
+
+  -- and so many it has.
+  goes_count : (inputs : ℕ → List (List ℕ)) → Continues t (inputs plp)
+      → (is_first c plp t.frame ≡ false → before ≡ told_count c inputs t.frame plp)
+      → count ≡ told_count c inputs t.frame plp
+  goes_count inputs more stays = bool_cases (is_first c plp t.frame)
+      (λ on. (h.cut on).count_is ∙ sym (length-map (list_at pool plp) bits_of)
+      ∙ ap length ((h.cut on).blocks (inputs plp) more))
+      (λ off. h.stays off ∙ stays off)
 
 -- ---- one behind the other
 
--- The input at a place has place in the pool: the lists below have the blocks of the frame or those for later, and
--- those above have what was put before.
-place_next : EarlyFits → BlocksFit → (c : Config) (frame : ℕ) (old new : List Input) (was is : State)
-    (before counts : List ℕ)
-    (n : ℕ) (events : List Event) (d : Input) → IsPlan c → length old ≡ length c.plps
-    → CutUntil c frame old new was is before counts n → frame ≡ begun events → HasFrame c was
-    → AllFed old (bits_in was) c events
-    → HasPlace c n is n
-place_next early late c frame old new was is before counts n events d plan whole h e has all =
-    record {
-      enough = rw h.opened has.enough;
-      lists = h.lists_count ∙ has.lists;
-      place = refl;
-      others = λ other lt differ. elim (cases_lt other n) [
-        | inl below ↦
-            goes_fits early late (slice_index_or new other d) c other (told other events) is (slice_index before other)
-            (slice_index counts other) plan lt (h.on events e has all other d below)
-        | inr from ↦
-            rw (h.lists other from) (list_fits early (slice_index_or old other d) c other (told other events) was
-            (all other d (omega (arith, whole, lt))))
-      ];
+module _ {c : Config} {frame : ℕ} {old new : List Input} {was is : State} {before counts : List ℕ} {n : ℕ}
+    (h : CutUntil c frame old new was is before counts n) (whole : length old ≡ length c.plps)
+    (has : HasFrame c was) where
+  -- The input at a place has place in the pool: the lists below have the blocks of the frame or those for later, and
+  -- those above have what was put before.
+  place_next : EarlyFits → BlocksFit → IsPlan c → (events : List Event) (d : Input) → frame ≡ begun events
+      → AllFed old (bits_in was) c events → HasPlace c n is n
+  place_next early late plan events d e all =
+      record {
+        enough = rw h.opened has.enough;
+        lists = h.lists_count ∙ has.lists;
+        place = refl;
+        others = λ other lt differ. elim (cases_lt other n) [
+          | inl below ↦ goes_fits (h.on events e has all other d below) early late plan lt
+          | inr from ↦
+              rw (h.lists other from) (list_fits early (slice_index_or old other d) c other (told other events) was
+              (all other d (omega (arith, whole, lt))))
+        ];
+      }
+
+  -- so it is supplied
+  pub cut_supplied : EarlyFits → BlocksFit → IsPlan c → (d : Input) → n < length old
+      → AreSupplied c frame old (bits_in was) → IsSupplied (slice_index_or new n d) is n
+  cut_supplied early late plan d inside s = record {
+    config = c;
+    plp = n;
+    told = told n s.events;
+    place = place_next early late plan s.events d s.frame_is s.fed;
+    fed = rw (h.rest n d (omega arith), h.lists n (omega arith)) (s.fed n d inside);
+  }
+
+  -- once all did
+  module _ (all : n ≡ length old) where
+    pub cut_fed : (events : List Event) → length new ≡ length old → frame ≡ begun events
+        → AllFed old (bits_in was) c events → AllFed new (later_in c frame is) c (events ++ Begun ∷ [])
+    cut_fed events len e fed = λ j d lt.
+        let on = goes_fed (h.on events e has fed j d (omega arith)) in
+        subst (λ (t : Told). IsFed (slice_index_or new j d) c j t (later_in c frame is j)) (sym (told_begun j events))
+        (subst (λ (m : ℕ). IsFed (slice_index_or new j d) c j (in_next (told j events)) (later_in c m is j)) (sym e) on)
+
+    pub cut_blocks : (events : List Event) (inputs : ℕ → List (List ℕ)) → frame ≡ begun events
+        → AllFed old (bits_in was) c events → AllContinue c events inputs → AreBlocks is c frame inputs
+    cut_blocks events inputs e fed more = λ j lt.
+        let inside : j < length old = omega (arith, whole, lt) in
+        let on = goes_blocks (h.on events e has fed j (any_of old j inside) (omega arith)) inputs (more j lt) in
+        subst (λ (m : ℕ). own_in c m is j ≡ own_blocks c inputs m j) (sym e) on
+
+    pub cut_counts : (events : List Event) (inputs : ℕ → List (List ℕ)) → length counts ≡ length c.plps
+        → frame ≡ begun events → AllFed old (bits_in was) c events → CountsStay c events frame before
+        → AllContinue c events inputs → counts ≡ told_counts c inputs frame
+    cut_counts events inputs len e fed stay more =
+        let told : length (told_counts c inputs frame) ≡ length c.plps =
+        length-map-range_with_len (told_count c inputs frame) 0 (length c.plps) in
+        same_number_lists counts (told_counts c inputs frame) (len ∙ sym told) (λ j lt.
+        let configured : j < length c.plps = omega (arith, lt, len) in
+        let inside : j < length old = omega (arith, whole, configured) in
+        let on = goes_count (h.on events e has fed j (any_of old j inside) (omega arith)) inputs (more j configured)
+        (subst (λ (m : ℕ). is_first c j m ≡ false → slice_index before j ≡ told_count c inputs m j) e
+        (stay inputs more j configured)) in
+        subst (λ (m : ℕ). slice_index counts j ≡ told_count c inputs m j) (sym e) on
+        ∙ sym (get_or-map-range_with_len (told_count c inputs frame) 0 (length c.plps) j j 0 configured (omega arith)))
+
+    pub cut_fit : length counts ≡ length c.plps → AreFor old c → CountsFit c before → CountsFit c counts
+    cut_fit len are fit = record {
+      whole = len;
+      within = λ plp lt.
+          let inside : plp < length old = omega (arith, whole, lt) in
+          let d : Input = any_of old plp inside in
+          h.few plp d (plp_at c.plps plp).blocks (omega arith) (omega (arith, are plp d inside)) (fit.within plp lt);
     }
 
--- so it is supplied
-pub cut_supplied : EarlyFits → BlocksFit → (c : Config) (frame : ℕ) (old new : List Input) (was is : State)
-    (before counts : List ℕ) (n : ℕ) (d : Input) → IsPlan c → length old ≡ length c.plps → n < length old
-    → CutUntil c frame old new was is before counts n → HasFrame c was → AreSupplied c frame old (bits_in was)
-    → IsSupplied (slice_index_or new n d) is n
-cut_supplied early late c frame old new was is before counts n d plan whole inside h has s = record {
-  config = c;
-  plp = n;
-  told = told n s.events;
-  place = place_next early late c frame old new was is before counts n s.events d plan whole h s.frame_is has s.fed;
-  fed = rw (h.rest n d (omega arith), h.lists n (omega arith)) (s.fed n d inside);
-}
+    pub cut_within : EarlyFits → BlocksFit → IsPlan c → (plp : ℕ) → plp < length c.plps
+        → ∥ AreSupplied c frame old (bits_in was) ∥₁ → length (list_at is plp) ≤ (plp_at c.plps plp).blocks
+    cut_within early late plan plp lt supplied =
+        let inside : plp < length old = omega (arith, whole, lt) in
+        elim (cases_lt (plp_at c.plps plp).blocks (length (list_at is plp))) [
+          | inl more ↦ absurd (not_there supplied (λ (s : AreSupplied c frame old (bits_in was)).
+              let fits = goes_fits (h.on s.events s.frame_is has s.fed plp (any_of old plp inside) (omega arith))
+              early late plan lt in
+              omega (arith, more, fits.few)))
+          | inr le ↦ le
+        ]
 
 -- and so is each input while no frame is given
 pub one_supplied : EarlyFits → (items : List Input) (pool : State) (c : Config) (frame plp : ℕ) (d : Input)
@@ -384,13 +416,11 @@ cut_step early late c frame old new newer was is next before counts n count plan
       ];
       on = λ events e has all j d lt. elim (cases_lt j n) [
         | inl below ↦
-            let k = goes_stays (slice_index_or new j d) c j (told j events) is next (slice_index before j)
-            (slice_index counts j)
-            (one.lists.lists j (omega arith)) (h.on events e has all j d below) in
+            let k = goes_stays (h.on events e has all j d below) next (one.lists.lists j (omega arith)) in
             rw (one.others j d (omega arith), other j (omega arith)) k
         | inr from ↦
             let same : n ≡ j = omega arith in
-            let place = place_next early late c frame old new was is before counts n events d plan whole h e has all in
+            let place = place_next h whole has early late plan events d e all in
             let fed : IsFed (slice_index_or new n d) c n (told n events) (bits_in is n) =
             rw (here d, h.lists n (omega arith)) (all n d inside) in
             let on : GoesOn (slice_index_or newer n d) c n (told n events) next (slice_index before n) count =
@@ -413,84 +443,16 @@ cut_none c frame old pool counts = record {
   on = λ events e has all j d lt. absurd (omega arith);
 }
 
-pub cut_fed : (c : Config) (frame : ℕ) (old new : List Input) (was is : State) (before counts : List ℕ) (n : ℕ)
-    (events : List Event) → CutUntil c frame old new was is before counts n → n ≡ length old → length new ≡ length old
-    → frame ≡ begun events → HasFrame c was → AllFed old (bits_in was) c events
-    → AllFed new (later_in c frame is) c (events ++ Begun ∷ [])
-cut_fed c frame old new was is before counts n events h all len e has fed = λ j d lt.
-    let on = goes_fed (slice_index_or new j d) c j (told j events) is (slice_index before j) (slice_index counts j)
-    (h.on events e has fed j d (omega arith)) in
-    subst (λ (t : Told). IsFed (slice_index_or new j d) c j t (later_in c frame is j)) (sym (told_begun j events))
-    (subst (λ (m : ℕ). IsFed (slice_index_or new j d) c j (in_next (told j events)) (later_in c m is j)) (sym e) on)
-
-pub cut_blocks : (c : Config) (frame : ℕ) (old new : List Input) (was is : State) (before counts : List ℕ) (n : ℕ)
-    (events : List Event) (inputs : ℕ → List (List ℕ)) → CutUntil c frame old new was is before counts n
-    → n ≡ length old
-    → length old ≡ length c.plps → frame ≡ begun events → HasFrame c was → AllFed old (bits_in was) c events
-    → AllContinue c events inputs → AreBlocks is c frame inputs
-cut_blocks c frame [] new was is before counts n events inputs h all whole e has fed more = λ j lt. absurd (omega arith)
-cut_blocks c frame (x ∷ xs) new was is before counts n events inputs h all whole e has fed more = λ j lt.
-    let on = goes_blocks (slice_index_or new j x) c j (told j events) is (slice_index before j) (slice_index counts j)
-    inputs
-    (h.on events e has fed j x (omega arith)) (more j lt) in
-    subst (λ (m : ℕ). own_in c m is j ≡ own_blocks c inputs m j) (sym e) on
-
-count_at : (c : Config) (frame : ℕ) (old new : List Input) (was is : State) (before counts : List ℕ) (n : ℕ)
-    (events : List Event) (inputs : ℕ → List (List ℕ)) (j : ℕ) → CutUntil c frame old new was is before counts n
-    → n ≡ length old
-    → length old ≡ length c.plps → j < length old → frame ≡ begun events → HasFrame c was
-    → AllFed old (bits_in was) c events
-    → CountsStay c events frame before → AllContinue c events inputs
-    → slice_index counts j ≡ told_count c inputs frame j
-count_at c frame [] new was is before counts n events inputs j h all whole lt e has fed stay more = absurd (omega arith)
-count_at c frame (x ∷ xs) new was is before counts n events inputs j h all whole lt e has fed stay more =
-    let configured : j < length c.plps = omega (arith, whole, lt) in
-    let on = goes_count (slice_index_or new j x) c j (told j events) is (slice_index before j) (slice_index counts j)
-    inputs
-    (h.on events e has fed j x (omega arith)) (more j configured)
-    (subst (λ (m : ℕ). is_first c j m ≡ false → slice_index before j ≡ told_count c inputs m j) e
-    (stay inputs more j configured)) in
-    subst (λ (m : ℕ). slice_index counts j ≡ told_count c inputs m j) (sym e) on
-
-pub cut_counts : (c : Config) (frame : ℕ) (old new : List Input) (was is : State) (before counts : List ℕ) (n : ℕ)
-    (events : List Event) (inputs : ℕ → List (List ℕ)) → CutUntil c frame old new was is before counts n
-    → n ≡ length old
-    → length old ≡ length c.plps → length counts ≡ length c.plps → frame ≡ begun events → HasFrame c was
-    → AllFed old (bits_in was) c events → CountsStay c events frame before → AllContinue c events inputs
-    → counts ≡ told_counts c inputs frame
-cut_counts c frame old new was is before counts n events inputs h all whole len e has fed stay more =
-    let told : length (told_counts c inputs frame) ≡ length c.plps =
-    length-map-range_with_len (told_count c inputs frame) 0 (length c.plps) in
-    same_number_lists counts (told_counts c inputs frame) (len ∙ sym told)
-    (λ j lt. count_at c frame old new was is before counts n events inputs j h all whole (omega (arith, lt, len, whole))
-    e has fed
-    stay more
-    ∙ sym (get_or-map-range_with_len (told_count c inputs frame) 0 (length c.plps) j j 0 (omega (arith, lt, len))
-    (omega arith)))
-
 -- In the next frame they are the same for each PLP of which no interleaving frame begins in it.
 pub counts_stay : SpreadDividesFrames → (c : Config) (frame : ℕ) (counts : List ℕ) (events : List Event) → IsPlan c
     → ((inputs : ℕ → List (List ℕ)) → AllContinue c events inputs → counts ≡ told_counts c inputs frame)
     → CountsStay c (events ++ Begun ∷ []) (frame + 1) counts
 counts_stay spreads c frame counts events plan told = λ inputs more plp lt off.
-    let cont = back_begun c events inputs more in
+    let cont = back c events Begun inputs (λ j on. refl) more in
     let some = (spreads c plp plan.rules lt).0 in
     ap (λ (l : List ℕ). slice_index l plp) (told inputs cont)
     ∙ get_or-map-range_with_len (told_count c inputs frame) 0 (length c.plps) plp plp 0 lt (omega arith)
     ∙ ap (λ (m : ℕ). length (plp_blocks c inputs m plp)) (sym (same_number c plp frame some off))
-
-pub cut_fit : (c : Config) (frame : ℕ) (old new : List Input) (was is : State) (before counts : List ℕ) (n : ℕ)
-    → CutUntil c frame old new was is before counts n → n ≡ length old → length old ≡ length c.plps
-    → length counts ≡ length c.plps → AreFor old c → CountsFit c before → CountsFit c counts
-cut_fit c frame [] new was is before counts n h all whole len are fit = record {
-  whole = len;
-  within = λ plp lt. absurd (omega (arith, lt, whole));
-}
-cut_fit c frame (x ∷ xs) new was is before counts n h all whole len are fit = record {
-  whole = len;
-  within = λ plp lt. h.few plp x (plp_at c.plps plp).blocks (omega arith)
-      (let e = are plp x (omega (arith, lt, whole)) in omega (arith, e)) (fit.within plp lt);
-}
 
 -- the same for lists that stand behind others
 pub fit_on : (c : Config) (old same : List Input) (before kept counts items : List ℕ) → same ≡ old → kept ≡ before
@@ -499,23 +461,6 @@ pub fit_on : (c : Config) (old same : List Input) (before kept counts items : Li
 fit_on c old same before kept counts items e f g step are fit =
     subst (λ (l : List ℕ). CountsFit c l) (sym g)
     (step (subst (λ (l : List Input). AreFor l c) (sym e) are) (subst (λ (l : List ℕ). CountsFit c l) (sym f) fit))
-
-pub cut_within : EarlyFits → BlocksFit → (c : Config) (frame : ℕ) (old new : List Input) (was is : State)
-    (before counts : List ℕ) (n plp : ℕ) → IsPlan c → CutUntil c frame old new was is before counts n → n ≡ length old
-    → length old ≡ length c.plps → HasFrame c was → plp < length c.plps → ∥ AreSupplied c frame old (bits_in was) ∥₁
-    → length (list_at is plp) ≤ (plp_at c.plps plp).blocks
-cut_within early late c frame [] new was is before counts n plp plan h all whole has lt supplied =
-    absurd (omega (arith, lt, whole))
-cut_within early late c frame (x ∷ xs) new was is before counts n plp plan h all whole has lt supplied =
-    elim (cases_lt (plp_at c.plps plp).blocks (length (list_at is plp))) [
-      | inl more ↦ absurd (not_there supplied (λ (s : AreSupplied c frame (x ∷ xs) (bits_in was)).
-          let fits = goes_fits early late (slice_index_or new plp x) c plp (told plp s.events) is
-          (slice_index before plp)
-          (slice_index counts plp) plan lt (h.on s.events s.frame_is has s.fed plp x (omega arith)) in
-          let few = fits.few in
-          omega (arith, more, few)))
-      | inr le ↦ le
-    ]
 
 -- what the others want stays
 pub others_want : (items : List Input) (s : ℕ) (new : Input) (j : ℕ) → j ≢ s

@@ -17,14 +17,16 @@ use Rattle.mode_adapt.specs.Place.{AreShort}
 use Rattle.t2mi_packet.specs.declared.packet.Body.{Body}
 use Rattle.t2mi_packet.specs.declared.packet.Body.TheVariants.{Block}
 use Rattle.t2mi_packet.specs.T2miPacket.{written_bits}
-use Rattle.frame_writer.specs.FramePackets.{packet_with}
+use Rattle.frame_writer.specs.FramePackets.{l1_body, packet_with}
 use Rattle.gateway_core.specs.Packets.{block_bodies, plp_bodies}
 use Rattle.frame_writer.specs.Builds.{Builds}
-use Rattle.gateway_core.specs.Left.{early_until, early_at}
+use Rattle.gateway_core.specs.Left.{left, early_until, early_at}
 use Rattle.frame_writer.specs.FirstPacket.{from_step, first_step}
 use Rattle.frame_writer.specs.Whole.{IsWhole}
 use Rattle.frame_writer.specs.declared.step.FrameStep.{FrameStep}
-use Rattle.frame_writer.specs.declared.step.FrameStep.TheVariants.{Stamp, Signal, Blocks}
+use Rattle.frame_writer.specs.declared.step.FrameStep.TheVariants.{Stamp, Signal, Blocks, Over}
+use Rattle.frame_writer.specs.declared.signalling.Signalling.{Signalling}
+use Rattle.gateway_core.specs.declared.frame.Frame.{Frame}
 use Rattle.gateway_core.specs.BlocksLeft.{blocks_left}
 use Rattle.gateway_core.specs.Lists.{bits_in, own_in, later_in, AllShort, IsNext}
 
@@ -214,6 +216,12 @@ pub nothing_left : (c : Config) (n : ℕ) (step : FrameStep) (signal : Body) (po
 nothing_left c n step signal pool plp first e none =
     ap (λ (s : FrameStep). from_step c n s signal (blocks_left c n (own_in c n pool) plp first)) e
     ∙ none_left c n (own_in c n pool) plp first none
+
+-- Nothing is left of a frame that is over.
+pub over_left : (c : Config) (s : Signalling) (f : Frame) → f.step ≡ Over → left c s f ≡ []
+over_left c s f e =
+    ap (λ (step : FrameStep). from_step c f.number step (l1_body c f.number s.pre s.conf f.dynamic.bits)
+    (blocks_left c f.number (own_in c f.number f.blocks) f.plp f.first)) e
 
 -- ---- of those that begin later
 

@@ -4,7 +4,6 @@ pub mod InputsLemmas
 pub mod LeftLemmas
 pub mod SignalLemmas
 pub mod BoundLemmas
-mod FrameLemmas
 pub mod HoldsLemmas
 pub mod LawLemmas
 mod AheadLemmas
@@ -14,7 +13,6 @@ pub mod PassLemmas
 pub mod MemberLemmas
 pub mod SplitLemmas
 pub mod SlotLemmas
-pub mod PassedLemmas
 pub mod EventLemmas
 pub mod WorkLemmas
 pub mod OnLemmas

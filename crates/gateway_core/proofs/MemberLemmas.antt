@@ -1,10 +1,10 @@
 -- The groups of a network, and what the stream of a PLP depends on.
-use Rattle.std.proofs.Common.{◌≡◌, ℕ, zero, suc, ◌≢◌, ◌+◌, ◌<◌, ◌≤◌, ◌==◌, not, Bool, true, false, List, ◌∷◌, length}
-use Rattle.std.proofs.Common.{map, take, Some, None, refl, ap, ap₂, sym, subst, ◌∙◌, arith}
+use Rattle.std.proofs.Common.{◌≡◌, ℕ, zero, suc, ◌+◌, ◌<◌, ◌≤◌, ◌==◌, not, Bool, true, false, List, [], ◌∷◌, length}
+use Rattle.std.proofs.Common.{map, take, Some, None, refl, ap, ap₂, sym, subst, ◌∙◌, inl, inr, arith}
 use Rattle.std.specs.Prelude.{filter, unwrap_or}
 use Rattle.std.specs.declared.option.Option.{Option}
 use Rattle.std.specs.List.{find, range_with_len}
-use Rattle.std.proofs.lemmas.Bool.{true≢false, and_parts}
+use Rattle.std.proofs.lemmas.Bool.{and_parts}
 use Rattle.std.proofs.lemmas.Bool.Decides.{Decides-eqb}
 use Rattle.terms.proofs.CaseLemmas.{bool_cases}
 use Rattle.terms.proofs.OptionLemmas.{none_some}
@@ -16,7 +16,7 @@ use Rattle.common_plp.specs.Groups.{is_common, group_of, is_common_in, is_own_in
 use Rattle.common_plp.specs.Split.{longest, common_stream, own_stream, group_streams, split}
 use Rattle.common_plp.proofs.LawLemmas.{split_front, has_common}
 use Rattle.common_plp.proofs.MemberLemmas.{not_true}
-use Rattle.common_plp.proofs.PlaceLemmas.{found_none, found_first}
+use Rattle.common_plp.proofs.PlaceLemmas.{found_none, found_first, IsIn, in_kept, in_range}
 use Rattle.common_plp.proofs.StepLemmas.{type_is}
 use Rattle.gateway_core.specs.Order.{IsInput, turn_of, is_member}
 
@@ -103,10 +103,8 @@ kept_same : {X : Type 0} (test : ℕ → Bool) (f g : ℕ → X) (a n : ℕ)
     → map f (filter test (range_with_len a n)) ≡ map g (filter test (range_with_len a n))
 kept_same test f g a zero same = refl
 kept_same test f g a (suc n) same =
-    bool_cases (test a)
-    (λ on. rw on (ap₂ (λ x l. x ∷ l) (same a (omega arith) on) (kept_same test f g (a + 1) n
-    (λ plp lt on. same plp (omega (arith, lt)) on))))
-    (λ off. rw off (kept_same test f g (a + 1) n (λ plp lt on. same plp (omega (arith, lt)) on)))
+    let later = kept_same test f g (a + 1) n (λ plp lt on. same plp (omega (arith, lt)) on) in
+    bool_cases (test a) (λ on. rw on (ap₂ (λ x l. x ∷ l) (same a (omega arith) on) later)) (λ off. rw off later)
 
 pub own_same : {X : Type 0} (c : Config) (f g : ℕ → X) (group : ℕ)
     → ((plp : ℕ) → plp < length c.plps → is_own_in c group plp ≡ true → f plp ≡ g plp)
@@ -166,28 +164,16 @@ pub longest_few : (c : Config) (f : ℕ → List (List ℕ)) (group most : ℕ)
 longest_few c f group most few =
     longest_kept (is_own_in c group) f 0 (length c.plps) most (λ plp lt on. few plp (omega (arith, lt)) on)
 
-some_kept : (test : ℕ → Bool) (f : ℕ → List (List ℕ)) (a n plp : ℕ) → a ≤ plp → plp < a + n → test plp ≡ true
-    → length (f plp) ≤ longest (map f (filter test (range_with_len a n)))
-some_kept test f a zero plp from to on = absurd (omega (arith, from, to))
-some_kept test f a (suc n) plp from to on =
-    bool_cases (test a)
-    (λ here. rw here (bool_cases (plp == a)
-    (λ e. let same = ap (λ (k : ℕ). length (f k)) ((Decides-eqb plp a).0 e) in omega (arith, same))
-    (λ d. let later = some_kept test f (a + 1) n plp (omega (arith, from, differs plp a d)) (omega (arith, to))
-    on in omega (arith, later))))
-    (λ off. rw off (some_kept test f (a + 1) n plp (omega (
-      arith,
-      from,
-      differs plp a
-          (bool_cases (plp == a) (λ e. absurd (true≢false (sym on ∙ ap test ((Decides-eqb plp a).0 e) ∙ off)))
-          (λ d. d)),
-    )) (omega (arith, to)) on))
-  where
-    differs : (x y : ℕ) → (x == y) ≡ false → x ≢ y
-    differs x y d e = true≢false (sym ((Decides-eqb x y).1 e) ∙ d)
+longest_in : (f : ℕ → List (List ℕ)) (places : List ℕ) (plp : ℕ) → IsIn plp places
+    → length (f plp) ≤ longest (map f places)
+longest_in f [] plp is = absurd is
+longest_in f (place ∷ places) plp (inl same) = omega (arith, ap (λ (k : ℕ). length (f k)) same)
+longest_in f (place ∷ places) plp (inr later) = omega (arith, longest_in f places plp later)
 
 pub longest_some : (c : Config) (f : ℕ → List (List ℕ)) (group plp : ℕ) → plp < length c.plps
     → is_own_in c group plp ≡ true
     → length (f plp) ≤ longest (group_streams c f group)
-longest_some c f group plp inside own = some_kept (is_own_in c group) f 0 (length c.plps) plp (omega arith)
-    (omega (arith, inside)) own
+longest_some c f group plp inside own =
+    longest_in f (own_places c group) plp
+    (in_kept (is_own_in c group) plp (range_with_len 0 (length c.plps)) own
+    (in_range 0 (length c.plps) plp (omega arith) (omega (arith, inside))))

@@ -1,9 +1,9 @@
 -- A slot of a group goes on to a gateway.
-use Rattle.std.proofs.Common.{◌≡◌, ◌≢◌, ℕ, ◌<◌, ◌≤◌, ◌||◌, Bool, true, false, List, [], ◌∷◌, ◌++◌, length, Some, None}
+use Rattle.std.proofs.Common.{◌≡◌, ◌≢◌, ℕ, ◌<◌, ◌≤◌, Bool, true, false, List, [], ◌∷◌, ◌++◌, length, Some, None}
 use Rattle.std.proofs.Common.{refl, ap, sym, subst, ◌∙◌, inl, inr, arith, append-nil, ⊎_elim}
-use Rattle.std.specs.Prelude.{◌&&◌, is_some, if◌then◌else◌}
+use Rattle.std.specs.Prelude.{◌&&◌, is_some}
 use Rattle.std.specs.declared.option.Option.{Option}
-use Rattle.std.proofs.lemmas.Bool.{cases_lt, true≢false, ne_eqb}
+use Rattle.std.proofs.lemmas.Bool.{cases_lt, cond-true, cond-false, true≢false, ne_eqb, or_right, true_from_ne_false}
 use Rattle.std.proofs.lemmas.Bool.Decides.{Decides-eqb}
 use Rattle.terms.proofs.CaseLemmas.{bool_cases}
 use Rattle.plp_config.specs.Rules.{AllRules}
@@ -17,15 +17,16 @@ use Rattle.gateway_core.specs.declared.gateway.Gateway.{Gateway}
 use Rattle.gateway_core.specs.Order.{is_member}
 use Rattle.gateway_core.specs.Slots.{held_at, is_held_in, any_held, HasCome, PassesOn, slot_in, passed, share_events}
 use Rattle.gateway_core.specs.Slots.{pass_events}
-use Rattle.gateway_core.specs.Splitting.{Splits}
 use Rattle.gateway_core.specs.Works.{Works}
 use Rattle.gateway_core.proofs.EventLemmas.{offered_append, ended_append, AreQuiet, all_quiet, passed_quiet}
 use Rattle.gateway_core.proofs.EventLemmas.{passed_ends, passed_later, passed_offers}
 use Rattle.gateway_core.proofs.MemberLemmas.{own_of, alone_is}
-use Rattle.gateway_core.proofs.PassedLemmas.{slot_passed, stream_ended}
+use Rattle.gateway_core.proofs.InputsLemmas.{or_false}
+use Rattle.gateway_core.proofs.PassLemmas.{none_here}
 use Rattle.gateway_core.proofs.RangeLemmas.{not_found}
-use Rattle.gateway_core.proofs.SlotLemmas.{IsPassed, passing}
-use Rattle.gateway_core.proofs.WorkLemmas.{Came, ready_of, some_held, with_empty, without, or_false, offers}
+use Rattle.gateway_core.proofs.SlotLemmas.{IsPassed, slot_passed, stream_ended}
+use Rattle.gateway_core.proofs.SplitLemmas.{splits_as}
+use Rattle.gateway_core.proofs.WorkLemmas.{Came, ready_of, some_held}
 
 -- a common PLP has no input itself
 not_itself : (c : Config) (turn : ℕ) → is_common c turn ≡ true → is_member c turn turn ≡ false
@@ -39,7 +40,7 @@ none_outside : (c : Config) (held : List (Option (List ℕ))) (turn : ℕ) (shar
     → offered plp (passed c held turn shared (length c.plps)) ≡ []
 none_outside c held turn shared plp off =
     ⊎_elim (λ (lt : plp < length c.plps). passed_offers c held turn shared (length c.plps) plp lt
-    ∙ without (is_member c turn plp) (passing shared (held_at held plp)) off)
+    ∙ cond-false (is_member c turn plp) _ _ off)
     (λ (le : length c.plps ≤ plp). passed_later c held turn shared (length c.plps) plp le)
     (cases_lt plp (length c.plps))
 
@@ -71,7 +72,7 @@ shared_passed c held after turn done common p =
           refl;
       own = λ plp lt member. all plp ∙ rw (none_there turn plp packet (apart plp member))
           (ap (λ (l : List (List ℕ)). offered plp done ++ l) (passed_offers c held turn shared (length c.plps) plp lt
-          ∙ with_empty (is_member c turn plp) (passing shared (held_at held plp)) member));
+          ∙ cond-true (is_member c turn plp) _ _ member));
       rest = λ plp off differ. all plp ∙ rw (none_there turn plp packet differ, none_outside c held turn shared plp off)
           (append-nil (offered plp done));
       on = λ _. refl;
@@ -88,9 +89,9 @@ alone_passed : (c : Config) (held after : List (Option (List ℕ))) (turn : ℕ)
     (λ plp. offered plp (done ++ passed c held turn false (length c.plps))) turn false
 alone_passed c held after turn done own p = record {
   lead = λ on. absurd (true≢false (sym on ∙ own));
-  own = λ plp lt member. offers c held turn false done plp lt
-      ∙ ap (λ (l : List (List ℕ)). offered plp done ++ l) (with_empty (is_member c turn plp)
-      (passing false (held_at held plp)) member);
+  own = λ plp lt member. offered_append plp done (passed c held turn false (length c.plps))
+      ∙ ap (λ (l : List (List ℕ)). offered plp done ++ l) (passed_offers c held turn false (length c.plps) plp lt
+      ∙ cond-true (is_member c turn plp) _ _ member);
   rest = λ plp off differ. offered_append plp done (passed c held turn false (length c.plps))
       ∙ ap (λ (l : List (List ℕ)). offered plp done ++ l) (none_outside c held turn false plp off)
       ∙ append-nil (offered plp done);
@@ -101,53 +102,10 @@ alone_passed c held after turn done own p = record {
 
 -- ---- what holds behind it
 
--- the same of which as much was closed
-closed_as : (c : Config) (held : List (Option (List ℕ))) (came : ℕ → List (List ℕ)) (over : ℕ → Bool) (gave : ℕ
-    → List (List ℕ))
-    (closed now : ℕ → Bool) → ((plp : ℕ) → closed plp ≡ now plp) → Splits c held came over gave closed
-    → Splits c held came over gave now
-closed_as c held came over gave closed now same s =
-    let path : closed ≡ now = λ i plp. same plp i in
-    subst (λ (f : ℕ → Bool). Splits c held came over gave f) path s
-
-pub gave_as : (c : Config) (held : List (Option (List ℕ))) (came : ℕ → List (List ℕ)) (over : ℕ → Bool) (gave more : ℕ
-    → List (List ℕ))
-    (closed : ℕ → Bool) → ((plp : ℕ) → gave plp ≡ more plp) → Splits c held came over gave closed
-    → Splits c held came over more closed
-gave_as c held came over gave more closed same s =
-    let path : gave ≡ more = λ i plp. same plp i in
-    subst (λ (f : ℕ → List (List ℕ)). Splits c held came over f closed) path s
-
-held_as : (c : Config) (held after : List (Option (List ℕ))) (came : ℕ → List (List ℕ)) (over : ℕ → Bool) (gave : ℕ
-    → List (List ℕ))
-    (closed : ℕ → Bool) → ((plp : ℕ) → plp < length c.plps → held_at after plp ≡ held_at held plp)
-    → Splits c held came over gave closed
-    → Splits c after came over gave closed
-held_as c held after came over gave closed same s = record {
-  each = s.each;
-  closed_is = s.closed_is;
-  held_is = λ plp i. same plp i.0 ∙ s.held_is plp i;
-  few = s.few;
-  behind = s.behind;
-  step = s.step;
-}
-
-still_ended : (c : Config) (held : List (Option (List ℕ))) (turn : ℕ) (shared : Bool) (done : List Event) (plp : ℕ)
-    → has_ended plp done ≡ has_ended plp (done ++ passed c held turn shared (length c.plps))
-still_ended c held turn shared done plp =
-    sym (ended_append plp done (passed c held turn shared (length c.plps))
-    ∙ rw (passed_ends c held turn shared (length c.plps) plp) (or_false (has_ended plp done)))
-
-shared_ended : (c : Config) (held : List (Option (List ℕ))) (turn : ℕ) (done : List Event) (plp : ℕ)
-    → has_ended plp done ≡ has_ended plp (done ++ share_events c held turn (length c.plps))
-shared_ended c held turn done plp =
-    sym (ended_append plp done (share_events c held turn (length c.plps))
-    ∙ rw (passed_ends c held turn (is_shared (slot_in c held turn)) (length c.plps) plp)
-    (or_false (has_ended plp done)))
-
-none_kept : (b : Bool) (o : Option (List ℕ)) → (b ≡ true → o ≡ None) → (if b then None else o) ≡ o
-none_kept true o none = sym (none refl)
-none_kept false o none = refl
+-- events without an end
+still_ended : (done es : List Event) (plp : ℕ) → has_ended plp es ≡ false
+    → has_ended plp (done ++ es) ≡ has_ended plp done
+still_ended done es plp none = ended_append plp done es ∙ rw none (or_false (has_ended plp done))
 
 held_none : (b : Bool) (o : Option (List ℕ)) → (b && is_some o) ≡ false → b ≡ true → o ≡ None
 held_none b None e on = refl
@@ -156,11 +114,7 @@ held_none false (Some x) e on = absurd (true≢false (sym on))
 
 end_here : (turn : ℕ) (done : List Event) → has_ended turn (done ++ Ended turn ∷ []) ≡ true
 end_here turn done = ended_append turn done (Ended turn ∷ []) ∙ rw ((Decides-eqb turn turn).1 refl)
-    (or_true (has_ended turn done))
-  where
-    or_true : (b : Bool) → (b || true) ≡ true
-    or_true true = refl
-    or_true false = refl
+    (or_right (has_ended turn done) true refl)
 
 end_there : (turn plp : ℕ) (done : List Event) → plp ≢ turn → has_ended plp (done ++ Ended turn ∷ []) ≡ has_ended
     plp done
@@ -176,40 +130,6 @@ alone_held c g held turn inside own some come = elim (come (alone_is c turn own)
   | inr is ↦ is
 ]
 
-came_on : InStep → (c : Config) (g : Gateway) (held after : List (Option (List ℕ))) (events done : List Event)
-    (turn : ℕ) → AllRules c
-    → plps_of g ≡ length c.plps → GatewayStandsFor g c done → Came c held events done → turn < length c.plps
-    → common_of c turn ≡ None → 0 < wants_of g turn → ((plp : ℕ) → plp < length c.plps → HasCome c g held turn plp)
-    → PassesOn c held turn (length c.plps) after
-    → Came c after events (done ++ pass_events c held turn (length c.plps))
-came_on law c g held after events done turn rules plps stands s inside first some come p =
-    let n : ℕ = length c.plps in
-    let r = ready_of law c g held events done turn rules plps stands s inside first some come in
-    bool_cases (any_held c held turn n)
-    (λ on.
-    let h = some_held c held turn n (omega arith) on in
-    bool_cases (is_common c turn)
-    (λ common. rw (on, common)
-    (closed_as c after _ _ _ _ _ (shared_ended c held turn done)
-    (slot_passed c held after _ _ _ _ _ turn (is_shared (slot_in c held turn)) s r h
-    (shared_passed c held after turn done common p))))
-    (λ own. rw (on, own)
-    (closed_as c after _ _ _ _ _ (still_ended c held turn false done)
-    (slot_passed c held after _ _ _ _ _ turn false s r h (alone_passed c held after turn done own p)))))
-    (λ off.
-    let none : (plp : ℕ) → plp < n → is_member c turn plp ≡ true → held_at held plp ≡ None = λ plp lt member.
-    held_none (is_member c turn plp) (held_at held plp) (not_found (is_held_in c held turn) plp n lt off) member in
-    let common : is_common c turn ≡ true = bool_cases (is_common c turn) (λ on. on)
-    (λ own. absurd (alone_held c g held turn inside own some (come turn inside)
-    (none turn inside (alone_is c turn own)))) in
-    rw off
-    (held_as c held after _ _ _ _ (λ plp lt. p.below plp lt ∙ none_kept (is_member c turn plp) (held_at held plp)
-    (none plp lt))
-    (gave_as c held _ _ _ _ _ (λ plp. sym (offered_append plp done (Ended turn ∷ []) ∙ append-nil (offered plp done)))
-    (stream_ended c held _ _ _ _ (λ plp. has_ended plp (done ++ Ended turn ∷ [])) turn s r common none
-    (end_here turn done)
-    (λ plp d. end_there turn plp done d)))))
-
 quiet_on : (c : Config) (held : List (Option (List ℕ))) (turn n : ℕ) → AreQuiet (pass_events c held turn n)
 quiet_on c held turn n =
     bool_cases (any_held c held turn n)
@@ -218,24 +138,59 @@ quiet_on c held turn n =
     (λ own. rw (on, own) (passed_quiet c held turn false n)))
     (λ off. rw off (tt, tt))
 
-pub works_on : InStep → (c : Config) (g next : Gateway) (held after : List (Option (List ℕ))) (events : List Event)
-    (turn : ℕ) → AllRules c
-    → plps_of g ≡ length c.plps → turn < length c.plps
-    → common_of c turn ≡ None → 0 < wants_of g turn → ((plp : ℕ) → plp < length c.plps → HasCome c g held turn plp)
-    → PassesOn c held turn (length c.plps) after
-    → ((d : Config) (done : List Event) → GatewayStandsFor g d done
-    → GatewayStandsFor next d (done ++ pass_events c held turn (length c.plps)))
-    → Works c g held events → Works c next after events
-works_on law c g next held after events turn rules plps inside first some come p stands w =
-    let q = all_quiet w.done (pass_events c held turn (length c.plps)) (quiet_on c held turn (length c.plps)) in
-    record {
-      done = w.done ++ pass_events c held turn (length c.plps);
-      stands = stands c w.done w.stands;
-      splits = record {
-        begun_is = q.begun_is ∙ w.splits.begun_is;
-        given_is = q.given_is ∙ w.splits.given_is;
-        finished_is = q.finished_is ∙ w.splits.finished_is;
-        splits = came_on law c g held after events w.done turn rules plps w.stands w.splits.splits inside
-            first some come p;
-      };
-    }
+module _ (law : InStep) {c : Config} (g : Gateway) {held after : List (Option (List ℕ))} (turn : ℕ) (rules : AllRules c)
+    (plps : plps_of g ≡ length c.plps) (inside : turn < length c.plps) (first : common_of c turn ≡ None)
+    (some : 0 < wants_of g turn) (come : (plp : ℕ) → plp < length c.plps → HasCome c g held turn plp)
+    (p : PassesOn c held turn (length c.plps) after) where
+  came_on : (events done : List Event) → GatewayStandsFor g c done → Came c held events done
+      → Came c after events (done ++ pass_events c held turn (length c.plps))
+  came_on events done stands s =
+      let n : ℕ = length c.plps in
+      let r = ready_of law c g held events done turn rules plps stands s inside first some come in
+      bool_cases (any_held c held turn n)
+      (λ on.
+      let h = some_held c held turn n (omega arith) on in
+      bool_cases (is_common c turn)
+      (λ common. rw (on, common)
+      (splits_as (λ k. refl) (λ k. refl) (λ k. refl) (λ plp. still_ended done (share_events c held turn n) plp
+      (passed_ends c held turn (is_shared (slot_in c held turn)) n plp))
+      (slot_passed s r (shared_passed c held after turn done common p) h)))
+      (λ own. rw (on, own)
+      (splits_as (λ k. refl) (λ k. refl) (λ k. refl) (λ plp. still_ended done (passed c held turn false n) plp
+      (passed_ends c held turn false n plp))
+      (slot_passed s r (alone_passed c held after turn done own p) h))))
+      (λ off.
+      let none : (plp : ℕ) → plp < n → is_member c turn plp ≡ true → held_at held plp ≡ None = λ plp lt member.
+      held_none (is_member c turn plp) (held_at held plp) (not_found (is_held_in c held turn) plp n lt off) member in
+      let common : is_common c turn ≡ true = true_from_ne_false (is_common c turn)
+      (λ own. alone_held c g held turn inside own some (come turn inside) (none turn inside (alone_is c turn own))) in
+      let e = splits_as (λ k. refl) (λ k. refl)
+      (λ plp. offered_append plp done (Ended turn ∷ []) ∙ append-nil (offered plp done)) (λ k. refl)
+      (stream_ended s r common none (end_here turn done) (λ plp d. end_there turn plp done d)) in
+      rw off (record {
+        each = e.each;
+        closed_is = e.closed_is;
+        held_is = λ plp i. p.below plp i.0
+            ∙ sym (none_here (is_member c turn plp) (held_at held plp) (not_found
+            (is_held_in c held turn) plp n i.0 off))
+            ∙ e.held_is plp i;
+        few = e.few;
+        behind = e.behind;
+        step = e.step;
+      }))
+
+  pub works_on : {next : Gateway} {events : List Event} → ((d : Config) (done : List Event) → GatewayStandsFor g d done
+      → GatewayStandsFor next d (done ++ pass_events c held turn (length c.plps)))
+      → Works c g held events → Works c next after events
+  works_on {events = events} stands w =
+      let q = all_quiet w.done (pass_events c held turn (length c.plps)) (quiet_on c held turn (length c.plps)) in
+      record {
+        done = w.done ++ pass_events c held turn (length c.plps);
+        stands = stands c w.done w.stands;
+        splits = record {
+          begun_is = q.begun_is ∙ w.splits.begun_is;
+          given_is = q.given_is ∙ w.splits.given_is;
+          finished_is = q.finished_is ∙ w.splits.finished_is;
+          splits = came_on events w.done w.stands w.splits.splits;
+        };
+      }

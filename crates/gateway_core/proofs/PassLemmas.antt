@@ -1,19 +1,19 @@
 -- What goes on of the inputs of a group, one after the other.
-use Rattle.std.proofs.Common.{◌≡◌, ◌≢◌, ℕ, ◌+◌, ◌<◌, ◌≤◌, ◌==◌, ◌&&◌, not, Bool, true, false, List, [], ◌∷◌, ◌++◌, Some}
+use Rattle.std.proofs.Common.{◌≡◌, ◌≢◌, ℕ, ◌+◌, ◌<◌, ◌≤◌, ◌&&◌, Bool, true, false, List, [], ◌∷◌, ◌++◌, Some}
 use Rattle.std.proofs.Common.{None, refl, ap, sym, subst, ◌∙◌, inl, inr, arith, append_assoc, append-nil}
 use Rattle.std.specs.declared.option.Option.{Option}
 use Rattle.std.specs.Prelude.{is_some, if◌then◌else◌}
-use Rattle.std.proofs.lemmas.Bool.{cases_eq, true≢false, and_parts}
+use Rattle.std.proofs.lemmas.Bool.{cases_eq, true≢false}
 use Rattle.plp_config.specs.declared.config.Config.{Config}
-use Rattle.common_plp.specs.Groups.{is_common, group_of, is_own_in}
+use Rattle.common_plp.specs.Groups.{is_common}
 use Rattle.common_plp.specs.Shared.{common_packet, is_shared}
-use Rattle.common_plp.proofs.MemberLemmas.{not_true}
 use Rattle.gateway_core.specs.Events.{Event, Offered}
 use Rattle.gateway_core.specs.StandsFor.{GatewayStandsFor, status_of, wants_of}
 use Rattle.gateway_core.specs.declared.gateway.Gateway.{Gateway}
 use Rattle.gateway_core.specs.Order.{is_member}
 use Rattle.gateway_core.specs.Slots.{held_at, offered_of, kept_of, passed_of, passed, PassesOne, PassesOn, HeldWanted}
 use Rattle.gateway_core.specs.Slots.{any_held, is_held_in, slot_in, share_events}
+use Rattle.gateway_core.proofs.MemberLemmas.{own_of}
 use Rattle.gateway_core.proofs.RangeLemmas.{flat_more, not_found}
 
 -- what was done to a gateway, and what is held, when those of the inputs below a count went on
@@ -95,19 +95,12 @@ passing_more c old now next was is after turn shared count p stands others same 
 
 -- ---- a slot of a group
 
--- an input of the group of a common PLP is not common
-pub member_own : (c : Config) (turn plp : ℕ) → is_common c turn ≡ true → is_member c turn plp ≡ true
-    → is_common c plp ≡ false
-member_own c turn plp common member =
-    let own : is_own_in c (group_of c turn) plp ≡ true = rw common at member in
-    not_true (is_common c plp) (and_parts (not (is_common c plp)) (group_of c plp == group_of c turn) own).0
-
 pub members_wanted : (c : Config) (old new : Gateway) (held : List (Option (List ℕ))) (turn : ℕ)
     → is_common c turn ≡ true
     → HeldWanted c old held → ((other : ℕ) → other ≢ turn → wants_of new other ≡ wants_of old other)
     → (plp : ℕ) → is_member c turn plp ≡ true → held_at held plp ≢ None → 0 < wants_of new plp
 members_wanted c old new held turn common wanted others plp member some =
-    let own = member_own c turn plp common member in
+    let own = (own_of c turn plp common member).0 in
     let w = wanted plp own some in
     let same = others plp (λ e. true≢false (sym common ∙ ap (is_common c) (sym e) ∙ own)) in
     omega (arith, w, same)
@@ -125,7 +118,7 @@ shared_stands c d done held turn count packet shared g is on s =
     (passed c held turn shared count)) s))
 
 -- where nothing is held, nothing goes on
-none_here : (b : Bool) (o : Option (List ℕ)) → (b && is_some o) ≡ false → o ≡ (if b then None else o)
+pub none_here : (b : Bool) (o : Option (List ℕ)) → (b && is_some o) ≡ false → o ≡ (if b then None else o)
 none_here true None e = refl
 none_here true (Some p) e = absurd (true≢false e)
 none_here false o e = refl

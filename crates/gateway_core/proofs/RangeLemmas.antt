@@ -1,14 +1,14 @@
 -- Tests and lists over the places below a number.
-use Rattle.std.proofs.Common.{◌≡◌, ℕ, zero, suc, ◌+◌, ◌-◌, ◌<◌, ◌||◌, Bool, true, false, cond, List, [], ◌∷◌, ◌++◌, map}
+use Rattle.std.proofs.Common.{◌≡◌, ℕ, ◌+◌, ◌<◌, Bool, true, false, cond, List, [], ◌∷◌, ◌++◌, map}
 use Rattle.std.proofs.Common.{length, refl, ap, sym, ◌∙◌, arith, append-nil}
 use Rattle.std.specs.Prelude.{filter}
 use Rattle.std.specs.declared.option.Option.{Option}
 use Rattle.std.specs.List.{flat_map, list_any, range_with_len}
 use Rattle.std.proofs.lemmas.Grind.{flat_map-append}
-use Rattle.std.proofs.lemmas.Bool.{true≢false}
-use Rattle.std.proofs.Math.Bool.{or_assoc}
-use Rattle.terms.proofs.CaseLemmas.{bool_cases}
-use Rattle.terms.proofs.RangeLemmas.{places_more, range_append}
+use Rattle.std.proofs.lemmas.Bool.{true≢false, false_from_ne_true}
+use Rattle.std.proofs.lemmas.List.Folds.{list_any-append}
+use Rattle.terms.proofs.ListLemmas.{one_in}
+use Rattle.terms.proofs.RangeLemmas.{places_more}
 use Rattle.plp_config.specs.declared.config.Config.{Config}
 use Rattle.common_plp.specs.Groups.{is_common, group_of, is_own_in}
 use Rattle.gateway_core.specs.Slots.{held_at, seen_of, slot_in}
@@ -19,30 +19,13 @@ flat_more f n =
     ap (flat_map f) (places_more n) ∙ flat_map-append f (range_with_len 0 n) (n ∷ [])
     ∙ ap (λ l. flat_map f (range_with_len 0 n) ++ l) (append-nil (f n))
 
-pub any_append : {X : Type 0} (test : X → Bool) (xs ys : List X)
-    → list_any test (xs ++ ys) ≡ (list_any test xs || list_any test ys)
-any_append test [] ys = refl
-any_append test (x ∷ xs) ys =
-    ap (λ (b : Bool). test x || b) (any_append test xs ys)
-    ∙ sym (or_assoc (test x) (list_any test xs) (list_any test ys))
-
 pub any_more : (test : ℕ → Bool) (n : ℕ) → list_any test (range_with_len 0 n) ≡ false → test n ≡ false
     → list_any test (range_with_len 0 (n + 1)) ≡ false
 any_more test n before here =
-    ap (list_any test) (places_more n) ∙ any_append test (range_with_len 0 n) (n ∷ []) ∙ rw (before, here) refl
-
-or_true : (b : Bool) → (b || true) ≡ true
-or_true true = refl
-or_true false = refl
+    ap (list_any test) (places_more n) ∙ list_any-append test (range_with_len 0 n) (n ∷ []) ∙ rw (before, here) refl
 
 pub any_found : (test : ℕ → Bool) (k n : ℕ) → k < n → test k ≡ true → list_any test (range_with_len 0 n) ≡ true
-any_found test k n below here =
-    let e : n ≡ k + suc (n - k - 1) = omega (arith, below) in
-    let f : zero + k ≡ k = omega arith in
-    ap (λ (m : ℕ). list_any test (range_with_len 0 m)) e
-    ∙ ap (list_any test) (range_append 0 k (suc (n - k - 1)))
-    ∙ any_append test (range_with_len 0 k) (range_with_len (zero + k) (suc (n - k - 1)))
-    ∙ rw (f, here) (or_true (list_any test (range_with_len 0 k)))
+any_found test k n below here = one_in test 0 n k (omega arith) (omega (arith, below)) here
 
 -- ---- what is seen of a group
 
@@ -67,4 +50,4 @@ seen_slot c held turn common = kept_seen c held turn common (range_with_len 0 (l
 -- where none passes, each fails
 pub not_found : (test : ℕ → Bool) (k n : ℕ) → k < n → list_any test (range_with_len 0 n) ≡ false → test k ≡ false
 not_found test k n below none =
-    bool_cases (test k) (λ here. absurd (true≢false (sym (any_found test k n below here) ∙ none))) (λ off. off)
+    false_from_ne_true (test k) (λ here. true≢false (sym (any_found test k n below here) ∙ none))

@@ -95,10 +95,10 @@ past_none xs n e = ⊎_elim (λ (lt : n < length xs). absurd (none_some {P = ⊥
     (λ (le : length xs ≤ n). le) (cases_lt n (length xs))
 
 -- an input of which nothing is held, and which did not end, has as many as went on
-pub none_held : (c : Config) (at : ℕ → ℕ) (held : List (Option (List ℕ))) (came : ℕ → List (List ℕ)) (over : ℕ → Bool)
-    (gave : ℕ → List (List ℕ)) (closed : ℕ → Bool) (plp : ℕ) → SplitsAt c at held came over gave closed → IsInput c plp
+pub none_held : {c : Config} {at : ℕ → ℕ} {held : List (Option (List ℕ))} {came : ℕ → List (List ℕ)} {over : ℕ → Bool}
+    {gave : ℕ → List (List ℕ)} {closed : ℕ → Bool} (plp : ℕ) → SplitsAt c at held came over gave closed → IsInput c plp
     → held_at held plp ≡ None → over plp ≡ false → length (came plp) ≡ length (gave plp)
-none_held c at held came over gave closed plp s i none going =
+none_held {c} {came = came} {gave = gave} plp s i none going =
     let least = past_none (came plp) (length (gave plp)) (sym (s.held_is plp i) ∙ none) in
     elim ((s.each plp i.0).settled plp i.0 (self_member c plp i)) [
       | inl le ↦ omega (arith, least, le)
@@ -115,17 +115,18 @@ last_is (y ∷ xs) x (suc n) e = last_is xs x n (omega (arith, e))
 pub at_or : (P : ℕ → Type 0) (plp k : ℕ) → (k ≡ plp → P k) → (k ≢ plp → P k) → P k
 at_or P plp k here other = elim (cases_eq k plp) [ inl e ↦ here e | inr d ↦ other d ]
 
-pub packet_came : (c : Config) (held next : List (Option (List ℕ))) (came more : ℕ → List (List ℕ)) (over still : ℕ
-    → Bool)
-    (gave : ℕ → List (List ℕ)) (closed : ℕ → Bool) (plp : ℕ) (packet : List ℕ) → Splits c held came over gave closed
+pub packet_came : {c : Config} {held next : List (Option (List ℕ))} {came more : ℕ → List (List ℕ)} {over still : ℕ
+    → Bool}
+    {gave : ℕ → List (List ℕ)} {closed : ℕ → Bool} (plp : ℕ) (packet : List ℕ) → Splits c held came over gave closed
     → IsInput c plp
     → held_at held plp ≡ None → over plp ≡ false → more plp ≡ came plp ++ packet ∷ []
     → ((k : ℕ) → k ≢ plp → more k ≡ came k)
     → ((k : ℕ) → still k ≡ over k) → held_at next plp ≡ Some packet
     → ((k : ℕ) → k ≢ plp → held_at next k ≡ held_at held k)
     → Splits c next more still gave closed
-packet_came c held next came more over still gave closed plp packet s i none going one others same here apart =
-    let count = none_held c _ held came over gave closed plp s i none going in
+packet_came {c = c} {next = next} {came = came} {more = more} {over = over}
+    {gave = gave} plp packet s i none going one others same here apart =
+    let count = none_held plp s i none going in
     let grown : length (more plp) ≡ length (came plp) + 1 = ap length one ∙ length-append (came plp) (packet ∷ []) in
     let least : (k : ℕ) → length (came k) ≤ length (more k) = λ k. at_or (λ k. length (came k) ≤ length (more k)) plp k
     (λ e. subst (λ (j : ℕ). length (came j) ≤ length (more j)) (sym e) (omega (arith, grown)))
@@ -165,13 +166,14 @@ packet_came c held next came more over still gave closed plp packet s i none goi
       step = λ k input off. s.step k input (sym (same k) ∙ off);
     }
 
-pub input_ended : (c : Config) (held : List (Option (List ℕ))) (came more : ℕ → List (List ℕ)) (over now : ℕ → Bool)
-    (gave : ℕ → List (List ℕ)) (closed shut : ℕ → Bool) (plp : ℕ) → Splits c held came over gave closed → IsInput c plp
+pub input_ended : {c : Config} {held : List (Option (List ℕ))} {came more : ℕ → List (List ℕ)} {over now : ℕ → Bool}
+    {gave : ℕ → List (List ℕ)} {closed shut : ℕ → Bool} (plp : ℕ) → Splits c held came over gave closed → IsInput c plp
     → held_at held plp ≡ None → over plp ≡ false → ((k : ℕ) → more k ≡ came k)
     → now plp ≡ true → ((k : ℕ) → k ≢ plp → now k ≡ over k) → shut plp ≡ true → ((k : ℕ) → k ≢ plp → shut k ≡ closed k)
     → Splits c held more now gave shut
-input_ended c held came more over now gave closed shut plp s i none going same on others off apart =
-    let count = none_held c _ held came over gave closed plp s i none going in
+input_ended {c = c} {came = came} {more = more} {over = over} {now = now} {gave = gave}
+    {shut = shut} plp s i none going same on others off apart =
+    let count = none_held plp s i none going in
     let later : (k : ℕ) → over k ≡ true → now k ≡ true = λ k is. at_or (λ k. now k ≡ true) plp k
     (λ e. ap now e ∙ on) (λ d. others k d ∙ is) in
     let size : (k : ℕ) → length (more k) ≡ length (came k) = λ k. ap length (same k) in
@@ -202,3 +204,17 @@ input_ended c held came more over now gave closed shut plp s i none going same o
       step = λ k input going. s.step k input (bool_cases (over k) (λ is. absurd (true≢false (sym (later k is) ∙ going)))
           (λ f. f));
     }
+
+-- the same in four functions
+pub splits_as : {c : Config} {held : List (Option (List ℕ))} {came more : ℕ → List (List ℕ)} {over now : ℕ → Bool}
+    {gave sent : ℕ → List (List ℕ)} {closed shut : ℕ → Bool} → ((k : ℕ) → more k ≡ came k) → ((k : ℕ) → now k ≡ over k)
+    → ((k : ℕ) → sent k ≡ gave k) → ((k : ℕ) → shut k ≡ closed k) → Splits c held came over gave closed
+    → Splits c held more now sent shut
+splits_as {came = came} {more = more} {over = over} {now = now} {gave = gave} {sent = sent} {closed = closed}
+    {shut = shut}
+    a b d e s =
+    let pa : more ≡ came = λ i k. a k i in
+    let pb : now ≡ over = λ i k. b k i in
+    let pd : sent ≡ gave = λ i k. d k i in
+    let pe : shut ≡ closed = λ i k. e k i in
+    rw (pa, pb, pd, pe) s

@@ -2,12 +2,12 @@
 use Rattle.std.proofs.Common.{◌≡◌, ◌≢◌, ℕ, ◌+◌, ◌-◌, ◌*◌, ◌<◌, ◌≤◌, Bool, true, false, List, [], ◌∷◌, ◌++◌, length}
 use Rattle.std.proofs.Common.{Some, None, refl, ap, sym, subst, ◌∙◌, inl, inr, arith, replicate, ⊎_elim, ◌||◌, cond}
 use Rattle.std.proofs.Common.{append-nil}
-use Rattle.std.specs.Prelude.{slice_get}
 use Rattle.std.specs.declared.option.Option.{Option}
 use Rattle.std.proofs.Math.Logic.{∥∥₁_map}
 use Rattle.std.specs.List.{list_any}
 use Rattle.std.proofs.lemmas.Bool.{cases_eq, cases_lt, true≢false}
 use Rattle.std.proofs.lemmas.List.{get_or-replicate, length-replicate}
+use Rattle.std.proofs.lemmas.List.Folds.{list_any-append}
 use Rattle.std.proofs.Math.ListN.{get_or-eq_default}
 use Rattle.gateway_core.proofs.WantLemmas.{wants_is, some_wanted}
 use Rattle.plp_config.specs.Rules.{AllRules}
@@ -19,31 +19,25 @@ use Rattle.common_plp.specs.Groups.{is_common, is_common_type}
 use Rattle.common_plp.specs.Laws.{InStep}
 use Rattle.common_plp.specs.Split.{split}
 use Rattle.gateway_core.specs.Events.{Event, Offered, Ended, packets_to, ends, begins, gives, finishes, offered}
-use Rattle.gateway_core.specs.Events.{has_ended, begun, given, finished}
-use Rattle.t2mi_stream.specs.Complete.{complete_units}
-use Rattle.t2mi_stream.specs.Pipe.{pipe}
-use Rattle.gateway_core.specs.Packets.{front_packets}
+use Rattle.gateway_core.specs.Events.{has_ended, begun}
 use Rattle.gateway_core.specs.InputSoFar.{Told, told}
 use Rattle.gateway_core.specs.InputsStandFor.{AllContinue}
 use Rattle.gateway_core.specs.StandsFor.{GatewayStandsFor, plps_of, wants_of}
 use Rattle.gateway_core.specs.declared.gateway.Gateway.{Gateway}
 use Rattle.gateway_core.proofs.HoldsLemmas.{other_offered, other_ended, begun_same, given_same, finished_same}
 use Rattle.gateway_core.proofs.HoldsLemmas.{begun_with, given_with}
-use Rattle.gateway_core.proofs.InputsLemmas.{told_offered, told_ended}
+use Rattle.gateway_core.proofs.InputsLemmas.{told_offered, told_ended, or_false}
 use Rattle.gateway_core.specs.Continuing.{InputsContinue}
 use Rattle.gateway_core.specs.Order.{IsInput}
 use Rattle.gateway_core.specs.Slots.{held_at, HeldWanted}
-use Rattle.gateway_core.specs.Splitting.{Splits, Splitting}
+use Rattle.gateway_core.specs.Splitting.{Splitting}
 use Rattle.gateway_core.specs.SplitStandsFor.{Asks}
 use Rattle.gateway_core.specs.Works.{Works, HasWorked, Moves, FindsFirst}
 use Rattle.gateway_core.specs.declared.split_gateway.SplitGateway.{SplitGateway}
 use Rattle.gateway_core.proofs.EventLemmas.{offered_append, ended_append}
 use Rattle.gateway_core.proofs.FindLemmas.{none_wanted_by}
-use Rattle.gateway_core.proofs.OnLemmas.{gave_as}
-use Rattle.gateway_core.proofs.RangeLemmas.{any_append}
-use Rattle.gateway_core.proofs.WorkLemmas.{or_false}
 use Rattle.gateway_core.proofs.MemberLemmas.{member_input}
-use Rattle.gateway_core.proofs.SplitLemmas.{goes_on, none_held, packet_came, input_ended}
+use Rattle.gateway_core.proofs.SplitLemmas.{goes_on, none_held, packet_came, input_ended, splits_as}
 
 -- ---- opened
 
@@ -107,9 +101,9 @@ asks_of law s held (Some plp) is rules t =
 
 -- ---- inputs that go on
 
-pub all_continue : (c : Config) (held : List (Option (List ℕ))) (events done : List Event) (inputs : ℕ → List (List ℕ))
+pub all_continue : {c : Config} {held : List (Option (List ℕ))} {events done : List Event} (inputs : ℕ → List (List ℕ))
     → Splitting c held events done → InputsContinue c events inputs → AllContinue c done (split c inputs)
-all_continue c held events done inputs s k = λ plp lt.
+all_continue {c} {events = events} {done = done} inputs s k = λ plp lt.
     goes_on c (λ q. offered q events) inputs (λ q. has_ended q events) (told plp done) plp (begun events)
     lt (s.splits.each plp lt) k
 
@@ -127,23 +121,18 @@ offered_works c g held after events plp packet i none off here apart w = record 
     begun_is = w.splits.begun_is ∙ sym (begun_same events (Offered plp packet) refl);
     given_is = w.splits.given_is ∙ sym (given_same events (Offered plp packet) refl);
     finished_is = w.splits.finished_is ∙ sym (finished_same events (Offered plp packet) refl);
-    splits = packet_came c held after _ (λ k. offered k (events ++ Offered plp packet ∷ [])) _
-        (λ k. has_ended k (events ++ Offered plp packet ∷ [])) _ _ plp packet w.splits.splits i none off
+    splits = packet_came plp packet w.splits.splits i none off
         (ap (λ (t : Told). t.packets) (told_offered plp events packet))
         (λ k d. ap (λ (t : Told). t.packets) (other_offered k plp events packet d))
-        (λ k. elim (cases_eq k plp) [
-          | inl e ↦ subst (λ (j : ℕ). has_ended j (events ++ Offered plp packet ∷ []) ≡ has_ended j events) (sym e)
-              (ap (λ (t : Told). t.ended) (told_offered plp events packet))
-          | inr d ↦ ap (λ (t : Told). t.ended) (other_offered k plp events packet d)
-        ]) here apart;
+        (λ k. ended_append k events (Offered plp packet ∷ []) ∙ or_false (has_ended k events)) here apart;
   };
 }
 
-pub ended_works : (c : Config) (g next : Gateway) (held : List (Option (List ℕ))) (events : List Event) (plp : ℕ)
+pub ended_works : {c : Config} {g next : Gateway} {held : List (Option (List ℕ))} {events : List Event} (plp : ℕ)
     → IsInput c plp → held_at held plp ≡ None → has_ended plp events ≡ false
     → ((d : Config) (done : List Event) → GatewayStandsFor g d done → GatewayStandsFor next d (done ++ Ended plp ∷ []))
     → Works c g held events → Works c next held (events ++ Ended plp ∷ [])
-ended_works c g next held events plp i none off stands w = record {
+ended_works {c = c} {held = held} {events = events} plp i none off stands w = record {
   done = w.done ++ Ended plp ∷ [];
   stands = stands c w.done w.stands;
   splits = record {
@@ -151,10 +140,8 @@ ended_works c g next held events plp i none off stands w = record {
     given_is = given_same w.done (Ended plp) refl ∙ w.splits.given_is ∙ sym (given_same events (Ended plp) refl);
     finished_is = finished_same w.done (Ended plp) refl ∙ w.splits.finished_is
         ∙ sym (finished_same events (Ended plp) refl);
-    splits = gave_as c held _ _ _ (λ k. offered k (w.done ++ Ended plp ∷ [])) _ (λ k. sym (same_packets w.done k))
-        (input_ended c held _ (λ k. offered k (events ++ Ended plp ∷ [])) _
-        (λ k. has_ended k (events ++ Ended plp ∷ [])) _ _
-        (λ k. has_ended k (w.done ++ Ended plp ∷ [])) plp w.splits.splits i none off (same_packets events)
+    splits = splits_as (λ k. refl) (λ k. refl) (same_packets w.done) (λ k. refl)
+        (input_ended plp w.splits.splits i none off (same_packets events)
         (ap (λ (t : Told). t.ended) (told_ended plp events)) (λ k d. ap (λ (t : Told). t.ended)
         (other_ended k plp events d))
         (ap (λ (t : Told). t.ended) (told_ended plp w.done)) (λ k d. ap (λ (t : Told). t.ended)
@@ -163,35 +150,16 @@ ended_works c g next held events plp i none off stands w = record {
 }
   where
     same_packets : (es : List Event) (k : ℕ) → offered k (es ++ Ended plp ∷ []) ≡ offered k es
-    same_packets es k = elim (cases_eq k plp) [
-      | inl e ↦ subst (λ (j : ℕ). offered j (es ++ Ended plp ∷ []) ≡ offered j es) (sym e)
-          (ap (λ (t : Told). t.packets) (told_ended plp es))
-      | inr d ↦ ap (λ (t : Told). t.packets) (other_ended k plp es d)
-    ]
+    same_packets es k = offered_append k es (Ended plp ∷ []) ∙ append-nil (offered k es)
 
 -- ---- a frame, a unit, the end
 
--- the same in four functions
-splits_as : (c : Config) (held : List (Option (List ℕ))) (came more : ℕ → List (List ℕ)) (over now : ℕ → Bool)
-    (gave sent : ℕ → List (List ℕ)) (closed shut : ℕ → Bool) → ((k : ℕ) → came k ≡ more k) → ((k : ℕ) → over k ≡ now k)
-    → ((k : ℕ) → gave k ≡ sent k) → ((k : ℕ) → closed k ≡ shut k) → Splits c held came over gave closed
-    → Splits c held more now sent shut
-splits_as c held came more over now gave sent closed shut a b d e s =
-    let pa : came ≡ more = λ i k. a k i in
-    let pb : over ≡ now = λ i k. b k i in
-    let pd : gave ≡ sent = λ i k. d k i in
-    let pe : closed ≡ shut = λ i k. e k i in
-    subst (λ (f : ℕ → List (List ℕ)). Splits c held f now sent shut) pa
-    (subst (λ (f : ℕ → Bool). Splits c held came f sent shut) pb
-    (subst (λ (f : ℕ → List (List ℕ)). Splits c held came over f shut) pd
-    (subst (λ (f : ℕ → Bool). Splits c held came over gave f) pe s)))
-
 -- an event that tells nothing of inputs
-pub quiet_works : (c : Config) (g next : Gateway) (held : List (Option (List ℕ))) (events : List Event) (e : Event)
-    → ((es : List Event) (k : ℕ) → packets_to k e ≡ []) → ((es : List Event) (k : ℕ) → ends k e ≡ false)
+pub quiet_works : {c : Config} {g next : Gateway} {held : List (Option (List ℕ))} {events : List Event} (e : Event)
+    → ((k : ℕ) → packets_to k e ≡ []) → ((k : ℕ) → ends k e ≡ false)
     → ((d : Config) (done : List Event) → GatewayStandsFor g d done → GatewayStandsFor next d (done ++ e ∷ []))
     → Works c g held events → Works c next held (events ++ e ∷ [])
-quiet_works c g next held events e none off stands w = record {
+quiet_works {c = c} {events = events} e none off stands w = record {
   done = w.done ++ e ∷ [];
   stands = stands c w.done w.stands;
   splits = record {
@@ -199,28 +167,25 @@ quiet_works c g next held events e none off stands w = record {
         ∙ sym (begun_with events e);
     given_is = given_with w.done e ∙ ap (λ (n : ℕ). n + cond (gives e) 1 0) w.splits.given_is
         ∙ sym (given_with events e);
-    finished_is = any_append finishes w.done (e ∷ []) ∙ ap (λ (b : Bool). b || list_any finishes (e ∷ []))
+    finished_is = list_any-append finishes w.done (e ∷ []) ∙ ap (λ (b : Bool). b || list_any finishes (e ∷ []))
         w.splits.finished_is
-        ∙ sym (any_append finishes events (e ∷ []));
-    splits = splits_as c held _ (λ k. offered k (events ++ e ∷ [])) _ (λ k. has_ended k (events ++ e ∷ [])) _
-        (λ k. offered k (w.done ++ e ∷ [])) _ (λ k. has_ended k (w.done ++ e ∷ [])) (packets events)
-        (over events) (packets w.done)
-        (over w.done) w.splits.splits;
+        ∙ sym (list_any-append finishes events (e ∷ []));
+    splits = splits_as (packets events) (over events) (packets w.done) (over w.done) w.splits.splits;
   };
 }
   where
-    packets : (es : List Event) (k : ℕ) → offered k es ≡ offered k (es ++ e ∷ [])
-    packets es k = sym (offered_append k es (e ∷ []) ∙ rw (none es k) (append-nil (offered k es)))
+    packets : (es : List Event) (k : ℕ) → offered k (es ++ e ∷ []) ≡ offered k es
+    packets es k = offered_append k es (e ∷ []) ∙ rw (none k) (append-nil (offered k es))
 
-    over : (es : List Event) (k : ℕ) → has_ended k es ≡ has_ended k (es ++ e ∷ [])
-    over es k = sym (ended_append k es (e ∷ []) ∙ rw (off es k) (or_false (has_ended k es)))
+    over : (es : List Event) (k : ℕ) → has_ended k (es ++ e ∷ []) ≡ has_ended k es
+    over es k = ended_append k es (e ∷ []) ∙ rw (off k) (or_false (has_ended k es))
 
 -- ---- what holds of a struct
 
-pub worked_by : (c : Config) (g next : Gateway) (was is : List (Option (List ℕ))) → ∥ HasWorked c g was ∥₁
+pub worked_by : {c : Config} {g next : Gateway} {was is : List (Option (List ℕ))} → ∥ HasWorked c g was ∥₁
     → ((events : List Event) → Works c g was events → (now : List Event) × Works c next is now)
     → ∥ HasWorked c next is ∥₁
-worked_by c g next was is w f = ∥∥₁_map w (λ (h : HasWorked c g was). let n = f h.events h.works in
+worked_by {c} {g} {was = was} w f = ∥∥₁_map w (λ (h : HasWorked c g was). let n = f h.events h.works in
     record { events = n.0; works = n.1 })
 
 -- a place behind the last PLP counts as common
@@ -258,12 +223,12 @@ offered_wanted c g held after plp w here apart = λ k own some. elim (cases_eq k
 ]
 
 -- an input that is asked for did not end
-pub asked_going : (c : Config) (g : Gateway) (held : List (Option (List ℕ))) (events : List Event) (plp : ℕ)
+pub asked_going : {c : Config} {g : Gateway} {held : List (Option (List ℕ))} {events : List Event} (plp : ℕ)
     → plps_of g ≡ length c.plps
     → (w : Works c g held events) → IsInput c plp → 0 < wants_of g plp
     → (has_ended plp events ≡ false) × (wants_of g plp ≡ slots_by c plp (begun w.done * c.ticks) - length
     (offered plp w.done))
-asked_going c g held events plp plps w i some =
+asked_going {c} {g} {events = events} plp plps w i some =
     let is = wants_is g c w.done plp w.stands (let lt = i.0 in omega (arith, lt, plps)) in
     let want = some_wanted (has_ended plp w.done) (slots_by c plp (begun w.done * c.ticks))
     (length (offered plp w.done)) (wants_of g plp)
@@ -275,66 +240,18 @@ pub asked_wants : (c : Config) (g : Gateway) (held : List (Option (List ℕ))) (
     → Works c g held events → IsInput c plp → held_at held plp ≡ None → 0 < wants_of g plp
     → wants_of g plp ≡ slots_by c plp (begun events * c.ticks) - length (offered plp events)
 asked_wants c g held events plp plps w i none some =
-    let a = asked_going c g held events plp plps w i some in
-    let count = none_held c _ held _ _ _ _ plp w.splits.splits i none a.0 in
+    let a = asked_going plp plps w i some in
+    let count = none_held plp w.splits.splits i none a.0 in
     let frames = ap (λ (n : ℕ). slots_by c plp (n * c.ticks)) w.splits.begun_is in
     (let e = a.1 in omega (arith, e, count, frames))
 
 -- ---- units
 
-pub kept_works : (c : Config) (g next : Gateway) (held : List (Option (List ℕ))) (events : List Event)
+pub kept_works : {c : Config} {g next : Gateway} {held : List (Option (List ℕ))} {events : List Event}
     → ((d : Config) (done : List Event) → GatewayStandsFor g d done → GatewayStandsFor next d done)
     → Works c g held events → Works c next held events
-kept_works c g next held events stands w = record {
+kept_works {c} stands w = record {
   done = w.done;
   stands = stands c w.done w.stands;
   splits = w.splits;
 }
-
-pub unit_of : (c d : Config) (g : Gateway) (held : List (Option (List ℕ))) (events : List Event) (inputs : ℕ
-    → List (List ℕ))
-    (more : List (List ℕ)) (unit : List ℕ) → c ≡ d → (w : Works c g held events)
-    → ((e : Config) (done : List Event) → GatewayStandsFor g e done → (all : ℕ → List (List ℕ)) → AllContinue e done all
-    → (rest : List (List ℕ)) → (finished done ≡ true → rest ≡ [])
-    → slice_get (pipe e.pid (front_packets e all (begun done) ++ rest)) (given done) ≡ Some unit)
-    → InputsContinue d events inputs → (finished events ≡ true → more ≡ [])
-    → slice_get (pipe d.pid (front_packets d (split d inputs) (begun events) ++ more)) (given events) ≡ Some unit
-unit_of c d g held events inputs more unit same w law k none =
-    subst (λ (e : Config). InputsContinue e events inputs
-    → slice_get (pipe e.pid (front_packets e (split e inputs) (begun events) ++ more)) (given events) ≡ Some unit) same
-    (λ k. subst (λ (n : ℕ). slice_get (pipe c.pid (front_packets c (split c inputs) n ++ more)) (given events) ≡ Some
-    unit) w.splits.begun_is
-    (subst (λ (n : ℕ). slice_get (pipe c.pid (front_packets c (split c inputs) (begun w.done) ++ more)) n ≡ Some unit)
-    w.splits.given_is
-    (law c w.done w.stands (split c inputs) (all_continue c held events w.done inputs w.splits k) more
-    (λ on. none (sym w.splits.finished_is ∙ on))))) k
-
-pub caught_of : (c d : Config) (g : Gateway) (held : List (Option (List ℕ))) (events : List Event) (inputs : ℕ
-    → List (List ℕ)) → c ≡ d
-    → (w : Works c g held events)
-    → ((e : Config) (done : List Event) → GatewayStandsFor g e done → finished done ≡ false → (all : ℕ → List (List ℕ))
-    → AllContinue e done all → given done ≡ length (complete_units e.pid (front_packets e all (begun done))))
-    → finished events ≡ false → InputsContinue d events inputs
-    → given events ≡ length (complete_units d.pid (front_packets d (split d inputs) (begun events)))
-caught_of c d g held events inputs same w law off k =
-    subst (λ (e : Config). InputsContinue e events inputs
-    → given events ≡ length (complete_units e.pid (front_packets e (split e inputs) (begun events)))) same
-    (λ k. sym w.splits.given_is
-    ∙ law c w.done w.stands (w.splits.finished_is ∙ off) (split c inputs) (all_continue c held events
-    w.done inputs w.splits k)
-    ∙ ap (λ (n : ℕ). length (complete_units c.pid (front_packets c (split c inputs) n))) w.splits.begun_is) k
-
-pub none_of : (c d : Config) (g : Gateway) (held : List (Option (List ℕ))) (events : List Event) (inputs : ℕ
-    → List (List ℕ)) → c ≡ d
-    → (w : Works c g held events)
-    → ((e : Config) (done : List Event) → GatewayStandsFor g e done → finished done ≡ true → (all : ℕ → List (List ℕ))
-    → AllContinue e done all → length (pipe e.pid (front_packets e all (begun done))) ≡ given done)
-    → finished events ≡ true → InputsContinue d events inputs
-    → length (pipe d.pid (front_packets d (split d inputs) (begun events))) ≡ given events
-none_of c d g held events inputs same w law on k =
-    subst (λ (e : Config). InputsContinue e events inputs
-    → length (pipe e.pid (front_packets e (split e inputs) (begun events))) ≡ given events) same
-    (λ k. sym (ap (λ (n : ℕ). length (pipe c.pid (front_packets c (split c inputs) n))) w.splits.begun_is)
-    ∙ law c w.done w.stands (w.splits.finished_is ∙ on) (split c inputs) (all_continue c held events
-    w.done inputs w.splits k)
-    ∙ w.splits.given_is) k

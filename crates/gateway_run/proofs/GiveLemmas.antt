@@ -13,14 +13,14 @@ use Rattle.gateway_core.specs.Packets.{front_packets}
 use Rattle.gateway_core.specs.InputSoFar.{told}
 use Rattle.gateway_core.proofs.InputsLemmas.{nothing_told}
 use Rattle.gateway_core.proofs.HoldsLemmas.{given_with, begun_same, finished_same}
-use Rattle.gateway_run.specs.Holds.{AreComplete, AreAll, HasGiven, NoTails, IsIn, Holds}
+use Rattle.gateway_run.specs.Holds.{AreComplete, HasGiven, NoTails, IsIn, Holds}
 use Rattle.common_plp.specs.Inputs.{place_of, streams_by}
 use Rattle.common_plp.specs.Sharing.{Sharing}
 use Rattle.gateway_run.specs.Seen.{IsNext}
 use Rattle.gateway_run.specs.Phases.{IsGiving, left_by}
 use Rattle.gateway_run.specs.Ready.{place_by}
 use Rattle.gateway_run.specs.declared.place.Phase.{Phase}
-use Rattle.gateway_run.specs.declared.place.Phase.TheVariants.{Wants, Begins, Gives, Rests, Done, Stopped}
+use Rattle.gateway_run.specs.declared.place.Phase.TheVariants.{Gives}
 use Rattle.gateway_run.specs.declared.place.Place.{Place}
 use Rattle.gateway_run.specs.declared.stop.GatewayRan.{GatewayRan}
 use Rattle.gateway_run.proofs.BeginLemmas.{moved_to}
@@ -151,20 +151,6 @@ module _ (way : Sharing) where
       pieces_gave tell c done g place ran (take len xs) (take count ys) (take all (put_mid len k xs ys))
       (ap (λ (n : ℕ). take n (put_mid len k xs ys)) e ∙ piece_taken xs ys len k count inside few) h
 
-  -- All units of the run were given.
-  pub units_over : EventsTell → (c : Config) (done : List run.Event) (g next : List Event → Type 0)
-      (place after : Place) (ran : GatewayRan)
-      → place.phase ≡ Rests → after.phase ≡ Done
-      → ((events : List Event) → g events → next events)
-      → ((events : List Event) → g events → finished events ≡ true → AreAll way c events)
-      → Holds way c done g place ran → Holds way c (done ++ run.Gave [] ∷ []) next after ran
-  units_over tell c done g next place after ran e to still none h =
-      let i : NoTails h.tails × HasGiven way c h.events (begun h.events) × (finished h.events ≡ true) =
-      subst (λ (p : Phase). IsIn way c h.events h.tails p) e h.is_in in
-      nothing_gave tell c done next after ran (moved_to way c done g next place after ran h
-      (still h.events h.stands)
-      (subst (λ (p : Phase). IsIn way c h.events h.tails p) (sym to) (i.0, i.2, none h.events h.stands i.2)) i.0)
-
   -- All complete units of the frames begun were given.
   pub units_out : EventsTell → (c : Config) (done : List run.Event) (g next : List Event → Type 0) (place : Place)
       (asked : Option ℕ) (ran : GatewayRan) → place.phase ≡ Gives
@@ -179,17 +165,7 @@ module _ (way : Sharing) where
       (still h.events h.stands)
       (looked_in way c h.events h.tails asked i.0 (caught h.events h.stands (off h.events h.stands))) i.0)
 
--- what is left to give is less behind a unit
-pub unit_left : (phase : Phase) (bytes later frames : ℕ) → IsGiving phase → later < bytes
-    → left_by later phase frames < left_by bytes phase frames
-unit_left Wants bytes later frames i less = absurd i
-unit_left Begins bytes later frames i less = absurd i
-unit_left Gives bytes later frames i less = omega (arith, less)
-unit_left Rests bytes later frames i less = omega (arith, less)
-unit_left Done bytes later frames i less = absurd i
-unit_left (Stopped why) bytes later frames i less = absurd i
-
--- and behind the last one of a frame
+-- what is left to give is less behind the last unit of a frame
 pub looked_left : (asked : Option ℕ) (bytes later frames : ℕ) → later ≡ bytes
     → left_by later (place_by asked).phase frames < left_by bytes Gives frames
 looked_left None bytes later frames kept = omega (arith, kept)

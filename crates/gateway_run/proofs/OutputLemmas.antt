@@ -45,9 +45,8 @@ read_of file bytes tail place ended over packets whole f o = record {
   end = λ on. ap (λ (l : List ℕ). l ++ f.more) (whole on) ∙ f.end (o.end (whole on) ∙ on);
 }
 
-module _ (way : Sharing) (c : Config) (done : List run.Event) (g : List Event
-    → Type 0) (place : Place) (ran : GatewayRan)
-    (h : Holds way c done g place ran) (files : ℕ → List ℕ) (places : List ℕ)
+module _ {way : Sharing} {c : Config} {done : List run.Event} {g : List Event → Type 0} {place : Place}
+    {ran : GatewayRan} (h : Holds way c done g place ran) (files : ℕ → List ℕ) (places : List ℕ)
     (are : AreFed (input_count way c) files places done) where
   -- what goes in the PLPs, and the packets of so many first frames
   abbrev pub streams : ℕ → List (List ℕ)

@@ -1,7 +1,7 @@
 -- The phases of a run.
 use Rattle.std.proofs.Common.{Option, Some, None, ◌≡◌, ◌≢◌, ◌⊎◌, ℕ, ◌<◌, ◌≤◌, refl, arith, inl, inr}
 use Rattle.ts_packet.specs.declared.sizes.TheConstants.{SIZE}
-use Rattle.file_run.specs.Steps.{Suffices, FallsShort}
+use Rattle.file_run.specs.Steps.{FallsShort}
 use Rattle.plp_config.specs.declared.moment.TheConstants.{MOST_FRAMES}
 use Rattle.gateway_run.specs.Phases.{IsGiving, step_by, frame_read}
 use Rattle.gateway_run.specs.Ready.{place_by}
@@ -17,15 +17,6 @@ giving_cases Done i = absurd i
 giving_cases (Stopped why) i = absurd i
 
 -- ---- what comes next
-
-pub suffices_at : (wants at : ℕ) (phase : Phase) (input count : ℕ) → Suffices (step_by wants at phase) input count
-    → (phase ≡ Wants) × (at ≡ input) × (SIZE ≤ count)
-suffices_at wants at Wants input count r = (refl, r.0, r.1)
-suffices_at wants at Begins input count r = absurd r
-suffices_at wants at Gives input count r = absurd r
-suffices_at wants at Rests input count r = absurd r
-suffices_at wants at Done input count r = absurd r
-suffices_at wants at (Stopped why) input count r = absurd r
 
 pub falls_short_at : (wants at : ℕ) (phase : Phase) (input count : ℕ) → FallsShort (step_by wants at phase) input count
     → (phase ≡ Wants) × (at ≡ input) × (count < SIZE)

@@ -1,11 +1,11 @@
 -- An input was fed, or ended.
-use Rattle.std.proofs.Common.{◌≡◌, ◌≢◌, ℕ, ◌+◌, ◌-◌, ◌*◌, ◌<◌, ◌≤◌, Bool, true, false, cond, List, [], ◌∷◌, ◌++◌}
+use Rattle.std.proofs.Common.{◌≡◌, ◌≢◌, ℕ, ◌+◌, ◌-◌, ◌*◌, ◌<◌, Bool, true, false, cond, List, [], ◌∷◌, ◌++◌}
 use Rattle.std.proofs.Common.{length, refl, ap, sym, subst, ◌∙◌, inl, inr, arith, append-nil, append_assoc, eq-eqb}
 use Rattle.std.specs.Prelude.{◌==◌, ◌⊎◌, slice_index, Option, Some, None}
 use Rattle.std.proofs.lemmas.Bool.{cases_eq, ne_eqb}
 use Rattle.std.proofs.lemmas.List.{length_push}
 use Rattle.ts_packet.proofs.JoinedLemmas.{joined_push}
-use Rattle.common_plp.specs.Inputs.{place_of, input_count}
+use Rattle.common_plp.specs.Inputs.{place_of}
 use Rattle.common_plp.specs.Sharing.{Sharing}
 use Rattle.common_plp.proofs.InputLemmas.{place_apart}
 use Rattle.plp_config.specs.SlotTime.{slots_by}
@@ -142,8 +142,7 @@ module _ (way : Sharing) where
   nothing_fed tell c done g place ran at h =
       let f = tell.fed at [] done in
       holds_of c done (done ++ run.Fed at [] ∷ []) g place ran
-      (each_input (λ k. run.fed k (done ++ run.Fed at [] ∷ []) ≡ run.fed k done) at
-      (f.here ∙ append-nil (run.fed at done)) f.others) f.ended f.gave h
+      (each_input _ at (f.here ∙ append-nil (run.fed at done)) f.others) f.ended f.gave h
 
   -- Two pieces that were fed of an input are one.
   pub pieces_fed : EventsTell → (c : Config) (done : List run.Event) (g : List Event → Type 0) (place : Place)
@@ -155,9 +154,7 @@ module _ (way : Sharing) where
       let s = tell.fed at b (done ++ run.Fed at a ∷ []) in
       let w = tell.fed at all done in
       holds_of c ((done ++ run.Fed at a ∷ []) ++ run.Fed at b ∷ []) (done ++ run.Fed at all ∷ []) g place ran
-      (each_input (λ k. run.fed k (done ++ run.Fed at all ∷ [])
-      ≡ run.fed k ((done ++ run.Fed at a ∷ []) ++ run.Fed at b ∷ [])) at
-      (w.here ∙ ap (λ (l : List ℕ). run.fed at done ++ l) e ∙ sym (append_assoc (run.fed at done) a b)
+      (each_input _ at (w.here ∙ ap (λ (l : List ℕ). run.fed at done ++ l) e ∙ sym (append_assoc (run.fed at done) a b)
       ∙ sym (s.here ∙ ap (λ (l : List ℕ). l ++ b) f.here))
       (λ k differ. w.others k differ ∙ sym (s.others k differ ∙ f.others k differ)))
       (λ input. w.ended input ∙ sym (s.ended input ∙ f.ended input))
@@ -182,19 +179,13 @@ module _ (way : Sharing) where
       ∙ length_push (offered (place_of way c plp) events) packet in
       record {
         within =
-            each_input (λ k. k < input_count way c
-            → length (offered (place_of way c k) (events ++ Offered (place_of way c plp) packet ∷ []))
-            ≤ slots_by c (place_of way c k) (begun (events ++ Offered (place_of way c plp) packet ∷ []) * c.ticks)) plp
-            (λ lt. let b = ap (λ (k : ℕ). slots_by c (place_of way c plp) (k * c.ticks)) s.begun_is in
+            each_input _ plp (λ lt. let b = ap (λ (k : ℕ). slots_by c (place_of way c plp) (k * c.ticks)) s.begun_is in
             omega (arith, more, less, b))
             (λ k differ lt. let n = ap (λ (t : Told). length t.packets) (other_offered (place_of way c k)
             (place_of way c plp) events packet (others_apart c k plp differ)) in
             let l = h.within k lt in let b = ap (λ (j : ℕ). slots_by c (place_of way c k) (j * c.ticks))
             s.begun_is in omega (arith, n, l, b));
-        there = each_input (λ k. k < input_count way c
-            → has_ended (place_of way c k) (events ++ Offered (place_of way c plp) packet ∷ []) ≡ false
-            → slots_by c (place_of way c k) ((begun (events ++ Offered (place_of way c plp) packet ∷ []) - 1) * c.ticks)
-            ≤ length (offered (place_of way c k) (events ++ Offered (place_of way c plp) packet ∷ []))) plp
+        there = each_input _ plp
             (λ lt on. let l = h.there plp lt off in let b = ap (λ (k : ℕ). slots_by c (place_of way c plp)
             ((k - 1) * c.ticks)) s.begun_is in
             omega (arith, more, l, b))
@@ -214,20 +205,14 @@ module _ (way : Sharing) where
       (place_of way c plp) in
       let same : (k : ℕ) → length (offered (place_of way c k) (events ++ Ended (place_of way c plp) ∷ [])) ≡ length
       (offered (place_of way c k) events) =
-      each_input (λ k. length (offered (place_of way c k) (events ++ Ended (place_of way c plp) ∷ [])) ≡ length
-      (offered (place_of way c k) events)) plp
-      (ap (λ (t : Told). length t.packets) (told_ended (place_of way c plp) events))
+      each_input _ plp (ap (λ (t : Told). length t.packets) (told_ended (place_of way c plp) events))
       (λ k differ. ap (λ (t : Told). length t.packets) (other_ended (place_of way c k) (place_of way c plp)
       events (others_apart c k plp differ))) in
       record {
         within = λ k lt. let n = same k in let l = h.within k lt in let b = ap
             (λ (j : ℕ). slots_by c (place_of way c k) (j * c.ticks)) s.begun_is in
             omega (arith, n, l, b);
-        there = each_input (λ k. k < input_count way c
-            → has_ended (place_of way c k) (events ++ Ended (place_of way c plp) ∷ []) ≡ false
-            → slots_by c (place_of way c k) ((begun (events ++ Ended (place_of way c plp) ∷ []) - 1) * c.ticks) ≤ length
-            (offered (place_of way c k) (events ++ Ended (place_of way c plp) ∷ []))) plp
-            (λ lt on. absurd (let z : true ≡ false = sym (ap (λ (t : Told). t.ended)
+        there = each_input _ plp (λ lt on. absurd (let z : true ≡ false = sym (ap (λ (t : Told). t.ended)
             (told_ended (place_of way c plp) events)) ∙ on in cc))
             (λ k differ lt on. let n = same k in
             let l = h.there k lt (sym (ap (λ (t : Told). t.ended) (other_ended (place_of way c k) (place_of way c plp)
@@ -238,14 +223,32 @@ module _ (way : Sharing) where
         last = last_none c events (events ++ Ended (place_of way c plp) ∷ []) s going;
       }
 
+-- the tail of one input
+abbrev pub one_tail : ℕ → List ℕ → ℕ → List ℕ
+one_tail plp bytes k = cond (k == plp) bytes []
+
+tail_here : (plp : ℕ) (bytes : List ℕ) → one_tail plp bytes plp ≡ bytes
+tail_here plp bytes = let self : (plp == plp) ≡ true = eq-eqb plp plp refl in ap (λ (b : Bool). cond b bytes []) self
+
+tail_other : (plp k : ℕ) (bytes : List ℕ) → k ≢ plp → one_tail plp bytes k ≡ []
+tail_other plp k bytes differ = ap (λ (b : Bool). cond b bytes []) (ne_eqb k plp differ)
+
+-- what an input was told last
+record IsTold (done is : List run.Event) (plp : ℕ) (bytes : List ℕ) : Type 0 where
+  here : run.fed plp is ≡ run.fed plp done ++ bytes
+  others : (other : ℕ) → other ≢ plp → run.fed other is ≡ run.fed other done
+  ended : (other : ℕ) → other ≢ plp → run.has_ended other is ≡ run.has_ended other done
+  gave : run.gave is ≡ run.gave done
+
+-- what is done at the input that is waited for
+module _ {way : Sharing} {c : Config} {done : List run.Event} {g : List Event → Type 0} {place : Place}
+    {ran : GatewayRan} (wants : ℕ) (wait : Waits way c done g place ran wants) (h : Holds way c done g place ran) where
   -- A packet was offered.
-  pub packet_offered : EventsTell → (c : Config) (done : List run.Event) (g next : List Event → Type 0)
-      (place : Place) (asked : Option ℕ) (ran : GatewayRan) (wants : ℕ) (packet bytes : List ℕ)
-      → Waits c done g place ran wants
+  pub packet_offered : EventsTell → (next : List Event → Type 0) (asked : Option ℕ) (packet bytes : List ℕ)
       → packet ≡ bytes → length packet ≡ SIZE → slice_index packet 0 ≡ SYNC
       → ((events : List Event) → g events → next (events ++ Offered (place_of way c place.input) packet ∷ []))
-      → Holds way c done g place ran → Holds way c (done ++ run.Fed place.input bytes ∷ []) next (place_by asked) ran
-  packet_offered tell c done g next place asked ran wants packet bytes wait same long sync stands h =
+      → Holds way c (done ++ run.Fed place.input bytes ∷ []) next (place_by asked) ran
+  packet_offered tell next asked packet bytes same long sync stands =
       let w = wait h in
       let off = w.first.is_open in
       let s : IsStep way c h.events (h.events ++ Offered (place_of way c place.input) packet ∷ []) =
@@ -260,39 +263,30 @@ module _ (way : Sharing) where
         units = h.units ∙ sym s.given_is;
         tails = h.tails;
         inputs = record {
-          each = each_input (λ k. k < input_count way c
-              → IsOffered (run.fed k (done ++ run.Fed place.input bytes ∷ []))
-              (run.has_ended k (done ++ run.Fed place.input bytes ∷ [])) (offered (place_of way c k)
-              (h.events ++ Offered (place_of way c place.input) packet ∷ []))
-              (has_ended (place_of way c k) (h.events ++ Offered (place_of way c place.input) packet ∷ [])) (h.tails k))
-              place.input
-              (λ lt. offered_packet _ _ packet _ _ _ _ _ _ _ (w.none place.input)
+          each = each_input _ place.input (λ lt. offered_packet _ _ packet _ _ _ _ _ _ _ (w.none place.input)
               (f.here ∙ ap (λ (l : List ℕ). run.fed place.input done ++ l) (sym same)) (f.ended place.input)
               (ap (λ (t : Told). t.ended) t) (ap (λ (t : Told). t.packets) t) long sync (h.inputs.each place.input lt))
               (λ k differ lt. offered_as _ _ _ _ (told (place_of way c k) h.events)
               (told (place_of way c k) (h.events ++ Offered (place_of way c place.input) packet ∷ [])) _
               (f.others k differ) (f.ended k) (other_offered (place_of way c k) (place_of way c place.input)
-              h.events packet (others_apart c k place.input differ)) (h.inputs.each k lt));
+              h.events packet (others_apart way c k place.input differ)) (h.inputs.each k lt));
           whole = λ k on. w.none k;
         };
-        time = time_offered c h.events place.input packet off w.first.less w.is_going h.time;
+        time = time_offered way c h.events place.input packet off w.first.less w.is_going h.time;
         sends = sends_kept way c done (done ++ run.Fed place.input bytes ∷ []) h.events
             (h.events ++ Offered (place_of way c place.input) packet ∷ []) s
             f.gave h.sends;
-        is_in = looked_in c (h.events ++ Offered (place_of way c place.input) packet ∷ []) h.tails asked
+        is_in = looked_in way c (h.events ++ Offered (place_of way c place.input) packet ∷ []) h.tails asked
             w.none (complete_kept way c h.events (h.events ++ Offered (place_of way c place.input) packet ∷ [])
             s w.complete);
         cut = λ k some. absurd (some (w.none k));
       }
 
   -- An input ended.
-  pub input_ended : EventsTell → (c : Config) (done : List run.Event) (g next : List Event → Type 0)
-      (place : Place) (asked : Option ℕ) (ran : GatewayRan) (wants : ℕ) (bytes : List ℕ)
-      → Waits c done g place ran wants
-      → bytes ≡ []
+  pub input_ended : EventsTell → (next : List Event → Type 0) (asked : Option ℕ) (bytes : List ℕ) → bytes ≡ []
       → ((events : List Event) → g events → next (events ++ Ended (place_of way c place.input) ∷ []))
-      → Holds way c done g place ran → Holds way c (done ++ run.Ended place.input bytes ∷ []) next (place_by asked) ran
-  input_ended tell c done g next place asked ran wants bytes wait nothing stands h =
+      → Holds way c (done ++ run.Ended place.input bytes ∷ []) next (place_by asked) ran
+  input_ended tell next asked bytes nothing stands =
       let w = wait h in
       let s : IsStep way c h.events (h.events ++ Ended (place_of way c place.input) ∷ []) = step_ended
       way c h.events (place_of way c place.input) in
@@ -306,59 +300,34 @@ module _ (way : Sharing) where
         units = h.units ∙ sym s.given_is;
         tails = h.tails;
         inputs = record {
-          each = each_input (λ k. k < input_count way c
-              → IsOffered (run.fed k (done ++ run.Ended place.input bytes ∷ []))
-              (run.has_ended k (done ++ run.Ended place.input bytes ∷ []))
-              (offered (place_of way c k) (h.events ++ Ended (place_of way c place.input) ∷ []))
-              (has_ended (place_of way c k) (h.events ++ Ended (place_of way c place.input) ∷ [])) (h.tails k))
-              place.input
-              (λ lt. let o = h.inputs.each place.input lt in record {
-                parts = f.here ∙ ap (λ (l : List ℕ). run.fed place.input done ++ l) nothing
-                    ∙ append-nil (run.fed place.input done)
-                    ∙ o.parts ∙ ap (λ (t : Told). joined t.packets ++ h.tails place.input) (sym t);
-                each = subst (λ (t : Told). ArePackets t.packets) (sym t) o.each;
-                end = λ _. f.ended ∙ ap (λ (t : Told). t.ended) (sym t);
-              })
+          each = each_input _ place.input (λ lt. let o = h.inputs.each place.input lt in record {
+            parts = f.here ∙ ap (λ (l : List ℕ). run.fed place.input done ++ l) nothing
+                ∙ append-nil (run.fed place.input done)
+                ∙ o.parts ∙ ap (λ (t : Told). joined t.packets ++ h.tails place.input) (sym t);
+            each = subst (λ (t : Told). ArePackets t.packets) (sym t) o.each;
+            end = λ _. f.ended ∙ ap (λ (t : Told). t.ended) (sym t);
+          })
               (λ k differ lt. offered_as _ _ _ _ (told (place_of way c k) h.events)
               (told (place_of way c k) (h.events ++ Ended (place_of way c place.input) ∷ [])) _ (f.others k differ)
               (f.others_ended k differ) (other_ended (place_of way c k) (place_of way c place.input)
-              h.events (others_apart c k place.input differ)) (h.inputs.each k lt));
+              h.events (others_apart way c k place.input differ)) (h.inputs.each k lt));
           whole = λ k on. w.none k;
         };
-        time = time_ended c h.events place.input w.is_going h.time;
+        time = time_ended way c h.events place.input w.is_going h.time;
         sends = sends_kept way c done (done ++ run.Ended place.input bytes ∷ []) h.events
             (h.events ++ Ended (place_of way c place.input) ∷ []) s f.gave
             h.sends;
-        is_in = looked_in c (h.events ++ Ended (place_of way c place.input) ∷ []) h.tails asked w.none
+        is_in = looked_in way c (h.events ++ Ended (place_of way c place.input) ∷ []) h.tails asked w.none
             (complete_kept way c h.events (h.events ++ Ended (place_of way c place.input) ∷ []) s w.complete);
         cut = λ k some. absurd (some (w.none k));
       }
 
-  -- the tail of one input
-  abbrev pub one_tail : ℕ → List ℕ → ℕ → List ℕ
-  one_tail plp bytes k = cond (k == plp) bytes []
-
-  tail_here : (plp : ℕ) (bytes : List ℕ) → one_tail plp bytes plp ≡ bytes
-  tail_here plp bytes = let self : (plp == plp) ≡ true = eq-eqb plp plp refl in ap (λ (b : Bool). cond b bytes []) self
-
-  tail_other : (plp k : ℕ) (bytes : List ℕ) → k ≢ plp → one_tail plp bytes k ≡ []
-  tail_other plp k bytes differ = ap (λ (b : Bool). cond b bytes []) (ne_eqb k plp differ)
-
-  -- what an input was told last
-  record IsTold (done is : List run.Event) (plp : ℕ) (bytes : List ℕ) : Type 0 where
-    here : run.fed plp is ≡ run.fed plp done ++ bytes
-    others : (other : ℕ) → other ≢ plp → run.fed other is ≡ run.fed other done
-    ended : (other : ℕ) → other ≢ plp → run.has_ended other is ≡ run.has_ended other done
-    gave : run.gave is ≡ run.gave done
-
   -- These bytes are no packet.
-  stopped_at : (c : Config) (done is : List run.Event) (g : List Event → Type 0) (place after : Place)
-      (ran : GatewayRan) (wants : ℕ) (bytes : List ℕ) (why : GatewayStop) → Waits c done g place ran wants
-      → after.phase ≡ Stopped why → bytes ≢ []
+  stopped_at : (is : List run.Event) (after : Place) (bytes : List ℕ) (why : GatewayStop) → after.phase ≡ Stopped why
+      → bytes ≢ []
       → (slice_index bytes 0 ≢ SYNC) ⊎ (run.has_ended place.input is ≡ true) → IsTold done is place.input bytes
-      → (h : Holds way c done g place ran) → StopsFor way c h.events (one_tail place.input bytes) why
-      → Holds way c is g after ran
-  stopped_at c done is g place after ran wants bytes why wait to some cut tells h stops =
+      → StopsFor way c h.events (one_tail place.input bytes) why → Holds way c is g after ran
+  stopped_at is after bytes why to some cut tells stops =
       let w = wait h in
       record {
         plan = h.plan;
@@ -368,18 +337,14 @@ module _ (way : Sharing) where
         units = h.units;
         tails = one_tail place.input bytes;
         inputs = record {
-          each = each_input (λ k. k < input_count way c → IsOffered (run.fed k is) (run.has_ended k is)
-              (offered (place_of way c k) h.events)
-              (has_ended (place_of way c k) h.events) (one_tail place.input bytes k)) place.input
+          each = each_input _ place.input
               (λ lt. offered_tail _ _ bytes _ _ _ _ _ _ (w.none place.input) (tail_here place.input bytes)
               some tells.here
               (h.inputs.each place.input lt))
               (λ k differ lt. tail_as _ _ _ _ _ _ _ _ (tail_other place.input k bytes differ ∙ sym (w.none k))
               (tells.others k differ)
               (tells.ended k differ) (h.inputs.each k lt));
-          whole = each_input (λ k. has_ended (place_of way c k) h.events ≡ true → one_tail place.input bytes k ≡ [])
-              place.input
-              (λ on. absurd (let z : true ≡ false = sym on ∙ w.first.is_open in cc))
+          whole = each_input _ place.input (λ on. absurd (let z : true ≡ false = sym on ∙ w.first.is_open in cc))
               (λ k differ on. tail_other place.input k bytes differ);
         };
         time = h.time;
@@ -390,9 +355,7 @@ module _ (way : Sharing) where
           front = h.sends.front;
         };
         is_in = subst (λ (p : Phase). IsIn way c h.events (one_tail place.input bytes) p) (sym to) stops;
-        cut = each_input (λ k. one_tail place.input bytes k ≢ [] → (slice_index (one_tail place.input bytes k) 0 ≢ SYNC)
-            ⊎ (run.has_ended k is ≡ true)) place.input
-            (λ there.
+        cut = each_input _ place.input (λ there.
             elim cut [
               | inl sync ↦ inl (λ z. sync (sym (ap (λ (l : List ℕ). slice_index l 0) (tail_here place.input bytes))
                   ∙ z))
@@ -402,37 +365,27 @@ module _ (way : Sharing) where
             (λ k differ there. absurd (there (tail_other place.input k bytes differ)));
       }
 
-  pub fed_stopped : EventsTell → (c : Config) (done : List run.Event) (g : List Event → Type 0)
-      (place after : Place) (ran : GatewayRan) (wants : ℕ) (bytes : List ℕ) (why : GatewayStop)
-      → Waits c done g place ran wants → after.phase ≡ Stopped why → bytes ≢ []
-      → slice_index bytes 0 ≢ SYNC → (h : Holds way c done g place ran)
-      → StopsFor way c h.events (one_tail place.input bytes) why
+  pub fed_stopped : EventsTell → (after : Place) (bytes : List ℕ) (why : GatewayStop) → after.phase ≡ Stopped why
+      → bytes ≢ [] → slice_index bytes 0 ≢ SYNC → StopsFor way c h.events (one_tail place.input bytes) why
       → Holds way c (done ++ run.Fed place.input bytes ∷ []) g after ran
-  fed_stopped tell c done g place after ran wants bytes why wait to some sync h stops =
+  fed_stopped tell after bytes why to some sync stops =
       let f = tell.fed place.input bytes done in
-      stopped_at c done (done ++ run.Fed place.input bytes ∷ []) g place after ran wants bytes why wait
-      to some (inl sync)
-      (record { here = f.here; others = f.others; ended = λ k differ. f.ended k; gave = f.gave }) h stops
+      stopped_at (done ++ run.Fed place.input bytes ∷ []) after bytes why to some (inl sync)
+      (record { here = f.here; others = f.others; ended = λ k differ. f.ended k; gave = f.gave }) stops
 
-  pub ended_stopped : EventsTell → (c : Config) (done : List run.Event) (g : List Event → Type 0)
-      (place after : Place) (ran : GatewayRan) (wants : ℕ) (bytes : List ℕ) (why : GatewayStop)
-      → Waits c done g place ran wants → after.phase ≡ Stopped why → bytes ≢ []
-      → (h : Holds way c done g place ran) → StopsFor way c h.events (one_tail place.input bytes) why
+  pub ended_stopped : EventsTell → (after : Place) (bytes : List ℕ) (why : GatewayStop) → after.phase ≡ Stopped why
+      → bytes ≢ [] → StopsFor way c h.events (one_tail place.input bytes) why
       → Holds way c (done ++ run.Ended place.input bytes ∷ []) g after ran
-  ended_stopped tell c done g place after ran wants bytes why wait to some h stops =
+  ended_stopped tell after bytes why to some stops =
       let f = tell.ended place.input bytes done in
-      stopped_at c done (done ++ run.Ended place.input bytes ∷ []) g place after ran wants bytes why
-      wait to some (inr f.ended)
-      (record { here = f.here; others = f.others; ended = f.others_ended; gave = f.gave }) h stops
+      stopped_at (done ++ run.Ended place.input bytes ∷ []) after bytes why to some (inr f.ended)
+      (record { here = f.here; others = f.others; ended = f.others_ended; gave = f.gave }) stops
 
   -- The next packet of the input that is looked at is bad.
-  pub met_bad : (c : Config) (done : List run.Event) (g : List Event → Type 0) (place : Place) (ran : GatewayRan)
-      (wants : ℕ) (bytes : List ℕ)
-      → Waits c done g place ran wants → bytes ≢ [] → begins_with_packet bytes ≡ false
-      → (h : Holds way c done g place ran)
+  pub met_bad : (bytes : List ℕ) → bytes ≢ [] → begins_with_packet bytes ≡ false
       → MetBad way c h.events (one_tail place.input bytes) place.input
       (slots_by c (place_of way c place.input) (ran.frames * c.ticks) - wants)
-  met_bad c done g place ran wants bytes wait some off h =
+  met_bad bytes some off =
       let w = wait h in
       let same = ap (λ (n : ℕ). slots_by c (place_of way c place.input) (n * c.ticks)) h.frames in
       let l = w.first.less in

@@ -70,10 +70,9 @@ whole_slots fed packets place whole least near =
 
 -- ---- a gateway of which so much is known, and of whose files so much was read
 
-module _ (way : Sharing) (c : Config) (s : Seen) (t : Status) (place : Place) (ran : GatewayRan)
-    (ready : IsReady way c s t place ran)
-    (files : ℕ → List ℕ) (places : List ℕ) (events : List run.Event) (are : AreFed (input_count way c)
-    files places events)
+module _ {way : Sharing} {c : Config} {s : Seen} {t : Status} {place : Place} {ran : GatewayRan}
+    (ready : IsReady way c s t place ran) (files : ℕ → List ℕ) (places : List ℕ) (events : List run.Event)
+    (are : AreFed (input_count way c) files places events)
     (further : ReadsNoFurther way c places (frame_read place.phase ran.frames))
     (h : Holds way c events s.stands place ran) where
   further_in : (p : Phase) → place.phase ≡ p → ReadsNoFurther way c places (frame_read p ran.frames)
@@ -82,7 +81,7 @@ module _ (way : Sharing) (c : Config) (s : Seen) (t : Status) (place : Place) (r
   runs_all : place.phase ≡ phase.Done → length places ≡ input_count way c
       → RunsAll way c files ran places (run.gave events)
   runs_all e all =
-      let a = gave_all way c events s.stands place ran h files places are e in
+      let a = gave_all h files places are e in
       record {
         ends = are_whole (input_count way c) files places events all are a.ended;
         whole = a.whole;
@@ -101,18 +100,18 @@ module _ (way : Sharing) (c : Config) (s : Seen) (t : Status) (place : Place) (r
         frame = ran.frames;
         early = ready.counted.early;
         no_further = further_in (phase.Stopped (Bad input packet)) e;
-        meets = meets_bad way c events s.stands place ran h files places are input packet e;
-        output = gave_complete way c events s.stands place ran h files places are units m.complete;
+        meets = meets_bad h files places are input packet e;
+        output = gave_complete h files places are units m.complete;
       }
 
   too_many_frames : place.phase ≡ phase.Stopped TooManyFrames → HasTooManyFrames way c files
   too_many_frames e =
       let m : IsOneTooMany way c h.events h.tails = subst (λ (p : Phase). IsIn way c h.events h.tails p) e h.is_in in
       let none : MeetsNone way c files ran.frames =
-      λ input lt. none_here way c events s.stands place ran h files places are input lt (m.all input lt) in (
+      λ input lt. none_here h files places are input lt (m.all input lt) in (
         subst (λ (n : ℕ). MeetsNone way c files n) (h.frames ∙ m.frame) none,
         subst (λ (n : ℕ). n < frames_of way c files) m.frame
-            (m.more (inputs_of files) (continue_files way c events s.stands place ran h files places are)),
+            (m.more (inputs_of files) (continue_files h files places are)),
       )
 
   stops_at_late : UnitsLaw → FrontsGrow → place.phase ≡ phase.Stopped TooManyFrames
@@ -122,9 +121,9 @@ module _ (way : Sharing) (c : Config) (s : Seen) (t : Status) (place : Place) (r
       let most = h.frames ∙ m.frame in
       record {
         no_further = subst (ReadsNoFurther way c places) most (further_in (phase.Stopped TooManyFrames) e);
-        begins = gave_front way c events s.stands place ran h files places are grow;
+        begins = gave_front h files places are grow;
         output = subst (λ (n : ℕ). CompleteBefore way c files n (run.gave events)) most
-            (gave_complete way c events s.stands place ran h files places are units m.complete);
+            (gave_complete h files places are units m.complete);
       }
 
   ends_in : UnitsLaw → FrontsGrow → (p : Phase) → place.phase ≡ p → step_by (s.wants place.input) place.input p ≡ End
@@ -159,20 +158,19 @@ module _ (way : Sharing) (c : Config) (s : Seen) (t : Status) (place : Place) (r
         early = ready.counted.early;
         wants = omega (arith, size, slots, less, short);
         no_further = further_in phase.Wants e;
-        read = none_whole way c events s.stands place ran h files places are place.input inside (w.none place.input)
+        read = none_whole h files places are place.input inside (w.none place.input)
             short;
         before = (
-          none_before way c events s.stands place ran h files places are,
+          none_before h files places are,
           λ other lt before.
-              none_here way c events s.stands place ran h files places are other lt (w.first.below other lt
+              none_here h files places are other lt (w.first.below other lt
               (earlier_still way c other (length (offered (place_of way c other) h.events))
               (length (packets_in (files other)))
-              place.input (length (offered plp h.events)) (offered_few way c events s.stands place ran
-              h files places are other lt)
+              place.input (length (offered plp h.events)) (offered_few h files places are other lt)
               (subst (λ (n : ℕ). IsBefore way c other (length (packets_in (files other))) place.input n) slot before))),
         );
-        begins = gave_front way c events s.stands place ran h files places are grow;
-        output = gave_complete way c events s.stands place ran h files places are units w.complete;
+        begins = gave_front h files places are grow;
+        output = gave_complete h files places are units w.complete;
       }
 
   too_long : UnitsLaw → FrontsGrow → (input : ℕ) → slice_index places input ≡ longest_file
@@ -219,14 +217,14 @@ module _ (way : Sharing) (c : Config) (s : Seen) (t : Status) (place : Place) (r
               ap (λ (j : ℕ). length (complete_units c.pid (front_packets c (streams_by way c inputs) j)))
               f in omega (arith, w, q);
         };
-        none = λ input lt. none_here way c events s.stands place ran h files places are input lt (b.all input lt);
+        none = λ input lt. none_here h files places are input lt (b.all input lt);
       }
   known phase.Gives e gives =
       let i : NoTails h.tails × HasGiven way c h.events (begun h.events - 1) =
       subst (λ (p : Phase). IsIn way c h.events h.tails p) e h.is_in in
       record {
         given_all = subst (λ (n : ℕ). HasGiven way c h.events (n - 1)) (sym h.frames) i.1;
-        none = none_before way c events s.stands place ran h files places are;
+        none = none_before h files places are;
       }
   known phase.Rests e gives =
       let i : NoTails h.tails × HasGiven way c h.events (begun h.events) × (finished h.events ≡ true) =
@@ -234,7 +232,7 @@ module _ (way : Sharing) (c : Config) (s : Seen) (t : Status) (place : Place) (r
       let last = h.time.last i.2 in
       record {
         given_all = subst (λ (n : ℕ). HasGiven way c h.events n) (sym h.frames) i.1;
-        none = λ input lt. none_here way c events s.stands place ran h files places are input lt
+        none = λ input lt. none_here h files places are input lt
             (λ on. absurd (let z : true ≡ false = sym (last.ended input lt) ∙ on in cc));
       }
   known phase.Done e gives = absurd (let z : End ≡ Give = gives in cc)
@@ -247,13 +245,13 @@ module _ (way : Sharing) (c : Config) (s : Seen) (t : Status) (place : Place) (r
   stops_writing units three gives bytes front more is some begins =
       let frame : ℕ = frame_read place.phase ran.frames in
       let k = known place.phase refl gives in
-      let g = gave_since way c events s.stands place ran h files places are units frame k.given_all in
+      let g = gave_since h files places are units frame k.given_all in
       let all : bytes ≡ joined (complete_units c.pid (front_packets c (streams_by way c (inputs_of files)) frame))
       ++ (g.0 ++ front) =
       is ∙ ap (λ (l : List ℕ). l ++ front) g.1
       ∙ append_assoc (joined (complete_units c.pid (front_packets c (streams_by way c (inputs_of files)) frame)))
       g.0 front in
-      let few = h.time.few (inputs_of files) (continue_files way c events s.stands place ran h files places are) in
+      let few = h.time.few (inputs_of files) (continue_files h files places are) in
       let frames = h.frames in
       let within : frame ≤ frames_of way c files = omega (arith, few, frames, read_few place.phase ran.frames) in
       record {
@@ -301,25 +299,23 @@ module _ (way : Sharing) (M : Type 0) (config_of : M → Config) (seen_of : M �
   pub gateway_does : DoesWork (gateway_work way c) inputs reach_of next_of Came (λ m. ending_of (at m).phase (ran_of m))
   gateway_does = record {
     ends = λ files places events now all are within came end.
-        ends_in way c (seen_of now) (status_of now) (at now) (ran_of now) (ready_at now came.0) files places events
+        ends_in (ready_at now came.0) files places events
         (fed_at files places events are) (further_at now places came.0 all within) (holds_at now events came) units grow
         (at now).phase refl end (all ∙ count);
     too_long = λ files places events now input all are within came lt most wants.
-        too_long way c (seen_of now) (status_of now) (at now) (ran_of now) (ready_at now came.0) files places events
+        too_long (ready_at now came.0) files places events
         (fed_at files places events are) (further_at now places came.0 all within) (holds_at now events came)
         units grow input most
         wants;
     unread = λ files places events now input all are within came lt wants.
-        unread way c (seen_of now) (status_of now) (at now) (ran_of now) (ready_at now came.0) files places events
+        unread (ready_at now came.0) files places events
         (fed_at files places events are) (further_at now places came.0 all within) (holds_at now events came)
         units grow input wants;
     unwritten = λ files places events now bytes all are g.
         let fed = fed_at files places events are in
-        let f = gave_front way c (events ++ g.late) (seen_of now).stands (at now) (ran_of now)
-        (holds_at now (events ++ g.late) g.came_late) files places
+        let f = gave_front (holds_at now (events ++ g.late) g.came_late) files places
         (fed_since (input_count way c) files places events g.late g.only fed) grow in
-        stops_writing way c (seen_of g.mid) (status_of g.mid) (at g.mid) (ran_of g.mid) (ready_at g.mid g.came.0)
-        files places events fed
+        stops_writing (ready_at g.mid g.came.0) files places events fed
         (further_at g.mid places g.came.0 all g.within) (holds_at g.mid events g.came) units three g.gives
         bytes g.front (g.more ++ f.0)
         g.is

@@ -1,35 +1,82 @@
--- What comes back of a slot, by whether its packet is shared.
-use Rattle.std.proofs.Common.{◌≡◌, ℕ, ◌+◌, ◌-◌, ◌*◌, ◌/◌, ◌<◌, ◌&&◌, not, Bool, true, false, List, length, map, Some}
-use Rattle.std.proofs.Common.{None, refl, ap, ap₂, sym, subst, ◌∙◌, arith}
-use Rattle.std.specs.Prelude.{is_some, unwrap_or, if◌then◌else◌}
+-- What comes back of a slot of a group with a common PLP, by whether its packet is shared.
+use Rattle.std.proofs.Common.{◌≡◌, ℕ, zero, suc, Bool, true, false, List, [], ◌∷◌, length, map, Some, None, refl, subst}
+use Rattle.std.proofs.Common.{◌+◌, ◌-◌, ◌*◌, ◌/◌, ◌<◌, ◌&&◌, not, ap, ap₂, sym, ◌∙◌, arith}
+use Rattle.std.specs.Prelude.{slice_get, is_some, unwrap_or, if◌then◌else◌}
 use Rattle.std.specs.declared.option.Option.{Option}
-use Rattle.std.specs.List.{range_with_len}
+use Rattle.std.specs.List.{AllByRecursion, range_with_len}
+use Rattle.std.proofs.lemmas.Option.{same_Some, get_or_from_slice_get}
+use Rattle.terms.proofs.AllLemmas.{all_map}
+use Rattle.terms.proofs.OptionLemmas.{none_some}
+use Rattle.network_laws.proofs.GivenLemmas.{null_is, in_each_slot}
+use Rattle.std.proofs.lemmas.Bool.{cond-true, cond-false}
+use Rattle.plp_config.specs.declared.config.Config.{Config}
+use Rattle.ts_packet.specs.Null.{null_packet, is_null}
+use Rattle.null_delete.specs.Deletion.{packet_at, is_kept}
+use Rattle.common_plp.specs.Groups.{is_common, common_of, group_of, own_places}
+use Rattle.common_plp.specs.Shared.{shared_packet, common_packet, own_packet, is_shared, joined_packet}
+use Rattle.common_plp.specs.Split.{slot_of, longest, common_stream, own_stream, split, group_streams, joined}
+use Rattle.common_plp.proofs.MemberLemmas.{first_has, members_have}
+use Rattle.network_laws.specs.ToldEpochs.{IsPacket}
 use Rattle.std.proofs.lemmas.List.FromFn.{length-map-range_with_len, get_or-map-range_with_len}
 use Rattle.terms.proofs.CaseLemmas.{bool_cases}
-use Rattle.std.proofs.lemmas.Option.{get_or_from_slice_get}
 use Rattle.terms.proofs.RangeLemmas.{map_same}
 use Rattle.common_plp.proofs.JoinLemmas.{map_lag}
-use Rattle.ts_packet.specs.Null.{is_null, null_packet}
 use Rattle.ts_packet.proofs.WritingLemmas.{canonical_null}
 use Rattle.plp_config.specs.Plps.{plp_at, spread}
 use Rattle.plp_config.specs.SlotTime.{epoch_ticks, released_count, delay_ticks}
 use Rattle.plp_config.specs.SlotTimes.{slot_times}
-use Rattle.plp_config.specs.declared.config.Config.{Config}
 use Rattle.plp_config.specs.declared.slot_times.SlotTimes.{SlotTimes}
-use Rattle.null_delete.specs.Deletion.{packet_at, is_kept}
 use Rattle.mode_adapt.specs.Blocks.{rates_of, plp_keeps}
 use Rattle.record_laws.specs.Records.{record_of}
 use Rattle.record_laws.specs.Recover.{due_slots, recovered, is_touched, lost_frames}
 use Rattle.network_laws.specs.RecoverLaws.{RunRecovers}
-use Rattle.common_plp.specs.Groups.{is_common, common_of, group_of, own_places}
-use Rattle.common_plp.specs.Shared.{shared_packet, common_packet, own_packet, is_shared, joined_packet}
-use Rattle.common_plp.specs.Split.{slot_of, group_streams, split, joined}
 use Rattle.common_plp.specs.Laws.{InStep, SplitSlot, JoinedSlots}
 use Rattle.common_plp.proofs.LawLemmas.{has_common, own_member, own_case}
-use Rattle.common_plp.proofs.MemberLemmas.{members_have}
 use Rattle.plp_receiver.specs.JoinedBack.{JoinedBackWith, JoinedBack}
 use Rattle.network_laws.specs.CommonLaws.{CommonComesBack, comes_back}
-use Rattle.network_laws.proofs.PacketLemmas.{split_packets}
+
+one_of : (packets : List (List ℕ)) (k : ℕ) (p : List ℕ) → AllByRecursion IsPacket packets → slice_get packets k ≡ Some p
+    → IsPacket p
+one_of [] k p h e = none_some p e
+one_of (x ∷ xs) zero p h e = rw (← (same_Some x p e)) h.0
+one_of (x ∷ xs) (suc k) p h e = one_of xs k p h.1 e
+
+by_option : (o : Option (List ℕ)) → ((p : List ℕ) → o ≡ Some p → IsPacket p) → IsPacket (unwrap_or o null_packet)
+by_option None f = null_is
+by_option (Some p) f = f p refl
+
+common_is : (inputs : ℕ → List (List ℕ)) (places : List ℕ) (k : ℕ) → ((q : ℕ) → AllByRecursion IsPacket (inputs q))
+    → IsPacket (common_packet (slot_of (map inputs places) k))
+common_is inputs [] k all = null_is
+common_is inputs (place ∷ places) k all =
+    by_option (shared_packet (slot_of (map inputs (place ∷ places)) k))
+    (λ p e. one_of (inputs place) k p (all place) (first_has (slice_get (inputs place) k)
+    (slot_of (map inputs places) k) p e).0)
+
+own_is : (b : Bool) (p : List ℕ) → IsPacket p → IsPacket (if b then null_packet else p)
+own_is true p h = null_is
+own_is false p h = h
+
+stream_is : (common some : Bool) (inputs : ℕ → List (List ℕ)) (places : List ℕ) (plp : ℕ)
+    → ((q : ℕ) → AllByRecursion IsPacket (inputs q))
+    → AllByRecursion IsPacket (if common then common_stream (map inputs places)
+    else if some then own_stream (map inputs places) (inputs plp) else inputs plp)
+stream_is true some inputs places plp all =
+    all_map IsPacket (λ k. common_packet (slot_of (map inputs places) k))
+    (range_with_len 0 (longest (map inputs places)))
+    (λ k. common_is inputs places k all)
+stream_is false true inputs places plp all =
+    all_map IsPacket (λ k. own_packet (slot_of (map inputs places) k) (packet_at (inputs plp) k))
+    (range_with_len 0 (length (inputs plp)))
+    (λ k. own_is (is_shared (slot_of (map inputs places) k)) (packet_at (inputs plp) k)
+    (in_each_slot IsPacket null_is (inputs plp) (all plp) k))
+stream_is false false inputs places plp all = all plp
+
+pub split_packets : (c : Config) (inputs : ℕ → List (List ℕ)) (plp : ℕ) → ((q : ℕ) → AllByRecursion IsPacket (inputs q))
+    → AllByRecursion IsPacket (split c inputs plp)
+unfolding split
+split_packets c inputs plp all =
+    stream_is (is_common c plp) (is_some (common_of c plp)) inputs (own_places c (group_of c plp)) plp all
 
 -- ---- one packet
 
@@ -46,9 +93,7 @@ some_back : (c : Config) (plp : ℕ) (at : ℕ → List ℕ) (lost : List ℕ) (
     → recovered c plp (epoch_ticks c plp) at lost k
     ≡ (if not (is_touched (rates_of c plp (epoch_ticks c plp)) (plp_keeps c plp at) lost k) then at k else null_packet)
 some_back c plp at lost k off =
-    ap (λ (b : Bool). if b && not (is_touched (rates_of c plp (epoch_ticks c plp)) (plp_keeps c plp at) lost k)
-    then at k else null_packet)
-    (kept (plp_at c.plps plp).delete (λ j. is_null (at j)) k off)
+    rw (kept (plp_at c.plps plp).delete (λ j. is_null (at j)) k off)
 
 -- of a null packet a null packet
 null_if : (b : Bool) (p : List ℕ) → is_null p ≡ true → is_null (if b then p else null_packet) ≡ true
@@ -93,8 +138,7 @@ null_or q e = rw e refl
 
 -- if it is shared, the common PLP's comes back
 shared_slot : (c : Config) (common plp : ℕ) (at mine : ℕ → List ℕ) (lost gone : List ℕ) (k : ℕ) (p : List ℕ)
-    → at k ≡ p → mine k ≡ null_packet
-    → is_null p ≡ false
+    → at k ≡ p → mine k ≡ null_packet → is_null p ≡ false
     → joined_packet (recovered c common (epoch_ticks c common) at lost k) (recovered c plp (epoch_ticks c plp)
     mine gone k)
     ≡ (if not (is_touched (rates_of c common (epoch_ticks c common)) (plp_keeps c common at) lost k)
@@ -102,16 +146,14 @@ shared_slot : (c : Config) (common plp : ℕ) (at mine : ℕ → List ℕ) (lost
 shared_slot c common plp at mine lost gone k p here none some =
     let whole : Bool = not (is_touched (rates_of c common (epoch_ticks c common)) (plp_keeps c common at) lost k) in
     let back : recovered c common (epoch_ticks c common) at lost k ≡ (if whole then p else null_packet) =
-    some_back c common at lost k (ap is_null here ∙ some) ∙ ap (λ (q : List ℕ). if whole then q else null_packet)
-    here in
+    rw (some_back c common at lost k (ap is_null here ∙ some), here) in
     own_null (recovered c common (epoch_ticks c common) at lost k) (recovered c plp (epoch_ticks c plp) mine gone k)
     (null_back c plp mine gone k (ap is_null none ∙ null_is_null))
     ∙ ap (λ (q : List ℕ). if is_null q then null_packet else q) back ∙ whole_or whole p some
 
 -- else its own, if it is not null
 own_slot : (c : Config) (common plp : ℕ) (at mine : ℕ → List ℕ) (lost gone : List ℕ) (k : ℕ) (p : List ℕ)
-    → at k ≡ null_packet → mine k ≡ p
-    → is_null p ≡ false
+    → at k ≡ null_packet → mine k ≡ p → is_null p ≡ false
     → joined_packet (recovered c common (epoch_ticks c common) at lost k) (recovered c plp (epoch_ticks c plp)
     mine gone k)
     ≡ (if not (is_touched (rates_of c plp (epoch_ticks c plp)) (plp_keeps c plp mine) gone k) then p else null_packet)
@@ -135,21 +177,8 @@ null_slot c common plp at mine lost gone k a b =
 
 -- ---- by whether a packet is shared
 
-if_true : (b : Bool) (x y : List ℕ) → b ≡ true → (if b then x else y) ≡ x
-if_true b x y e = rw e refl
-
-if_false : (b : Bool) (x y : List ℕ) → b ≡ false → (if b then x else y) ≡ y
-if_false b x y e = rw e refl
-
-bool_true : (b x y : Bool) → b ≡ true → (if b then x else y) ≡ x
-bool_true b x y e = rw e refl
-
-bool_false : (b x y : Bool) → b ≡ false → (if b then x else y) ≡ y
-bool_false b x y e = rw e refl
-
 slot_comes : SplitSlot → (c : Config) (inputs : ℕ → List (List ℕ)) (common plp : ℕ) (muted : ℕ
-    → Bool) (first count k : ℕ)
-    → plp < length c.plps → common_of c plp ≡ Some common
+    → Bool) (first count k : ℕ) → plp < length c.plps → common_of c plp ≡ Some common
     → joined_packet
     (recovered c common (epoch_ticks c common) (packet_at (split c inputs common))
     (lost_frames c common muted first count) k)
@@ -161,9 +190,7 @@ slot_comes law c inputs common plp muted first count k inside is =
     let p : List ℕ = packet_at (inputs plp) k in
     let lost : List ℕ = lost_frames c common muted first count in
     let gone : List ℕ = lost_frames c plp muted first count in
-    let at : packet_at (split c inputs common) k ≡ common_packet slot =
-    law c inputs common k ∙ if_true (is_common c common) _ _ h.is
-    ∙ ap (λ (g : ℕ). common_packet (slot_of (group_streams c inputs g) k)) h.same in
+    let at : packet_at (split c inputs common) k ≡ common_packet slot = rw (law c inputs common k, h.is, h.same) in
     let mine : packet_at (split c inputs plp) k ≡ own_packet slot p =
     law c inputs plp k ∙ own_case (is_common c plp) (is_some (common_of c plp)) _ _ _ h.own (ap is_some is) in
     by_slot slot p lost gone at mine (shared_packet slot) refl
@@ -186,22 +213,19 @@ slot_comes law c inputs common plp muted first count k inside is =
         let some : is_null p ≡ false = ap is_null f.0 ∙ f.1 in
         let shared : is_shared slot ≡ true = ap is_some e in
         shared_slot c common plp (packet_at (split c inputs common)) (packet_at (split c inputs plp)) lost gone k p
-        (at ∙ ap (λ (o : Option (List ℕ)). unwrap_or o null_packet) e ∙ sym f.0) (mine
-        ∙ if_true (is_shared slot) null_packet p shared) some
-        ∙ sym (if_false (is_null p) null_packet _ some
-        ∙ ap (λ (b : Bool). if b then p else null_packet) (bool_true (is_shared slot) _ _ shared))
+        (at ∙ ap (λ (o : Option (List ℕ)). unwrap_or o null_packet) e ∙ sym f.0) (rw (mine, shared)) some
+        ∙ sym (rw (some, shared))
     by_slot slot p lost gone at mine None e has =
         let shared : is_shared slot ≡ false = ap is_some e in
         let none : packet_at (split c inputs common) k ≡ null_packet = at
         ∙ ap (λ (o : Option (List ℕ)). unwrap_or o null_packet) e in
-        let here : packet_at (split c inputs plp) k ≡ p = mine ∙ if_false (is_shared slot) null_packet p shared in
+        let here : packet_at (split c inputs plp) k ≡ p = mine ∙ cond-false (is_shared slot) null_packet p shared in
         bool_cases (is_null p)
         (λ null. null_slot c common plp (packet_at (split c inputs common)) (packet_at (split c inputs plp)) lost gone k
-        (ap is_null none ∙ null_is_null) (ap is_null here ∙ null) ∙ sym (if_true (is_null p) null_packet _ null))
+        (ap is_null none ∙ null_is_null) (ap is_null here ∙ null) ∙ sym (cond-true (is_null p) null_packet _ null))
         (λ some. own_slot c common plp (packet_at (split c inputs common)) (packet_at (split c inputs plp))
         lost gone k p none here some
-        ∙ sym (if_false (is_null p) null_packet _ some
-        ∙ ap (λ (b : Bool). if b then p else null_packet) (bool_false (is_shared slot) _ _ shared)))
+        ∙ sym (rw (some, shared)))
 
 -- ---- all slots
 
@@ -224,8 +248,7 @@ joined_made : JoinedSlots → (f g : ℕ → List ℕ) (a n : ℕ)
 unfolding joined
 joined_made slots f g a n =
     ap (λ (m : ℕ). map (λ k. joined_packet (packet_at (map f (range_with_len a n)) k)
-    (packet_at (map g (range_with_len a n)) k))
-    (range_with_len 0 m)) (length-map-range_with_len g a n)
+    (packet_at (map g (range_with_len a n)) k)) (range_with_len 0 m)) (length-map-range_with_len g a n)
     ∙ lag (λ k. joined_packet (packet_at (map f (range_with_len a n)) k) (packet_at (map g (range_with_len a n)) k))
     (λ k. joined_packet (f k) (g k)) 0 a n (λ k lt.
     let e : 0 + k ≡ k = omega arith in
@@ -243,19 +266,18 @@ comes_all step law slots recovers c common plp inputs whole first count packets 
     let muted : ℕ → Bool = λ m. not (whole m) in
     let h = has_common c plp common is in
     let b = subst (λ (o : Option ℕ). JoinedBackWith o c plp first (map (record_of c (split c inputs) whole)
-    (range_with_len first count)) packets)
-    is back in
+    (range_with_len first count)) packets) is back in
     let s = step c plp common plan.rules inside is in
     let due : due_slots c common first count ≡ due_slots c plp first count =
-    due_is c common first count ∙ ap₂ (λ (t : SlotTimes) (n : ℕ). due_by c t n first count) s.0 s.1
-    ∙ sym (due_is c plp first count) in
+    rw (due_is c common first count, s.0, s.1, ← (due_is c plp first count)) in
     let shared : b.shared ≡ map (recovered c common (epoch_ticks c common) (packet_at (split c inputs common))
     (lost_frames c common muted first count))
     (due_slots c plp first count) =
-    recovers c common (split c inputs) whole first count b.shared plan types h.inside
-    (split_packets c inputs common all) b.back_shared
-    ∙ ap (map (recovered c common (epoch_ticks c common) (packet_at (split c inputs common))
-    (lost_frames c common muted first count))) due in
+    rw (
+      recovers c common (split c inputs) whole first count b.shared plan types h.inside (split_packets c inputs
+          common all) b.back_shared,
+      due,
+    ) in
     let own = recovers c plp (split c inputs) whole first count b.own plan types inside (split_packets c inputs plp all)
     b.back_own in
     b.packets_are ∙ ap₂ joined shared own

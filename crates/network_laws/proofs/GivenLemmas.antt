@@ -1,7 +1,7 @@
 -- What a PLP is given back of the frames of a run.
 use Rattle.std.proofs.Common.{◌≡◌, ℕ, zero, suc, ◌+◌, ◌-◌, ◌*◌, ◌/◌, ◌<◌, ◌≤◌, ◌%◌, ◌==◌, ◌&&◌, not, Bool, true, false}
 use Rattle.std.proofs.Common.{cond, List, [], ◌∷◌, ◌++◌, length, map, replicate, get_or, Option, Some, None, refl, ap}
-use Rattle.std.proofs.Common.{ap₂, ◌∙◌, sym, subst, arith, eq-eqb, eqb-true}
+use Rattle.std.proofs.Common.{ap₂, ◌∙◌, sym, arith, eq-eqb, eqb-true}
 use Rattle.std.specs.Prelude.{find, ◌||◌, nat_le, nat_lt}
 use Rattle.std.specs.List.{AllByRecursion, range_with_len, filter}
 use Rattle.std.proofs.lemmas.Bool.{le-leb, lt-ltb}
@@ -26,7 +26,7 @@ use Rattle.site_frame.specs.declared.reading.RecordView.TheVariants.{Muted}
 use Rattle.record_laws.specs.Frames.{frame_of, run_frames}
 use Rattle.record_laws.specs.Laws.{NoneLost}
 use Rattle.site_frame.specs.RecordFile.{IsOnGrid}
-use Rattle.record_laws.specs.Records.{record_of, numbers_from, records}
+use Rattle.record_laws.specs.Records.{record_of, records}
 use Rattle.record_laws.specs.Recover.{due_slots, is_there, recovered, recover}
 use Rattle.plp_receiver.specs.SlotEpochs.{Epoch, readback}
 use Rattle.terms.proofs.RangeLemmas.{map_same}
@@ -35,7 +35,6 @@ use Rattle.plp_receiver.specs.Epochs.{epochs_in, slot_rule, Readback}
 use Rattle.network_laws.specs.ToldEpochs.{IsPacket, ArePackets, is_lost, ended_epochs}
 use Rattle.network_laws.specs.RecoverLaws.{LostEnded, ReadbackRecovers, RunRecovers, RecordsRecover, IsCanonical}
 use Rattle.network_laws.specs.RecoverLaws.{WholeComesBack, RunComesBack}
-use Rattle.network_laws.proofs.ReadableLemmas as R
 use Rattle.network_laws.proofs.TellLemmas as T
 
 -- ---- packets of an input
@@ -56,15 +55,15 @@ null_is = record { size = refl; sync = refl; bytes = small }
     small (suc (suc (suc (suc i)))) = small_run 184 i 0xFF (omega arith)
 
 -- what is true of the null packet and of all packets of an input is true of the packet of each slot
-in_each_slot : (P : List ℕ → Type 0) → P null_packet → (packets : List (List ℕ)) → AllByRecursion P packets → (k : ℕ)
-    → P (packet_at packets k)
+pub in_each_slot : (P : List ℕ → Type 0) → P null_packet → (packets : List (List ℕ)) → AllByRecursion P packets
+    → (k : ℕ) → P (packet_at packets k)
 in_each_slot P null [] h k = null
 in_each_slot P null (p ∷ packets) h zero = h.0
 in_each_slot P null (p ∷ packets) h (suc k) = in_each_slot P null packets h.1 k
 
 -- ---- records
 
-pub run_recovers : R.Reads → T.Stand → ReadbackOnce → ReadbackRecovers → RunRecovers
+pub run_recovers : T.Reads → T.Stand → ReadbackOnce → ReadbackRecovers → RunRecovers
 run_recovers reads stand once recovers c plp inputs whole first count packets plan types inside all back =
     let at : ℕ → List ℕ = packet_at (inputs plp) in
     let muted : ℕ → Bool = λ m. not (whole m) in
@@ -73,7 +72,7 @@ run_recovers reads stand once recovers c plp inputs whole first count packets pl
     let told : List Epoch = ended_epochs c plp at muted first count in
     let other : Readback c plp first views (readback (slot_rule c plp) first (length views) told) = record {
       told = told;
-      tells = T.tells_all reads stand c inputs plan types plp inside each whole first count;
+      tells = T.tells_all reads c inputs plan types stand plp inside each whole first count;
       packets_are = refl;
     } in
     once c plp first views packets (readback (slot_rule c plp) first (length views) told) back other
@@ -106,15 +105,13 @@ are_from c inputs whole end = go (find (λ n. whole n && (n % c.frames == 0)) (r
         record {
           first = 0;
           count = 0;
-          are = ap (λ (r : Option ℕ). map (record_of c inputs whole) (numbers_from end r))
-              e;
+          are = rw e;
         }
     go (Some n) e =
         record {
           first = n;
           count = end - n;
-          are = ap (λ (r : Option ℕ). map (record_of c inputs whole)
-              (numbers_from end r)) e;
+          are = rw e;
         }
 
 -- they tell the frame from which on they are
@@ -145,8 +142,7 @@ records_recover differ run c plp inputs whole end first packets plan types insid
     (records c inputs whole end) plan grid from.are in
     let len : length (records c inputs whole end) ≡ from.count = ap (λ (l : List RecordView). length l) from.are
     ∙ length-map-range_with_len (record_of c inputs whole) from.first from.count in
-    run c plp inputs whole first from.count packets plan types inside all
-    (subst (λ (l : List RecordView). Readback c plp first l packets) same back)
+    run c plp inputs whole first from.count packets plan types inside all (rw (← same) back)
     ∙ ap (recover c plp (packet_at (inputs plp)) (λ m. not (whole m)) first) (sym len)
 
 -- ---- nothing is muted
@@ -155,9 +151,10 @@ none_lost : (lost : ℕ → Bool) (count first : ℕ) → ((m : ℕ) → first �
     → filter lost (range_with_len first count) ≡ []
 none_lost lost zero first h = refl
 none_lost lost (suc count) first h =
-    ap (λ (b : Bool). cond {A = List ℕ} b (first ∷ filter lost (range_with_len (first + 1) count))
-    (filter lost (range_with_len (first + 1) count))) (h first (omega arith) (omega arith))
-    ∙ none_lost lost count (first + 1) (λ m from below. h m (omega (arith, from)) (omega (arith, below)))
+    rw (
+      h first (omega arith) (omega arith),
+      none_lost lost count (first + 1) (λ m from below. h m (omega arith) (omega arith)),
+    )
 
 -- an epoch is there whose frames are among so many from one on
 there : (c : Config) (plp : ℕ) (muted : ℕ → Bool) (first count m : ℕ)
@@ -166,7 +163,7 @@ there : (c : Config) (plp : ℕ) (muted : ℕ → Bool) (first count m : ℕ)
 there c plp muted first count m none from below =
     T.each_passes (λ n. nat_le first n && (nat_lt n (first + count) && not (muted n))) (spread c.plps plp)
     (m * spread c.plps plp)
-    (λ n a b. let low : first ≤ n = omega (arith, from, a) in let high : n < first + count = omega (arith, below, b) in
+    (λ n a b. let low : first ≤ n = omega arith in let high : n < first + count = omega arith in
     ap₂ (λ (s t : Bool). s && (t && not (muted n))) (le-leb first n low) (lt-ltb n (first + count) high)
     ∙ ap not (none n low high))
 
@@ -178,12 +175,11 @@ all_there c plp muted first count begins none =
     let frames : ℕ = spread c.plps plp in
     let place : first / frames * frames + first % frames ≡ first = div-add-mod' first frames in
     let zero_is : first % frames ≡ 0 = eqb-true (first % frames) 0 begins in
-    let end = div-mul-le_self (first + count) frames in
     none_lost (is_lost c plp muted first count) ((first + count) / frames - first / frames) (first / frames) (λ m a b.
     let low : first / frames * frames ≤ m * frames = mul-le-mul_right frames a in
-    let high : (m + 1) * frames ≤ (first + count) / frames * frames = mul-le-mul_right frames (omega (arith, a, b)) in
+    let high : (m + 1) * frames ≤ (first + count) / frames * frames = mul-le-mul_right frames (omega arith) in
     let next : (m + 1) * frames ≡ m * frames + frames = omega arith in
-    ap not (there c plp muted first count m none (omega (arith, low, place, zero_is)) (omega (arith, high, next, end))))
+    ap not (there c plp muted first count m none (omega arith) (omega (arith, div-mul-le_self (first + count) frames))))
 
 -- what is not kept is null, and null packets are deleted
 not_kept : (deletes null longest : Bool) → cond deletes (not null || longest) true ≡ false → (deletes ≡ true)
@@ -233,8 +229,7 @@ packets_first (p ∷ packets) n =
     ∙ ap (λ (l : List (List ℕ)). p ∷ l) (moved_slots p packets (length packets + n) 0 ∙ packets_first packets n)
 
 module _ (lengths : SlotLength) (zero_law : NoneAtZero) (released : ReleasedFirst) (least : FrameCountLeast)
-    (c : Config)
-    (plp : ℕ) (inputs : ℕ → List (List ℕ)) (plan : IsPlan c) (inside : plp < length c.plps) where
+    (c : Config) (plp : ℕ) (inputs : ℕ → List (List ℕ)) (plan : IsPlan c) (inside : plp < length c.plps) where
   abbrev frames : ℕ
   frames = frame_count c (λ plp. length (inputs plp))
 
@@ -244,21 +239,21 @@ module _ (lengths : SlotLength) (zero_law : NoneAtZero) (released : ReleasedFirs
   -- each packet has been given out when the run ends
   enough : length (inputs plp) < due
   enough =
-      let l = lengths c plp plan.rules inside in
       let e = (least c (λ plp. length (inputs plp)) plan.rules).enough plp inside in
       let z : (0 + frames) * c.ticks ≡ frames * c.ticks = let s : 0 + frames ≡ frames = omega arith in
       ap (λ (k : ℕ). k * c.ticks) s in
-      (released (num c) (den c plp) (delay c plp) ((0 + frames) * c.ticks) (length (inputs plp)) (omega (arith, l))
-      (omega (arith, l))).1 (omega (arith, e, z))
+      (released (num c) (den c plp) (delay c plp) ((0 + frames) * c.ticks) (length (inputs plp)) (omega (
+        arith,
+        lengths c plp plan.rules inside,
+      )) (omega (arith, lengths c plp plan.rules inside))).1 (omega arith)
 
   pub slots_are : due_slots c plp 0 frames ≡ range_with_len 0 (length (inputs plp) + (due - length (inputs plp)))
   slots_are =
-      let l = lengths c plp plan.rules inside in
       let from : 0 - spread c.plps plp ≡ 0 = omega arith in
       let start : (0 - spread c.plps plp) * c.ticks ≡ 0 = ap (λ (k : ℕ). k * c.ticks) from ∙ omega arith in
       let none : slots_by c plp ((0 - spread c.plps plp) * c.ticks) ≡ 0 = ap (slots_by c plp) start
-      ∙ zero_law (num c) (den c plp) (omega (arith, l)) in
-      let size : due - 0 ≡ length (inputs plp) + (due - length (inputs plp)) = let e = enough in omega (arith, e) in
+      ∙ zero_law (num c) (den c plp) (omega (arith, lengths c plp plan.rules inside)) in
+      let size : due - 0 ≡ length (inputs plp) + (due - length (inputs plp)) = omega (arith, enough) in
       ap (λ (k : ℕ). range_with_len k (due - k)) none ∙ ap (range_with_len 0) size
 
 -- an interleaving frame begins in frame 0
@@ -266,7 +261,7 @@ zero_begins : (c : Config) (plp : ℕ) → 1 ≤ spread c.plps plp → is_first 
 zero_begins c plp some =
     let e : 0 ≡ 0 * spread c.plps plp + 0 = omega arith in
     eq-eqb (0 % spread c.plps plp) 0 (ap (λ (k : ℕ). k % spread c.plps plp) e
-    ∙ mod-mul-add 0 (spread c.plps plp) 0 (omega (arith, some)))
+    ∙ mod-mul-add 0 (spread c.plps plp) 0 (omega arith))
 
 pub run_comes_back : SlotLength → SpreadDividesFrames → NoneAtZero → ReleasedFirst → FrameCountLeast → WholeComesBack
     → RunComesBack
@@ -277,8 +272,7 @@ run_comes_back lengths spreads zero_law released least whole c plp inputs packet
     let nulls : ℕ = due lengths zero_law released least c plp inputs plan inside - length (inputs plp) in (
       nulls,
       whole c plp inputs (λ n. true) 0 frames packets plan types inside all canonical
-          (zero_begins c plp (spreads c plp plan.rules inside).0) (λ m from below. refl)
-          (subst (λ (l : List RecordView). Readback c plp 0 l packets) same back)
+          (zero_begins c plp (spreads c plp plan.rules inside).0) (λ m from below. refl) (rw (← same) back)
           ∙ ap (map (packet_at (inputs plp))) (slots_are lengths zero_law released least c plp inputs plan inside)
           ∙ packets_first (inputs plp) nulls,
     )

@@ -1,175 +1,287 @@
--- Frames that are made of packets of one run are its frames.
-use Rattle.std.proofs.Common.{◌≡◌, ℕ, zero, suc, ◌+◌, ◌<◌, ◌≤◌, ◌==◌, Bool, true, false, cond, List, [], ◌∷◌, ◌++◌}
-use Rattle.std.proofs.Common.{length, map, Option, Some, None, refl, ap, ap₂, sym, subst, ◌∙◌, ⊎_elim, arith}
-use Rattle.std.proofs.Common.{append-nil}
-use Rattle.std.specs.Prelude.{nat_lt, find, option_map, option_to_list}
-use Rattle.std.specs.List.{flat_map, range_with_len, AllByRecursion}
-use Rattle.std.specs.Option.{option_or}
-use Rattle.std.proofs.lemmas.Bool.{cases_Bool, cases_eq, cond-true, cond-false, eq-eqb, ne_eqb}
-use Rattle.std.proofs.lemmas.Option.{same_Some}
-use Rattle.terms.proofs.AllLemmas.{all_append}
-use Rattle.terms.proofs.OptionLemmas.{none_some, none_if_not}
-use Rattle.bb_frame.specs.Laws.{ScramblesBack}
-use Rattle.plp_config.specs.Capacity.{IsPlan}
+-- What is made of packets of one run is its frames, and each of which every packet came is made; of streams that
+-- together lost nothing it is the run's stream.
+use Rattle.std.proofs.Common.{◌≡◌, ◌⊎◌, inl, inr, ℕ, zero, suc, ◌+◌, ◌-◌, ◌<◌, ◌≤◌, ◌==◌, Bool, true, false, cond, List}
+use Rattle.std.proofs.Common.{[], ◌∷◌, length, Some, refl, ap, ap₂, sym, ◌∙◌, ⊎_elim, arith, ◌++◌, Option, None, subst}
+use Rattle.std.proofs.Common.{map}
+use Rattle.std.specs.List.{filter, range_with_len, AllByRecursion}
+use Rattle.std.proofs.lemmas.Bool.{cases_lt, eq-eqb, false_from_ne_true, cond_both, eqb-true, eqb-false}
+use Rattle.std.proofs.lemmas.Bool.{cases_eq, ltb-true, lt-ltb, true≢false}
 use Rattle.plp_config.specs.declared.config.Config.{Config}
-use Rattle.l1_signal.specs.Laws.{PreBitsLength, PostLength, ConfPartLength}
-use Rattle.t2mi_packet.specs.declared.packet.Body.{Body}
+use Rattle.feed_events.specs.FeedEvents.{FeedEvent, feed_events, is_stamp}
+use Rattle.feed_events.specs.FeedEvents.FeedEvent.{Has, Silent}
+use Rattle.mended_frames.specs.Picks.{Coming, number_next, least_next, group_next, behind, groups_next, all_behind}
+use Rattle.mended_frames.specs.Picks.{picked_of, picked_from, events_in}
+use Rattle.network_laws.specs.FeedsOfRun.{run_packets, HasCome, BringsPacket, HasNumber, count_between, GoesOn}
+use Rattle.network_laws.specs.FeedsOfRun.{CameNear, IsNearOfRun, IsRunFrame, MadeAreOfRun, WholeStreamMended}
+use Rattle.network_laws.specs.FeedsOfRun.{DamagedRunsMended, WholeAmongDamaged, AllCame, HaveCome, GoOn, HasRunFrame}
+use Rattle.network_laws.specs.FeedsOfRun.{CameAreMade, IsDamagedRun, CameOfDamagedMade, run_frame, SurvivorAlone}
+use Rattle.network_laws.specs.FeedsOfRun.{NoneLostMended, SurvivorsMended}
+use Rattle.network_laws.proofs.WholeFeedLemmas.{least_most, PastOfRun, BegunMade, passes_behind, step_is, sent_as_run}
+use Rattle.network_laws.proofs.WholeFeedLemmas.{run_spaced}
+use Rattle.network_laws.proofs.WovenRunLemmas.{Brings, l1_place, l1_is_plain, woven_has, woven_some}
+use Rattle.network_laws.proofs.FeedEventLemmas.{least_is, OneOf, one_behind, one_among, behind_all, all_groups}
+use Rattle.network_laws.proofs.FeedEventLemmas.{all_made, found}
+use Rattle.std.specs.Prelude.{nat_lt, find, option_map, option_to_list, slice_get}
+use Rattle.std.specs.Option.{option_or}
+use Rattle.std.proofs.lemmas.Option.{same_Some}
+use Rattle.terms.proofs.OptionLemmas.{none_some, none_if_not}
+use Rattle.plp_config.specs.Capacity.{IsPlan}
 use Rattle.t2mi_packet.specs.declared.packet.Packet.{Packet}
-use Rattle.mode_adapt.specs.Blocks.{own_blocks, told_counts}
 use Rattle.frame_groups.specs.Groups.{Group}
 use Rattle.frame_groups.specs.Modulated.{Numbered}
 use Rattle.frame_groups.specs.Tests.{group_fault, packets_fault, rules}
-use Rattle.frame_writer.specs.Carried.{of_frame}
-use Rattle.frame_writer.specs.FramePackets.{packet_with}
-use Rattle.gateway_core.specs.Packets.{frame_bodies}
-use Rattle.stream_laws.specs.SentPackets.{Sent, frame_packets}
-use Rattle.stream_laws.specs.FormedLaws.{ShownIsSent}
-use Rattle.stream_laws.proofs.FormedSignalLemmas.{Knows}
-use Rattle.stream_laws.specs.FrameLaws.{SentAreFrames, FrameCarries}
-use Rattle.stream_laws.specs.DamageLaws.{GroupsAreFrames}
-use Rattle.frame_groups.specs.TestLaws.{FrameNamed}
 use Rattle.plp_config.specs.Rules.Rule.{SuperframeLength}
-use Rattle.mended_frames.specs.Feeds.{all_of}
-use Rattle.stream_laws.specs.SentFrames.{sent_from, run_length}
+use Rattle.mended_frames.specs.Feeds.{all_of, made_of_all}
+use Rattle.stream_laws.specs.SentFrames.{run_length}
 use Rattle.stream_laws.specs.Types.{TypesFit}
 use Rattle.stream_laws.proofs.CarriedLemmas.{HasFrame}
-use Rattle.stream_laws.proofs.PassLemmas.{Given}
-use Rattle.frame_weave.specs.Laws.{StoodIsPlaced, PlacedIsOfFrame}
 use Rattle.frame_weave.specs.Woven.{woven}
-use Rattle.stream_laws.proofs.FullLemmas.{packets_step, sent_append, packets_append}
-use Rattle.feed_events.specs.FeedEvents.{FeedEvent, feed_events}
-use Rattle.feed_events.specs.FeedEvents.FeedEvent.{Has, Silent}
-use Rattle.mended_frames.specs.Picks.{Coming, number_next, least_next, is_number, group_next, groups_next, behind}
-use Rattle.mended_frames.specs.Picks.{all_behind, one_waits, picked_of, pick_next, picked_from, events_in}
-use Rattle.mended_frames.specs.Mended.{Made, passes, made_as, made_of, past_with, low_of, taking, mended}
-use Rattle.network_laws.specs.FeedsOfRun.{run_packets, CameNear, IsNearOfRun, IsRunFrame, MadeAreOfRun}
-use Rattle.network_laws.specs.FeedsOfRun.{WholeStreamMended, DamagedRunsMended, WholeAmongDamaged}
-use Rattle.network_laws.proofs.DamagedFeedLemmas.{damaged_events, of_run}
-use Rattle.network_laws.proofs.HonestGroupLemmas.{view_is, whole_has}
-use Rattle.network_laws.proofs.RowGroupLemmas.{row_packets}
-use Rattle.network_laws.proofs.WholeFeedLemmas.{run_has, sent_as_run}
-use Rattle.mended_frames.proofs.PickLemmas.{lesser_is}
-use Rattle.network_laws.proofs.WovenRunLemmas.{IsNear, woven_has}
+use Rattle.mended_frames.specs.Mended.{Made, passes, made_as, made_of, past_with, low_of, taking, mended, frames_of}
+use Rattle.network_laws.proofs.DamagedFeedLemmas.{damaged_events, of_run, damaged_of, stream_goes, stream_brings}
+use Rattle.mended_frames.proofs.PickLemmas.{passes_least}
+use Rattle.plp_config.specs.InterleavingFrames.{begin_of}
+use Rattle.frame_groups.specs.Begun.{packets_at}
+use Rattle.frame_groups.proofs.BegunLemmas.{at_own, at_other}
+use Rattle.stream_laws.proofs.BegunLemmas.{begun_before}
+use Rattle.network_laws.proofs.HonestGroupLemmas.{RunLaws, run_has, view_is, whole_has}
+use Rattle.plp_config.specs.declared.moment.TheConstants.{MOST_FRAMES}
+use Rattle.plp_config.specs.Laws.{BeginAlone}
+use Rattle.t2mi_stream.specs.Pipe.{pipe}
+use Rattle.ts_packet.specs.TsFile.{joined}
+use Rattle.frame_writer.specs.FramePackets.{packets_from}
+use Rattle.gateway_core.specs.Packets.{front_packets}
+use Rattle.spaced_frames.specs.Laws.{Rise, RiseFrom}
+use Rattle.spaced_frames.specs.Spaced.{SentFrame, spaced, spaced_behind}
+use Rattle.mended_frames.specs.Laws.{MadeRise}
+use Rattle.mended_frames.proofs.MendLemmas.{RiseOn}
 
--- ---- the packets of a frame among those of a run
+-- ---- frames between two numbers
 
-own_row : (c : Config) (k n : ℕ) (bodies : List Body) → frame_packets n (sent_from c k (of_frame n bodies))
-    ≡ row_packets c k n bodies
-own_row c k n [] = refl
-own_row c k n (b ∷ bodies) =
-    packets_step n _ (sent_from c (k + 1) (of_frame n bodies)) true (eq-eqb n n refl)
-    ∙ ap (λ (l : List Packet). packet_with c k n b ∷ l) (own_row c (k + 1) n bodies)
+some_between : (frames : ℕ → Bool) (k low : ℕ) → 0 < length (filter frames (range_with_len low k))
+    → (m : ℕ) × (frames m ≡ true) × (low ≤ m) × (m < low + k)
+some_between frames zero low l = absurd (omega arith)
+some_between frames (suc k) low l = go (frames low) refl l (some_between frames k (low + 1))
+  where
+    rest : List ℕ
+    rest = filter frames (range_with_len (low + 1) k)
 
-other_row : (c : Config) (k m n : ℕ) (bodies : List Body) → (m ≡ n → ⊥)
-    → frame_packets n (sent_from c k (of_frame m bodies)) ≡ []
-other_row c k m n [] ne = refl
-other_row c k m n (b ∷ bodies) ne =
-    packets_step n _ (sent_from c (k + 1) (of_frame m bodies)) false (ne_eqb m n ne) ∙ other_row c (k + 1) m n bodies ne
+    go : (t : Bool) → frames low ≡ t → 0 < length (cond t (low ∷ rest) rest)
+        → (0 < length rest → (m : ℕ) × (frames m ≡ true) × (low + 1 ≤ m) × (m < low + 1 + k))
+        → (m : ℕ) × (frames m ≡ true) × (low ≤ m) × (m < low + suc k)
+    go true e l more = (low, e, omega arith, omega arith)
+    go false e l more =
+        let r = more l in (r.0, r.1, omega arith, omega arith)
+
+-- None of some frames is from one number to before another.
+abbrev pub NoneIn : (ℕ → Bool) → ℕ → ℕ → Type 0
+NoneIn frames low high = (m : ℕ) → frames m ≡ true → low ≤ m → m < high → ⊥
+
+-- so there is one less at most behind that
+one_less : (frames : ℕ → Bool) (n d low k : ℕ) → n ≡ d + 1 + k → NoneIn frames low (low + d)
+    → length (filter frames (range_with_len low n)) ≤ 1 + length (filter frames (range_with_len (low + d + 1) k))
+one_less frames zero d low k e none = absurd (omega arith)
+one_less frames (suc n) zero low k e none =
+    let rest : List ℕ = filter frames (range_with_len (low + 1) n) in
+    let same : length rest ≡ length (filter frames (range_with_len (low + zero + 1) k)) =
+    ap₂ (λ (a b : ℕ). length (filter frames (range_with_len a b))) (omega arith) (omega arith) in
+    let most : length (cond (frames low) (low ∷ rest) rest) ≤ 1 + length rest = go (frames low) rest in
+    omega arith
+  where
+    go : (t : Bool) (rest : List ℕ) → length (cond t (low ∷ rest) rest) ≤ 1 + length rest
+    go true rest = omega arith
+    go false rest = omega arith
+one_less frames (suc n) (suc d) low k e none =
+    let rest : List ℕ = filter frames (range_with_len (low + 1) n) in
+    let more = one_less frames n d (low + 1) k (omega arith)
+    (λ m t a b. none m t (omega arith) (omega arith)) in
+    let same : length (filter frames (range_with_len (low + 1 + d + 1) k))
+    ≡ length (filter frames (range_with_len (low + suc d + 1) k)) =
+    ap (λ (a : ℕ). length (filter frames (range_with_len a k))) (omega arith) in
+    let own : length (cond (frames low) (low ∷ rest) rest) ≡ length rest =
+    rw (false_from_ne_true (frames low) (λ t. none low t (omega arith) (omega arith))) in
+    omega arith
+
+-- one that is between two numbers
+between_some : (frames : ℕ → Bool) (low high : ℕ) → 0 < count_between frames low high
+    → (m : ℕ) × (frames m ≡ true) × (low ≤ m) × (m < high)
+between_some frames low high l =
+    let r = some_between frames (high - low) low l in
+    let a = r.2 in
+    (r.0, r.1, a, omega arith)
+
+-- behind the first of them there is one less
+between_less : (frames : ℕ → Bool) (low n high : ℕ) → low ≤ n → n < high → NoneIn frames low n
+    → count_between frames low high ≤ 1 + count_between frames (n + 1) high
+between_less frames low n high l h none =
+    let less = one_less frames (high - low) (n - low) low (high - (n + 1)) (omega arith)
+    (λ m t a b. none m t a (omega arith)) in
+    let same : length (filter frames (range_with_len (low + (n - low) + 1) (high - (n + 1))))
+    ≡ count_between frames (n + 1) high =
+    ap (λ (a : ℕ). length (filter frames (range_with_len a (high - (n + 1))))) (omega arith) in
+    omega arith
+
+-- ---- the numbers that are next
+
+module _ (frames : ℕ → Bool) where
+  pub least_low : (low k n : ℕ) (feeds : ℕ → Coming) → ((i : ℕ) → i < k → GoesOn frames low 0 (feeds i).events)
+      → least_next k feeds ≡ Some n → low ≤ n
+  least_low low k n feeds on e =
+      least_is (GoesOn frames low 0) (λ i. low ≤ i) (λ x events on. on.0) k n feeds on e
+
+  -- none has a number that is too low
+  none_late : (n low silences : ℕ) (events : List FeedEvent) → GoesOn frames low silences events → n < low
+      → HasNumber n events → ⊥
+  none_late n low silences [] on l h = h
+  none_late n low silences (Has x ∷ events) on l h =
+      ⊎_elim
+      (λ (e : x.number ≡ n). omega arith)
+      (λ (more : HasNumber n events). none_late n (x.number + 1) 0 events on.2 (omega arith) more) h
+  none_late n low silences (Silent ∷ events) on l h = none_late n low (silences + 1) events on l h
+
+  -- before a number that is behind a silence there is a less one
+  silent_less : (n low silences : ℕ) (events : List FeedEvent) → GoesOn frames low silences events → 0 < silences
+      → HasNumber n events → (m : ℕ) × (frames m ≡ true) × (low ≤ m) × (m < n)
+  silent_less n low silences [] on some h = absurd h
+  silent_less n low silences (Has x ∷ events) on some h =
+      let r = between_some frames low x.number (omega arith) in
+      let least : x.number ≤ n =
+      ⊎_elim
+      (λ (e : x.number ≡ n). omega arith)
+      (λ (more : HasNumber n events). ⊎_elim
+      (λ (l : n < x.number + 1). absurd (none_late n (x.number + 1) 0 events on.2 l more))
+      (λ (l : x.number + 1 ≤ n). omega arith) (cases_lt n (x.number + 1))) h in
+      (r.0, r.1, r.2, omega arith)
+  silent_less n low silences (Silent ∷ events) on some h = silent_less n low (silences + 1) events on (omega arith) h
+
+  -- a number that is to come is next, or one before it is, or there is a less one
+  abbrev IsClose : ℕ → ℕ → List FeedEvent → Type 0
+  IsClose n low events = ((m : ℕ) × (number_next events ≡ Some m) × (m ≤ n))
+      ⊎ ((m : ℕ) × (frames m ≡ true) × (low ≤ m) × (m < n))
+
+  near_next : (n low : ℕ) (events : List FeedEvent) → GoesOn frames low 0 events → HasNumber n events
+      → IsClose n low events
+  near_next n low [] on h = absurd h
+  near_next n low (Has x ∷ events) on h = inl (
+    x.number,
+    refl,
+    ⊎_elim
+        (λ (e : x.number ≡ n). omega arith)
+        (λ (more : HasNumber n events). ⊎_elim
+        (λ (l : n < x.number + 1). absurd (none_late n (x.number + 1) 0 events on.2 l more))
+        (λ (l : x.number + 1 ≤ n). omega arith) (cases_lt n (x.number + 1))) h,
+  )
+  near_next n low (Silent ∷ events) on h = inr (silent_less n low 1 events on (omega arith) h)
+
+  -- so one is next that is no more than it
+  pub next_most : (d n low k : ℕ) (feeds : ℕ → Coming) → ((i : ℕ) → i < k → GoesOn frames low 0 (feeds i).events)
+      → ((m : ℕ) → frames m ≡ true → low ≤ m → (i : ℕ) × (i < k) × HasNumber m (feeds i).events) → n < d
+      → (i : ℕ) → i < k → HasNumber n (feeds i).events → (m : ℕ) × (least_next k feeds ≡ Some m) × (m ≤ n)
+  next_most zero n low k feeds on there l i within h = absurd (omega arith)
+  next_most (suc d) n low k feeds on there l i within h = ⊎_elim
+      (λ (next : (m : ℕ) × (number_next (feeds i).events ≡ Some m) × (m ≤ n)).
+      let least = least_most k feeds i next.0 within next.1 in
+      (least.0, least.1, omega arith))
+      (λ (less : (m : ℕ) × (frames m ≡ true) × (low ≤ m) × (m < n)).
+      let has = there less.0 less.1 less.2 in
+      let next = next_most d less.0 low k feeds on there (omega arith) has.0 has.1 has.2 in
+      (next.0, next.1, omega arith)) (near_next n low (feeds i).events (on i within) h)
+
+  -- ---- behind the least
+
+  goes_less : (n low silences : ℕ) (events : List FeedEvent) → GoesOn frames low (silences + 1) events → low ≤ n
+      → NoneIn frames low n → GoesOn frames (n + 1) silences events
+  goes_less n low silences [] on l none = tt
+  goes_less n low silences (Has x ∷ events) on l none =
+      let r = between_some frames low x.number (omega arith) in
+      let late : n ≤ r.0 =
+      ⊎_elim
+      (λ (early : r.0 < n). absurd (none r.0 r.1 r.2 early))
+      (λ (late : n ≤ r.0). late) (cases_lt r.0 n) in
+      let less = between_less frames low n x.number l (omega arith) none in
+      (omega arith, omega arith, on.2)
+  goes_less n low silences (Silent ∷ events) on l none = goes_less n low (silences + 1) events on l none
+
+  pub goes_behind : (n low : ℕ) (events : List FeedEvent) → GoesOn frames low 0 events → low ≤ n → NoneIn frames low n
+      → ((m : ℕ) → number_next events ≡ Some m → n ≤ m) → GoesOn frames (n + 1) 0 (behind (Some n) true events)
+  goes_behind n low [] on l none least = tt
+  goes_behind n low (Has x ∷ events) on l none least =
+      cond_both {A = List FeedEvent} (n == x.number) _ _ (GoesOn frames (n + 1) 0)
+      (λ t. rw (eqb-true n x.number t) on.2)
+      (λ t. (omega (arith, least x.number refl, eqb-false n x.number t), omega arith, on.2))
+  goes_behind n low (Silent ∷ events) on l none least = goes_less n low 0 events on l none
+
+-- what has another number is still there
+pub number_behind : (n m : ℕ) (events : List FeedEvent) → (n ≡ m → ⊥) → HasNumber m events
+    → HasNumber m (behind (Some n) true events)
+number_behind n m [] ne h = h
+number_behind n m (Has x ∷ events) ne h =
+    cond_both {A = List FeedEvent} (n == x.number) _ _ (HasNumber m)
+    (λ t. ⊎_elim (λ (own : x.number ≡ m). absurd (ne (eqb-true n x.number t ∙ own)))
+    (λ (more : HasNumber m events). more) h) (λ t. h)
+number_behind n m (Silent ∷ events) ne h = h
 
 module _ (c : Config) (inputs : ℕ → List (List ℕ)) where
-  abbrev bodies_at : ℕ → List Body
-  bodies_at m = frame_bodies c m (told_counts c inputs m) (own_blocks c inputs m)
+  pub brings_number : (n place : ℕ) (events : List FeedEvent) → BringsPacket c inputs n place events
+      → HasNumber n events
+  brings_number n place [] h = h
+  brings_number n place (Has x ∷ events) h = ⊎_elim
+      (λ (own : (x.number ≡ n) × HasCome (run_packets c inputs n) x.group.packets place). inl own.0)
+      (λ (more : BringsPacket c inputs n place events). inr (brings_number n place events more)) h
+  brings_number n place (Silent ∷ events) h = brings_number n place events h
 
-  abbrev bodies_from : ℕ → ℕ → List (ℕ × Body)
-  bodies_from a j = flat_map (λ m. map (λ (body : Body). (m, body)) (bodies_at m)) (range_with_len a j)
+  -- what comes of the least number is next
+  pub brings_next : (frames : ℕ → Bool) (n low place : ℕ) (events : List FeedEvent) → GoesOn frames low 0 events
+      → NoneIn frames low n → ((m : ℕ) → number_next events ≡ Some m → n ≤ m) → BringsPacket c inputs n place events
+      → Brings (run_packets c inputs n) place (group_next n events)
+  brings_next frames n low place [] on none least h = absurd h
+  brings_next frames n low place (Has x ∷ events) on none least h = ⊎_elim
+      (λ (own : (x.number ≡ n) × HasCome (run_packets c inputs n) x.group.packets place).
+      rw (eq-eqb n x.number (sym own.0)) (inl own.1))
+      (λ (more : BringsPacket c inputs n place events).
+      absurd (none_late frames n (x.number + 1) 0 events on.2 (omega (arith, least x.number refl))
+      (brings_number n place events more)))
+      h
+  brings_next frames n low place (Silent ∷ events) on none least h =
+      let less = silent_less frames n low 1 events on (omega arith) (brings_number n place events h) in
+      absurd (none less.0 less.1 less.2 less.3)
 
-  none_before : (n a j k : ℕ) → n < a → frame_packets n (sent_from c k (bodies_from a j)) ≡ []
-  none_before n a zero k l = refl
-  none_before n a (suc j) k l =
-      let own : List (ℕ × Body) = of_frame a (bodies_at a) in
-      let i : ℕ = k + length own in
-      ap (frame_packets n) (sent_append c k own (bodies_from (a + 1) j))
-      ∙ packets_append n (sent_from c k own) (sent_from c i (bodies_from (a + 1) j))
-      ∙ ap₂ (λ (x y : List Packet). x ++ y) (other_row c k a n (bodies_at a) (λ e. omega (arith, e, l)))
-      (none_before n (a + 1) j i (omega (arith, l)))
-
-  row_from : (n a j k : ℕ) → a ≤ n → n < a + j
-      → (q : ℕ) × (frame_packets n (sent_from c k (bodies_from a j)) ≡ row_packets c q n (bodies_at n))
-  row_from n a zero k low high = absurd (omega (arith, low, high))
-  row_from n a (suc j) k low high =
-      let own : List (ℕ × Body) = of_frame a (bodies_at a) in
-      let i : ℕ = k + length own in
-      let rest : List Sent = sent_from c i (bodies_from (a + 1) j) in
-      let split = ap (frame_packets n) (sent_append c k own (bodies_from (a + 1) j))
-      ∙ packets_append n (sent_from c k own) rest in
-      ⊎_elim
-      (λ (e : a ≡ n). (
-        k,
-        split
-            ∙ ap₂ (λ (x y : List Packet). x ++ y)
-            (ap (λ (m : ℕ). frame_packets n (sent_from c k (of_frame m (bodies_at m)))) e ∙ own_row c k n (bodies_at n))
-            (none_before n (a + 1) j i (omega (arith, e)))
-            ∙ append-nil (row_packets c k n (bodies_at n)),
-      ))
-      (λ (e : a ≡ n → ⊥).
-      let r = row_from n (a + 1) j i (omega (arith, low, e)) (omega (arith, high)) in
-      (r.0, split ∙ ap₂ (λ (x y : List Packet). x ++ y) (other_row c k a n (bodies_at a) e) r.1))
-      (cases_eq a n)
-
-  pub run_row : (n : ℕ) → n < run_length c inputs → (q : ℕ) × (run_packets c inputs n ≡ row_packets c q n (bodies_at n))
-  run_row n l = row_from n 0 (run_length c inputs) 0 (omega arith) (omega (arith, l))
+  -- what comes of another number still comes
+  pub brings_behind : (n m place : ℕ) (events : List FeedEvent) → (n ≡ m → ⊥) → BringsPacket c inputs m place events
+      → BringsPacket c inputs m place (behind (Some n) true events)
+  brings_behind n m place [] ne h = h
+  brings_behind n m place (Has x ∷ events) ne h =
+      cond_both {A = List FeedEvent} (n == x.number) _ _ (BringsPacket c inputs m place)
+      (λ t. ⊎_elim
+      (λ (own : (x.number ≡ m) × HasCome (run_packets c inputs m) x.group.packets place).
+      absurd (ne (eqb-true n x.number t ∙ own.0)))
+      (λ (more : BringsPacket c inputs m place events). more) h) (λ t. h)
+  brings_behind n m place (Silent ∷ events) ne h = h
 
 -- ---- what is made is of the run
 
-module _ (law : StoodIsPlaced) (framed : PlacedIsOfFrame) (given : Given) (knows : Knows) (carries : FrameCarries)
-    (scrambles : ScramblesBack) (bits : PreBitsLength) (post : PostLength) (size : ConfPartLength)
-    (shown : ShownIsSent) (c : Config)
-    (inputs : ℕ → List (List ℕ)) (plan : IsPlan c) (types : TypesFit c) where
+-- A frame of this number is one of those that were made.
+abbrev IsThere : ℕ → List Made → Type 0
+IsThere n made = OneOf (λ (x : Made). x.number ≡ n) made
+
+module _ (laws : RunLaws) (c : Config) (inputs : ℕ → List (List ℕ)) (plan : IsPlan c) (types : TypesFit c) where
   abbrev AllNear : List FeedEvent → Type 0
   AllNear events = AllByRecursion (IsNearOfRun c inputs) events
 
   abbrev NearFeeds : ℕ → (ℕ → Coming) → Type 0
   NearFeeds k feeds = (i : ℕ) → i < k → AllNear (feeds i).events
 
-  pub behind_near : (number : Option ℕ) (silent : Bool) (events : List FeedEvent) → AllNear events
-      → AllNear (behind number silent events)
-  behind_near number silent [] h = tt
-  behind_near number silent (Has x ∷ events) h = go (is_number number x.number)
-    where
-      go : (t : Bool) → AllNear (cond t events (Has x ∷ events))
-      go true = h.1
-      go false = h
-  behind_near number true (Silent ∷ events) h = h.1
-  behind_near number false (Silent ∷ events) h = h
-
   abbrev NearGroup : ℕ → Group → Type 0
   NearGroup n g = CameNear (run_packets c inputs n) g.packets
 
-  groups_near : (n : ℕ) (events : List FeedEvent) → AllNear events → AllByRecursion (NearGroup n) (group_next n events)
-  groups_near n [] h = tt
-  groups_near n (Has x ∷ events) h = ⊎_elim
-      (λ (e : n ≡ x.number).
-      subst (AllByRecursion (NearGroup n))
-      (sym (cond-true {A = List Group} (n == x.number) (x.group ∷ []) [] (eq-eqb n x.number e)))
-      (subst (λ (i : ℕ). CameNear (run_packets c inputs i) x.group.packets) (sym e) h.0.1, tt))
-      (λ (e : n ≡ x.number → ⊥).
-      subst (AllByRecursion (NearGroup n))
-      (sym (cond-false {A = List Group} (n == x.number) (x.group ∷ []) [] (ne_eqb n x.number e))) tt)
-      (cases_eq n x.number)
-  groups_near n (Silent ∷ events) h = tt
+  groups_near : (n k : ℕ) (feeds : ℕ → Coming) → NearFeeds k feeds → AllByRecursion (NearGroup n)
+      (groups_next n k feeds)
+  groups_near n k feeds near =
+      all_groups AllNear (NearGroup n) n (λ x events h e. rw e h.0.1) k feeds near
 
-  pub all_groups_near : (n k a j : ℕ) (feeds : ℕ → Coming) → NearFeeds k feeds → a + j ≤ k
-      → AllByRecursion (NearGroup n) (flat_map (λ i. group_next n (feeds i).events) (range_with_len a j))
-  all_groups_near n k a zero feeds h l = tt
-  all_groups_near n k a (suc j) feeds h l =
-      all_append (NearGroup n) (group_next n (feeds a).events)
-      (flat_map (λ i. group_next n (feeds i).events) (range_with_len (a + 1) j))
-      (groups_near n (feeds a).events (h a (omega (arith, l))))
-      (all_groups_near n k (a + 1) j feeds h (omega (arith, l)))
-
-  next_inside : (events : List FeedEvent) (n : ℕ) → AllNear events → number_next events ≡ Some n
+  least_inside : (k n : ℕ) (feeds : ℕ → Coming) → NearFeeds k feeds → least_next k feeds ≡ Some n
       → n < run_length c inputs
-  next_inside [] n h e = none_some n e
-  next_inside (Has x ∷ events) n h e = let l = h.0.0 in let s = same_Some x.number n e in omega (arith, l, s)
-  next_inside (Silent ∷ events) n h e = none_some n e
-
-  pub least_inside : (k j n : ℕ) (feeds : ℕ → Coming) → NearFeeds k feeds → j ≤ k → least_next j feeds ≡ Some n
-      → n < run_length c inputs
-  least_inside k zero n feeds h l e = none_some n e
-  least_inside k (suc j) n feeds h l e = ⊎_elim
-      (λ (a : least_next j feeds ≡ Some n). least_inside k j n feeds h (omega (arith, l)) a)
-      (λ (b : number_next (feeds j).events ≡ Some n). next_inside (feeds j).events n (h j (omega (arith, l))) b)
-      (lesser_is (least_next j feeds) (number_next (feeds j).events) n e)
+  least_inside k n feeds near e =
+      least_is AllNear (λ i. i < run_length c inputs) (λ x events h. h.0.0) k n feeds near e
 
   -- ---- one frame
 
@@ -177,51 +289,26 @@ module _ (law : StoodIsPlaced) (framed : PlacedIsOfFrame) (given : Given) (knows
   found_own : (n : ℕ) (past : List Numbered) (gs : List Group) (g : Group) → n < run_length c inputs
       → AllByRecursion (NearGroup n) gs → find (passes c past n) gs ≡ Some g
       → HasFrame c inputs n g.packets × (packets_fault c past n g.packets ≡ None)
-  found_own n past [] g l near e = none_some g e
-  found_own n past (h ∷ gs) g l near e = ⊎_elim
-      (λ (t : passes c past n h ≡ true).
-      let same = same_Some h g (sym (cond-true (passes c past n h) (Some h) (find (passes c past n) gs) t) ∙ e) in
-      let pass = none_if_not (group_fault c past h n) t in
-      subst (λ (x : Group). HasFrame c inputs n x.packets × (packets_fault c past n x.packets ≡ None)) same (
-        whole_has given knows c inputs n plan types (run_packets c inputs n) h.packets
-            (run_has given knows carries c inputs plan types n l) (record { flags = near.0.flags; are = near.0.are })
-            past pass,
-        pass,
-      ))
-      (λ (t : passes c past n h ≡ false).
-      found_own n past gs g l near.1 (sym (cond-false (passes c past n h) (Some h) (find (passes c past n) gs) t) ∙ e))
-      (cases_Bool (passes c past n h))
+  found_own n past gs g l near e =
+      let a = found (NearGroup n) (passes c past n) gs g near e in
+      let pass = none_if_not (group_fault c past g n) a.1 in
+      (whole_has laws c inputs plan types n g.packets l (record { flags = a.0.flags; are = a.0.are }) past pass, pass)
 
   found_woven : (n : ℕ) (past : List Numbered) (o : Option Group) (g : Group)
-      → find (passes c past n) (option_to_list o) ≡ Some g
-      → (o ≡ Some g) × (packets_fault c past n g.packets ≡ None)
+      → find (passes c past n) (option_to_list o) ≡ Some g → (o ≡ Some g) × (packets_fault c past n g.packets ≡ None)
   found_woven n past None g e = none_some g e
-  found_woven n past (Some h) g e = ⊎_elim
-      (λ (t : passes c past n h ≡ true).
-      let same = same_Some h g (sym (cond-true (passes c past n h) (Some h) None t) ∙ e) in (
-        ap (λ (x : Group). Some x) same,
-        subst (λ (x : Group). packets_fault c past n x.packets ≡ None) same (none_if_not (group_fault c past h n) t),
-      ))
-      (λ (t : passes c past n h ≡ false). none_some g (sym (cond-false (passes c past n h) (Some h) None t) ∙ e))
-      (cases_Bool (passes c past n h))
+  found_woven n past (Some h) g e =
+      let a = found (λ x. Some h ≡ Some x) (passes c past n) (h ∷ []) g (refl, tt) e in
+      (a.0, none_if_not (group_fault c past g n) a.1)
 
   is_run : (n : ℕ) (past : List Numbered) (g : Group) (woven : Bool) → n < run_length c inputs
       → HasFrame c inputs n g.packets
       → packets_fault c past n g.packets ≡ None → IsRunFrame c inputs (made_as n woven g)
   is_run n past g woven l has pass = record {
     inside = l;
-    sent = sent_as_run given knows carries c inputs plan types scrambles bits post size shown n (made_as n woven g)
-        past refl has pass;
-    recorded = view_is given knows c inputs n plan types g.packets has;
+    sent = sent_as_run laws c inputs plan types n (made_as n woven g) past refl has pass;
+    recorded = view_is laws c inputs plan types n g.packets has;
   }
-
-  pub near_of : (n q : ℕ) (l : n < run_length c inputs)
-      (is : run_packets c inputs n ≡ row_packets c q n (bodies_at c inputs n)) (gs : List Group)
-      → AllByRecursion (NearGroup n) gs
-      → AllByRecursion (IsNear law framed given knows c inputs n plan types q (run_packets c inputs n) is
-      (run_has given knows carries c inputs plan types n l)) gs
-  near_of n q l is [] h = tt
-  near_of n q l is (g ∷ gs) h = (record { flags = h.0.flags; are = h.0.are; few = h.0.few }, near_of n q l is gs h.1)
 
   -- What is made of groups of a number has what the run's frame has, and passes.
   abbrev pub MadeHas : ℕ → List Numbered → Option Made → Type 0
@@ -239,99 +326,399 @@ module _ (law : StoodIsPlaced) (framed : PlacedIsOfFrame) (given : Given) (knows
           → MadeHas n past (option_or (option_map (made_as n false) a) (option_map (made_as n true) b))
       go (Some g) e b f = let r = found_own n past gs g l near e in (refl, r.0, r.1)
       go None e (Some g) f =
-          let row = run_row c inputs n l in
           let w = found_woven n past (woven c n gs) g f in
-          let has = woven_has law framed given knows c inputs n plan types row.0 (run_packets c inputs n) row.1
-          (run_has given knows carries c inputs plan types n l) gs g (near_of n row.0 l row.1 gs near) w.0 in
-          (refl, has, w.1)
+          (refl, woven_has laws c inputs plan types n l gs g near w.0, w.1)
       go None e None f = tt
 
-  abbrev AllRun : List Made → Type 0
-  AllRun made = AllByRecursion (IsRunFrame c inputs) made
+  -- what is made of the least number
+  made_of_next : (k n : ℕ) (past : List Numbered) (feeds : ℕ → Coming) → NearFeeds k feeds → least_next k feeds ≡ Some n
+      → MadeHas n past (made_of c past (picked_of n k feeds))
+  made_of_next k n past feeds near e =
+      made_has n past (groups_next n k feeds) (least_inside k n feeds near e) (groups_near n k feeds near)
 
-  one_made : (n : ℕ) (past : List Numbered) (gs : List Group) (rest : List Made) → n < run_length c inputs
-      → AllByRecursion (NearGroup n) gs → AllRun rest
-      → AllRun (option_to_list (made_of c past (record { number = n; groups = gs })) ++ rest)
-  one_made n past gs rest l near h =
-      go (made_of c past (record { number = n; groups = gs })) (made_has n past gs l near)
+  run_made : (k n : ℕ) (past : List Numbered) (feeds : ℕ → Coming) → NearFeeds k feeds → least_next k feeds ≡ Some n
+      → (x : Made) → made_of c past (picked_of n k feeds) ≡ Some x → IsRunFrame c inputs x
+  run_made k n past feeds near e x is =
+      let has = subst (MadeHas n past) is (made_of_next k n past feeds near e) in
+      rw has.0 (is_run n past x.group x.is_woven (least_inside k n feeds near e) has.1 has.2)
+
+  pub all_run : (k : ℕ) (feeds : ℕ → Coming) → NearFeeds k feeds → AllByRecursion (IsRunFrame c inputs)
+      (mended c k feeds)
+  unfolding mended
+  all_run k feeds near =
+      all_made c k (IsNearOfRun c inputs) (IsRunFrame c inputs) (run_made k) (events_in k feeds) [] feeds near
+
+  -- ---- each frame of which every packet came
+
+  abbrev count : ℕ
+  count = run_length c inputs
+
+  abbrev PastIs : ℕ → List Numbered → Type 0
+  PastIs = PastOfRun laws c inputs plan types
+
+  abbrev BegunIs : ℕ → List Numbered → Type 0
+  BegunIs = BegunMade laws c inputs plan types
+
+  abbrev woven_in : ℕ → List Numbered → List Group → Option Group
+  woven_in n past gs = find (passes c past n) (option_to_list (woven c n gs))
+
+  abbrev either : ℕ → Option Group → Option Group → Option Made
+  either n a b = option_or (option_map (made_as n false) a) (option_map (made_as n true) b)
+
+  -- one is made if each packet came
+  made_some : (n : ℕ) (past : List Numbered) (gs : List Group) → n < count → AllByRecursion (NearGroup n) gs
+      → ((place : ℕ) (p : Packet) → slice_get (run_packets c inputs n) place ≡ Some p → is_stamp p ≡ false
+      → Brings (run_packets c inputs n) place gs) → PastIs n past → BegunIs n past
+      → (x : Made) × (made_of c past (record { number = n; groups = gs }) ≡ Some x)
+  made_some n past gs l near come of begun =
+      let w = woven_some laws c inputs plan types n l gs near come in
+      let g : Group = w.0 in
+      let made = woven_has laws c inputs plan types n l gs g near w.1 in
+      let pass : passes c past n g ≡ true =
+      rw (passes_behind laws c inputs plan types n past g.packets of begun made) in
+      go (find (passes c past n) gs) (woven_in n past gs) g (rw (w.1, pass))
     where
-      go : (o : Option Made) → MadeHas n past o → AllRun (option_to_list o ++ rest)
-      go None has = h
-      go (Some x) has = (
-        subst (λ (i : ℕ). IsRunFrame c inputs (made_as i x.is_woven x.group)) (sym has.0)
-            (is_run n past x.group x.is_woven l has.1 has.2),
-        h,
-      )
+      go : (a b : Option Group) (g : Group) → b ≡ Some g → (x : Made) × (either n a b ≡ Some x)
+      go (Some h) b g e = (made_as n false h, refl)
+      go None b g e = (made_as n true g, ap (λ (o : Option Group). option_map (made_as n true) o) e)
 
   -- ---- all of them
 
-  abbrev Rest : Type 0
-  Rest = List Numbered → (ℕ → Coming) → List Made
+  module _ (k : ℕ) (some : ℕ → Bool) (frames : ℕ → Bool) (inside : (n : ℕ) → frames n ≡ true → n < count)
+      (begun : (n plp : ℕ) → frames n ≡ true → plp < length c.plps → frames (begin_of c plp n) ≡ true) where
+    -- Below a number each of the frames was made, and from it on all packets of each still come.
+    record Reached (low : ℕ) (past : List Numbered) (feeds : ℕ → Coming) : Type 0 where
+      low_is : low_of past ≤ low
+      of : (b : ℕ) → (packets_at past b ≡ []) ⊎ HasFrame c inputs b (packets_at past b)
+      made : (b : ℕ) → frames b ≡ true → b < low → HasFrame c inputs b (packets_at past b)
+      near : (i : ℕ) → i < k → AllByRecursion (IsNearOfRun c inputs) (feeds i).events
+      there : (m : ℕ) → some m ≡ true → low ≤ m → (i : ℕ) × (i < k) × HasNumber m (feeds i).events
+      on : (i : ℕ) → i < k → GoesOn some low 0 (feeds i).events
+      over : (i : ℕ) → i < k → (feeds i).over ≡ true
+      come : (n : ℕ) → frames n ≡ true → low ≤ n → AllCame c inputs k feeds n
 
-  pick_run : (o : Option ℕ) (k : ℕ) (past : List Numbered) (feeds : ℕ → Coming) (rest : Rest) → NearFeeds k feeds
-      → least_next k feeds ≡ o
-      → ((past : List Numbered) (feeds : ℕ → Coming) → NearFeeds k feeds → AllRun (rest past feeds))
-      → AllRun (pick_next (taking c) o k past feeds rest)
-  pick_run None k past feeds rest near e h =
-      h past (all_behind None true feeds) (λ i l. behind_near None true (feeds i).events (near i l))
-  pick_run (Some n) k past feeds rest near e h = go (nat_lt n (low_of past))
-    where
-      go : (t : Bool)
-          → AllRun (cond t (rest past (all_behind (Some n) false feeds))
-          (option_to_list (made_of c past (picked_of n k feeds))
-          ++ rest (past_with past (made_of c past (picked_of n k feeds))) (all_behind (Some n) true feeds)))
-      go true = h past (all_behind (Some n) false feeds) (λ i l. behind_near (Some n) false (feeds i).events (near i l))
-      go false =
-          one_made n past (groups_next n k feeds)
-          (rest (past_with past (made_of c past (picked_of n k feeds))) (all_behind (Some n) true feeds))
-          (least_inside k k n feeds near (omega arith) e) (all_groups_near n k 0 k feeds near (omega arith))
-          (h (past_with past (made_of c past (picked_of n k feeds))) (all_behind (Some n) true feeds)
-          (λ i l. behind_near (Some n) true (feeds i).events (near i l)))
+    -- a number that is there holds the least down
+    there_most : (low n : ℕ) (past : List Numbered) (feeds : ℕ → Coming) → Reached low past feeds → (i : ℕ) → i < k
+        → HasNumber n (feeds i).events → (m : ℕ) × (least_next k feeds ≡ Some m) × (m ≤ n)
+    there_most low n past feeds r i within h =
+        next_most some (n + 1) n low k feeds r.on r.there (omega arith) i within h
 
-  picks_run : (steps k : ℕ) (past : List Numbered) (feeds : ℕ → Coming) → NearFeeds k feeds
-      → AllRun (picked_from (taking c) steps k past feeds)
-  picks_run zero k past feeds near = tt
-  picks_run (suc steps) k past feeds near = go (one_waits k feeds)
-      (λ past feeds near. picks_run steps k past feeds near)
-    where
-      go : (t : Bool)
-          → ((past : List Numbered) (feeds : ℕ → Coming) → NearFeeds k feeds
-          → AllRun (picked_from (taking c) steps k past feeds))
-          → AllRun (cond t [] (pick_next (taking c) (least_next k feeds) k past feeds
-          (λ past feeds. picked_from (taking c) steps k past feeds)))
-      go true h = tt
-      go false h = pick_run (least_next k feeds) k past feeds
-          (λ past feeds. picked_from (taking c) steps k past feeds) near refl h
+    -- so does a frame of which all comes
+    frame_most : (low n : ℕ) (past : List Numbered) (feeds : ℕ → Coming) → Reached low past feeds → frames n ≡ true
+        → low ≤ n → (m : ℕ) × (least_next k feeds ≡ Some m) × (m ≤ n)
+    frame_most low n past feeds r f l =
+        let first = l1_is_plain laws c inputs plan types n (inside n f) in
+        let place = l1_place laws c inputs plan types n (inside n f) in
+        let come = r.come n f l place first.packet first.is first.plain in
+        there_most low n past feeds r come.0 come.1 (brings_number c inputs n place (feeds come.0).events come.2)
 
-  pub all_run : (k : ℕ) (feeds : ℕ → Coming) → NearFeeds k feeds → AllRun (mended c k feeds)
+    -- so none is below it
+    least_none : (low m b : ℕ) (feeds : ℕ → Coming) → least_next k feeds ≡ Some m
+        → (n : ℕ) × (least_next k feeds ≡ Some n) × (n ≤ b) → b < m → ⊥
+    least_none low m b feeds e next below =
+        let s = same_Some next.0 m (sym next.1 ∙ e) in
+        omega arith
+
+    none_in : (low m : ℕ) (past : List Numbered) (feeds : ℕ → Coming) → Reached low past feeds
+        → least_next k feeds ≡ Some m → NoneIn some low m
+    none_in low m past feeds r e b t l below =
+        let has = r.there b t l in
+        least_none low m b feeds e (there_most low b past feeds r has.0 has.1 has.2) below
+
+    made_before : (low m b : ℕ) (past : List Numbered) (feeds : ℕ → Coming) → Reached low past feeds
+        → least_next k feeds ≡ Some m → frames b ≡ true → b < m → HasFrame c inputs b (packets_at past b)
+    made_before low m b past feeds r e f below = ⊎_elim
+        (λ (l : b < low). r.made b f l)
+        (λ (l : low ≤ b). absurd (least_none low m b feeds e (frame_most low b past feeds r f l) below))
+        (cases_lt b low)
+
+    -- none is next that is less
+    next_late : (m i : ℕ) (feeds : ℕ → Coming) → i < k → least_next k feeds ≡ Some m → (j : ℕ)
+        → number_next (feeds i).events ≡ Some j → m ≤ j
+    next_late m i feeds within e j next =
+        let least = least_most k feeds i j within next in
+        let s = same_Some least.0 m (sym least.1 ∙ e) in
+        omega arith
+
+    some_of_next : (low m : ℕ) (past : List Numbered) (feeds : ℕ → Coming) → Reached low past feeds
+        → least_next k feeds ≡ Some m → frames m ≡ true → (x : Made) × (made_of c past (picked_of m k feeds) ≡ Some x)
+    some_of_next low m past feeds r e f =
+        let l = least_low some low k m feeds r.on e in
+        made_some m past (groups_next m k feeds) (inside m f) (groups_near m k feeds r.near)
+        (λ place p is plain.
+        let come = r.come m f l place p is plain in
+        one_among (λ (g : Group). HasCome (run_packets c inputs m) g.packets place) (λ i. group_next m (feeds i).events)
+        come.0 k 0
+        (omega arith) (omega (arith, come.1))
+        (brings_next c inputs some m low place (feeds come.0).events (r.on come.0 come.1) (none_in low m past feeds r e)
+        (next_late m come.0 feeds come.1 e) come.2))
+        (λ b below. r.of b)
+        (λ plp within later.
+        made_before low m (begin_of c plp m) past feeds r e (begun m plp f within) (begun_before c plp m later))
+
+    -- behind the least number
+    reached_more : (low m : ℕ) (past : List Numbered) (feeds : ℕ → Coming) → Reached low past feeds
+        → least_next k feeds ≡ Some m → (o : Option Made) → MadeHas m past o
+        → (frames m ≡ true → (x : Made) × (o ≡ Some x))
+        → Reached (m + 1) (past_with past o) (all_behind (Some m) true feeds)
+    reached_more low m past feeds r e o has made_if =
+        let l = least_low some low k m feeds r.on e in
+        let low_is = r.low_is in
+        record {
+          low_is = low_more o has;
+          of = of_more o has;
+          made = made_more o has made_if;
+          near = λ i within.
+              behind_all (IsNearOfRun c inputs) (Some m) true (feeds i).events (r.near i within);
+          there = λ n t from.
+              let has = r.there n t (omega arith) in (
+                has.0,
+                has.1,
+                number_behind m n (feeds has.0).events (λ same. omega arith) has.2,
+              );
+          on = λ i within.
+              goes_behind some m low (feeds i).events (r.on i within) l (none_in low m past feeds r e)
+              (next_late m i feeds within e);
+          over = r.over;
+          come = λ n f from place p is plain.
+              let come = r.come n f (omega arith) place p is plain in (
+                come.0,
+                come.1,
+                brings_behind c inputs m n place (feeds come.0).events (λ same. omega arith) come.2,
+              );
+        }
+      where
+        low_more : (o : Option Made) → MadeHas m past o → low_of (past_with past o) ≤ m + 1
+        low_more None has = omega (arith, least_low some low k m feeds r.on e)
+        low_more (Some x) has = omega arith
+
+        of_more : (o : Option Made) → MadeHas m past o → (b : ℕ)
+            → (packets_at (past_with past o) b ≡ []) ⊎ HasFrame c inputs b (packets_at (past_with past o) b)
+        of_more None has = r.of
+        of_more (Some x) has = λ b.
+            let y : Numbered = record { number = x.number; group = x.group } in
+            ⊎_elim
+            (λ (same : x.number ≡ b). inr (rw (← same) (rw (at_own y past) (rw has.0 has.1))))
+            (λ (ne : x.number ≡ b → ⊥). rw (at_other y past b ne) (r.of b)) (cases_eq x.number b)
+
+        made_more : (o : Option Made) → MadeHas m past o → (frames m ≡ true → (x : Made) × (o ≡ Some x)) → (b : ℕ)
+            → frames b ≡ true → b < m + 1 → HasFrame c inputs b (packets_at (past_with past o) b)
+        made_more None has made_if b f below = ⊎_elim
+            (λ (lower : b < m). made_before low m b past feeds r e f lower)
+            (λ (higher : m ≤ b).
+            let same : b ≡ m = omega arith in
+            let x = made_if (rw (← same) f) in
+            none_some x.0 x.1) (cases_lt b m)
+        made_more (Some x) has made_if b f below =
+            let y : Numbered = record { number = x.number; group = x.group } in
+            ⊎_elim
+            (λ (same : x.number ≡ b). rw (← same) (rw (at_own y past) (rw has.0 has.1)))
+            (λ (ne : x.number ≡ b → ⊥).
+            rw (at_other y past b ne) (made_before low m b past feeds r e f (omega arith))) (cases_eq x.number b)
+
+    abbrev picks : ℕ → List Numbered → (ℕ → Coming) → List Made
+    picks steps past feeds = picked_from (taking c) steps k past feeds
+
+    -- what is picked next
+    step_next : (steps low m : ℕ) (past : List Numbered) (feeds : ℕ → Coming) → Reached low past feeds
+        → least_next k feeds ≡ Some m → picks (suc steps) past feeds
+        ≡ option_to_list (made_of c past (picked_of m k feeds))
+        ++ picks steps (past_with past (made_of c past (picked_of m k feeds))) (all_behind (Some m) true feeds)
+    step_next steps low m past feeds r e =
+        rw (
+          step_is laws c inputs plan types steps k past feeds (record {
+            events = λ i within. of_run c inputs (feeds
+                i).events (r.near i within);
+            over = r.over;
+          }),
+          e,
+          false_from_ne_true (nat_lt m (low_of past)) (λ t. omega
+              (arith, ltb-true m (low_of past) t, least_low some low k m feeds r.on e)),
+        )
+
+    all_there : (steps low n : ℕ) (past : List Numbered) (feeds : ℕ → Coming) → Reached low past feeds
+        → frames n ≡ true → low ≤ n → events_in k feeds ≤ steps → IsThere n (picks steps past feeds)
+    all_there zero low n past feeds r f l fuel =
+        let next = frame_most low n past feeds r f l in
+        absurd (omega (arith, passes_least false next.0 k feeds next.1))
+    all_there (suc steps) low n past feeds r f l fuel =
+        let next = frame_most low n past feeds r f l in
+        let m : ℕ = next.0 in
+        let e = next.1 in
+        let o : Option Made = made_of c past (picked_of m k feeds) in
+        let has : MadeHas m past o = made_of_next k m past feeds r.near e in
+        let made_if : frames m ≡ true → (x : Made) × (o ≡ Some x) = some_of_next low m past feeds r e in
+        let more : Reached (m + 1) (past_with past o) (all_behind (Some m) true feeds) =
+        reached_more low m past feeds r e o has made_if in
+        rw (step_next steps low m past feeds r e) (⊎_elim
+        (λ (below : m < n).
+        one_behind (λ (x : Made). x.number ≡ n) (option_to_list o)
+        (picks steps (past_with past o) (all_behind (Some m) true feeds))
+        (all_there steps (m + 1) n (past_with past o) (all_behind (Some m) true feeds) more f (omega arith)
+        (omega (arith, passes_least true m k feeds e))))
+        (λ (not_below : n ≤ m).
+        let same : m ≡ n = omega arith in
+        is_first_made n m o (picks steps (past_with past o) (all_behind (Some m) true feeds)) same has
+        (made_if (rw same f))) (cases_lt m n))
+      where
+        is_first_made : (n m : ℕ) (o : Option Made) (rest : List Made) → m ≡ n → MadeHas m past o
+            → (x : Made) × (o ≡ Some x) → IsThere n (option_to_list o ++ rest)
+        is_first_made n m None rest same has some = none_some some.0 some.1
+        is_first_made n m (Some x) rest same has some = inl (has.0 ∙ same)
+
+  has_run_frame : (n : ℕ) (made : List Made) → AllByRecursion (IsRunFrame c inputs) made → IsThere n made
+      → HasRunFrame c inputs n made
+  has_run_frame n [] all h = absurd h
+  has_run_frame n (x ∷ made) all h = ⊎_elim (λ (is : x.number ≡ n). inl (is, all.0))
+      (λ (more : IsThere n made). inr (has_run_frame n made all.1 more)) h
+
+  is_there : (k : ℕ) (feeds : ℕ → Coming) (frames : ℕ → Bool) → NearFeeds k feeds → GoOn k feeds
+      → HaveCome c inputs (AllCame c inputs k feeds) frames → (n : ℕ) → frames n ≡ true → IsThere n (mended c k feeds)
   unfolding mended
-  all_run k feeds near = picks_run (events_in k feeds) k [] feeds near
+  is_there k feeds frames near on whole n f =
+      all_there k on.frames frames whole.inside whole.begun (events_in k feeds) 0 n [] feeds
+      (record {
+        low_is = omega arith;
+        of = λ b. inl refl;
+        made = λ b h below. absurd (omega arith);
+        near = near;
+        there = λ m t from. on.there m t;
+        on = on.on;
+        over = on.over;
+        come = λ m h from. whole.came m h;
+      }) f (omega arith) (omega arith)
 
-pub made_are_of_run : StoodIsPlaced → PlacedIsOfFrame → Given → Knows → FrameCarries → ScramblesBack → PreBitsLength
-    → PostLength
-    → ConfPartLength → ShownIsSent → MadeAreOfRun
-made_are_of_run law framed given knows carries scrambles bits post size shown c inputs k feeds plan types near =
-    all_run law framed given knows carries scrambles bits post size shown c inputs plan types k feeds near
+  pub came_made : (k : ℕ) (feeds : ℕ → Coming) (frames : ℕ → Bool) → NearFeeds k feeds → GoOn k feeds
+      → HaveCome c inputs (AllCame c inputs k feeds) frames → (n : ℕ) → frames n ≡ true
+      → HasRunFrame c inputs n (mended c k feeds)
+  came_made k feeds frames near on whole n f =
+      has_run_frame n (mended c k feeds) (all_run k feeds near) (is_there k feeds frames near on whole n f)
+
+pub made_are_of_run : RunLaws → MadeAreOfRun
+made_are_of_run laws c inputs k feeds plan types near = all_run laws c inputs plan types k feeds near
+
+pub came_are_made : RunLaws → CameAreMade
+came_are_made laws c inputs k feeds frames plan types near on whole n f =
+    came_made laws c inputs plan types k feeds frames near on whole n f
 
 -- ---- damaged streams
 
 pub some_frames : (c : Config) → IsPlan c → 0 < c.frames
-some_frames c plan = let r : (2 ≤ c.frames) × (c.frames ≤ 255) = plan.rules SuperframeLength in omega (arith, r.0)
+some_frames c plan = let r : (2 ≤ c.frames) × (c.frames ≤ 255) = plan.rules SuperframeLength in omega arith
 
-pub damaged_runs_mended : StoodIsPlaced → PlacedIsOfFrame → Given → Knows → FrameCarries → ScramblesBack
-    → PreBitsLength → PostLength
-    → ConfPartLength → ShownIsSent → FrameNamed → SentAreFrames → GroupsAreFrames → DamagedRunsMended
-damaged_runs_mended law framed given knows carries scrambles bits post size shown named are groups c
-    inputs k streams plan types most damaged =
-    all_run law framed given knows carries scrambles bits post size shown c inputs plan types k (all_of c streams)
-    (λ i l. damaged_events named are groups c inputs plan (some_frames c plan) most
-    (run_has given knows carries c inputs plan types) (streams i) (damaged i l))
+pub near_events : RunLaws → (c : Config) (inputs : ℕ → List (List ℕ)) → IsPlan c → TypesFit c
+    → run_length c inputs ≤ MOST_FRAMES → (bytes : List ℕ) → IsDamagedRun c inputs bytes
+    → AllByRecursion (IsNearOfRun c inputs) (feed_events (rules c) true bytes)
+near_events laws c inputs plan types most bytes damaged =
+    damaged_events laws.named laws.frames laws.groups c inputs plan (some_frames c plan) most
+    (run_has laws c inputs plan types) bytes damaged
 
-pub whole_among_damaged : Given → Knows → FrameCarries → SentAreFrames → GroupsAreFrames → FrameNamed
-    → WholeStreamMended → WholeAmongDamaged
-whole_among_damaged given knows carries are groups named whole_law c inputs k whole streams plan types
-    most inside is damaged =
+pub damaged_runs_mended : RunLaws → DamagedRunsMended
+damaged_runs_mended laws c inputs k streams plan types most damaged =
+    all_run laws c inputs plan types k (all_of c streams)
+    (λ i l. near_events laws c inputs plan types most (streams i) (damaged i l))
+
+-- with idle units
+pub came_of_damaged : RunLaws → CameOfDamagedMade
+came_of_damaged laws c inputs k streams frames plan types most damaged on whole n f =
+    came_made laws c inputs plan types k (all_of c streams) frames
+    (λ i l. near_events laws c inputs plan types most (streams i) (damaged i l)) on whole n f
+
+pub whole_among_damaged : RunLaws → WholeStreamMended → WholeAmongDamaged
+whole_among_damaged laws whole_law c inputs k whole streams plan types most inside is damaged =
     whole_law c inputs k whole streams plan types most inside is
     (λ i l ne. of_run c inputs (feed_events (rules c) true (streams i))
-    (damaged_events named are groups c inputs plan (some_frames c plan) most
-    (run_has given knows carries c inputs plan types) (streams i) (damaged i l ne)))
+    (near_events laws c inputs plan types most (streams i) (damaged i l ne)))
+
+rise_from : (c : Config) (m : ℕ) (made : List Made) → RiseFrom m (frames_of c made) → RiseOn (m + 1) made
+rise_from c m [] h = tt
+rise_from c m (x ∷ made) h = (omega arith, rise_from c x.number made h.1)
+
+rise_on : (c : Config) (made : List Made) → Rise (frames_of c made) → RiseOn 0 made
+rise_on c [] h = tt
+rise_on c (x ∷ made) h = (omega arith, rise_from c x.number made h)
+
+module _ (c : Config) (inputs : ℕ → List (List ℕ)) where
+  none_later : (n low : ℕ) (made : List Made) → RiseOn low made → n < low → HasRunFrame c inputs n made → ⊥
+  none_later n low [] r l h = h
+  none_later n low (x ∷ made) r l h =
+      ⊎_elim
+      (λ (own : (x.number ≡ n) × IsRunFrame c inputs x). omega arith)
+      (λ (more : HasRunFrame c inputs n made). none_later n (x.number + 1) made r.1 (omega arith) more) h
+
+  -- if each is there, they are all frames of the run
+  all_frames : (j m : ℕ) (made : List Made) → m + j ≡ run_length c inputs → AllByRecursion (IsRunFrame c inputs) made
+      → RiseOn m made → ((n : ℕ) → m ≤ n → n < run_length c inputs → HasRunFrame c inputs n made)
+      → frames_of c made ≡ map (run_frame c inputs) (range_with_len m j)
+  all_frames zero m [] e all rise there = refl
+  all_frames zero m (x ∷ made) e all rise there =
+      absurd (omega arith)
+  all_frames (suc j) m [] e all rise there = absurd (there m (omega arith) (omega arith))
+  all_frames (suc j) m (x ∷ made) e all rise there =
+      let is : x.number ≡ m =
+      ⊎_elim
+      (λ (own : (x.number ≡ m) × IsRunFrame c inputs x). own.0)
+      (λ (more : HasRunFrame c inputs m made). absurd (none_later m (x.number + 1) made rise.1 (omega arith) more))
+      (there m (omega arith) (omega arith)) in
+      ap₂ (λ (y : SentFrame) (l : List SentFrame). y ∷ l) (all.0.sent ∙ ap (run_frame c inputs) is)
+      (all_frames j (m + 1) made (omega arith) all.1 (rw (← is) rise.1)
+      (λ n low high. ⊎_elim
+      (λ (own : (x.number ≡ n) × IsRunFrame c inputs x). absurd (omega arith))
+      (λ (more : HasRunFrame c inputs n made). more) (there n (omega arith) high)))
+
+pub survivors_mended : RunLaws → SurvivorsMended
+survivors_mended laws c inputs k streams survivals frames plan types most lossy whole n f =
+    let some = some_frames c plan in
+    let has = run_has laws c inputs plan types in
+    came_made laws c inputs plan types k (all_of c streams) frames
+    (λ i l. near_events laws c inputs plan types most (streams i)
+    (damaged_of c inputs (survivals i) (streams i) (lossy i l)))
+    (record {
+      frames = λ m. false;
+      there = λ m t. absurd (true≢false (sym t));
+      on = λ i l.
+          stream_goes laws.named laws.frames laws.groups c inputs plan some most has (survivals i) (streams i)
+          (lossy i l) (λ m. false);
+      over = λ i l. refl;
+    })
+    (record {
+      inside = whole.inside;
+      came = λ m h place p is plain.
+          let come = whole.came m h place p is plain in (
+            come.0,
+            come.1,
+            stream_brings laws.named laws.frames laws.groups c inputs plan some most has (survivals come.0)
+                (streams come.0) (lossy come.0 come.1) m place (whole.inside m h) come.2 come.3,
+          );
+      begun = whole.begun;
+    }) n f
+
+pub none_lost_mended : RunLaws → MadeRise → NoneLostMended
+unfolding spaced front_packets
+none_lost_mended laws rise c inputs k streams survivals plan types most lossy come =
+    let n : ℕ = run_length c inputs in
+    let made : List Made = made_of_all c k streams in
+    let all : AllByRecursion (IsRunFrame c inputs) made =
+    damaged_runs_mended laws c inputs k streams plan types most
+    (λ i l. damaged_of c inputs (survivals i) (streams i) (lossy i l)) in
+    let there : (m : ℕ) → m < n → HasRunFrame c inputs m made =
+    λ m l. survivors_mended laws c inputs k streams survivals (λ i. nat_lt i n) plan types most lossy
+    (record {
+      inside = λ i f. ltb-true i n f;
+      came = λ i f. come i (ltb-true i n f);
+      begun = λ i plp f within. lt-ltb (begin_of c plp i) n (let b = ltb-true i n f in omega arith);
+    }) m (lt-ltb m n l) in
+    ap (λ (packets : List (List ℕ)). joined (pipe c.pid packets))
+    (ap (λ (frames : List SentFrame). packets_from c 0 (spaced_behind c None frames))
+    (all_frames c inputs n 0 made (omega arith) all (rise_on c made (rise c k streams)) (λ m low l. there m l))
+    ∙ ap (packets_from c 0) (run_spaced laws c inputs plan types None n 0 tt))
+
+-- where one frame carries each interleaving frame
+pub survivor_alone : RunLaws → BeginAlone → SurvivorAlone
+survivor_alone laws begins c inputs k streams survivals plan types alone most lossy n inside come =
+    survivors_mended laws c inputs k streams survivals (λ i. i == n) plan types most lossy
+    (record {
+      inside = λ i f. rw (eqb-true i n f) inside;
+      came = λ i f. rw (eqb-true i n f) come;
+      begun = λ i plp f within. eq-eqb (begin_of c plp i) n ((begins c plp i (alone plp within)).2 ∙ eqb-true i n f);
+    }) n (eq-eqb n n refl)

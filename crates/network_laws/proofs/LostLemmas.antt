@@ -1,12 +1,11 @@
 -- Which of the epochs that are not there carry something of a slot that is due, and Readback of those that end.
-use Rattle.std.proofs.Common.{◌≡◌, ◌⊎◌, ℕ, zero, suc, ◌+◌, ◌-◌, ◌*◌, ◌/◌, ◌<◌, ◌≤◌, ◌&&◌, ◌||◌, not, Bool, true, false}
-use Rattle.std.proofs.Common.{List, length, refl, ap, ◌∙◌, sym, subst, arith, inl, inr, cond}
+use Rattle.std.proofs.Common.{◌≡◌, ◌⊎◌, ℕ, zero, suc, ◌+◌, ◌-◌, ◌*◌, ◌/◌, ◌<◌, ◌≤◌, ◌||◌, Bool, true, false}
+use Rattle.std.proofs.Common.{List, length, refl, ap, ◌∙◌, sym, arith, inl, inr}
 use Rattle.std.specs.List.{range_with_len, list_any, filter}
 use Rattle.std.proofs.lemmas.List.Elements.{filter-append}
 use Rattle.std.proofs.lemmas.List.Folds.{list_any-append}
 use Rattle.std.proofs.lemmas.Nat.{le-div}
 use Rattle.std.proofs.Math.Nat.{mul-le-mul_right, mul_assoc, div-le_self, div-mul-le_self}
-use Rattle.ts_packet.specs.Null.{null_packet}
 use Rattle.plp_config.specs.Capacity.{IsPlan, up_bytes}
 use Rattle.plp_config.specs.Plps.{spread}
 use Rattle.plp_config.specs.SlotTime.{num, den, slots_by, epoch_ticks}
@@ -20,16 +19,17 @@ use Rattle.plp_receiver.specs.Readback.{slot_packet}
 use Rattle.plp_receiver.specs.Sound.{IsSound}
 use Rattle.plp_receiver.specs.Times.{due_after}
 use Rattle.terms.proofs.RangeLemmas.{map_same, range_append}
-use Rattle.plp_receiver.proofs.TimeLemmas.{placed, ended_over}
+use Rattle.plp_receiver.proofs.TimeLemmas.{ended_over}
 use Rattle.record_laws.specs.Recover.{is_carried, is_touched, recovered, lost_frames}
 use Rattle.plp_receiver.specs.Epochs.{slot_rule, epochs_in}
 use Rattle.network_laws.specs.ToldEpochs.{IsEpoch, told_epochs, is_lost}
 use Rattle.network_laws.specs.RecoverLaws.{LostEnded, ReadbackRecovers}
-use Rattle.network_laws.proofs.KeptSlots.{KeptFollow}
-use Rattle.network_laws.proofs.FoundLemmas.{all_in_range, filter_all, none_any}
+use Rattle.network_laws.proofs.KeptLemmas.{KeptFollow}
+use Rattle.network_laws.proofs.CarriedLemmas.{all_in_range, filter_all, none_any}
+use Rattle.network_laws.proofs.RecoverLemmas.{Times, PlanLaws, sound_is, slot_recovers}
+use Rattle.std.proofs.lemmas.Bool.{cases_Bool}
 use Rattle.network_laws.proofs.CarriedLemmas as C
 use Rattle.network_laws.proofs.SentLemmas as S
-use Rattle.network_laws.proofs.RecoverLemmas.{Times, PlanLaws, sound_is, slot_recovers}
 
 -- ---- a test that the numbers outside of a range fail
 
@@ -53,7 +53,7 @@ only_inside test p from n more before behind =
     ∙ ap (list_any test) (filter-append p (range_with_len 0 from) (range_with_len (0 + from) (n + more)))
     ∙ list_any-append test (part 0 from) (part (0 + from) (n + more))
     ∙ ap (λ (t : Bool). t || list_any test (part (0 + from) (n + more)))
-    (none_there test p 0 from (λ m a b. before m (omega (arith, b))))
+    (none_there test p 0 from (λ m a b. before m (omega arith)))
     ∙ ap (λ (a : ℕ). list_any test (part a (n + more))) z
     ∙ ap (λ (l : List ℕ). list_any test (filter p l)) (range_append from n more)
     ∙ ap (list_any test) (filter-append p (range_with_len from n) (range_with_len (from + n) more))
@@ -64,24 +64,19 @@ only_inside test p from n more before behind =
 -- ---- ticks
 
 two_less : (n epoch : ℕ) → (n + 1) * epoch - 3 * epoch ≤ (n - 2) * epoch
-two_less zero epoch = let e : (zero + 1) * epoch ≡ epoch = omega arith in omega (arith, e)
-two_less (suc zero) epoch = let e : (suc zero + 1) * epoch ≡ 2 * epoch = omega arith in omega (arith, e)
+two_less zero epoch = omega arith
+two_less (suc zero) epoch = omega arith
 two_less (suc (suc n)) epoch =
-    let e : (suc (suc n) + 1) * epoch ≡ n * epoch + 3 * epoch = omega arith in
     let f : suc (suc n) - 2 ≡ n = omega arith in
-    subst (λ (k : ℕ). (suc (suc n) + 1) * epoch - 3 * epoch ≤ k * epoch) (sym f) (omega (arith, e))
+    rw f (omega arith)
 
 -- three epochs before the end of so many frames two epochs fewer had ended, at most
 late_tick : (end spread ticks : ℕ) → 1 ≤ spread → end * ticks - 3 * (spread * ticks) ≤ (end / spread - 2)
     * (spread * ticks)
 late_tick end spread ticks some =
-    let p = placed spread end some in
-    let b = p.below in
-    let is = p.frame_is in
-    let next : (end / spread + 1) * spread ≡ end / spread * spread + spread = omega arith in
     let q : end * ticks ≤ (end / spread + 1) * spread * ticks =
-    mul-le-mul_right {m = end} {n = (end / spread + 1) * spread} ticks (omega (arith, b, is, next)) in
-    omega (arith, q, mul_assoc (end / spread + 1) spread ticks, two_less (end / spread) (spread * ticks))
+    mul-le-mul_right {m = end} {n = (end / spread + 1) * spread} ticks (omega arith) in
+    omega (arith, mul_assoc (end / spread + 1) spread ticks, two_less (end / spread) (spread * ticks))
 
 module _ (law : S.Sending) (times : Times) (laws : PlanLaws) (c : Config) (plp : ℕ) (at : ℕ → List ℕ) (first count : ℕ)
     (plan : IsPlan c) (inside : plp < length c.plps) where
@@ -107,16 +102,17 @@ module _ (law : S.Sending) (times : Times) (laws : PlanLaws) (c : Config) (plp :
   epoch = laws.epochs c plp plan inside
 
   num_pos : 0 < num c
-  num_pos = let a = sound.times.some in let b = sound.times.long in omega (arith, a, b)
+  num_pos = omega (arith, sound.times.some, sound.times.long)
 
   den_pos : 0 < den c plp
   den_pos = sound.times.some
 
   later : begun ≤ ended
   later =
-      let some = sound.spread in
-      let q = div-mul-le_self first (spread c.plps plp) in
-      le-div begun (first + count) (spread c.plps plp) (omega (arith, some)) (omega (arith, q))
+      le-div begun (first + count) (spread c.plps plp) (omega (arith, sound.spread)) (omega (
+        arith,
+        div-mul-le_self first (spread c.plps plp),
+      ))
 
   few : ended ≤ first + count
   few = div-le_self (first + count) (spread c.plps plp)
@@ -124,14 +120,13 @@ module _ (law : S.Sending) (times : Times) (laws : PlanLaws) (c : Config) (plp :
   -- a slot that is due was not over when all epochs had ended before the first one but one, and was when all but two
   -- had
   since : (k : ℕ) → first_slot r first ≤ k → slots_by c plp ((begun - 1) * epoch_ticks c plp) ≤ k
-  since k from = let o = ended_over times.rises r sound first in omega (arith, o, from)
+  since k from = omega (arith, ended_over times.rises r sound first)
 
   until : (k : ℕ) → k < due_after r (first + count) → k < slots_by c plp ((ended - 2) * epoch_ticks c plp)
   until k l =
-      let p = times.old (num c) (den c plp) (epoch_ticks c plp) ((first + count) * c.ticks) k num_pos den_pos l in
       let q = times.rises (num c) (den c plp) ((first + count) * c.ticks - 3 * epoch_ticks c plp)
       ((ended - 2) * epoch_ticks c plp) num_pos (late_tick (first + count) (spread c.plps plp) c.ticks sound.spread) in
-      omega (arith, p, q)
+      omega (arith, times.old (num c) (den c plp) (epoch_ticks c plp) ((first + count) * c.ticks) k num_pos den_pos l)
 
   module _ (k : ℕ) (from : first_slot r first ≤ k) (due : k < due_after r (first + count)) where
     abbrev place : ℕ
@@ -142,22 +137,25 @@ module _ (law : S.Sending) (times : Times) (laws : PlanLaws) (c : Config) (plp :
     outside on i out =
         let p = times.partition (num c) (den c plp) (epoch_ticks c plp) k num_pos den_pos sound.times.least in
         let m : ℕ = p.0 in
-        let begins = (law.begins rates keeps m k epoch.within on).begins p.1.inside in
-        let ends = law.ends rates keeps m k epoch.within epoch.holds on p.1.inside in
         let low = C.since times.rises (num c) (den c plp) (epoch_ticks c plp) m k num_pos p.1.inside
         begun (since k from) in
         let high = C.until times.rises (num c) (den c plp) (epoch_ticks c plp) m k num_pos p.1.inside
         ended (until k due) in
         elim out [
           | inl before ↦ inl (
-              let q = C.before_rises law.within rates keeps epoch.within.slot (i + 1) m (omega (arith, before, low)) in
-              let s = C.before_next rates keeps i in
-              omega (arith, q, s, begins))
+              let q = C.before_rises law.within rates keeps epoch.within.slot (i + 1) m (omega arith) in
+              omega (
+                arith,
+                C.before_next rates keeps i,
+                (law.begins rates keeps m k epoch.within on).begins p.1.inside,
+              ))
           | inr behind ↦ inr (
-              let q = C.before_rises law.within rates keeps epoch.within.slot (m + 1 + 1) i
-              (omega (arith, behind, high)) in
-              let s = C.before_next rates keeps (m + 1) in
-              omega (arith, q, s, ends))
+              let q = C.before_rises law.within rates keeps epoch.within.slot (m + 1 + 1) i (omega arith) in
+              omega (
+                arith,
+                C.before_next rates keeps (m + 1),
+                law.ends rates keeps m k epoch.within epoch.holds on p.1.inside,
+              ))
         ]
 
     module _ (lost : ℕ → Bool) where
@@ -172,22 +170,14 @@ module _ (law : S.Sending) (times : Times) (laws : PlanLaws) (c : Config) (plp :
           ap (λ (n : ℕ). list_any test (filter lost (range_with_len 0 n))) total
           ∙ only_inside test lost begun (ended - begun) (first + count - ended)
           (λ m l. C.all_missed rates keeps m place (outside on m (inl l)))
-          (λ m l. C.all_missed rates keeps m place (outside on m (inr (omega (arith, l, later)))))
+          (λ m l. C.all_missed rates keeps m place (outside on m (inr (omega (arith, later)))))
 
       same_packet : recovered c plp (epoch_ticks c plp) at (filter lost (range_with_len 0 (first + count))) k
           ≡ recovered c plp (epoch_ticks c plp) at ends_lost k
-      same_packet = go (keeps k) refl
-        where
-          go : (b : Bool) → keeps k ≡ b
-              → recovered c plp (epoch_ticks c plp) at (filter lost (range_with_len 0 (first + count))) k
-              ≡ recovered c plp (epoch_ticks c plp) at ends_lost k
-          go true on = ap (λ (t : Bool). cond {A = List ℕ} (keeps k && not t) (at k) null_packet) (same_touched on)
-          go false off =
-              ap (λ (b : Bool). cond {A = List ℕ}
-              (b && not (is_touched rates keeps (filter lost (range_with_len 0 (first + count))) k)) (at k) null_packet)
-              off
-              ∙ sym (ap (λ (b : Bool). cond {A = List ℕ} (b && not (is_touched rates keeps ends_lost k))
-              (at k) null_packet) off)
+      same_packet = elim (cases_Bool (keeps k)) [
+        | inl on ↦ rw (on, same_touched on) refl
+        | inr off ↦ rw off refl
+      ]
 
 pub lost_ended : S.Sending → Times → PlanLaws → LostEnded
 lost_ended law times laws c plp at muted first count plan inside =
@@ -196,7 +186,7 @@ lost_ended law times laws c plp at muted first count plan inside =
     (recovered c plp (epoch_ticks c plp) at (filter lost (epochs_in (spread c.plps plp) first count)))
     (first_slot (slot_rule c plp) first) (due_after (slot_rule c plp) (first + count) - first_slot (slot_rule c plp)
     first)
-    (λ k a b. same_packet law times laws c plp at first count plan inside k a (omega (arith, a, b)) lost)
+    (λ k a b. same_packet law times laws c plp at first count plan inside k a (omega arith) lost)
 
 -- ---- Readback
 
@@ -208,12 +198,11 @@ readback_recovers law times follow laws c plp at muted first count plan inside p
     let from : ℕ = first / spread c.plps plp in
     let n : ℕ = (first + count) / spread c.plps plp - from in
     let order : from + n ≡ (first + count) / spread c.plps plp =
-    let l = later law times laws c plp at first count plan inside in omega (arith, l) in
+    omega (arith, later law times laws c plp at first count plan inside) in
     map_same (slot_packet r (string_of (up_bytes c plp) from (told_epochs c plp at lost from n)))
     (recovered c plp (epoch_ticks c plp) at (filter lost (range_with_len from n)))
     (first_slot r first) (due_after r (first + count) - first_slot r first)
     (λ k a b. slot_recovers law times follow laws c plp at lost from n k plan inside packets
     (since law times laws c plp at first count plan inside k a)
-    (subst (λ (end : ℕ). k < slots_by c plp ((end - 2) * epoch_ticks c plp)) (sym order)
-    (until law times laws c plp at first count plan inside k (omega (arith, a, b)))))
+    (rw order (until law times laws c plp at first count plan inside k (omega arith))))
     ∙ sym (lost_ended law times laws c plp at muted first count plan inside)

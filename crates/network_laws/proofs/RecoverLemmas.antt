@@ -1,6 +1,6 @@
 -- The packet of a slot, by the epochs of a gateway of which some are lost.
 use Rattle.std.proofs.Common.{◌≡◌, ℕ, ◌+◌, ◌-◌, ◌*◌, ◌<◌, ◌≤◌, ◌==◌, ◌&&◌, Bool, true, false, List, [], length, Option}
-use Rattle.std.proofs.Common.{refl, ap, ap₂, ◌∙◌, sym, subst, arith, inl, inr, cond}
+use Rattle.std.proofs.Common.{refl, ap, ap₂, ◌∙◌, sym, arith, inl, inr, cond}
 use Rattle.std.specs.Prelude.{not, option_map, unwrap_or, if◌then◌else◌}
 use Rattle.std.specs.List.{range_with_len, list_any, find, filter}
 use Rattle.std.proofs.lemmas.Bool.{cases_lt, cases_eq, both_ways, le-leb, lt-ltb, false_from_ne_true, eqb-true}
@@ -22,25 +22,20 @@ use Rattle.plp_receiver.specs.Packets.{UserPacket, packet_of, user_packets}
 use Rattle.plp_receiver.specs.Readback.{counts, counted, slot_packet}
 use Rattle.plp_receiver.proofs.PlaceLemmas.{all_map}
 use Rattle.plp_receiver.specs.Epochs.{slot_rule}
-use Rattle.network_laws.proofs.KeptSlots.{kept_slot, KeptFollow}
+use Rattle.network_laws.proofs.KeptLemmas.{kept_slot, KeptFollow, is_kept_slot, own_number}
 use Rattle.record_laws.specs.Recover.{is_carried, is_touched, recovered}
 use Rattle.network_laws.specs.ToldEpochs.{ArePackets}
 use Rattle.network_laws.specs.RecoverLaws.{InterleavingIsEpoch, SlotRecovers}
-use Rattle.network_laws.proofs.NumberLemmas.{is_kept_slot, own_number}
-use Rattle.network_laws.proofs.FoundLemmas.{all_in_range, each_in_range, filter_all, all_filter, none_any, any_none}
-use Rattle.network_laws.proofs.FoundLemmas.{all_kept, Has, finds, finds_none, packet_back}
+use Rattle.network_laws.proofs.CarriedLemmas.{all_in_range, each_in_range, filter_all, all_filter, none_any, any_none}
+use Rattle.network_laws.proofs.CarriedLemmas.{all_kept, Has, finds, finds_none, packet_back}
 use Rattle.network_laws.proofs.CarriedLemmas as C
 use Rattle.network_laws.proofs.SentLemmas as S
-use Rattle.network_laws.proofs.RunLemmas as R
 
 -- What the laws of the times say besides.
 pub record Times : Type 0 where
   pub old : ReleasedOld
   pub partition : RangesPartition
   pub rises : CountRises
-
-pub times_by : ReleasedOld → RangesPartition → CountRises → Times
-times_by a b d = record { old = a; partition = b; rises = d }
 
 module _ (c : Config) (plp : ℕ) (packet : ℕ → List ℕ) (law : S.Sending) (times : Times) (follow : KeptFollow)
     (is : S.IsGateway c plp packet) (lost : ℕ → Bool) (first count : ℕ) where
@@ -69,28 +64,28 @@ module _ (c : Config) (plp : ℕ) (packet : ℕ → List ℕ) (law : S.Sending) 
   one = S.one c plp packet end law is
 
   num_pos : 0 < num c
-  num_pos = let a = is.sound.times.some in let b = is.sound.times.long in omega (arith, a, b)
+  num_pos = omega arith
 
   den_pos : 0 < den c plp
-  den_pos = let a = is.sound.times.some in omega (arith, a)
+  den_pos = omega arith
 
   covers : (m : ℕ) → m ≤ first + count → slots_by c plp (m * epoch_ticks c plp) ≤ end
   covers m l = times.rises (num c) (den c plp) (m * epoch_ticks c plp) ((first + count) * epoch_ticks c plp) num_pos
       (mul-le-mul_right (epoch_ticks c plp) l)
 
   abbrev IsOwn : UserPacket → Type 0
-  IsOwn up = R.IsOwn c plp packet end law is (follow r _ end) lost first count covers up
+  IsOwn up = S.IsOwn c plp packet end law is (follow r _ end) lost first count covers up
 
   abbrev z : List Item
-  z = R.rest_items c plp packet end law is (follow r _ end) lost first count covers first count
+  z = S.rest_items c plp packet end law is (follow r _ end) lost first count covers first count
 
   abbrev ups : List UserPacket
   ups = user_packets r z
 
-  gives : R.Gives c plp packet end law is (follow r _ end) lost first count covers first count
+  gives : S.Gives c plp packet end law is (follow r _ end) lost first count covers first count
       (sent_before rates keeps first) []
   gives =
-      R.gives c plp packet end law is (follow r _ end) lost first count covers count first
+      S.gives c plp packet end law is (follow r _ end) lost first count covers count first
       (sent_before rates keeps first)
       [] refl
       (record {
@@ -120,10 +115,12 @@ module _ (c : Config) (plp : ℕ) (packet : ℕ → List ℕ) (law : S.Sending) 
 
     none_has : ((up : UserPacket) → IsOwn up → up.slot ≡ k → ⊥) → slot_packet r z k ≡ null_packet
     none_has never =
-        found_is
-        ∙ ap shown (finds_none k ups (all_map IsOwn (λ (up : UserPacket). (up.slot == k) ≡ false)
-        (λ up own. false_from_ne_true _ (λ (t : (up.slot == k) ≡ true). never up own (eqb-true up.slot k t)))
-        ups gives.all))
+        rw (
+          found_is,
+          finds_none k ups (all_map IsOwn (λ (up : UserPacket). (up.slot == k) ≡ false)
+              (λ up own. false_from_ne_true _ (λ (t : (up.slot == k) ≡ true). never up own (eqb-true up.slot k t))) ups
+              gives.all),
+        )
 
     one_has : Has k ups → slot_packet r z k ≡ packet k
     one_has has =
@@ -144,7 +141,7 @@ module _ (c : Config) (plp : ℕ) (packet : ℕ → List ℕ) (law : S.Sending) 
         let place : len * n ≡ len * own.n = ap (λ (j : ℕ). len * length (kept_slots keeps j)) (sym e ∙ own.slot)
         ∙ S.place_is c plp packet end law is end own.n own.inside in
         let misses : (m : ℕ) → C.Misses rates keeps m (len * own.n) → C.Misses rates keeps m (len * n) =
-        λ m t. subst (C.Misses rates keeps m) (sym place) t in
+        λ m t. rw place t in
         none_any (λ m. list_any (is_carried rates keeps m) (range_with_len (len * n) len)) missing
         (filter_all (λ (m : ℕ). list_any (is_carried rates keeps m) (range_with_len (len * n) len) ≡ false) lost
         (range_with_len first count)
@@ -161,8 +158,7 @@ module _ (c : Config) (plp : ℕ) (packet : ℕ → List ℕ) (law : S.Sending) 
           → sent_before rates keeps m ≤ i → i < sent rates keeps m → ⊥
       not_carried m i a b off x y p q =
           let each = all_filter (λ (j : ℕ). list_any (is_carried rates keeps j) (range_with_len (len * n) len) ≡ false)
-          lost
-          (range_with_len first count)
+          lost (range_with_len first count)
           (any_none (λ j. list_any (is_carried rates keeps j) (range_with_len (len * n) len)) missing clear) in
           let here = each_in_range (λ (j : ℕ). lost j ≡ true → list_any (is_carried rates keeps j)
           (range_with_len (len * n) len)
@@ -189,41 +185,35 @@ module _ (c : Config) (plp : ℕ) (packet : ℕ → List ℕ) (law : S.Sending) 
 
         misses : (i : ℕ) → first ≤ i → i < first + count → lost i ≡ true → C.Misses rates keeps i (len * n)
         misses i a b off =
-            let begun = begins in
             elim (cases_lt i m) [
-              | inl lt ↦ inl (let q = before_rises (i + 1) m (omega arith) in let s = before_next i in
-                  omega (arith, q, s, begun))
+              | inl lt ↦ inl (let q = before_rises (i + 1) m (omega arith) in omega (arith, before_next i, begins))
               | inr ge ↦ elim (cases_eq i m) [
                 | inl e ↦
                     let s = ap (sent_before rates keeps) e in
                     let t = ap (sent rates keeps) e in
-                    absurd (not_carried i (len * n) a b off (omega arith) (omega (arith, one)) (omega (arith, begun, s))
-                    (omega (arith, begun, t)))
+                    absurd (not_carried i (len * n) a b off (omega arith) (omega (arith, one)) (omega (arith, begins))
+                    (omega (arith, begins)))
                 | inr ne ↦ elim (cases_lt (sent rates keeps m) (len * n + len)) [
                   | inl goes_on ↦ elim (cases_eq i (m + 1)) [
                     | inl next ↦
                         let s = ap (sent_before rates keeps) next ∙ before_next m in
                         let t = ap (sent rates keeps) next in
                         absurd (not_carried i (len * n + len - 1) a b off (omega (arith, one)) (omega (arith, one))
-                        (omega (arith, goes_on, s)) (omega (arith, ends, t, one)))
-                    | inr later ↦ inr (let q = before_rises (m + 2) i (omega (arith, ge, ne, later)) in
-                        omega (arith, q, two, ends))
+                        (omega arith) (omega (arith, ends, one)))
+                    | inr later ↦ inr (let q = before_rises (m + 2) i (omega arith) in
+                        omega (arith, two, ends))
                   ]
-                  | inr ended ↦ inr (let q = before_rises (m + 1) i (omega (arith, ge, ne)) in let s = before_next m in
-                      omega (arith, q, s, ended))
+                  | inr ended ↦ inr (let q = before_rises (m + 1) i (omega arith) in omega (arith, before_next m))
                 ]
               ]
             ]
 
         has_it : Has k ups
         has_it =
-            let begun = begins in
-            let low = before_rises first m since in
             let high = before_rises (m + 2) (first + count) (omega (arith, until)) in
             let cover = covers m (omega (arith, until)) in
-            let h = inside.1 in
-            let own = own_number keeps end k on (omega (arith, cover, h)) in
-            subst (λ (j : ℕ). Has j ups) own.1 (gives.has n (omega (arith, low, begun)) (omega (arith, high, two, ends))
+            let own = own_number keeps end k on (omega arith) in
+            rw (← own.1) (gives.has n (omega (arith, before_rises first m since, begins)) (omega (arith, two, ends))
             misses)
 
       has_one : Has k ups
@@ -270,15 +260,14 @@ sound_is laws c plp plan inside =
     let ticks = laws.frame c plan.rules in
     record {
       times = laws.times c plp plan.rules inside;
-      frame = (omega (arith, ticks.0), ticks.1);
+      frame = (omega arith, ticks.1);
       spread = (laws.spread c plp plan.rules inside).0;
       epoch = refl;
       up = laws.up c plp;
     }
 
 pub gateway_is : PlanLaws → (c : Config) (plp : ℕ) (packet : ℕ → List ℕ) → IsPlan c → plp < length c.plps
-    → ArePackets packet
-    → S.IsGateway c plp packet
+    → ArePackets packet → S.IsGateway c plp packet
 gateway_is laws c plp packet plan inside packets =
     let epoch = laws.epochs c plp plan inside in
     record {

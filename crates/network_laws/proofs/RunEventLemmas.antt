@@ -1,10 +1,10 @@
 -- The events of the whole stream of a run: all packets of all frames, each with its number.
 use Rattle.std.proofs.Common.{◌≡◌, ◌≢◌, ℕ, zero, suc, ◌+◌, ◌*◌, ◌/◌, ◌%◌, ◌^◌, ◌<◌, ◌≤◌, ◌==◌, ◌&&◌, ◌||◌, not, Bool}
 use Rattle.std.proofs.Common.{true, false, cond, List, [], ◌∷◌, ◌++◌, length, map, take, drop, replicate, Option, Some}
-use Rattle.std.proofs.Common.{None, refl, ap, ap₂, sym, ◌∙◌, ⊎_elim, arith, append-nil, length-append}
+use Rattle.std.proofs.Common.{None, refl, ap, ap₂, sym, ◌∙◌, arith, append-nil, length-append, inl, inr}
 use Rattle.std.specs.Prelude.{nat_lt, slice_get}
 use Rattle.std.specs.List.{flat_map, filter, cons_option, items_where_true, range_with_len, AllByRecursion}
-use Rattle.std.proofs.lemmas.Bool.{cases_Bool, cond-true, cond-false, and_right, and_parts, and_from, eq-eqb, ne_eqb}
+use Rattle.std.proofs.lemmas.Bool.{cases_Bool, cond-true, and_right, and_parts, and_from, eq-eqb, ne_eqb}
 use Rattle.std.proofs.lemmas.Bool.{eqb-false, ltb-true, lt-ltb}
 use Rattle.std.proofs.lemmas.List.{map-append, take-append-le, take_all}
 use Rattle.std.proofs.lemmas.List.Concat.{flat_map-append}
@@ -37,7 +37,7 @@ use Rattle.frame_groups.specs.Numbers.{frame_key}
 use Rattle.frame_groups.specs.declared.key.Key.{Key}
 use Rattle.frame_groups.specs.Carried.{body_stamp, stamps_of}
 use Rattle.frame_groups.specs.TestLaws.{FrameNamed}
-use Rattle.frame_groups.specs.Tests.{named_frame, rules}
+use Rattle.frame_groups.specs.Tests.{rules}
 use Rattle.record_laws.specs.Frames.{HasByteIds}
 use Rattle.modulator.specs.Modulating.{packet_of}
 use Rattle.frame_writer.specs.FramePackets.{stamp_of}
@@ -57,8 +57,7 @@ use Rattle.std.proofs.Math.Seq.{drop-append_seam}
 -- ---- units that are piped are not idle
 
 piped_not_idle : (pid place : ℕ) (bytes : List ℕ) (u : PipedUnit) (o : Option Fields)
-    → piped_unit_of pid place bytes o ≡ Some u
-    → is_idle_of pid o ≡ false
+    → piped_unit_of pid place bytes o ≡ Some u → is_idle_of pid o ≡ false
 piped_not_idle pid place bytes u None e = none_some u e
 piped_not_idle pid place bytes u (Some f) e = go (carries pid f) refl e
   where
@@ -71,7 +70,7 @@ piped_not_idle pid place bytes u (Some f) e = go (carries pid f) refl e
         (and_parts ((f.pid == pid) && not f.error && (f.scrambling == 0) && nat_lt 0 (length f.payload))
         (points_inside f) is).0).1 in
         and_right ((f.pid == pid) && not f.error && (f.scrambling == 0)) (length f.payload == 0)
-        (ne_eqb (length f.payload) 0 (λ z. omega (arith, some, z)))
+        (ne_eqb (length f.payload) 0 (λ z. omega arith))
     go false is e = none_some u e
 
 -- A unit of 188 bytes that is not idle.
@@ -92,25 +91,19 @@ all_full reads pid (suc steps) counter (x ∷ xs) small l =
 length_full : (pid : ℕ) (us : List (List ℕ)) → AllByRecursion (IsFull pid) us → length (joined us) ≡ 188 * length us
 length_full pid [] h = refl
 length_full pid (u ∷ us) h =
-    let a = length-append u (joined us) in
-    let b = h.0.0 in
-    let d = length_full pid us h.1 in
-    omega (arith, a, b, d)
+    omega (arith, length-append u (joined us), length_full pid us h.1)
 
 -- so none of the units of their bytes is idle
 none_idle : (pid : ℕ) (us : List (List ℕ)) (i : ℕ) → AllByRecursion (IsFull pid) us → i < length us
     → is_idle pid (unit_at (joined us) i) ≡ false
-none_idle pid [] i h l = absurd (omega (arith, l))
+none_idle pid [] i h l = absurd (omega arith)
 none_idle pid (u ∷ us) zero h l =
-    let size = h.0.0 in
-    ap (is_idle pid) (take-append-le 188 u (joined us) (omega (arith, size)) ∙ take_all 188 u (omega (arith, size)))
-    ∙ h.0.1
+    rw (take-append-le 188 u (joined us) (omega arith), take_all 188 u (omega arith), h.0.1)
 none_idle pid (u ∷ us) (suc i) h l =
-    let size = h.0.0 in
-    let at : 188 * suc i ≡ length u + 188 * i = omega (arith, size) in
+    let at : 188 * suc i ≡ length u + 188 * i = omega arith in
     ap (λ (k : ℕ). is_idle pid (take 188 (drop k (u ++ joined us)))) at
     ∙ ap (λ (rest : List ℕ). is_idle pid (take 188 rest)) (drop_past u (joined us) (188 * i))
-    ∙ none_idle pid us i h.1 (omega (arith, l))
+    ∙ none_idle pid us i h.1 (omega arith)
   where
     drop_past : (xs ys : List ℕ) (k : ℕ) → drop (length xs + k) (xs ++ ys) ≡ drop k ys
     drop_past [] ys k = ap (λ (j : ℕ). drop j ys) (let e : 0 + k ≡ k = omega arith in e)
@@ -126,10 +119,10 @@ none_accepted pid = refl
 
 take_more : (bytes : List ℕ) (a b : ℕ) → a ≤ b → (more : List ℕ) × (take b bytes ≡ take a bytes ++ more)
 take_more bytes zero b l = (take b bytes, refl)
-take_more bytes (suc a) zero l = absurd (omega (arith, l))
+take_more bytes (suc a) zero l = absurd (omega arith)
 take_more [] (suc a) (suc b) l = ([], refl)
 take_more (x ∷ bytes) (suc a) (suc b) l =
-    let r = take_more bytes a b (omega (arith, l)) in
+    let r = take_more bytes a b (omega arith) in
     (r.0, ap (λ (l : List ℕ). x ∷ l) r.1)
 
 arrive_to : AcceptedFront → (pid : ℕ) (bytes : List ℕ) (n : ℕ)
@@ -150,7 +143,7 @@ arrive_to front pid bytes (suc n) none =
     ap (λ (k : ℕ). flat_map f (range_with_len 0 k)) next
     ∙ ap (flat_map f) (range_more 0 n)
     ∙ flat_map-append f (range_with_len 0 n) ((0 + n) ∷ [])
-    ∙ ap₂ (λ (a b : List Arrival). a ++ b) (arrive_to front pid bytes n (λ i l. none i (omega (arith, l))))
+    ∙ ap₂ (λ (a b : List Arrival). a ++ b) (arrive_to front pid bytes n (λ i l. none i (omega arith)))
     (append-nil (f (0 + n)) ∙ ap f (let e : 0 + n ≡ n = omega arith in e) ∙ own)
     ∙ sym (map-append came_of x others.0)
     ∙ ap (map came_of) (sym y)
@@ -161,12 +154,11 @@ pub pipe_arrives : AcceptedFront → UnitReads → (pid : ℕ) (packets : List (
 pipe_arrives front reads pid packets small =
     let us : List (List ℕ) = pipe pid packets in
     let full : AllByRecursion (IsFull pid) us = all_full reads pid _ 0 _ small (omega arith) in
-    let size = length_full pid us full in
-    let count : length (joined us) / 188 ≡ length us = omega (arith, size) in
+    let count : length (joined us) / 188 ≡ length us = omega (arith, length_full pid us full) in
     ap (arrivals_from pid (joined us) 0) count
     ∙ arrive_to front pid (joined us) (length us) (λ i l. none_idle pid us i full l)
     ∙ ap (λ (l : List ℕ). map came_of (accepted_of pid l))
-    (take_all (188 * length us) (joined us) (omega (arith, size)))
+    (take_all (188 * length us) (joined us) (omega (arith, length_full pid us full)))
 
 -- packets alone are one row without a silence
 pub no_idle : (ps : List Packet) → between_idle (map Came ps) ≡ ps ∷ []
@@ -190,12 +182,11 @@ all_have frames from (suc count) sent some =
     cond-true (has_packets g) (g ∷ filter has_packets rest) (filter has_packets rest)
     (there (frame_packets from sent) (some from (omega arith) (omega arith)))
     ∙ ap (λ (l : List Group). g ∷ l)
-    (all_have frames (from + 1) count sent (λ n l m. some n (omega (arith, l)) (omega (arith, m))))
+    (all_have frames (from + 1) count sent (λ n l m. some n (omega arith) (omega arith)))
   where
     there : (ps : List Packet) → ps ≢ [] → cond (length ps == 0) false true ≡ true
     there [] ne = absurd (ne refl)
-    there (p ∷ ps) ne = cond-false {A = Bool} (length (p ∷ ps) == 0) false true
-        (ne_eqb (length (p ∷ ps)) 0 (λ e. omega (arith, e)))
+    there (p ∷ ps) ne = rw (ne_eqb (length (p ∷ ps)) 0 (λ e. omega arith))
 
 -- packets that are sent frame by frame are grouped by their frames
 sent_groups : GroupsAreFrames → LaterNear → (frames count : ℕ) (sent : List Sent) → 0 < frames
@@ -209,7 +200,7 @@ sent_groups law near frames count sent some are =
     (near_apart frames None (items_where_true all sent) some (order_survivors frames None sent all are.order)
     (near frames count sent 0 (length sent) some are))
     ∙ ap (groups_met frames count) same
-    ∙ all_have frames 0 count sent (λ n l m. are.some n (omega (arith, m)))
+    ∙ all_have frames 0 count sent (λ n l m. are.some n (omega arith))
 
 -- ---- and their numbers those of the frames
 
@@ -236,28 +227,22 @@ module _ (named : FrameNamed) (c : Config) (inputs : ℕ → List (List ℕ)) (p
 
   own_number : (n : ℕ) → n < run_length c inputs → n < MOST_FRAMES → number_of (rules c) (before_of n) (group_at n)
       ≡ Some n
-  own_number n inside small = ⊎_elim
-      (λ (t : (n % c.frames == 0) ≡ true).
-      let stamps : stamps_of (run_packets c inputs n) ≡ stamp_of c n ∷ [] =
-      (has n inside).stamps ∙ cond-true {A = List Stamp} (n % c.frames == 0) (stamp_of c n ∷ []) [] t in
-      cond-true (has_stamp (run_packets c inputs n)) (named_frame c (group_at n))
-      (number_after c.frames (before_of n) (frame_key c.frames n))
-      (stamp_told (run_packets c inputs n) ∙ ap (λ (l : List Stamp). nat_lt 0 (length l)) stamps)
-      ∙ (named c (group_at n) n plan.rules).1 (record {
-        stamp = stamp_of c n;
-        first = ap (λ (l : List Stamp). slice_get l 0) stamps;
-        small = small;
-        emission-is = refl;
-        key = refl;
-      }))
-      (λ (t : (n % c.frames == 0) ≡ false).
-      let stamps : stamps_of (run_packets c inputs n) ≡ [] =
-      (has n inside).stamps ∙ cond-false {A = List Stamp} (n % c.frames == 0) (stamp_of c n ∷ []) [] t in
-      cond-false (has_stamp (run_packets c inputs n)) (named_frame c (group_at n))
-      (number_after c.frames (before_of n) (frame_key c.frames n))
-      (stamp_told (run_packets c inputs n) ∙ ap (λ (l : List Stamp). nat_lt 0 (length l)) stamps)
-      ∙ next n small (eqb-false (n % c.frames) 0 t))
-      (cases_Bool (n % c.frames == 0))
+  own_number n inside small = elim (cases_Bool (n % c.frames == 0)) [
+    | inl t ↦
+        let stamps : stamps_of (run_packets c inputs n) ≡ stamp_of c n ∷ [] = rw ((has n inside).stamps, t) refl in
+        rw (stamp_told (run_packets c inputs n) ∙ ap (λ (l : List Stamp). nat_lt 0 (length l)) stamps)
+        ((named c (group_at n) n plan.rules).1 (record {
+          stamp = stamp_of c n;
+          first = ap (λ (l : List Stamp). slice_get l 0) stamps;
+          small = small;
+          emission-is = refl;
+          key = refl;
+        }))
+    | inr t ↦
+        let stamps : stamps_of (run_packets c inputs n) ≡ [] = rw ((has n inside).stamps, t) refl in
+        rw (stamp_told (run_packets c inputs n) ∙ ap (λ (l : List Stamp). nat_lt 0 (length l)) stamps)
+        (next n small (eqb-false (n % c.frames) 0 t))
+  ]
     where
       next : (n : ℕ) → n < MOST_FRAMES → (n % c.frames ≡ 0 → ⊥)
           → number_after c.frames (before_of n) (frame_key c.frames n) ≡ Some n
@@ -273,7 +258,7 @@ module _ (named : FrameNamed) (c : Config) (inputs : ℕ → List (List ℕ)) (p
           cond-true {A = Option ℕ} (nat_lt (n + 1) MOST_FRAMES && is_same (frame_key c.frames (n + 1)) key)
           (Some (n + 1)) None
           (and_from (nat_lt (n + 1) MOST_FRAMES) (is_same (frame_key c.frames (n + 1)) key)
-          (lt-ltb (n + 1) MOST_FRAMES (omega (arith, small))) same)
+          (lt-ltb (n + 1) MOST_FRAMES (omega arith)) same)
           ∙ ap (λ (k : ℕ). Some k) is
 
   all_numbered : (j m : ℕ) → m + j ≤ run_length c inputs → run_length c inputs ≤ MOST_FRAMES
@@ -284,18 +269,16 @@ module _ (named : FrameNamed) (c : Config) (inputs : ℕ → List (List ℕ)) (p
       let gs : List Group = map group_at (range_with_len (m + 1) j) in
       let g : Group = group_at m in
       let next : Some m ≡ before_of (m + 1) = before_next m in
-      ap (λ (o : Option ℕ). event_of o g ++ numbered_from (rules c) o gs)
-      (own_number m (omega (arith, l)) (omega (arith, l, most)))
+      ap (λ (o : Option ℕ). event_of o g ++ numbered_from (rules c) o gs) (own_number m (omega arith) (omega arith))
       ∙ ap (λ (es : List FeedEvent). run_event c inputs m ∷ es)
-      (ap (λ (o : Option ℕ). numbered_from (rules c) o gs) next ∙ all_numbered j (m + 1) (omega (arith, l)) most)
+      (ap (λ (o : Option ℕ). numbered_from (rules c) o gs) next ∙ all_numbered j (m + 1) (omega arith) most)
     where
       before_next : (m : ℕ) → Some m ≡ before_of (m + 1)
       before_next m = ap before_of (let e : suc m ≡ m + 1 = omega arith in e)
 
 -- So the events of the whole stream are those of the run.
 pub run_stream_events : AcceptedFront → UnitReads → AcceptedSurvive → KeptUndamaged → GroupsAreFrames → LaterNear
-    → FramesAreStream
-    → FrameNamed → (c : Config) (inputs : ℕ → List (List ℕ)) → IsPlan c → HasByteIds c
+    → FramesAreStream → FrameNamed → (c : Config) (inputs : ℕ → List (List ℕ)) → IsPlan c → HasByteIds c
     → run_length c inputs ≤ MOST_FRAMES
     → ((n : ℕ) → n < run_length c inputs → HasFrame c inputs n (run_packets c inputs n))
     → feed_events (rules c) true (joined (pipe c.pid (run_packets_of c inputs))) ≡ run_events c inputs
@@ -307,13 +290,17 @@ run_stream_events front reads survive undamaged law near streams named c inputs 
     let bytes : List ℕ = joined (pipe c.pid packets) in
     let sent : List Sent = sent_frames c inputs n in
     let accepted : map (λ (a : AcceptedPacket). packet_of a.bytes) (accepted_of c.pid bytes) ≡ packets_of sent =
-    sym (map-map packet_of (λ (a : AcceptedPacket). a.bytes) (accepted_of c.pid bytes))
-    ∙ ap (map packet_of) (accepted_are survive undamaged c.pid packets s.pid s.spelled)
-    ∙ s.reads in
+    rw (
+      ← (map-map packet_of (λ (a : AcceptedPacket). a.bytes) (accepted_of c.pid bytes)),
+      accepted_are survive undamaged c.pid packets s.pid s.spelled,
+      s.reads,
+    ) in
     let arrive : arrivals c.pid bytes ≡ map Came (packets_of sent) =
-    pipe_arrives front reads c.pid packets s.pid
-    ∙ sym (map-map Came (λ (a : AcceptedPacket). packet_of a.bytes) (accepted_of c.pid bytes))
-    ∙ ap (map Came) accepted in
+    rw (
+      pipe_arrives front reads c.pid packets s.pid,
+      ← (map-map Came (λ (a : AcceptedPacket). packet_of a.bytes) (accepted_of c.pid bytes)),
+      accepted,
+    ) in
     ap (λ (l : List Arrival). events_between (rules c) true (between_idle l)) arrive
     ∙ ap (events_between (rules c) true) (no_idle (packets_of sent))
     ∙ ap (numbered_from (rules c) None) (sent_groups law near c.frames n sent s.some s.frames)

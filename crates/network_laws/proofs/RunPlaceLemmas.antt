@@ -4,7 +4,7 @@ use Rattle.std.proofs.Common.{◌++◌, length, map, Option, Some, None, refl, a
 use Rattle.std.proofs.Common.{append-nil, append_assoc, length-append}
 use Rattle.std.specs.Prelude.{slice_index_or}
 use Rattle.std.specs.List.{flat_map, filter, filter_map, items_where_true, range_with_len, AllByRecursion}
-use Rattle.std.proofs.lemmas.Bool.{cases_eq, cond-true, eq-eqb, ne_eqb, true≢false}
+use Rattle.std.proofs.lemmas.Bool.{cases_eq, eq-eqb, ne_eqb, true≢false}
 use Rattle.plp_config.specs.Capacity.{IsPlan, block_bytes}
 use Rattle.plp_config.specs.Plps.{plp_at}
 use Rattle.plp_config.specs.declared.config.Config.{Config}
@@ -16,7 +16,7 @@ use Rattle.gateway_core.specs.Packets.{block_bodies}
 use Rattle.frame_writer.specs.FramePackets.{packet_with}
 use Rattle.stream_laws.proofs.MadeLemmas.{ids_differ}
 use Rattle.stream_laws.proofs.SizeLemmas.{AreLong}
-use Rattle.frame_weave.specs.Marked.{MarkedBlock, marked_block, packet_blocks, marked_blocks}
+use Rattle.frame_weave.specs.Marked.{marked_block, packet_blocks, marked_blocks}
 use Rattle.frame_weave.specs.Laws.{Stood, AllStood, StoodIsPlaced}
 use Rattle.frame_weave.specs.Placed.{Placed, placed_from}
 use Rattle.frame_weave.specs.Places.{start_of}
@@ -43,12 +43,11 @@ pub are_appended : (counts : List ℕ) (origin : ℕ) (bytes_at : ℕ → List �
     → AreAt counts origin bytes_at place xs → AreAt counts origin bytes_at (place + length xs) ys
     → AreAt counts origin bytes_at place (xs ++ ys)
 are_appended counts origin bytes_at place [] ys h k =
-    subst (λ (p : ℕ). AreAt counts origin bytes_at p ys) (let e : place + 0 ≡ place = omega arith in e) k
+    rw (← (let e : place + 0 ≡ place = omega arith in e)) k
 are_appended counts origin bytes_at place (x ∷ xs) ys h k = (
   h.0,
   are_appended counts origin bytes_at (place + 1) xs ys h.1
-      (subst (λ (p : ℕ). AreAt counts origin bytes_at p ys)
-      (let e : place + suc (length xs) ≡ place + 1 + length xs = omega arith in e) k),
+      (rw (← (let e : place + suc (length xs) ≡ place + 1 + length xs = omega arith in e)) k),
 )
 
 -- If fewer than 256 lack before each that came, they stood so that they are placed there.
@@ -60,22 +59,19 @@ came_stood counts origin bytes_at lacking first place [] all at low near few = t
 came_stood counts origin bytes_at lacking first place (t ∷ flags) [] at low near few = tt
 came_stood counts origin bytes_at lacking first place (true ∷ flags) (s ∷ all) at low near few =
     let a = at.0 in
-    let is = a.place_is in
-    let b = a.low in
-    let h = a.high in
-    let l = few.0 in (
+    let is = a.place_is in (
       record {
-        low = omega (arith, is, b, low);
-        near = omega (arith, is, b, low, near, l);
-        high = omega (arith, is, h);
+        low = omega (arith, low);
+        near = omega (arith, low);
+        high = omega arith;
         count = a.count ∙ ap (λ (p : ℕ). (origin + p) % 256) (sym is);
       },
-      came_stood counts origin bytes_at 0 (s.place + 1) (place + 1) flags all at.1 (omega (arith, is))
-          (omega (arith, is)) few.1,
+      came_stood counts origin bytes_at 0 (s.place + 1) (place + 1) flags all at.1 (omega arith)
+          (omega arith) few.1,
     )
 came_stood counts origin bytes_at lacking first place (false ∷ flags) (s ∷ all) at low near few =
     came_stood counts origin bytes_at (lacking + 1) first (place + 1) flags all at.1 (omega (arith, low))
-    (omega (arith, near)) few
+    (omega arith) few
 
 -- and have the bytes of their places
 came_bytes : (counts : List ℕ) (origin : ℕ) (bytes_at : ℕ → List ℕ) (place : ℕ) (flags : List Bool) (all : List Stood)
@@ -97,10 +93,8 @@ pub came_placed : StoodIsPlaced
     → AllByRecursion (λ (p : Placed). p.bytes ≡ bytes_at p.place)
     (placed_from counts origin first (map (λ (s : Stood). s.block) (items_where_true flags all)))
 came_placed law counts origin bytes_at lacking first place flags all at low near few =
-    subst (AllByRecursion (λ (p : Placed). p.bytes ≡ bytes_at p.place))
-    (sym (law counts origin first (items_where_true flags all)
-    (came_stood counts origin bytes_at lacking first place flags all at low near few)))
-    (came_bytes counts origin bytes_at place flags all at)
+    rw (law counts origin first (items_where_true flags all) (came_stood counts origin bytes_at lacking first place
+    flags all at low near few)) (came_bytes counts origin bytes_at place flags all at)
 
 -- ---- the marked blocks of packets
 
@@ -125,8 +119,7 @@ came_marked c (t ∷ flags) [] [] h = refl
 came_marked c (t ∷ flags) [] (s ∷ ss) h = absurd h
 came_marked c (t ∷ flags) (p ∷ ps) [] h = absurd h
 came_marked c (true ∷ flags) (p ∷ ps) (s ∷ ss) h =
-    ap (λ (l : List MarkedBlock). l ++ marked_blocks c (items_where_true flags ps)) h.0
-    ∙ ap (λ (l : List MarkedBlock). s.block ∷ l) (came_marked c flags ps ss h.1)
+    rw (h.0, came_marked c flags ps ss h.1)
 came_marked c (false ∷ flags) (p ∷ ps) (s ∷ ss) h = came_marked c flags ps ss h.1
 
 -- ---- the blocks of a frame
@@ -135,18 +128,16 @@ came_marked c (false ∷ flags) (p ∷ ps) (s ∷ ss) h = came_marked c flags ps
 only_one : {Y : Type 0} (f : ℕ → List Y) (count plp : ℕ) (own : List Y) → f plp ≡ own
     → ((j : ℕ) → j < count → (j ≡ plp → ⊥) → f j ≡ []) → (a k : ℕ) → a + k ≤ count
     → (a ≤ plp → plp < a + k → flat_map f (range_with_len a k) ≡ own) × (plp < a → flat_map f (range_with_len a k) ≡ [])
-only_one f count plp own is others a zero l = (λ x y. absurd (omega (arith, x, y)), λ x. refl)
+only_one f count plp own is others a zero l = (λ x y. absurd (omega arith), λ x. refl)
 only_one {Y = Y} f count plp own is others a (suc k) l =
-    let rest = only_one f count plp own is others (a + 1) k (omega (arith, l)) in
+    let rest = only_one f count plp own is others (a + 1) k (omega arith) in
     let tail : List Y = flat_map f (range_with_len (a + 1) k) in (
       (λ x y. ⊎_elim
-          (λ (e : a ≡ plp). ap₂ (λ (u v : List Y). u ++ v) (ap f e ∙ is) (rest.1 (omega (arith, e))) ∙ append-nil own)
-          (λ (e : a ≡ plp → ⊥).
-          ap (λ (u : List Y). u ++ tail) (others a (omega (arith, l)) e)
-          ∙ rest.0 (omega (arith, x, e)) (omega (arith, y)))
-          (cases_eq a plp)),
-      (λ x. ap (λ (u : List Y). u ++ tail) (others a (omega (arith, l)) (λ e. omega (arith, e, x)))
-          ∙ rest.1 (omega (arith, x))),
+          (λ (e : a ≡ plp). ap₂ (λ (u v : List Y). u ++ v) (ap f e ∙ is) (rest.1 (omega arith)) ∙ append-nil own)
+          (λ (e : a ≡ plp → ⊥). ap (λ (u : List Y). u ++ tail) (others a (omega arith) e)
+          ∙ rest.0 (omega arith) (omega arith)) (cases_eq a plp)),
+      (λ x. ap (λ (u : List Y). u ++ tail) (others a (omega arith) (λ e. omega arith))
+          ∙ rest.1 (omega arith)),
     )
 
 -- a block stands in the frame
@@ -167,22 +158,20 @@ module _ (c : Config) (plan : IsPlan c) (n : ℕ) where
   one_brings number plp first b inside long =
       let p : Packet = packet_with c number n (Block (n % c.frames) (plp_at c.plps plp).id first b) in
       let own : right_blocks c plp (p ∷ []) ≡ b ∷ [] =
-      ap (filter (has_length c plp))
-      (one_or_none ((plp_at c.plps plp).id == (plp_at c.plps plp).id) true
-      (eq-eqb (plp_at c.plps plp).id (plp_at c.plps plp).id refl))
-      ∙ cond-true {A = List (List Bool)} (has_length c plp b) (b ∷ []) []
-      (eq-eqb (length b) (8 * block_bytes c plp) long) in
+      rw (
+        one_or_none ((plp_at c.plps plp).id == (plp_at c.plps plp).id) true (eq-eqb (plp_at c.plps plp).id
+            (plp_at c.plps plp).id refl),
+        eq-eqb (length b) (8 * block_bytes c plp) long,
+      ) in
       let none : (j : ℕ) → j < length c.plps → (j ≡ plp → ⊥)
       → map (marked_block (number % 256) j) (right_blocks c j (p ∷ [])) ≡ [] =
-      λ j l apart.
-      ap (λ (l : List (List Bool)). map (marked_block (number % 256) j) (filter (has_length c j) l))
+      λ j l apart. ap (λ (l : List (List Bool)). map (marked_block (number % 256) j) (filter (has_length c j) l))
       (one_or_none ((plp_at c.plps plp).id == (plp_at c.plps j).id) false
       (ne_eqb (plp_at c.plps plp).id (plp_at c.plps j).id
       (λ e. ids_differ c plan plp j inside l (λ same. apart (sym same)) e))) in
       (only_one (λ j. map (marked_block (number % 256) j) (right_blocks c j (p ∷ []))) (length c.plps) plp
       (marked_block (number % 256) plp b ∷ []) (ap (map (marked_block (number % 256) plp)) own) none 0 (length c.plps)
-      (omega arith)).0
-      (omega arith) (omega (arith, inside))
+      (omega arith)).0 (omega arith) (omega arith)
     where
       one_or_none : (t u : Bool) → t ≡ u → filter_map (λ (o : Option (List Bool)). o) (cond t (Some b) None ∷ [])
           ≡ cond u (b ∷ []) []
@@ -230,8 +219,7 @@ plp_at_places counts origin number plp place pre post (b ∷ blocks) told size l
       },
       subst (λ (all : List (List ℕ)). AreAt counts origin (at_place all) (place + 1)
           (plp_stood (number + 1) plp (place + 1) blocks)) same
-          (plp_at_places counts origin (number + 1) plp (place + 1) more post blocks (omega (arith, told))
-          (omega (arith, l, size))
+          (plp_at_places counts origin (number + 1) plp (place + 1) more post blocks (omega arith) (omega arith)
           (omega (arith, low)) (omega (arith, high))),
     )
 

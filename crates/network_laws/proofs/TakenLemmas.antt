@@ -1,7 +1,7 @@
 -- The bits of a gateway's blocks are taken as what was sent.
 use Rattle.std.proofs.Common.{◌≡◌, ◌⊎◌, ℕ, zero, suc, ◌+◌, ◌-◌, ◌*◌, ◌^◌, ◌<◌, ◌≤◌, ◌==◌, Bool, true, false, List, []}
 use Rattle.std.proofs.Common.{◌∷◌, ◌++◌, length, map, take, drop, get_or, min, Option, Some, None, refl, ap, ◌∙◌, sym}
-use Rattle.std.proofs.Common.{subst, arith, inl, inr, cond, append-nil}
+use Rattle.std.proofs.Common.{arith, inl, inr, append-nil}
 use Rattle.std.specs.Prelude.{if◌then◌else◌, slice_get, option_map}
 use Rattle.std.specs.Int.{div_ceil}
 use Rattle.std.specs.List.{AllZip, AllByRecursion, flat_map, range_with_len}
@@ -9,7 +9,7 @@ use Rattle.std.proofs.lemmas.List.{get_or_append_left, get_or-append_right, get_
 use Rattle.std.proofs.lemmas.Bool.{cases_lt, lt-ltb, le-ltb}
 use Rattle.terms.specs.Bits.{bits_of, number_of}
 use Rattle.terms.proofs.BitLemmas.{length-bits_of, bytes_of-bits_of, number_of-lt}
-use Rattle.bb_frame.specs.BasebandFrame.{Fits, Describes, Spells, IsPlace}
+use Rattle.bb_frame.specs.BasebandFrame.{Fits, Describes, IsPlace}
 use Rattle.bb_frame.specs.Laws.{WrittenIsSpelled}
 use Rattle.bb_frame.specs.declared.header.Header.{Header}
 use Rattle.plp_config.specs.Capacity.{up_bytes, field_bytes, block_bytes}
@@ -40,9 +40,8 @@ small_nil i = omega arith
 small_append : (xs ys : List ℕ) → Small xs → Small ys → Small (xs ++ ys)
 small_append xs ys f g i =
     elim (cases_lt i (length xs)) [
-      | inl lt ↦ subst (λ (v : ℕ). v < 256) (sym (get_or_append_left xs ys 0 i lt)) (f i)
-      | inr ge ↦ subst (λ (v : ℕ). v < 256) (sym (get_or-append_right xs ys (length xs) i 0 refl ge))
-          (g (i - length xs))
+      | inl lt ↦ rw (get_or_append_left xs ys 0 i lt) (f i)
+      | inr ge ↦ rw (get_or-append_right xs ys (length xs) i 0 refl ge) (g (i - length xs))
     ]
 
 small_take : (n : ℕ) (xs : List ℕ) → Small xs → Small (take n xs)
@@ -52,7 +51,7 @@ small_take (suc n) (x ∷ xs) f zero = f 0
 small_take (suc n) (x ∷ xs) f (suc i) = small_take n xs (λ j. f (suc j)) i
 
 small_drop : (n : ℕ) (xs : List ℕ) → Small xs → Small (drop n xs)
-small_drop n xs f i = subst (λ (v : ℕ). v < 256) (sym (get_or-drop n xs i 0)) (f (n + i))
+small_drop n xs f i = rw (get_or-drop n xs i 0) (f (n + i))
 
 small_flat : (f : ℕ → List ℕ) → ((k : ℕ) → Small (f k)) → (ks : List ℕ) → Small (flat_map f ks)
 small_flat f each [] = small_nil
@@ -123,8 +122,7 @@ good_none c plp x len id short = record {
 }
 
 good_some : (c : Config) (plp x len place slot : ℕ) → (plp_at c.plps plp).id < 2 ^ 8 → len ≤ 6720 → x ≤ place
-    → place < x + len
-    → IsGood c plp (header_at c plp x len (Some (place, slot))) len
+    → place < x + len → IsGood c plp (header_at c plp x len (Some (place, slot))) len
 good_some c plp x len place slot id short from below = record {
   fits = record {
     matype1 = matype_small c plp;
@@ -139,26 +137,19 @@ good_some c plp x len place slot id short from below = record {
 }
 
 good_up : (c : Config) (plp x y len n : ℕ) (slots : List ℕ) → (plp_at c.plps plp).id < 2 ^ 8 → y - x ≤ 6720
-    → x ≤ len * n
-    → IsGood c plp (header_at c plp x (y - x) (up_with len slots 0 n y)) (y - x)
+    → x ≤ len * n → IsGood c plp (header_at c plp x (y - x) (up_with len slots 0 n y)) (y - x)
 good_up c plp x y len n slots id short from =
     elim (cases_lt (len * n) y) [
       | inl lt ↦
-          subst (λ (b : Bool).
-          IsGood c plp (header_at c plp x (y - x)
-          (cond b (option_map (λ (k : ℕ). (len * n, k)) (slice_get slots (n - 0))) None))
-          (y - x)) (sym (lt-ltb (len * n) y lt)) (go lt (slice_get slots (n - 0)))
+          rw (lt-ltb (len * n) y lt) (go lt (slice_get slots (n - 0)))
       | inr ge ↦
-          subst (λ (b : Bool).
-          IsGood c plp (header_at c plp x (y - x)
-          (cond b (option_map (λ (k : ℕ). (len * n, k)) (slice_get slots (n - 0))) None))
-          (y - x)) (sym (le-ltb (len * n) y ge)) (good_none c plp x (y - x) id short)
+          rw (le-ltb (len * n) y ge) (good_none c plp x (y - x) id short)
     ]
   where
     go : len * n < y → (o : Option ℕ)
         → IsGood c plp (header_at c plp x (y - x) (option_map (λ (k : ℕ). (len * n, k)) o)) (y - x)
     go lt None = good_none c plp x (y - x) id short
-    go lt (Some k) = good_some c plp x (y - x) (len * n) k id short from (omega (arith, lt, from))
+    go lt (Some k) = good_some c plp x (y - x) (len * n) k id short from (omega arith)
 
 -- A block.
 
@@ -183,8 +174,7 @@ module _ (c : Config) (plp : ℕ) (packet : ℕ → List ℕ) (m : ℕ) (law : S
 
     good : IsGood c plp header (y - x)
     good =
-        subst (λ (o : Option (ℕ × ℕ)). IsGood c plp (header_at c plp x (y - x) o) (y - x))
-        (sym (law.first (up_bytes c plp) keeps now x y one))
+        rw (law.first (up_bytes c plp) keeps now x y one)
         (good_up c plp x y (up_bytes c plp) (div_ceil x (up_bytes c plp)) (kept_slots keeps now) id short
         (ceil_parts x (up_bytes c plp) one).0)
 
@@ -203,21 +193,20 @@ module _ (c : Config) (plp : ℕ) (packet : ℕ → List ℕ) (m : ℕ) (law : S
     describes =
         let g = good in
         let s = g.size in
-        record { len = s ∙ sym size; bytes = omega (arith, s); sync = g.sync }
+        record { len = s ∙ sym size; bytes = omega arith; sync = g.sync }
 
     taken : IsTaken (plp_at c.plps plp).delete (block_bits c plp packet now x y) (told_block c plp packet now x y)
     taken = record {
       header = header;
       body = bits_of field;
-      spelled = subst (Spells header (bits_of field)) (append-nil (block_bits c plp packet now x y))
+      spelled = rw (← (append-nil (block_bits c plp packet now x y)))
           (spells header (bits_of field) (8 * block_bytes c plp) [] good.fits describes);
-      stream = subst (IsOfStream (plp_at c.plps plp).delete) (sym good.matype) (matype_is c plp);
+      stream = rw good.matype (matype_is c plp);
       block = ap (block_read header) (sym (bytes_of-bits_of field small_field));
     }
 
   zip_map : {A B : Type 0} (R : A → B → Type 0) (P : ℕ → Type 0) (f : ℕ → A) (g : ℕ → B)
-      → ((k : ℕ) → P k → R (f k) (g k))
-      → (ks : List ℕ) → AllByRecursion P ks → AllZip R (map f ks) (map g ks)
+      → ((k : ℕ) → P k → R (f k) (g k)) → (ks : List ℕ) → AllByRecursion P ks → AllZip R (map f ks) (map g ks)
   zip_map R P f g each [] h = tt
   zip_map R P f g each (k ∷ ks) h = (each k h.0, zip_map R P f g each ks h.1)
 
@@ -226,10 +215,7 @@ module _ (c : Config) (plp : ℕ) (packet : ℕ → List ℕ) (m : ℕ) (law : S
       → AllByRecursion (λ from. (x ≤ from) × (from < y)) (map (λ i. x + i * len) (range_with_len a n))
   places_in len x y zero a h pos = tt
   places_in len x y (suc n) a h pos =
-      let s : suc n * len ≡ n * len + len = omega arith in
-      let t : (a + 1) * len ≡ a * len + len = omega arith in
-      let b : x + a * len + suc n * len < y + len = elim h [ inl l ↦ l | inr e ↦ absurd (omega (arith, e)) ] in
-      ((omega arith, omega (arith, b, s)), places_in len x y n (a + 1) (inl (omega (arith, b, s, t))) pos)
+      ((omega arith, omega arith), places_in len x y n (a + 1) (inl (omega arith)) pos)
 
   pub blocks_taken : AllZip (IsTaken (plp_at c.plps plp).delete) (blocks_of c plp (epoch_ticks c plp) packet m)
       (told_blocks c plp packet m)
@@ -237,15 +223,12 @@ module _ (c : Config) (plp : ℕ) (packet : ℕ → List ℕ) (m : ℕ) (law : S
       let x : ℕ = sent_before (rates_of c plp (epoch_ticks c plp)) keeps m in
       let y : ℕ = sent (rates_of c plp (epoch_ticks c plp)) keeps m in
       let len : ℕ = field_bytes c plp in
-      let f = is.field in
-      let p = (ceil_parts (y - x) len (omega (arith, f))).1 in
+      let p = (ceil_parts (y - x) len (omega arith)).1 in
       let order : x ≤ y = (law.within (rates_of c plp (epoch_ticks c plp)) keeps m is.within.slot).0 in
       let q : div_ceil (y - x) len * len ≡ len * div_ceil (y - x) len = omega arith in
       let z : 0 * len ≡ 0 = omega arith in
       zip_map (IsTaken (plp_at c.plps plp).delete) (λ (from : ℕ). (x ≤ from) × (from < y))
       (λ from. block_bits c plp packet now from (min (from + len) y))
       (λ from. told_block c plp packet now from (min (from + len) y))
-      (λ from h. let a = h.0 in let b = h.1 in taken from (min (from + len) y) a (omega (arith, f, b)) (omega arith)
-      (omega (arith, f)))
-      (block_places len x y)
-      (places_in len x y (div_ceil (y - x) len) 0 (inl (omega (arith, p, q, z, order))) (omega (arith, f)))
+      (λ from h. let a = h.0 in taken from (min (from + len) y) a (omega arith) (omega arith) (omega arith))
+      (block_places len x y) (places_in len x y (div_ceil (y - x) len) 0 (inl (omega arith)) (omega arith))

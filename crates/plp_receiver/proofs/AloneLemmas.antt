@@ -1,10 +1,11 @@
 -- Interleaving frames that are carried by one frame.
-use Rattle.std.proofs.Common.{◌≡◌, ℕ, zero, suc, ◌+◌, ◌-◌, ◌*◌, ◌%◌, ◌==◌, ◌<◌, Bool, true, List, [], ◌∷◌, length, take}
+use Rattle.std.proofs.Common.{◌≡◌, ℕ, ◌+◌, ◌-◌, ◌*◌, ◌%◌, ◌==◌, ◌<◌, Bool, true, List, [], ◌∷◌, length, take}
 use Rattle.std.proofs.Common.{drop, Option, Some, None, refl, ap, ap₂, ◌∙◌, sym, arith, cond}
-use Rattle.std.specs.Prelude.{nat_le, is_some, unwrap_or, option_map, slice_get, slice_index}
+use Rattle.std.specs.Prelude.{nat_le, option_map, slice_get, slice_index}
 use Rattle.std.specs.List.{range_with_len}
-use Rattle.std.proofs.lemmas.Bool.{false≢true, eq-eqb, le-leb}
+use Rattle.std.proofs.lemmas.Bool.{eq-eqb, le-leb}
 use Rattle.std.proofs.lemmas.List.FromFn.{fill_by_all}
+use Rattle.terms.proofs.ListLemmas.{drop_some}
 use Rattle.plp_config.specs.InterleavingFrames.{is_first}
 use Rattle.plp_config.specs.Plps.{spread}
 use Rattle.plp_config.specs.declared.config.Config.{Config}
@@ -15,10 +16,7 @@ use Rattle.plp_receiver.specs.Laws.{OneFrame, AllCome}
 
 one_taken : (views : List RecordView) (k : ℕ) (v : RecordView) → slice_get views k ≡ Some v
     → take 1 (drop k views) ≡ v ∷ []
-one_taken [] zero v e = absurd (false≢true (ap is_some e))
-one_taken [] (suc k) v e = absurd (false≢true (ap is_some e))
-one_taken (w ∷ views) zero v e = ap (λ (o : Option RecordView). unwrap_or o w ∷ []) e
-one_taken (w ∷ views) (suc k) v e = one_taken views k v e
+one_taken views k v e = ap (take 1) (drop_some views k v e)
 
 one_agrees : (plp : ℕ) (o : Option Part) → agreeing plp (with_part o (Some [])) ≡ option_map (λ p. p ∷ []) o
 one_agrees plp None = refl

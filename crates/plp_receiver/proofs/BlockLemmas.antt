@@ -4,7 +4,7 @@ use Rattle.std.proofs.Common.{◌≡◌, ◌≢◌, ℕ, suc, ◌+◌, ◌-◌, 
 use Rattle.std.proofs.Common.{◌++◌, length, Option, Some, None, ap, ap₂, ◌∙◌, arith, cond, eq-eqb}
 use Rattle.std.specs.Prelude.{nat_lt, if◌then◌else◌}
 use Rattle.std.proofs.Math.Bool.{or-true}
-use Rattle.std.proofs.lemmas.Bool.{lt-ltb, le-ltb, false_from_ne_true, eqb-true}
+use Rattle.std.proofs.lemmas.Bool.{ne_eqb, lt-ltb, le-ltb, false_from_ne_true, eqb-true}
 use Rattle.plp_receiver.specs.declared.mark.Mark.{Mark}
 use Rattle.plp_receiver.specs.declared.mark.Mark.TheVariants.{Inside, Next}
 use Rattle.plp_receiver.specs.Strings.{Item, Block, is_start, first_mark, mark_from, mark_in, mark_at, item_at}
@@ -33,8 +33,7 @@ module _ (len epoch : ℕ) (b : Block) where
       let m : mark_at len b (i + 1) ≡ Inside = inner (i + 1) (omega arith) (omega arith) in
       let q : i + 1 + length (u ∷ us) ≡ i + length (v ∷ u ∷ us) = omega arith in
       let not_last : (i + 1 == length b.field) ≡ false =
-      false_from_ne_true _ (λ (t : (i + 1 == length b.field) ≡ true). omega
-      (arith, eqb-true (i + 1) (length b.field) t)) in
+      ne_eqb (i + 1) (length b.field) (λ (t : i + 1 ≡ length b.field). omega (arith, t)) in
       let none : Ends (i + 1) ≡ false = ap₂ (λ (x y : Bool). x || y) not_last (ap is_start m) in
       let rest = piece_is (i + 1) u us (λ j p r. inner j (omega arith) (omega (arith, q))) (omega (arith, q)) (ap Ends q
       ∙ e) in

@@ -1,6 +1,6 @@
 -- The window shows what the assembler found.
 use Rattle.std.proofs.Common.{◌≡◌, ℕ, ◌+◌, ◌-◌, ◌*◌, ◌^◌, ◌<◌, Bool, true, false, List, [], ◌∷◌, ◌++◌, take, Option}
-use Rattle.std.proofs.Common.{Some, None, ap, ap₂, ◌∙◌, sym, subst, arith, inl, inr, append-nil, cond}
+use Rattle.std.proofs.Common.{Some, None, ap, ap₂, ◌∙◌, sym, subst, arith, inl, inr, append-nil}
 use Rattle.std.specs.Prelude.{nat_lt, nat_le, if◌then◌else◌}
 use Rattle.std.proofs.lemmas.List.{take-take}
 use Rattle.std.proofs.lemmas.Bool.{cases_lt, lt-ltb, le-ltb, and_parts, ltb-true}
@@ -66,28 +66,16 @@ module _ (r : SlotRule) (sound : IsSound r) (z piece : List Item) (epoch first e
         let s = is.slot in
         let slot_is : found.slot ≡ up.slot = omega (arith, s, below, near) in
         elim (cases_lt found.slot first) [
-          | inl lt ↦
-              subst (Shows r (z ++ piece) first end)
-              (sym (n ∙ ap
-              (λ (t : Bool). cond {A = List (Option (List ℕ))} t slots (filled slots (found.slot - first)
-              (packet_of held)))
-              (lt-ltb found.slot first lt)))
+          | inl lt ↦ rw (n, lt-ltb found.slot first lt)
               (too_late r z (z ++ piece) up gains first end slots counted (omega (arith, slot_is, lt)) shows)
-          | inr ge ↦
-              subst (Shows r (z ++ piece) first end)
-              (sym (n ∙ ap
-              (λ (t : Bool). cond {A = List (Option (List ℕ))} t slots (filled slots (found.slot - first)
-              (packet_of held)))
-              (le-ltb found.slot first ge)
-              ∙ ap₂ (λ (k : ℕ) (p : List ℕ). filled slots (k - first) p) slot_is packet_is))
+          | inr ge ↦ rw (n, le-ltb found.slot first ge, slot_is, packet_is)
               (put_in r z (z ++ piece) up gains first end slots counted (omega (arith, slot_is, ge)) shows)
         ]
 
 pub moved : (r : SlotRule) (z : List Item) (first end new_first new_end : ℕ) (slots : List (Option (List ℕ)))
     → new_first ≡ first
     → new_end ≡ end → Shows r z first end slots → Shows r z new_first new_end slots
-moved r z first end new_first new_end slots e f h =
-    subst (λ (n : ℕ). Shows r z n new_end slots) (sym e) (subst (λ (n : ℕ). Shows r z first n slots) (sym f) h)
+moved r z first end new_first new_end slots e f h = rw (e, f) h
 
 pub near_by : (q r : SlotRule) (epoch : ℕ) → q ≡ r → over_by q.times epoch < 2 ^ 53 → over_by r.times epoch < 2 ^ 53
 near_by q r epoch e h = subst (λ (x : SlotRule). over_by x.times epoch < 2 ^ 53) e h

@@ -24,58 +24,83 @@ common_told own v step due first views released s =
     let d = due first views released s in
     (d.0, subst (λ (c : Config). Readback c (one.plp_of v) first views d.0) step.network d.1, d.2)
 
--- both have as many slots due
-pub equal_due : common.InStep → (own v : Receiver) → AllRules (one.network_of own)
-    → one.plp_of own < length (one.network_of own).plps → KeepsStep own v → TellsDue own → TellsDue v
-    → (first : ℕ) (views : List RecordView) (released : ℕ) → one.ReceiverStandsFor own first views released
-    → one.ReceiverStandsFor v first views released → one.due_of v ≡ one.due_of own
-equal_due law own v rules inside step due other first views released s t =
-    let a = due first views released s in
-    let b = common_told own v step other first views released t in
-    let same = same_length law (one.network_of own) (one.plp_of own) (one.plp_of v) rules inside step.place
-    first views b.0 a.0
-    b.1 a.1 in
-    b.2 ∙ ap (λ (n : ℕ). n - released) same ∙ sym a.2
+-- Two receivers in step, of a network that keeps the rules, and what is due of each.
+pub record OfPlan (own : Receiver) (other : Option Receiver) : Type 0 where
+  pub law : common.InStep
+  pub slots : JoinedSlots
+  pub rules : AllRules (one.network_of own)
+  pub inside : one.plp_of own < length (one.network_of own).plps
+  pub step : InStep own other
+  pub due : TellsDue own
+  pub tells : CommonTellsDue other
 
--- there is a list of packets that both are given back, and of it so many are due
-told_in : common.InStep → JoinedSlots → (own : Receiver) (other : Option Receiver) → AllRules (one.network_of own)
-    → one.plp_of own < length (one.network_of own).plps → InStep own other → TellsDue own → CommonTellsDue other
-    → (first : ℕ) (views : List RecordView) (released : ℕ) → one.ReceiverStandsFor own first views released
-    → CommonStandsFor other first views released
-    → (packets : List (List ℕ)) × JoinedBackWith (common_at other) (one.network_of own) (one.plp_of own)
-    first views packets
-    × (max (one.due_of own) (common_due other) ≡ length packets - released)
-told_in law slots own None rules inside step due tells first views released s t =
-    let a = due first views released s in (a.0, a.1, (let d = a.2 in omega (arith, d)))
-told_in law slots own (Some v) rules inside step due tells first views released s t =
-    let a = due first views released s in
-    let k = step.both v refl in
-    let b = common_told own v k tells first views released t in
-    let same = same_length law (one.network_of own) (one.plp_of own) (one.plp_of v) rules inside k.place
-    first views b.0 a.0
-    b.1 a.1 in
-    let both : JoinsReadbacks (one.network_of own) (one.plp_of v) (one.plp_of own) first views (joined b.0 a.0) =
+pub of_plan : common.InStep → JoinedSlots → (own : Receiver) (other : Option Receiver) (c : Config)
+    → one.network_of own ≡ c → AllRules c → one.plp_of own < length c.plps → InStep own other → TellsDue own
+    → CommonTellsDue other → OfPlan own other
+of_plan law slots own other c same rules inside step due tells = record {
+  law = law;
+  slots = slots;
+  rules = subst AllRules (sym same) rules;
+  inside = subst (λ (d : Config). one.plp_of own < length d.plps) (sym same) inside;
+  step = step;
+  due = due;
+  tells = tells;
+}
+
+-- what both tell, of as many slots
+pub record BothTold (own v : Receiver) (first : ℕ) (views : List RecordView) (released : ℕ) : Type 0 where
+  pub shared : List (List ℕ)
+  pub back_shared : Readback (one.network_of own) (one.plp_of v) first views shared
+  pub due_shared : one.due_of v ≡ length shared - released
+  pub mine : List (List ℕ)
+  pub back_mine : Readback (one.network_of own) (one.plp_of own) first views mine
+  pub due_mine : one.due_of own ≡ length mine - released
+  pub same_slots : length shared ≡ length mine
+
+both_told : (own v : Receiver) → OfPlan own (Some v) → (first : ℕ) (views : List RecordView) (released : ℕ)
+    → one.ReceiverStandsFor own first views released → one.ReceiverStandsFor v first views released
+    → BothTold own v first views released
+both_told own v p first views released s t =
+    let k = p.step.both v refl in
+    let a = p.due first views released s in
+    let b = common_told own v k p.tells first views released t in
     record {
       shared = b.0;
       back_shared = b.1;
-      own = a.0;
-      back_own = a.1;
-      same_slots = same;
-      packets_are = refl;
-    } in (
-      joined b.0 a.0,
-      both,
-      (let d = a.2 in let e = b.2 in let n = slots.count b.0 a.0 in omega (arith, d, e, n, same)),
-    )
+      due_shared = b.2;
+      mine = a.0;
+      back_mine = a.1;
+      due_mine = a.2;
+      same_slots = same_length p.law (one.network_of own) (one.plp_of own) (one.plp_of v) p.rules p.inside k.place
+          first views b.0 a.0 b.1 a.1;
+    }
 
-pub told_with : common.InStep → JoinedSlots → (own : Receiver) (other : Option Receiver) (c : Config)
-    → one.network_of own ≡ c → AllRules c
-    → one.plp_of own < length c.plps → InStep own other → TellsDue own → CommonTellsDue other
-    → (first : ℕ) (views : List RecordView) (released : ℕ) → one.ReceiverStandsFor own first views released
-    → CommonStandsFor other first views released
+-- both have as many slots due
+pub equal_due : (own v : Receiver) → OfPlan own (Some v) → (first : ℕ) (views : List RecordView) (released : ℕ)
+    → one.ReceiverStandsFor own first views released → one.ReceiverStandsFor v first views released
+    → one.due_of v ≡ one.due_of own
+equal_due own v p first views released s t =
+    let b = both_told own v p first views released s t in
+    b.due_shared ∙ ap (λ (n : ℕ). n - released) b.same_slots ∙ sym b.due_mine
+
+-- there is a list of packets that both are given back, and of it so many are due
+pub told : (own : Receiver) (other : Option Receiver) → OfPlan own other → (first : ℕ) (views : List RecordView)
+    (released : ℕ) → one.ReceiverStandsFor own first views released → CommonStandsFor other first views released
     → (packets : List (List ℕ)) × JoinedBackWith (common_at other) (one.network_of own) (one.plp_of own)
     first views packets
     × (max (one.due_of own) (common_due other) ≡ length packets - released)
-told_with law slots own other c same rules inside =
-    told_in law slots own other (subst AllRules (sym same) rules)
-    (subst (λ (d : Config). one.plp_of own < length d.plps) (sym same) inside)
+told own None p first views released s t =
+    let a = p.due first views released s in (a.0, a.1, (let d = a.2 in omega (arith, d)))
+told own (Some v) p first views released s t =
+    let b = both_told own v p first views released s t in
+    let both : JoinsReadbacks (one.network_of own) (one.plp_of v) (one.plp_of own) first views
+    (joined b.shared b.mine) = record {
+      shared = b.shared;
+      back_shared = b.back_shared;
+      own = b.mine;
+      back_own = b.back_mine;
+      same_slots = b.same_slots;
+      packets_are = refl;
+    } in
+    let n = p.slots.count b.shared b.mine in
+    (joined b.shared b.mine, both, omega (arith, b.due_shared, b.due_mine, n, b.same_slots))

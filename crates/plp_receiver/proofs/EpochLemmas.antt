@@ -1,14 +1,15 @@
 -- What records tell of epochs, record by record.
-use Rattle.std.proofs.Common.{◌≡◌, ◌≢◌, ℕ, zero, suc, ◌+◌, ◌-◌, ◌*◌, ◌/◌, ◌%◌, ◌<◌, ◌≤◌, ◌==◌, ◌&&◌, Bool, true, false}
+use Rattle.std.proofs.Common.{◌≡◌, ◌≢◌, ℕ, suc, ◌+◌, ◌-◌, ◌*◌, ◌/◌, ◌%◌, ◌<◌, ◌≤◌, ◌==◌, ◌&&◌, Bool, true, false}
 use Rattle.std.proofs.Common.{List, [], ◌∷◌, ◌++◌, length, take, drop, Option, Some, None, refl, ap, ◌∙◌, sym, subst}
 use Rattle.std.proofs.Common.{arith, inl, inr, cond, length-append}
-use Rattle.std.specs.Prelude.{nat_le, not}
+use Rattle.std.specs.Prelude.{not}
 use Rattle.std.specs.List.{AllZip, range_with_len}
-use Rattle.std.proofs.lemmas.Bool.{cases_lt, leb-true, le-leb, eqb-true, eq-eqb, false_from_ne_true}
-use Rattle.std.proofs.lemmas.List.{length-drop, drop-append-le, take-append-le, take_all}
+use Rattle.std.proofs.lemmas.Bool.{cases_lt, ne_eqb, lt-leb, le-leb, eq-eqb}
+use Rattle.std.proofs.lemmas.List.{length-drop, drop_all, drop-append-le, take-append-le, take_all}
 use Rattle.std.proofs.lemmas.List.Folds.{list_all-append}
-use Rattle.std.proofs.lemmas.Nat.{div-add-mod'}
-use Rattle.std.proofs.Math.Nat.{mod-lt, div-mul-le_self, mul-le-mul_right}
+use Rattle.std.proofs.lemmas.Nat.{div-add-mod', le-div}
+use Rattle.std.proofs.Math.Bool.{and-true}
+use Rattle.std.proofs.Math.Nat.{div-mul-le_self, mul-le-mul_right}
 use Rattle.terms.proofs.RangeLemmas.{range_more}
 use Rattle.plp_receiver.proofs.TimeLemmas.{next_epoch, same_epoch}
 use Rattle.plp_receiver.specs.SlotEpochs.{Epoch}
@@ -66,15 +67,11 @@ agreeing_more plp (Some (p ∷ parts)) (Some q) =
     (list_all-append (λ (x : Part). count_of plp x == count_of plp p) parts (q ∷ []))
     ∙ go (agree plp (p ∷ parts))
   where
-    whole : (b : Bool) → (b && true) ≡ b
-    whole true = refl
-    whole false = refl
-
     go : (a : Bool) → cond {A = Option (List Part)} (a && ((count_of plp q == count_of plp p) && true))
         (Some (p ∷ parts ++ q ∷ [])) None
         ≡ joined plp (cond {A = Option (List Part)} a (Some (p ∷ parts)) None) (Some q)
     go true = ap (λ (b : Bool). cond {A = Option (List Part)} b (Some (p ∷ parts ++ q ∷ [])) None)
-        (whole (count_of plp q == count_of plp p))
+        (and-true (count_of plp q == count_of plp p))
     go false = refl
 
 pub begun_joined : (plp : ℕ) (parts : Option (List Part)) (part : Option Part) → is_begun (joined plp parts part) ≡ true
@@ -98,29 +95,17 @@ pub seen_more : (c : Config) (plp first : ℕ) (views : List RecordView) (v : Re
     (part_of c (first + length views) v)
 seen_more c plp first views v from l =
     elim (cases_lt from first) [
-      | inl lt ↦
-          let e : nat_le first from ≡ false = false_from_ne_true _ (λ (t : nat_le first from ≡ true).
-          let m = leb-true first from t in omega (arith, m, lt)) in
-          ap (λ (b : Bool). cond {A = Option (List Part)} b
-          (agreeing plp (parts_of c from (drop (from - first) (views ++ v ∷ [])))) None)
-          e
-          ∙ sym (ap (λ (b : Bool). joined plp (cond {A = Option (List Part)} b
-          (agreeing plp (parts_of c from (drop (from - first) views))) None) (part_of c (first + length views) v)) e)
+      | inl lt ↦ rw (lt-leb first from lt)
       | inr ge ↦
-          let e : nat_le first from ≡ true = le-leb first from ge in
           let rest : List RecordView = drop (from - first) views in
           let longer : drop (from - first) (views ++ v ∷ []) ≡ rest ++ v ∷ [] =
           drop-append-le (from - first) views (v ∷ []) (omega (arith, l, ge)) in
           let at : from + length rest ≡ first + length views = omega (arith, l, ge, length-drop (from - first) views) in
-          ap (λ (b : Bool). cond {A = Option (List Part)} b
-          (agreeing plp (parts_of c from (drop (from - first) (views ++ v ∷ [])))) None)
-          e
-          ∙ ap (λ (x : List RecordView). agreeing plp (parts_of c from x)) longer
+          rw (le-leb first from ge)
+          (ap (λ (x : List RecordView). agreeing plp (parts_of c from x)) longer
           ∙ ap (agreeing plp) (parts_more c from rest v)
           ∙ agreeing_more plp (parts_of c from rest) (part_of c (from + length rest) v)
-          ∙ ap (λ (n : ℕ). joined plp (agreeing plp (parts_of c from rest)) (part_of c n v)) at
-          ∙ sym (ap (λ (b : Bool). joined plp (cond {A = Option (List Part)} b
-          (agreeing plp (parts_of c from rest)) None) (part_of c (first + length views) v)) e)
+          ∙ ap (λ (n : ℕ). joined plp (agreeing plp (parts_of c from rest)) (part_of c n v)) at)
     ]
 
 no_parts : (c : Config) (n : ℕ) → parts_of c n [] ≡ Some []
@@ -131,18 +116,9 @@ no_parts c n = refl
 pub none_seen : (c : Config) (plp first : ℕ) (views : List RecordView) (from : ℕ) → from ≡ first + length views
     → seen_from c plp first views from ≡ Some []
 none_seen c plp first views from e =
-    let low : nat_le first from ≡ true = le-leb first from (omega (arith, e)) in
-    let all : drop (from - first) views ≡ [] = nothing views (from - first) (omega (arith, e)) in
-    ap (λ (b : Bool). cond {A = Option (List Part)} b (agreeing plp (parts_of c from (drop (from - first) views))) None)
-    low
-    ∙ ap (λ (x : List RecordView). agreeing plp (parts_of c from x)) all
-    ∙ ap (agreeing plp) (no_parts c from)
-  where
-    nothing : (xs : List RecordView) (k : ℕ) → k ≡ length xs → drop k xs ≡ []
-    nothing [] zero l = refl
-    nothing [] (suc k) l = refl
-    nothing (x ∷ xs) zero l = absurd (omega (arith, l))
-    nothing (x ∷ xs) (suc k) l = nothing xs k (omega (arith, l))
+    rw (le-leb first from (omega (arith, e)))
+    (ap (λ (x : List RecordView). agreeing plp (parts_of c from x)) (drop_all (from - first) views (omega (arith, e)))
+    ∙ ap (agreeing plp) (no_parts c from))
 
 begun_parts : (c : Config) (plp n : ℕ) (v : RecordView) (views : List RecordView)
     → is_begun (agreeing plp (parts_of c n (v ∷ views))) ≡ true
@@ -164,19 +140,9 @@ some_seen : (c : Config) (plp first : ℕ) (views : List RecordView) (from : ℕ
     → is_begun (seen_from c plp first views from) ≡ true
 some_seen c plp first views from l =
     elim (cases_lt from first) [
-      | inl lt ↦
-          let e : nat_le first from ≡ false = false_from_ne_true _ (λ (t : nat_le first from ≡ true).
-          let m = leb-true first from t in omega (arith, m, lt)) in
-          ap (λ (b : Bool). is_begun (cond {A = Option (List Part)} b
-          (agreeing plp (parts_of c from (drop (from - first) views)))
-          None))
-          e
-      | inr ge ↦
-          let e : nat_le first from ≡ true = le-leb first from ge in
-          ap (λ (b : Bool). is_begun (cond {A = Option (List Part)} b
-          (agreeing plp (parts_of c from (drop (from - first) views)))
-          None))
-          e ∙ go (drop (from - first) views) (omega (arith, l, ge, length-drop (from - first) views))
+      | inl lt ↦ rw (lt-leb first from lt)
+      | inr ge ↦ rw (le-leb first from ge)
+          (go (drop (from - first) views) (omega (arith, l, ge, length-drop (from - first) views)))
     ]
   where
     go : (xs : List RecordView) → 1 ≤ length xs → is_begun (agreeing plp (parts_of c from xs)) ≡ true
@@ -198,9 +164,8 @@ module _ (c : Config) (plp first : ℕ) (views : List RecordView) where
     seen_begun =
         elim (cases_lt 0 (n % s)) [
           | inl lt ↦
-              let e : (n % s == 0) ≡ false = false_from_ne_true _ (λ (t : (n % s == 0) ≡ true).
-              let z = eqb-true (n % s) 0 t in omega (arith, z, lt)) in
-              some_seen c plp first views (n / s * s) (omega (arith, whole, lt)) ∙ sym (ap not e)
+              some_seen c plp first views (n / s * s) (omega (arith, whole, lt))
+              ∙ sym (ap not (ne_eqb (n % s) 0 (λ (z : n % s ≡ 0). omega (arith, z, lt))))
           | inr ge ↦
               let z : n % s ≡ 0 = omega (arith, ge) in
               ap is_begun (none_seen c plp first views (n / s * s) (omega (arith, whole, z)))
@@ -240,22 +205,12 @@ module _ (c : Config) (plp first : ℕ) (views : List RecordView) where
           let f : (n + 1) / s * s ≡ (n / s + 1) * s = ap (λ (k : ℕ). k * s) next_is in
           let from : ℕ = n / s * s in
           elim (cases_lt from first) [
-            | inl lt ↦
-                let b : nat_le first from ≡ false = false_from_ne_true _ (λ (t : nat_le first from ≡ true).
-                let m = leb-true first from t in omega (arith, m, lt)) in
-                ap (λ (x : Bool). cond {A = Option (List Part)} x
-                (agreeing plp (parts_of c from (take s (drop (from - first) longer)))) None) b
-                ∙ sym (ap (λ (x : Bool). cond {A = Option (List Part)} x
-                (agreeing plp (parts_of c from (drop (from - first) longer))) None) b)
-                ∙ seen_joined
+            | inl lt ↦ rw (lt-leb first from lt)
             | inr ge ↦
                 let all : take s (drop (from - first) longer) ≡ drop (from - first) longer =
                 take_all s (drop (from - first) longer)
                 (omega (arith, length-drop (from - first) longer, next, e, f, more, ge)) in
-                ap (λ (x : List RecordView). cond {A = Option (List Part)} (nat_le first from)
-                (agreeing plp (parts_of c from x))
-                None)
-                all ∙ seen_joined
+                rw all seen_joined
           ]
 
   -- an epoch that had ended before
@@ -263,22 +218,14 @@ module _ (c : Config) (plp first : ℕ) (views : List RecordView) where
       → epoch_parts c plp first (views ++ others) m ≡ epoch_parts c plp first views m
   same_parts others m l =
       elim (cases_lt (m * s) first) [
-        | inl lt ↦
-            let b : nat_le first (m * s) ≡ false = false_from_ne_true _ (λ (t : nat_le first (m * s) ≡ true).
-            let x = leb-true first (m * s) t in omega (arith, x, lt)) in
-            ap (λ (x : Bool). cond {A = Option (List Part)} x
-            (agreeing plp (parts_of c (m * s) (take s (drop (m * s - first) (views ++ others))))) None) b
-            ∙ sym (ap (λ (x : Bool). cond {A = Option (List Part)} x
-            (agreeing plp (parts_of c (m * s) (take s (drop (m * s - first) views)))) None) b)
+        | inl lt ↦ rw (lt-leb first (m * s) lt)
         | inr ge ↦
             let k : ℕ = m * s - first in
             let e : drop k (views ++ others) ≡ drop k views ++ others = drop-append-le k views others
             (omega (arith, l, ge)) in
             let f : take s (drop k views ++ others) ≡ take s (drop k views) =
             take-append-le s (drop k views) others (omega (arith, length-drop k views, l, ge)) in
-            ap (λ (x : List RecordView). cond {A = Option (List Part)} (nat_le first (m * s))
-            (agreeing plp (parts_of c (m * s) x))
-            None) (ap (take s) e ∙ f)
+            rw (e, f)
       ]
 
   ended : (m k : ℕ) → m < first / s + (k / s - first / s) → first / s ≤ k / s → m * s + s ≤ k
@@ -312,15 +259,7 @@ module _ (c : Config) (plp first : ℕ) (views : List RecordView) where
 
 -- a later frame is of no earlier epoch
 pub epoch_rises : (s a b : ℕ) → 1 ≤ s → a ≤ b → a / s ≤ b / s
-epoch_rises s a b l m =
-    elim (cases_lt (b / s) (a / s)) [
-      | inl lt ↦
-          let p : (b / s + 1) * s ≤ a / s * s = mul-le-mul_right {m = b / s + 1} {n = a / s} s (omega (arith, lt)) in
-          let e : (b / s + 1) * s ≡ b / s * s + s = omega arith in
-          let r : b % s < s = mod-lt b (omega (arith, l)) in
-          absurd (omega (arith, p, e, m, div-add-mod' b s, r, div-mul-le_self a s))
-      | inr ge ↦ ge
-    ]
+epoch_rises s a b l m = le-div (a / s) b s (omega (arith, l)) (omega (arith, m, div-mul-le_self a s))
 
 -- before a record came
 pub none_told : (c : Config) (plp first : ℕ) → TellAll c plp first [] []
@@ -340,11 +279,7 @@ first_seen c plp first some h lost =
     let n : ℕ = first + 0 in
     let w = div-add-mod' n s in
     elim (cases_lt (n / s * s) first) [
-      | inl lt ↦
-          let e : nat_le first (n / s * s) ≡ false = false_from_ne_true _ (λ (t : nat_le first (n / s * s) ≡ true).
-          let m = leb-true first (n / s * s) t in omega (arith, m, lt)) in
-          subst (λ (b : Bool). Holds c plp (cond {A = Option (List Part)} b
-          (agreeing plp (parts_of c (n / s * s) (drop (n / s * s - first) []))) None) h) (sym e) lost
+      | inl lt ↦ rw (lt-leb first (n / s * s) lt) lost
       | inr ge ↦
           let none = none_seen c plp first [] (n / s * s) (omega (arith, w, ge)) in
           subst (λ (o : Option (List Part)). Holds c plp o h) (sym none) tt

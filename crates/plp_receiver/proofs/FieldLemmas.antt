@@ -3,31 +3,27 @@ use Rattle.std.proofs.Common.{◌≡◌, ℕ, ◌+◌, ◌-◌, ◌*◌, ◌/◌
 use Rattle.std.proofs.Common.{◌++◌, length, take, drop, Option, Some, None, refl, ap, ◌∙◌, sym, subst, arith, inl, inr}
 use Rattle.std.proofs.Common.{append_assoc, length-drop, length-take, cond, eq-eqb}
 use Rattle.std.specs.Prelude.{min, if◌then◌else◌}
-use Rattle.std.proofs.lemmas.List.{take_all}
 use Rattle.std.proofs.lemmas.Bool.{cases_lt, cases_eq, false_from_ne_true, eqb-true}
 use Rattle.std.proofs.lemmas.Nat.{mod-mul-add, div-add-mod'}
+use Rattle.std.proofs.Math.Nat.{add-mod_right}
 use Rattle.std.proofs.Math.Seq.{take-add}
 use Rattle.plp_receiver.specs.declared.mark.Mark.{Mark}
 use Rattle.plp_receiver.specs.declared.mark.Mark.TheVariants.{Inside, Next, Timed}
 use Rattle.plp_receiver.specs.declared.slot_rule.SlotRule.{SlotRule}
 use Rattle.plp_receiver.specs.Sound.{IsSound}
-use Rattle.plp_receiver.specs.Strings.{Item, Block, is_start, first_mark, mark_at, items_from, block_items}
+use Rattle.plp_receiver.specs.Strings.{Item, Block, is_start, first_mark, mark_at, items_from}
 use Rattle.plp_receiver.specs.Pieces.{piece_items}
 use Rattle.plp_receiver.proofs.BlockLemmas.{Ends, items_append, piece_is, ends_field, ends_start, none_marks}
 use Rattle.plp_receiver.proofs.BlockLemmas.{mark_before, mark_first, mark_next, mark_inner}
 use Rattle.plp_receiver.specs.TakenBlocks.{front_of, IsBegun, IsStart}
 
-mod_step : (n t len : ℕ) → n % len ≡ 0 → t < len → (n + t) % len ≡ t
+pub mod_step : (n t len : ℕ) → n % len ≡ 0 → t < len → (n + t) % len ≡ t
 mod_step n t len e l =
     let q : n ≡ n / len * len = sym (div-add-mod' n len) ∙ ap (λ (m : ℕ). n / len * len + m) e ∙ omega arith in
     ap (λ (m : ℕ). (m + t) % len) q ∙ mod-mul-add (n / len) len t l
 
-mod_whole : (n len : ℕ) → 1 ≤ len → n % len ≡ 0 → (n + len) % len ≡ 0
-mod_whole n len l e =
-    let q : n ≡ n / len * len = sym (div-add-mod' n len) ∙ ap (λ (m : ℕ). n / len * len + m) e ∙ omega arith in
-    let s : n + len ≡ (n / len + 1) * len + 0 = let d : (n / len + 1) * len ≡ n / len * len + len = omega arith in
-    omega (arith, d, q) in
-    ap (λ (m : ℕ). m % len) s ∙ mod-mul-add (n / len + 1) len 0 l
+pub mod_whole : (n len : ℕ) → 1 ≤ len → n % len ≡ 0 → (n + len) % len ≡ 0
+mod_whole n len l e = add-mod_right n len ∙ e
 
 pub is_first : (issy : ℕ) → is_start (first_mark issy) ≡ true
 is_first issy = go (issy / 2 ^ 22 == 2)
@@ -125,9 +121,6 @@ module _ (len epoch : ℕ) (b : Block) where
       (ends_start len epoch b (0 + start) (ap is_start (mark_first len epoch b start f (0 + start) z)
       ∙ is_first b.issy))
       ∙ ap (front_of len epoch b) z
-
-  pub all_taken : (at : ℕ) → length b.field ≤ at → front_of len epoch b at ≡ block_items len epoch b
-  all_taken at l = ap (items_from len epoch b 0) (take_all at b.field l)
 
 pub up_joined : (epoch : ℕ) (b : Block) (r a : SlotRule) → IsSound r → a ≡ r
     → (z : List Item) (start at end : ℕ) (bytes : List ℕ)

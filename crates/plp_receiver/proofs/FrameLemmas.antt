@@ -7,7 +7,7 @@ use Rattle.plp_config.specs.SlotTimes.{delay_of, over_by}
 use Rattle.plp_receiver.specs.Times.{epoch_of, last_frame, over_after, due_after}
 use Rattle.plp_receiver.specs.Readback.{slot_packet}
 use Rattle.plp_receiver.specs.SlotEpochs.{Epoch, string_of, readback}
-use Rattle.plp_receiver.specs.SlotLaws.{OneFrame, IsByFrames}
+use Rattle.plp_receiver.specs.SlotLaws.{IsByFrames}
 use Rattle.plp_receiver.specs.Sound.{IsSound}
 
 module _ (r : SlotRule) (sound : IsSound r) (one : r.spread ≡ 1) where
@@ -38,18 +38,12 @@ module _ (r : SlotRule) (sound : IsSound r) (one : r.spread ≡ 1) where
       ∙ ap (λ (s : ℕ). map (slot_packet r (string_of r.up_len first epochs))
       (range_with_len (over_after r (first - s)) (due_after r (first + count) - over_after r (first - s)))) one
 
-  pub by_frames : IsByFrames r
-  by_frames = record {
+  pub one_frame : IsByFrames r
+  one_frame = record {
     epoch = epoch_is;
     last = last_is;
     over = over_is;
     delay = delay_is;
-    ended = λ first count epochs. (
-      (λ h. omega (arith, h, epoch_is first, epoch_is (first + count))),
-      (λ h. omega (arith, h, epoch_is first, epoch_is (first + count))),
-    );
+    ended = λ first count epochs. omega (arith, epoch_is first, epoch_is (first + count));
     packets = packets_are;
   }
-
-pub one_frame : OneFrame
-one_frame r sound one = by_frames r sound one

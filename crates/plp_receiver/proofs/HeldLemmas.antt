@@ -1,36 +1,35 @@
 -- The blocks that are held, record by record.
 use Rattle.std.proofs.Common.{◌≡◌, ℕ, ◌+◌, ◌-◌, ◌*◌, ◌%◌, ◌<◌, ◌≤◌, ◌==◌, ◌&&◌, Bool, true, false, List, [], ◌∷◌, ◌++◌}
-use Rattle.std.proofs.Common.{length, take, drop, get_or, Option, Some, None, refl, ap, ◌∙◌, sym, subst, arith, cond}
+use Rattle.std.proofs.Common.{length, take, drop, get_or, Option, Some, None, refl, ap, ◌∙◌, sym, subst, arith}
 use Rattle.std.proofs.Common.{append_assoc}
-use Rattle.std.specs.Prelude.{not, option_map, slice_index, sum}
+use Rattle.std.specs.Prelude.{not, slice_index, sum}
 use Rattle.std.specs.Option.{option_map_or}
 use Rattle.std.specs.List.{AllZip, range_with_len}
-use Rattle.std.proofs.lemmas.Bool.{both_ways, and_parts, eqb-true, eq-eqb, false_from_ne_true}
+use Rattle.std.proofs.lemmas.Bool.{both_ways, and_parts, eqb-true, eq-eqb}
 use Rattle.std.proofs.lemmas.List.{length-take-le, length-drop, drop-drop, drop-take, take-take, drop-append-le}
 use Rattle.std.proofs.lemmas.List.{take-append-le}
 use Rattle.std.proofs.lemmas.List.Folds.{list_all-append}
 use Rattle.std.proofs.Math.Seq.{drop-append_seam, take-append_seam}
+use Rattle.std.proofs.Math.Bool.{and-true}
 use Rattle.std.proofs.Math.Nat.{mul-le-mul_right}
 use Rattle.plp_config.specs.Plps.{plp_at}
 use Rattle.plp_config.specs.declared.config.Config.{Config}
-use Rattle.plp_config.specs.declared.moment.Moment.{Moment}
 use Rattle.scheduler.specs.Shape.{FrameShape}
 use Rattle.cell_map.specs.declared.places.Cell.{Cell}
 use Rattle.site_frame.specs.Record as frame
-use Rattle.site_frame.specs.declared.reading.RecordView.{RecordView}
-use Rattle.site_frame.specs.declared.reading.RecordView.TheVariants.{Frame, Muted}
-use Rattle.plp_receiver.specs.SlotEpochs.{lost_epoch, epoch_with}
+use Rattle.plp_receiver.specs.SlotEpochs.{epoch_with}
 use Rattle.plp_receiver.specs.Strings.{Block}
 use Rattle.plp_receiver.specs.declared.slots.PacketSlots.{PacketSlots}
-use Rattle.frame_groups.specs.Readable.{coming, readable}
+use Rattle.frame_groups.specs.Readable.{coming}
 use Rattle.plp_receiver.specs.Parts.{Part, part_with, count_of, all_stand}
 use Rattle.plp_config.specs.Plps.{spread}
 use Rattle.plp_receiver.specs.Taken.{IsGiven, bytes_at}
-use Rattle.plp_receiver.specs.Epochs.{part_of, cells_stand, place_of}
+use Rattle.plp_receiver.specs.Epochs.{cells_stand, place_of}
 use Rattle.plp_receiver.specs.Holds.{Blocks, blocks_of, block_at, Keeps, Holds, is_begun, joined, Sees}
-use Rattle.plp_receiver.specs.Taking.{Ends, TakesEpoch, TellsEpoch}
+use Rattle.plp_receiver.specs.Taking.{TakesEpoch, TellsEpoch}
 use Rattle.plp_receiver.specs.declared.held.HeldBlocks.{HeldBlocks}
-use Rattle.plp_receiver.proofs.ListLemmas.{slice_get_drop, zip_over}
+use Rattle.plp_receiver.proofs.ListLemmas.{zip_over}
+use Rattle.circular_buffer.proofs.Places.{slice_get-drop}
 
 -- ---- places
 pub place_in : (k n len : ℕ) → k < n → k * len + len ≤ n * len
@@ -53,11 +52,6 @@ left_behind k len now mid old e f =
     ∙ ap (drop len) f
     ∙ drop-drop len (k * len) old
     ∙ sym (ap (λ (n : ℕ). drop n old) next)
-
--- all tests were written
-pub written_back : (len : ℕ) (new old : List Bool) → length new ≡ len → take len (new ++ drop (length new) old) ≡ new
-written_back len new old long =
-    ap (λ (n : ℕ). take n (new ++ drop (length new) old)) (sym long) ∙ take-append_seam new (drop (length new) old)
 
 -- a block that was put to a place, and those before it
 module _ (k len : ℕ) (out block new : List ℕ) (long : length block ≡ len) (inside : k * len ≤ length out)
@@ -105,11 +99,7 @@ cells_more : (c : Config) (plp : ℕ) (parts : List Part) (q : Part) (k : ℕ) �
     ≡ (cells_stand c plp parts k && all_stand c plp q k)
 cells_more c plp parts q k =
     list_all-append (λ (p : Part). all_stand c plp p k) parts (q ∷ [])
-    ∙ ap (λ (b : Bool). cells_stand c plp parts k && b) (whole (all_stand c plp q k))
-  where
-    whole : (b : Bool) → (b && true) ≡ b
-    whole true = refl
-    whole false = refl
+    ∙ ap (λ (b : Bool). cells_stand c plp parts k && b) (and-true (all_stand c plp q k))
 
 -- what is known when the blocks of the first part were copied
 pub record Begun (c : Config) (plp : ℕ) (q : Part) (h : HeldBlocks) : Type 0 where
@@ -133,7 +123,7 @@ begun_at c plp n shape blocks rest cells h there count behind bytes stand = reco
       bytes k l
       ∙ ap (λ (l : List frame.Block). bytes_at l k) behind
       ∙ ap (λ (o : Option frame.Block). option_map_or (λ b. b.bytes) o [])
-      (slice_get_drop blocks front k (front + k) refl);
+      (slice_get-drop front blocks k (front + k) refl);
   stand = stand;
 }
 
@@ -157,21 +147,8 @@ module _ (c : Config) (plp : ℕ) (q : Part) where
         let inside : k < mid.count = subst (λ (b : Blocks). k < b.count) s.same l in
         s.each k inside
         ∙ ap (λ (t : Bool). t && all_stand c plp q k) (b.stand k inside)
-        ∙ sym (whole (all_stand c plp q k));
+        ∙ sym (and-true (all_stand c plp q k));
   }
-    where
-      whole : (t : Bool) → (t && true) ≡ (true && t)
-      whole true = refl
-      whole false = refl
-
-  pub begins : (n : ℕ) (old new : HeldBlocks) → (n % spread c.plps plp == 0) ≡ true → Keeps c plp q (q ∷ []) new
-      → Sees c plp n (Some q) old new
-  begins n old new first k parts started h = go parts (started ∙ ap not first)
-    where
-      go : (ps : Option (List Part)) → is_begun ps ≡ false → Holds c plp (joined plp ps (Some q)) new
-      go None e = absurd (both_ways _ e refl)
-      go (Some (p ∷ ps)) e = absurd (both_ways _ e refl)
-      go (Some []) e = k
 
   -- the record goes on with the others, or not
   pub goes_on : (n : ℕ) (old new : HeldBlocks) → (n % spread c.plps plp == 0) ≡ false
@@ -187,8 +164,7 @@ module _ (c : Config) (plp : ℕ) (q : Part) where
       go (Some []) e k = absurd (both_ways _ refl e)
       go (Some (p ∷ ps)) e k =
           let count : count_of plp q ≡ count_of plp p = sym (eqb-true old.count (count_of plp q) both.1) ∙ k.count in
-          subst (λ (b : Bool). Holds c plp (cond {A = Option (List Part)} b (Some (p ∷ ps ++ q ∷ [])) None) new)
-          (sym (eq-eqb (count_of plp q) (count_of plp p) count))
+          rw (eq-eqb (count_of plp q) (count_of plp p) count)
           (record {
             there = ap (λ (b : Blocks). b.there) s.same ∙ k.there;
             count = ap (λ (b : Blocks). b.count) s.same ∙ k.count;
@@ -199,33 +175,6 @@ module _ (c : Config) (plp : ℕ) (q : Part) where
                 ∙ ap (λ (t : Bool). t && all_stand c plp q i) (k.stand i inside)
                 ∙ sym (cells_more c plp (p ∷ ps) q i);
           })
-
-  pub breaks_off : (n : ℕ) (old new : HeldBlocks) → (n % spread c.plps plp == 0) ≡ false
-      → (old.there && (old.count == count_of plp q)) ≡ false → new.there ≡ false → Sees c plp n (Some q) old new
-  breaks_off n old new later off lost parts started h = go parts (started ∙ ap not later) h
-    where
-      go : (ps : Option (List Part)) → is_begun ps ≡ true → Holds c plp ps old
-          → Holds c plp (joined plp ps (Some q)) new
-      go None e k = lost
-      go (Some []) e k = absurd (both_ways _ refl e)
-      go (Some (p ∷ ps)) e k =
-          let other : (old.count == count_of plp q) ≡ false =
-          sym (ap (λ (t : Bool). t && (old.count == count_of plp q)) k.there) ∙ off in
-          let differ : (count_of plp q == count_of plp p) ≡ false =
-          false_from_ne_true _ (λ (t : (count_of plp q == count_of plp p) ≡ true).
-          both_ways _ other (eq-eqb old.count (count_of plp q) (k.count
-          ∙ sym (eqb-true (count_of plp q) (count_of plp p) t)))) in
-          subst (λ (b : Bool). Holds c plp (cond {A = Option (List Part)} b (Some (p ∷ ps ++ q ∷ [])) None) new)
-          (sym differ) lost
-
--- a record that is not readable
-pub loses : (c : Config) (plp n : ℕ) (old new : HeldBlocks) → new.there ≡ false → Sees c plp n None old new
-loses c plp n old new lost parts started h = go parts
-  where
-    go : (ps : Option (List Part)) → Holds c plp (joined plp ps None) new
-    go None = lost
-    go (Some []) = lost
-    go (Some (p ∷ ps)) = lost
 
 -- ---- the end of an epoch
 pub epoch_told : (c : Config) (plp : ℕ) (deletes : Bool) (h : HeldBlocks) (old new : PacketSlots) → h.there ≡ true
@@ -257,35 +206,3 @@ epoch_told c plp deletes h old new there own t (Some (p ∷ ps)) e k = record {
         subst (λ (d : Bool). IsGiven d (cells_stand c plp (p ∷ ps) i) (bytes_at p.blocks (place_of c plp p i)) b) own
         (subst (λ (x : Bool). IsGiven deletes x (bytes_at p.blocks (place_of c plp p i)) b) (k.stand i l)
         (subst (λ (x : List ℕ). IsGiven deletes (get_or h.stands.items i false) x b) (k.bytes i l) g))
-
-pub epoch_lost : (c : Config) (plp : ℕ) (h : HeldBlocks) (old new : PacketSlots) → h.there ≡ false
-    → Ends old new lost_epoch
-    → (parts : Option (List Part)) → is_begun parts ≡ true → Holds c plp parts h → TellsEpoch c plp parts old new
-epoch_lost c plp h old new lost ends None e k = record { told = lost_epoch; tells = refl; ends = ends }
-epoch_lost c plp h old new lost ends (Some []) e k = absurd (both_ways _ refl e)
-epoch_lost c plp h old new lost ends (Some (p ∷ ps)) e k = absurd (both_ways _ lost k.there)
-
--- ---- a record by its parts
-pub muted_seen : (c : Config) (plp n : ℕ) (view : RecordView) (moment : Moment) (old new : HeldBlocks)
-    → view ≡ Muted moment
-    → new.there ≡ false → Sees c plp n (part_of c n view) old new
-muted_seen c plp n view moment old new e lost =
-    subst (λ (v : RecordView). Sees c plp n (part_of c n v) old new) (sym e) (loses c plp n old new lost)
-
-pub frame_seen : (c d : Config) (plp n m : ℕ) (moment : Moment) (pre post : List Bool) (blocks : List frame.Block)
-    (cells : List (Option Cell)) (shape : FrameShape) (old new : HeldBlocks) → d ≡ c → m ≡ n
-    → readable c m pre post blocks cells ≡ Some shape → Sees d plp m (Some (part_with m blocks shape cells)) old new
-    → Sees c plp n (part_of c n (Frame moment pre post blocks cells)) old new
-frame_seen c d plp n m moment pre post blocks cells shape old new own same e s =
-    subst (λ (k : ℕ). Sees c plp k (part_of c k (Frame moment pre post blocks cells)) old new) same
-    (subst (λ (o : Option FrameShape). Sees c plp m (option_map (λ s. part_with m blocks s cells) o) old new) (sym e)
-    (subst (λ (x : Config). Sees x plp m (Some (part_with m blocks shape cells)) old new) own s))
-
-pub frame_lost : (c : Config) (plp n m : ℕ) (moment : Moment) (pre post : List Bool) (blocks : List frame.Block)
-    (cells : List (Option Cell)) (old new : HeldBlocks) → m ≡ n
-    → readable c m pre post blocks cells ≡ None → new.there ≡ false
-    → Sees c plp n (part_of c n (Frame moment pre post blocks cells)) old new
-frame_lost c plp n m moment pre post blocks cells old new same e lost =
-    subst (λ (k : ℕ). Sees c plp k (part_of c k (Frame moment pre post blocks cells)) old new) same
-    (subst (λ (o : Option FrameShape). Sees c plp m (option_map (λ s. part_with m blocks s cells) o) old new) (sym e)
-    (loses c plp m old new lost))

@@ -217,10 +217,7 @@ module _ (r : SlotRule) (sound : IsSound r) (z : List Item) (epoch v : ℕ) (vs 
     pub packets : user_packets r (z ++ piece) ≡ user_packets r z ++ t.given
 
   no_gap : (m : Mark) → IsEpoch epoch m → m ≡ Gap → ⊥
-  no_gap Gap i e = i
-  no_gap Inside i e = subst (IsEpoch epoch) e i
-  no_gap Next i e = subst (IsEpoch epoch) e i
-  no_gap (Timed iscr) i e = subst (IsEpoch epoch) e i
+  no_gap m i e = subst (IsEpoch epoch) e i
 
   turned : (t : Turn) → piece_turn r st.state mark piece ≡ t → Turned t
   turned t e =

@@ -1,10 +1,10 @@
 -- A complete user packet, by the blocks of a run.
-use Rattle.std.proofs.Common.{◌≡◌, ℕ, zero, suc, ◌+◌, ◌-◌, ◌*◌, ◌/◌, ◌%◌, ◌<◌, ◌≤◌, ◌==◌, ◌&&◌, ◌||◌, Bool, true, false}
+use Rattle.std.proofs.Common.{◌≡◌, ℕ, zero, suc, ◌+◌, ◌-◌, ◌*◌, ◌%◌, ◌<◌, ◌≤◌, ◌==◌, ◌&&◌, ◌||◌, Bool, true, false}
 use Rattle.std.proofs.Common.{List, [], ◌∷◌, length, take, drop, get_or, Option, Some, None, refl, ap, ap₂, ◌∙◌, sym}
 use Rattle.std.proofs.Common.{subst, arith, inl, inr, length-append, length-take, length-drop}
 use Rattle.std.proofs.lemmas.Bool.{cases_lt, cases_eq, both_ways, and_parts, false_from_ne_true, eqb-true}
 use Rattle.std.proofs.lemmas.List.{get_or-take, get_or-drop, drop_more, get_or_append_left, get_or-append_right}
-use Rattle.std.proofs.lemmas.Nat.{mod-mul-add, div-add-mod'}
+use Rattle.std.proofs.lemmas.Nat.{mod-mul-add}
 use Rattle.plp_receiver.specs.declared.slot_rule.SlotRule.{SlotRule}
 use Rattle.plp_receiver.specs.declared.mark.Mark.{Mark}
 use Rattle.plp_receiver.specs.declared.mark.Mark.TheVariants.{Gap, Inside, Next, Timed}
@@ -14,7 +14,7 @@ use Rattle.plp_receiver.specs.Packets.{all_inside, is_one, is_complete, last_ite
 use Rattle.plp_receiver.proofs.OneLemmas.{one_parts, one_from}
 use Rattle.plp_receiver.proofs.BlockLemmas.{Ends, ends_field, ends_start, none_marks, mark_before, mark_first}
 use Rattle.plp_receiver.proofs.BlockLemmas.{mark_next, mark_inner}
-use Rattle.plp_receiver.proofs.FieldLemmas.{is_first}
+use Rattle.plp_receiver.proofs.FieldLemmas.{is_first, mod_step, mod_whole}
 use Rattle.plp_receiver.proofs.PlaceLemmas.{last_is}
 use Rattle.plp_receiver.specs.TakenBlocks.{IsPlace}
 use Rattle.plp_receiver.specs.LaterBlocks.{at, Placed, run_items, AreInField, Continues, EachLater, CompleteByBlocks}
@@ -251,18 +251,6 @@ module _ (r : SlotRule) (sound : IsSound r) where
         (run_items r.up_len run))
         (one_later place p run a before p.block.first refl (h.0 before))
         (later (place + length p.block.field) run (behind z place p run a) (omega arith) h.1))
-
-    mod_step : (n t len : ℕ) → n % len ≡ 0 → t < len → (n + t) % len ≡ t
-    mod_step n t len e l =
-        let q : n ≡ n / len * len = sym (div-add-mod' n len) ∙ ap (λ (m : ℕ). n / len * len + m) e ∙ omega arith in
-        ap (λ (m : ℕ). (m + t) % len) q ∙ mod-mul-add (n / len) len t l
-
-    mod_whole : (n len : ℕ) → 1 ≤ len → n % len ≡ 0 → (n + len) % len ≡ 0
-    mod_whole n len l e =
-        let q : n ≡ n / len * len = sym (div-add-mod' n len) ∙ ap (λ (m : ℕ). n / len * len + m) e ∙ omega arith in
-        let d : (n / len + 1) * len ≡ n / len * len + len = omega arith in
-        let s : n + len ≡ (n / len + 1) * len + 0 = omega (arith, d, q) in
-        ap (λ (m : ℕ). m % len) s ∙ mod-mul-add (n / len + 1) len 0 l
 
     inside_no_start : (m : Mark) → m ≡ Inside → is_start m ≡ true → ⊥
     inside_no_start m e s = both_ways _ (ap is_start e) s

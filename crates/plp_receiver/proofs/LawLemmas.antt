@@ -1,26 +1,18 @@
 -- The laws of what a PLP is given back together with the common one.
-use Rattle.std.proofs.Common.{◌≡◌, ℕ, List, ◌++◌, Option, Some, None, refl, ap, ap₂, sym, ◌∙◌}
-use Rattle.plp_config.specs.declared.config.Config.{Config}
-use Rattle.site_frame.specs.declared.reading.RecordView.{RecordView}
+use Rattle.std.proofs.Common.{ℕ, List, ◌++◌, Some, None, refl, ap, ap₂, sym, ◌∙◌}
 use Rattle.plp_receiver.specs.Laws.{ReadbackOnce, ReadbackFront}
 use Rattle.common_plp.specs.Laws.{JoinedSlots}
 use Rattle.common_plp.specs.Split.{joined}
 use Rattle.common_plp.proofs.LawLemmas.{has_common}
-use Rattle.plp_receiver.specs.JoinedBack.{JoinedBackWith}
 use Rattle.plp_receiver.specs.JointLaws.{JoinedOnce, JoinedFront}
 
-once_with : ReadbackOnce → (o : Option ℕ) (c : Config) (plp first : ℕ) (views : List RecordView)
-    (packets other : List (List ℕ))
-    → JoinedBackWith o c plp first views packets → JoinedBackWith o c plp first views other → packets ≡ other
-once_with once None c plp first views packets other a b = once c plp first views packets other a b
-once_with once (Some common) c plp first views packets other a b =
+pub joined_once : ReadbackOnce → JoinedOnce
+joined_once once None c plp first views packets other a b = once c plp first views packets other a b
+joined_once once (Some common) c plp first views packets other a b =
     a.packets_are
     ∙ ap₂ joined (once c common first views a.shared b.shared a.back_shared b.back_shared)
     (once c plp first views a.own b.own a.back_own b.back_own)
     ∙ sym b.packets_are
-
-pub joined_once : ReadbackOnce → JoinedOnce
-joined_once once joins c plp first views packets other a b = once_with once joins c plp first views packets other a b
 
 pub joined_front : ReadbackFront → JoinedSlots → JoinedFront
 joined_front front slots None c plp first views more packets all plan inside may a b =

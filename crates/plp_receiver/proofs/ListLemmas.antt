@@ -1,25 +1,11 @@
 -- Lists, from a place on.
 use Rattle.std.proofs.Common.{◌≡◌, ℕ, zero, suc, ◌+◌, ◌<◌, ◌≤◌, List, [], ◌∷◌, ◌++◌, length, drop, Option, Some, None}
-use Rattle.std.proofs.Common.{refl, ap, sym, ◌∙◌, arith}
+use Rattle.std.proofs.Common.{ap, sym, ◌∙◌, arith}
 use Rattle.std.specs.Prelude.{slice_get, MatchOption}
 use Rattle.std.specs.List.{AllZip, range_with_len}
-use Rattle.std.proofs.lemmas.List.{length-drop}
+use Rattle.std.proofs.lemmas.List.{length-drop, drop-drop}
 
 module _ {X : Type 0} where
-  drop_suc : (xs : List X) (k : ℕ) → drop (suc k) xs ≡ drop 1 (drop k xs)
-  drop_suc xs zero = refl
-  drop_suc [] (suc k) = refl
-  drop_suc (x ∷ xs) (suc k) = drop_suc xs k
-
-  drop_one : (xs : List X) (k : ℕ) → drop (k + 1) xs ≡ drop 1 (drop k xs)
-  drop_one xs k = let next : k + 1 ≡ suc k = omega arith in ap (λ (n : ℕ). drop n xs) next ∙ drop_suc xs k
-
-  pub slice_get_drop : (xs : List X) (k i j : ℕ) → j ≡ k + i → slice_get (drop k xs) i ≡ slice_get xs j
-  slice_get_drop xs zero i j e = let same : i ≡ j = omega (arith, e) in ap (slice_get xs) same
-  slice_get_drop [] (suc k) i j e = refl
-  slice_get_drop (x ∷ xs) (suc k) i zero e = absurd (omega (arith, e))
-  slice_get_drop (x ∷ xs) (suc k) i (suc j) e = slice_get_drop xs k i j (omega (arith, e))
-
   -- what the next one is
   pub next_is : (xs rest : List X) (k : ℕ) (x : X) → drop k xs ≡ x ∷ rest → slice_get xs k ≡ Some x
   next_is [] rest zero x e = ap (λ (l : List X). slice_get l 0) e
@@ -30,8 +16,8 @@ module _ {X : Type 0} where
   -- one was gone past, if one was there
   pub gone_past : {A : Type 0} (view : A → X) (xs old new : List X) (k : ℕ) (r : Option A) → old ≡ drop k xs
       → MatchOption r ((old ≡ []) × (new ≡ [])) (λ x. old ≡ view x ∷ new) → new ≡ drop (k + 1) xs
-  gone_past view xs old new k None e n = n.1 ∙ sym (drop_one xs k ∙ ap (drop 1) (sym e ∙ n.0))
-  gone_past view xs old new k (Some a) e n = sym (drop_one xs k ∙ ap (drop 1) (sym e ∙ n))
+  gone_past view xs old new k None e n = n.1 ∙ sym (ap (drop 1) (sym e ∙ n.0)) ∙ drop-drop 1 k xs
+  gone_past view xs old new k (Some a) e n = sym (ap (drop 1) (sym e ∙ n)) ∙ drop-drop 1 k xs
 
   -- one more is left
   pub some_left : {P : Type 0} (xs rest : List X) (k : ℕ) → k < length xs → rest ≡ drop k xs → rest ≡ [] → P

@@ -25,20 +25,27 @@ pub record Before (rule r : SlotRule) (len : ℕ) (held : List ℕ) (kept : Base
   pub at : IsEpoch epoch mark
   pub some : 1 ≤ length bytes
 
-module _ (rule r : SlotRule) (len : ℕ) (held : List ℕ) (kept : Base) (z : List Item) (mark : Mark) (epoch : ℕ) where
+pub before : {rule r : SlotRule} {len : ℕ} {held : List ℕ} {kept : Base} {z : List Item} (mark : Mark) (epoch : ℕ)
+    (bytes : List ℕ) → rule ≡ r → IsSound rule → AssemblerStands r len held kept z → IsEpoch epoch mark
+    → 1 ≤ length bytes → Before rule r len held kept z mark epoch bytes
+before mark epoch bytes same sound stands at some =
+    record { same = same; sound = sound; stands = stands; at = at; some = some }
+
+module _ {rule r : SlotRule} {len : ℕ} {held : List ℕ} {kept : Base} {z : List Item} {mark : Mark} {epoch : ℕ} where
   sound_r : (bytes : List ℕ) → Before rule r len held kept z mark epoch bytes → IsSound r
   sound_r bytes b = subst IsSound b.same b.sound
 
-  next_is : (base : Base) → rule ≡ r → base ≡ next_base rule len kept mark epoch
-      → base ≡ next_base r len kept mark epoch
-  next_is base e h = h ∙ ap (λ (q : SlotRule). next_base q len kept mark epoch) e
+  next_is : {bytes : List ℕ} → Before rule r len held kept z mark epoch bytes → (base : Base)
+      → base ≡ next_base rule len kept mark epoch → base ≡ next_base r len kept mark epoch
+  next_is b base h = h ∙ ap (λ (q : SlotRule). next_base q len kept mark epoch) b.same
 
-  near_is : (base : Base) → base ≡ next_base r len kept mark epoch → IfSome base.slot (λ k. k ≤ 2 ^ 53)
+  near_is : {bytes : List ℕ} → Before rule r len held kept z mark epoch bytes → (base : Base)
+      → base ≡ next_base rule len kept mark epoch → IfSome base.slot (λ k. k ≤ 2 ^ 53)
       → IfSome (next_base r len kept mark epoch).slot (λ k. k ≤ 2 ^ 53)
-  near_is base e h = subst (λ (b : Base). IfSome b.slot (λ k. k ≤ 2 ^ 53)) e h
+  near_is b base e h = subst (λ (b : Base). IfSome b.slot (λ k. k ≤ 2 ^ 53)) (next_is b base e) h
 
-  len_is : rule ≡ r → rule.up_len ≡ r.up_len
-  len_is e = ap (λ (q : SlotRule). q.up_len) e
+  len_is : {bytes : List ℕ} → Before rule r len held kept z mark epoch bytes → rule.up_len ≡ r.up_len
+  len_is b = ap (λ (q : SlotRule). q.up_len) b.same
 
   pub idle_out : (bytes : List ℕ) → Before rule r len held kept z mark epoch bytes → is_idle len mark ≡ true
       → (l : ℕ) (h : List ℕ) (k : Base) → l ≡ 0 → k.slot ≡ None
@@ -60,7 +67,7 @@ module _ (rule r : SlotRule) (len : ℕ) (held : List ℕ) (kept : Base) (z : Li
   over_out [] b base n g i m l h k e f = let s = b.some in absurd (omega (arith, s))
   over_out (v ∷ vs) b base n g i m l h k e f = H.over_stands r (sound_r (v ∷ vs) b) z epoch v vs mark
       len held kept b.stands b.at
-      (near_is base (next_is base b.same n) g) i (let q = len_is b.same in omega (arith, q, m)) l h k e f
+      (near_is b base n g) i (let q = len_is b in omega (arith, q, m)) l h k e f
 
   pub over_gains_out : (bytes : List ℕ) → Before rule r len held kept z mark epoch bytes → (base : Base)
       → base ≡ next_base rule len kept mark epoch → IfSome base.slot (λ k. k ≤ 2 ^ 53) → is_idle len mark ≡ false
@@ -69,7 +76,7 @@ module _ (rule r : SlotRule) (len : ℕ) (held : List ℕ) (kept : Base) (z : Li
   over_gains_out [] b base n g i m h = let s = b.some in absurd (omega (arith, s))
   over_gains_out (v ∷ vs) b base n g i m h = H.over_gains r (sound_r (v ∷ vs) b) z epoch v vs mark len
       held kept b.stands b.at
-      (near_is base (next_is base b.same n) g) i (let q = len_is b.same in omega (arith, q, m)) h
+      (near_is b base n g) i (let q = len_is b in omega (arith, q, m)) h
 
   pub short_out : (bytes : List ℕ) → Before rule r len held kept z mark epoch bytes → (base : Base)
       → base ≡ next_base rule len kept mark epoch → IfSome base.slot (λ k. k ≤ 2 ^ 53) → is_idle len mark ≡ false
@@ -80,8 +87,8 @@ module _ (rule r : SlotRule) (len : ℕ) (held : List ℕ) (kept : Base) (z : Li
   short_out (v ∷ vs) b base n g i m h e =
       subst (λ (k : Base). AssemblerStands r (next_len len mark + length (v ∷ vs)) h k
       (z ++ piece_items mark epoch (v ∷ vs)))
-      (sym (next_is base b.same n)) (H.short_stands r (sound_r (v ∷ vs) b) z epoch v vs mark len held kept b.stands b.at
-      (near_is base (next_is base b.same n) g) i (let q = len_is b.same in omega (arith, q, m)) h e)
+      (sym (next_is b base n)) (H.short_stands r (sound_r (v ∷ vs) b) z epoch v vs mark len held kept b.stands b.at
+      (near_is b base n g) i (let q = len_is b in omega (arith, q, m)) h e)
 
   pub short_gains_out : (bytes : List ℕ) → Before rule r len held kept z mark epoch bytes → (base : Base)
       → base ≡ next_base rule len kept mark epoch → IfSome base.slot (λ k. k ≤ 2 ^ 53) → is_idle len mark ≡ false
@@ -90,13 +97,13 @@ module _ (rule r : SlotRule) (len : ℕ) (held : List ℕ) (kept : Base) (z : Li
   short_gains_out [] b base n g i m h = let s = b.some in absurd (omega (arith, s))
   short_gains_out (v ∷ vs) b base n g i m h = H.short_gains r (sound_r (v ∷ vs) b) z epoch v vs mark
       len held kept b.stands b.at
-      (near_is base (next_is base b.same n) g) i (let q = len_is b.same in omega (arith, q, m)) h
+      (near_is b base n g) i (let q = len_is b in omega (arith, q, m)) h
 
-  slot_is : (base : Base) (h : List ℕ) → base ≡ next_base r len kept mark epoch → rule ≡ r
-      → slot_with base (kept_dnp rule h)
-      ≡ slot_with (next_base r len kept mark epoch) (kept_dnp r h)
-  slot_is base h e f = ap (λ (q : SlotRule). slot_with base (kept_dnp q h)) f
-      ∙ ap (λ (p : Base). slot_with p (kept_dnp r h)) e
+  slot_is : {bytes : List ℕ} → Before rule r len held kept z mark epoch bytes → (base : Base) (h : List ℕ)
+      → base ≡ next_base rule len kept mark epoch
+      → slot_with base (kept_dnp rule h) ≡ slot_with (next_base r len kept mark epoch) (kept_dnp r h)
+  slot_is b base h n = ap (λ (q : SlotRule). slot_with base (kept_dnp q h)) b.same
+      ∙ ap (λ (p : Base). slot_with p (kept_dnp r h)) (next_is b base n)
 
   pub end_out : (bytes : List ℕ) → Before rule r len held kept z mark epoch bytes → (base : Base)
       → base ≡ next_base rule len kept mark epoch → IfSome base.slot (λ k. k ≤ 2 ^ 53) → is_idle len mark ≡ false
@@ -106,8 +113,8 @@ module _ (rule r : SlotRule) (len : ℕ) (held : List ℕ) (kept : Base) (z : Li
   end_out [] b base n g i m h e l any k f s = let s = b.some in absurd (omega (arith, s))
   end_out (v ∷ vs) b base n g i m h e l any k f s =
       H.end_stands r (sound_r (v ∷ vs) b) z epoch v vs mark len held kept b.stands b.at
-      (near_is base (next_is base b.same n) g) i
-      (m ∙ len_is b.same) h e l any k f (s ∙ (slot_is base h (next_is base b.same n) b.same))
+      (near_is b base n g) i
+      (m ∙ len_is b) h e l any k f (s ∙ (slot_is b base h n))
 
   pub end_gains_out : (bytes : List ℕ) → Before rule r len held kept z mark epoch bytes → (base : Base)
       → base ≡ next_base rule len kept mark epoch → IfSome base.slot (λ k. k ≤ 2 ^ 53) → is_idle len mark ≡ false
@@ -118,10 +125,10 @@ module _ (rule r : SlotRule) (len : ℕ) (held : List ℕ) (kept : Base) (z : Li
   end_gains_out [] b base n g i m h e result a = let s = b.some in absurd (omega (arith, s))
   end_gains_out (v ∷ vs) b base n g i m h e result a =
       H.end_gains r (sound_r (v ∷ vs) b) z epoch v vs mark len held kept b.stands b.at
-      (near_is base (next_is base b.same n) g) i
-      (m ∙ len_is b.same) h e result (a ∙ ap (found_of base) (slot_is base h (next_is base b.same n) b.same)
+      (near_is b base n g) i
+      (m ∙ len_is b) h e result (a ∙ ap (found_of base) (slot_is b base h n)
       ∙ ap (λ (p : Base). found_of p (slot_with (next_base r len kept mark epoch) (kept_dnp r h)))
-      (next_is base b.same n))
+      (next_is b base n))
 
 pub front_is : (from len : ℕ) (bytes h old : List ℕ) → from ≡ len → take (from + length bytes) h ≡ take from old
     ++ bytes

@@ -2,6 +2,7 @@
 use Rattle.std.proofs.Common.{◌≡◌, ℕ, ◌+◌, ◌<◌, ◌≤◌, ◌&&◌, Bool, true, false, List, [], ◌∷◌, ◌++◌, length, Option, None}
 use Rattle.std.proofs.Common.{refl, ap, ◌∙◌, sym, arith, inl, inr, append-nil, append_assoc, length-append, cond}
 use Rattle.std.specs.Prelude.{nat_lt, if◌then◌else◌}
+use Rattle.std.proofs.Math.Bool.{and-false}
 use Rattle.std.proofs.lemmas.Bool.{cases_lt, lt-ltb, le-ltb}
 use Rattle.plp_receiver.specs.declared.mark.Mark.{Mark}
 use Rattle.plp_receiver.specs.declared.slot_rule.SlotRule.{SlotRule}
@@ -22,15 +23,11 @@ cannot_end r w x before e =
     (dnp_of r (w ++ x ∷ [])) before) None)
     (ap (λ (l : Item). is_one (w ++ x ∷ []) && l.can_end) (last_push no_item w)
     ∙ ap (λ (b : Bool). is_one (w ++ x ∷ []) && b) e
-    ∙ and_no (is_one (w ++ x ∷ [])))
+    ∙ and-false (is_one (w ++ x ∷ [])))
   where
     last_push : (y : Item) (v : List Item) → last_of y (v ++ x ∷ []) ≡ x
     last_push y [] = refl
     last_push y (u ∷ v) = last_push u v
-
-    and_no : (b : Bool) → (b && false) ≡ false
-    and_no true = refl
-    and_no false = refl
 
 -- the machine over some items, as one turn
 abbrev pub runs : SlotRule → State → List Item → Turn

@@ -1,6 +1,5 @@
 -- What a record tells whose L1 agrees.
-use Rattle.std.proofs.Common.{◌≡◌, ◌&&◌, ◌∙◌, ℕ, Bool, true, List, Option, Some, None, ap, sym, cond}
-use Rattle.std.specs.Prelude.{option_map}
+use Rattle.std.proofs.Common.{◌≡◌, ℕ, Bool, true, List, Option, Some, None, cond}
 use Rattle.cell_map.specs.declared.places.Cell.{Cell}
 use Rattle.frame_groups.specs.Tests.{read_whole, pre_agrees}
 use Rattle.l1_signal.specs.L1Of.{told_shape}
@@ -9,7 +8,7 @@ use Rattle.l1_signal.specs.declared.dynamic.L1Dyn.{L1Dyn}
 use Rattle.plp_config.specs.declared.config.Config.{Config}
 use Rattle.scheduler.specs.Shape.{FrameShape}
 use Rattle.site_frame.specs.Record.{Block}
-use Rattle.frame_groups.specs.Readable.{told_dynamic, post_agrees, shape_agrees, fitting, readable}
+use Rattle.frame_groups.specs.Readable.{told_dynamic, post_agrees, shape_agrees, readable}
 
 pub told_readable : (c : Config) (n : ℕ) (pre post : List Bool) (blocks : List Block) (cells : List (Option Cell))
     (d : L1Dyn)
@@ -19,15 +18,4 @@ pub told_readable : (c : Config) (n : ℕ) (pre post : List Bool) (blocks : List
     → shape ≡ told_shape d → fits ≡ shape_agrees c n blocks cells shape
     → readable c n pre post blocks cells ≡ cond {A = Option FrameShape} fits (Some shape) None
 unfolding readable
-told_readable c n pre post blocks cells d shape fits first behind told is own =
-    ap (λ (b : Bool). either (b && post_agrees c n post)) first
-    ∙ ap either behind
-    ∙ ap (λ (o : Option L1Dyn). fitting c n blocks cells (shape_in o)) told
-    ∙ ap (λ (s : FrameShape). fitting c n blocks cells (Some s)) (sym is)
-    ∙ ap (λ (b : Bool). cond {A = Option FrameShape} b (Some shape) None) (sym own)
-  where
-    shape_in : Option L1Dyn → Option FrameShape
-    shape_in o = option_map told_shape o
-
-    either : Bool → Option FrameShape
-    either b = cond {A = Option FrameShape} b (fitting c n blocks cells (shape_in (told_dynamic c post))) None
+told_readable c n pre post blocks cells d shape fits first behind told is own = rw (first, behind, told, own, is)

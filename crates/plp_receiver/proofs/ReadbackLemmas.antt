@@ -6,6 +6,7 @@ use Rattle.std.specs.Option.{option_or}
 use Rattle.std.specs.List.{AllByRecursion, range_with_len, find, filter, flat_map}
 use Rattle.std.proofs.lemmas.Bool.{cases_lt, false_from_ne_true, and_parts, eqb-true, ltb-true}
 use Rattle.std.proofs.lemmas.List.{map-append}
+use Rattle.std.proofs.lemmas.List.Elements.{filter-append}
 use Rattle.std.proofs.lemmas.List.Folds.{find-append}
 use Rattle.std.proofs.Math.Nat.{mul-le-mul_right}
 use Rattle.terms.proofs.RangeLemmas.{range_append, map_same}
@@ -25,7 +26,7 @@ use Rattle.plp_receiver.specs.SlotsHold.{From, UpTo, Since}
 use Rattle.terms.proofs.AllLemmas.{all_append}
 use Rattle.plp_receiver.proofs.PlaceLemmas.{all_map, begins_up_to, longer, all_of}
 use Rattle.plp_receiver.proofs.TimeLemmas.{last_is_late}
-use Rattle.plp_receiver.proofs.SlotListLemmas.{filter_append, none_found}
+use Rattle.plp_receiver.proofs.SlotListLemmas.{none_found}
 
 -- Epochs of a string.
 
@@ -145,7 +146,7 @@ module _ (r : SlotRule) (sound : IsSound r) where
       mul-le-mul_right r.ticks (last_is_late r sound.spread frame (last_item up.items).epoch f) in
       omega (arith, b, q, out, ap (slot_start r.times.num r.times.den) s))) m.more m.all) in
       ap (λ (l : List UserPacket). find test (filter (counts r) l)) m.packets
-      ∙ ap (find test) (filter_append (counts r) (user_packets r z) m.more)
+      ∙ ap (find test) (filter-append (counts r) (user_packets r z) m.more)
       ∙ find-append test (filter (counts r) (user_packets r z)) (filter (counts r) m.more)
       ∙ ap (option_or (find test (filter (counts r) (user_packets r z)))) none
       ∙ or_none (find test (filter (counts r) (user_packets r z)))

@@ -1,9 +1,10 @@
 -- The cells of a block all stand exactly if none is missed when the record is gone over beside the map.
-use Rattle.std.proofs.Common.{◌≡◌, ℕ, zero, suc, ◌+◌, ◌%◌, ◌<◌, ◌&&◌, ◌==◌, Bool, true, false, List, [], ◌∷◌, length}
+use Rattle.std.proofs.Common.{◌≡◌, ℕ, zero, suc, ◌+◌, ◌%◌, ◌<◌, ◌&&◌, ◌==◌, Bool, true, List, [], ◌∷◌, length}
 use Rattle.std.proofs.Common.{get_or, Option, Some, None, refl, ap, ap₂, sym, subst, ◌∙◌, arith}
 use Rattle.std.specs.Prelude.{slice_get, not, ◌||◌}
 use Rattle.std.specs.FinMap.{get}
 use Rattle.std.specs.List.{list_all, range_with_len}
+use Rattle.std.proofs.Math.Bool.{and-true, and_assoc}
 use Rattle.std.proofs.lemmas.Bool.{and_from, and_parts, eqb-true, eq-eqb, or_right}
 use Rattle.std.proofs.lemmas.List.Folds.{list_all-append}
 use Rattle.terms.proofs.CaseLemmas.{bool_cases, same_test}
@@ -49,17 +50,9 @@ true_each t n f = true_range t 0 n (λ k l. let same : 0 + k ≡ k = omega arith
 from_more : (t : ℕ → Bool) (a n : ℕ) → list_all t (range_with_len a (n + 1)) ≡ (list_all t (range_with_len a n)
     && t (a + n))
 from_more t a n = ap (list_all t) (range_more a n) ∙ list_all-append t (range_with_len a n) ((a + n) ∷ [])
-    ∙ ap (λ (b : Bool). list_all t (range_with_len a n) && b) (whole (t (a + n)))
-  where
-    whole : (b : Bool) → (b && true) ≡ b
-    whole true = refl
-    whole false = refl
+    ∙ ap (λ (b : Bool). list_all t (range_with_len a n) && b) (and-true (t (a + n)))
 
 -- ---- one address more
-and_assoc : (a b d : Bool) → ((a && b) && d) ≡ (a && (b && d))
-and_assoc true b d = refl
-and_assoc false b d = refl
-
 from_split : (t : ℕ → Bool) (a n m : ℕ) → list_all t (range_with_len a (n + m))
     ≡ (list_all t (range_with_len a n) && list_all t (range_with_len (a + n) m))
 from_split t a zero m =
@@ -116,12 +109,8 @@ right_own ordinal None = refl
 right_own ordinal (Some x) =
     let one : (x.ordinal == x.ordinal) ≡ true = eq-eqb x.ordinal x.ordinal refl in
     let other : (x.cell == x.cell) ≡ true = eq-eqb x.cell x.cell refl in
-    second (not (x.ordinal == ordinal)) (is_cell x.ordinal x.cell (Some (Some x)))
+    or_right (not (x.ordinal == ordinal)) (is_cell x.ordinal x.cell (Some (Some x)))
     (and_from (x.ordinal == x.ordinal) (x.cell == x.cell) one other)
-  where
-    second : (a b : Bool) → b ≡ true → (a || b) ≡ true
-    second true b h = refl
-    second false b h = h
 
 pub all_own : (c : Config) (shape : FrameShape) (frame_idx : ℕ) (cells : List (Option Cell)) (ordinal address n : ℕ)
     → ((i : ℕ) → i < n → slice_get cells (address + i) ≡ Some (get (cell_map c shape frame_idx) (address + i)))
@@ -130,10 +119,6 @@ all_own c shape frame_idx cells ordinal address n h = true_range (right_at c sha
     (λ i l. ap (λ (f : Option (Option Cell)). is_right ordinal (get (cell_map c shape frame_idx) (address + i)) f)
     (h i l)
     ∙ right_own ordinal (get (cell_map c shape frame_idx) (address + i)))
-
-pub none_seen : (was : Bool) → was ≡ (was && true)
-none_seen true = refl
-none_seen false = refl
 
 -- ---- all of them
 right_one : (ordinal cell : ℕ) (found : Option (Option Cell))

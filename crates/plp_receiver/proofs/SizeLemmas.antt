@@ -19,7 +19,7 @@ use Rattle.frame_groups.specs.Readable.{BlockSize, coming, has_size, block_sizes
 use Rattle.plp_receiver.specs.Sizes.{size_of, plp_sizes, sizes_from}
 use Rattle.plp_receiver.specs.Taken.{bytes_at}
 use Rattle.plp_receiver.specs.Taking.{HaveLength}
-use Rattle.plp_receiver.proofs.ListLemmas.{slice_get_drop}
+use Rattle.circular_buffer.proofs.Places.{slice_get-drop}
 
 -- ---- one by one
 left_is : (n k : ℕ) → k < n → n - k ≡ suc (n - (k + 1))
@@ -105,7 +105,7 @@ is_later blocks n place len h =
     record {
       inside = omega (arith, i, length-drop n blocks);
       bytes = ap (λ (o : Option Block). length (option_map_or (λ b. b.bytes) o []))
-          (sym (slice_get_drop blocks n place (n + place) refl)) ∙ h.bytes;
+          (sym (slice_get-drop n blocks place (n + place) refl)) ∙ h.bytes;
     }
 
 sum_none : (n : ℕ) → sum (take n []) ≡ 0
@@ -172,7 +172,7 @@ have_length c counts blocks plp e l = (enough (slice_index counts plp) (λ k i. 
     each : (k : ℕ) → k < slice_index counts plp → length (bytes_at (drop front blocks) k) ≡ block_bytes c plp
     each k i =
         ap (λ (o : Option Block). length (option_map_or (λ b. b.bytes) o []))
-        (slice_get_drop blocks front k (front + k) refl)
+        (slice_get-drop front blocks k (front + k) refl)
         ∙ (long k i).bytes
 
 -- those that come of a PLP

@@ -1,5 +1,5 @@
--- Ranges, filters and searches.
-use Rattle.std.proofs.Common.{◌≡◌, ◌≢◌, ℕ, zero, suc, ◌+◌, ◌-◌, ◌<◌, ◌≤◌, Bool, true, false, List, [], ◌∷◌, ◌++◌, map}
+-- Ranges, searches behind a filter, and a place that gets its packet.
+use Rattle.std.proofs.Common.{◌≡◌, ◌≢◌, ℕ, zero, suc, ◌+◌, ◌-◌, ◌<◌, ◌≤◌, Bool, true, false, List, [], ◌∷◌, map}
 use Rattle.std.proofs.Common.{replicate, Option, Some, None, refl, ap, ap₂, ◌∙◌, sym, arith, inl, inr, cond}
 use Rattle.std.specs.List.{AllByRecursion, range_with_len, find, filter}
 use Rattle.std.proofs.lemmas.Bool.{cases_eq}
@@ -13,16 +13,6 @@ map_none f zero a h = refl
 map_none f (suc n) a h =
     ap₂ (λ x l. x ∷ l) (h a (omega arith) (omega arith))
     (map_none f n (a + 1) (λ k l m. h k (omega arith) (omega arith)))
-
-pub filter_append : {X : Type 0} (p : X → Bool) (xs ys : List X) → filter p (xs ++ ys) ≡ filter p xs ++ filter p ys
-filter_append p [] ys = refl
-filter_append {X} p (x ∷ xs) ys = go (p x) (filter_append p xs ys)
-  where
-    go : (b : Bool) → filter p (xs ++ ys) ≡ filter p xs ++ filter p ys
-        → cond b (x ∷ filter p (xs ++ ys)) (filter p (xs ++ ys))
-        ≡ cond b (x ∷ filter p xs) (filter p xs) ++ filter p ys
-    go true h = ap (λ (l : List X). x ∷ l) h
-    go false h = h
 
 -- none of those that pass is the one that is looked for
 pub none_found : {X : Type 0} (p test : X → Bool) (xs : List X) → AllByRecursion (λ x. p x ≡ true → test x ≡ false) xs

@@ -1,7 +1,7 @@
 -- What a receiver stands for, record by record.
 use Rattle.std.proofs.Common.{◌≡◌, ◌≢◌, ℕ, zero, suc, ◌+◌, ◌-◌, ◌%◌, ◌≤◌, ◌==◌, Bool, true, false, List, [], ◌∷◌, ◌++◌}
-use Rattle.std.proofs.Common.{length, Option, Some, refl, ap, sym, subst, ◌∙◌, arith, length-append, eq-eqb}
-use Rattle.std.specs.Prelude.{slice_get, nat_lt, if◌then◌else◌}
+use Rattle.std.proofs.Common.{length, Option, refl, ap, sym, subst, ◌∙◌, arith, length-append, eq-eqb}
+use Rattle.std.specs.Prelude.{nat_lt, if◌then◌else◌}
 use Rattle.std.proofs.lemmas.Bool.{eqb-true, both_ways}
 use Rattle.terms.proofs.CaseLemmas.{bool_cases}
 use Rattle.plp_config.specs.declared.config.Config.{Config}
@@ -97,9 +97,7 @@ record_came c plp old new held mid new_held view first views released some sees 
 pub came_in : (c d : Config) (plp q : ℕ) (new : PacketSlots) (held : HeldBlocks) (first : ℕ) (views : List RecordView)
     (released : ℕ) → d ≡ c → q ≡ plp → Stands c plp new held first views released
     → Stands d q new held first views released
-came_in c d plp q new held first views released same_c same_p s =
-    subst (λ (e : Config). Stands e q new held first views released) (sym same_c)
-    (subst (λ (p : ℕ). Stands c p new held first views released) (sym same_p) s)
+came_in c d plp q new held first views released same_c same_p s = rw (same_c, same_p) s
 
 pub begun : (c : Config) (plp : ℕ) (old new : PacketSlots) (h : HeldBlocks) (first : ℕ) → 1 ≤ spread c.plps plp
     → Fresh c plp old h
@@ -138,35 +136,12 @@ pub given_back : (c : Config) (plp : ℕ) (p : PacketSlots) (h : HeldBlocks) (fi
 given_back c plp p h first views released s =
     record { told = s.told; tells = s.tells; packets_are = refl }
 
-pub due_is : ReadbackOnce → (c : Config) (plp : ℕ) (p : PacketSlots) (h : HeldBlocks) (first : ℕ)
-    (views : List RecordView)
-    (released : ℕ)
-    (packets : List (List ℕ)) (due : ℕ)
-    → Stands c plp p h first views released → Readback c plp first views packets
-    → ((r : SlotRule) (first count : ℕ) (epochs : List Epoch) (released : ℕ)
-    → slots.PacketSlotsStandsFor p r first count epochs released
-    → due ≡ length (readback r first count epochs) - released)
-    → due ≡ length packets - released
-due_is once c plp p h first views released packets due s b answer =
-    answer (slot_rule c plp) first (length views) s.told released s.stands
-    ∙ ap (λ (l : List (List ℕ)). length l - released)
-    (once c plp first views (readback (slot_rule c plp) first (length views) s.told) packets
-    (given_back c plp p h first views released s) b)
-
-pub none_is : ReadbackOnce → (c : Config) (plp : ℕ) (p : PacketSlots) (h : HeldBlocks) (first : ℕ)
-    (views : List RecordView)
-    (released : ℕ)
-    (packets : List (List ℕ))
-    → Stands c plp p h first views released → Readback c plp first views packets
-    → ((r : SlotRule) (first count : ℕ) (epochs : List Epoch) (released : ℕ)
-    → slots.PacketSlotsStandsFor p r first count epochs released
-    → length (readback r first count epochs) ≤ released)
-    → length packets ≤ released
-none_is once c plp p h first views released packets s b answer =
-    subst (λ (l : List (List ℕ)). length l ≤ released)
-    (once c plp first views (readback (slot_rule c plp) first (length views) s.told) packets
-    (given_back c plp p h first views released s) b)
-    (answer (slot_rule c plp) first (length views) s.told released s.stands)
+-- and no others
+pub packets_are : ReadbackOnce → (c : Config) (plp : ℕ) (p : PacketSlots) (h : HeldBlocks) (first : ℕ)
+    (views : List RecordView) (released : ℕ) (packets : List (List ℕ)) (s : Stands c plp p h first views released)
+    → Readback c plp first views packets → readback (slot_rule c plp) first (length views) s.told ≡ packets
+packets_are once c plp p h first views released packets s b =
+    once c plp first views _ packets (given_back c plp p h first views released s) b
 
 pub held_is : (c : Config) (plp : ℕ) (p : PacketSlots) (h : HeldBlocks) (first : ℕ) (views : List RecordView)
     (released held : ℕ) → Stands c plp p h first views released
@@ -181,21 +156,6 @@ held_is c plp p h first views released held s answer =
     come : (n : ℕ) → held_slots (slot_rule c plp) first n ≡ slots_come c plp first n
     come zero = omega arith
     come (suc before) = refl
-
-pub packet_is : ReadbackOnce → (c : Config) (plp : ℕ) (p : PacketSlots) (h : HeldBlocks) (first : ℕ)
-    (views : List RecordView)
-    (released : ℕ)
-    (packets : List (List ℕ)) (out : List ℕ)
-    → Stands c plp p h first views released → Readback c plp first views packets
-    → ((r : SlotRule) (first count : ℕ) (epochs : List Epoch) (released : ℕ)
-    → slots.PacketSlotsStandsFor p r first count epochs released
-    → slice_get (readback r first count epochs) released ≡ Some out)
-    → slice_get packets released ≡ Some out
-packet_is once c plp p h first views released packets out s b answer =
-    sym (ap (λ (l : List (List ℕ)). slice_get l released)
-    (once c plp first views (readback (slot_rule c plp) first (length views) s.told) packets
-    (given_back c plp p h first views released s) b))
-    ∙ answer (slot_rule c plp) first (length views) s.told released s.stands
 
 pub released_or_not : (c : Config) (plp : ℕ) (old new : PacketSlots) (h : HeldBlocks) (first : ℕ)
     (views : List RecordView)

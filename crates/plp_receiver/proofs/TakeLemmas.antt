@@ -1,6 +1,6 @@
 -- Blocks that were taken, one by one.
 use Rattle.std.proofs.Common.{◌≡◌, ℕ, ◌+◌, ◌==◌, ◌&&◌, Bool, true, false, List, [], ◌∷◌, ◌++◌, length}
-use Rattle.std.proofs.Common.{get_or, take, arith, Option, Some, None, sym, subst, append_assoc, append-nil}
+use Rattle.std.proofs.Common.{get_or, take, arith, Option, Some, None, sym, subst, append_assoc}
 use Rattle.std.specs.Cmp.Lexicographic.{pointwise}
 use Rattle.std.proofs.lemmas.Bool.{and_parts, eqb-true}
 use Rattle.std.proofs.lemmas.List.{get_or-take, length-take-le}
@@ -55,15 +55,6 @@ pub record Took (deletes : Bool) (stands : List Bool) (len : ℕ) (bytes : List 
   pub given : AllZip (IsGivenAt deletes stands len bytes) (range_with_len 0 n) told
   pub adds : Adds old new told
 
-pub none_took : (deletes : Bool) (stands : List Bool) (len : ℕ) (bytes : List ℕ) (old : PacketSlots)
-    → Took deletes stands len bytes 0 old old
-none_took deletes stands len bytes old = record {
-  told = [];
-  given = tt;
-  adds = λ r first count epochs before released s.
-      subst (λ (l : List (Option Block)). StandsWithin old r first count epochs l released) (sym (append-nil before)) s;
-}
-
 -- and one more
 pub took_more : (deletes : Bool) (stands : List Bool) (len : ℕ) (bytes : List ℕ) (n : ℕ) (old mid new : PacketSlots)
     (sent : List ℕ) (stand : Bool)
@@ -84,15 +75,6 @@ took_more deletes stands len bytes n old mid new sent stand was at same t = reco
     here : IsGivenAt deletes stands len bytes n t.told
     here = subst (λ (l : List ℕ). IsGiven deletes (get_or stands n false) l t.told) at
         (subst (λ (x : Bool). IsGiven deletes x sent t.told) same t.given)
-
-pub took_all : (deletes : Bool) (stands : List Bool) (len : ℕ) (bytes : List ℕ) (n : ℕ) (old new : PacketSlots)
-    → n ≡ length stands
-    → Took deletes stands len bytes n old new → TakesBlocks deletes stands len bytes old new
-took_all deletes stands len bytes n old new e t = record {
-  told = t.told;
-  given = subst (λ (k : ℕ). AllZip (IsGivenAt deletes stands len bytes) (range_with_len 0 k) t.told) e t.given;
-  adds = t.adds;
-}
 
 -- ---- a whole epoch
 pub epoch_taken : (deletes : Bool) (h : HeldBlocks) (old begun within new : PacketSlots)

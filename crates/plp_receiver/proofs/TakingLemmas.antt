@@ -1,9 +1,8 @@
 -- What is taken of bytes.
-use Rattle.std.proofs.Common.{◌≡◌, ◌⊎◌, ℕ, ◌+◌, ◌*◌, ◌/◌, ◌%◌, ◌==◌, ◌<◌, ◌≤◌, Bool, true, false, List, length, take}
-use Rattle.std.proofs.Common.{drop, get_or, Option, Some, None, refl, ap, ◌∙◌, sym, subst, arith, inl, inr, cond}
-use Rattle.std.specs.Prelude.{if◌then◌else◌, Result, Ok, Err}
-use Rattle.std.proofs.lemmas.Bool.{both_ways, eq-eqb}
-use Rattle.std.proofs.lemmas.List.{get_or-drop, length-take, length-drop}
+use Rattle.std.proofs.Common.{◌≡◌, ℕ, ◌+◌, ◌*◌, ◌/◌, ◌==◌, ◌<◌, ◌≤◌, Bool, List, length, take}
+use Rattle.std.proofs.Common.{drop, get_or, Option, Some, None, ap, ◌∙◌, sym, subst, arith}
+use Rattle.std.specs.Prelude.{if◌then◌else◌, Result, Ok}
+use Rattle.std.proofs.lemmas.List.{get_or-drop}
 use Rattle.terms.specs.Bits.{bits_of, bytes_of, part}
 use Rattle.terms.proofs.BitLemmas.{length-bits_of, bytes_of-bits_of, part-bits_of, small_take}
 use Rattle.bb_frame.specs.BasebandFrame.{Spells}
@@ -12,7 +11,6 @@ use Rattle.bb_frame.specs.Laws.{BitCounts}
 use Rattle.bb_frame.specs.declared.fault.BbFault.{BbFault}
 use Rattle.bb_frame.specs.declared.reading.BbView.{BbView}
 use Rattle.plp_receiver.specs.Strings.{Block}
-use Rattle.plp_receiver.specs.TakenBlocks.{IsPlace}
 use Rattle.plp_receiver.specs.Taken.{IsOfStream, IsTaken}
 use Rattle.plp_receiver.proofs.SpelledLemmas.{field_behind}
 
@@ -55,26 +53,7 @@ taken_is counts bytes small h body s deletes stream = record {
       (sym (field_is counts bytes small h body s).1);
 }
 
--- the first user packet begins in the data field
-pub place_is : BitCounts → (bytes : List ℕ) → ((k : ℕ) → get_or bytes k 0 < 256) → (h : Header) (body : List Bool)
-    → Spells h body (bits_of bytes)
-    → IsPlace (if h.syncd == 65535 then None else Some (h.syncd / 8)) (h.dfl / 8)
-place_is counts bytes small h body s = go (h.syncd == 65535) refl s.describes.sync
-  where
-    go : (b : Bool) → (h.syncd == 65535) ≡ b → (h.syncd ≡ 65535) ⊎ ((h.syncd % 8 ≡ 0) × (h.syncd < h.dfl))
-        → IsPlace (cond b None (Some (h.syncd / 8))) (h.dfl / 8)
-    go true e p = tt
-    go false e (inl p) = absurd (both_ways _ e (eq-eqb h.syncd 65535 p))
-    go false e (inr p) = let d = s.describes.bytes in omega (arith, p.0, p.1, d)
-
 -- what was read is what the bits spell
 pub same_matype : (r : Result BbView BbFault) (view : BbView) (h : Header) (body : List Bool) → r ≡ Ok view
     → r ≡ Ok (record { header = h; field = body }) → h.matype1 ≡ view.header.matype1
-same_matype r view h body e f = ap matype (sym f ∙ e)
-  where
-    matype : Result BbView BbFault → ℕ
-    matype (Ok v) = v.header.matype1
-    matype (Err fault) = 0
-
-pub field_len : (bytes : List ℕ) (n : ℕ) → 10 + n ≤ length bytes → length (take n (drop 10 bytes)) ≡ n
-field_len bytes n l = omega (arith, length-take n (drop 10 bytes), length-drop 10 bytes, l)
+same_matype r view h body e f = cc

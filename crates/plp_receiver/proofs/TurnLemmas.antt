@@ -1,7 +1,7 @@
 -- One item of the machine: the user packets that a string gains by one item are those that the machine gives.
-use Rattle.std.proofs.Common.{◌≡◌, ◌≢◌, ℕ, ◌+◌, ◌-◌, ◌<◌, ◌≤◌, Bool, true, false, List, [], ◌∷◌, ◌++◌, length, take}
+use Rattle.std.proofs.Common.{◌≡◌, ◌≢◌, ℕ, ◌+◌, ◌-◌, ◌<◌, ◌≤◌, true, false, List, [], ◌∷◌, ◌++◌, length, take}
 use Rattle.std.proofs.Common.{drop, Option, None, refl, ap, ap₂, ◌∙◌, sym, subst, arith, inl, inr, append-nil}
-use Rattle.std.proofs.Common.{append_assoc, length-append, length-drop, length-take, cond}
+use Rattle.std.proofs.Common.{append_assoc, length-append, length-drop, length-take}
 use Rattle.std.proofs.lemmas.Bool.{cases_lt, lt-ltb, le-ltb}
 use Rattle.std.proofs.lemmas.List.{drop-append-le, drop_at, drop_all, drop-drop, take-append-drop}
 use Rattle.plp_receiver.specs.declared.mark.Mark.{Mark}
@@ -202,14 +202,8 @@ module _ (r : SlotRule) (two : 2 ≤ r.up_len) (z : List Item) (b : Item) where
     grows : Turned (grown r (held ++ b ∷ []) before)
     grows =
         elim (cases_lt (length (held ++ b ∷ [])) r.up_len) [
-          | inl lt ↦
-              subst Turned
-              (sym (ap (λ (t : Bool). cond {A = Turn} t (turn_of (state_of (held ++ b ∷ []) before) [])
-              (ended r (held ++ b ∷ []) before)) (lt-ltb _ _ lt))) (goes_on (omega (arith, longer)))
-          | inr ge ↦
-              subst Turned
-              (sym (ap (λ (t : Bool). cond {A = Turn} t (turn_of (state_of (held ++ b ∷ []) before) [])
-              (ended r (held ++ b ∷ []) before)) (le-ltb _ _ ge)))
+          | inl lt ↦ rw (lt-ltb (length (held ++ b ∷ [])) r.up_len lt) (goes_on (omega (arith, longer)))
+          | inr ge ↦ rw (le-ltb (length (held ++ b ∷ [])) r.up_len ge)
               (completes (let s = f.short in omega (arith, longer, s)))
         ]
 

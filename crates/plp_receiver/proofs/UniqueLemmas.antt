@@ -1,6 +1,6 @@
 -- A PLP is given back one list of packets: its rule is one, and records tell one thing.
-use Rattle.std.proofs.Common.{◌≡◌, ℕ, suc, ◌+◌, ◌-◌, ◌/◌, ◌==◌, ◌<◌, ◌≤◌, Bool, true, false, List, [], ◌∷◌, ◌++◌}
-use Rattle.std.proofs.Common.{length, Option, Some, None, refl, ap, ap₂, sym, ◌∙◌, subst, cond, arith, length-append}
+use Rattle.std.proofs.Common.{◌≡◌, ℕ, ◌+◌, ◌-◌, ◌/◌, ◌<◌, ◌≤◌, Bool, true, false, List, [], ◌∷◌, ◌++◌}
+use Rattle.std.proofs.Common.{length, Option, Some, None, refl, ap, ap₂, sym, ◌∙◌, subst, arith, length-append}
 use Rattle.std.specs.List.{AllZip, range_with_len}
 use Rattle.terms.specs.Bits.{bits_of, bytes_of}
 use Rattle.bb_frame.specs.Scrambled.{scrambled}
@@ -8,6 +8,7 @@ use Rattle.bb_frame.specs.declared.header.Header.{Header}
 use Rattle.bb_frame.specs.Laws.{BitCounts}
 use Rattle.plp_config.specs.Capacity.{IsPlan}
 use Rattle.plp_config.specs.Laws.{FrameTicks, SoundTimes, SpreadDividesFrames, UserPacketRange}
+use Rattle.std.proofs.lemmas.Slice.Zip.{AllZip-long}
 use Rattle.std.proofs.lemmas.List.FromFn.{length-range_with_len}
 use Rattle.terms.proofs.RangeLemmas.{range_append}
 use Rattle.plp_config.specs.Plps.{plp_at}
@@ -16,7 +17,6 @@ use Rattle.site_frame.specs.declared.reading.RecordView.{RecordView}
 use Rattle.plp_receiver.specs.SlotLaws as slots
 use Rattle.plp_receiver.specs.SlotEpochs.{Epoch, HaveEnded, epoch_with, readback}
 use Rattle.plp_receiver.specs.Strings.{Block}
-use Rattle.bb_frame.specs.declared.header.TheConstants.{NO_START}
 use Rattle.plp_config.specs.Plps.{spread}
 use Rattle.plp_receiver.specs.Sound.{IsSound}
 use Rattle.plp_receiver.specs.Parts.{Part, count_of}
@@ -30,16 +30,7 @@ use Rattle.plp_receiver.proofs.SpelledLemmas.{spelled_once}
 same_block : (h k : Header) (field other : List ℕ) → h.syncd ≡ k.syncd → h.issy ≡ k.issy → field ≡ other
     → block_read h field
     ≡ block_read k other
-same_block h k field other s i f =
-    ap (λ (n : ℕ). block_with n h.issy field) s ∙ ap (λ (n : ℕ). block_with k.syncd n field) i
-    ∙ ap (block_with k.syncd k.issy) f
-  where
-    block_with : ℕ → ℕ → List ℕ → Block
-    block_with syncd issy field = record {
-      first = cond (syncd == NO_START) None (Some (syncd / 8));
-      issy = issy;
-      field = field;
-    }
+same_block h k field other s i f = rw (s, i, f)
 
 taken_once : BitCounts → (deletes : Bool) (bits : List Bool) (b other : Block) → IsTaken deletes bits b
     → IsTaken deletes bits other → b ≡ other
@@ -73,12 +64,6 @@ zip_once R one (x ∷ xs) [] zs s t = absurd s
 zip_once R one (x ∷ xs) (y ∷ ys) [] s t = absurd t
 zip_once R one (x ∷ xs) (y ∷ ys) (z ∷ zs) s t =
     ap₂ (λ (v : _) (l : _). v ∷ l) (one x y z s.0 t.0) (zip_once R one xs ys zs s.1 t.1)
-
-zip_length : {A B : Type 0} (R : A → B → Type 0) (xs : List A) (ys : List B) → AllZip R xs ys → length xs ≡ length ys
-zip_length R [] [] z = refl
-zip_length R [] (y ∷ ys) z = absurd z
-zip_length R (x ∷ xs) [] z = absurd z
-zip_length R (x ∷ xs) (y ∷ ys) z = ap suc (zip_length R xs ys z.1)
 
 -- what is in step with two lists is two lists
 zip_split : {A B : Type 0} (R : A → B → Type 0) (xs more : List A) (ys : List B) → AllZip R (xs ++ more) ys
@@ -133,7 +118,7 @@ unfolding TellAll
 told_ended c plp first views told some t =
     let s : ℕ = spread c.plps plp in
     let low = epoch_rises s first (first + length views) some (omega arith) in
-    let long = zip_length (λ m e. Tells c plp (epoch_parts c plp first views m) e)
+    let long = AllZip-long (λ m e. Tells c plp (epoch_parts c plp first views m) e)
     (epochs_in s first (length views)) told t in
     let size : length (epochs_in s first (length views)) ≡ (first + length views) / s - first / s =
     length-range_with_len (first / s) ((first + length views) / s - first / s) in

@@ -6,7 +6,9 @@ use Rattle.std.specs.Prelude.{nat_lt, nat_le, option_map, min}
 use Rattle.std.specs.Option.{option_or}
 use Rattle.std.specs.List.{range_with_len, find, filter}
 use Rattle.std.proofs.lemmas.List.{map-append}
+use Rattle.std.proofs.lemmas.List.Elements.{filter-append}
 use Rattle.std.proofs.lemmas.List.Folds.{find-append}
+use Rattle.std.proofs.Math.Bool.{and-false}
 use Rattle.std.proofs.lemmas.Bool.{cases_lt, false_from_ne_true, eqb-true, le-ltb}
 use Rattle.std.proofs.lemmas.Option.{none-some}
 use Rattle.terms.proofs.RangeLemmas.{range_append, map_same}
@@ -22,7 +24,7 @@ use Rattle.plp_receiver.specs.Packets.{UserPacket, user_packets, packet_of}
 use Rattle.plp_receiver.specs.Readback.{counts_by, counts, counted, found_for, slot_option}
 use Rattle.plp_receiver.specs.Filling.{filled}
 use Rattle.plp_receiver.specs.SlotsHold.{Shows, UpTo}
-use Rattle.plp_receiver.proofs.SlotListLemmas.{map_none, filter_append, put_list}
+use Rattle.plp_receiver.proofs.SlotListLemmas.{map_none, put_list}
 use Rattle.plp_receiver.proofs.ReadbackLemmas.{none_yet}
 
 abbrev packet_of_up : UserPacket → List ℕ
@@ -71,7 +73,7 @@ module _ (r : SlotRule) (z w : List Item) (up : UserPacket) (gains : user_packet
     ++ up ∷ []) where
   counted_more : (b : Bool) → counts r up ≡ b → counted r w ≡ counted r z ++ cond b (up ∷ []) []
   unfolding counted
-  counted_more b e = ap (filter (counts r)) gains ∙ filter_append (counts r) (user_packets r z) (up ∷ [])
+  counted_more b e = ap (filter (counts r)) gains ∙ filter-append (counts r) (user_packets r z) (up ∷ [])
       ∙ ap (λ (t : Bool). filter (counts r) (user_packets r z) ++ cond {A = List UserPacket} t (up ∷ []) []) e
 
   -- One ends that does not count.
@@ -142,10 +144,6 @@ released r z first end slots l h =
     h.slots_are ∙ ap (λ (n : ℕ). map (slot_option r z) (range_with_len first n)) e in
     (ap (λ (s : List (Option (List ℕ))). get_or s 0 None) f, record { order = omega arith; slots_are = ap (drop 1) f })
 
-and_no : (b : Bool) → (b && false) ≡ false
-and_no true = refl
-and_no false = refl
-
 -- A slot that no range reaches does not count, whatever stands for it.
 pub same_test : (r : SlotRule) (delay slot begun ended : ℕ) → over_by r.times begun < 2 ^ 53
     → counts_by r delay (min slot far) begun ended ≡ counts_by r delay slot begun ended
@@ -160,4 +158,4 @@ same_test r delay slot begun ended l =
         ap (λ (t : Bool).
         nat_le (over_by r.times (begun - 1)) k && (t && nat_lt (last_frame r ended * r.ticks)
         (slot_start r.times.num r.times.den k + delay))) (le-ltb k (over_by r.times begun) m)
-        ∙ and_no (nat_le (over_by r.times (begun - 1)) k)
+        ∙ and-false (nat_le (over_by r.times (begun - 1)) k)

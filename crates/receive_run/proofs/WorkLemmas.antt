@@ -10,7 +10,6 @@ use Rattle.std.proofs.lemmas.Option.{same_Some}
 use Rattle.terms.proofs.OptionLemmas.{none_some}
 use Rattle.plp_config.specs.Rules.{AllRules}
 use Rattle.plp_config.specs.declared.config.Config.{Config}
-use Rattle.plp_config.specs.declared.moment.TheConstants.{MOST_FRAMES}
 use Rattle.site_frame.specs.Laws.{OneRecord, NoRefusal, OneFrame}
 use Rattle.site_frame.specs.RecordFile.{AreRecords, IsOnGrid, EndsWithin, bytes_before}
 use Rattle.site_frame.specs.declared.fault.RecordWhy.{RecordWhy}
@@ -141,18 +140,6 @@ packets_cut : (packets : List (List ℕ)) (n : ℕ) → concat packets ≡ conca
 packets_cut packets n = ap concat (sym (take-append-drop n packets)) ∙ concat-append (take n packets) (drop n packets)
 
 -- ---- a machine
-
--- the first record is of a frame whose number one may have
-pub first_early : (start now : ReceiverMachine) (events : List Event) → Becomes start events now → (n : ℕ)
-    → now.first ≡ Some n
-    → n < MOST_FRAMES
-first_early start now events b n is = go b.shown.views b.shown.first_is b.shown.successive
-  where
-    go : (views : List RecordView) → now.first ≡ first_of b.shown.first views
-        → IsOnGrid (network_of start.receiver) b.shown.first views
-        → n < MOST_FRAMES
-    go [] e a = none_some n (sym e ∙ is)
-    go (v ∷ vs) e a = let f = same_Some b.shown.first n (sym e ∙ is) in let s = a.small in omega (arith, f, s)
 
 -- nothing may be joined
 pub may_none : (c : Config) (plp : ℕ) → MayJoin c plp None

@@ -1,7 +1,7 @@
 -- The packets that are left of a frame of which a PLP is replaced, one by one.
-use Rattle.std.proofs.Common.{◌≡◌, ℕ, ◌%◌, ◌<◌, ◌≤◌, ◌==◌, Bool, true, false, List, [], ◌∷◌, length, refl, ap, sym}
+use Rattle.std.proofs.Common.{◌≡◌, ℕ, ◌<◌, ◌≤◌, Bool, true, false, List, [], length, ap, sym}
 use Rattle.std.proofs.Common.{subst, ◌∙◌, arith, inl, inr}
-use Rattle.std.specs.Prelude.{slice_index_or, if◌then◌else◌}
+use Rattle.std.specs.Prelude.{slice_index_or}
 use Rattle.std.proofs.lemmas.Bool.{cases_eq, cases_lt}
 use Rattle.std.proofs.lemmas.List.{get_or-set_same, get_or-set_other, get_or_past}
 use Rattle.std.proofs.lemmas.List.Elements.{All-get_or}
@@ -12,17 +12,8 @@ use Rattle.linked_pool.specs.Pool.{list_at}
 use Rattle.l1_signal.specs.declared.lengths.TheConstants.{MOST_DYN_BITS}
 use Rattle.mode_adapt.specs.Place.{AreShort}
 use Rattle.gateway_core.specs.Lists.{AllShort}
-use Rattle.t2mi_packet.specs.declared.packet.Body.{Body}
-use Rattle.t2mi_packet.specs.declared.packet.Body.TheVariants.{Timestamp}
-use Rattle.frame_writer.specs.FirstPacket.{first_step, from_step}
-use Rattle.frame_writer.specs.FramePackets.{stamp_of, l1_body}
-use Rattle.frame_writer.specs.declared.step.FrameStep.{FrameStep}
-use Rattle.frame_writer.specs.declared.step.FrameStep.TheVariants as step
-use Rattle.frame_writer.specs.Left.{CanBeSent, blocks_left}
-use Rattle.frame_writer.specs.Bodies.{list_bodies, pool_bodies}
-use Rattle.frame_writer.proofs.PlaceLemmas.{from_first}
-use Rattle.region_swap.specs.Left.{own_list, lists_in, left_by, IsOver, HasLists, HasWalks, CanBuild}
-use Rattle.region_swap.specs.declared.place.SwapPlace.{SwapPlace}
+use Rattle.frame_writer.specs.Left.{CanBeSent}
+use Rattle.region_swap.specs.Left.{own_list, lists_in, HasLists, HasWalks, CanBuild}
 use Rattle.region_swap.specs.declared.place.SwapSource.{SwapSource}
 use Rattle.region_swap.specs.declared.place.SwappedFrame.{SwappedFrame}
 
@@ -85,26 +76,3 @@ can_build c s f early inside can dynamic list region short walks =
       walks = walks;
       short = all_short c f lists can (short f.list);
     }
-
--- ---- from the first packet on
-
-first_is : (c : Config) (n : ℕ) (signal : Body) (rest : List Body) (t : Bool)
-    → from_step c n (if t then step.Stamp else step.Signal) signal rest ≡ (if t then Timestamp (stamp_of c n)
-    ∷ signal ∷ rest else signal ∷ rest)
-first_is c n signal rest true = refl
-first_is c n signal rest false = refl
-
-pub all_left : (c : Config) (n : ℕ) (pre conf dynamic : List Bool) (lists : List (List (List ℕ)))
-    → left_by c (record { number = n; step = first_step c n; plp = 0; place = 0 }) pre conf dynamic lists
-    ≡ pool_bodies c n pre conf dynamic lists
-all_left c n pre conf dynamic lists =
-    let signal : Body = l1_body c n pre conf dynamic in
-    ap (from_step c n (first_step c n) signal) (sym (from_first c (n % c.frames) 0 lists))
-    ∙ first_is c n signal (list_bodies c (n % c.frames) 0 lists) (n % c.frames == 0)
-
--- nothing is left of a place that is over
-pub over_left : (c : Config) (p : SwapPlace) (pre conf dynamic : List Bool) (lists : List (List (List ℕ))) → IsOver p
-    → left_by c p pre conf dynamic lists ≡ []
-over_left c p pre conf dynamic lists over = ap (λ (step : FrameStep). from_step c p.number step
-    (l1_body c p.number pre conf dynamic)
-    (blocks_left c (p.number % c.frames) p.plp p.place lists)) over

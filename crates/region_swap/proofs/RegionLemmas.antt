@@ -1,6 +1,6 @@
 -- A region takes packets, ends frames and leaves their blocks.
 use Rattle.std.proofs.Common.{◌≡◌, ◌≢◌, ℕ, zero, suc, inl, inr, ◌+◌, ◌-◌, ◌<◌, ◌≤◌, Bool, true, false, cond, List, []}
-use Rattle.std.proofs.Common.{length, map, is_some, refl, ap, sym, subst, ◌∙◌, arith}
+use Rattle.std.proofs.Common.{length, is_some, refl, ap, sym, subst, ◌∙◌, arith}
 use Rattle.std.proofs.Math.Logic.{∥∥₁_map}
 use Rattle.std.proofs.lemmas.Bool.{cases_eq}
 use Rattle.std.proofs.lemmas.List.{length-map, get_or-set_same, get_or-set_other, length-set}
@@ -39,10 +39,9 @@ still i c plp t early some h = (wants i.total t.ended (length t.packets) (i.due 
 none_fits : (c : Config) (plp : ℕ) (blocks : List (List ℕ)) → blocks ≡ [] → ListFits c plp blocks
 none_fits c plp blocks e = subst (ListFits c plp) (sym e) (record { few = omega arith; short = All-nil _ })
 
-pub has_place : (i : Input) (pool : State) (sends : Bool) (next count : ℕ) (c : Config) (plp : ℕ)
-    → Serves i pool sends next count c plp
-    → HasPlace c plp pool plp
-has_place i pool sends next count c plp s = record {
+pub has_place : {i : Input} {pool : State} {sends : Bool} {next count : ℕ} {c : Config} {plp : ℕ}
+    → Serves i pool sends next count c plp → HasPlace c plp pool plp
+has_place {i} {pool} {sends} {next} {count} {c} {plp} s = record {
   enough = (let e = s.chunks in omega (arith, e));
   lists = s.lists;
   place = refl;
@@ -50,22 +49,23 @@ has_place i pool sends next count c plp s = record {
 }
 
 -- a region whose list is free is ready for its packets
-pub supplied : (i : Input) (pool : State) (sends : Bool) (next count : ℕ) (c : Config) (plp : ℕ) → sends ≡ false
+pub supplied : {i : Input} {pool : State} {sends : Bool} {next count : ℕ} {c : Config} {plp : ℕ} → sends ≡ false
     → Serves i pool sends next count c plp → ∥ IsSupplied i pool plp ∥₁
-supplied i pool sends next count c plp free s = ∥∥₁_map s.told (λ (h : HasTold i pool sends next count c plp). record {
-  config = c;
-  plp = plp;
-  told = h.told;
-  place = has_place i pool sends next count c plp s;
-  fed = subst (λ (b : Bool). IsFed i c plp h.told (early_in b pool plp)) free h.stands.fed;
-})
+supplied {i} {pool} {sends} {next} {count} {c} {plp} free s =
+    ∥∥₁_map s.told (λ (h : HasTold i pool sends next count c plp). record {
+      config = c;
+      plp = plp;
+      told = h.told;
+      place = has_place s;
+      fed = rw free at h.stands.fed;
+    })
 
--- the same with one list changed
-pub serves_on : (i j : Input) (was is : State) (sends b : Bool) (next m count n : ℕ) (c : Config) (plp : ℕ)
-    → Others was is plp
-    → (AllShort was → AllShort is) → most j ≡ most i → n ≤ (plp_at c.plps plp).blocks → ∥ HasTold j is b m n c plp ∥₁
+-- the same with one list changed, and with what it was told
+pub serves_on : {i j : Input} {was is : State} {sends b : Bool} {next m count n : ℕ} {c : Config} {plp : ℕ}
+    → Others was is plp → (AllShort was → AllShort is) → most j ≡ most i → n ≤ (plp_at c.plps plp).blocks
+    → (to : Told → Told) → ((t : Told) → Supplies i was sends next count c plp t → Supplies j is b m n c plp (to t))
     → Serves i was sends next count c plp → Serves j is b m n c plp
-serves_on i j was is sends b next m count n c plp o short same few told s = record {
+serves_on {i} {j} {was} {is} {sends} {b} {next} {m} {count} {n} {c} {plp} o short same few to stands s = record {
   place = s.place;
   lists = o.count ∙ s.lists;
   chunks = o.opened ∙ s.chunks;
@@ -73,7 +73,8 @@ serves_on i j was is sends b next m count n c plp o short same few told s = reco
   short = short s.short;
   most_is = same ∙ s.most_is;
   few = few;
-  told = told;
+  told = ∥∥₁_map s.told (λ (h : HasTold i was sends next count c plp).
+      record { told = to h.told; stands = stands h.told h.stands });
 }
 
 pub same_lists : (pool : State) (plp : ℕ) → Others pool pool plp
@@ -87,10 +88,9 @@ pub supplies_offer : (i j : Input) (was is : State) (sends : Bool) (next count :
     → (IsFed i c plp t (bits_in was plp) → IsFed j c plp (with_packet t packet) (bits_in is plp))
     → Supplies i was sends next count c plp t → Supplies j is sends next count c plp (with_packet t packet)
 supplies_offer i j was is sends next count c plp t packet free some fed s =
-    let here : IsFed i c plp t (bits_in was plp) = subst (λ (b : Bool). IsFed i c plp t (early_in b was plp))
-    free s.fed in
+    let here : IsFed i c plp t (bits_in was plp) = rw free at s.fed in
     record {
-      fed = subst (λ (b : Bool). IsFed j c plp (with_packet t packet) (early_in b is plp)) (sym free) (fed here);
+      fed = rw free (fed here);
       next_is = s.next_is;
       stays = λ input more off. s.stays input (cont_packet t packet input (still i c plp t (bits_in was plp) some here)
           more) off;
@@ -189,9 +189,7 @@ pub supplies_leave : (i : Input) (pool is : State) (sends : Bool) (next count : 
     → is ≡ cleared pool plp → plp < length pool.lists → sends ≡ true → Supplies i pool sends next count c plp t
     → Supplies i is false next count c plp t
 supplies_leave i pool is sends next count c plp t e lt on s = record {
-  fed = subst (λ (l : List (List Bool)). IsFed i c plp t l)
-      (sym (ap (λ (p : State). bits_in p plp) e ∙ ap (map bits_of) (cleared_here pool plp lt)))
-      (subst (λ (b : Bool). IsFed i c plp t (early_in b pool plp)) on s.fed);
+  fed = rw (e, cleared_here pool plp lt) (rw on at s.fed);
   next_is = s.next_is;
   stays = s.stays;
 }
@@ -210,8 +208,7 @@ pub supplies_open : (i : Input) (pool : State) (c : Config) (plp chunks lists : 
     → IsFed i c plp (record { packets = []; ended = false; frame = 0 }) []
     → Supplies i pool false 0 0 c plp (record { packets = []; ended = false; frame = 0 })
 supplies_open i pool c plp chunks lists e fed = record {
-  fed = subst (λ (l : List (List Bool)). IsFed i c plp (record { packets = []; ended = false; frame = 0 }) l)
-      (sym (ap (λ (p : State). bits_in p plp) e ∙ ap (map bits_of) (empty_list chunks lists plp))) fed;
+  fed = rw (e, empty_list chunks lists plp) fed;
   next_is = refl;
   stays = λ input more off. absurd (let z : true ≡ false = sym (begins_at_once c plp) ∙ off in cc);
 }

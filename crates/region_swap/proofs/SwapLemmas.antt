@@ -65,13 +65,7 @@ begun c plp old new frames f input m n k gone left rest given none h number is f
     let more : Flows old c f.number bodies (before ++ of_frame f.number bodies) given =
     carries_more (PiperStandsFor old.piper) (is_finished old.piper) (rest_of old) old.packet_count c
     m f.number gone bodies before given none h in
-    let pushed : Flows old c f.number bodies all given =
-    subst (λ (l : List (ℕ × Body)). Flows old c f.number bodies l given) (sym (bodies_push c plp input frames f))
-    more in
-    let began : Flows old c n left all given =
-    subst (λ (j : ℕ). Flows old c j left all given) (sym number)
-    (subst (λ (l : List Body). Flows old c f.number l all given) (sym is) pushed) in
-    subst (λ (j : ℕ). Flows new c j rest all given) (sym same) (feeds all given began)
+    rw same (feeds all given (rw (number, is, bodies_push c plp input frames f) more))
 
 -- ---- what is wanted
 
@@ -213,15 +207,9 @@ begin_made law c plp r q dynamic flow place number true t left frames given view
     absurd (let z : true ≡ false = off in cc)
 begin_made law c plp r q dynamic flow place number false t left frames given view f input plan inside
     off held gives made h more =
-    let g : GivesFrame q c plp number input =
-    subst (λ (n : ℕ). GivesFrame q c plp n input) (sym h.number_is) (gives t h.supplied input more) in
+    let g : GivesFrame q c plp number input = rw h.number_is (gives t h.supplied input more) in
     law c plp number view f input dynamic (own_list q.sends q.blocks plp) plan inside held
-    (subst (λ (k : ℕ). IsMade c number plp k f.dynamic dynamic) g.count_is made)
-    (own_bits q.sends q.blocks plp ∙ g.blocks)
-
--- what is said of the parts of a swapper is so of the network and the place that it stands for
-pub to_told : (P : Config → ℕ → Type 0) (p c : Config) (j k : ℕ) → p ≡ c → j ≡ k → P p j → P c k
-to_told P p c j k e f x = subst (λ (y : Config). P y k) e (subst (λ (n : ℕ). P p n) f x)
+    (rw g.count_is at made) (own_bits q.sends q.blocks plp ∙ g.blocks)
 
 -- ---- for who holds a swapper
 
@@ -230,5 +218,5 @@ pub wants_told : (s : Swapper) (c : Config) (plp : ℕ) (t : Told) (left : List 
     → SwapperStandsFor s c plp t left frames given → wants_of s ≡ wants_by c plp t
 unfolding SwapperStandsFor
 wants_told s c plp t left frames given h =
-    to_told (λ (k : Config) (j : ℕ). wants_of s ≡ wants_by k j t) s.plan.now c s.list plp h.0 h.1
+    rw (sym h.0, sym h.1)
     (wants_is s.plan.now s.list s.region s.flow s.place s.number s.begun t left frames given h.2)

@@ -1,9 +1,8 @@
 -- What a dynamic part tells is what was read of it.
-use Rattle.std.proofs.Common.{◌≡◌, ℕ, Bool, true, false, List, [], Option, Some, None, cond, refl, ap, sym, ◌∙◌}
+use Rattle.std.proofs.Common.{◌≡◌, ℕ, Bool, true, List, [], Option, Some, None, refl, ap, ◌∙◌}
 use Rattle.std.proofs.Common.{is_some, arith}
 use Rattle.std.specs.Prelude.{option_map, slice_index}
 use Rattle.std.specs.Option.{option_map_or}
-use Rattle.std.proofs.lemmas.Bool.{true≢false}
 use Rattle.std.proofs.lemmas.Option.{same_Some}
 use Rattle.terms.proofs.OptionLemmas.{none_some}
 use Rattle.scheduler.specs.Shape.{FrameShape}
@@ -14,12 +13,6 @@ use Rattle.frame_groups.specs.TestLaws.{MapPasses}
 use Rattle.stream_laws.proofs.PassedLemmas.{Passed, passed}
 use Rattle.region_swap.specs.Laws.{HeldTells}
 use Rattle.region_swap.specs.Telling.{told_by}
-
--- it was read
-pub reads : (o : Option L1Dyn) (b : Bool) (rows : L1Dyn) → o ≡ cond b (Some rows) None → is_some o ≡ true
-    → o ≡ Some rows
-reads o true rows e some = e
-reads o false rows e some = absurd (true≢false (sym some ∙ ap is_some e))
 
 some_told : (o : Option L1Dyn) (s : FrameShape) → option_map told_shape o ≡ Some s → is_some o ≡ true
 some_told None s e = none_some s e

@@ -1,5 +1,5 @@
 -- What comes of a run of which all units are kept: the bytes that the gateway writes, and the frames of the run.
-use Rattle.std.proofs.Common.{◌≡◌, ◌≢◌, ◌⊎◌, inl, inr, ℕ, zero, suc, ◌+◌, ◌<◌, ◌≤◌, ◌==◌, Bool, true, List, [], ◌∷◌}
+use Rattle.std.proofs.Common.{◌≡◌, ◌≢◌, ◌⊎◌, inl, inr, ℕ, zero, suc, ◌+◌, ◌<◌, ◌≤◌, Bool, true, List, [], ◌∷◌}
 use Rattle.std.proofs.Common.{◌++◌, map, length, replicate, Some, None, refl, ap, ap₂, sym, subst, ◌∙◌, ⊎_elim, arith}
 use Rattle.std.proofs.Math.Path.{fun_ext}
 use Rattle.std.specs.List.{items_where_true, last_or, list_all}
@@ -12,7 +12,7 @@ use Rattle.ts_packet.specs.TsFile.{joined}
 use Rattle.t2mi_stream.specs.Pipe.{JoinedByte, pipe, joined as joined_items}
 use Rattle.t2mi_stream.specs.Received.{Fate, left_of}
 use Rattle.t2mi_stream.specs.Received.Fate.{Kept}
-use Rattle.t2mi_stream.specs.Survivors.{unit_number, begun_from}
+use Rattle.t2mi_stream.specs.Survivors.{begun_from}
 use Rattle.t2mi_stream.specs.SurvivorLaws.{KeptUndamaged}
 use Rattle.record_laws.specs.Laws.{AllWhole}
 use Rattle.record_laws.specs.Records.{records}
@@ -40,15 +40,15 @@ pub all_begun : (xs : List JoinedByte) (at : ℕ) (packets : List (List ℕ))
     → begun_from xs 0 at packets ≡ replicate (length packets) true
 all_begun xs at [] = refl
 all_begun xs at (packet ∷ packets) =
-    ap₂ (λ (t : Bool) (flags : List Bool). t ∷ flags) (le-leb 0 (unit_number xs at) (omega arith))
+    ap₂ (λ (t : Bool) (flags : List Bool). t ∷ flags) (le-leb _ _ (omega arith))
     (all_begun xs (at + length packet) packets)
 
 abbrev all_survive : List Sent → List Bool
 all_survive sent = replicate (length sent) true
 
-all_left : (sent : List Sent) → items_where_true (all_survive sent) sent ≡ sent
+pub all_left : {X : Type 0} (xs : List X) → items_where_true (replicate (length xs) true) xs ≡ xs
 all_left [] = refl
-all_left (s ∷ sent) = ap (λ (l : List Sent). s ∷ l) (all_left sent)
+all_left {X = X} (x ∷ xs) = ap (λ (l : List X). x ∷ l) (all_left xs)
 
 each_whole : (c : Config) (sent : List Sent) (n : ℕ) → is_whole c sent (all_survive sent) n ≡ true
 each_whole c [] n = refl
@@ -63,7 +63,7 @@ own_or_later : (k : ℕ) (s : Sent) (sent : List Sent) → frame_packets k (s �
 own_or_later k s sent some = ⊎_elim
     (λ (e : s.frame ≡ k). inl (omega (arith, e)))
     (λ (e : s.frame ≡ k → ⊥).
-    inr (λ none. some (ap (map (λ (x : Sent). x.packet)) (cond-false (s.frame == k) _ _ (ne_eqb s.frame k e)) ∙ none)))
+    inr (λ none. some (ap (map (λ (x : Sent). x.packet)) (cond-false _ _ _ (ne_eqb _ _ e)) ∙ none)))
     (cases_eq s.frame k)
 
 last_above : (frames k : ℕ) (b : Sent) (sent : List Sent) → InFrameOrder frames (Some b.frame) sent → (k < b.frame + 1)

@@ -1,7 +1,7 @@
 -- What the packets of a written frame carry.
 use Rattle.std.proofs.Common.{◌≡◌, ℕ, zero, suc, ◌+◌, ◌-◌, ◌*◌, ◌%◌, ◌<◌, ◌≤◌, ◌==◌, not, Bool, true, false, List, []}
-use Rattle.std.proofs.Common.{◌∷◌, ◌++◌}
-use Rattle.std.proofs.Common.{length, map, take, count_by, Option, Some, None, refl, ap, ap₂, sym, ◌∙◌, arith, cond}
+use Rattle.std.proofs.Common.{◌∷◌, ◌++◌, length, map, take, count_by, Option, Some, None, refl, ap, ap₂, sym, ◌∙◌}
+use Rattle.std.proofs.Common.{arith, cond}
 use Rattle.std.specs.List.{filter_map, cons_option, flat_map, range_with_len}
 use Rattle.std.proofs.lemmas.Bool.{cond_both, eq-eqb, ne_eqb}
 use Rattle.std.proofs.lemmas.List.Sums.{sum_by-cons}
@@ -34,9 +34,14 @@ use Rattle.stream_laws.specs.Carrying.{blocks_in}
 use Rattle.stream_laws.specs.Remade.{intl_frame_start, record_bodies, signal_of, view_bodies}
 use Rattle.stream_laws.proofs.FormedLemmas.{told, dynamic_is}
 use Rattle.stream_laws.proofs.MadeLemmas.{ids_differ, made_l1, made_bodies}
-use Rattle.stream_laws.proofs.PassedLemmas.{Passed}
+use Rattle.stream_laws.proofs.PassedLemmas.{Passed, passed}
 use Rattle.stream_laws.proofs.FormedSignalLemmas.{Knows, front_of, conf_there, dynamic_there, dyn_size}
 use Rattle.stream_laws.proofs.SizeLemmas.{AreLong, right_long}
+use Rattle.std.proofs.lemmas.List.FromFn.{fill_by_all}
+use Rattle.frame_writer.specs.Bodies.{block_bodies as held_bodies, list_bodies}
+use Rattle.frame_writer.specs.Signalling.{pre_part, conf_part}
+use Rattle.open_group.specs.Sent.{held_bytes}
+use Rattle.stream_laws.specs.FormedLaws.{ShownIsSent}
 
 -- ---- the blocks
 
@@ -88,7 +93,7 @@ module _ (numbers : BitCounts) (back : ScramblesBack) (c : Config) (plan : IsPla
   new_first a (Some id) l e =
       let j = e.0 in
       let less = e.1 in
-      ap not (ne_eqb id (id_of a) (λ same. ids_differ c plan j a (omega (arith, less, l)) l
+      ap not (ne_eqb _ _ (λ same. ids_differ c plan j a (omega (arith, less, l)) l
       (λ is. omega (arith, is, less))
       (sym e.2 ∙ same)))
 
@@ -181,3 +186,49 @@ counted_view c n plp (Frame moment pre post blocks cells) =
     cond_both {A = List Body} (n % c.frames == 0) _ _
     (λ l. length (filter_map (body_block id) l) ≡ count_by (λ b. b.plp_id == id) blocks) (λ t. is) (λ t. is)
 counted_view c n plp (Muted moment) = refl
+
+-- ---- what is shown of packets that pass is what is sent of their record
+
+-- the blocks of a PLP
+plp_shown : (c : Config) (frame_idx id plp : ℕ) (first : Bool) (blocks : List (List Bool)) → AreLong c plp blocks
+    → held_bodies frame_idx id first (map held_bytes blocks) ≡ block_bodies frame_idx id first blocks
+plp_shown c frame_idx id plp first [] long = refl
+plp_shown c frame_idx id plp first (b ∷ blocks) long =
+    ap₂ (λ (bits : List Bool) (l : List Body). BlockBody frame_idx id first bits ∷ l)
+    (bits_of-bytes_of b (block_bytes c plp) long.0)
+    (plp_shown c frame_idx id plp false blocks long.1)
+
+-- those of all
+all_shown : (c : Config) (frame_idx : ℕ) (blocks : ℕ → List (List Bool)) → ((plp : ℕ) → AreLong c plp (blocks plp))
+    → (k a : ℕ)
+    → list_bodies c frame_idx a (map (λ plp. map held_bytes (blocks plp)) (range_with_len a k))
+    ≡ flat_map (λ plp. block_bodies frame_idx (plp_at c.plps plp).id true (blocks plp)) (range_with_len a k)
+all_shown c frame_idx blocks long zero a = refl
+all_shown c frame_idx blocks long (suc k) a =
+    ap₂ (λ (x y : List Body). x ++ y) (plp_shown c frame_idx (plp_at c.plps a).id a true (blocks a) (long a))
+    (all_shown c frame_idx blocks long k (a + 1))
+
+-- the L1-current
+signal_shown : (c : Config) (n : ℕ) (dynamic : List Bool) → l1_body c n (pre_part c) (conf_part c) dynamic ≡ made_l1
+    c n dynamic
+unfolding pre_part conf_part
+signal_shown c n dynamic = refl
+
+pub shown_is_sent : BitCounts → ScramblesBack → PreBitsLength → Knows → ShownIsSent
+shown_is_sent numbers back law knows c past n packets dynamic lists plan none s =
+    let p = passed c past n packets none in
+    let right : ℕ → List (List Bool) = λ plp. right_blocks c plp packets in
+    let whole : length c.plps ≡ length c.plps - 0 = omega arith in
+    let told : dynamic ≡ p.l1.first.dynamic = s.dynamic_is ∙ dynamic_is knows c n packets p in
+    let held : list_bodies c (n % c.frames) 0 lists
+    ≡ flat_map (λ plp. block_bodies (n % c.frames) (plp_at c.plps plp).id true (right plp))
+    (range_with_len 0 (length c.plps - 0)) =
+    ap (list_bodies c (n % c.frames) 0) (fill_by_all (λ plp. map held_bytes (right plp)) lists (length c.plps)
+    [] s.plps s.blocks)
+    ∙ all_shown c (n % c.frames) right (λ plp. right_long c plp packets) (length c.plps) 0
+    ∙ ap (λ (k : ℕ). flat_map (λ plp. block_bodies (n % c.frames) (plp_at c.plps plp).id true (right plp))
+    (range_with_len 0 k)) whole
+    in
+    ap₂ (λ (l1 : Body) (l : List Body). with_stamp c n (l1 ∷ l))
+    (signal_shown c n dynamic ∙ ap (made_l1 c n) told) held
+    ∙ sym (view_carries numbers back law knows c n plan packets p)

@@ -70,12 +70,12 @@ begun_own laws c inputs plp n rules inside =
 -- one that does not begin in a frame began before
 pub begun_before : (c : Config) (plp n : ℕ) → is_first c plp n ≡ false → begin_of c plp n < n
 begun_before c plp n e =
-    let some = eqb-false (n % spread c.plps plp) 0 e in
+    let some = eqb-false _ _ e in
     let most = mod-le n (spread c.plps plp) in
     omega (arith, some, most)
 
 pub begun_here : (c : Config) (plp n : ℕ) → is_first c plp n ≡ true → begin_of c plp n ≡ n
-begun_here c plp n e = let none = eqb-true (n % spread c.plps plp) 0 e in omega (arith, none)
+begun_here c plp n e = let none = eqb-true _ _ e in omega (arith, none)
 
 -- from the first frame of a superframe on, none began before it
 pub begun_late : (laws : Interleaving) (c : Config) (plp first n : ℕ) → AllRules c → plp < length c.plps
@@ -172,7 +172,7 @@ module _ (laws : Interleaving) (c : Config) (plan : IsPlan c) (first m : ℕ) (s
   pub begin_met : (b : ℕ) → b < m → is_begin c m b ≡ true → packets_at past b ≡ frame_packets b survivors
   begin_met b below e =
       let one = place_of_any c (λ plp. begin_of c plp m == b) e in
-      let is : begin_of c one.0 m ≡ b = eqb-true (begin_of c one.0 m) b one.2 in
+      let is : begin_of c one.0 m ≡ b = eqb-true _ _ one.2 in
       let late = begun_late laws c one.0 first m plan.rules one.1 met.begins met.before in
       met.groups.there b (omega (arith, late, is)) below
 

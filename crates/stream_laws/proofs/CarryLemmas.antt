@@ -1,14 +1,14 @@
 -- Packets that carry what a written frame's record says come back as that frame.
-use Rattle.std.proofs.Common.{◌≡◌, ℕ, zero, suc, ◌+◌, ◌*◌, ◌%◌, ◌<◌, ◌≤◌, ◌==◌, ◌&&◌, ◌||◌, not, Bool, true, false}
-use Rattle.std.proofs.Common.{List, [], ◌∷◌, length, map, Option, Some, None, refl, ap, sym, subst, ◌∙◌, ⊎_elim, arith}
-use Rattle.std.proofs.Common.{sum_by}
+use Rattle.std.proofs.lemmas.List.FromFn.{length-range_with_len, get_or-range_with_len}
+use Rattle.std.proofs.lemmas.List.Sums.{AllPass-from_list_all}
+use Rattle.std.proofs.Common.{◌≡◌, ℕ, zero, suc, ◌+◌, ◌*◌, ◌<◌, ◌≤◌, ◌==◌, ◌&&◌, ◌||◌, not, Bool, true, false, List, []}
+use Rattle.std.proofs.Common.{◌∷◌, length, map, Option, Some, None, refl, ap, sym, subst, ◌∙◌, ⊎_elim, arith}
 use Rattle.std.specs.Prelude.{slice_get, slice_index, if◌then◌else◌, nat_le, nat_lt, unwrap_or, option_map}
-use Rattle.std.specs.List.{filter, filter_map, find, range_with_len, list_all, AllByRecursion}
+use Rattle.std.specs.List.{filter_map, find, range_with_len, list_all, AllByRecursion}
 use Rattle.std.specs.Option.{option_and_then, option_map_or}
-use Rattle.std.proofs.lemmas.Bool.{cases_Bool, and_from, and_left, cond-true, cond-false, eq-eqb, not_from_true}
-use Rattle.std.proofs.lemmas.List.Folds.{list_all-map}
-use Rattle.std.proofs.lemmas.List.Sums.{sum_by-cons}
-use Rattle.terms.proofs.RangeLemmas.{flat_same}
+use Rattle.std.proofs.lemmas.Bool.{cond_both, cases_Bool, and_from, and_left, cond-true, cond-false, eq-eqb}
+use Rattle.std.proofs.lemmas.Bool.{not_from_true}
+use Rattle.terms.proofs.RangeLemmas.{flat_same, sums_same}
 use Rattle.open_group.proofs.CountLemmas.{not_all_places}
 use Rattle.bb_frame.specs.Laws.{BitCounts, ScramblesBack}
 use Rattle.plp_config.specs.Capacity.{IsPlan, block_bytes}
@@ -27,20 +27,18 @@ use Rattle.t2mi_packet.specs.declared.packet.Stamp.{Stamp}
 use Rattle.frame_groups.specs.Modulated.{Numbered}
 use Rattle.frame_groups.specs.Numbers.{frame_key}
 use Rattle.frame_groups.specs.declared.cause.MuteCause.{MuteCause}
-use Rattle.frame_groups.specs.declared.cause.MuteCause.TheVariants.{PacketMissing, L1Refused, MapRefused, PoolFull}
-use Rattle.site_frame.specs.Record.{Block as SentBlock}
+use Rattle.frame_groups.specs.declared.cause.MuteCause.TheVariants.{PacketMissing, PoolFull}
 use Rattle.site_frame.specs.declared.reading.RecordView.{RecordView}
 use Rattle.frame_groups.specs.Begun.{is_begin, packets_at}
-use Rattle.frame_groups.specs.Carried.{body_block, blocks_of, has_length, right_blocks, L1Parts, body_l1, l1s_of}
-use Rattle.frame_groups.specs.Carried.{body_stamp, stamps_of}
+use Rattle.frame_groups.specs.Carried.{body_block, blocks_of, right_blocks, L1Parts, stamps_of}
 use Rattle.frame_groups.specs.TestLaws.{FrameNamed}
 use Rattle.frame_groups.specs.Readable.{told_dynamic}
-use Rattle.frame_groups.specs.Tests.{unless, begins_superframe, body_known, is_known, pool_need, pool_chunks, capped}
-use Rattle.frame_groups.specs.Tests.{room_test, begun_test, pool_test, missing_test, parts_agree, l1s_agree, l1_test}
-use Rattle.frame_groups.specs.Tests.{stamp_agrees, disagrees, time_test, l1_shape, first_shape, has_begun, has_count}
-use Rattle.frame_groups.specs.Tests.{has_counts, blocks_test, has_map, map_test, packets_fault}
+use Rattle.frame_groups.specs.Tests.{unless, begins_superframe, pool_need, pool_chunks, capped, room_test, begun_test}
+use Rattle.frame_groups.specs.Tests.{pool_test, missing_test, parts_agree, l1s_agree, l1_test, stamp_agrees, disagrees}
+use Rattle.frame_groups.specs.Tests.{time_test, l1_shape, first_shape, has_begun, has_count, has_counts, blocks_test}
+use Rattle.frame_groups.specs.Tests.{has_map, map_test, packets_fault}
 use Rattle.frame_groups.proofs.BegunLemmas.{none_fails}
-use Rattle.record_laws.specs.Frames.{sent_block, sent_blocks, frame_view}
+use Rattle.record_laws.specs.Frames.{sent_block, sent_blocks}
 use Rattle.open_group.specs.Front.{post_with}
 use Rattle.open_group.specs.RecordBytes.{own_count}
 use Rattle.open_group.specs.Written.{dynamic_in, shape_in, packets_view}
@@ -49,30 +47,28 @@ use Rattle.stream_laws.specs.Carrying.{blocks_in, plp_num_blocks, HaveRoom, has_
 use Rattle.stream_laws.specs.Remade.{view_bodies}
 use Rattle.stream_laws.proofs.BackLemmas.{view_carries, counted_view}
 use Rattle.stream_laws.proofs.FormedLemmas.{told, shape_is, right_counts, dynamic_is, view_shape}
-use Rattle.stream_laws.proofs.MadeLemmas.{all_bodies, carried_by, made_parts, made_bodies, frame_l1, frame_stamps}
-use Rattle.stream_laws.proofs.MadeLemmas.{frame_blocks, known_frame, all_right}
+use Rattle.stream_laws.proofs.MadeLemmas.{Has, made_has, all_bodies, carried_by, made_parts}
 use Rattle.stream_laws.proofs.PassedLemmas.{Passed, passed}
 use Rattle.stream_laws.proofs.FormedSignalLemmas.{Knows, pre_spelled, conf_spelled, told_is, dynamic_read}
-use Rattle.stream_laws.proofs.SizeLemmas.{AreLong, right_long}
+use Rattle.stream_laws.proofs.SizeLemmas.{right_long}
 
 -- ---- sums and tests over PLPs
-
-sum_same : (f g : ℕ → ℕ) (count : ℕ) → ((plp : ℕ) → plp < count → f plp ≡ g plp) → (a k : ℕ) → a + k ≤ count
-    → sum_by f (range_with_len a k) ≡ sum_by g (range_with_len a k)
-sum_same f g count h a zero l = refl
-sum_same f g count h a (suc k) l =
-    let x = sum_by-cons f a (range_with_len (a + 1) k) in
-    let y = sum_by-cons g a (range_with_len (a + 1) k) in
-    let one = h a (omega (arith, l)) in
-    let rest = sum_same f g count h (a + 1) k (omega (arith, l)) in
-    omega (arith, x, y, one, rest)
 
 pub each_place : (test : ℕ → Bool) (count : ℕ) → ((plp : ℕ) → plp < count → test plp ≡ true) → (a k : ℕ) → a + k ≤ count
     → list_all test (range_with_len a k) ≡ true
 each_place test count h a zero l = refl
-each_place test count h a (suc k) l = and_from (test a) (list_all test (range_with_len (a + 1) k))
-    (h a (omega (arith, l)))
+each_place test count h a (suc k) l = and_from _ _ (h a (omega (arith, l)))
     (each_place test count h (a + 1) k (omega (arith, l)))
+
+-- each PLP passes what all pass
+pub at_place : (test : ℕ → Bool) (count plp : ℕ) → list_all test (range_with_len 0 count) ≡ true → plp < count
+    → test plp ≡ true
+at_place test count plp passes inside =
+    let size = length-range_with_len 0 count in
+    let at : slice_index (range_with_len 0 count) plp ≡ plp =
+    get_or-range_with_len 0 count plp 0 inside ∙ omega arith in
+    subst (λ (j : ℕ). test j ≡ true) at
+    (AllPass-from_list_all test (range_with_len 0 count) passes plp 0 (omega (arith, inside, size)))
 
 pub unless_true : (t : Bool) (cause : MuteCause) → t ≡ true → unless t cause ≡ None
 unless_true t cause e = ap (λ (t : Bool). unless t cause) e
@@ -80,7 +76,7 @@ unless_true t cause e = ap (λ (t : Bool). unless t cause) e
 unless_false : (t : Bool) (cause : MuteCause) → t ≡ false → unless t cause ≡ Some cause
 unless_false t cause e = ap (λ (t : Bool). unless t cause) e
 
-twice : (t : Bool) → (t && t) ≡ t
+pub twice : (t : Bool) → (t && t) ≡ t
 twice true = refl
 twice false = refl
 
@@ -93,19 +89,15 @@ own_stamps c n false = tt
 
 stamp_passes : (c : Config) (n : ℕ) → stamp_agrees c n (stamp_of c n) ≡ true
 stamp_passes c n =
-    and_from ((bw c.band == bw c.band) && ((emission c n).seconds == (emission c n).seconds))
-    ((emission c n).subseconds == (emission c n).subseconds)
-    (and_from (bw c.band == bw c.band) ((emission c n).seconds == (emission c n).seconds)
-    (eq-eqb (bw c.band) (bw c.band) refl)
-    (eq-eqb (emission c n).seconds (emission c n).seconds refl))
-    (eq-eqb (emission c n).subseconds (emission c n).subseconds refl)
+    let alike : (n : ℕ) → (n == n) ≡ true = λ n. eq-eqb n n refl in
+    and_from _ _ (and_from _ _ (alike (bw c.band)) (alike (emission c n).seconds)) (alike (emission c n).subseconds)
 
 none_late : (c : Config) (n : ℕ) (stamps : List Stamp) → AllByRecursion (λ s. s ≡ stamp_of c n) stamps
     → find (λ s. not (stamp_agrees c n s)) stamps ≡ None
 none_late c n [] h = refl
 none_late c n (s ∷ stamps) h =
     cond-false {A = Option Stamp} (not (stamp_agrees c n s)) (Some s) (find (λ s. not (stamp_agrees c n s)) stamps)
-    (not_from_true (stamp_agrees c n s) (subst (λ (x : Stamp). stamp_agrees c n x ≡ true) (sym h.0) (stamp_passes c n)))
+    (not_from_true _ (subst (λ (x : Stamp). stamp_agrees c n x ≡ true) (sym h.0) (stamp_passes c n)))
     ∙ none_late c n stamps h.1
 
 pub time_passes : (c : Config) (n : ℕ) (packets : List Packet) → AllByRecursion (λ s. s ≡ stamp_of c n)
@@ -119,6 +111,73 @@ time_passes c n packets h = go (begins_superframe c n)
         (if t then option_map (disagrees c n) (find (λ s. not (stamp_agrees c n s)) (stamps_of packets)) else None) None
     go true = ap (option_map (disagrees c n)) (none_late c n (stamps_of packets) h)
     go false = refl
+
+-- ---- the tests of packets of which the L1-current agrees, and tells a shape whose cells stand apart
+
+-- a, if the blocks have room where an interleaving frame begins that frame n carries
+pub pool_none : (c : Config) (past : List Numbered) (n : ℕ) (packets : List Packet)
+    → ((b : ℕ) → b < n → is_begin c n b ≡ true → room_test c (packets_at past b) ≡ None)
+    → room_test c packets ≡ None → pool_test c past n packets ≡ None
+unfolding pool_test
+pool_none c past n packets rooms room = rw (none_fails (begun_test c past n) 0 n
+    (λ b low high. cond_both (is_begin c n b) _ _ (λ o. o ≡ None) (rooms b (omega (arith, high))) (λ e. refl))) room
+
+module _ (c : Config) (n : ℕ) (l1 : L1Parts) (shape : FrameShape) (own : ℕ → List (List Bool)) (packets : List Packet)
+    (has : Has c n l1 own packets) (agree : parts_agree c n l1 ≡ true) (tells : l1_shape c l1 ≡ Some shape)
+    (apart : has_map c (Some shape) ≡ true) where
+  pub first_is : first_shape c packets ≡ Some shape
+  first_is = ap (λ (l : List L1Parts). option_and_then (l1_shape c) (slice_get l 0)) has.l1s ∙ tells
+
+  stamp_there : (t : Bool) → (not t || nat_lt 0 (length (if t then stamp_of c n ∷ [] else []))) ≡ true
+  stamp_there true = refl
+  stamp_there false = refl
+
+  missing_none : missing_test c n packets ≡ None
+  unfolding missing_test
+  missing_none =
+      unless_true _ _ (and_from _ _ (ap (λ (l : List L1Parts). nat_lt 0 (length l)) has.l1s)
+      (ap (λ (l : List Stamp). not (begins_superframe c n) || nat_lt 0 (length l)) has.stamps
+      ∙ stamp_there (begins_superframe c n)))
+
+  l1_none : l1_test c n packets ≡ None
+  unfolding l1_test
+  l1_none = unless_true _ _ (ap (l1s_agree c n) has.l1s ∙ agree)
+
+  time_none : time_test c n packets ≡ None
+  time_none =
+      time_passes c n packets
+      (subst (AllByRecursion (λ s. s ≡ stamp_of c n)) (sym has.stamps) (own_stamps c n (begins_superframe c n)))
+
+  map_none : map_test c packets ≡ None
+  unfolding map_test
+  map_none = unless_true _ _ (ap (has_map c) first_is ∙ apart)
+
+  -- a PLP has as many blocks as it tells
+  abbrev counted : List Numbered → ℕ → Bool
+  counted past plp = has_count c past n plp (length (blocks_of c plp packets)) (slice_index shape.counts plp)
+
+  blocks_none : (past : List Numbered) → ((plp : ℕ) → plp < length c.plps → counted past plp ≡ true)
+      → blocks_test c past n packets ≡ None
+  unfolding blocks_test
+  blocks_none past each = unless_true _ _ (and_from _ _ (ap (has_counts c past n packets) first_is
+      ∙ each_place (counted past) (length c.plps) each 0 (length c.plps) (omega arith)) has.known)
+
+  blocks_lack : (past : List Numbered) (plp : ℕ) → plp < length c.plps → counted past plp ≡ false
+      → blocks_test c past n packets ≡ Some PacketMissing
+  unfolding blocks_test
+  blocks_lack past plp inside lacks = unless_false _ _ (and_left _ _ (ap (has_counts c past n packets) first_is
+      ∙ not_all_places c (counted past) plp inside lacks))
+
+  pub all_pass : (past : List Numbered) → pool_test c past n packets ≡ None
+      → ((plp : ℕ) → plp < length c.plps → counted past plp ≡ true) → packets_fault c past n packets ≡ None
+  unfolding packets_fault
+  all_pass past pool each = rw (pool, missing_none, l1_none, time_none, blocks_none past each) map_none
+
+  pub one_lacks : (past : List Numbered) → pool_test c past n packets ≡ None → (plp : ℕ) → plp < length c.plps
+      → counted past plp ≡ false → packets_fault c past n packets ≡ Some PacketMissing
+  unfolding packets_fault
+  one_lacks past pool plp inside lacks =
+      rw (pool, missing_none, l1_none, time_none, blocks_lack past plp inside lacks) refl
 
 -- ---- all of it
 
@@ -139,32 +198,9 @@ module _ (numbers : BitCounts) (back : ScramblesBack) (law : PreBitsLength) (nam
   abbrev right : ℕ → List (List Bool)
   right plp = right_blocks c plp first
 
-  long : (plp : ℕ) → AreLong c plp (right plp)
-  long plp = right_long c plp first
-
-  is : all_bodies packets ≡ made_bodies c n dyn right
-  is = carry ∙ view_carries numbers back law knows c n plan first p
-
-  l1s : l1s_of packets ≡ made_parts c dyn ∷ []
-  l1s = carried_by body_l1 packets ∙ ap (filter_map body_l1) is ∙ frame_l1 c n dyn right
-
-  stamps : stamps_of packets ≡ (if begins_superframe c n then stamp_of c n ∷ [] else [])
-  stamps = carried_by body_stamp packets ∙ ap (filter_map body_stamp) is ∙ frame_stamps c n dyn right
-
-  blocks : (plp : ℕ) → plp < length c.plps → blocks_of c plp packets ≡ right plp
-  blocks plp inside =
-      carried_by (body_block (plp_at c.plps plp).id) packets ∙ ap (filter_map (body_block (plp_at c.plps plp).id)) is
-      ∙ frame_blocks c n dyn right plan plp inside
-
-  rights : (plp : ℕ) → plp < length c.plps → right_blocks c plp packets ≡ right plp
-  rights plp inside = ap (filter (has_length c plp)) (blocks plp inside) ∙ all_right c plp (right plp) (long plp)
-
-  known : list_all (is_known c) packets ≡ true
-  known = sym (list_all-map (body_known c) (λ (p : Packet). p.body) packets) ∙ ap (list_all (body_known c)) is
-      ∙ known_frame c n dyn right long
-
-  first_is : first_shape c packets ≡ Some own
-  first_is = ap (λ (l : List L1Parts). option_and_then (l1_shape c) (slice_get l 0)) l1s ∙ p.l1.told
+  has : Has c n (made_parts c dyn) right packets
+  has = made_has c n dyn right plan (λ plp. right_long c plp first) packets
+      (carry ∙ view_carries numbers back law knows c n plan first p)
 
   agree : parts_agree c n (made_parts c dyn) ≡ true
   agree =
@@ -184,54 +220,11 @@ module _ (numbers : BitCounts) (back : ScramblesBack) (law : PreBitsLength) (nam
   unfolding room_test
   room =
       let same : pool_need c packets ≡ pool_need c first =
-      sum_same (λ plp. length (right_blocks c plp packets) * chunks_for (block_bytes c plp))
-      (λ plp. length (right_blocks c plp first) * chunks_for (block_bytes c plp)) (length c.plps)
-      (λ plp inside. ap (λ (l : List (List Bool)). length l * chunks_for (block_bytes c plp)) (rights plp inside))
-      0 (length c.plps) (omega arith) in
+      sums_same (λ plp. length (right_blocks c plp packets) * chunks_for (block_bytes c plp))
+      (λ plp. length (right_blocks c plp first) * chunks_for (block_bytes c plp)) 0 (length c.plps)
+      (λ plp low high. ap (λ (l : List (List Bool)). length l * chunks_for (block_bytes c plp))
+      (has.right plp (omega (arith, high)))) in
       ap (λ (k : ℕ). unless (nat_le k (pool_chunks c)) (PoolFull (capped k) (pool_chunks c))) same ∙ p.room
-
-  begun_passes : (past : List Numbered) (b : ℕ) → (is_begin c n b ≡ true → room_test c (packets_at past b) ≡ None)
-      → begun_test c past n b ≡ None
-  begun_passes past b has = ⊎_elim
-      (λ (e : is_begin c n b ≡ true).
-      cond-true {A = Option MuteCause} (is_begin c n b) (room_test c (packets_at past b)) None e ∙ has e)
-      (λ (e : is_begin c n b ≡ false).
-      cond-false {A = Option MuteCause} (is_begin c n b) (room_test c (packets_at past b)) None e)
-      (cases_Bool (is_begin c n b))
-
-  pool_none : (past : List Numbered) → HaveRoom c past n → pool_test c past n packets ≡ None
-  unfolding pool_test
-  pool_none past rooms =
-      rw (none_fails (begun_test c past n) 0 n (λ b low high. begun_passes past b (rooms b (omega (arith, high))))) room
-
-  stamp_there : (t : Bool) → (not t || nat_lt 0 (length (if t then stamp_of c n ∷ [] else []))) ≡ true
-  stamp_there true = refl
-  stamp_there false = refl
-
-  missing_none : missing_test c n packets ≡ None
-  unfolding missing_test
-  missing_none =
-      unless_true (nat_lt 0 (length (l1s_of packets)) && (not (begins_superframe c n) || nat_lt 0
-      (length (stamps_of packets))))
-      PacketMissing
-      (and_from (nat_lt 0 (length (l1s_of packets))) (not (begins_superframe c n) || nat_lt 0
-      (length (stamps_of packets)))
-      (ap (λ (l : List L1Parts). nat_lt 0 (length l)) l1s)
-      (ap (λ (l : List Stamp). not (begins_superframe c n) || nat_lt 0 (length l)) stamps
-      ∙ stamp_there (begins_superframe c n)))
-
-  l1_none : l1_test c n packets ≡ None
-  unfolding l1_test
-  l1_none = unless_true (l1s_agree c n (l1s_of packets)) L1Refused (ap (l1s_agree c n) l1s ∙ agree)
-
-  time_none : time_test c n packets ≡ None
-  time_none =
-      time_passes c n packets
-      (subst (AllByRecursion (λ s. s ≡ stamp_of c n)) (sym stamps) (own_stamps c n (begins_superframe c n)))
-
-  map_none : map_test c packets ≡ None
-  unfolding map_test
-  map_none = unless_true (has_map c (first_shape c packets)) MapRefused (ap (has_map c) first_is ∙ p.l1.map)
 
   -- what the record tells
   post_tells : told_dynamic c (post_with c (dynamic_in first)) ≡ Some (told knows c n first p).dynamic
@@ -247,94 +240,56 @@ module _ (numbers : BitCounts) (back : ScramblesBack) (law : PreBitsLength) (nam
 
   -- test e, by the groups before
   own_counts : (plp : ℕ) → plp < length c.plps → length (blocks_of c plp packets) ≡ own_count c n own plp
-  own_counts plp inside = ap length (blocks plp inside)
+  own_counts plp inside = ap length (has.blocks plp inside)
       ∙ sym (right_counts knows c n first p numbers before plan pass plp inside)
 
-  abbrev counted : List Numbered → ℕ → Bool
-  counted past plp = has_count c past n plp (length (blocks_of c plp packets)) (slice_index own.counts plp)
-
-  abbrev begun : List Numbered → ℕ → Bool
-  begun past plp = has_begun c plp (packets_at past (begin_of c plp n)) (slice_index own.counts plp)
-
-  told_begun : (past : List Numbered) (plp : ℕ) → has_told c n (packets_view c n first) past plp ≡ begun past plp
-  told_begun past plp = ap (has_begun c plp (packets_at past (begin_of c plp n))) (num_blocks plp)
+  abbrev count_holds : List Numbered → ℕ → Bool
+  count_holds past plp = has_count c past n plp (length (blocks_of c plp packets)) (slice_index own.counts plp)
 
   first_counted : (past : List Numbered) (plp : ℕ) → plp < length c.plps → is_first c plp n ≡ true
-      → counted past plp ≡ true
+      → count_holds past plp ≡ true
   first_counted past plp inside e =
-      let k : ℕ = length (blocks_of c plp packets) in
-      let t : ℕ = slice_index own.counts plp in
-      cond-true (is_first c plp n) (k == t) ((k == 0) && begun past plp) e
-      ∙ eq-eqb k t (own_counts plp inside ∙ cond-true {A = ℕ} (is_first c plp n) t 0 e)
+      cond-true _ _ _ e ∙ eq-eqb _ _ (own_counts plp inside ∙ cond-true _ _ _ e)
 
-  later_counted : (past : List Numbered) (plp : ℕ) → plp < length c.plps → is_first c plp n ≡ false → counted past plp
-      ≡ begun past plp
+  later_counted : (past : List Numbered) (plp : ℕ) → plp < length c.plps → is_first c plp n ≡ false
+      → count_holds past plp ≡ has_told c n (packets_view c n first) past plp
   later_counted past plp inside e =
-      let k : ℕ = length (blocks_of c plp packets) in
-      let t : ℕ = slice_index own.counts plp in
-      cond-false (is_first c plp n) (k == t) ((k == 0) && begun past plp) e
-      ∙ ap (λ (b : Bool). b && begun past plp) (eq-eqb k 0 (own_counts plp inside
-      ∙ cond-false {A = ℕ} (is_first c plp n) t 0 e))
+      let begun : Bool = has_begun c plp (packets_at past (begin_of c plp n)) (slice_index own.counts plp) in
+      cond-false _ _ _ e ∙ ap (λ (b : Bool). b && begun) (eq-eqb _ _ (own_counts plp inside ∙ cond-false _ _ _ e))
+      ∙ sym (ap (has_begun c plp (packets_at past (begin_of c plp n))) (num_blocks plp))
 
-  blocks_none : (past : List Numbered)
-      → ((plp : ℕ) → plp < length c.plps → is_first c plp n ≡ false
-      → has_told c n (packets_view c n first) past plp ≡ true)
-      → blocks_test c past n packets ≡ None
-  unfolding blocks_test
-  blocks_none past has =
-      let each : has_counts c past n packets (Some own) ≡ true =
-      each_place (counted past) (length c.plps)
-      (λ plp inside. ⊎_elim
-      (λ (e : is_first c plp n ≡ true). first_counted past plp inside e)
-      (λ (e : is_first c plp n ≡ false). later_counted past plp inside e ∙ sym (told_begun past plp) ∙ has plp inside e)
-      (cases_Bool (is_first c plp n)))
-      0 (length c.plps) (omega arith) in
-      unless_true (has_counts c past n packets (first_shape c packets) && list_all (is_known c) packets) PacketMissing
-      (and_from (has_counts c past n packets (first_shape c packets)) (list_all (is_known c) packets)
-      (ap (has_counts c past n packets) first_is ∙ each) known)
-
-  blocks_lack : (past : List Numbered) (plp : ℕ) → plp < length c.plps → is_first c plp n ≡ false
-      → has_told c n (packets_view c n first) past plp ≡ false → blocks_test c past n packets ≡ Some PacketMissing
-  unfolding blocks_test
-  blocks_lack past plp inside e lacks =
-      let some : has_counts c past n packets (Some own) ≡ false =
-      not_all_places c (counted past) plp inside (later_counted past plp inside e ∙ sym (told_begun past plp)
-      ∙ lacks) in
-      unless_false (has_counts c past n packets (first_shape c packets) && list_all (is_known c) packets) PacketMissing
-      (and_left (has_counts c past n packets (first_shape c packets)) (list_all (is_known c) packets)
-      (ap (has_counts c past n packets) first_is ∙ some))
+  pool : (past : List Numbered) → HaveRoom c past n → pool_test c past n packets ≡ None
+  pool past rooms = pool_none c past n packets rooms room
 
   passes : (past : List Numbered) → HaveRoom c past n
       → ((plp : ℕ) → plp < length c.plps → is_first c plp n ≡ false
       → has_told c n (packets_view c n first) past plp ≡ true)
       → packets_fault c past n packets ≡ None
-  unfolding packets_fault
-  passes past rooms has = rw (pool_none past rooms, missing_none, l1_none, time_none, blocks_none past has) map_none
+  passes past rooms told = all_pass c n (made_parts c dyn) own right packets has agree p.l1.told p.l1.map past
+      (pool past rooms)
+      (λ plp inside. ⊎_elim
+      (λ (e : is_first c plp n ≡ true). first_counted past plp inside e)
+      (λ (e : is_first c plp n ≡ false). later_counted past plp inside e ∙ told plp inside e)
+      (cases_Bool (is_first c plp n)))
 
   lacks_one : (past : List Numbered) (plp : ℕ) → HaveRoom c past n → plp < length c.plps → is_first c plp n ≡ false
       → has_told c n (packets_view c n first) past plp ≡ false → packets_fault c past n packets ≡ Some PacketMissing
-  unfolding packets_fault
-  lacks_one past plp rooms inside e lacks =
-      rw (pool_none past rooms, missing_none, l1_none, time_none, blocks_lack past plp inside e lacks) refl
+  lacks_one past plp rooms inside e lacks = one_lacks c n (made_parts c dyn) own right packets has agree p.l1.told
+      p.l1.map past (pool past rooms) plp inside (later_counted past plp inside e ∙ lacks)
 
   same_view : packets_view c n packets ≡ packets_view c n first
   same_view =
       let d : dynamic_in packets ≡ dynamic_in first =
-      ap (λ (l : List L1Parts). option_map_or (λ l1. l1.dynamic) (slice_get l 0) []) l1s
+      ap (λ (l : List L1Parts). option_map_or (λ l1. l1.dynamic) (slice_get l 0) []) has.l1s
       ∙ sym (dynamic_is knows c n first p) in
       let s : shape_in c packets ≡ shape_in c first =
-      ap (λ (o : Option FrameShape). unwrap_or o (blank (length c.plps))) first_is
+      ap (λ (o : Option FrameShape). unwrap_or o (blank (length c.plps)))
+      (first_is c n (made_parts c dyn) own right packets has agree p.l1.told p.l1.map)
       ∙ sym (view_shape knows c n first p) in
-      let b : sent_blocks c (λ plp. right_blocks c plp packets) ≡ sent_blocks c (λ plp. right_blocks c plp first) =
-      flat_same (λ plp. map (sent_block c plp) (right_blocks c plp packets))
-      (λ plp. map (sent_block c plp) (right_blocks c plp first)) 0 (length c.plps)
-      (λ plp le lt. ap (map (sent_block c plp)) (rights plp (omega (arith, lt)))) in
-      ap (λ (bits : List Bool). frame_view c (emission c n) (n % c.frames) (post_with c bits)
-      (sent_blocks c (λ plp. right_blocks c plp packets)) (shape_in c packets)) d
-      ∙ ap (λ (l : List SentBlock). frame_view c (emission c n) (n % c.frames) (post_with c (dynamic_in first))
-      l (shape_in c packets)) b
-      ∙ ap (frame_view c (emission c n) (n % c.frames) (post_with c (dynamic_in first))
-      (sent_blocks c (λ plp. right_blocks c plp first))) s
+      let b : sent_blocks c (λ plp. right_blocks c plp packets) ≡ sent_blocks c right =
+      flat_same (λ plp. map (sent_block c plp) (right_blocks c plp packets)) (λ plp. map (sent_block c plp) (right plp))
+      0 (length c.plps) (λ plp le lt. ap (map (sent_block c plp)) (has.right plp (omega (arith, lt)))) in
+      rw (d, s, b) refl
 
   block_counts : (plp told : ℕ) → plp < length c.plps → has_begun c plp packets told
       ≡ (blocks_in c plp (packets_view c n first) == told)
@@ -344,7 +299,7 @@ module _ (numbers : BitCounts) (back : ScramblesBack) (law : PreBitsLength) (nam
       ∙ ap (filter_map (body_block (plp_at c.plps plp).id)) carry)
       ∙ counted_view c n plp (packets_view c n first) in
       let same : length (right_blocks c plp packets) ≡ length (blocks_of c plp packets) =
-      ap length (rights plp inside) ∙ sym (ap length (blocks plp inside)) in
+      ap length (has.right plp inside ∙ sym (has.blocks plp inside)) in
       ap (λ (k : ℕ). (length (blocks_of c plp packets) == told) && (k == told)) same
       ∙ twice (length (blocks_of c plp packets) == told)
       ∙ ap (λ (k : ℕ). k == told) count
@@ -357,8 +312,8 @@ module _ (numbers : BitCounts) (back : ScramblesBack) (law : PreBitsLength) (nam
     names = λ begins small. (named c (record { key = frame_key c.frames n; packets = packets }) n plan.rules).1
         (record {
           stamp = stamp_of c n;
-          first = ap (λ (s : List Stamp). slice_get s 0) (stamps ∙ cond-true {A = List Stamp} (begins_superframe c n)
-              (stamp_of c n ∷ []) [] (eq-eqb (n % c.frames) 0 begins));
+          first = ap (λ (s : List Stamp). slice_get s 0) (has.stamps
+              ∙ cond-true {A = List Stamp} (begins_superframe c n) (stamp_of c n ∷ []) [] (eq-eqb _ _ begins));
           small = small;
           emission-is = refl;
           key = refl;

@@ -1,8 +1,8 @@
 -- The records of survivors are those that must come.
-use Rattle.std.proofs.Common.{◌≡◌, ◌≢◌, ℕ, zero, suc, ◌+◌, ◌-◌, ◌%◌, ◌<◌, ◌≤◌, ◌==◌, ◌&&◌, ◌||◌, Bool, true, false}
-use Rattle.std.proofs.Common.{List, [], ◌∷◌, ◌++◌, map, find, Option, Some, None, is_some, refl, ap, ap₂, sym, ◌∙◌}
-use Rattle.std.proofs.Common.{⊎_elim, arith, append_assoc, true≢false}
-use Rattle.std.specs.List.{items_where_true, last_or, list_any, range_with_len}
+use Rattle.std.proofs.Common.{◌≡◌, ◌≢◌, ℕ, zero, suc, ◌+◌, ◌-◌, ◌%◌, ◌<◌, ◌≤◌, ◌==◌, ◌&&◌, Bool, true, false, List, []}
+use Rattle.std.proofs.Common.{◌∷◌, ◌++◌, map, find, Option, Some, None, is_some, refl, ap, ap₂, sym, ◌∙◌, ⊎_elim, arith}
+use Rattle.std.proofs.Common.{append_assoc, true≢false}
+use Rattle.std.specs.List.{items_where_true, last_or, range_with_len}
 use Rattle.std.specs.Option.{option_map_or}
 use Rattle.std.proofs.lemmas.Bool.{cases_eq, cases_Bool, cond_both, cond-true, cond-false, and_parts, and_cases}
 use Rattle.std.proofs.lemmas.Bool.{and_left, false_from_ne_true, eqb-true}
@@ -21,31 +21,24 @@ use Rattle.record_laws.specs.Records.{numbers_from}
 use Rattle.stream_laws.specs.SentPackets.{Sent, packets_of, frame_packets, frame_group}
 use Rattle.frame_groups.specs.Begun.{packets_at}
 use Rattle.frame_groups.proofs.BegunLemmas.{at_own, at_other}
-use Rattle.plp_config.specs.Places.{places}
 use Rattle.plp_config.specs.declared.config.Config.{Config}
-use Rattle.stream_laws.specs.Survivors.{is_begun, carries, is_whole, loss_of, sent_content, sent_record, end_of}
-use Rattle.stream_laws.specs.Survivors.{survivor_records}
+use Rattle.stream_laws.specs.Survivors.{carries, is_whole, loss_of, sent_content, sent_record, end_of, survivor_records}
 use Rattle.stream_laws.specs.DamageLaws.{Survive, AreMet, IsMet, RulesMeet, ModulatedIsRecords}
 use Rattle.terms.proofs.RangeLemmas.{range_append, map_same}
 use Rattle.stream_laws.proofs.GroupLemmas.{not_empty, Met, group_as, key_groups, with_sent, frame_runs, some_met}
 use Rattle.stream_laws.proofs.GroupLemmas.{frames_met, order_survivors, below_survivors, runs_met, groups_are_met}
-use Rattle.stream_laws.proofs.GroupLemmas.{Steps, StepsIn, steps_met}
+use Rattle.stream_laws.proofs.GroupLemmas.{Steps, StepsIn, steps_met, steps_behind}
 use Rattle.stream_laws.proofs.WholeLemmas.{whole_is_all}
 
 -- the first number that passes
-skip_one : (test : ℕ → Bool) (from k : ℕ) → test from ≡ false → find test (range_with_len from k)
-    ≡ find test (range_with_len (from + 1) (k - 1))
-skip_one test from zero e = let z : 0 ≡ 0 - 1 = omega arith in ap (λ (j : ℕ). find test (range_with_len (from + 1) j)) z
-skip_one test from (suc k) e =
-    let z : k ≡ suc k - 1 = omega arith in
-    cond-false (test from) (Some from) (find test (range_with_len (from + 1) k)) e
-    ∙ ap (λ (j : ℕ). find test (range_with_len (from + 1) j)) z
-
 find_later : (test : ℕ → Bool) (from end : ℕ) → test from ≡ false → find test (range_with_len from (end - from))
     ≡ find test (range_with_len (from + 1) (end - (from + 1)))
-find_later test from end e =
-    let z : end - from - 1 ≡ end - (from + 1) = omega arith in
-    skip_one test from (end - from) e ∙ ap (λ (j : ℕ). find test (range_with_len (from + 1) j)) z
+find_later test from end e = go (end - from) (omega arith)
+  where
+    go : (k : ℕ) → k - 1 ≡ end - (from + 1)
+        → find test (range_with_len from k) ≡ find test (range_with_len (from + 1) (end - (from + 1)))
+    go zero z = ap (λ (j : ℕ). find test (range_with_len (from + 1) j)) z
+    go (suc k) z = cond-false _ _ _ e ∙ ap (λ (j : ℕ). find test (range_with_len (from + 1) j)) (omega (arith, z))
 
 find_here : (test : ℕ → Bool) (from end : ℕ) → from < end → test from ≡ true
     → find test (range_with_len from (end - from))
@@ -53,7 +46,7 @@ find_here : (test : ℕ → Bool) (from end : ℕ) → from < end → test from 
 find_here test from end l e =
     let z : end - from ≡ suc (end - (from + 1)) = omega (arith, l) in
     ap (λ (j : ℕ). find test (range_with_len from j)) z
-    ∙ cond-true (test from) (Some from) (find test (range_with_len (from + 1) (end - (from + 1)))) e
+    ∙ cond-true _ _ _ e
 
 -- the number behind the last frame of some
 abbrev end_met : ℕ → List Met → ℕ
@@ -67,7 +60,7 @@ end_most frames n (g ∷ gs) h = let l = end_most frames g.frame gs h.2 in omega
 end_with : (end : ℕ) (s : Sent) (gs : List Met) → end_met end (with_sent s gs) ≡ end_met (s.frame + 1) gs
 end_with end s [] = refl
 end_with end s (g ∷ gs) = cond_both (s.frame == g.frame) _ _ (λ l. end_met end l ≡ end_met (g.frame + 1) gs)
-    (λ e. ap (λ (k : ℕ). end_met (k + 1) gs) (eqb-true s.frame g.frame e)) (λ e. refl)
+    (λ e. ap (λ (k : ℕ). end_met (k + 1) gs) (eqb-true _ _ e)) (λ e. refl)
 
 end_runs : (ss : List Sent) (last : Option Sent) (end : ℕ) → option_map_or (λ s. s.frame + 1) last 0 ≡ end
     → option_map_or (λ s. s.frame + 1) (last_or last ss) 0 ≡ end_met end (frame_runs ss)
@@ -89,7 +82,7 @@ record_with n content = record { number = n; content = content }
 
 -- what is sent in a frame is carried in it
 pub own_carried : (c : Config) (n : ℕ) (s : Sent) → (s.frame == n) ≡ true → carries c n s ≡ true
-own_carried c n s e = ap (λ (t : Bool). t || list_any (λ plp. is_begun c plp n s) (places c)) e
+own_carried c n s e = rw e refl
 
 -- groups that are met, and the next frame
 met_none : (first n : ℕ) (survivors : List Sent) (past : List Numbered) → AreMet first n survivors past
@@ -148,13 +141,11 @@ module _ (found : NextIsFound) (r : Rules) (count : ℕ) (sent : List Sent) (sur
 
   whole_content : (n : ℕ) → whole n ≡ true → sent_content r.network sent survival n ≡ Whole
       (frame_group r.frames sent n)
-  whole_content n w = cond-true (whole n) (Whole (frame_group r.network.frames sent n))
-      (Muted (loss_of (frame_packets n ss))) w ∙ ap (λ (k : ℕ). Whole (frame_group k sent n)) meet.network
+  whole_content n w = cond-true _ _ _ w ∙ ap (λ (k : ℕ). Whole (frame_group k sent n)) meet.network
 
   lost_content : (n : ℕ) → whole n ≡ false → sent_content r.network sent survival n ≡ Muted
       (loss_of (frame_packets n ss))
-  lost_content n w = cond-false (whole n) (Whole (frame_group r.network.frames sent n))
-      (Muted (loss_of (frame_packets n ss))) w
+  lost_content n w = cond-false _ _ _ w
 
   -- the record of a frame without a survivor
   gone : (n : ℕ) → n < count → frame_packets n ss ≡ [] → gap_record n ≡ there n
@@ -250,11 +241,11 @@ module _ (found : NextIsFound) (r : Rules) (count : ℕ) (sent : List Sent) (sur
   is_join : (n : ℕ) (p : Packet) (ps : List Packet) → n < count → frame_packets n ss ≡ p ∷ ps → joins n ≡ true
       → join_number r (group_as r.frames n (p ∷ ps)) ≡ Some n
   is_join n p ps l is t =
-      let parts = and_parts (whole n) (n % r.frames == 0) t in
+      let parts = and_parts _ _ t in
       let g : Group = group_as r.frames n (p ∷ ps) in
-      let begins : n % r.frames ≡ 0 = eqb-true (n % r.frames) 0 parts.1 in
+      let begins : n % r.frames ≡ 0 = eqb-true _ _ parts.1 in
       let same : g ≡ frame_group r.frames sent n = ap (group_as r.frames n) (sym is) ∙ same_group n parts.0 in
-      cond-true (n % r.frames == 0) (passing r g (r.named g)) None parts.1
+      cond-true _ _ _ parts.1
       ∙ ap (λ (g : Group). passing r g (r.named g)) same
       ∙ ap (passing r (frame_group r.frames sent n)) (meet.names n l begins parts.0)
       ∙ ap (unless_fault n)
@@ -281,11 +272,10 @@ module _ (found : NextIsFound) (r : Rules) (count : ℕ) (sent : List Sent) (sur
       ∙ ⊎_elim
       (λ (w : whole n ≡ false).
       cond_both (n % r.frames == 0) _ _ (λ o. o ≡ None)
-      (λ e. passes_not n l (eqb-true (n % r.frames) 0 e) (not_empty p ps (frame_packets n ss) is) w
+      (λ e. passes_not n l (eqb-true _ _ e) (not_empty p ps (frame_packets n ss) is) w
       (r.named (frame_group r.frames ss n)) refl) (λ e. refl))
-      (λ (e : (n % r.frames == 0) ≡ false). cond-false (n % r.frames == 0)
-      (passing r (frame_group r.frames ss n) (r.named (frame_group r.frames ss n))) None e)
-      (and_cases (whole n) (n % r.frames == 0) t)
+      (λ (e : (n % r.frames == 0) ≡ false). cond-false _ _ _ e)
+      (and_cases _ _ t)
 
   -- The records of frames from one on, up to which there is no join.
   join_is : (more from end : ℕ) → from + more ≡ count → end ≤ from → StepsIn r.frames (frames_met from more ss)
@@ -300,10 +290,6 @@ module _ (found : NextIsFound) (r : Rules) (count : ℕ) (sent : List Sent) (sur
       gs : List Met
       gs = frames_met (from + 1) more ss
 
-      behind : (n : ℕ) (gs : List Met) → Steps r.frames n gs → StepsIn r.frames gs
-      behind n [] steps = tt
-      behind n (g ∷ gs) steps = steps.2
-
       go : (ps : List Packet) → frame_packets from ss ≡ ps
           → ((end : ℕ) → from + 1 + more ≡ count → end ≤ from + 1 → StepsIn r.frames gs
           → records_from r [] (key_groups r.frames gs)
@@ -315,8 +301,7 @@ module _ (found : NextIsFound) (r : Rules) (count : ℕ) (sent : List Sent) (sur
           (numbers_from (end_met end (some_met from ps ++ gs))
           (find joins (range_with_len from (end_met end (some_met from ps ++ gs) - from))))
       go [] is ih steps =
-          let t : joins from ≡ false = and_left (whole from) (from % r.frames == 0)
-          (not_whole from (omega (arith, all_is)) is) in
+          let t : joins from ≡ false = and_left _ _ (not_whole from (omega (arith, all_is)) is) in
           ih end (omega (arith, all_is)) (omega (arith, low)) steps
           ∙ ap (λ (o : Option ℕ). map there (numbers_from (end_met end gs) o))
           (sym (find_later joins from (end_met end gs) t))
@@ -326,7 +311,7 @@ module _ (found : NextIsFound) (r : Rules) (count : ℕ) (sent : List Sent) (sur
           let last : ℕ = end_met (from + 1) gs in
           ⊎_elim
           (λ (t : joins from ≡ true).
-          let begins : from % r.frames ≡ 0 = eqb-true (from % r.frames) 0 (and_parts (whole from) (from % r.frames == 0)
+          let begins : from % r.frames ≡ 0 = eqb-true _ _ (and_parts _ _
           t).1 in
           let most : from + 1 ≤ last = end_most r.frames from gs steps in
           let size : last - from ≡ suc (last - (from + 1)) = omega (arith, most) in
@@ -346,7 +331,7 @@ module _ (found : NextIsFound) (r : Rules) (count : ℕ) (sent : List Sent) (sur
           ap (λ (o : Option ℕ). (gaps_behind [] o ++ own_record r [] g o) ++ records_from r (past_with [] g o)
           (key_groups r.frames gs))
           (is_no_join from p ps inside is t)
-          ∙ ih (from + 1) (omega (arith, all_is)) (omega arith) (behind from gs steps)
+          ∙ ih (from + 1) (omega (arith, all_is)) (omega arith) (steps_behind r.frames from gs steps)
           ∙ ap (λ (o : Option ℕ). map there (numbers_from last o)) (sym (find_later joins from last t)))
           (cases_Bool (joins from))
 

@@ -1,4 +1,6 @@
 -- Each packet of a run fits its fields.
+use Rattle.frame_writer.specs.FramePackets.{with_stamp, l1_body}
+use Rattle.stream_laws.proofs.SizeLemmas.{AreLong}
 use Rattle.std.proofs.Common.{◌≡◌, ℕ, zero, suc, ◌+◌, ◌-◌, ◌*◌, ◌%◌, ◌^◌, ◌<◌, ◌≤◌, ◌==◌, Bool, true, false, List, []}
 use Rattle.std.proofs.Common.{◌∷◌, map, length, arith, length-append}
 use Rattle.std.specs.List.{flat_map, range_with_len, AllByRecursion}
@@ -27,7 +29,6 @@ use Rattle.t2mi_packet.specs.T2miPacket.{payload_size, FitsBody}
 use Rattle.t2mi_packet.specs.declared.packet.Body.{Body}
 use Rattle.mode_adapt.specs.Blocks.{own_blocks, told_counts}
 use Rattle.record_laws.specs.Frames.{HasByteIds}
-use Rattle.frame_writer.specs.FramePackets.{l1_body}
 use Rattle.gateway_core.specs.Packets.{block_bodies, plp_bodies, frame_bodies, bodies_before}
 use Rattle.frame_writer.specs.Signalling.{pre_part, conf_part}
 use Rattle.gateway_core.specs.Signalling.{dyn_part}
@@ -98,42 +99,39 @@ all_pairs bodies count from (suc more) l h =
     (pairs_fit from (bodies from) (h from (omega (arith, l)))) (all_pairs bodies count (from + 1) more
     (omega (arith, l)) h)
 
+-- the bodies of a frame whose L1-current has parts with these lengths
+module _ (emits : EmissionFits) (range : FieldRange) (c : Config) (plan : IsPlan c) (ids : HasByteIds c) where
+  pub frame_fits : (n : ℕ) (pre conf dynamic : List Bool) (blocks : ℕ → List (List Bool)) → n < MOST_FRAMES
+      → length pre ≡ PRE_BITS → length conf + length dynamic + 32 ≡ post_len (length c.plps)
+      → ((plp : ℕ) → AreLong c plp (blocks plp))
+      → AllByRecursion IsFit (with_stamp c n (l1_body c n pre conf dynamic ∷ plp_bodies c n blocks 0))
+  frame_fits n pre conf dynamic blocks l size parts long =
+      let e = emits c n plan.rules (omega (arith, l)) in
+      let utco : c.utco < 8192 = plan.rules UtcOffset in
+      let p : (1 ≤ length c.plps) × (length c.plps ≤ 255) = plan.rules PlpCount in
+      let f : (2 ≤ c.frames) × (c.frames ≤ 255) = plan.rules SuperframeLength in
+      let idx : n % c.frames < 2 ^ 8 = omega (arith, mod_below n c.frames (omega (arith, f.0)), f.1) in
+      let l1 : IsFit (l1_body c n pre conf dynamic) =
+      ((idx, size, omega (arith, parts, p.1), omega (arith, parts, p.1), omega arith), omega (arith, size, parts, p.1))
+      in
+      let rest : AllByRecursion IsFit (plp_bodies c n blocks 0) =
+      fit_plps (length c.plps) (λ plp. block_bodies (n % c.frames) (plp_at c.plps plp).id true (blocks plp))
+      (λ plp inside.
+      let r = range c plp in
+      fit_blocks (8 * block_bytes c plp) (n % c.frames) (plp_at c.plps plp).id true (blocks plp)
+      (omega (arith, r.1, r.2)) idx (ids plp inside) (long plp)) 0 (length c.plps - 0) (omega arith) in
+      cond_both {A = List Body} (n % c.frames == 0) _ _ (AllByRecursion IsFit)
+      (λ _. (((bw_fits c.band, omega (arith, e.1), e.2, utco), omega arith), (l1, rest)))
+      (λ _. (l1, rest))
+
 module _ (emits : EmissionFits) (bits : PreBitsLength) (post : PostLength) (numbers : BitCounts) (range : FieldRange)
     (c : Config)
     (plan : IsPlan c) (ids : HasByteIds c) (inputs : ℕ → List (List ℕ)) where
-  frames_range : (2 ≤ c.frames) × (c.frames ≤ 255)
-  frames_range = plan.rules SuperframeLength
-
-  frame_idx_fits : (n : ℕ) → n % c.frames < 2 ^ 8
-  frame_idx_fits n = let f = frames_range in omega (arith, mod_below n c.frames (omega (arith, f.0)), f.1)
-
-  fit_l1 : (n : ℕ) (counts : List ℕ) → IsFit (l1_body c n (pre_part c) (conf_part c) (dyn_part c n counts))
-  fit_l1 n counts =
-      let p : (1 ≤ length c.plps) × (length c.plps ≤ 255) = plan.rules PlpCount in
-      let parts = parts_len post c n counts in
-      let pre = pre_len bits c in (
-        (frame_idx_fits n, pre, omega (arith, parts, p.1), omega (arith, parts, p.1), omega arith),
-        omega
-            (arith, pre, parts, p.1),
-      )
-
   fit_frame : (n : ℕ) → n < MOST_FRAMES → AllByRecursion IsFit (frame_bodies c n (told_counts c inputs n)
       (own_blocks c inputs n))
-  fit_frame n l =
-      let e = emits c n plan.rules (omega (arith, l)) in
-      let utco : c.utco < 8192 = plan.rules UtcOffset in
-      let l1 = fit_l1 n (told_counts c inputs n) in
-      let blocks : AllByRecursion IsFit (plp_bodies c n (own_blocks c inputs n) 0) =
-      fit_plps (length c.plps) (λ plp. block_bodies (n % c.frames) (plp_at c.plps plp).id true
-      (own_blocks c inputs n plp))
-      (λ plp inside.
-      let r = range c plp in
-      fit_blocks (8 * block_bytes c plp) (n % c.frames) (plp_at c.plps plp).id true (own_blocks c inputs n plp)
-      (omega (arith, r.1, r.2)) (frame_idx_fits n) (ids plp inside) (own_long numbers range c inputs n plp))
-      0 (length c.plps - 0) (omega arith) in
-      cond_both {A = List Body} (n % c.frames == 0) _ _ (AllByRecursion IsFit)
-      (λ _. (((bw_fits c.band, omega (arith, e.1), e.2, utco), omega arith), (l1, blocks)))
-      (λ _. (l1, blocks))
+  fit_frame n l = frame_fits emits range c plan ids n (pre_part c) (conf_part c) (dyn_part c n (told_counts c inputs n))
+      (own_blocks c inputs n) l (pre_len bits c) (parts_len post c n (told_counts c inputs n))
+      (own_long numbers range c inputs n)
 
   pub run_fits : (n : ℕ) → n ≤ MOST_FRAMES → AllByRecursion PairFits (bodies_before c inputs n)
   run_fits n l = all_pairs (λ m. frame_bodies c m (told_counts c inputs m) (own_blocks c inputs m)) n 0 n (omega arith)

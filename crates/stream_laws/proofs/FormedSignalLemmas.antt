@@ -1,5 +1,5 @@
 -- The L1 signalling of a record that is written with the dynamic part of an L1-current agrees.
-use Rattle.std.proofs.Common.{◌≡◌, ℕ, ◌-◌, ◌==◌, ◌&&◌, Bool, true, false, List, [], ◌++◌, length, take, Some, ap}
+use Rattle.std.proofs.Common.{◌≡◌, ℕ, ◌-◌, ◌==◌, Bool, true, List, [], ◌++◌, length, take, Some, ap}
 use Rattle.std.proofs.Common.{◌∙◌, sym, refl, arith, append-nil, append_assoc, length-append, eq-eqb}
 use Rattle.std.specs.Bool.{beq}
 use Rattle.std.specs.Cmp.{bool_eq_equiv}
@@ -110,7 +110,7 @@ module _ (knows : Knows) (c : Config) (n : ℕ) (l1 : L1Parts) (is : IsOfFrame c
   pub pre_is : pre_agrees c (read_whole (pre_reading true (l1_pre c))) ≡ true
   pre_is =
       let read : read_whole (pre_reading true (l1_pre c)) ≡ Some (pre_of c) =
-      ap read_whole (ap (pre_reading true) (sym (append-nil (l1_pre c)))
+      ap read_whole (ap (pre_reading true) (sym (append-nil _))
       ∙ knows.pre_back true (pre_of c) (pre_bits (pre_of c)) [] pre_spelled) in
       ap (pre_agrees c) read ∙ (knows.pre_values (pre_of c) (pre_of c)).1 refl
 
@@ -144,15 +144,13 @@ module _ (knows : Knows) (c : Config) (n : ℕ) (l1 : L1Parts) (is : IsOfFrame c
   pub dynamic_read : read_dynamic c l1 ≡ Some is.dynamic
   dynamic_read =
       ap read_whole (ap (λ (k : ℕ). dyn_read k dynamic) (sym plps_told)
-      ∙ ap (dyn_read (length is.dynamic.plps)) (sym (append-nil dynamic))
+      ∙ ap (dyn_read (length is.dynamic.plps)) (sym (append-nil _))
       ∙ knows.dyn_back is.dynamic dynamic [] is.spells)
 
   dyn_agree : dyn_agrees c n (read_dynamic c l1) ≡ true
   unfolding parts_agree
   dyn_agree =
-      (and_parts (pre_agrees c (read_whole (pre_reading false l1.pre))
-      && conf_agrees c (read_whole (conf_read (info_size (length c.plps)) l1.conf)))
-      (dyn_agrees c n (read_dynamic c l1)) ((knows.told c n l1).1 is)).1
+      (and_parts _ _ ((knows.told c n l1).1 is)).1
 
   conf_is : conf_agrees c (read_whole (conf_read (info_size (length c.plps)) (take (conf_len plps) post))) ≡ true
   conf_is =
@@ -166,9 +164,7 @@ module _ (knows : Knows) (c : Config) (n : ℕ) (l1 : L1Parts) (is : IsOfFrame c
       let crc : Bool = pointwise beq post (crc_behind true (take (length post - CRC_BITS) post)) in
       let right : Bool = conf_agrees c
       (read_whole (conf_read (info_size (length c.plps)) (take (conf_len plps) post))) in
-      and_from (len && crc && right) (dyn_agrees c n (told_dynamic c post))
-      (and_from (len && crc) right
-      (and_from len crc (eq-eqb (length post) (post_len plps) (post_long c dynamic knows.conf_size dyn_size))
+      and_from _ _ (and_from _ _ (and_from _ _ (eq-eqb _ _ (post_long c dynamic knows.conf_size dyn_size))
       (ap (pointwise beq post) (crc_there c dynamic knows.conf_size dyn_size)
       ∙ (lists_equiv bool_eq_equiv).refl post))
       conf_is)

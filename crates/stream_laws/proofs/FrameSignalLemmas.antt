@@ -216,7 +216,7 @@ module _ (c : Config) (plan : IsPlan c) (types : TypesFit c) (n : ℕ) (counts :
       let read = back (dyn_of c n (shape_of c counts)) front [] (written (dyn_of c n (shape_of c counts))
       (dyn_fits law)) in
       ap read_whole (ap (λ (k : ℕ). dyn_read k front) (sym plps_len)
-      ∙ ap (dyn_read (length dynamic_plps)) (sym (append-nil front)) ∙ read)
+      ∙ ap (dyn_read (length dynamic_plps)) (sym (append-nil _)) ∙ read)
 
   ids_same : map (λ (plp : DynPlp). plp.plp_id) dynamic_plps ≡ map (λ (plp : Plp). plp.id) c.plps
   ids_same =

@@ -1,8 +1,9 @@
 -- Frames as packets that are sent frame by frame, of which those of other frames are lost; and one more is lost of each
 -- frame that is not complete.
-use Rattle.std.proofs.Common.{◌≡◌, ℕ, zero, suc, ◌+◌, ◌-◌, ◌%◌, ◌<◌, ◌≤◌, ◌==◌, Bool, true, false, List, [], ◌∷◌, ◌++◌}
-use Rattle.std.proofs.Common.{cond, length, map, replicate, Option, Some, None, refl, ap, ap₂, sym, subst, ◌∙◌, ⊎_elim}
-use Rattle.std.proofs.Common.{arith, append-nil, length-append}
+use Rattle.std.proofs.Common.{◌≢◌, ◌≡◌, ℕ, zero, suc, ◌+◌, ◌-◌, ◌%◌, ◌<◌, ◌≤◌, ◌==◌, Bool, true, false, List, [], ◌∷◌}
+use Rattle.std.proofs.Common.{◌++◌, cond, length, map, replicate, Some, None, refl, ap, ap₂, sym, subst, ◌∙◌}
+use Rattle.std.proofs.Common.{⊎_elim, arith, append-nil, length-append}
+use Rattle.std.proofs.lemmas.List.{length-replicate}
 use Rattle.std.specs.List.{filter, items_where_true}
 use Rattle.std.proofs.lemmas.Bool.{cases_eq, cases_lt, cond-true, cond-false, eq-eqb, ne_eqb}
 use Rattle.std.proofs.lemmas.List.Elements.{filter-append}
@@ -21,12 +22,16 @@ use Rattle.stream_laws.specs.Coming.{frame_at as at, is_complete}
 
 pub packets_step : (n : ℕ) (s : Sent) (sent : List Sent) (here : Bool) → (s.frame == n) ≡ here
     → frame_packets n (s ∷ sent) ≡ cond here (s.packet ∷ frame_packets n sent) (frame_packets n sent)
-packets_step n s sent true e =
-    let rest : List Sent = filter (λ (s : Sent). s.frame == n) sent in
-    ap packets_of (cond-true (s.frame == n) (s ∷ rest) rest e)
-packets_step n s sent false e =
-    let rest : List Sent = filter (λ (s : Sent). s.frame == n) sent in
-    ap packets_of (cond-false (s.frame == n) (s ∷ rest) rest e)
+packets_step n s sent true e = rw e refl
+packets_step n s sent false e = rw e refl
+
+pub packets_here : (n : ℕ) (s : Sent) (sent : List Sent) → s.frame ≡ n → frame_packets n (s ∷ sent) ≡ s.packet
+    ∷ frame_packets n sent
+packets_here n s sent e = rw (eq-eqb s.frame n e) refl
+
+pub packets_other : (n : ℕ) (s : Sent) (sent : List Sent) → s.frame ≢ n
+    → frame_packets n (s ∷ sent) ≡ frame_packets n sent
+packets_other n s sent e = rw (ne_eqb s.frame n e) refl
 
 -- ---- packets of bodies
 
@@ -49,11 +54,8 @@ length-sent c number (x ∷ xs) = let e = length-sent c (number + 1) xs in omega
 pub packets_append : (n : ℕ) (xs ys : List Sent) → frame_packets n (xs ++ ys) ≡ frame_packets n xs ++ frame_packets n ys
 packets_append n [] ys = refl
 packets_append n (x ∷ xs) ys = ⊎_elim
-    (λ (e : x.frame ≡ n). packets_step n x (xs ++ ys) true (eq-eqb x.frame n e)
-    ∙ ap (λ (l : List Packet). x.packet ∷ l) (packets_append n xs ys)
-    ∙ ap (λ (l : List Packet). l ++ frame_packets n ys) (sym (packets_step n x xs true (eq-eqb x.frame n e))))
-    (λ (e : x.frame ≡ n → ⊥). packets_step n x (xs ++ ys) false (ne_eqb x.frame n e) ∙ packets_append n xs ys
-    ∙ ap (λ (l : List Packet). l ++ frame_packets n ys) (sym (packets_step n x xs false (ne_eqb x.frame n e))))
+    (λ (e : x.frame ≡ n). rw (eq-eqb x.frame n e) (ap (λ (l : List Packet). x.packet ∷ l) (packets_append n xs ys)))
+    (λ (e : x.frame ≡ n → ⊥). rw (ne_eqb x.frame n e) (packets_append n xs ys))
     (cases_eq x.frame n)
 
 -- those of one frame
@@ -62,16 +64,13 @@ pub own_here : (c : Config) (n number : ℕ) (bodies : List Body)
     ≡ bodies
 own_here c n number [] = refl
 own_here c n number (b ∷ bodies) =
-    ap all_bodies (packets_step n _ (sent_from c (number + 1) (pairs n bodies)) true (eq-eqb _ n refl))
-    ∙ ap (λ (l : List Body). b ∷ l) (own_here c n (number + 1) bodies)
+    rw (eq-eqb n n refl) (ap (λ (l : List Body). b ∷ l) (own_here c n (number + 1) bodies))
 
 own_other : (c : Config) (n m number : ℕ) (bodies : List Body) → (m ≡ n → ⊥)
     → frame_packets n (sent_from c number (pairs m bodies))
     ≡ []
 own_other c n m number [] e = refl
-own_other c n m number (b ∷ bodies) e = packets_step n _ (sent_from c (number + 1) (pairs m bodies))
-    false (ne_eqb _ n e)
-    ∙ own_other c n m (number + 1) bodies e
+own_other c n m number (b ∷ bodies) e = rw (ne_eqb m n e) (own_other c n m (number + 1) bodies e)
 
 -- ---- the list: stand-ins for what is lost
 
@@ -136,32 +135,13 @@ module _ (c : Config) (all : List NumberedView) where
   length-stand from zero = refl
   length-stand from (suc k) = let e = length-stand (from + 1) k in omega (arith, e)
 
-  length-alike : (k : ℕ) (t : Bool) → length (replicate k t) ≡ k
-  length-alike zero t = refl
-  length-alike (suc k) t = let e = length-alike k t in omega (arith, e)
-
   pub length-kept : (from number : ℕ) (fs : List NumberedView) → length (kept c all from fs) ≡ length
       (full c all from number fs)
   length-kept from number [] = refl
   length-kept from number (f ∷ fs) =
-      let k : ℕ = f.number - from in
       let j : ℕ = length (frame_pairs c f) in
-      let i : ℕ = length (lost c all f) in
-      let rest : List Sent = full c all (f.number + 1) (number + j) fs in
-      let ts : List Bool = kept c all (f.number + 1) fs in
-      let a = length-append (replicate k false) (replicate j true ++ (replicate i false ++ ts)) in
-      let b = length-append (replicate j true) (replicate i false ++ ts) in
-      let x = length-append (replicate i false) ts in
-      let d = length-append (stand_ins c from k) (own c number f ++ (lost c all f ++ rest)) in
-      let e = length-append (own c number f) (lost c all f ++ rest) in
-      let y = length-append (lost c all f) rest in
-      let g = length-kept (f.number + 1) (number + j) fs in
-      let h = length-sent c number (frame_pairs c f) in
-      let p = length-stand from k in
-      let q = length-alike k false in
-      let r = length-alike j true in
-      let s = length-alike i false in
-      omega (arith, a, b, x, d, e, y, g, h, p, q, r, s)
+      let more = length-kept (f.number + 1) (number + j) fs in
+      simp (length-append, length-replicate, length-stand, length-sent) (omega (arith, more))
 
   skip_false : (xs ys : List Sent) (ts : List Bool) → items_where_true (replicate (length xs) false ++ ts) (xs ++ ys)
       ≡ items_where_true ts ys
@@ -199,10 +179,7 @@ module _ (c : Config) (all : List NumberedView) where
   module _ (test : Sent → Bool) (none : (n : ℕ) → test (stand_in c n) ≡ false) where
     no_stand : (from k : ℕ) → filter test (stand_ins c from k) ≡ []
     no_stand from zero = refl
-    no_stand from (suc k) =
-        cond-false (test (stand_in c from)) (stand_in c from ∷ filter test (stand_ins c (from + 1) k))
-        (filter test (stand_ins c (from + 1) k)) (none from)
-        ∙ no_stand (from + 1) k
+    no_stand from (suc k) = cond-false _ _ _ (none from) ∙ no_stand (from + 1) k
 
     no_lost : (n : ℕ) (t : Bool) → filter test (lost_by c n t) ≡ []
     no_lost n true = refl
@@ -212,59 +189,39 @@ module _ (c : Config) (all : List NumberedView) where
         ≡ filter test (sent_from c number (remade_bodies c fs))
     filter_full from number [] = refl
     filter_full from number (f ∷ fs) =
-        let k : ℕ = f.number - from in
-        let j : ℕ = number + length (frame_pairs c f) in
-        let rest : List Sent = full c all (f.number + 1) j fs in
-        let left : List Sent = sent_from c j (remade_bodies c fs) in
-        filter-append test (stand_ins c from k) (own c number f ++ (lost c all f ++ rest))
-        ∙ ap₂ (λ (x y : List Sent). x ++ y) (no_stand from k)
-        (filter-append test (own c number f) (lost c all f ++ rest)
-        ∙ ap (λ (l : List Sent). filter test (own c number f) ++ l)
-        (filter-append test (lost c all f) rest
-        ∙ ap₂ (λ (x y : List Sent). x ++ y) (no_lost f.number (is_complete c all f)) (filter_full (f.number + 1) j fs)))
-        ∙ sym (ap (filter test) (sent_append c number (frame_pairs c f) (remade_bodies c fs))
-        ∙ filter-append test (own c number f) left)
+        simp (filter-append, sent_append, no_stand, no_lost)
+        (ap (λ (l : List Sent). filter test (own c number f) ++ l)
+        (filter_full (f.number + 1) (number + length (frame_pairs c f)) fs))
 
   -- ---- the packets of a frame among them
 
   stand_none : (n from k : ℕ) → (from + k ≤ n) → frame_packets n (stand_ins c from k) ≡ []
   stand_none n from zero b = refl
-  stand_none n from (suc k) b = packets_step n (stand_in c from) (stand_ins c (from + 1) k) false
-      (ne_eqb (stand_in c from).frame n (λ e. omega (arith, e, b)))
-      ∙ stand_none n (from + 1) k (omega (arith, b))
+  stand_none n from (suc k) b =
+      rw (ne_eqb from n (λ e. omega (arith, e, b))) (stand_none n (from + 1) k (omega (arith, b)))
 
   stand_before : (n from k : ℕ) → n < from → frame_packets n (stand_ins c from k) ≡ []
   stand_before n from zero l = refl
-  stand_before n from (suc k) l = packets_step n (stand_in c from) (stand_ins c (from + 1) k) false
-      (ne_eqb (stand_in c from).frame n (λ e. omega (arith, e, l)))
-      ∙ stand_before n (from + 1) k (omega (arith, l))
+  stand_before n from (suc k) l =
+      rw (ne_eqb from n (λ e. omega (arith, e, l))) (stand_before n (from + 1) k (omega (arith, l)))
 
   lost_other : (n m : ℕ) (t : Bool) → (m ≡ n → ⊥) → frame_packets n (lost_by c m t) ≡ []
   lost_other n m true e = refl
-  lost_other n m false e = packets_step n (stand_in c m) [] false (ne_eqb (stand_in c m).frame n e)
+  lost_other n m false e = rw (ne_eqb m n e) refl
 
   lost_here : (n m : ℕ) (t : Bool) → m ≡ n → frame_packets n (lost_by c m t) ≡ packets_of (lost_by c m t)
   lost_here n m true e = refl
-  lost_here n m false e = packets_step n (stand_in c m) [] true (eq-eqb (stand_in c m).frame n e)
+  lost_here n m false e = rw (eq-eqb m n e) refl
 
   abbrev bodies_of : NumberedView → List Body
   bodies_of f = view_bodies c f.number f.view
 
   -- the packets of a frame among those of one that is there, and more
-  parts_packets : (n from number : ℕ) (f : NumberedView) (rest : List Sent)
+  pub parts_packets : (n from number : ℕ) (f : NumberedView) (rest : List Sent)
       → frame_packets n (stand_ins c from (f.number - from) ++ (own c number f ++ (lost c all f ++ rest)))
       ≡ frame_packets n (stand_ins c from (f.number - from))
       ++ (frame_packets n (own c number f) ++ (frame_packets n (lost c all f) ++ frame_packets n rest))
-  parts_packets n from number f rest =
-      packets_append n (stand_ins c from (f.number - from)) (own c number f ++ (lost c all f ++ rest))
-      ∙ ap (λ (l : List Packet). frame_packets n (stand_ins c from (f.number - from)) ++ l)
-      (packets_append n (own c number f) (lost c all f ++ rest)
-      ∙ ap (λ (l : List Packet). frame_packets n (own c number f) ++ l) (packets_append n (lost c all f) rest))
-
-  three : (x y z w : List Packet) → x ≡ [] → y ≡ [] → z ≡ [] → x ++ (y ++ (z ++ w)) ≡ w
-  three x y z w a b d =
-      ap (λ (l : List Packet). l ++ (y ++ (z ++ w))) a ∙ ap (λ (l : List Packet). l ++ (z ++ w)) b
-      ∙ ap (λ (l : List Packet). l ++ w) d
+  parts_packets n from number f rest = simp packets_append
 
   -- none of a frame before the first
   pub ss_before : (n number from : ℕ) (fs : List NumberedView) → RisesFrom from fs → n < from
@@ -272,10 +229,7 @@ module _ (c : Config) (all : List NumberedView) where
   ss_before n number from [] r l = refl
   ss_before n number from (f ∷ fs) r l =
       let low = r.0 in
-      ap (frame_packets n) (sent_append c number (frame_pairs c f) (remade_bodies c fs))
-      ∙ packets_append n (own c number f) (sent_from c (number + length (frame_pairs c f)) (remade_bodies c fs))
-      ∙ ap₂ (λ (x y : List Packet). x ++ y) (own_other c n f.number number (bodies_of f)
-      (λ e. omega (arith, e, low, l)))
+      rw (sent_append, packets_append n, own_other c n f.number number (bodies_of f) (λ e. omega (arith, e, low, l)))
       (ss_before n (number + length (frame_pairs c f)) (f.number + 1) fs r.1 (omega (arith, low, l)))
 
   pub full_before : (n from number : ℕ) (fs : List NumberedView) → RisesFrom from fs → n < from
@@ -286,44 +240,39 @@ module _ (c : Config) (all : List NumberedView) where
       let rest : List Sent = full c all (f.number + 1) (number + length (frame_pairs c f)) fs in
       let other : f.number ≡ n → ⊥ = λ e. omega (arith, e, low, l) in
       parts_packets n from number f rest
-      ∙ three (frame_packets n (stand_ins c from (f.number - from))) (frame_packets n (own c number f))
-      (frame_packets n (lost c all f))
-      (frame_packets n rest) (stand_before n from (f.number - from) l) (own_other c n f.number number
-      (bodies_of f) other)
-      (lost_other n f.number (is_complete c all f) other)
-      ∙ full_before n (f.number + 1) (number + length (frame_pairs c f)) fs r.1 (omega (arith, low, l))
-
-  first_none : (x y z w : List Packet) → x ≡ [] → w ≡ [] → x ++ (y ++ (z ++ w)) ≡ y ++ z
-  first_none x y z w a d =
-      ap (λ (l : List Packet). l ++ (y ++ (z ++ w))) a ∙ ap (λ (l : List Packet). y ++ (z ++ l)) d
-      ∙ ap (λ (l : List Packet). y ++ l) (append-nil z)
+      ∙ rw (
+        stand_before n from (f.number - from) l,
+        own_other c n f.number number (bodies_of f) other,
+        lost_other n f.number (is_complete c all f) other,
+      )
+      (full_before n (f.number + 1) (number + length (frame_pairs c f)) fs r.1 (omega (arith, low, l)))
 
   here : (n from number : ℕ) (f : NumberedView) (fs : List NumberedView) → from ≤ f.number → RisesFrom (f.number + 1) fs
       → f.number ≡ n → Has c all n from number (f ∷ fs) f
   here n from number f fs low rises e =
       let j : ℕ = length (frame_pairs c f) in
-      let rest : List Sent = sent_from c (number + j) (remade_bodies c fs) in
       let later : List Sent = full c all (f.number + 1) (number + j) fs in
-      let k : ℕ = f.number - from in
       let own_is : all_bodies (frame_packets n (own c number f)) ≡ bodies_of f =
       subst (λ (m : ℕ). all_bodies (frame_packets m (own c number f)) ≡ bodies_of f) e
       (own_here c f.number number (bodies_of f)) in
       let left : frame_packets n (sent_from c number (remade_bodies c (f ∷ fs))) ≡ frame_packets n (own c number f) =
-      ap (frame_packets n) (sent_append c number (frame_pairs c f) (remade_bodies c fs))
-      ∙ packets_append n (own c number f) rest
-      ∙ ap (λ (l : List Packet). frame_packets n (own c number f) ++ l)
-      (ss_before n (number + j) (f.number + 1) fs rises (omega (arith, e)))
-      ∙ append-nil (frame_packets n (own c number f)) in
+      rw (
+        sent_append,
+        packets_append n,
+        ss_before n (number + j) (f.number + 1) fs rises (omega (arith, e)),
+        append-nil (frame_packets n (own c number f)),
+      ) refl in
       let whole : frame_packets n (full c all from number (f ∷ fs)) ≡ frame_packets n (own c number f)
       ++ frame_packets n (lost c all f) =
       parts_packets n from number f later
-      ∙ first_none (frame_packets n (stand_ins c from k)) (frame_packets n (own c number f))
-      (frame_packets n (lost c all f))
-      (frame_packets n later) (stand_none n from k (omega (arith, low, e)))
-      (full_before n (f.number + 1) (number + j) fs rises (omega (arith, e))) in
+      ∙ rw (
+        stand_none n from (f.number - from) (omega (arith, low, e)),
+        full_before n (f.number + 1) (number + j) fs rises (omega (arith, e)),
+        append-nil (frame_packets n (lost c all f)),
+      ) refl in
       record {
         number_is = e;
-        found = cond-true {A = Option NumberedView} (f.number == n) (Some f) (at n fs) (eq-eqb f.number n e);
+        found = cond-true _ _ _ (eq-eqb _ _ e);
         carried = ap all_bodies left ∙ own_is;
         more = whole ∙ ap₂ (λ (x y : List Packet). x ++ y) (sym left) (lost_here n f.number (is_complete c all f) e);
       }
@@ -331,12 +280,7 @@ module _ (c : Config) (all : List NumberedView) where
   skip_left : (n number : ℕ) (f : NumberedView) (fs : List NumberedView) → (f.number ≡ n → ⊥)
       → frame_packets n (sent_from c number (remade_bodies c (f ∷ fs)))
       ≡ frame_packets n (sent_from c (number + length (frame_pairs c f)) (remade_bodies c fs))
-  skip_left n number f fs ne =
-      ap (frame_packets n) (sent_append c number (frame_pairs c f) (remade_bodies c fs))
-      ∙ packets_append n (own c number f) (sent_from c (number + length (frame_pairs c f)) (remade_bodies c fs))
-      ∙ ap (λ (l : List Packet). l ++ frame_packets n (sent_from c (number + length (frame_pairs c f))
-      (remade_bodies c fs)))
-      (own_other c n f.number number (bodies_of f) ne)
+  skip_left n number f fs ne = rw (sent_append, packets_append n, own_other c n f.number number (bodies_of f) ne) refl
 
   behind : (n from number : ℕ) (f : NumberedView) (fs : List NumberedView) → from ≤ f.number → (f.number ≡ n → ⊥)
       → f.number + 1 ≤ n → Look c all n (f.number + 1) (number + length (frame_pairs c f)) fs
@@ -347,20 +291,19 @@ module _ (c : Config) (all : List NumberedView) where
       let left = skip_left n number f fs ne in
       Found g (record {
         number_is = h.number_is;
-        found = cond-false {A = Option NumberedView} (f.number == n) (Some f) (at n fs) (ne_eqb f.number n ne)
-            ∙ h.found;
+        found = cond-false _ _ _ (ne_eqb _ _ ne) ∙ h.found;
         carried = ap all_bodies left ∙ h.carried;
         more =
             parts_packets n from number f later
-            ∙ three (frame_packets n (stand_ins c from (f.number - from))) (frame_packets n (own c number f))
-            (frame_packets n (lost c all f)) (frame_packets n later)
-            (stand_none n from (f.number - from) (omega (arith, l, low))) (own_other c n f.number number
-            (bodies_of f) ne)
-            (lost_other n f.number (is_complete c all f) ne)
-            ∙ h.more ∙ ap (λ (x : List Packet). x ++ packets_of (lost c all g)) (sym left);
+            ∙ rw (
+              stand_none n from (f.number - from) (omega (arith, l, low)),
+              own_other c n f.number number (bodies_of f) ne,
+              lost_other n f.number (is_complete c all f) ne,
+            ) h.more
+            ∙ ap (λ (x : List Packet). x ++ packets_of (lost c all g)) (sym left);
       })
   behind n from number f fs low ne l (Missing h) = Missing (record {
-    none = cond-false {A = Option NumberedView} (f.number == n) (Some f) (at n fs) (ne_eqb f.number n ne) ∙ h.none;
+    none = cond-false _ _ _ (ne_eqb _ _ ne) ∙ h.none;
     gone = skip_left n number f fs ne ∙ h.gone;
   })
 
@@ -368,9 +311,8 @@ module _ (c : Config) (all : List NumberedView) where
   at_before n from [] r l = refl
   at_before n from (f ∷ fs) r l =
       let low = r.0 in
-      cond-false {A = Option NumberedView} (f.number == n) (Some f) (at n fs)
-      (ne_eqb f.number n (λ e. omega (arith, e, low, l)))
-      ∙ at_before n (f.number + 1) fs r.1 (omega (arith, low, l))
+      rw (ne_eqb f.number n (λ e. omega (arith, e, low, l)))
+      (at_before n (f.number + 1) fs r.1 (omega (arith, low, l)))
 
   pub look : (n from number : ℕ) (fs : List NumberedView) → RisesFrom from fs → from ≤ n → Look c all n from number fs
   look n from number [] r l = Missing (record { none = refl; gone = refl })

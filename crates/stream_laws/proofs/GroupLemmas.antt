@@ -19,7 +19,7 @@ use Rattle.stream_laws.specs.SentPackets.{IsOfFrame, Follows, FollowsSome, InFra
 use Rattle.stream_laws.specs.SentPackets.{IsApart, IsApartSome, AreApart}
 use Rattle.stream_laws.specs.Survivors.{has_packets}
 use Rattle.stream_laws.specs.DamageLaws.{Survive, GroupsAreFrames}
-use Rattle.stream_laws.proofs.PacketLemmas.{packets_here, packets_other}
+use Rattle.stream_laws.proofs.FullLemmas.{packets_here, packets_other}
 
 -- Survivors are in the order of their frames.
 abbrev Below : Option ℕ → ℕ → Type 0
@@ -72,9 +72,9 @@ below_survivors count (s ∷ sent) (false ∷ survival) b = below_survivors coun
 -- Each of them counts.
 body_told : (frames n : ℕ) (b : Body) → 0 < frames → TellsFrame frames n b → body_counts frames b ≡ true
 body_told frames n (Block frame_idx plp_id first bits) some t =
-    lt-ltb frame_idx frames (let h = mod_below n frames some in omega (arith, h, t))
+    lt-ltb _ _ (let h = mod_below n frames some in omega (arith, h, t))
 body_told frames n (L1Current frame_idx pre conf dynamic extension) some t =
-    lt-ltb frame_idx frames (let h = mod_below n frames some in omega (arith, h, t))
+    lt-ltb _ _ (let h = mod_below n frames some in omega (arith, h, t))
 body_told frames n (Timestamp stamp) some t = refl
 body_told frames n (Other packet_type bits) some t = absurd t
 
@@ -83,7 +83,7 @@ all_counted : (frames : ℕ) (before : Option ℕ) (ss : List Sent) → 0 < fram
 all_counted frames before [] some o = refl
 all_counted frames before (s ∷ ss) some o =
     let rest : List Packet = filter (is_counted frames) (packets_of ss) in
-    cond-true (is_counted frames s.packet) (s.packet ∷ rest) rest (body_told frames s.frame s.packet.body
+    cond-true _ _ _ (body_told frames s.frame s.packet.body
     some o.0.frame)
     ∙ ap (λ (l : List Packet). s.packet ∷ l) (all_counted frames (Some s.frame) ss some o.2)
 
@@ -101,7 +101,7 @@ superframe_later frames m n some begins l =
     (div-lt_iff_lt-mul {k = frames} some).1 (omega (arith, parts, begins, l))
 
 other_superframe : (a b : ℕ) → a < b → b < a + 16 → (a % 16 == b % 16) ≡ false
-other_superframe a b l m = ne_eqb (a % 16) (b % 16) (λ e. omega (arith, e, l, m))
+other_superframe a b l m = ne_eqb _ _ (λ e. omega (arith, e, l, m))
 
 abbrev key_with : ℕ → ℕ → Key
 key_with a b = record { superframe = a; frame = b }
@@ -258,14 +258,14 @@ unlike_one : (frames n : ℕ) (s : Sent) → IsOfFrame frames s → Follows n s 
     → is_same (frame_key frames n) (frame_key frames s.frame) ≡ (n == s.frame)
 unlike_one frames n s o f a = ⊎_elim
     (λ (e : n ≡ s.frame).
-    and_from _ _ (eq-eqb (n / frames % 16) (s.frame / frames % 16) (ap (λ (k : ℕ). k / frames % 16) e))
-    (eq-eqb (n % frames) (s.frame % frames) (ap (λ (k : ℕ). k % frames) e)) ∙ sym (eq-eqb n s.frame e))
+    and_from _ _ (eq-eqb _ _ (ap (λ (k : ℕ). k / frames % 16) e))
+    (eq-eqb _ _ (ap (λ (k : ℕ). k % frames) e)) ∙ sym (eq-eqb _ _ e))
     (λ (e : n ≡ s.frame → ⊥).
     false_from_ne_true _ (λ (t : is_same (frame_key frames n) (frame_key frames s.frame) ≡ true).
     e (sym (a (key_told frames (Some n) s.frame s.packet.body s.packet.superframe o.superframe o.frame
     (apart_begins frames (Some n) s o f a)
     ∙ sym (same_key (frame_key frames n) (frame_key frames s.frame) t)))))
-    ∙ sym (ne_eqb n s.frame e))
+    ∙ sym (ne_eqb _ _ e))
     (cases_eq n s.frame)
 
 unlike_runs : (frames n : ℕ) (ss : List Sent) → InFrameOrder frames (Some n) ss → AreApart frames (Some n) ss
@@ -340,7 +340,7 @@ ahead from (suc count) s ss l = go (frame_packets from ss) (ahead (from + 1) cou
         → with_sent s (some_met from ps ++ frames_met (from + 1) count ss) ≡ met_of s.frame (s.packet ∷ [])
         ∷ (some_met from ps ++ frames_met (from + 1) count ss)
     go [] ih = ih
-    go (p ∷ ps) ih = cond-false (s.frame == from) _ _ (ne_eqb s.frame from (λ e. omega (arith, e, l)))
+    go (p ∷ ps) ih = cond-false _ _ _ (ne_eqb s.frame from (λ e. omega (arith, e, l)))
 
 with_met : (from count : ℕ) (s : Sent) (ss : List Sent) → from ≤ s.frame → s.frame < from + count → AllFrom s.frame ss
     → with_sent s (frames_met from count ss) ≡ frames_met from count (s ∷ ss)
@@ -364,7 +364,7 @@ with_met from (suc count) s ss l m a = ⊎_elim
         → with_sent s (some_met from ps ++ frames_met (from + 1) count ss) ≡ some_met from (s.packet ∷ ps)
         ++ frames_met (from + 1) count ss
     here [] e h = h ∙ ap (λ (n : ℕ). met_of n (s.packet ∷ []) ∷ frames_met (from + 1) count ss) e
-    here (p ∷ ps) e h = cond-true (s.frame == from) _ _ (eq-eqb s.frame from e)
+    here (p ∷ ps) e h = cond-true _ _ _ (eq-eqb _ _ e)
         ∙ ap (λ (n : ℕ). met_of n (s.packet ∷ p ∷ ps) ∷ frames_met (from + 1) count ss) e
 
 none_met : (from count : ℕ) → frames_met from count [] ≡ []
@@ -421,8 +421,7 @@ met_filtered frames from (suc count) ss = go (frame_packets from ss) (met_filter
     go [] ih = ih
     go (p ∷ ps) ih =
         ap (λ (l : List Group). group_as frames from (p ∷ ps) ∷ l) ih
-        ∙ sym (cond-true (has_packets (group_as frames from (p ∷ ps))) (group_as frames from (p ∷ ps) ∷ rest) rest
-        (cond-false (length (p ∷ ps) == 0) false true (ne_eqb (length (p ∷ ps)) 0 (λ e. omega (arith, e)))))
+        ∙ sym (cond-true _ _ _ (cond-false _ _ _ (ne_eqb (length (p ∷ ps)) 0 (λ e. omega (arith, e)))))
 
 pub groups_are_frames : GroupsAreFrames
 groups_are_frames frames count sent survival some are apart = groups_apart frames count sent survival some are apart
@@ -437,18 +436,22 @@ abbrev pub StepsIn : ℕ → List Met → Type 0
 StepsIn frames [] = Unit {0}
 StepsIn frames (g ∷ gs) = Steps frames g.frame gs
 
+pub steps_behind : (frames n : ℕ) (gs : List Met) → Steps frames n gs → StepsIn frames gs
+steps_behind frames n [] steps = tt
+steps_behind frames n (g ∷ gs) steps = steps.2
+
 steps_with : (frames : ℕ) (s : Sent) (gs : List Met) → Apart frames s.frame gs → StepsIn frames gs
     → StepsIn frames (with_sent s gs)
 steps_with frames s [] a h = tt
 steps_with frames s (g ∷ gs) a h = cond_both (s.frame == g.frame) _ _ (StepsIn frames)
-    (λ e. subst (λ (n : ℕ). Steps frames n gs) (sym (eqb-true s.frame g.frame e)) h)
+    (λ e. subst (λ (n : ℕ). Steps frames n gs) (sym (eqb-true _ _ e)) h)
     (λ e. (later e, a.1, h))
   where
     later : (s.frame == g.frame) ≡ false → s.frame < g.frame
     later e =
         ⊎_elim (λ (l : s.frame < g.frame). l)
         (λ (l : g.frame ≤ s.frame). absurd (both_ways (s.frame == g.frame) e
-        (eq-eqb s.frame g.frame (omega (arith, l, a.0)))))
+        (eq-eqb _ _ (omega (arith, l, a.0)))))
         (cases_lt s.frame g.frame)
 
 steps_runs : (frames : ℕ) (before : Option ℕ) (ss : List Sent) → InFrameOrder frames before ss

@@ -5,11 +5,8 @@ pub mod FormedLemmas
 pub mod MadeLemmas
 pub mod BackLemmas
 pub mod CarryLemmas
-pub mod ShownLemmas
-mod PacketLemmas
 pub mod GroupLemmas
 mod WholeLemmas
-mod AloneLemmas
 mod NearLemmas
 pub mod DamageRecordLemmas
 mod NumberLemmas
@@ -23,7 +20,6 @@ pub mod CarriedLemmas
 pub mod BegunLemmas
 pub mod PassLemmas
 pub mod LossLemmas
-pub mod TestLemmas
 pub mod WrittenLemmas
 pub mod FrameRecordLemmas
 pub mod ArriveLemmas

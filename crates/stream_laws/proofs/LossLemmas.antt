@@ -7,10 +7,9 @@ use Rattle.std.specs.List.{filter, filter_map, cons_option, flat_map, range_with
 use Rattle.std.specs.List.{list_any, AllByRecursion}
 use Rattle.std.specs.Option.{option_or, option_and_then}
 use Rattle.std.proofs.lemmas.Bool.{and_from, and_parts, cases_Bool, cond_both, cond-true, cond-false, eq-eqb, eqb-true}
-use Rattle.std.proofs.lemmas.Bool.{eqb-false, ltb-true, true_from_ne_false, true≢false, false≢true}
+use Rattle.std.proofs.lemmas.Bool.{eqb-false, ltb-true, true_from_ne_false, true≢false, false≢true, both_ways}
 use Rattle.std.proofs.lemmas.List.Elements.{All-from_recursion, All-contains}
-use Rattle.std.proofs.lemmas.List.FromFn.{length-range_with_len, get_or-range_with_len}
-use Rattle.std.proofs.lemmas.List.Sums.{sum_by-cons, length-filter, count_by-le-length, AllPass-from_list_all}
+use Rattle.std.proofs.lemmas.List.Sums.{sum_by-cons, length-filter, count_by-le-length}
 use Rattle.terms.proofs.AllLemmas.{all_append}
 use Rattle.terms.proofs.OptionLemmas.{none_if}
 use Rattle.stream_laws.proofs.MadeLemmas.{all_bodies}
@@ -36,19 +35,22 @@ use Rattle.frame_groups.specs.Tests.{first_shape, has_begun, has_count, has_coun
 use Rattle.frame_groups.specs.Tests.{packets_fault}
 use Rattle.frame_writer.specs.FramePackets.{stamp_of}
 use Rattle.gateway_core.specs.Packets.{block_bodies, frame_bodies}
-use Rattle.stream_laws.specs.SentPackets.{Sent, packets_of, frame_packets}
-use Rattle.stream_laws.specs.Survivors.{is_block_of, is_begun, carries, is_whole}
-use Rattle.stream_laws.specs.DamageLaws.{Misses, NotWholeMisses}
-use Rattle.stream_laws.proofs.CarryLemmas.{own_stamps, time_passes}
-use Rattle.stream_laws.specs.FrameLaws.{FrameCarries}
+use Rattle.stream_laws.specs.SentPackets.{Sent, packets_of, frame_packets, frame_group}
+use Rattle.stream_laws.specs.Survivors.{is_begun, carries, is_whole}
+use Rattle.stream_laws.specs.DamageLaws.{Misses, NotWholeMisses, WholeIsAll, IsMet}
+use Rattle.stream_laws.proofs.CarryLemmas.{at_place, own_stamps, time_passes}
+use Rattle.stream_laws.specs.FrameLaws.{FrameCarries, TestsMeet}
 use Rattle.stream_laws.specs.SentFrames.{sent_frames}
 use Rattle.stream_laws.specs.Types.{TypesFit}
 use Rattle.stream_laws.proofs.BlockLemmas.{count_at}
 use Rattle.stream_laws.proofs.FrameSignalLemmas.{frame_parts}
 use Rattle.stream_laws.proofs.SentLemmas.{l1_of}
-use Rattle.stream_laws.proofs.CarriedLemmas.{HasFrame}
-use Rattle.stream_laws.proofs.BegunLemmas.{place_of_any, begun_here, block_some}
-use Rattle.stream_laws.proofs.PassLemmas.{Given, AreFew, HaveRoom, pool_passes, l1_passes, parts_tell}
+use Rattle.stream_laws.proofs.CarriedLemmas.{HasFrame, has_frame}
+use Rattle.stream_laws.proofs.BegunLemmas.{place_of_any, begun_here, block_some, HaveBegun, begin_met, begun_met}
+use Rattle.stream_laws.proofs.BegunLemmas.{begun_own, begun_before, have_begun}
+use Rattle.stream_laws.proofs.PassLemmas.{Given, AreFew, HaveRoom, pool_passes, l1_passes, parts_tell, own_few, passes}
+use Rattle.frame_groups.specs.declared.key.Key.{Key}
+use Rattle.frame_groups.specs.TestLaws.{FrameNamed}
 
 -- ---- what survives of a frame are some of its packets
 
@@ -100,8 +102,7 @@ all_flagged P f (false ∷ flags) (x ∷ xs) h = all_flagged P f flags xs (drop_
 
 all_of_some : {Y : Type 0} (P : Y → Type 0) (f : Packet → Option Y) (packets all : List Packet) → SomeOf packets all
     → AllByRecursion P (filter_map f all) → AllByRecursion P (filter_map f packets)
-all_of_some P f packets all s h = subst (λ (l : List Packet). AllByRecursion P (filter_map f l)) (sym s.are)
-    (all_flagged P f s.flags all h)
+all_of_some P f packets all s h = rw s.are (all_flagged P f s.flags all h)
 
 -- and they carry no more
 pub keep_fewer : {Y : Type 0} (o : Option Y) (xs ys : List Y) → length xs ≤ length ys → length (cons_option o xs)
@@ -125,9 +126,7 @@ fewer_flagged f (false ∷ flags) (x ∷ xs) = let a = fewer_flagged f flags xs 
 
 fewer_of_some : {Y : Type 0} (f : Packet → Option Y) (packets all : List Packet) → SomeOf packets all
     → length (filter_map f packets) ≤ length (filter_map f all)
-fewer_of_some f packets all s = subst (λ (l : List Packet). length (filter_map f l) ≤ length (filter_map f all))
-    (sym s.are)
-    (fewer_flagged f s.flags all)
+fewer_of_some f packets all s = rw s.are (fewer_flagged f s.flags all)
 
 -- ---- what is lacking
 
@@ -195,7 +194,7 @@ module _ (c : Config) (inputs : ℕ → List (List ℕ)) (past : List Numbered) 
       omega (arith, l, x, y)
 
   own_is : (id : ℕ) (b : List Bool) → is_some {T = List Bool} (cond (id == id) (Some b) None) ≡ true
-  own_is id b = ap is_some (cond-true {A = Option (List Bool)} (id == id) (Some b) None (eq-eqb id id refl))
+  own_is id b = rw (eq-eqb id id refl) refl
 
   tell_blocks : (plp : ℕ) (first : Bool) (bs : List (List Bool)) → plp < length c.plps
       → AllByRecursion Tells (block_bodies (n % c.frames) (plp_at c.plps plp).id first bs)
@@ -247,15 +246,6 @@ module _ (c : Config) (inputs : ℕ → List (List ℕ)) (past : List Numbered) 
 
 -- ---- the tests of what survives
 
-place_at : (test : ℕ → Bool) (count plp : ℕ) → list_all test (range_with_len 0 count) ≡ true → plp < count
-    → test plp ≡ true
-place_at test count plp e inside =
-    let size = length-range_with_len 0 count in
-    let at : slice_index (range_with_len 0 count) plp ≡ plp = get_or-range_with_len 0 count plp 0 inside
-    ∙ omega arith in
-    subst (λ (j : ℕ). test j ≡ true) at
-    (AllPass-from_list_all test (range_with_len 0 count) e plp 0 (omega (arith, inside, size)))
-
 or_right_of : (t u : Bool) → (not t || u) ≡ true → t ≡ true → u ≡ true
 or_right_of true u h e = h
 or_right_of false u h e = absurd (false≢true e)
@@ -303,10 +293,10 @@ module _ (given : Given) (c : Config) (inputs : ℕ → List (List ℕ)) (past :
   counts_of : (plp : ℕ) → plp < length c.plps → currents ≡ true → counted ≡ true
       → has_count c past k plp (length (blocks_of c plp left)) (told plp) ≡ true
   counts_of plp inside some all =
-      let first = first_left (l1s_of left) (ltb-true 0 (length (l1s_of left)) some) own in
+      let first = first_left (l1s_of left) (ltb-true _ _ some) own in
       let each : has_counts c past k left (Some (frame_shape c inputs n)) ≡ true =
       sym (ap (has_counts c past k left) first) ∙ all in
-      place_at (λ plp. has_count c past k plp (length (blocks_of c plp left)) (told plp)) (length c.plps)
+      at_place (λ plp. has_count c past k plp (length (blocks_of c plp left)) (told plp)) (length c.plps)
       plp each inside
 
   -- the L1-current tells too many blocks
@@ -315,10 +305,9 @@ module _ (given : Given) (c : Config) (inputs : ℕ → List (List ℕ)) (past :
   too_few plp inside e fewer some all =
       let count : ℕ = length (blocks_of c plp left) in
       let same : (count == told plp) ≡ true =
-      sym (cond-true (is_first c plp k) (count == told plp)
-      ((count == 0) && has_begun c plp (packets_at past (begin_of c plp k)) (told plp)) e)
+      sym (cond-true _ _ _ e)
       ∙ counts_of plp inside some all in
-      omega (arith, eqb-true count (told plp) same, told_is plp inside, fewer)
+      omega (arith, eqb-true _ _ same, told_is plp inside, fewer)
 
   too_few_begun : (plp : ℕ) → plp < length c.plps → is_first c plp k ≡ false
       → length (blocks_of c plp (packets_at past (begin_of c plp k))) < told_count c inputs n plp → currents ≡ true
@@ -327,40 +316,32 @@ module _ (given : Given) (c : Config) (inputs : ℕ → List (List ℕ)) (past :
       let count : ℕ = length (blocks_of c plp left) in
       let before : List Packet = packets_at past (begin_of c plp k) in
       let both : ((count == 0) && has_begun c plp before (told plp)) ≡ true =
-      sym (cond-false (is_first c plp k) (count == told plp) ((count == 0) && has_begun c plp before (told plp)) e)
+      sym (cond-false _ _ _ e)
       ∙ counts_of plp inside some all in
-      let same = (and_parts (length (blocks_of c plp before) == told plp) (length (right_blocks c plp before)
-      == told plp)
-      (and_parts (count == 0) (has_begun c plp before (told plp)) both).1).0 in
-      omega (arith, eqb-true (length (blocks_of c plp before)) (told plp) same, told_is plp inside, fewer)
+      let same : (length (blocks_of c plp before) == told plp) ≡ true = (and_parts _ _ (and_parts _ _ both).1).0 in
+      omega (arith, eqb-true _ _ same, told_is plp inside, fewer)
 
   -- Not both hold if something is lacking.
   not_both : Lacks c inputs past n k left → (currents && stamped) ≡ true → counted ≡ true → ⊥
   not_both (NoStamp begins none) some all =
-      let there = (and_parts currents stamped some).1 in
-      let l = ltb-true 0 (length (stamps_of left)) (or_right_of (begins_superframe c k)
-      (nat_lt 0 (length (stamps_of left))) there
-      begins) in
+      let l : 0 < length (stamps_of left) = ltb-true _ _ (or_right_of _ _ (and_parts _ _ some).1 begins) in
       omega (arith, l, none)
-  not_both (NoL1 none) some all = let l = ltb-true 0 (length (l1s_of left)) (and_parts currents stamped some).0 in
+  not_both (NoL1 none) some all =
+      let l : 0 < length (l1s_of left) = ltb-true _ _ (and_parts _ _ some).0 in
       omega (arith, l, none)
-  not_both (FewBlocks plp inside e fewer) some all = too_few plp inside e fewer (and_parts currents stamped some).0 all
-  not_both (FewBegun plp inside e fewer) some all = too_few_begun plp inside e fewer (and_parts currents stamped some).0
-      all
+  not_both (FewBlocks plp inside e fewer) some all = too_few plp inside e fewer (and_parts _ _ some).0 all
+  not_both (FewBegun plp inside e fewer) some all = too_few_begun plp inside e fewer (and_parts _ _ some).0 all
 
   -- so it does not pass as frame k
   pub fails : Lacks c inputs past n k left → is_some (packets_fault c past k left) ≡ true
   unfolding packets_fault missing_test blocks_test
-  fails lacks = true_from_ne_false (is_some (packets_fault c past k left))
-      (λ none.
+  fails lacks = true_from_ne_false _ (λ none.
       let first = none_parts (pool_test c past k left) _ none in
       let second = none_parts (missing_test c k left) _ first.1 in
       let third = none_parts (l1_test c k left) _ second.1 in
       let fourth = none_parts (time_test c k left) _ third.1 in
       let fifth = none_parts (blocks_test c past k left) _ fourth.1 in
-      not_both lacks (none_if (currents && stamped) PacketMissing second.0)
-      (and_parts counted (list_all (is_known c) left)
-      (none_if (counted && list_all (is_known c) left) PacketMissing fifth.0)).0)
+      not_both lacks (none_if _ _ second.0) (and_parts _ _ (none_if _ _ fifth.0)).0)
 
 -- and as itself it lacks a packet, if it carries nothing else
 pub lacks_packet : (given : Given) (c : Config) (inputs : ℕ → List (List ℕ)) (past : List Numbered) (n : ℕ)
@@ -376,7 +357,7 @@ lacks_packet given c inputs past n plan types left own rooms few stamps lacks =
     (pool_passes given c inputs n plan types past n left rooms few) (l1_passes given c inputs n plan types left own)
     (time_passes c n left stamps)
     (λ b e. not_both given c inputs past n n plan types left own lacks b
-    (and_parts (has_counts c past n left (first_shape c left)) (list_all (is_known c) left) e).0)
+    (and_parts _ _ e).0)
 
 -- ---- what survives of a frame
 
@@ -409,29 +390,21 @@ count_in : (b : ℕ) (test : Packet → Bool) (sent : List Sent)
 count_in b test [] = refl
 count_in b test (s ∷ sent) =
     sum_by-cons (λ (s : Sent). cond {A = ℕ} ((s.frame == b) && test s.packet) 1 0) s sent
-    ∙ go (s.frame == b) (count_in b test sent)
-  where
-    go : (t : Bool) → count_by (λ (s : Sent). (s.frame == b) && test s.packet) sent ≡ count_by test
-        (frame_packets b sent)
-        → cond (t && test s.packet) 1 0 + count_by (λ (s : Sent). (s.frame == b) && test s.packet) sent
-        ≡ count_by test (packets_of (cond t (s ∷ filter (λ (x : Sent). x.frame == b) sent)
-        (filter (λ (x : Sent). x.frame == b) sent)))
-    go true e = ap (λ (k : ℕ). cond (test s.packet) 1 0 + k) e
-        ∙ sym (sum_by-cons (λ (p : Packet). cond {A = ℕ} (test p) 1 0) s.packet (frame_packets b sent))
-    go false e = omega (arith, e)
+    ∙ ⊎_elim
+    (λ (e : (s.frame == b) ≡ true). rw (e, count_in b test sent)
+    (sym (sum_by-cons (λ (p : Packet). cond {A = ℕ} (test p) 1 0) s.packet (frame_packets b sent))))
+    (λ (e : (s.frame == b) ≡ false). rw e (omega (arith, count_in b test sent)))
+    (cases_Bool (s.frame == b))
 
 -- what holds of the packets of a frame holds of each sent packet of it
 of_sent : (P : Packet → Type 0) (n : ℕ) (sent : List Sent) → AllByRecursion P (frame_packets n sent)
     → AllByRecursion (λ (s : Sent). (s.frame == n) ≡ true → P s.packet) sent
 of_sent P n [] h = tt
-of_sent P n (s ∷ sent) h = let parts = go (s.frame == n) h in (parts.0, of_sent P n sent parts.1)
-  where
-    go : (t : Bool)
-        → AllByRecursion P
-        (packets_of (cond t (s ∷ filter (λ (x : Sent). x.frame == n) sent) (filter (λ (x : Sent). x.frame == n) sent)))
-        → (t ≡ true → P s.packet) × AllByRecursion P (frame_packets n sent)
-    go true h = (λ e. h.0, h.1)
-    go false h = (λ e. absurd (false≢true e), h)
+of_sent P n (s ∷ sent) h = ⊎_elim
+    (λ (t : (s.frame == n) ≡ true). let all = rw t at h in (λ e. all.0, of_sent P n sent all.1))
+    (λ (t : (s.frame == n) ≡ false).
+    let all = rw t at h in (λ e. absurd (true≢false (sym e ∙ t)), of_sent P n sent all))
+    (cases_Bool (s.frame == n))
 
 module _ (c : Config) (sent : List Sent) (survival : List Bool) (n : ℕ) (miss : Misses (carries c n)
     sent survival) where
@@ -440,7 +413,7 @@ module _ (c : Config) (sent : List Sent) (survival : List Bool) (n : ℕ) (miss 
       → count_by test (frame_packets b (items_where_true survival sent)) < count_by test (frame_packets b sent)
   fewer_left b here test passes =
       let l = miss.fewer (λ (s : Sent). (s.frame == b) && test s.packet)
-      (and_from (miss.packet.frame == b) (test miss.packet.packet) here passes) in
+      (and_from _ _ here passes) in
       let x = count_in b test (items_where_true survival sent) in
       let y = count_in b test sent in
       omega (arith, l, x, y)
@@ -452,7 +425,7 @@ module _ (c : Config) (sent : List Sent) (survival : List Bool) (n : ℕ) (miss 
   fewer_begun plp e =
       let id : ℕ = (plp_at c.plps plp).id in
       let test : Packet → Bool = λ p. is_some (body_block id p.body) in
-      let parts = and_parts (miss.packet.frame == begin_of c plp n) (is_block_of id miss.packet.packet.body) e in
+      let parts = and_parts _ _ e in
       let l = fewer_left (begin_of c plp n) parts.0 test (block_some id miss.packet.packet.body ∙ parts.1) in
       let x = count_some (λ (p : Packet). body_block id p.body) (frame_packets (begin_of c plp n)
       (items_where_true survival sent)) in
@@ -474,9 +447,9 @@ carried_cases c n s e = go (s.frame == n) refl e
         ⊎_elim
         (λ (f : is_first c one.0 n ≡ true).
         let here = begun_here c one.0 n f in
-        let own = (and_parts (s.frame == begin_of c one.0 n) (is_block_of (plp_at c.plps one.0).id s.packet.body)
+        let own = (and_parts _ _
         one.2).0 in
-        absurd (eqb-false s.frame n is (eqb-true s.frame (begin_of c one.0 n) own ∙ here)))
+        absurd (eqb-false _ _ is (eqb-true _ _ own ∙ here)))
         (λ (f : is_first c one.0 n ≡ false). inr (one.0, one.1, f, one.2))
         (cases_Bool (is_first c one.0 n))
 
@@ -510,3 +483,68 @@ not_whole_lacks misses carried c inputs count m k survival past like l has w bef
     (λ (begun : (plp : ℕ) × (plp < length c.plps) × (is_first c plp m ≡ false) × (is_begun c plp m miss.packet ≡ true)).
     before begun.0 begun.1 begun.2 (fewer_begun c sent survival m miss begun.0 begun.3))
     (carried_cases c m miss.packet miss.passing)
+
+-- ---- the six tests make of a run what they must, whatever survives
+
+pub tests_meet : Given → FrameCarries → WholeIsAll → NotWholeMisses → FrameNamed → TestsMeet
+tests_meet given carries all misses named c inputs n survival plan types l len =
+    let sent : List Sent = sent_frames c inputs n in
+    let survivors : List Sent = items_where_true survival sent in
+    let own : ℕ → List Packet = λ m. frame_packets m sent in
+    let left : ℕ → List Packet = λ m. frame_packets m survivors in
+    let has : (m : ℕ) → m < n → HasFrame c inputs m (own m) = λ m k. has_frame given.numbers given.field
+    c inputs m (own m) plan
+    (carries c inputs n m k) in
+    let is : (m : ℕ) → m < n → IsLeft c inputs m (left m) =
+    λ m k. is_left c inputs m (own m) (left m) (has m k) (some_left m sent survival) in
+    let few : (m : ℕ) → m < n → AreFew c (left m) =
+    λ m k plp inside.
+    let a = (is m k).few plp inside in
+    let most = own_few given c inputs m plan types plp inside in
+    omega (arith, a, most) in
+    let rooms : (first m : ℕ) (past : List Numbered) → m < n → IsMet c.frames first m survivors past
+    → HaveRoom c past m =
+    λ first m past k met b below e. subst (AreFew c)
+    (sym (begin_met given.laws c plan first m survivors past met b below e))
+    (few b (omega (arith, below, k))) in
+    let begun : (first m : ℕ) (past : List Numbered) → m < n → IsMet c.frames first m survivors past
+    → is_whole c sent survival m ≡ true → HaveBegun c inputs past m =
+    λ first m past k met w. have_begun given.numbers given.field all given.laws c inputs plan n first
+    m survival past len met w
+    (λ b below. has b (omega (arith, below, k))) in
+    let itself : (m : ℕ) → BeginsAll c m m = λ m. record { superframe = λ e. e; plps = λ plp inside e. e } in
+    record {
+      network = refl;
+      key = λ g m e. ((named c g m plan.rules).0 e).key;
+      names = λ m k begins w. (named c (frame_group c.frames sent m) m plan.rules).1 (record {
+        stamp = stamp_of c m;
+        first = ap (λ (s : List Stamp). slice_get s 0) ((has m k).stamps
+            ∙ cond-true {A = List Stamp} (begins_superframe c m)
+            (stamp_of c m ∷ []) [] (eq-eqb _ _ begins));
+        small = omega (arith, k, l);
+        emission-is = refl;
+        key = refl;
+      });
+      passes = λ first m past k met w. passes given c inputs m plan types past (rooms first m past k met)
+          (begun first m past k met w) (own m) (has m k);
+      lacks = λ first m past k met w. lacks_packet given c inputs past m plan types (left m) (is m k).l1s
+          (rooms first m past k met) (few m k) (is m k).stamps
+          (not_whole_lacks misses carries c inputs n m m survival past (itself m) k (has m k) w
+          (λ plp inside e fewer.
+          let met_is = ap (λ (packets : List Packet). length (blocks_of c plp packets))
+          (begun_met given.laws c plan first m survivors past met plp inside e) in
+          let sent_is = ap length ((has (begin_of c plp m) (omega (arith, begun_before c plp m e, k))).blocks
+          plp inside)
+          ∙ ap length (begun_own given.laws c inputs plp m plan.rules inside) in
+          FewBegun plp inside e (omega (arith, met_is, sent_is, fewer))));
+      fails = λ m j k begins same w some.
+          let same_idx : j % c.frames ≡ m % c.frames = ap (λ (x : Key). x.frame) same in
+          let like : BeginsAll c m j = record {
+            superframe = λ e. eq-eqb _ _ (omega (arith, same_idx, begins));
+            plps = λ plp inside e. given.laws.superframe c plp j plan.rules inside (omega (arith, same_idx, begins));
+          } in
+          fails given c inputs [] m j plan types (left m) (is m k).l1s
+          (not_whole_lacks misses carries c inputs n m j survival [] like k (has m k) w
+          (λ plp inside e fewer.
+          absurd (both_ways (is_first c plp m) e (given.laws.superframe c plp m plan.rules inside begins))));
+    }

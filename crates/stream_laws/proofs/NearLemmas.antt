@@ -9,7 +9,7 @@ use Rattle.stream_laws.specs.SentPackets.{Sent, IsTimestamp, frame_packets, Foll
 use Rattle.stream_laws.specs.SentPackets.{AreNear}
 use Rattle.stream_laws.specs.Survivors.{later_only}
 use Rattle.stream_laws.specs.DamageLaws.{LaterNear, NearTold}
-use Rattle.stream_laws.proofs.PacketLemmas.{packets_other}
+use Rattle.stream_laws.proofs.FullLemmas.{packets_other}
 use Rattle.stream_laws.proofs.GroupLemmas.{AreBelow, all_from, no_packets}
 
 -- Each packet is in the frame of the one before it, or in the next one.

@@ -13,7 +13,7 @@ use Rattle.frame_groups.specs.Numbers.{frame_key, next_number}
 use Rattle.stream_laws.specs.SentPackets.{Sent, frame_packets, frame_group}
 use Rattle.stream_laws.specs.GroupNumbers.{numbers_behind, is_met, number_from, JoinsAt, GroupsNumbered}
 use Rattle.stream_laws.proofs.GroupLemmas.{not_empty, Met, group_as, key_groups, some_met, frames_met, groups_are_met}
-use Rattle.stream_laws.proofs.GroupLemmas.{Steps, StepsIn, steps_met}
+use Rattle.stream_laws.proofs.GroupLemmas.{Steps, StepsIn, steps_met, steps_behind}
 
 -- the frames of which a packet survives, from one on
 met_frames : (ss : List Sent) (from count : ℕ) → map (λ (g : Met). g.frame) (frames_met from count ss)
@@ -31,8 +31,7 @@ met_frames ss from (suc count) = go (frame_packets from ss) (met_frames ss (from
         → map (λ (g : Met). g.frame) (some_met from ps ++ gs) ≡ cond (nat_lt 0 (length ps)) (from ∷ rest) rest
     go [] ih = ih
     go (p ∷ ps) ih =
-        ap (λ (l : List ℕ). from ∷ l) ih
-        ∙ sym (cond-true (nat_lt 0 (length (p ∷ ps))) (from ∷ rest) rest (lt-ltb 0 (length (p ∷ ps)) (omega arith)))
+        ap (λ (l : List ℕ). from ∷ l) ih ∙ sym (cond-true _ _ _ (lt-ltb 0 (length (p ∷ ps)) (omega arith)))
 
 -- behind a number each group gets that of its frame, if no loss is so long that keys come again
 found_behind : NextIsFound → (r : Rules) (b : Numbered) (past : List Numbered) (gs : List Met) → 0 < r.frames
@@ -50,11 +49,11 @@ found_behind found r b past (g ∷ gs) some steps =
 
 -- these frames are later ones
 number_at : (first n : ℕ) → first ≤ n → number_from first n ≡ Some n
-number_at first n l = cond-true (nat_le first n) (Some n) None (le-leb first n l)
+number_at first n l = cond-true _ _ _ (le-leb _ _ l)
 
 number_before : (first n : ℕ) → n < first → number_from first n ≡ None
 number_before first n l =
-    cond-false (nat_le first n) (Some n) None
+    cond-false _ _ _
     (false_from_ne_true (nat_le first n) (λ t. let most = leb-true first n t in omega (arith, most, l)))
 
 all_later : (frames first n : ℕ) (gs : List Met) → first ≤ n → Steps frames n gs
@@ -63,10 +62,6 @@ all_later frames first n [] l steps = refl
 all_later frames first n (g ∷ gs) l steps =
     ap₂ (λ (x : Option ℕ) (xs : List (Option ℕ)). x ∷ xs) (sym (number_at first g.frame (omega (arith, l, steps.0))))
     (all_later frames first g.frame gs (omega (arith, l, steps.0)) steps.2)
-
-behind : (frames n : ℕ) (gs : List Met) → Steps frames n gs → StepsIn frames gs
-behind frames n [] steps = tt
-behind frames n (g ∷ gs) steps = steps.2
 
 module _ (found : NextIsFound) (r : Rules) (count : ℕ) (ss : List Sent) (first : ℕ) (some : 0 < r.frames)
     (joins : JoinsAt r ss first) where
@@ -109,7 +104,7 @@ module _ (found : NextIsFound) (r : Rules) (count : ℕ) (ss : List Sent) (first
           (key_groups r.frames gs))
           number
           ∙ ap₂ (λ (x : Option ℕ) (xs : List (Option ℕ)). x ∷ xs) (sym (number_before first from low))
-          (ih (omega (arith, low)) (behind r.frames from gs steps)))
+          (ih (omega (arith, low)) (steps_behind r.frames from gs steps)))
           (cases_eq from first)
 
 pub groups_numbered : NextIsFound → GroupsNumbered

@@ -2,20 +2,23 @@
 use Rattle.std.proofs.Common.{◌≡◌, ◌≢◌, ℕ, zero, suc, ◌+◌, ◌-◌, ◌%◌, ◌<◌, ◌≤◌, ◌==◌, Bool, true, false, List, [], ◌∷◌}
 use Rattle.std.proofs.Common.{◌++◌, length, Option, Some, None, refl, ap, sym, subst, ◌∙◌, ⊎_elim, arith}
 use Rattle.std.specs.List.{AllByRecursion}
-use Rattle.std.proofs.lemmas.Bool.{cases_eq, cases_lt, cond_both, eqb-true, eq-eqb, ne_eqb}
+use Rattle.std.proofs.lemmas.Bool.{cases_eq, cases_lt, cond_both, eqb-true}
 use Rattle.terms.proofs.AllLemmas.{all_append}
 use Rattle.plp_config.specs.declared.config.Config.{Config}
 use Rattle.t2mi_packet.specs.declared.packet.Body.{Body}
 use Rattle.gateway_core.specs.Packets.{plp_bodies}
 use Rattle.stream_laws.specs.SentPackets.{Sent, frame_packets, IsTimestamp, InFrameOrder, IsNearSome, AreNear}
 use Rattle.stream_laws.specs.SentFrames.{sent_from}
-use Rattle.stream_laws.proofs.SentLemmas.{IsPlain, plain_plps, Earlier, NotLater, earlier_follows, plain_follows}
-use Rattle.stream_laws.proofs.SentLemmas.{not_later}
+use Rattle.stream_laws.proofs.SentLemmas.{Earlier, plain_follows, not_later, order_frame, below_own, some_front}
+use Rattle.l1_signal.specs.L1Configurable.{conf_bits}
+use Rattle.l1_signal.specs.L1Of.{pre_of, conf_of}
+use Rattle.l1_signal.specs.L1Pre.{pre_bits}
+use Rattle.t2mi_packet.specs.declared.packet.Packet.{Packet}
 use Rattle.stream_laws.specs.Remade.{NumberedView, view_bodies, frame_pairs, remade_bodies, IsSpaced, AreSpacedFrom}
 use Rattle.stream_laws.proofs.MadeLemmas.{all_bodies, made_l1, made_bodies}
 use Rattle.stream_laws.specs.Coming.{end_after, is_complete}
-use Rattle.stream_laws.proofs.FullLemmas.{packets_step, pairs, sent_append, stand_in, stand_ins, lost_by, lost, full}
-use Rattle.stream_laws.proofs.FullLemmas.{RisesFrom, own, own_here, packets_append}
+use Rattle.stream_laws.proofs.FullLemmas.{packets_here, packets_other, pairs, sent_append, stand_in, stand_ins, lost_by}
+use Rattle.stream_laws.proofs.FullLemmas.{lost, full, RisesFrom, own, own_here, parts_packets}
 
 -- The packets of a frame carry what a written frame has.
 pub record Made (c : Config) (f : NumberedView) : Type 0 where
@@ -29,43 +32,7 @@ AllMade c fs = AllByRecursion (Made c) fs
 -- ---- order
 
 earlier_as : (before : Option ℕ) (m n : ℕ) → m ≡ n → Earlier before m → Earlier before n
-earlier_as None m n e l = tt
-earlier_as (Some k) m n e l = omega (arith, e, l)
-
-order_rest : (c : Config) (n : ℕ) (before : Option ℕ) (bodies : List Body) (rest : List Sent) (number : ℕ)
-    → AllByRecursion (IsPlain c n) bodies → NotLater before n → InFrameOrder c.frames before rest
-    → InFrameOrder c.frames (Some n) rest → InFrameOrder c.frames before (sent_from c number (pairs n bodies) ++ rest)
-order_rest c n before [] rest number p l o q = o
-order_rest c n before (b ∷ bodies) rest number p l o q = (
-  record { superframe = refl; frame = p.0.0 },
-  plain_follows before _ p.0.1 l,
-  order_rest c n (Some n) bodies rest (number + 1) p.1 (omega arith) q q,
-)
-
-order_l1 : (c : Config) (n : ℕ) (before : Option ℕ) (dynamic : List Bool) (blocks : ℕ → List (List Bool))
-    (rest : List Sent)
-    (number : ℕ) → NotLater before n → InFrameOrder c.frames (Some n) rest
-    → InFrameOrder c.frames before (sent_from c number (pairs n (made_l1 c n dynamic ∷ plp_bodies c n blocks 0))
-    ++ rest)
-order_l1 c n before dynamic blocks rest number l o = (
-  record { superframe = refl; frame = refl },
-  plain_follows before _ (λ t. t) l,
-  order_rest c n (Some n) (plp_bodies c n blocks 0) rest (number + 1) (plain_plps c n blocks) (omega arith) o o,
-)
-
-order_made : (c : Config) (n : ℕ) (before : Option ℕ) (dynamic : List Bool) (blocks : ℕ → List (List Bool))
-    (rest : List Sent)
-    (number : ℕ) → Earlier before n → InFrameOrder c.frames (Some n) rest
-    → InFrameOrder c.frames before (sent_from c number (pairs n (made_bodies c n dynamic blocks)) ++ rest)
-order_made c n before dynamic blocks rest number e o =
-    cond_both {A = List Body} (n % c.frames == 0) _ _
-    (λ l. InFrameOrder c.frames before (sent_from c number (pairs n l) ++ rest))
-    (λ t. (
-      record { superframe = refl; frame = eqb-true (n % c.frames) 0 t },
-      earlier_follows before _ e,
-      order_l1 c n (Some n) dynamic blocks rest (number + 1) (omega arith) o,
-    ))
-    (λ t. order_l1 c n before dynamic blocks rest number (not_later before n e) o)
+earlier_as before m n e l = subst (Earlier before) e l
 
 order_stand : (c : Config) (from k : ℕ) (before : Option ℕ) (rest : List Sent) → Earlier before from
     → ((b : Option ℕ) → Earlier b (from + k) → InFrameOrder c.frames b rest)
@@ -104,8 +71,9 @@ order_full c all (f ∷ fs) from number before r m e =
     subst (λ (bodies : List Body). InFrameOrder c.frames b (sent_from c number (pairs f.number bodies)
     ++ (lost c all f ++ rest)))
     (sym made.is)
-    (order_made c f.number b made.dynamic made.blocks (lost c all f ++ rest) number
-    (earlier_as b (from + (f.number - from)) f.number (omega (arith, low)) l) more))
+    (order_frame c f.number (pre_bits (pre_of c)) (conf_bits (conf_of c)) made.dynamic made.blocks
+    (lost c all f ++ rest) more b number
+    (earlier_as b (from + (f.number - from)) f.number (omega (arith, low)) l)))
 
 -- ---- below the end
 
@@ -113,11 +81,6 @@ below_stand : (c : Config) (count from k : ℕ) → from + k ≤ count → AllBy
     (stand_ins c from k)
 below_stand c count from zero l = tt
 below_stand c count from (suc k) l = (omega (arith, l), below_stand c count (from + 1) k (omega (arith, l)))
-
-below_own : (c : Config) (count n number : ℕ) (bodies : List Body) → n < count
-    → AllByRecursion (λ s. s.frame < count) (sent_from c number (pairs n bodies))
-below_own c count n number [] l = tt
-below_own c count n number (b ∷ bodies) l = (l, below_own c count n (number + 1) bodies l)
 
 below_lost : (c : Config) (count n : ℕ) (t : Bool) → n < count → AllByRecursion (λ s. s.frame < count) (lost_by c n t)
 below_lost c count n true l = tt
@@ -145,32 +108,25 @@ below_full c all (f ∷ fs) from number count r l =
 
 -- ---- each frame has a packet
 
-none_left : {X : Type 0} (xs ys : List X) → xs ++ ys ≡ [] → xs ≡ []
-none_left [] ys e = refl
-none_left (x ∷ xs) ys e = let k = ap length e in absurd (omega (arith, k))
-
-none_right : {X : Type 0} (xs ys : List X) → xs ++ ys ≡ [] → ys ≡ []
-none_right [] ys e = e
-none_right (x ∷ xs) ys e = let k = ap length e in absurd (omega (arith, k))
-
-some_made : (c : Config) (n : ℕ) (dynamic : List Bool) (blocks : ℕ → List (List Bool))
-    → made_bodies c n dynamic blocks ≡ [] → ⊥
-some_made c n dynamic blocks =
-    cond_both {A = List Body} (n % c.frames == 0) _ _ (λ l. l ≡ [] → ⊥)
-    (λ t e. let k = ap length e in omega (arith, k)) (λ t e. let k = ap length e in omega (arith, k))
+parts_none : (x y z w : List Packet) → x ++ (y ++ (z ++ w)) ≡ [] → (x ≡ []) × (y ≡ []) × (w ≡ [])
+parts_none [] [] [] w e = (refl, refl, e)
+parts_none [] [] (p ∷ z) w e = absurd cc
+parts_none [] (p ∷ y) z w e = absurd cc
+parts_none (p ∷ x) y z w e = absurd cc
 
 pub some_bodies : (c : Config) (f : NumberedView) → Made c f → view_bodies c f.number f.view ≡ [] → ⊥
-some_bodies c f made e = some_made c f.number made.dynamic made.blocks (sym made.is ∙ e)
+some_bodies c f made e = some_front c f.number (made_l1 c f.number made.dynamic)
+    (plp_bodies c f.number made.blocks 0) (sym made.is ∙ e)
 
 stand_some : (c : Config) (n from k : ℕ) → from ≤ n → n < from + k → frame_packets n (stand_ins c from k) ≡ [] → ⊥
 stand_some c n from zero a b e = omega (arith, a, b)
 stand_some c n from (suc k) a b e = ⊎_elim
     (λ (s : from ≡ n).
-    let z = ap length (sym (packets_step n (stand_in c from) (stand_ins c (from + 1) k) true
-    (eq-eqb (stand_in c from).frame n s)) ∙ e) in absurd (omega (arith, z)))
+    let z = ap length (sym (packets_here n (stand_in c from) (stand_ins c (from + 1) k) s) ∙ e) in
+    absurd (omega (arith, z)))
     (λ (s : from ≡ n → ⊥).
     stand_some c n (from + 1) k (omega (arith, a, s)) (omega (arith, b))
-    (sym (packets_step n (stand_in c from) (stand_ins c (from + 1) k) false (ne_eqb (stand_in c from).frame n s)) ∙ e))
+    (sym (packets_other n (stand_in c from) (stand_ins c (from + 1) k) s) ∙ e))
     (cases_eq from n)
 
 pub some_full : (c : Config) (all : List NumberedView) (n : ℕ) (fs : List NumberedView) (from number : ℕ)
@@ -179,31 +135,20 @@ pub some_full : (c : Config) (all : List NumberedView) (n : ℕ) (fs : List Numb
 some_full c all n [] from number r m a b e = omega (arith, a, b)
 some_full c all n (f ∷ fs) from number r m a b e =
     let low = r.0 in
-    let k : ℕ = f.number - from in
-    let mine : List Sent = own c number f in
+    let own_packets : List Packet = frame_packets n (own c number f) in
     let rest : List Sent = full c all (f.number + 1) (number + length (frame_pairs c f)) fs in
-    let parts : frame_packets n (stand_ins c from k) ++ frame_packets n (mine ++ (lost c all f ++ rest)) ≡ [] =
-    sym (packets_append n (stand_ins c from k) (mine ++ (lost c all f ++ rest))) ∙ e in
-    let later : frame_packets n mine ++ frame_packets n (lost c all f ++ rest) ≡ [] =
-    sym (packets_append n mine (lost c all f ++ rest))
-    ∙ none_right (frame_packets n (stand_ins c from k)) (frame_packets n (mine ++ (lost c all f ++ rest))) parts in
-    let last : frame_packets n (lost c all f) ++ frame_packets n rest ≡ [] =
-    sym (packets_append n (lost c all f) rest) ∙ none_right (frame_packets n mine)
-    (frame_packets n (lost c all f ++ rest)) later in
+    let none = parts_none (frame_packets n (stand_ins c from (f.number - from))) own_packets
+    (frame_packets n (lost c all f)) (frame_packets n rest) (sym (parts_packets c all n from number f rest) ∙ e) in
     ⊎_elim
-    (λ (less : n < f.number).
-    stand_some c n from k a (omega (arith, less, low)) (none_left (frame_packets n (stand_ins c from k))
-    (frame_packets n (mine ++ (lost c all f ++ rest))) parts))
+    (λ (less : n < f.number). stand_some c n from (f.number - from) a (omega (arith, less, low)) none.0)
     (λ (more : f.number ≤ n).
     ⊎_elim
     (λ (s : f.number ≡ n).
     some_bodies c f m.0
-    (sym (subst (λ (j : ℕ). all_bodies (frame_packets j mine) ≡ view_bodies c f.number f.view) s
-    (own_here c f.number number (view_bodies c f.number f.view)))
-    ∙ ap all_bodies (none_left (frame_packets n mine) (frame_packets n (lost c all f ++ rest)) later)))
+    (sym (subst (λ (j : ℕ). all_bodies (frame_packets j (own c number f)) ≡ view_bodies c f.number f.view) s
+    (own_here c f.number number (view_bodies c f.number f.view))) ∙ ap all_bodies none.1))
     (λ (s : f.number ≡ n → ⊥).
-    some_full c all n fs (f.number + 1) (number + length (frame_pairs c f)) r.1 m.1 (omega (arith, more, s)) b
-    (none_right (frame_packets n (lost c all f)) (frame_packets n rest) last))
+    some_full c all n fs (f.number + 1) (number + length (frame_pairs c f)) r.1 m.1 (omega (arith, more, s)) b none.2)
     (cases_eq f.number n))
     (cases_lt n f.number)
 
@@ -232,7 +177,7 @@ near_made c n before dynamic blocks rest number some spaced h =
     cond_both {A = List Body} (n % c.frames == 0) _ _
     (λ l. AreNear c.frames before (sent_from c number (pairs n l) ++ rest))
     (λ t. (
-      near_some c before _ spaced (λ _. eqb-true (n % c.frames) 0 t),
+      near_some c before _ spaced (λ _. eqb-true _ _ t),
       near_rest c n (made_l1 c n dynamic ∷ plp_bodies c n blocks 0) rest (number + 1) some h,
     ))
     (λ t. (
@@ -245,16 +190,12 @@ near_from : (c : Config) (f : NumberedView) (fs : List NumberedView) (before : O
     → SpacedSome c before f.number → AreSpacedFrom c f.number fs → AllMade c (f ∷ fs)
     → AreNear c.frames before (sent_from c number (remade_bodies c (f ∷ fs)))
 near_from c f [] before number some spaced chain made =
-    subst (AreNear c.frames before) (sym (sent_append c number (frame_pairs c f) (remade_bodies c [])))
-    (subst (λ (bodies : List Body). AreNear c.frames before (sent_from c number (pairs f.number bodies)
-    ++ sent_from c (number + length (frame_pairs c f)) (remade_bodies c [])))
-    (sym made.0.is) (near_made c f.number before made.0.dynamic made.0.blocks
-    (sent_from c (number + length (frame_pairs c f)) (remade_bodies c [])) number some spaced tt))
+    rw (sent_append, made.0.is) (near_made c f.number before made.0.dynamic made.0.blocks _ number some spaced tt)
 near_from c f (g ∷ fs) before number some spaced chain made =
     let rest : List Sent = sent_from c (number + length (frame_pairs c f)) (remade_bodies c (g ∷ fs)) in
     let more : AreNear c.frames (Some f.number) rest =
     near_from c g fs (Some f.number) (number + length (frame_pairs c f)) some chain.0 chain.1 made.1 in
-    subst (AreNear c.frames before) (sym (sent_append c number (frame_pairs c f) (remade_bodies c (g ∷ fs))))
+    rw sent_append
     (subst (λ (bodies : List Body). AreNear c.frames before (sent_from c number (pairs f.number bodies) ++ rest))
     (sym made.0.is) (near_made c f.number before made.0.dynamic made.0.blocks rest number some spaced more))
 

@@ -1,14 +1,12 @@
 -- The six tests of the packets of a frame, and what they say of fewer.
-use Rattle.std.proofs.Common.{◌≡◌, ℕ, zero, suc, ◌+◌, ◌*◌, ◌/◌, ◌<◌, ◌≤◌, ◌==◌, ◌&&◌, ◌||◌, not, Bool, true, false}
-use Rattle.std.proofs.Common.{List, [], ◌∷◌, length, Option, Some, None, refl, ap, sym, subst, ◌∙◌, ⊎_elim, arith}
-use Rattle.std.proofs.Common.{sum_by}
-use Rattle.std.specs.Prelude.{slice_get, slice_index, if◌then◌else◌, nat_le, nat_lt}
+use Rattle.std.proofs.Common.{◌≡◌, ℕ, zero, suc, ◌+◌, ◌*◌, ◌/◌, ◌<◌, ◌≤◌, ◌&&◌, Bool, true, false, List, [], ◌∷◌}
+use Rattle.std.proofs.Common.{length, Some, None, refl, ap, sym, subst, ◌∙◌, ⊎_elim, arith, sum_by}
+use Rattle.std.specs.Prelude.{slice_index}
 use Rattle.std.specs.Bool.{beq}
 use Rattle.std.specs.Cmp.{booleans_Decides}
 use Rattle.std.specs.Cmp.Lexicographic.{pointwise, pointwise_decides}
 use Rattle.std.specs.Int.{div_ceil}
 use Rattle.std.specs.List.{list_all, range_with_len, AllByRecursion}
-use Rattle.std.specs.Option.{option_and_then}
 use Rattle.std.proofs.lemmas.Bool.{and_from, cases_Bool, cond-true, cond-false, eq-eqb, le-leb, cond_both}
 use Rattle.std.proofs.lemmas.List.Folds.{fold-map}
 use Rattle.std.proofs.lemmas.List.FromFn.{fill_by_all}
@@ -16,7 +14,7 @@ use Rattle.std.proofs.lemmas.List.Sums.{sum_by-cons}
 use Rattle.std.proofs.lemmas.Nat.{mul-le}
 use Rattle.bb_frame.specs.Laws.{BitCounts}
 use Rattle.plp_config.specs.Capacity.{IsPlan, block_bytes, block_cells}
-use Rattle.plp_config.specs.InterleavingFrames.{interleaving_frame, is_first, begin_of}
+use Rattle.plp_config.specs.InterleavingFrames.{interleaving_frame, is_first}
 use Rattle.plp_config.specs.Laws.{FieldRange, BlockChunks, CellsByFive, BlocksFit}
 use Rattle.plp_config.specs.Plps.{plp_at, no_plp}
 use Rattle.plp_config.specs.Tables.{cells_per_block}
@@ -27,23 +25,16 @@ use Rattle.scheduler.specs.Laws.{CountsFit, ShapeFitsL1, ShapeHasCounts}
 use Rattle.cell_map.specs.Laws.{ShapePasses}
 use Rattle.l1_signal.specs.Laws.{PreWritten, ConfWritten, DynReadBack, DynWritten}
 use Rattle.t2mi_packet.specs.declared.packet.Packet.{Packet}
-use Rattle.t2mi_packet.specs.declared.packet.Stamp.{Stamp}
 use Rattle.mode_adapt.specs.Blocks.{plp_blocks, own_blocks, told_count, told_counts}
 use Rattle.record_laws.specs.Frames.{frame_shape}
 use Rattle.record_laws.specs.Laws.{ToldCountsFit}
 use Rattle.frame_groups.specs.Modulated.{Numbered}
-use Rattle.frame_groups.specs.declared.cause.MuteCause.{MuteCause}
-use Rattle.frame_groups.specs.declared.cause.MuteCause.TheVariants.{PacketMissing, L1Refused, MapRefused, PoolFull}
 use Rattle.frame_groups.specs.Begun.{is_begin, packets_at}
-use Rattle.frame_groups.specs.Carried.{blocks_of, right_blocks, L1Parts, l1s_of, stamps_of}
+use Rattle.frame_groups.specs.Carried.{blocks_of, right_blocks, L1Parts, l1s_of}
 use Rattle.frame_groups.specs.TestLaws.{MapPasses, PartsTold}
-use Rattle.frame_groups.specs.Tests.{begins_superframe, pool_chunks, pool_need, capped, room_test, begun_test}
-use Rattle.frame_groups.specs.Tests.{pool_test, missing_test, same_parts, parts_agree, l1s_agree, l1_test, time_test}
-use Rattle.frame_groups.specs.Tests.{l1_shape, first_shape, has_begun, has_count, has_counts, is_known, blocks_test}
-use Rattle.frame_groups.specs.Tests.{has_map, map_test, packets_fault}
-use Rattle.frame_groups.proofs.BegunLemmas.{none_fails}
-use Rattle.frame_writer.specs.FramePackets.{stamp_of}
-use Rattle.stream_laws.proofs.CarryLemmas.{unless_true, own_stamps, time_passes, each_place}
+use Rattle.frame_groups.specs.Tests.{pool_chunks, pool_need, room_test, pool_test, same_parts, parts_agree, l1s_agree}
+use Rattle.frame_groups.specs.Tests.{l1_test, l1_shape, has_count, packets_fault}
+use Rattle.stream_laws.proofs.CarryLemmas.{unless_true, pool_none, all_pass}
 use Rattle.stream_laws.specs.Types.{TypesFit}
 use Rattle.stream_laws.proofs.BlockLemmas.{count_at}
 use Rattle.stream_laws.proofs.FrameSignalLemmas.{frame_parts, parts_pass, frame_told}
@@ -98,11 +89,7 @@ bits_self bits = (pointwise_decides booleans_Decides bits bits).1 refl
 
 parts_self : (l1 : L1Parts) → same_parts l1 l1 ≡ true
 parts_self l1 =
-    and_from (pointwise beq l1.pre l1.pre && pointwise beq l1.conf l1.conf && pointwise beq l1.dynamic l1.dynamic)
-    (pointwise beq l1.extension l1.extension)
-    (and_from (pointwise beq l1.pre l1.pre && pointwise beq l1.conf l1.conf) (pointwise beq l1.dynamic l1.dynamic)
-    (and_from (pointwise beq l1.pre l1.pre) (pointwise beq l1.conf l1.conf) (bits_self l1.pre) (bits_self l1.conf))
-    (bits_self l1.dynamic))
+    and_from _ _ (and_from _ _ (and_from _ _ (bits_self l1.pre) (bits_self l1.conf)) (bits_self l1.dynamic))
     (bits_self l1.extension)
 
 -- ---- the chunks of a frame
@@ -179,26 +166,12 @@ module _ (given : Given) (c : Config) (inputs : ℕ → List (List ℕ)) (n : �
   room_passes : (packets : List Packet) → AreFew c packets → room_test c packets ≡ None
   unfolding room_test
   room_passes packets few =
-      unless_true (nat_le (pool_need c packets) (pool_chunks c)) (PoolFull (capped (pool_need c packets))
-      (pool_chunks c))
-      (le-leb (pool_need c packets) (pool_chunks c) (pool_holds given.chunks given.cells given.room c packets plan few))
-
-  begun_passes : (past : List Numbered) (k b : ℕ) → (is_begin c k b ≡ true → AreFew c (packets_at past b))
-      → begun_test c past k b ≡ None
-  begun_passes past k b few = ⊎_elim
-      (λ (e : is_begin c k b ≡ true).
-      cond-true {A = Option MuteCause} (is_begin c k b) (room_test c (packets_at past b)) None e
-      ∙ room_passes (packets_at past b) (few e))
-      (λ (e : is_begin c k b ≡ false).
-      cond-false {A = Option MuteCause} (is_begin c k b) (room_test c (packets_at past b)) None e)
-      (cases_Bool (is_begin c k b))
+      unless_true _ _ (le-leb _ _ (pool_holds given.chunks given.cells given.room c packets plan few))
 
   pub pool_passes : (past : List Numbered) (k : ℕ) (packets : List Packet) → HaveRoom c past k → AreFew c packets
       → pool_test c past k packets ≡ None
-  unfolding pool_test
-  pool_passes past k packets rooms few =
-      rw (none_fails (begun_test c past k) 0 k (λ b low high. begun_passes past k b (rooms b (omega (arith, high)))))
-      (room_passes packets few)
+  pool_passes past k packets rooms few = pool_none c past k packets
+      (λ b below e. room_passes (packets_at past b) (rooms b below e)) (room_passes packets few)
 
   -- c, if all L1-current packets are the frame's
   agree : parts_agree c n (frame_parts c inputs n) ≡ true
@@ -209,8 +182,7 @@ module _ (given : Given) (c : Config) (inputs : ℕ → List (List ℕ)) (n : �
       → list_all (same_parts (frame_parts c inputs n)) l1s ≡ true
   same_all [] h = refl
   same_all (l1 ∷ l1s) h =
-      and_from (same_parts (frame_parts c inputs n) l1) (list_all (same_parts (frame_parts c inputs n)) l1s)
-      (subst (λ (x : L1Parts). same_parts (frame_parts c inputs n) x ≡ true) (sym h.0)
+      and_from _ _ (subst (λ (x : L1Parts). same_parts (frame_parts c inputs n) x ≡ true) (sym h.0)
       (parts_self (frame_parts c inputs n)))
       (same_all l1s h.1)
 
@@ -218,13 +190,12 @@ module _ (given : Given) (c : Config) (inputs : ℕ → List (List ℕ)) (n : �
   l1s_pass [] h = refl
   l1s_pass (l1 ∷ l1s) h =
       subst (λ (x : L1Parts). (list_all (same_parts x) l1s && parts_agree c n x) ≡ true) (sym h.0)
-      (and_from (list_all (same_parts (frame_parts c inputs n)) l1s) (parts_agree c n (frame_parts c inputs n))
-      (same_all l1s h.1) agree)
+      (and_from _ _ (same_all l1s h.1) agree)
 
   pub l1_passes : (packets : List Packet) → AllByRecursion (λ l1. l1 ≡ frame_parts c inputs n) (l1s_of packets)
       → l1_test c n packets ≡ None
   unfolding l1_test
-  l1_passes packets h = unless_true (l1s_agree c n (l1s_of packets)) L1Refused (l1s_pass (l1s_of packets) h)
+  l1_passes packets h = unless_true _ _ (l1s_pass (l1s_of packets) h)
 
   -- the shape that the frame's L1-current tells
   pub parts_tell : l1_shape c (frame_parts c inputs n) ≡ Some (frame_shape c inputs n)
@@ -234,89 +205,31 @@ module _ (given : Given) (c : Config) (inputs : ℕ → List (List ℕ)) (n : �
 
   module _ (past : List Numbered) (rooms : HaveRoom c past n) (begun : HaveBegun c inputs past n)
       (packets : List Packet) (has : HasFrame c inputs n packets) where
-    first_is : first_shape c packets ≡ Some (frame_shape c inputs n)
-    first_is = ap (λ (l : List L1Parts). option_and_then (l1_shape c) (slice_get l 0)) has.l1s ∙ parts_tell
+    abbrev told : ℕ → ℕ
+    told plp = slice_index (frame_shape c inputs n).counts plp
 
-    pool_none : pool_test c past n packets ≡ None
-    pool_none = pool_passes past n packets rooms
-        (λ plp inside. let e = ap length (has.right plp inside) in let most = own_few plp inside in omega
-        (arith, e, most))
-
-    stamp_there : (t : Bool) → (not t || nat_lt 0 (length (if t then stamp_of c n ∷ [] else []))) ≡ true
-    stamp_there true = refl
-    stamp_there false = refl
-
-    missing_none : missing_test c n packets ≡ None
-    unfolding missing_test
-    missing_none =
-        unless_true (nat_lt 0 (length (l1s_of packets)) && (not (begins_superframe c n) || nat_lt 0
-        (length (stamps_of packets))))
-        PacketMissing
-        (and_from (nat_lt 0 (length (l1s_of packets))) (not (begins_superframe c n) || nat_lt 0
-        (length (stamps_of packets)))
-        (ap (λ (l : List L1Parts). nat_lt 0 (length l)) has.l1s)
-        (ap (λ (l : List Stamp). not (begins_superframe c n) || nat_lt 0 (length l)) has.stamps
-        ∙ stamp_there (begins_superframe c n)))
-
-    l1_none : l1_test c n packets ≡ None
-    l1_none = l1_passes packets (subst (AllByRecursion (λ l1. l1 ≡ frame_parts c inputs n)) (sym has.l1s) (refl, tt))
-
-    time_none : time_test c n packets ≡ None
-    time_none =
-        time_passes c n packets
-        (subst (AllByRecursion (λ s. s ≡ stamp_of c n)) (sym has.stamps) (own_stamps c n (begins_superframe c n)))
-
-    abbrev carried : ℕ → List (List Bool)
-    carried plp = plp_blocks c inputs (interleaving_frame c plp n) plp
-
-    told_is : (plp : ℕ) → plp < length c.plps → slice_index (frame_shape c inputs n).counts plp ≡ length (carried plp)
+    told_is : (plp : ℕ) → plp < length c.plps → told plp ≡ length (plp_blocks c inputs (interleaving_frame c plp n) plp)
     told_is plp inside = ap (λ (l : List ℕ). slice_index l plp) (given.counts c counts) ∙ count_at c inputs n plp inside
 
-    has_one : (plp : ℕ) → plp < length c.plps
-        → has_count c past n plp (length (blocks_of c plp packets)) (slice_index (frame_shape c inputs n).counts plp)
+    has_one : (plp : ℕ) → plp < length c.plps → has_count c past n plp (length (blocks_of c plp packets)) (told plp)
         ≡ true
     has_one plp inside =
-        let own : ℕ = length (blocks_of c plp packets) in
-        let told : ℕ = slice_index (frame_shape c inputs n).counts plp in
-        let before : List Packet = packets_at past (begin_of c plp n) in
-        let own_is : own ≡ length (own_blocks c inputs n plp) = ap length (has.blocks plp inside) in
+        let own = ap length (has.blocks plp inside) in
         ⊎_elim
         (λ (e : is_first c plp n ≡ true).
-        cond-true (is_first c plp n) (own == told) ((own == 0) && has_begun c plp before told) e
-        ∙ eq-eqb own told
-        (own_is ∙ ap (λ (l : List (List Bool)). length l) (cond-true (is_first c plp n) (carried plp) [] e)
-        ∙ sym (told_is plp inside)))
+        cond-true _ _ _ e
+        ∙ eq-eqb _ _ (own ∙ ap (λ (l : List (List Bool)). length l) (cond-true _ _ _ e) ∙ sym (told_is plp inside)))
         (λ (e : is_first c plp n ≡ false).
-        cond-false (is_first c plp n) (own == told) ((own == 0) && has_begun c plp before told) e
-        ∙ and_from (own == 0) (has_begun c plp before told)
-        (eq-eqb own 0 (own_is ∙ ap (λ (l : List (List Bool)). length l) (cond-false (is_first c plp n)
-        (carried plp) [] e)))
-        (and_from (length (blocks_of c plp before) == told) (length (right_blocks c plp before) == told)
-        (eq-eqb (length (blocks_of c plp before)) told (ap length (begun plp inside e).0 ∙ sym (told_is plp inside)))
-        (eq-eqb (length (right_blocks c plp before)) told (ap length (begun plp inside e).1
-        ∙ sym (told_is plp inside)))))
+        cond-false _ _ _ e
+        ∙ and_from _ _ (eq-eqb _ _ (own ∙ ap (λ (l : List (List Bool)). length l) (cond-false _ _ _ e)))
+        (and_from _ _ (eq-eqb _ _ (ap length (begun plp inside e).0 ∙ sym (told_is plp inside)))
+        (eq-eqb _ _ (ap length (begun plp inside e).1 ∙ sym (told_is plp inside)))))
         (cases_Bool (is_first c plp n))
 
-    has_each : has_counts c past n packets (Some (frame_shape c inputs n)) ≡ true
-    has_each =
-        each_place
-        (λ plp. has_count c past n plp (length (blocks_of c plp packets)) (slice_index (frame_shape c inputs n).counts
-        plp))
-        (length c.plps) has_one 0 (length c.plps) (omega arith)
-
-    blocks_none : blocks_test c past n packets ≡ None
-    unfolding blocks_test
-    blocks_none =
-        unless_true (has_counts c past n packets (first_shape c packets) && list_all (is_known c) packets) PacketMissing
-        (and_from (has_counts c past n packets (first_shape c packets)) (list_all (is_known c) packets)
-        (ap (has_counts c past n packets) first_is ∙ has_each) has.known)
-
-    map_none : map_test c packets ≡ None
-    unfolding map_test
-    map_none =
-        unless_true (has_map c (first_shape c packets)) MapRefused
-        (ap (has_map c) first_is ∙ (given.map c (frame_shape c inputs n) plan).1 (given.passes c counts plan fit))
-
     pub passes : packets_fault c past n packets ≡ None
-    unfolding packets_fault
-    passes = rw (pool_none, missing_none, l1_none, time_none, blocks_none) map_none
+    passes = all_pass c n (frame_parts c inputs n) (frame_shape c inputs n) (own_blocks c inputs n) packets
+        (record { l1s = has.l1s; stamps = has.stamps; blocks = has.blocks; right = has.right; known = has.known })
+        agree parts_tell ((given.map c (frame_shape c inputs n) plan).1 (given.passes c counts plan fit)) past
+        (pool_passes past n packets rooms
+        (λ plp inside. let e = ap length (has.right plp inside) in let most = own_few plp inside in omega
+        (arith, e, most))) has_one

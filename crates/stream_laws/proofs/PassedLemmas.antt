@@ -1,7 +1,7 @@
 -- What packets are that pass the tests as a frame.
 use Rattle.std.proofs.Common.{◌≡◌, ℕ, true, List, [], ◌∷◌, Option, Some, None, refl}
 use Rattle.std.specs.Prelude.{slice_get}
-use Rattle.std.specs.List.{list_all, range_with_len}
+use Rattle.std.specs.List.{range_with_len}
 use Rattle.std.specs.Option.{option_or, option_and_then}
 use Rattle.std.proofs.lemmas.Bool.{and_parts, false≢true}
 use Rattle.terms.proofs.OptionLemmas.{none_if}
@@ -10,10 +10,9 @@ use Rattle.scheduler.specs.Shape.{FrameShape}
 use Rattle.t2mi_packet.specs.declared.packet.Packet.{Packet}
 use Rattle.frame_groups.specs.Modulated.{Numbered}
 use Rattle.frame_groups.specs.declared.cause.MuteCause.{MuteCause}
-use Rattle.frame_groups.specs.declared.cause.MuteCause.TheVariants.{L1Refused, MapRefused}
 use Rattle.frame_groups.specs.Carried.{L1Parts, l1s_of}
 use Rattle.frame_groups.specs.MapTest.{map_passes}
-use Rattle.frame_groups.specs.Tests.{begun_test, first_failure, room_test, pool_test, missing_test, same_parts}
+use Rattle.frame_groups.specs.Tests.{begun_test, first_failure, room_test, pool_test, missing_test}
 use Rattle.frame_groups.specs.Tests.{parts_agree, l1s_agree, l1_test, time_test, l1_shape, first_shape, blocks_test}
 use Rattle.frame_groups.specs.Tests.{has_map, map_test, packets_fault}
 use Rattle.open_group.proofs.GivenLemmas.{map_none}
@@ -45,16 +44,16 @@ first_told : (c : Config) (n : ℕ) (l1s : List L1Parts) → l1s_agree c n l1s �
     → has_map c (option_and_then (l1_shape c) (slice_get l1s 0)) ≡ true → FirstTold c n (slice_get l1s 0)
 first_told c n [] a m = absurd (false≢true m)
 first_told c n (l1 ∷ more) a m =
-    has_shape c n l1 (and_parts (list_all (same_parts l1) more) (parts_agree c n l1) a).1 (l1_shape c l1) refl m
+    has_shape c n l1 (and_parts _ _ a).1 (l1_shape c l1) refl m
 
 l1_held : (c : Config) (n : ℕ) (packets : List Packet) → l1_test c n packets ≡ None
     → l1s_agree c n (l1s_of packets) ≡ true
 unfolding l1_test
-l1_held c n packets e = none_if (l1s_agree c n (l1s_of packets)) L1Refused e
+l1_held c n packets e = none_if _ _ e
 
 map_held : (c : Config) (packets : List Packet) → map_test c packets ≡ None → has_map c (first_shape c packets) ≡ true
 unfolding map_test
-map_held c packets e = none_if (has_map c (first_shape c packets)) MapRefused e
+map_held c packets e = none_if _ _ e
 
 room_held : (c : Config) (past : List Numbered) (n : ℕ) (packets : List Packet) → pool_test c past n packets ≡ None
     → room_test c packets ≡ None

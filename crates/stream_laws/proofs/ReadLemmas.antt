@@ -45,7 +45,7 @@ module _ (bounded : (w : List Bool) → crc32_of w < 2 ^ 32) (spell_is : SpellIs
       let front : List ℕ = bytes_of (written_bits p) in
       let whole = len p in
       let bits : bits_of front ≡ written_bits p = bits_of-bytes_of (written_bits p) (packet_len p) whole in
-      let none : front ++ [] ≡ front = append-nil front in
+      let none : front ++ [] ≡ front = append-nil _ in
       let begins : BeginsWith front p (packet_len p) =
       subst (λ (l : List ℕ). BeginsWith l p (packet_len p)) none (read p front [] fits bits) in
       let size : packet_len p ≡ length front = let e = ap length bits in omega

@@ -1,15 +1,15 @@
 -- What comes of frames that were sent again.
+use Rattle.stream_laws.proofs.CarryLemmas.{at_place, twice}
 use Rattle.std.proofs.Common.{◌≡◌, ℕ, zero, suc, ◌+◌, ◌-◌, ◌%◌, ◌<◌, ◌≤◌, ◌==◌, ◌&&◌, ◌||◌, Bool, true, false, List, []}
-use Rattle.std.proofs.Common.{◌∷◌, ◌++◌, length, map, find, get_or, count_by, Option, Some, None, refl, ap, ap₂, sym}
+use Rattle.std.proofs.Common.{◌∷◌, ◌++◌, length, map, find, count_by, Option, Some, None, refl, ap, ap₂, sym}
 use Rattle.std.proofs.Common.{subst, ◌∙◌, ⊎_elim, arith, append-nil, length-append}
-use Rattle.std.specs.Prelude.{if◌then◌else◌, nat_le}
-use Rattle.std.specs.List.{filter, range_with_len, items_where_true, last_or, list_all, list_any, AllByRecursion}
+use Rattle.std.specs.Prelude.{if◌then◌else◌}
+use Rattle.std.specs.List.{filter, range_with_len, items_where_true, last_or, list_all, AllByRecursion}
 use Rattle.std.specs.Option.{option_map_or}
 use Rattle.std.proofs.lemmas.Bool.{cases_Bool, cases_lt, cond-true, cond-false, and_from, and_left, eq-eqb, or_parts}
 use Rattle.std.proofs.lemmas.Bool.{or_left, le-leb, true≢false}
 use Rattle.std.proofs.lemmas.List.{length-map}
-use Rattle.std.proofs.lemmas.List.FromFn.{length-range_with_len, get_or-range_with_len}
-use Rattle.std.proofs.lemmas.List.Sums.{length-filter, AllPass-from_list_all}
+use Rattle.std.proofs.lemmas.List.Sums.{length-filter}
 use Rattle.std.proofs.lemmas.Option.{same_Some}
 use Rattle.terms.proofs.OptionLemmas.{none_some}
 use Rattle.bb_frame.specs.Laws.{BitCounts, ScramblesBack}
@@ -24,10 +24,10 @@ use Rattle.t2mi_packet.specs.declared.packet.Body.{Body}
 use Rattle.t2mi_packet.specs.declared.packet.Packet.{Packet}
 use Rattle.frame_groups.specs.Modulated.{Numbered, FrameRecord, modulated}
 use Rattle.frame_groups.specs.Modulated.Content.{Whole, Muted}
-use Rattle.frame_groups.specs.declared.cause.MuteCause.TheVariants.{PacketMissing, PoolFull}
+use Rattle.frame_groups.specs.declared.cause.MuteCause.TheVariants.{PacketMissing}
 use Rattle.frame_groups.specs.Carried.{right_blocks}
 use Rattle.frame_groups.specs.TestLaws.{FrameNamed}
-use Rattle.frame_groups.specs.Tests.{unless, pool_chunks, capped, room_test, has_begun, packets_fault, rules}
+use Rattle.frame_groups.specs.Tests.{pool_chunks, room_test, has_begun, packets_fault, rules}
 use Rattle.frame_groups.proofs.BegunLemmas.{no_need}
 use Rattle.record_laws.specs.Records.{numbers_from}
 use Rattle.open_group.specs.Written.{content_view}
@@ -76,11 +76,8 @@ all_found : (P : NumberedView → Type 0) (n : ℕ) (fs : List NumberedView) (g 
     → frame_at n fs ≡ Some g → P g
 all_found P n [] g h e = none_some g e
 all_found P n (f ∷ fs) g h e = ⊎_elim
-    (λ (t : (f.number == n) ≡ true).
-    subst P (same_Some f g (sym (cond-true {A = Option NumberedView} (f.number == n) (Some f) (frame_at n fs) t)
-    ∙ e)) h.0)
-    (λ (t : (f.number == n) ≡ false).
-    all_found P n fs g h.1 (sym (cond-false {A = Option NumberedView} (f.number == n) (Some f) (frame_at n fs) t) ∙ e))
+    (λ (t : (f.number == n) ≡ true). subst P (same_Some f g (sym (cond-true _ _ _ t) ∙ e)) h.0)
+    (λ (t : (f.number == n) ≡ false). all_found P n fs g h.1 (sym (cond-false _ _ _ t) ∙ e))
     (cases_Bool (f.number == n))
 
 rises_from : (m : ℕ) (fs : List NumberedView) → RiseFrom m fs → RisesFrom (m + 1) fs
@@ -112,10 +109,9 @@ ends_at c [] number o e made is = is
 ends_at c (f ∷ fs) number o e made is =
     let own : List Sent = sent_from c number (frame_pairs c f) in
     let j : ℕ = number + length (frame_pairs c f) in
-    ap (λ (l : List Sent). behind_of (last_or o l)) (sent_append c number (frame_pairs c f) (remade_bodies c fs))
-    ∙ ap behind_of (last_append o own (sent_from c j (remade_bodies c fs)))
-    ∙ ends_at c fs j (last_or o own) (f.number + 1) made.1
-    (own_end c f.number number (view_bodies c f.number f.view) o (some_bodies c f made.0))
+    rw (sent_append, last_append)
+    (ends_at c fs j (last_or o own) (f.number + 1) made.1
+    (own_end c f.number number (view_bodies c f.number f.view) o (some_bodies c f made.0)))
 
 -- ---- the first number that passes
 
@@ -145,21 +141,11 @@ and_false : (t : Bool) → (t && false) ≡ false
 and_false true = refl
 and_false false = refl
 
--- each PLP passes what all pass
-all_place : (c : Config) (test : ℕ → Bool) (plp : ℕ) → list_all test (places c) ≡ true → plp < length c.plps
-    → test plp ≡ true
-all_place c test plp passes inside =
-    let there : get_or (places c) plp 0 ≡ plp = let e = get_or-range_with_len 0 (length c.plps) plp 0 inside in
-    omega (arith, e) in
-    let within : plp < length (places c) = let size = length-range_with_len 0 (length c.plps) in omega
-    (arith, size, inside) in
-    subst (λ (j : ℕ). test j ≡ true) there (AllPass-from_list_all test (places c) passes plp 0 within)
-
 all_pass : (test : ℕ → Bool) (a k : ℕ) → ((plp : ℕ) → a ≤ plp → plp < a + k → test plp ≡ true)
     → list_all test (range_with_len a k) ≡ true
 all_pass test a zero h = refl
 all_pass test a (suc k) h =
-    and_from (test a) (list_all test (range_with_len (a + 1) k)) (h a (omega arith) (omega arith))
+    and_from _ _ (h a (omega arith) (omega arith))
     (all_pass test (a + 1) k (λ plp l m. h plp (omega (arith, l)) (omega (arith, m))))
 
 -- a PLP that does not
@@ -178,13 +164,7 @@ some_fails test a (suc k) e = ⊎_elim
 -- no packets have room
 room_none : (c : Config) → room_test c [] ≡ None
 unfolding room_test
-room_none c =
-    ap (λ (k : ℕ). unless (nat_le k (pool_chunks c)) (PoolFull (capped k) (pool_chunks c))) (no_need c)
-    ∙ ap (λ (t : Bool). unless t (PoolFull (capped 0) (pool_chunks c))) (le-leb 0 (pool_chunks c) (omega arith))
-
-twice : (t : Bool) → (t && t) ≡ t
-twice true = refl
-twice false = refl
+room_none c = rw (no_need c, le-leb 0 (pool_chunks c) (omega arith)) refl
 
 -- so many packets are of a frame
 counted : (n : ℕ) (sent : List Sent) → count_by (λ (s : Sent). s.frame == n) sent ≡ length (frame_packets n sent)
@@ -248,7 +228,7 @@ module _ (law : ModulatedIsRecords) (all : WholeIsAll) (misses : NotWholeMisses)
   all_left : (n : ℕ) (g : NumberedView) → There n g → complete g ≡ true → frame_packets n sent ≡ frame_packets n ss
   all_left n g h e =
       h.more ∙ ap (λ (t : Bool). frame_packets n ss ++ packets_of (lost_by c g.number t)) e
-      ∙ append-nil (frame_packets n ss)
+      ∙ append-nil _
 
   no_block : (plp n m : ℕ) → is_begun c plp n (stand_in c m) ≡ false
   no_block plp n m = and_false ((stand_in c m).frame == begin_of c plp n)
@@ -280,7 +260,7 @@ module _ (law : ModulatedIsRecords) (all : WholeIsAll) (misses : NotWholeMisses)
       absurd (omega (arith, l, same)))
       (λ (other : (m.packet.frame == n) ≡ false).
       let one = place_of_any c (λ plp. is_begun c plp n m.packet)
-      (or_right (m.packet.frame == n) (list_any (λ plp. is_begun c plp n m.packet) (places c)) m.passing other) in
+      (or_right _ _ m.passing other) in
       let l = m.fewer (is_begun c one.0 n) one.2 in
       let same = begun_left one.0 n in
       absurd (omega (arith, l, same)))
@@ -292,7 +272,7 @@ module _ (law : ModulatedIsRecords) (all : WholeIsAll) (misses : NotWholeMisses)
   whole_left n w =
       sym (ap (frame_packets n) left)
       ∙ ap packets_of (all c sent survival n (λ (s : Sent). s.frame == n) told w
-      (λ s e. or_left (s.frame == n) (list_any (λ plp. is_begun c plp n s) (places c)) e))
+      (λ s e. or_left _ _ e))
 
   whole_found : (n : ℕ) → n < end → whole n ≡ true → (g : NumberedView) × There n g × (complete g ≡ true)
   whole_found n l w = go (look c frames n 0 0 frames rises (omega arith))
@@ -378,8 +358,7 @@ module _ (law : ModulatedIsRecords) (all : WholeIsAll) (misses : NotWholeMisses)
         ∙ (comes n g h).pass past rooms
         (λ plp inside e.
         told_is g h plp inside e
-        ∙ or_right (is_first c plp n) (blocks_at c plp frames (begin_of c plp n) == plp_num_blocks c plp g.view)
-        (all_place c (place_complete g n) plp each inside) e)
+        ∙ or_right _ _ (at_place (place_complete g n) (length c.plps) plp each inside) e)
 
     lacks : whole n ≡ false → packets_fault c past n (frame_packets n (items_where_true survival sent)) ≡ Some
         PacketMissing
@@ -392,8 +371,7 @@ module _ (law : ModulatedIsRecords) (all : WholeIsAll) (misses : NotWholeMisses)
             let one = some_fails (place_complete g n) 0 (length c.plps) none in
             let l = one.1 in
             let inside : one.0 < length c.plps = omega (arith, l) in
-            let parts = or_parts (is_first c one.0 n)
-            (blocks_at c one.0 frames (begin_of c one.0 n) == plp_num_blocks c one.0 g.view) one.2 in
+            let parts = or_parts _ _ one.2 in
             (comes n g h).lacks past one.0 rooms inside parts.0 (told_is g h one.0 inside parts.0 ∙ parts.1)
 
         go : Look c frames n 0 0 frames
@@ -412,9 +390,7 @@ module _ (law : ModulatedIsRecords) (all : WholeIsAll) (misses : NotWholeMisses)
       (all_pass (λ plp. is_first c plp n || (blocks_at c plp frames (begin_of c plp n) == plp_num_blocks c plp g.view))
       0
       (length c.plps)
-      (λ plp low high. or_left (is_first c plp n) (blocks_at c plp frames (begin_of c plp n) == plp_num_blocks
-      c plp g.view)
-      (laws.superframe c plp n plan.rules (omega (arith, high)) b)))
+      (λ plp low high. or_left _ _ (laws.superframe c plp n plan.rules (omega (arith, high)) b)))
 
   gone_first : (n : ℕ) → n % c.frames ≡ 0 → whole n ≡ false → frame_packets n ss ≡ []
   gone_first n b w = go (look c frames n 0 0 frames rises (omega arith))
@@ -454,8 +430,7 @@ module _ (law : ModulatedIsRecords) (all : WholeIsAll) (misses : NotWholeMisses)
   first_there = go (look c frames f.number 0 0 frames rises (omega arith))
     where
       at : frame_at f.number frames ≡ Some f
-      at = cond-true {A = Option NumberedView} (f.number == f.number) (Some f) (frame_at f.number fs)
-          (eq-eqb f.number f.number refl)
+      at = rw (eq-eqb f.number f.number refl) refl
 
       go : Look c frames f.number 0 0 frames → There f.number f
       go (Found g h) = subst (There f.number) (same_Some g f (sym h.found ∙ at)) h
@@ -480,8 +455,8 @@ module _ (law : ModulatedIsRecords) (all : WholeIsAll) (misses : NotWholeMisses)
   first =
       let above = last_above in
       find_first joins f.number
-      (and_from (whole f.number) (f.number % c.frames == 0) first_whole (eq-eqb (f.number % c.frames) 0 begins))
-      end 0 (omega arith) (omega (arith, above)) (λ n a l. and_left (whole n) (n % c.frames == 0) (earlier_lost n l))
+      (and_from _ _ first_whole (eq-eqb _ _ begins))
+      end 0 (omega arith) (omega (arith, above)) (λ n a l. and_left _ _ (earlier_lost n l))
 
   abbrev view : FrameRecord → RecordView
   view x = content_view c x.number x.content
@@ -492,7 +467,7 @@ module _ (law : ModulatedIsRecords) (all : WholeIsAll) (misses : NotWholeMisses)
       muted : Look c frames n 0 0 frames → whole n ≡ false → MutedRecord (emission c n) ≡ view_at c frames n
       muted (Found g h) w =
           sym (ap (complete_view c frames n) h.found
-          ∙ cond-false {A = RecordView} (complete g) g.view (MutedRecord (emission c n)) (not_complete n g w h))
+          ∙ cond-false _ _ _ (not_complete n g w h))
       muted (Missing h) w = sym (ap (complete_view c frames n) h.none)
 
       go : (t : Bool) → whole n ≡ t
@@ -505,7 +480,7 @@ module _ (law : ModulatedIsRecords) (all : WholeIsAll) (misses : NotWholeMisses)
           (all_left n x.0 x.1 x.2)
           ∙ (comes n x.0 x.1).is
           ∙ sym (ap (complete_view c frames n) x.1.found
-          ∙ cond-true {A = RecordView} (complete x.0) x.0.view (MutedRecord (emission c n)) x.2)
+          ∙ cond-true _ _ _ x.2)
       go false w = muted (look c frames n 0 0 frames rises (omega arith)) w
 
   views : (k a : ℕ) → a + k ≤ end → map view (map (sent_record c sent survival) (range_with_len a k))

@@ -1,5 +1,5 @@
 -- The blocks of a frame have the sizes that are told of them.
-use Rattle.std.proofs.Common.{◌≡◌, ℕ, zero, suc, ◌+◌, ◌*◌, ◌<◌, ◌≤◌, ◌==◌, Bool, true, false, List, [], ◌∷◌, ◌++◌}
+use Rattle.std.proofs.Common.{◌≡◌, ℕ, zero, suc, ◌+◌, ◌*◌, ◌<◌, ◌≤◌, Bool, true, false, List, [], ◌∷◌, ◌++◌}
 use Rattle.std.proofs.Common.{length, map, filter, replicate, refl, sym, subst, arith, eq-eqb}
 use Rattle.std.specs.Prelude.{slice_index}
 use Rattle.std.specs.Cmp.Lexicographic.{pointwise}
@@ -21,8 +21,8 @@ pointwise_append test [] ys [] vs e f = f
 pointwise_append test [] ys (u ∷ us) vs e f = absurd (both_ways false refl e)
 pointwise_append test (x ∷ xs) ys [] vs e f = absurd (both_ways false refl e)
 pointwise_append test (x ∷ xs) ys (u ∷ us) vs e f =
-    let p = and_parts (test x u) (pointwise test xs us) e in
-    and_from (test x u) (pointwise test (xs ++ ys) (us ++ vs)) p.0 (pointwise_append test xs ys us vs p.1 f)
+    let p = and_parts _ _ e in
+    and_from _ _ p.0 (pointwise_append test xs ys us vs p.1 f)
 
 abbrev pub size_of : Config → ℕ → BlockSize
 size_of c plp = record { plp_id = (plp_at c.plps plp).id; len = block_bytes c plp }
@@ -35,19 +35,15 @@ AreLong c plp blocks = AllByRecursion (λ b. length b ≡ 8 * block_bytes c plp)
 sent_size : BitCounts → (c : Config) (plp : ℕ) (bits : List Bool) → length bits ≡ 8 * block_bytes c plp
     → has_size (sent_block c plp bits) (size_of c plp) ≡ true
 sent_size counts c plp bits e =
-    and_from ((plp_at c.plps plp).id == (plp_at c.plps plp).id) (length (sent_block c plp bits).bytes
-    == block_bytes c plp)
-    (eq-eqb (plp_at c.plps plp).id (plp_at c.plps plp).id refl)
-    (eq-eqb (length (sent_block c plp bits).bytes) (block_bytes c plp) (let s = block_len counts c plp bits e in
-    omega (arith, s)))
+    and_from _ _ (eq-eqb (plp_at c.plps plp).id (plp_at c.plps plp).id refl)
+    (eq-eqb (length (sent_block c plp bits).bytes) (block_bytes c plp)
+    (let s = block_len counts c plp bits e in omega (arith, s)))
 
 plp_sizes : BitCounts → (c : Config) (plp : ℕ) (blocks : List (List Bool)) → AreLong c plp blocks
     → pointwise has_size (map (sent_block c plp) blocks) (replicate (length blocks) (size_of c plp)) ≡ true
 plp_sizes counts c plp [] h = refl
 plp_sizes counts c plp (b ∷ blocks) h =
-    and_from (has_size (sent_block c plp b) (size_of c plp))
-    (pointwise has_size (map (sent_block c plp) blocks) (replicate (length blocks) (size_of c plp)))
-    (sent_size counts c plp b h.0) (plp_sizes counts c plp blocks h.1)
+    and_from _ _ (sent_size counts c plp b h.0) (plp_sizes counts c plp blocks h.1)
 
 -- the blocks of so many PLPs from one on
 pub all_sizes : BitCounts → (c : Config) (told : List ℕ) (blocks : ℕ → List (List Bool))
@@ -73,7 +69,7 @@ filter_long c plp (b ∷ blocks) =
     cond_both {A = List (List Bool)} (has_length c plp b) (b ∷ filter (has_length c plp) blocks)
     (filter (has_length c plp) blocks)
     (AreLong c plp)
-    (λ e. (eqb-true (length b) (8 * block_bytes c plp) e, filter_long c plp blocks)) (λ e. filter_long c plp blocks)
+    (λ e. (eqb-true _ _ e, filter_long c plp blocks)) (λ e. filter_long c plp blocks)
 
 pub right_long : (c : Config) (plp : ℕ) (packets : List Packet) → AreLong c plp (right_blocks c plp packets)
 right_long c plp packets = filter_long c plp (blocks_of c plp packets)

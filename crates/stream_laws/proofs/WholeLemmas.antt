@@ -1,15 +1,31 @@
 -- Whole frames, and what is missing in others.
-use Rattle.std.proofs.Common.{◌≡◌, ℕ, suc, ◌+◌, ◌≤◌, Bool, true, false, cond, List, [], ◌∷◌, length, count_by, Contains}
-use Rattle.std.proofs.Common.{refl, ap, sym, ◌∙◌, ⊎_elim, arith, true≢false}
-use Rattle.std.specs.Prelude.{slice_get, Some}
-use Rattle.std.specs.List.{filter, items_where_true}
-use Rattle.std.proofs.lemmas.Bool.{cases_Bool, cond-true, cond-false, and_from}
+use Rattle.std.proofs.Common.{◌<◌, ◌≡◌, ℕ, suc, ◌+◌, ◌≤◌, Bool, true, false, cond, List, [], ◌∷◌, length, count_by}
+use Rattle.std.proofs.Common.{refl, ap, sym, ◌∙◌, ⊎_elim, arith, true≢false, ◌&&◌, ◌≢◌, ◌==◌, ◌||◌, ap₂, subst}
+use Rattle.std.specs.Prelude.{slice_get, Some, zip}
+use Rattle.std.specs.List.{filter, items_where_true, list_any}
+use Rattle.std.proofs.lemmas.Bool.{cases_Bool, cond-true, cond-false, and_from, cases_eq, eq-eqb, ne_eqb}
 use Rattle.std.proofs.lemmas.List.Sums.{sum_by-cons}
 use Rattle.std.proofs.lemmas.Option.{same_Some}
 use Rattle.stream_laws.specs.SentPackets.{Sent}
-use Rattle.stream_laws.specs.Survivors.{carries, all_survive}
-use Rattle.stream_laws.specs.DamageLaws.{WholeTold, WholeIsAll, Misses, NotWholeMisses}
-use Rattle.stream_laws.proofs.PacketLemmas.{whole_here, whole_other}
+use Rattle.stream_laws.specs.Survivors.{carries, all_survive, is_block_of, is_begun}
+use Rattle.stream_laws.specs.DamageLaws.{WholeTold, WholeIsAll, Misses, NotWholeMisses, CarriesAlone}
+use Rattle.std.proofs.lemmas.List.Folds.{list_any_none}
+use Rattle.plp_config.specs.Laws.{BeginAlone}
+use Rattle.plp_config.specs.Places.{places}
+use Rattle.plp_config.specs.Plps.{plp_at}
+use Rattle.frame_groups.proofs.BegunLemmas.{place_there}
+
+-- the packets that pass a test, told whether they survive
+abbrev told : (Sent → Bool) → List Sent → List Bool → List (Sent × Bool)
+told test sent survival = filter (λ p. test p.0) (zip sent survival)
+
+whole_here : (test : Sent → Bool) (s : Sent) (sent : List Sent) (t : Bool) (survival : List Bool) → test s ≡ true
+    → all_survive test (s ∷ sent) (t ∷ survival) ≡ (t && all_survive test sent survival)
+whole_here test s sent t survival e = rw e refl
+
+whole_other : (test : Sent → Bool) (s : Sent) (sent : List Sent) (t : Bool) (survival : List Bool) → test s ≡ false
+    → all_survive test (s ∷ sent) (t ∷ survival) ≡ all_survive test sent survival
+whole_other test s sent t survival e = rw e refl
 
 all_told : (test : Sent → Bool) (sent : List Sent) (survival : List Bool)
     → ((i : ℕ) (s : Sent) → slice_get sent i ≡ Some s → test s ≡ true → slice_get survival i ≡ Some true)
@@ -20,7 +36,7 @@ all_told test (s ∷ sent) (t ∷ survival) h =
     let rest : all_survive test sent survival ≡ true = all_told test sent survival (λ i r is e. h (suc i) r is e) in
     ⊎_elim
     (λ (e : test s ≡ true). whole_here test s sent t survival e
-    ∙ and_from t (all_survive test sent survival) (same_Some t true (h 0 s refl e)) rest)
+    ∙ and_from _ _ (same_Some t true (h 0 s refl e)) rest)
     (λ (e : test s ≡ false). whole_other test s sent t survival e ∙ rest)
     (cases_Bool (test s))
 
@@ -30,11 +46,11 @@ whole_told c sent survival n h = all_told (carries c n) sent survival h
 -- what is among packets that all survive
 passed : (test : Sent → Bool) (s : Sent) (sent : List Sent) → test s ≡ true
     → filter test (s ∷ sent) ≡ s ∷ filter test sent
-passed test s sent e = cond-true (test s) (s ∷ filter test sent) (filter test sent) e
+passed test s sent e = cond-true _ _ _ e
 
 left_out : (test : Sent → Bool) (s : Sent) (sent : List Sent) → test s ≡ false
     → filter test (s ∷ sent) ≡ filter test sent
-left_out test s sent e = cond-false (test s) (s ∷ filter test sent) (filter test sent) e
+left_out test s sent e = cond-false _ _ _ e
 
 among_all : (all test : Sent → Bool) (sent : List Sent) (survival : List Bool)
     → ((s : Sent) → test s ≡ true → all s ≡ true)
@@ -74,46 +90,28 @@ counted test s sent = sum_by-cons (λ (s : Sent). cond {A = ℕ} (test s) 1 0) s
 count_survivors : (test : Sent → Bool) (sent : List Sent) (survival : List Bool)
     → count_by test (items_where_true survival sent)
     ≤ count_by test sent
-count_survivors test sent [] = let none : count_by test (items_where_true [] sent) ≡ 0 = refl in omega (arith, none)
-count_survivors test [] (t ∷ survival) = let none : count_by test (items_where_true (t ∷ survival) []) ≡ 0 = refl in
-    omega (arith, none)
-count_survivors test (s ∷ sent) (true ∷ survival) =
-    let a = counted test s (items_where_true survival sent) in
-    let b = counted test s sent in
-    let l = count_survivors test sent survival in
-    omega (arith, a, b, l)
+count_survivors test sent [] = omega arith
+count_survivors test [] (t ∷ survival) = omega arith
+count_survivors test (s ∷ sent) (true ∷ survival) = omega
+    (arith, counted test s (items_where_true survival sent), counted test s sent, count_survivors test sent survival)
 count_survivors test (s ∷ sent) (false ∷ survival) =
-    let b = counted test s sent in
-    let l = count_survivors test sent survival in
-    omega (arith, b, l)
-
-there_more : (s p : Sent) (sent : List Sent) → Contains sent p → Contains (s ∷ sent) p
-there_more s p sent c = (suc c.0, (let l = c.1 in omega (arith, l)), c.2)
+    omega (arith, counted test s sent, count_survivors test sent survival)
 
 -- A packet that is missing in the later ones is missing in all.
-misses_kept : (all : Sent → Bool) (s : Sent) (sent : List Sent) (survival : List Bool) → Misses all sent survival
-    → Misses all (s ∷ sent) (true ∷ survival)
-misses_kept all s sent survival m = record {
-  packet = m.packet;
-  there = there_more s m.packet sent m.there;
-  passing = m.passing;
-  fewer = λ test t.
-      let a = counted test s (items_where_true survival sent) in
-      let b = counted test s sent in
-      let l = m.fewer test t in
-      omega (arith, a, b, l);
-}
+fewer_on : (test : Sent → Bool) (s : Sent) (sent : List Sent) (t : Bool) (survival : List Bool)
+    → count_by test (items_where_true survival sent) < count_by test sent
+    → count_by test (items_where_true (t ∷ survival) (s ∷ sent)) < count_by test (s ∷ sent)
+fewer_on test s sent true survival l =
+    omega (arith, l, counted test s (items_where_true survival sent), counted test s sent)
+fewer_on test s sent false survival l = omega (arith, l, counted test s sent)
 
-misses_lost : (all : Sent → Bool) (s : Sent) (sent : List Sent) (survival : List Bool) → Misses all sent survival
-    → Misses all (s ∷ sent) (false ∷ survival)
-misses_lost all s sent survival m = record {
+misses_on : (all : Sent → Bool) (s : Sent) (sent : List Sent) (t : Bool) (survival : List Bool)
+    → Misses all sent survival → Misses all (s ∷ sent) (t ∷ survival)
+misses_on all s sent t survival m = record {
   packet = m.packet;
-  there = there_more s m.packet sent m.there;
+  there = (suc m.there.0, (let l = m.there.1 in omega (arith, l)), m.there.2);
   passing = m.passing;
-  fewer = λ test t.
-      let b = counted test s sent in
-      let l = m.fewer test t in
-      omega (arith, b, l);
+  fewer = λ test x. fewer_on test s sent t survival (m.fewer test x);
 }
 
 misses_here : (all : Sent → Bool) (s : Sent) (sent : List Sent) (survival : List Bool) → all s ≡ true
@@ -124,7 +122,7 @@ misses_here all s sent survival e = record {
   passing = e;
   fewer = λ test t.
       let b = counted test s sent in
-      let o : cond {A = ℕ} (test s) 1 0 ≡ 1 = cond-true {A = ℕ} (test s) 1 0 t in
+      let o : cond {A = ℕ} (test s) 1 0 ≡ 1 = cond-true _ _ _ t in
       let l = count_survivors test sent survival in
       omega (arith, b, o, l);
 }
@@ -133,7 +131,7 @@ not_all_misses : (all : Sent → Bool) (sent : List Sent) (survival : List Bool)
     → Misses all sent survival
 not_all_misses all [] survival w = absurd (true≢false w)
 not_all_misses all (s ∷ sent) [] w = absurd (true≢false w)
-not_all_misses all (s ∷ sent) (true ∷ survival) w = misses_kept all s sent survival
+not_all_misses all (s ∷ sent) (true ∷ survival) w = misses_on all s sent true survival
     (not_all_misses all sent survival (⊎_elim
     (λ (e : all s ≡ true). sym (whole_here all s sent true survival e) ∙ w)
     (λ (e : all s ≡ false). sym (whole_other all s sent true survival e) ∙ w)
@@ -141,9 +139,28 @@ not_all_misses all (s ∷ sent) (true ∷ survival) w = misses_kept all s sent s
 not_all_misses all (s ∷ sent) (false ∷ survival) w = ⊎_elim
     (λ (e : all s ≡ true). misses_here all s sent survival e)
     (λ (e : all s ≡ false).
-    misses_lost all s sent survival (not_all_misses all sent survival (sym (whole_other all s sent false survival e)
+    misses_on all s sent false survival (not_all_misses all sent survival (sym (whole_other all s sent false survival e)
     ∙ w)))
     (cases_Bool (all s))
 
 pub not_whole_misses : NotWholeMisses
 not_whole_misses c sent survival n w = not_all_misses (carries c n) sent survival w
+
+-- ---- interleaving frames of single frames: a frame carries what is sent in it
+
+pub carries_alone : BeginAlone → CarriesAlone
+carries_alone law c n s alone =
+    ⊎_elim
+    (λ (e : s.frame ≡ n).
+    rw (eq-eqb s.frame n e) refl)
+    (λ (ne : s.frame ≢ n).
+    let other : (s.frame == n) ≡ false = ne_eqb _ _ ne in
+    let none : list_any (λ plp. is_begun c plp n s) (places c) ≡ false =
+    list_any_none (λ plp. is_begun c plp n s) (places c)
+    (λ k d l.
+    let at = place_there c k d l in
+    subst (λ (j : ℕ). is_begun c j n s ≡ false) (sym at.0)
+    (ap (λ (t : Bool). t && is_block_of (plp_at c.plps k).id s.packet.body)
+    (ne_eqb _ _ (λ e. ne (e ∙ (law c k n (alone k at.1)).2))))) in
+    ap₂ (λ (a b : Bool). a || b) other none ∙ sym other)
+    (cases_eq s.frame n)

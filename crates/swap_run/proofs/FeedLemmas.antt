@@ -1,5 +1,5 @@
 -- What the feed of the T2-MI stream stands for by one event more.
-use Rattle.std.proofs.Common.{◌≡◌, ℕ, Bool, true, false, List, [], ◌∷◌, ◌++◌, length, ap, sym, subst, ◌∙◌, append-nil}
+use Rattle.std.proofs.Common.{◌≡◌, ℕ, Bool, true, false, List, [], ◌∷◌, ◌++◌, length, ap, sym, ◌∙◌, append-nil}
 use Rattle.std.proofs.lemmas.List.{nil_from_length}
 use Rattle.plp_config.specs.declared.config.Config.{Config}
 use Rattle.frame_groups.specs.Modulated.{FrameRecord}
@@ -20,14 +20,13 @@ module _ (tell : EventsTell) (c : Config) (f g : FrameFeed) (events : List Event
 
   -- it had not ended
   was : FrameFeedStandsFor f (fed 0 events) false given
-  was = subst (λ (e : Bool). FrameFeedStandsFor f (fed 0 events) e given) off h.stands
+  was = rw off at h.stands
 
   now : (more : List Event) (bytes : List ℕ) (over : Bool) → fed 0 more ≡ bytes → has_ended 0 more ≡ over
       → FrameFeedStandsFor g bytes over given → IsFedWith c g (fed 0 more) (has_ended 0 more) given
   now more bytes over e o s = record {
     network = config ∙ h.network;
-    stands = subst (λ (k : Bool). FrameFeedStandsFor g (fed 0 more) k given) (sym o)
-        (subst (λ (l : List ℕ). FrameFeedStandsFor g l over given) (sym e) s);
+    stands = rw (o, e) s;
   }
 
   pub fed_one : ((bytes : List ℕ) (given : List FrameRecord) → FrameFeedStandsFor f bytes false given

@@ -8,7 +8,7 @@ use Rattle.std.proofs.lemmas.List.{take_at, take-append-le}
 use Rattle.terms.proofs.CaseLemmas.{bool_cases}
 use Rattle.ts_packet.proofs.JoinedLemmas.{joined_append}
 use Rattle.modulator.proofs.WaitLemmas.{front_due}
-use Rattle.plp_config.specs.Laws.{CountRises, SlotLength}
+use Rattle.plp_config.specs.Laws.{CountRises, SlotLength, NoneAtZero}
 use Rattle.plp_config.specs.SlotTime.{slots_by}
 use Rattle.plp_config.specs.declared.config.Config.{Config}
 use Rattle.plp_config.specs.declared.moment.TheConstants.{MOST_FRAMES}
@@ -65,24 +65,20 @@ nothing_piped : (c : Config) (plp : ℕ) (input : List (List ℕ))
 unfolding remade_packets units_in
 nothing_piped c plp input = refl
 
+-- the laws that a run stands on
+pub record Laws : Type 0 where
+  pub front : DueFront
+  pub follow : DueFollow
+  pub complete : CompleteLaw
+  pub rises : CountRises
+  pub none : NoneAtZero
+  pub slot : SlotLength
+
 ran_same : (r : SwapRan) (f m u n : ℕ) → r.frames ≡ f → r.muted ≡ m → r.unsent ≡ u → r.units ≡ n
     → r ≡ (let x : SwapRan = record { frames = f; muted = m; unsent = u; units = n } in x)
-ran_same r f m u n a b d e =
-    subst (λ (x : ℕ). r ≡ (let y : SwapRan = record { frames = x; muted = m; unsent = u; units = n } in y)) a
-    (subst (λ (x : ℕ). r ≡ (let y : SwapRan = record { frames = r.frames; muted = x; unsent = u; units = n } in y)) b
-    (subst (λ (x : ℕ). r ≡ (let y : SwapRan = record { frames = r.frames; muted = r.muted; unsent = x; units = n }
-    in y)) d
-    (subst (λ (x : ℕ). r ≡ (let y : SwapRan = record {
-      frames = r.frames;
-      muted = r.muted;
-      unsent = r.unsent;
-      units
-          = x;
-    } in
-    y)) e refl)))
+ran_same r f m u n a b d e = rw (sym a, sym b, sym d, sym e) refl
 
-module _ (front : DueFront) (follow : DueFollow) (law : CompleteLaw) (rises : CountRises) (slot : SlotLength)
-    (c : Config) (plp : ℕ)
+module _ (law : Laws) (c : Config) (plp : ℕ)
     (m : SwapMachine) (events : List Event) (s : Shown c plp events m) (files : ℕ → List ℕ) (places : List ℕ)
     (are : AreFed 2 files places events) where
   abbrev r : Read
@@ -101,11 +97,11 @@ module _ (front : DueFront) (follow : DueFollow) (law : CompleteLaw) (rises : Co
   fed_input = are 1 (omega arith)
 
   cont : Continues r.told input
-  cont = file_continues (files 1) (slice_index places 1) (fed 1 events) (has_ended 1 events) fed_input
-      r.told r.rest r.tail m.taken m.ended s.of_input
+  cont = file_continues _ _ _ _ fed_input _ _ _ _ _ s.of_input
 
   all_given : NoneComes m.feed → records_of c (files 0) ≡ r.given
-  all_given none = all_of front follow c m.feed (files 0) (slice_index places 0) (fed 0 events) (has_ended 0 events)
+  all_given none = all_of law.front law.follow c m.feed (files 0) (slice_index places 0) (fed 0 events)
+      (has_ended 0 events)
       r.given fed_t2mi
       (begun_in m.phase) s.of_feed none
 
@@ -122,7 +118,7 @@ module _ (front : DueFront) (follow : DueFollow) (law : CompleteLaw) (rises : Co
   behind_given : IsPrefix r.given (records_of c (files 0))
   behind_given =
       let due = given_first (begun_in m.phase) s.of_feed in
-      let all = front_due front c (has_ended 0 events) (files 0) (fed 0 events) fed_t2mi.more fed_t2mi.parts
+      let all = front_due law.front c (has_ended 0 events) (files 0) (fed 0 events) fed_t2mi.more fed_t2mi.parts
       fed_t2mi.end in
       (due.0 ++ all.0, all.1 ∙ ap (λ (l : List FrameRecord). l ++ all.0) due.1 ∙ append_assoc r.given due.0 all.0)
 
@@ -136,14 +132,14 @@ module _ (front : DueFront) (follow : DueFollow) (law : CompleteLaw) (rises : Co
   follows : IsFedWith c m.feed (fed 0 events) (has_ended 0 events) r.given → (w : Waiting) → waiting_of m.feed ≡ Some w
       → Follows w
   follows of w waits = go d.later (subst (λ (o : Option Waiting). IsFirst o d.later) waits d.first)
-      (split.behind front follow c m.feed (files 0) (slice_index places 0) (fed 0 events) (has_ended 0 events)
+      (split.behind law.front law.follow c m.feed (files 0) (slice_index places 0) (fed 0 events) (has_ended 0 events)
       r.given fed_t2mi of)
     where
       d : IsDue c m.feed (fed 0 events) (has_ended 0 events) r.given
       d = due_of c m.feed (fed 0 events) (has_ended 0 events) r.given of
 
       more : List FrameRecord
-      more = (front_due front c (has_ended 0 events) (files 0) (fed 0 events) fed_t2mi.more fed_t2mi.parts
+      more = (front_due law.front c (has_ended 0 events) (files 0) (fed 0 events) fed_t2mi.more fed_t2mi.parts
           fed_t2mi.end).0
 
       go : (later : List FrameRecord) → IsFirst (Some w) later → records_of c (files 0) ≡ r.given ++ (later ++ more)
@@ -152,19 +148,16 @@ module _ (front : DueFront) (follow : DueFollow) (law : CompleteLaw) (rises : Co
       go (x ∷ later) first is = record { next = x; later = later ++ more; parts = is; number = first.0 }
 
   unwanted : ¬ (WantBad c plp (files 1) r.given)
-  unwanted = none_wanted (files 1) (slice_index places 1) (fed 1 events) (has_ended 1 events) fed_input
-      r.told r.rest r.tail m.taken m.ended s.of_input
-      (slots_of c plp r.given) s.had
+  unwanted = none_wanted _ _ _ _ fed_input _ _ _ _ _ s.of_input (slots_of c plp r.given) s.had
 
   few : length (r.told.packets ++ r.rest) ≤ length input
-  few = few_taken (files 1) (slice_index places 1) (fed 1 events) (has_ended 1 events) fed_input r.told
-      r.rest r.tail m.taken m.ended s.of_input
+  few = few_taken _ _ _ _ fed_input _ _ _ _ _ s.of_input
 
   -- the complete units of the frames were given
   complete : HasCaughtUp c plp m.swapper r.told frames m.ran.units → (status_of m.swapper).finished ≡ false
       → gave events ≡ joined (complete_of c plp files r.given)
   complete caught going =
-      gave_complete law c plp m.swapper r.told _ frames m.ran.units (gave events) input cont going
+      gave_complete law.complete c plp m.swapper r.told _ frames m.ran.units (gave events) input cont going
       (caught.complete input cont) s.sends
 
   finished_is : (p : Phase) → m.phase ≡ p → (status_of m.swapper).finished ≡ finished_in p
@@ -185,9 +178,7 @@ module _ (front : DueFront) (follow : DueFollow) (law : CompleteLaw) (rises : Co
   slots_told b over whole = bool_cases r.told.ended on off
     where
       total : length input ≡ length (r.told.packets ++ r.rest)
-      total = ap length (all_taken (files 1) (slice_index places 1) (fed 1 events) (has_ended 1 events)
-          fed_input r.told r.rest r.tail m.taken
-          m.ended s.of_input over whole)
+      total = ap length (all_taken _ _ _ _ fed_input _ _ _ _ _ s.of_input over whole)
 
       on : r.told.ended ≡ true → m.ran.unsent ≡ length input - slots_of c plp r.given
       on e =
@@ -225,9 +216,7 @@ module _ (front : DueFront) (follow : DueFollow) (law : CompleteLaw) (rises : Co
       record {
         some = behind_some i.behind;
         early = subst AreEarly (sym all) (early_below (behind_above i.behind));
-        whole = nothing_bad (files 1) (slice_index places 1) (fed 1 events) (has_ended 1 events) fed_input
-            r.told r.rest r.tail m.taken m.ended
-            s.of_input i.over i.whole;
+        whole = nothing_bad _ _ _ _ fed_input _ _ _ _ _ s.of_input i.over i.whole;
         output = gave_all c plp m.swapper r.told _ frames m.ran.units (gave events) input cont (i.all input cont)
             s.sends ∙ ap joined (sym units);
         ran_is = subst (λ (l : List FrameRecord). m.ran ≡ counted c plp l input (length (units_of c plp files)))
@@ -264,7 +253,7 @@ module _ (front : DueFront) (follow : DueFollow) (law : CompleteLaw) (rises : Co
     early_next : AreEarly (r.given ++ take 1 ((follows of w waits).next ∷ (follows of w waits).later))
     early_next =
         let f = follows of w waits in
-        let above = waits_above follow c m.feed (fed 0 events) (has_ended 0 events) r.given of w waits in
+        let above = waits_above law.follow c m.feed (fed 0 events) (has_ended 0 events) r.given of w waits in
         let number = f.number in
         below_append MOST_FRAMES r.given (f.next ∷ []) (early_below (omega (arith, above, early)))
         (omega (arith, number, early), tt)
@@ -281,7 +270,7 @@ module _ (front : DueFront) (follow : DueFollow) (law : CompleteLaw) (rises : Co
         let f = follows of w waits in
         let number = f.number in
         let above = above_append r.given (f.next ∷ []) in
-        slots_rise rises slot c plp m.number (above_all (r.given ++ f.next ∷ []) - 1) s.base.rules s.base.place
+        slots_rise law.rises law.slot c plp m.number (above_all (r.given ++ f.next ∷ []) - 1) s.base.rules s.base.place
         (omega (arith, above, number, behind))
 
   -- by fewer bytes of the first file than were taken, no record is due but those that were given
@@ -338,9 +327,7 @@ module _ (front : DueFront) (follow : DueFollow) (law : CompleteLaw) (rises : Co
       of = of_in c plp events m s (phase.Stopped (InputRefused n)) e
 
       next : NextIsBad (files 1) (r.told.packets ++ r.rest)
-      next = bad_next (files 1) (slice_index places 1) (fed 1 events) (has_ended 1 events) fed_input
-          r.told r.rest r.tail m.taken m.ended s.of_input
-          i.some i.bad i.cut
+      next = bad_next _ _ _ _ fed_input _ _ _ _ _ s.of_input i.some i.bad i.cut
 
       go : IsWanted c plp m.feed m.number m.draining r.told.packets r.rest
           ⊎ IsBehindAll c plp m.feed m.number r.given r.told.packets
@@ -400,11 +387,9 @@ module _ (front : DueFront) (follow : DueFollow) (law : CompleteLaw) (rises : Co
       let slots = ap (λ (n : ℕ). slots_by c plp ((n - 1) * c.ticks)) next in
       record {
         early = subst AreEarly (sym due_is) (early_below (omega (arith, next, early)));
-        unwanted = subst (λ (l : List FrameRecord). ¬ (WantBad c plp (files 1) l)) (sym due_is) unwanted;
-        no_further = subst (λ (l : List FrameRecord). slice_index places 1 ≤ SIZE * slots_of c plp l)
-            (sym due_is) (omega (arith, read, slots));
-        output = complete i.caught (finished_is phase.Records e)
-            ∙ ap (λ (l : List FrameRecord). joined (complete_of c plp files l)) (sym due_is);
+        unwanted = rw due_is unwanted;
+        no_further = rw due_is (omega (arith, read, slots));
+        output = rw due_is (complete i.caught (finished_is phase.Records e));
       }
     where
       due_is : records_due c false (take taken (files 0)) ≡ r.given
@@ -497,7 +482,7 @@ module _ (front : DueFront) (follow : DueFollow) (law : CompleteLaw) (rises : Co
               ⊎ IsBehindAll c plp m.feed m.number r.given r.told.packets
               → above_all r.given ≤ MOST_FRAMES
           met (inl w) =
-              let a = waits_above follow c m.feed (fed 0 events) (has_ended 0 events) r.given
+              let a = waits_above law.follow c m.feed (fed 0 events) (has_ended 0 events) r.given
               (of_in c plp events m s (phase.Stopped (InputRefused n)) e) w.waiting w.waits in
               let e = w.early in
               omega (arith, a, e)
@@ -546,9 +531,7 @@ module _ (front : DueFront) (follow : DueFollow) (law : CompleteLaw) (rises : Co
               unwanted = unwanted;
               output = inr (
                 refl,
-                nothing_bad (files 1) (slice_index places 1) (fed 1 events) (has_ended 1 events) fed_input
-                    r.told r.rest r.tail m.taken m.ended
-                    s.of_input o.over o.whole,
+                nothing_bad _ _ _ _ fed_input _ _ _ _ _ s.of_input o.over o.whole,
                 gave_more p.0 ∙ ap joined units,
               );
             },
@@ -557,7 +540,7 @@ module _ (front : DueFront) (follow : DueFollow) (law : CompleteLaw) (rises : Co
       going : (status_of m.swapper).finished ≡ false → (rest : List ℕ) × MayWrite c plp files (gave events ++ rest)
       going off =
           let p = s.sends.front input cont [] (λ over. absurd (true≢false (sym over ∙ off))) in
-          let l = law c.pid packets [] in
+          let l = law.complete c.pid packets [] in
           let count = s.sends.count_is in
           let whole = s.sends.whole off input cont in
           let f = shorter_front s.sends.units (complete_units c.pid packets) p.0 l.rest (sym p.1 ∙ l.units)
@@ -596,7 +579,7 @@ module _ (front : DueFront) (follow : DueFollow) (law : CompleteLaw) (rises : Co
       let count = s.sends.count_is in
       let done = subst (λ (l : List (List ℕ)). length (complete_units c.pid l) ≤ m.ran.units) sent_as
       (given_all input cont) in
-      let f = given_front law c.pid few more.0 behind.0 s.sends.units p.0 (omega (arith, done, count))
+      let f = given_front law.complete c.pid few more.0 behind.0 s.sends.units p.0 (omega (arith, done, count))
       (ap (pipe c.pid) (sym packets ∙ sym (append-nil (packets_of c plp input r.given))) ∙ p.1) in
       let above = above_append records (u.0 ++ rest) in
       let size = ap above_all given_is in
@@ -636,7 +619,7 @@ module _ (front : DueFront) (follow : DueFollow) (law : CompleteLaw) (rises : Co
   slots_more : (xs ys : List FrameRecord) → slots_of c plp xs ≤ slots_of c plp (xs ++ ys)
   slots_more xs ys =
       let above = above_append xs ys in
-      slots_rise rises slot c plp (above_all xs - 1) (above_all (xs ++ ys) - 1) s.base.rules s.base.place
+      slots_rise law.rises law.slot c plp (above_all xs - 1) (above_all (xs ++ ys) - 1) s.base.rules s.base.place
       (omega (arith, above))
 
   pub ahead : slice_index places 1 ≤ input_reach m → step_of m ≡ Give → ReadsAhead c plp places files (gave events)
@@ -685,7 +668,7 @@ module _ (front : DueFront) (follow : DueFollow) (law : CompleteLaw) (rises : Co
           let i = in_units c plp events m s e in
           let read = read_to near i.quiet.calm phase.Units e in
           let next = i.next in
-          let slots = slots_rise rises slot c plp m.number (above_all r.given - 1) s.base.rules s.base.place
+          let slots = slots_rise law.rises law.slot c plp m.number (above_all r.given - 1) s.base.rules s.base.place
           (omega (arith, next)) in
           let same = ap (slots_of c plp) i.parts in
           record {

@@ -1,12 +1,13 @@
 -- A feed and a swapper go on: from record to record, from frame to frame, from unit to unit.
-use Rattle.std.proofs.Common.{◌≡◌, ◌≢◌, ℕ, ◌+◌, ◌-◌, ◌*◌, ◌^◌, ◌<◌, ◌≤◌, Bool, true, false, List, [], ◌∷◌, ◌++◌, drop}
-use Rattle.std.proofs.Common.{length}
+use Rattle.std.proofs.Common.{◌≡◌, ℕ, ◌+◌, ◌-◌, ◌*◌, ◌^◌, ◌<◌, ◌≤◌, Bool, true, false, List, [], ◌∷◌, ◌++◌, drop}
+use Rattle.std.proofs.Common.{length, rules}
 use Rattle.std.proofs.Common.{Option, Some, None, refl, ap, ap₂, sym, subst, ◌∙◌, arith, append-nil, length-append}
 use Rattle.std.specs.Prelude.{slice_get, nat_lt, slice_set}
 use Rattle.std.specs.List.{AllByRecursion}
 use Rattle.std.proofs.Math.Nat.{mul-le-mul_right}
 use Rattle.std.proofs.lemmas.Bool.{true≢false, lt-ltb}
 use Rattle.std.proofs.lemmas.Option.{same_Some}
+use Rattle.terms.proofs.CaseLemmas.{bool_cases}
 use Rattle.terms.proofs.ListLemmas.{drop_some}
 use Rattle.terms.proofs.OptionLemmas.{none_some}
 use Rattle.gateway_core.proofs.InputsLemmas.{cont_next}
@@ -20,7 +21,7 @@ use Rattle.frame_groups.specs.Groups.{Group, groups}
 use Rattle.frame_groups.specs.Modulated.{Content, FrameRecord, past_after}
 use Rattle.frame_groups.specs.Modulated.Content.{Whole, Muted}
 use Rattle.frame_groups.specs.declared.waiting.Waiting.{Waiting}
-use Rattle.frame_groups.specs.Tests.{rules}
+use Rattle.frame_groups.specs.Tests as tests
 use Rattle.t2mi_stream.specs.Units.{accepted_of}
 use Rattle.modulator.specs.Laws.{DueFollow, DuePass, IsRight}
 use Rattle.modulator.specs.Modulating.{packets_of}
@@ -42,7 +43,6 @@ use Rattle.feed_merge.specs.FeedStandsFor as feed
 use Rattle.feed_merge.specs.declared.feed.FrameFeed.{FrameFeed}
 use Rattle.feed_merge.specs.Picks.{above_all}
 use Rattle.gateway_core.specs.InputSoFar.{Told, in_next, Continues}
-use Rattle.feed_merge.specs.Both.{OfFeed}
 use Rattle.feed_merge.proofs.HeldLemmas.{left_of as feed_left}
 use Rattle.feed_merge.specs.Fed.{IsFedWith}
 use Rattle.feed_merge.proofs.BothFeedLemmas.{IsDue, due_of, waits_above, one_of}
@@ -54,17 +54,18 @@ use Rattle.region_swap.specs.StandsFor.{SwapperStandsFor, GivesUnits, Status, st
 use Rattle.region_swap.specs.StandsFor.{is_fed, left_in, left_for, bytes_left}
 use Rattle.region_swap.specs.Swapped.{frame_in, frames_in, swapped, swapped_view}
 use Rattle.region_swap.specs.declared.swapper.Swapper.{Swapper}
-use Rattle.swap_run.specs.Shown.{ReadsPackets, Sends, HasCaughtUp, Read, IsIn, ShownAt, Shown, IsBound, begun_in}
-use Rattle.swap_run.specs.Shown.{left_at, more_units, next_in, status_in, frame_bytes}
+use Rattle.swap_run.specs.Shown.{ReadsPackets, Sends, Read, ShownAt, Shown, IsBound, begun_in}
+use Rattle.swap_run.specs.Shown.{WereGiven, more_units, next_in, status_in, frame_bytes}
 use Rattle.swap_run.specs.SwapRun.{slots_of}
 use Rattle.swap_run.specs.declared.phase.Phase.{Phase}
 use Rattle.swap_run.specs.declared.phase.Phase.TheVariants as phase
-use Rattle.swap_run.specs.declared.stop.SwapStop.TheVariants.{NoSuperframe, TooManyFrames}
+use Rattle.swap_run.specs.declared.stop.SwapStop.TheVariants.{NoSuperframe}
 use Rattle.swap_run.specs.declared.machine.SwapMachine.{SwapMachine}
 use Rattle.swap_run.proofs.BoundLemmas.{idle_left, few_swapped}
 use Rattle.swap_run.proofs.PacketLemmas.{reads_same}
 use Rattle.swap_run.proofs.SendLemmas.{frames_push, sends_told, caught_told, sends_begun, sends_units, sends_over}
-use Rattle.swap_run.proofs.ShownLemmas.{Same, feed_same, bound_as, in_records, in_packets, in_units, in_drains}
+use Rattle.swap_run.proofs.ShownLemmas.{shown_by, Same, feed_same, bound_as, in_records, in_packets}
+use Rattle.swap_run.proofs.ShownLemmas.{in_units, in_drains}
 use Rattle.swap_run.proofs.ShownLemmas.{in_rests, all_there, feed_network, of_in, sends_in, status_at, bound_at}
 use Rattle.swap_run.proofs.LiveLemmas.{live_on, live_push}
 
@@ -74,6 +75,10 @@ pub slots_rise : CountRises → SlotLength → (c : Config) (plp a b : ℕ) → 
 slots_rise rises slot c plp a b plan lt le =
     let s = slot c plp plan.rules lt in
     rises (num c) (den c plp) (a * c.ticks) (b * c.ticks) (omega (arith, s.0, s.2)) (mul-le-mul_right c.ticks le)
+
+-- no more frames were passed than the one under way
+pub next_most : (p : Phase) (number : ℕ) → next_in p number ≤ number + 1
+next_most p number = bool_cases (begun_in p) (λ e. rw e (omega arith)) (λ e. rw e (omega arith))
 
 -- what is left of a frame of the network is what is left of it where it waits
 left_same : (s : Swapper) (f : FrameFeed) (frame : PoolFrame) → IsFrameOf f frame → feed.config_of f ≡ s.plan.now
@@ -102,69 +107,25 @@ module _ (c : Config) (plp : ℕ) (events : List Event) (m : SwapMachine) (s : S
 
   -- ---- from records on
 
-  -- in another phase
-  shown_phase : (p : Phase) (draining : Bool) → OfFeed (begun_in p) c m.feed (fed 0 events) (has_ended 0 events) r.given
-      → Sends c plp m.swapper r.told (left_at p m.swapper m.feed) frames m.ran.units (gave events)
-      → status_of m.swapper ≡ status_in c plp m.number p
-      → IsBound (next_in p m.number) m.number m.ran.units (more_units p m.swapper m.feed) r.given
-      → IsIn c plp (record m { phase = p; draining = draining }) r (has_ended 1 events) p
-      → Shown c plp events (record m { phase = p; draining = draining })
-  shown_phase p draining of sends status bound is = record {
-    base = s.base;
-    read = r;
-    of_feed = of;
-    of_input = s.of_input;
-    frame = s.frame;
-    had = s.had;
-    sends = sends;
-    status = status;
-    counted = s.counted;
-    bound = bound;
-    live = s.live;
-    is_in = is;
-  }
-
   -- a record waits that may have its number
   pub shown_met : DueFollow → CountRises → SlotLength → m.phase ≡ phase.Records → (w : Waiting)
       → waiting_of m.feed ≡ Some w → w.frame < MOST_FRAMES
       → Shown c plp events (record m { phase = phase.Packets })
   shown_met follow rises slot e w waits early =
       let i = in_records c plp events m s e in
-      let above = waits_above follow c m.feed _ _ r.given (of_in c plp events m s phase.Records e) w waits in
+      let of = of_in c plp events m s phase.Records e in
+      let above = waits_above follow c m.feed _ _ r.given of w waits in
       let next = i.next in
       let few = i.few in
       let up = slots_rise rises slot c plp (above_all r.given - 1) m.number s.base.rules s.base.place
       (omega (arith, next)) in
-      shown_phase phase.Packets m.draining (of_in c plp events m s phase.Records e)
-      (sends_in c plp events m s phase.Records e)
-      (status_at c plp events m s phase.Records e) (bound_at c plp events m s phase.Records e) (record {
-        caught = i.caught;
-        waiting = w;
-        waits = waits;
-        early = early;
-        behind = omega (arith, next, above);
-        above = omega (arith, next);
-        few = omega (arith, few, up);
-        quiet = i.quiet;
-      })
-
-  -- one waits that may not
-  pub shown_late : m.phase ≡ phase.Records → (w : Waiting) → waiting_of m.feed ≡ Some w → MOST_FRAMES ≤ w.frame
-      → Shown c plp events (record m { phase = phase.Stopped TooManyFrames })
-  shown_late e w waits late =
-      let i = in_records c plp events m s e in
-      shown_phase (phase.Stopped TooManyFrames) m.draining (of_in c plp events m s phase.Records e)
-      (sends_in c plp events m s phase.Records e)
-      (status_at c plp events m s phase.Records e)
-      (bound_as m.number m.number m.ran.units 184 0 r.given (omega arith) (bound_at c plp events m s phase.Records e))
-      (record {
-        caught = i.caught;
-        waiting = w;
-        waits = waits;
-        late = late;
-        next = i.next;
-        quiet = i.quiet;
-      })
+      let sends = sends_in c plp events m s phase.Records e in
+      let status = status_at c plp events m s phase.Records e in
+      let bound = bound_at c plp events m s phase.Records e in
+      let behind : m.number ≤ w.frame = omega (arith, next, above) in
+      let there : above_all r.given ≤ m.number = omega (arith, next) in
+      let wanted : length r.told.packets ≤ slots_by c plp (m.number * c.ticks) = omega (arith, few, up) in
+      search rules
 
   -- none comes, and there was none
   none_given : m.joined ≡ false → r.given ≡ []
@@ -174,43 +135,19 @@ module _ (c : Config) (plp : ℕ) (events : List Event) (m : SwapMachine) (s : S
       go [] e = refl
       go (x ∷ xs) e = absurd (true≢false (sym (lt-ltb 0 (length (x ∷ xs)) (omega arith)) ∙ e))
 
-  some_given : m.joined ≡ true → r.given ≢ []
-  some_given on e = absurd (true≢false (sym on ∙ s.counted.joined_is
-      ∙ ap (λ (l : List FrameRecord). nat_lt 0 (length l)) e))
-
   pub shown_nothing : m.phase ≡ phase.Records → waiting_of m.feed ≡ None → feed.has_ended m.feed ≡ true
       → m.joined ≡ false
       → Shown c plp events (record m { phase = phase.Stopped NoSuperframe })
   shown_nothing e none over off =
       let i = in_records c plp events m s e in
       let empty = none_given off in
-      shown_phase (phase.Stopped NoSuperframe) m.draining (of_in c plp events m s phase.Records e)
-      (sends_in c plp events m s phase.Records e)
-      (status_at c plp events m s phase.Records e)
-      (bound_as m.number m.number m.ran.units 184 0 r.given (omega arith) (bound_at c plp events m s phase.Records e))
-      (record {
-        none = record { none = none; ended = over };
-        nothing = empty;
-        first = i.next ∙ ap above_all empty;
-        quiet = i.quiet;
-      })
-
-  pub shown_parted : m.phase ≡ phase.Records → waiting_of m.feed ≡ None → feed.has_ended m.feed ≡ true → m.joined ≡ true
-      → Shown c plp events (record m { phase = phase.Drains; draining = true })
-  shown_parted e none over on =
-      let i = in_records c plp events m s e in
-      shown_phase phase.Drains true (of_in c plp events m s phase.Records e) (sends_in c plp events m s phase.Records e)
-      (status_at c plp events m s phase.Records e) (bound_at c plp events m s phase.Records e) (record {
-        caught = i.caught;
-        behind = record {
-          none = record { none = none; ended = over };
-          some = some_given on;
-          next = i.next;
-          few = i.few;
-        };
-        whole = i.quiet.tail_is;
-        drains = refl;
-      })
+      let of = of_in c plp events m s phase.Records e in
+      let sends = sends_in c plp events m s phase.Records e in
+      let status = status_at c plp events m s phase.Records e in
+      let bound = bound_as m.number m.number m.ran.units 184 0 r.given (omega arith)
+      (bound_at c plp events m s phase.Records e) in
+      let first : m.number ≡ 0 = i.next ∙ ap above_all empty in
+      search rules
 
   -- ---- behind a frame
 
@@ -222,7 +159,7 @@ module _ (c : Config) (plp : ℕ) (events : List Event) (m : SwapMachine) (s : S
   back input cont = cont_next r.told input cont
 
   -- the number of the record that waits
-  same_frame : (e : m.phase ≡ phase.Packets) (w : Waiting) → waiting_of m.feed ≡ Some w
+  pub same_frame : (e : m.phase ≡ phase.Packets) (w : Waiting) → waiting_of m.feed ≡ Some w
       → w.frame ≡ (in_packets c plp events m s e).waiting.frame
   same_frame e w waits =
       let i = in_packets c plp events m s e in
@@ -239,41 +176,30 @@ module _ (c : Config) (plp : ℕ) (events : List Event) (m : SwapMachine) (s : S
       let few = i.few in
       let early = i.early in
       let above = i.above in
-      let bound = bound_at c plp events m s phase.Packets e in
-      let sends = sends_in c plp events m s phase.Packets e in
-      let given = bound.few in
-      let most = bound.most in
-      subst (ShownAt c plp events (record m { swapper = q; number = m.number + 1 })) (sym e) (record {
-        base = s.base;
-        read = record { given = r.given; told = in_next r.told; rest = r.rest; tail = r.tail };
-        of_feed = of_in c plp events m s phase.Packets e;
-        of_input = read_next s.of_input;
-        frame = ap (λ (n : ℕ). n + 1) s.frame;
-        had = s.had;
-        sends = sends_told c plp m.swapper q r.told (in_next r.told) [] [] frames m.ran.units (gave events)
-            (gave events) refl back
-            (ap (λ (x : Status). x.finished) n.status) (n.stands c plp r.told [] frames m.ran.units sends.stands) sends;
-        status = n.status ∙ ap (λ (x : Status). record x { frame = x.frame + 1; begun = false })
-            (status_at c plp events m s phase.Packets e);
-        counted = s.counted;
-        bound = record {
-          few = omega (arith, given);
-          early = omega (arith, early, less, same);
-          most =
-              omega (arith, most);
-        };
-        live = live_on c plp _ _ r.told (in_next r.told) r.given m.ran.units m.ran.units refl back (omega arith) s.live;
-        is_in = record {
-          caught = caught_told c plp m.swapper q r.told (in_next r.told) frames m.ran.units back n.unit i.caught;
-          waiting = w;
-          waits = waits;
-          early = omega (arith, early, same);
-          behind = omega (arith, less);
-          above = omega (arith, above);
-          few = omega (arith, few, up);
-          quiet = i.quiet;
-        };
-      })
+      let was = bound_at c plp events m s phase.Packets e in
+      let given = was.few in
+      let most = was.most in
+      let now : SwapMachine = record m { swapper = q; number = m.number + 1 } in
+      let of = of_in c plp events m s phase.Packets e in
+      let input = read_next s.of_input in
+      let number : r.told.frame + 1 ≡ m.number + 1 = ap (λ (n : ℕ). n + 1) s.frame in
+      let old = sends_in c plp events m s phase.Packets e in
+      let sends = sends_told c plp m.swapper q r.told (in_next r.told) [] [] frames m.ran.units (gave events)
+      (gave events) refl back (ap (λ (x : Status). x.finished) n.status)
+      (n.stands c plp r.told [] frames m.ran.units old.stands) old in
+      let seen = n.status ∙ ap (λ (x : Status). record x { frame = x.frame + 1; begun = false })
+      (status_at c plp events m s phase.Packets e) in
+      let bound : IsBound (m.number + 1) (m.number + 1) m.ran.units 184 r.given =
+      record { few = omega (arith, given); early = omega (arith, early, less, same); most = omega (arith, most) } in
+      let live = live_on c plp _ _ r.told (in_next r.told) r.given m.ran.units m.ran.units refl back
+      (omega arith) s.live in
+      let caught = caught_told c plp m.swapper q r.told (in_next r.told) frames m.ran.units back n.unit i.caught in
+      let soon : w.frame < MOST_FRAMES = omega (arith, early, same) in
+      let behind : m.number + 1 ≤ w.frame = omega (arith, less) in
+      let there : above_all r.given ≤ m.number + 1 = omega (arith, above) in
+      let wanted : length r.told.packets ≤ slots_by c plp ((m.number + 1) * c.ticks) = omega (arith, few, up) in
+      subst (ShownAt c plp events now) (sym e)
+      (search (rules, shown_by c plp events now phase.Packets (record r { told = in_next r.told })))
 
   -- ---- a record is taken
 
@@ -334,8 +260,7 @@ module _ (c : Config) (plp : ℕ) (events : List Event) (m : SwapMachine) (s : S
         of_input = read_next s.of_input;
         frame = ap (λ (n : ℕ). n + 1) s.frame;
         had = λ off. let h = all_there c plp events m s none off in omega (arith, h, slots);
-        sends = subst (λ (l : List NumberedView). Sends c plp q (in_next r.told) [] l m.ran.units (gave events))
-            (sym same_frames)
+        sends = rw same_frames
             (sends_told c plp m.swapper q r.told (in_next r.told) [] [] frames m.ran.units (gave events)
             (gave events) refl back
             (ap (λ (y : Status). y.finished) n.status) (n.stands c plp r.told [] frames m.ran.units sends.stands)
@@ -357,8 +282,7 @@ module _ (c : Config) (plp : ℕ) (events : List Event) (m : SwapMachine) (s : S
             refl back (omega arith)
             (live_push c plp (fed 0 events) r.told r.given x m.ran.units s.live);
         is_in = record {
-          caught = subst (λ (l : List NumberedView). HasCaughtUp c plp q (in_next r.told) l m.ran.units)
-              (sym same_frames)
+          caught = rw same_frames
               (caught_told c plp m.swapper q r.told (in_next r.told) frames m.ran.units back n.unit i.caught);
           next = sym above;
           few = omega (arith, few, slots);
@@ -428,7 +352,7 @@ module _ (c : Config) (plp : ℕ) (events : List Event) (m : SwapMachine) (s : S
             view = view;
             held = subst (λ (n : ℕ). IsHeld c n view f) at (record {
               packets = g.packets;
-              past = past_after (rules c) [] p.before;
+              past = past_after (tests.rules c) [] p.before;
               pass = p.none;
               is = refl;
               shows = record {
@@ -537,9 +461,7 @@ module _ (c : Config) (plp : ℕ) (events : List Event) (m : SwapMachine) (s : S
         (frames ++ numbered m.number x.view ∷ []) m.ran.units =
         subst (λ (n : ℕ). SwapperStandsFor q c plp r.told (left_for q (lists_of m.feed))
         (frames ++ numbered n x.view ∷ []) m.ran.units) at
-        (subst (λ (l : List Body). SwapperStandsFor q c plp r.told l (frames ++ numbered (frame_of m.swapper)
-        x.view ∷ []) m.ran.units) left_now
-        (b.stands c plp r.told frames m.ran.units x.view held_at sends.stands)) in
+        (rw left_now at (b.stands c plp r.told frames m.ran.units x.view held_at sends.stands)) in
         record {
           base = s.base;
           read = record { given = r.given ++ x.one ∷ []; told = r.told; rest = r.rest; tail = r.tail };
@@ -555,8 +477,7 @@ module _ (c : Config) (plp : ℕ) (events : List Event) (m : SwapMachine) (s : S
           of_input = s.of_input;
           frame = s.frame;
           had = λ off. let h = all_there c plp events m s none off in omega (arith, h, slots);
-          sends = subst (λ (l : List NumberedView). Sends c plp q r.told (left_for q (lists_of m.feed))
-              l m.ran.units (gave events)) (sym x.sent)
+          sends = rw x.sent
               (sends_begun c plp m.swapper q r.told (left_for q (lists_of m.feed)) frames (numbered m.number x.view)
               m.ran.units (gave events)
               (ap (λ (y : Status). y.finished) (status_at c plp events m s phase.Packets e)) stands sends);
@@ -592,16 +513,8 @@ module _ (c : Config) (plp : ℕ) (events : List Event) (m : SwapMachine) (s : S
   -- ---- units of the frame under way
 
   pub few_units : m.ran.units < 2 ^ 64 - 1
-  few_units = let u = s.bound.most in let n = most_next m.phase in let e = s.bound.early in omega (arith, u, n, e)
-    where
-      most_next : (p : Phase) → next_in p m.number ≤ m.number + 1
-      most_next phase.Records = omega arith
-      most_next phase.Packets = omega arith
-      most_next phase.Units = omega arith
-      most_next phase.Drains = omega arith
-      most_next phase.Rests = omega arith
-      most_next phase.Done = omega arith
-      most_next (phase.Stopped why) = omega arith
+  few_units =
+      let u = s.bound.most in let n = next_most m.phase m.number in let e = s.bound.early in omega (arith, u, n, e)
 
   module _ (e : m.phase ≡ phase.Units) (f : PoolFrame) (is : IsFrameOf m.feed f) (p : Swapper) (full : Bool)
       (bytes : List ℕ)
@@ -625,14 +538,6 @@ module _ (c : Config) (plp : ℕ) (events : List Event) (m : SwapMachine) (s : S
         let same = ap (bytes_left m.swapper) old_same in
         omega (arith, most, less, same)
 
-    -- and each is fewer bytes left
-    pub less_left : more_units phase.Units p m.feed + length g.units ≤ more_units phase.Units m.swapper m.feed
-    less_left =
-        let less = g.less in
-        let was = ap (bytes_left m.swapper) old_same in
-        let now = ap (bytes_left p) rest_same in
-        omega (arith, less, was, now)
-
     was : SwapperStandsFor m.swapper c plp r.told (left_in m.swapper f) frames m.ran.units
     was = subst (λ (l : List Body). SwapperStandsFor m.swapper c plp r.told l frames m.ran.units) (sym old_same)
         (sends_in c plp events m s phase.Units e).stands
@@ -651,38 +556,23 @@ module _ (c : Config) (plp : ℕ) (events : List Event) (m : SwapMachine) (s : S
       pub shown_full : Shown c plp more (record m { swapper = p; ran = record m.ran { units = count } })
       shown_full =
           let i = in_units c plp events m s e in
-          let bound = bound_at c plp events m s phase.Units e in
+          let was = bound_at c plp events m s phase.Units e in
           let most = few_more in
           let same = ap (bytes_left p) rest_same in
-          subst (ShownAt c plp more (record m { swapper = p; ran = record m.ran { units = count } })) (sym e) (record {
-            base = s.base;
-            read = r;
-            of_feed = feed_same true c m.feed _ _ _ _ r.given zero.fed_is zero.ended_is
-                (of_in c plp events m s phase.Units e);
-            of_input = reads_same _ _ _ _ r.told r.rest r.tail m.taken m.ended one.fed_is one.ended_is s.of_input;
-            frame = s.frame;
-            had = s.had;
-            sends = subst (λ (l : List Body). Sends c plp p r.told l frames count (gave more)) rest_same sends_now;
-            status = status ∙ status_at c plp events m s phase.Units e;
-            counted = s.counted;
-            bound = record { few = bound.few; early = bound.early; most = omega (arith, most, same) };
-            live = live_on c plp _ _ r.told r.told r.given m.ran.units count zero.fed_is (λ _ cont. cont)
-                (omega arith) s.live;
-            is_in = record {
-              before = i.before;
-              last = i.last;
-              parts = i.parts;
-              done = λ input cont. let d = i.done input cont in omega (arith, d);
-              waiting = i.waiting;
-              waits = i.waits;
-              whole = i.whole;
-              here = i.here;
-              next = i.next;
-              early = i.early;
-              few = i.few;
-              quiet = i.quiet;
-            };
-          })
+          let now : SwapMachine = record m { swapper = p; ran = record m.ran { units = count } } in
+          let of = feed_same true c m.feed _ _ _ _ r.given zero.fed_is zero.ended_is
+          (of_in c plp events m s phase.Units e) in
+          let input = reads_same _ _ _ _ r.told r.rest r.tail m.taken m.ended one.fed_is one.ended_is s.of_input in
+          let sends : Sends c plp p r.told (left_for p (lists_of m.feed)) frames count (gave more) =
+          rw (sym rest_same) sends_now in
+          let seen = status ∙ status_at c plp events m s phase.Units e in
+          let bound : IsBound (m.number + 1) m.number count (more_units phase.Units p m.feed) r.given =
+          record { few = was.few; early = was.early; most = omega (arith, most, same) } in
+          let live = live_on c plp _ _ r.told r.told r.given m.ran.units count zero.fed_is (λ _ cont. cont)
+          (omega arith) s.live in
+          let done : WereGiven c plp r.told i.before count =
+          λ input cont. let d = i.done input cont in omega (arith, d) in
+          subst (ShownAt c plp more now) (sym e) (search rules)
 
       -- or all were given: the next frame is under way
       pub shown_behind : (k : FrameFeed) (q : Swapper) → full ≡ false → has_unit p ≡ false
@@ -700,8 +590,7 @@ module _ (c : Config) (plp : ℕ) (events : List Event) (m : SwapMachine) (s : S
           let i = in_units c plp events m s e in
           let bound = bound_at c plp events m s phase.Units e in
           let status_is = status_at c plp events m s phase.Units e in
-          let stands : SwapperStandsFor p c plp r.told [] frames count =
-          subst (λ (l : List Body). SwapperStandsFor p c plp r.told l frames count) (g.spent off) sends_now.stands in
+          let stands : SwapperStandsFor p c plp r.told [] frames count = rw (g.spent off) at sends_now.stands in
           let o = reads_same _ _ _ _ r.told r.rest r.tail m.taken m.ended one.fed_is one.ended_is s.of_input in
           let most = few_more in
           let early = i.early in
@@ -754,33 +643,21 @@ module _ (c : Config) (plp : ℕ) (events : List Event) (m : SwapMachine) (s : S
       → Shown c plp events (record m { swapper = q; phase = phase.Rests })
   shown_finish q e over stands all_fed left status =
       let i = in_drains c plp events m s e in
-      let sends = sends_in c plp events m s phase.Drains e in
+      let of = of_in c plp events m s phase.Drains e in
+      let old = sends_in c plp events m s phase.Drains e in
       let status_is = status_at c plp events m s phase.Drains e in
-      let bound = bound_at c plp events m s phase.Drains e in
-      let most = bound.most in
+      let sends = sends_over c plp m.swapper q r.told [] frames m.ran.units (gave events)
+      (ap (λ (y : Status). y.finished) status_is)
+      (stands c plp r.told [] frames m.ran.units old.stands) old in
+      let seen = status ∙ ap (λ (y : Status). record y { finished = true }) status_is in
+      let was = bound_at c plp events m s phase.Drains e in
+      let most = was.most in
       let idle = idle_left m.swapper i.caught.idle in
-      record {
-        base = s.base;
-        read = r;
-        of_feed = of_in c plp events m s phase.Drains e;
-        of_input = s.of_input;
-        frame = s.frame;
-        had = s.had;
-        sends = sends_over c plp m.swapper q r.told [] frames m.ran.units (gave events)
-            (ap (λ (y : Status). y.finished) status_is)
-            (stands c plp r.told [] frames m.ran.units sends.stands) sends;
-        status = status ∙ ap (λ (y : Status). record y { finished = true }) status_is;
-        counted = s.counted;
-        bound = record { few = bound.few; early = bound.early; most = omega (arith, most, left, idle) };
-        live = s.live;
-        is_in = record {
-          all_fed = all_fed;
-          done = λ input cont. let all = i.caught.complete input cont in omega (arith, all);
-          behind = i.behind;
-          whole = i.whole;
-          over = over;
-        };
-      }
+      let bound : IsBound m.number m.number m.ran.units (bytes_left q []) r.given =
+      record { few = was.few; early = was.early; most = omega (arith, most, left, idle) } in
+      let done : WereGiven c plp r.told r.given m.ran.units =
+      λ input cont. let all = i.caught.complete input cont in omega (arith, all) in
+      search rules
 
   pub shown_rest : (q : Swapper) (unit : List ℕ) (more : List Event) → m.phase ≡ phase.Rests → Same 0 events more
       → Same 1 events more
@@ -798,45 +675,31 @@ module _ (c : Config) (plp : ℕ) (events : List Event) (m : SwapMachine) (s : S
       let i = in_rests c plp events m s e in
       let sends = sends_in c plp events m s phase.Rests e in
       let status_is = status_at c plp events m s phase.Rests e in
-      let bound = bound_at c plp events m s phase.Rests e in
-      let most = bound.most in
+      let was = bound_at c plp events m s phase.Rests e in
+      let most = was.most in
       let over_is : (status_of m.swapper).finished ≡ true = ap (λ (y : Status). y.finished) status_is in
-      subst (ShownAt c plp more (record m { swapper = q; ran = record m.ran { units = m.ran.units + 1 } }))
-      (sym e) (record {
-        base = s.base;
-        read = r;
-        of_feed = feed_same false c m.feed _ _ _ _ r.given zero.fed_is zero.ended_is
-            (of_in c plp events m s phase.Rests e);
-        of_input = reads_same _ _ _ _ r.told r.rest r.tail m.taken m.ended one.fed_is one.ended_is s.of_input;
-        frame = s.frame;
-        had = s.had;
-        sends = sends_units c plp m.swapper q r.told [] [] frames m.ran.units (unit ∷ []) (gave events) (gave more)
-            (gave_is ∙ ap (λ (l : List ℕ). gave events ++ l) (sym (append-nil unit)))
-            (ap (λ (y : Status). y.finished) status)
-            (λ input cont later over.
-            let all : List (List ℕ) = pipe c.pid (remade_packets c (swapped c plp input frames) ++ later) in
-            let at : slice_get all m.ran.units ≡ Some unit =
-            ap (λ (l : List (List ℕ)). slice_get (pipe c.pid (remade_packets c (swapped c plp input frames) ++ l))
-            m.ran.units) (over over_is)
-            ∙ ap (λ (l : List (List ℕ)). slice_get (pipe c.pid l) m.ran.units)
-            (append-nil (remade_packets c (swapped c plp input frames)))
-            ∙ next c plp r.told frames m.ran.units sends.stands input cont in
-            (drop (m.ran.units + 1) all, drop_some all m.ran.units unit at))
-            (λ off. absurd (true≢false (sym over_is ∙ off)))
-            (stands c plp r.told frames m.ran.units sends.stands) sends;
-        status = status ∙ status_is;
-        counted = s.counted;
-        bound = record { few = bound.few; early = bound.early; most = omega (arith, most, less) };
-        live = live_on c plp _ _ r.told r.told r.given m.ran.units (m.ran.units + 1) zero.fed_is (λ _ cont. cont)
-            (omega arith) s.live;
-        is_in = record {
-          all_fed = all_fed;
-          done = λ input cont. let d = i.done input cont in omega (arith, d);
-          behind = i.behind;
-          whole = i.whole;
-          over = i.over;
-        };
-      })
+      let now : SwapMachine = record m { swapper = q; ran = record m.ran { units = m.ran.units + 1 } } in
+      let of = feed_same false c m.feed _ _ _ _ r.given zero.fed_is zero.ended_is
+      (of_in c plp events m s phase.Rests e) in
+      let input = reads_same _ _ _ _ r.told r.rest r.tail m.taken m.ended one.fed_is one.ended_is s.of_input in
+      let given = sends_units c plp m.swapper q r.told [] [] frames m.ran.units (unit ∷ []) (gave events) (gave more)
+      (gave_is ∙ ap (λ (l : List ℕ). gave events ++ l) (sym (append-nil unit))) (ap (λ (y : Status). y.finished) status)
+      (λ input cont later over.
+      let all : List (List ℕ) = pipe c.pid (remade_packets c (swapped c plp input frames) ++ later) in
+      let at : slice_get all m.ran.units ≡ Some unit =
+      rw (over over_is, append-nil (remade_packets c (swapped c plp input frames)))
+      (next c plp r.told frames m.ran.units sends.stands input cont) in
+      (drop (m.ran.units + 1) all, drop_some all m.ran.units unit at))
+      (λ off. absurd (true≢false (sym over_is ∙ off)))
+      (stands c plp r.told frames m.ran.units sends.stands) sends in
+      let seen = status ∙ status_is in
+      let bound : IsBound m.number m.number (m.ran.units + 1) (bytes_left q []) r.given =
+      record { few = was.few; early = was.early; most = omega (arith, most, less) } in
+      let live = live_on c plp _ _ r.told r.told r.given m.ran.units (m.ran.units + 1) zero.fed_is (λ _ cont. cont)
+      (omega arith) s.live in
+      let done : WereGiven c plp r.told r.given (m.ran.units + 1) =
+      λ input cont. let d = i.done input cont in omega (arith, d) in
+      subst (ShownAt c plp more now) (sym e) (search rules)
 
   pub shown_done : (q : Swapper) (more : List Event) → m.phase ≡ phase.Rests → Same 0 events more → Same 1 events more
       → gave more ≡ gave events
@@ -851,28 +714,17 @@ module _ (c : Config) (plp : ℕ) (events : List Event) (m : SwapMachine) (s : S
       → Shown c plp more (record m { swapper = q; phase = phase.Done })
   shown_done q more e zero one gave_is all stands status =
       let i = in_rests c plp events m s e in
-      let sends = sends_in c plp events m s phase.Rests e in
-      record {
-        base = s.base;
-        read = r;
-        of_feed = feed_same false c m.feed _ _ _ _ r.given zero.fed_is zero.ended_is
-            (of_in c plp events m s phase.Rests e);
-        of_input = reads_same _ _ _ _ r.told r.rest r.tail m.taken m.ended one.fed_is one.ended_is s.of_input;
-        frame = s.frame;
-        had = s.had;
-        sends = sends_told c plp m.swapper q r.told r.told [] [] frames m.ran.units (gave events) (gave more)
-            gave_is (λ input cont. cont)
-            (ap (λ (y : Status). y.finished) status) (stands c plp r.told frames m.ran.units sends.stands) sends;
-        status = status ∙ status_at c plp events m s phase.Rests e;
-        counted = s.counted;
-        bound = bound_as m.number m.number m.ran.units _ 0 r.given (omega arith)
-            (bound_at c plp events m s phase.Rests e);
-        live = live_on c plp _ _ r.told r.told r.given m.ran.units m.ran.units zero.fed_is (λ _ cont. cont)
-            (omega arith) s.live;
-        is_in = record {
-          all = λ input cont. all c plp r.told frames m.ran.units sends.stands input cont;
-          behind = i.behind;
-          whole = i.whole;
-          over = i.over;
-        };
-      }
+      let old = sends_in c plp events m s phase.Rests e in
+      let of = feed_same false c m.feed _ _ _ _ r.given zero.fed_is zero.ended_is
+      (of_in c plp events m s phase.Rests e) in
+      let input = reads_same _ _ _ _ r.told r.rest r.tail m.taken m.ended one.fed_is one.ended_is s.of_input in
+      let sends = sends_told c plp m.swapper q r.told r.told [] [] frames m.ran.units (gave events) (gave more)
+      gave_is (λ input cont. cont) (ap (λ (y : Status). y.finished) status)
+      (stands c plp r.told frames m.ran.units old.stands) old in
+      let seen = status ∙ status_at c plp events m s phase.Rests e in
+      let bound = bound_as m.number m.number m.ran.units _ 0 r.given (omega arith)
+      (bound_at c plp events m s phase.Rests e) in
+      let live = live_on c plp _ _ r.told r.told r.given m.ran.units m.ran.units zero.fed_is (λ _ cont. cont)
+      (omega arith) s.live in
+      let every = all c plp r.told frames m.ran.units old.stands in
+      search rules

@@ -99,18 +99,8 @@ want_more rises slot c plp file xs bs more plan lt e want =
 
 module _ (rises : CountRises) (slot : SlotLength) (c : Config) (plp : ℕ) (files : ℕ → List ℕ) (plan : IsPlan c)
     (lt : plp < length c.plps) where
-  all_none : (ran : SwapRan) (bytes other : List ℕ) → SwapsAll c plp files ran bytes → HasNone c files other → ⊥
-  all_none ran bytes other a n = a.some n.none
-
-  all_bad : (ran : SwapRan) (packet : ℕ) (bytes other : List ℕ) → SwapsAll c plp files ran bytes
-      → MeetsBad c plp files packet other → ⊥
-  all_bad ran packet bytes other a m = a.whole m.bad
-
   all_late : (ran : SwapRan) (bytes other : List ℕ) → SwapsAll c plp files ran bytes → HasLate c plp files other → ⊥
   all_late ran bytes other a h = not_late h.before h.late h.after (subst AreEarly h.parts a.early) h.number
-
-  none_bad : (packet : ℕ) (bytes other : List ℕ) → HasNone c files bytes → MeetsBad c plp files packet other → ⊥
-  none_bad packet bytes other n m = m.some n.none
 
   none_late : (bytes other : List ℕ) → HasNone c files bytes → HasLate c plp files other → ⊥
   none_late bytes other n h = go h.before (sym n.none ∙ h.parts)
@@ -135,15 +125,15 @@ module _ (rises : CountRises) (slot : SlotLength) (c : Config) (plp : ℕ) (file
   one : (result other : Result SwapRan SwapStop) → MustRun c plp files result → MustRun c plp files other
       → result ≡ other
   one (Ok ran) (Ok other) a b = ap Ok (a.1.ran_is ∙ sym b.1.ran_is)
-  one (Ok ran) (Err NoSuperframe) a b = absurd (all_none ran a.0 b.0 a.1 b.1)
-  one (Ok ran) (Err (InputRefused packet)) a b = absurd (all_bad ran packet a.0 b.0 a.1 b.1)
+  one (Ok ran) (Err NoSuperframe) a b = absurd (a.1.some b.1.none)
+  one (Ok ran) (Err (InputRefused packet)) a b = absurd (a.1.whole b.1.bad)
   one (Ok ran) (Err TooManyFrames) a b = absurd (all_late ran a.0 b.0 a.1 b.1)
-  one (Err NoSuperframe) (Ok other) a b = absurd (all_none other b.0 a.0 b.1 a.1)
+  one (Err NoSuperframe) (Ok other) a b = absurd (b.1.some a.1.none)
   one (Err NoSuperframe) (Err NoSuperframe) a b = refl
-  one (Err NoSuperframe) (Err (InputRefused packet)) a b = absurd (none_bad packet a.0 b.0 a.1 b.1)
+  one (Err NoSuperframe) (Err (InputRefused packet)) a b = absurd (b.1.some a.1.none)
   one (Err NoSuperframe) (Err TooManyFrames) a b = absurd (none_late a.0 b.0 a.1 b.1)
-  one (Err (InputRefused packet)) (Ok other) a b = absurd (all_bad other packet b.0 a.0 b.1 a.1)
-  one (Err (InputRefused packet)) (Err NoSuperframe) a b = absurd (none_bad packet b.0 a.0 b.1 a.1)
+  one (Err (InputRefused packet)) (Ok other) a b = absurd (b.1.whole a.1.bad)
+  one (Err (InputRefused packet)) (Err NoSuperframe) a b = absurd (a.1.some b.1.none)
   one (Err (InputRefused packet)) (Err (InputRefused other)) a b =
       ap (λ (n : ℕ). Err (InputRefused n)) (a.1.number ∙ sym b.1.number)
   one (Err (InputRefused packet)) (Err TooManyFrames) a b = absurd (bad_late packet a.0 b.0 a.1 b.1)
@@ -160,100 +150,88 @@ one_run rises slot c plp files result other plan lt a b = one rises slot c plp f
 abbrev HasEnd : Config → ℕ → (ℕ → List ℕ) → Type 0
 HasEnd c plp files = (result : Result SwapRan SwapStop) × MustRun c plp files result
 
--- all were sent
-sent : (c : Config) (plp : ℕ) (files : ℕ → List ℕ) (before : List FrameRecord) → records_of c (files 0) ≢ []
-    → records_of c (files 0) ≡ before → AreEarly before → ¬ (WantBad c plp (files 1) before) → HasEnd c plp files
-sent c plp files before some parts early unwanted = elim (bad_or_not (files 1))
-    [ inl bad ↦ refuses bad | inr none ↦ ends none ]
-  where
-    refuses : HasBad (files 1) → HasEnd c plp files
-    refuses bad =
-        let packet : ℕ = length (packets_in (files 1)) in
-        let bytes : List ℕ = joined (complete_of c plp files before) in
-        let meets : MeetsBad c plp files packet bytes =
-        record {
-          some = some;
-          bad = bad;
-          number = refl;
-          before = before;
-          after = [];
-          parts = parts ∙ sym (append-nil before);
-          early = subst AreEarly (sym (append-nil before)) early;
-          unwanted = unwanted;
-          wanted = λ more. absurd (more refl);
-          output = refl;
-        } in
-        (Err (InputRefused packet), (bytes, meets))
+module _ (c : Config) (plp : ℕ) (files : ℕ → List ℕ) where
+  -- A frame wants the bad packet, or all were sent.
+  refused : (before after : List FrameRecord) → records_of c (files 0) ≢ [] → HasBad (files 1)
+      → records_of c (files 0) ≡ before ++ after → AreEarly (before ++ take 1 after)
+      → ¬ (WantBad c plp (files 1) before)
+      → (after ≢ [] → WantBad c plp (files 1) (before ++ take 1 after)) → HasEnd c plp files
+  refused before after some bad parts early unwanted wanted =
+      let packet : ℕ = length (packets_in (files 1)) in
+      let bytes : List ℕ = joined (complete_of c plp files before) in
+      let meets : MeetsBad c plp files packet bytes =
+      record {
+        some = some;
+        bad = bad;
+        number = refl;
+        before = before;
+        after = after;
+        parts = parts;
+        early = early;
+        unwanted = unwanted;
+        wanted = wanted;
+        output = refl;
+      } in
+      (Err (InputRefused packet), (bytes, meets))
 
-    ends : ¬ (HasBad (files 1)) → HasEnd c plp files
-    ends none =
-        let ran : SwapRan = counted c plp (records_of c (files 0)) (packets_in (files 1)) (length
-        (units_of c plp files)) in
-        let bytes : List ℕ = joined (units_of c plp files) in
-        let all : SwapsAll c plp files ran bytes =
-        record { some = some; early = subst AreEarly (sym parts) early; whole = none; output = refl; ran_is = refl } in
-        (Ok ran, (bytes, all))
-
--- a frame wants the bad packet
-refused : (c : Config) (plp : ℕ) (files : ℕ → List ℕ) (before : List FrameRecord) (x : FrameRecord)
-    (after : List FrameRecord)
-    → records_of c (files 0) ≢ [] → records_of c (files 0) ≡ before ++ x ∷ after → AreEarly (before ++ x ∷ [])
-    → ¬ (WantBad c plp (files 1) before) → WantBad c plp (files 1) (before ++ x ∷ []) → HasEnd c plp files
-refused c plp files before x after some parts early unwanted want =
-    let packet : ℕ = length (packets_in (files 1)) in
-    let bytes : List ℕ = joined (complete_of c plp files before) in
-    let meets : MeetsBad c plp files packet bytes =
-    record {
-      some = some;
-      bad = want.0;
-      number = refl;
-      before = before;
-      after = x ∷ after;
-      parts = parts;
-      early = early;
-      unwanted = unwanted;
-      wanted = λ _. want;
-      output = refl;
-    } in
-    (Err (InputRefused packet), (bytes, meets))
-
--- no frame may have its number
-late_at : (c : Config) (plp : ℕ) (files : ℕ → List ℕ) (before : List FrameRecord) (x : FrameRecord)
-    (after : List FrameRecord)
-    → records_of c (files 0) ≡ before ++ x ∷ after → AreEarly before → ¬ (WantBad c plp (files 1) before)
-    → MOST_FRAMES ≤ x.number → HasEnd c plp files
-late_at c plp files before x after parts early unwanted number =
-    let bytes : List ℕ = joined (complete_of c plp files before) in
-    let has : HasLate c plp files bytes =
-    record {
-      before = before;
-      late = x;
-      after = after;
-      parts = parts;
-      early = early;
-      number = number;
-      unwanted = unwanted;
-      output = refl;
-    } in
-    (Err TooManyFrames, (bytes, has))
-
--- record by record
-walk : (c : Config) (plp : ℕ) (files : ℕ → List ℕ) → records_of c (files 0) ≢ [] → (before after : List FrameRecord)
-    → records_of c (files 0) ≡ before ++ after → AreEarly before → ¬ (WantBad c plp (files 1) before)
-    → HasEnd c plp files
-walk c plp files some before [] parts early unwanted =
-    sent c plp files before some (parts ∙ append-nil before) early unwanted
-walk c plp files some before (x ∷ after) parts early unwanted =
-    elim (cases_lt x.number MOST_FRAMES) [
-      | inr more ↦ late_at c plp files before x after parts early unwanted more
-      | inl less ↦ elim (want_or_not c plp (files 1) (before ++ x ∷ [])) [
-        | inl want ↦ refused c plp files before x after some parts (below_append MOST_FRAMES before (x ∷ [])
-            early (less, tt))
-            unwanted want
-        | inr none ↦ walk c plp files some (before ++ x ∷ []) after (parts ∙ sym (append_assoc before (x ∷ []) after))
-            (below_append MOST_FRAMES before (x ∷ []) early (less, tt)) none
+  -- all were sent
+  sent : (before : List FrameRecord) → records_of c (files 0) ≢ [] → records_of c (files 0) ≡ before ++ []
+      → AreEarly before → ¬ (WantBad c plp (files 1) before) → HasEnd c plp files
+  sent before some parts early unwanted =
+      elim (bad_or_not (files 1)) [
+        | inl bad ↦ refused before [] some bad parts (subst AreEarly (sym (append-nil before)) early) unwanted
+            (λ more. absurd (more refl))
+        | inr none ↦ ends none
       ]
-    ]
+    where
+      ends : ¬ (HasBad (files 1)) → HasEnd c plp files
+      ends none =
+          let ran : SwapRan = counted c plp (records_of c (files 0)) (packets_in (files 1))
+          (length (units_of c plp files)) in
+          let bytes : List ℕ = joined (units_of c plp files) in
+          let all : SwapsAll c plp files ran bytes =
+          record {
+            some = some;
+            early = subst AreEarly (sym (parts ∙ append-nil before)) early;
+            whole = none;
+            output = refl;
+            ran_is = refl;
+          } in
+          (Ok ran, (bytes, all))
+
+  -- no frame may have its number
+  late_at : (before : List FrameRecord) (x : FrameRecord) (after : List FrameRecord)
+      → records_of c (files 0) ≡ before ++ x ∷ after → AreEarly before → ¬ (WantBad c plp (files 1) before)
+      → MOST_FRAMES ≤ x.number → HasEnd c plp files
+  late_at before x after parts early unwanted number =
+      let bytes : List ℕ = joined (complete_of c plp files before) in
+      let has : HasLate c plp files bytes =
+      record {
+        before = before;
+        late = x;
+        after = after;
+        parts = parts;
+        early = early;
+        number = number;
+        unwanted = unwanted;
+        output = refl;
+      } in
+      (Err TooManyFrames, (bytes, has))
+
+  -- record by record
+  walk : records_of c (files 0) ≢ [] → (before after : List FrameRecord) → records_of c (files 0) ≡ before ++ after
+      → AreEarly before → ¬ (WantBad c plp (files 1) before) → HasEnd c plp files
+  walk some before [] parts early unwanted = sent before some parts early unwanted
+  walk some before (x ∷ after) parts early unwanted =
+      elim (cases_lt x.number MOST_FRAMES) [
+        | inr more ↦ late_at before x after parts early unwanted more
+        | inl less ↦ elim (want_or_not c plp (files 1) (before ++ x ∷ [])) [
+          | inl want ↦ refused before (x ∷ after) some want.0 parts
+              (below_append MOST_FRAMES before (x ∷ []) early (less, tt)) unwanted (λ _. want)
+          | inr none ↦ walk some (before ++ x ∷ []) after (parts ∙ sym (append_assoc before (x ∷ []) after))
+              (below_append MOST_FRAMES before (x ∷ []) early (less, tt)) none
+        ]
+      ]
 
 pub run_ends : NoneAtZero → SlotLength → RunEnds
 run_ends none slot c plp files plan lt = go (records_of c (files 0)) refl

@@ -1,6 +1,7 @@
 -- What is left to give, how far an input may be read, and what is known of a machine that came.
-use Rattle.std.proofs.Common.{◌≡◌, ◌≢◌, ℕ, ◌+◌, ◌-◌, ◌*◌, ◌/◌, ◌<◌, ◌≤◌, Bool, true, false, List, [], ◌∷◌, ◌++◌, length}
-use Rattle.std.proofs.Common.{take, Option, Some, None, refl, ap, sym, subst, ◌∙◌, arith, length-append, append-nil}
+use Rattle.std.proofs.Common.{◌≡◌, ◌≢◌, ℕ, ◌+◌, ◌*◌, ◌/◌, ◌<◌, ◌≤◌, Bool, true, false, List, [], ◌∷◌, ◌++◌, length}
+use Rattle.std.proofs.Common.{take, Option, Some, None, refl, ap, sym, subst, ◌∙◌, arith, rules}
+use Rattle.std.proofs.Common.{length-append, append-nil}
 use Rattle.plp_config.specs.Laws.{CountRises, SlotLength}
 use Rattle.plp_config.specs.SlotTime.{slots_by}
 use Rattle.plp_config.specs.declared.config.Config.{Config}
@@ -16,22 +17,20 @@ use Rattle.file_run.specs.Events.{Event, Fed, Ended, Gave, gave}
 use Rattle.file_run.specs.Laws.{EventsTell}
 use Rattle.feed_merge.specs.FeedStandsFor.{fed_of, is_whole}
 use Rattle.feed_merge.specs.FeedStandsFor as feed
-use Rattle.feed_merge.proofs.BothCameLemmas.{test_of, most_of, less_of, number_of, nothing_of}
+use Rattle.feed_merge.proofs.BothCameLemmas.{test_of, most_of, less_of, number_of}
 use Rattle.terms.proofs.CaseLemmas.{bool_cases}
 use Rattle.terms.proofs.OptionLemmas.{none_some}
-use Rattle.feed_merge.specs.Reading.{is_idle}
 use Rattle.frame_writer.specs.Left.{CanBeSent}
 use Rattle.frame_writer.specs.declared.frame.PoolFrame.{PoolFrame}
 use Rattle.region_swap.specs.Swapped.{frames_in}
 use Rattle.region_swap.specs.StandsFor.{GivesUnits, Status, status_of, frame_of, has_unit, is_fed}
 use Rattle.region_swap.specs.declared.swapper.Swapper.{Swapper}
-use Rattle.swap_run.specs.Shown.{Sends, IsIn, Shown, HasShown, begun_in, left_at, next_in, status_in}
+use Rattle.swap_run.specs.Shown.{Sends, IsIn, Shown, HasShown, begun_in, finished_in, left_at}
 use Rattle.swap_run.specs.Steps.{left_in, left_of, wanted_in, reach_of, input_reach, drained}
 use Rattle.swap_run.specs.declared.phase.Phase.{Phase}
 use Rattle.swap_run.specs.declared.phase.Phase.TheVariants as phase
-use Rattle.swap_run.specs.declared.stop.SwapStop.TheVariants.{InputRefused}
 use Rattle.swap_run.specs.declared.machine.SwapMachine.{SwapMachine}
-use Rattle.swap_run.proofs.GoLemmas.{slots_rise}
+use Rattle.swap_run.proofs.GoLemmas.{slots_rise, same_frame, next_most}
 use Rattle.swap_run.proofs.LiveLemmas.{live_on}
 use Rattle.swap_run.proofs.PacketLemmas.{reads_same}
 use Rattle.swap_run.proofs.ShownLemmas.{Same, feed_same, feed_network, in_packets, in_units, in_drains, in_rests}
@@ -91,27 +90,9 @@ slots_is c plp events m s frame =
     ap (λ (k : Config). slots_by k (status_of m.swapper).plp (frame * k.ticks)) s.base.config
     ∙ ap (λ (p : ℕ). slots_by c p (frame * c.ticks)) (ap (λ (x : Status). x.plp) s.status)
 
--- a bad packet was met
-pub reach_refused : (m : SwapMachine) (p : Phase) → m.phase ≡ p → wanted_in p m.number ≡ m.number → (other : ℕ)
-    → reach_of m other ≤ reach_of (record m { phase = phase.Stopped (InputRefused m.taken) }) other
-reach_refused m p e same =
-    let was = slots_in m p e ∙ ap (slots_before m) same in
-    reach_on m (record m { phase = phase.Stopped (InputRefused m.taken) }) (omega arith) (omega (arith, was))
-    (omega arith)
-
 pub drained_more : (b : Bool) (n : ℕ) → drained b n ≤ drained true n
 drained_more true n = omega arith
 drained_more false n = omega arith
-
-pub drained_on : (b : Bool) (m n : ℕ) → m ≤ n → drained b m ≤ drained b n
-drained_on true m n le = omega (arith, le)
-drained_on false m n le = omega arith
-
-pub slots_status : (m : SwapMachine) (q : Swapper) (frame : ℕ) → (status_of q).plp ≡ (status_of m.swapper).plp
-    → slots_before m frame ≤ slots_by m.plan.now (status_of q).plp (frame * m.plan.now.ticks)
-slots_status m q frame e =
-    let s = ap (λ (p : ℕ). slots_by m.plan.now p (frame * m.plan.now.ticks)) e in
-    omega (arith, s)
 
 pub slots_next : CountRises → SlotLength → (m : SwapMachine) (q : Swapper) (a b : ℕ) → ∥ HasShown m ∥₁ → a ≤ b
     → (status_of q).plp ≡ (status_of m.swapper).plp → slots_before m a ≤ slots_by m.plan.now (status_of q).plp
@@ -130,16 +111,6 @@ slots_next rises slot m q a b came le e = most_of _ _ came (λ (h : HasShown m).
         (b * k.ticks))
         (sym s.base.config) (omega (arith, up, here, there))
 
--- behind a frame its own packets are those that were wanted last
-pub slots_behind : (m : SwapMachine) (q : Swapper) (p : Phase) → m.phase ≡ p → wanted_in p m.number ≡ m.number
-    → (status_of q).plp ≡ (status_of m.swapper).plp
-    → slots_at m ≤ slots_by m.plan.now (status_of q).plp ((m.number + 1 - 1) * m.plan.now.ticks)
-slots_behind m q p e here plp =
-    let back : m.number ≡ m.number + 1 - 1 = omega arith in
-    let was = slots_in m p e ∙ ap (slots_before m) (here ∙ back) in
-    let same = slots_status m q (m.number + 1 - 1) plp in
-    omega (arith, was, same)
-
 -- ---- what is left to give
 
 pub left_by : (m : SwapMachine) (p : Phase) → m.phase ≡ p → left_of m ≡ left_in p (feed.left_of m.feed)
@@ -152,35 +123,19 @@ pub number_most : (m : SwapMachine) → ∥ HasShown m ∥₁ → m.number ≤ M
 number_most m came = most_of _ _ came (λ (h : HasShown m). h.shown.bound.early)
 
 pub few_counted : (m : SwapMachine) → ∥ HasShown m ∥₁ → m.ran.muted + m.ran.frames ≤ MOST_FRAMES + 1
-few_counted m came = most_of _ _ came (λ (h : HasShown m). go h)
-  where
-    most_next : (p : Phase) → next_in p m.number ≤ m.number + 1
-    most_next phase.Records = omega arith
-    most_next phase.Packets = omega arith
-    most_next phase.Units = omega arith
-    most_next phase.Drains = omega arith
-    most_next phase.Rests = omega arith
-    most_next phase.Done = omega arith
-    most_next (phase.Stopped why) = omega arith
-
-    go : HasShown m → m.ran.muted + m.ran.frames ≤ MOST_FRAMES + 1
-    go h =
-        let a = h.shown.counted.muted_is in
-        let b = h.shown.bound.few in
-        let d = h.shown.bound.early in
-        let e = most_next m.phase in
-        omega (arith, a, b, d, e)
+few_counted m came = most_of _ _ came (λ (h : HasShown m).
+    let a = h.shown.counted.muted_is in
+    let b = h.shown.bound.few in
+    let d = h.shown.bound.early in
+    let e = next_most m.phase m.number in
+    omega (arith, a, b, d, e))
 
 pub few_unsent : (m : SwapMachine) → ∥ HasShown m ∥₁ → m.ran.unsent ≤ m.taken
-few_unsent m came = most_of _ _ came (λ (h : HasShown m). go h)
-  where
-    go : HasShown m → m.ran.unsent ≤ m.taken
-    go h =
-        let s = h.shown in
-        let a = s.counted.unsent_is in
-        let b = s.of_input.count in
-        let d = length-append s.read.told.packets s.read.rest in
-        omega (arith, a, b, d)
+few_unsent m came = most_of _ _ came (λ (h : HasShown m).
+    let a = h.shown.counted.unsent_is in
+    let b = h.shown.of_input.count in
+    let d = length-append h.shown.read.told.packets h.shown.read.rest in
+    omega (arith, a, b, d))
 
 module _ (m : SwapMachine) (came : ∥ HasShown m ∥₁) where
   -- a frame of the feed is one of the network of the swapper
@@ -198,46 +153,33 @@ module _ (m : SwapMachine) (came : ∥ HasShown m ∥₁) where
   pub packets_idle : m.phase ≡ phase.Packets → has_unit m.swapper ≡ false
   packets_idle e = test_of _ _ came (λ (h : HasShown m). (in_packets h.network h.plp h.events m h.shown e).caught.idle)
 
-  pub packets_free : m.phase ≡ phase.Packets → (status_of m.swapper).begun ≡ false
-  packets_free e = test_of _ _ came (λ (h : HasShown m).
-      ap (λ (x : Status). x.begun) (h.shown.status ∙ ap (status_in h.network h.plp m.number) e))
+  -- whether a frame is under way, and whether no more come
+  pub begun_at : (p : Phase) → m.phase ≡ p → (status_of m.swapper).begun ≡ begun_in p
+  begun_at p e = test_of _ _ came (λ (h : HasShown m). ap (λ (x : Status). x.begun) h.shown.status ∙ ap begun_in e)
 
-  pub packets_open : m.phase ≡ phase.Packets → (status_of m.swapper).finished ≡ false
-  packets_open e = test_of _ _ came (λ (h : HasShown m).
-      ap (λ (x : Status). x.finished) (h.shown.status ∙ ap (status_in h.network h.plp m.number) e))
+  pub finished_at : (p : Phase) → m.phase ≡ p → (status_of m.swapper).finished ≡ finished_in p
+  finished_at p e = test_of _ _ came (λ (h : HasShown m).
+      ap (λ (x : Status). x.finished) h.shown.status ∙ ap finished_in e)
 
   -- of the record that waits
   pub packets_early : m.phase ≡ phase.Packets → (w : Waiting) → feed.waiting_of m.feed ≡ Some w → w.frame < MOST_FRAMES
   packets_early e w waits = less_of _ _ came (λ (h : HasShown m).
-      let i = in_packets h.network h.plp h.events m h.shown e in
-      let same : w.frame ≡ i.waiting.frame = ap (λ (x : Waiting). x.frame) (same_Some w i.waiting (sym waits
-      ∙ i.waits)) in
-      let early = i.early in
+      let same = same_frame h.network h.plp h.events m h.shown e w waits in
+      let early = (in_packets h.network h.plp h.events m h.shown e).early in
       omega (arith, same, early))
 
   pub packets_behind : m.phase ≡ phase.Packets → (w : Waiting) → feed.waiting_of m.feed ≡ Some w → m.number ≤ w.frame
   packets_behind e w waits = most_of _ _ came (λ (h : HasShown m).
-      let i = in_packets h.network h.plp h.events m h.shown e in
-      let same : w.frame ≡ i.waiting.frame = ap (λ (x : Waiting). x.frame) (same_Some w i.waiting (sym waits
-      ∙ i.waits)) in
-      let behind = i.behind in
+      let same = same_frame h.network h.plp h.events m h.shown e w waits in
+      let behind = (in_packets h.network h.plp h.events m h.shown e).behind in
       omega (arith, same, behind))
 
   pub packets_waits : m.phase ≡ phase.Packets → IsSome (feed.waiting_of m.feed)
-  packets_waits e = some_of (feed.waiting_of m.feed) (λ none. nothing_of came (λ (h : HasShown m).
-      let i = in_packets h.network h.plp h.events m h.shown e in
-      none_some i.waiting (sym none ∙ i.waits)))
-    where
-      some_of : (o : Option Waiting) → (o ≡ None → ⊥) → IsSome o
-      some_of None f = absurd (f refl)
-      some_of (Some w) f = refl
+  packets_waits e = test_of _ _ came (λ (h : HasShown m).
+      ap is_some (in_packets h.network h.plp h.events m h.shown e).waits)
 
   pub frame_is : frame_of m.swapper ≡ m.number
   frame_is = number_of _ _ came (λ (h : HasShown m). ap (λ (x : Status). x.frame) h.shown.status)
-
-  pub units_begun : m.phase ≡ phase.Units → (status_of m.swapper).begun ≡ true
-  units_begun e = test_of _ _ came (λ (h : HasShown m).
-      ap (λ (x : Status). x.begun) (h.shown.status ∙ ap (status_in h.network h.plp m.number) e))
 
   -- the record that waits is that of the frame under way
   pub units_whole : m.phase ≡ phase.Units → is_whole (feed.waiting_of m.feed) ≡ true
@@ -264,14 +206,6 @@ module _ (m : SwapMachine) (came : ∥ HasShown m ∥₁) where
   pub drains_idle : m.phase ≡ phase.Drains → has_unit m.swapper ≡ false
   drains_idle e = test_of _ _ came (λ (h : HasShown m). (in_drains h.network h.plp h.events m h.shown e).caught.idle)
 
-  pub drains_open : m.phase ≡ phase.Drains → (status_of m.swapper).finished ≡ false
-  drains_open e = test_of _ _ came (λ (h : HasShown m).
-      ap (λ (x : Status). x.finished) (h.shown.status ∙ ap (status_in h.network h.plp m.number) e))
-
-  pub rests_over : m.phase ≡ phase.Rests → (status_of m.swapper).finished ≡ true
-  rests_over e = test_of _ _ came (λ (h : HasShown m).
-      ap (λ (x : Status). x.finished) (h.shown.status ∙ ap (status_in h.network h.plp m.number) e))
-
   pub rests_fed : m.phase ≡ phase.Rests → is_fed m.swapper ≡ true
   rests_fed e = test_of _ _ came (λ (h : HasShown m). (in_rests h.network h.plp h.events m h.shown e).all_fed)
 
@@ -283,11 +217,6 @@ some_length bytes lt e = let n = ap (λ (l : List ℕ). length l) e in absurd (o
 pub nothing_more : (front bytes : List ℕ) → length bytes ≡ 0 → front ++ bytes ≡ front
 nothing_more front [] e = append-nil front
 nothing_more front (x ∷ bytes) e = absurd (omega (arith, e))
-
-pub not_idle : (o : Option Waiting) (e : Bool) → o ≡ None → is_idle o e ≡ false → e ≡ true
-not_idle None true n i = refl
-not_idle None false n i = absurd (true≢false i)
-not_idle (Some w) e n i = absurd (none_some w (sym n))
 
 pub is_muted : (o : Option MuteCause) → is_some o ≡ true → o ≡ None → ⊥
 is_muted None e n = true≢false (sym e)
@@ -305,22 +234,14 @@ shown_still tell c plp m events s =
     let zero = gave_same tell 0 [] events in
     let one = gave_same tell 1 [] events in
     let r = s.read in
-    record {
-      base = s.base;
-      read = r;
-      of_feed = feed_same (begun_in m.phase) c m.feed _ _ _ _ r.given zero.fed_is zero.ended_is s.of_feed;
-      of_input = reads_same _ _ _ _ r.told r.rest r.tail m.taken m.ended one.fed_is one.ended_is s.of_input;
-      frame = s.frame;
-      had = s.had;
-      sends = subst (Sends c plp m.swapper r.told (left_at m.phase m.swapper m.feed) (frames_in c r.given) m.ran.units)
-          (sym ((tell.given [] events).gave ∙ append-nil (gave events))) s.sends;
-      status = s.status;
-      counted = s.counted;
-      bound = s.bound;
-      live = live_on c plp _ _ r.told r.told r.given m.ran.units m.ran.units zero.fed_is (λ _ cont. cont)
-          (omega arith) s.live;
-      is_in = subst (λ (b : Bool). IsIn c plp m r b m.phase) (sym one.ended_is) s.is_in;
-    }
+    let of = feed_same (begun_in m.phase) c m.feed _ _ _ _ r.given zero.fed_is zero.ended_is s.of_feed in
+    let input = reads_same _ _ _ _ r.told r.rest r.tail m.taken m.ended one.fed_is one.ended_is s.of_input in
+    let sends : Sends c plp m.swapper r.told (left_at m.phase m.swapper m.feed) (frames_in c r.given) m.ran.units
+    (gave (events ++ Gave [] ∷ [])) = rw ((tell.given [] events).gave, append-nil (gave events)) s.sends in
+    let live = live_on c plp _ _ r.told r.told r.given m.ran.units m.ran.units zero.fed_is (λ _ cont. cont)
+    (omega arith) s.live in
+    let there = subst (λ (b : Bool). IsIn c plp m r b m.phase) (sym one.ended_is) s.is_in in
+    search rules
 
 -- the bytes of units tell how many there are
 pub counted_units : (old new : Swapper) (frame : PoolFrame) (full : Bool) (len : ℕ) (out : List ℕ) → len ≤ length out
@@ -329,7 +250,3 @@ counted_units old new frame full len out few g =
     let e = length-take-le len out few in
     let s = g.size in
     omega (arith, e, s)
-
-pub some_units : (units : List (List ℕ)) → units ≢ [] → 0 < length units
-some_units [] differ = absurd (differ refl)
-some_units (u ∷ units) differ = omega arith

@@ -3,6 +3,7 @@ use Rattle.std.proofs.Common.{◌≡◌, ◌≢◌, ◌⊎◌, ℕ, ◌+◌, ◌
 use Rattle.std.proofs.Common.{sym, subst, ◌∙◌, arith, append-nil, append_assoc, length-append}
 use Rattle.std.specs.Prelude.{slice_index}
 use Rattle.std.proofs.lemmas.Bool.{true≢false}
+use Rattle.terms.proofs.CaseLemmas.{bool_cases}
 use Rattle.ts_packet.proofs.JoinedLemmas.{joined_push, joined_append}
 use Rattle.ts_packet.specs.TsFile.{joined, begins_with_packet, packets_in, HasBad, ArePackets}
 use Rattle.ts_packet.specs.declared.sizes.TheConstants.{SIZE, SYNC}
@@ -15,29 +16,29 @@ use Rattle.swap_run.specs.Shown.{ReadsPackets}
 
 -- ---- one packet more, or the end
 
-none_with : (packets rest : List (List ℕ)) → rest ≡ [] → packets ++ rest ≡ packets
-none_with packets rest e = ap (λ (l : List (List ℕ)). packets ++ l) e ∙ append-nil packets
+-- a packet is taken
+reads_push : (bytes now p : List ℕ) (ended is : Bool) (t u : Told) (rest more : List (List ℕ)) (tail : List ℕ)
+    (taken : ℕ) (over : Bool)
+    → now ≡ bytes ++ p → is ≡ ended → u.packets ++ more ≡ (t.packets ++ rest) ++ p ∷ [] → tail ≡ []
+    → u.ended ≡ false → length p ≡ SIZE → slice_index p 0 ≡ SYNC
+    → ReadsPackets bytes ended t rest tail taken over → ReadsPackets now is u more tail (taken + 1) over
+reads_push bytes now p ended is t u rest more tail taken over e f new whole off long sync r = record {
+  parts = rw (e, r.parts, new, joined_push (t.packets ++ rest) p, whole, append-nil (joined (t.packets ++ rest)))
+      (sym (append-nil _));
+  each = subst ArePackets (sym new) (packets_push (t.packets ++ rest) p r.each long sync);
+  count = (let n = r.count in let b = ap length new in omega (arith, n, b, length-append (t.packets ++ rest) (p ∷ [])));
+  end = λ z. f ∙ r.end z;
+  told = λ on. absurd (true≢false (sym on ∙ off));
+}
 
--- a packet is offered
+-- and offered
 pub reads_offer : (bytes now p : List ℕ) (ended is : Bool) (t : Told) (rest : List (List ℕ)) (tail : List ℕ)
     (taken : ℕ) (over : Bool)
     → now ≡ bytes ++ p → is ≡ ended → rest ≡ [] → tail ≡ [] → t.ended ≡ false → length p ≡ SIZE → slice_index p 0 ≡ SYNC
     → ReadsPackets bytes ended t rest tail taken over → ReadsPackets now is (with_packet t p) rest tail (taken + 1) over
-reads_offer bytes now p ended is t rest tail taken over e f none whole off long sync r =
-    let old : t.packets ++ rest ≡ t.packets = none_with t.packets rest none in
-    let new : (t.packets ++ p ∷ []) ++ rest ≡ t.packets ++ p ∷ [] = none_with (t.packets ++ p ∷ []) rest none in
-    record {
-      parts = e ∙ ap (λ (l : List ℕ). l ++ p) (r.parts ∙ ap (λ (l : List ℕ). joined (t.packets ++ rest) ++ l) whole
-          ∙ append-nil (joined (t.packets ++ rest)) ∙ ap joined old)
-          ∙ sym (joined_push t.packets p) ∙ sym (ap joined new)
-          ∙ sym (append-nil (joined ((t.packets ++ p ∷ []) ++ rest)))
-          ∙ ap (λ (l : List ℕ). joined ((t.packets ++ p ∷ []) ++ rest) ++ l) (sym whole);
-      each = subst ArePackets (sym new) (packets_push t.packets p (subst ArePackets old r.each) long sync);
-      count = (let n = r.count in let a = ap length old in let b = ap length new in
-          omega (arith, n, a, b, length-append t.packets (p ∷ [])));
-      end = λ z. f ∙ r.end z;
-      told = λ on. absurd (true≢false (sym on ∙ off));
-    }
+reads_offer bytes now p ended is t rest tail taken over e f none =
+    reads_push bytes now p ended is t (with_packet t p) rest rest tail taken over e f
+    (rw none (append-nil (t.packets ++ p ∷ []) ∙ ap (λ (l : List (List ℕ)). l ++ p ∷ []) (sym (append-nil t.packets))))
 
 -- or not
 pub reads_drain : (bytes now p : List ℕ) (ended is : Bool) (t : Told) (rest : List (List ℕ)) (tail : List ℕ)
@@ -45,25 +46,9 @@ pub reads_drain : (bytes now p : List ℕ) (ended is : Bool) (t : Told) (rest : 
     → now ≡ bytes ++ p → is ≡ ended → tail ≡ [] → over ≡ false → length p ≡ SIZE → slice_index p 0 ≡ SYNC
     → ReadsPackets bytes ended t rest tail taken over → ReadsPackets now is t (rest ++ p ∷ []) tail (taken + 1) over
 reads_drain bytes now p ended is t rest tail taken over e f whole off long sync r =
-    let new : t.packets ++ (rest ++ p ∷ []) ≡ (t.packets ++ rest) ++ p ∷ [] = sym
-    (append_assoc t.packets rest (p ∷ [])) in
-    record {
-      parts = e ∙ ap (λ (l : List ℕ). l ++ p) (r.parts ∙ ap (λ (l : List ℕ). joined (t.packets ++ rest) ++ l) whole
-          ∙ append-nil (joined (t.packets ++ rest)))
-          ∙ sym (joined_push (t.packets ++ rest) p) ∙ sym (ap joined new)
-          ∙ sym (append-nil (joined (t.packets ++ (rest ++ p ∷ []))))
-          ∙ ap (λ (l : List ℕ). joined (t.packets ++ (rest ++ p ∷ [])) ++ l) (sym whole);
-      each = subst ArePackets (sym new) (packets_push (t.packets ++ rest) p r.each long sync);
-      count = (let n = r.count in let b = ap length new in omega (
-        arith,
-        n,
-        b,
-        length-append (t.packets ++ rest)
-            (p ∷ []),
-      ));
-      end = λ z. f ∙ r.end z;
-      told = λ on. absurd (true≢false (sym (r.told on).0 ∙ off));
-    }
+    reads_push bytes now p ended is t t rest (rest ++ p ∷ []) tail taken over e f
+    (sym (append_assoc t.packets rest (p ∷ []))) whole
+    (bool_cases t.ended (λ on. absurd (true≢false (sym (r.told on).0 ∙ off))) (λ open_still. open_still)) long sync r
 
 -- a tail came
 pub reads_tail : (bytes now p : List ℕ) (ended is : Bool) (t : Told) (rest : List (List ℕ)) (tail : List ℕ)
@@ -109,13 +94,7 @@ pub reads_same : (bytes now : List ℕ) (ended is : Bool) (t : Told) (rest : Lis
     (taken : ℕ) (over : Bool)
     → now ≡ bytes → is ≡ ended → ReadsPackets bytes ended t rest tail taken over
     → ReadsPackets now is t rest tail taken over
-reads_same bytes now ended is t rest tail taken over e f r = record {
-  parts = e ∙ r.parts;
-  each = r.each;
-  count = r.count;
-  end = λ z. f ∙ r.end z;
-  told = r.told;
-}
+reads_same bytes now ended is t rest tail taken over e f r = rw (e, f) r
 
 pub front_empty : (xs ys : List ℕ) → xs ++ ys ≡ [] → xs ≡ []
 front_empty [] ys e = refl

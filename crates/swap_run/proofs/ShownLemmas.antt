@@ -1,6 +1,6 @@
 -- What is shown of bytes that came, and of their end.
 use Rattle.std.proofs.Common.{◌≡◌, ◌≢◌, ◌⊎◌, ℕ, ◌+◌, ◌-◌, ◌*◌, ◌<◌, ◌≤◌, Bool, true, false, cond, List, [], ◌∷◌, ◌++◌}
-use Rattle.std.proofs.Common.{length, refl, ap, sym, subst, ◌∙◌, arith, length-append, inl, inr}
+use Rattle.std.proofs.Common.{length, refl, ap, sym, subst, ◌∙◌, arith, rules, length-append, inl, inr}
 use Rattle.std.proofs.Math.Logic.{∥∥₁_map}
 use Rattle.std.specs.Prelude.{slice_index}
 use Rattle.std.proofs.lemmas.Bool.{true≢false}
@@ -27,7 +27,8 @@ use Rattle.region_swap.proofs.SwapLemmas.{wants_told}
 use Rattle.swap_run.specs.AsMachine.{Becomes}
 use Rattle.swap_run.specs.Shown.{HasShown, ReadsPackets, Sends, HasCaughtUp, Read, InRecords, InPackets, InUnits}
 use Rattle.swap_run.specs.Shown.{InDrains, InRests, IsBehindAll, IsWanted, IsIn, ShownAt, Shown, IsBound, begun_in}
-use Rattle.swap_run.specs.Shown.{next_in, left_at, more_units, status_in}
+use Rattle.swap_run.specs.Shown.{IsFor, IsCounted, IsLive, IsQuiet, next_in, left_at, more_units, status_in}
+use Rattle.swap_run.specs.SwapRun.{slots_of}
 use Rattle.swap_run.specs.declared.phase.Phase.{Phase}
 use Rattle.swap_run.specs.declared.phase.Phase.TheVariants as phase
 use Rattle.swap_run.specs.declared.stop.SwapStop.TheVariants.{InputRefused}
@@ -55,9 +56,7 @@ becomes_itself m plp is s = subst (λ (p : ℕ). Shown m.plan.now p [] m) (sym i
 pub feed_same : (held : Bool) (c : Config) (f : FrameFeed) (bytes now : List ℕ) (ended is : Bool)
     (given : List FrameRecord) → now ≡ bytes
     → is ≡ ended → OfFeed held c f bytes ended given → OfFeed held c f now is given
-feed_same held c f bytes now ended is given e d h =
-    subst (λ (x : Bool). OfFeed held c f now x given) (sym d) (subst (λ (l : List ℕ). OfFeed held c f l ended given)
-    (sym e) h)
+feed_same held c f bytes now ended is given e d h = rw (e, d) h
 
 -- The inputs have these bytes, and so much was given, as before but for an input.
 pub record Same (input : ℕ) (events more : List Event) : Type 0 where
@@ -87,6 +86,20 @@ bound_as next number units more less given le b = let m = b.most in record {
   most = omega (arith, m, le);
 }
 
+-- so it is with this that was told and taken
+pub shown_by : (c : Config) (plp : ℕ) (events : List Event) (m : SwapMachine) (at : Phase) (read : Read)
+    → IsFor c plp m.plan.now → OfFeed (begun_in at) c m.feed (fed 0 events) (has_ended 0 events) read.given
+    → ReadsPackets (fed 1 events) (has_ended 1 events) read.told read.rest read.tail m.taken m.ended
+    → read.told.frame ≡ m.number
+    → (read.told.ended ≡ false → slots_of c plp read.given ≤ length read.told.packets)
+    → Sends c plp m.swapper read.told (left_at at m.swapper m.feed) (frames_in c read.given) m.ran.units (gave events)
+    → status_of m.swapper ≡ status_in c plp m.number at
+    → IsCounted m.ran.frames m.ran.muted m.ran.unsent m.joined read.given read.rest (frames_in c read.given)
+    → IsBound (next_in at m.number) m.number m.ran.units (more_units at m.swapper m.feed) read.given
+    → IsLive c plp (fed 0 events) read.told read.given m.ran.units → IsIn c plp m read (has_ended 1 events) at
+    → ShownAt c plp events m at
+shown_by c plp events m at read base feed input frame had sends status counted bound live is_in = search rules
+
 module _ (c : Config) (plp : ℕ) (events : List Event) (m : SwapMachine) (s : Shown c plp events m) where
   abbrev pub r : Read
   r = s.read
@@ -104,20 +117,17 @@ module _ (c : Config) (plp : ℕ) (events : List Event) (m : SwapMachine) (s : S
   -- what is so in its phase
   module _ (p : Phase) (e : m.phase ≡ p) where
     pub of_in : OfFeed (begun_in p) c m.feed (fed 0 events) (has_ended 0 events) r.given
-    of_in = subst (λ (x : Phase). OfFeed (begun_in x) c m.feed (fed 0 events) (has_ended 0 events) r.given) e s.of_feed
+    of_in = rw e at s.of_feed
 
     pub sends_in : Sends c plp m.swapper r.told (left_at p m.swapper m.feed) (frames_in c r.given) m.ran.units
         (gave events)
-    sends_in = subst (λ (x : Phase). Sends c plp m.swapper r.told (left_at x m.swapper m.feed) (frames_in c r.given)
-        m.ran.units (gave events)) e
-        s.sends
+    sends_in = rw e at s.sends
 
     pub status_at : status_of m.swapper ≡ status_in c plp m.number p
     status_at = s.status ∙ ap (status_in c plp m.number) e
 
     pub bound_at : IsBound (next_in p m.number) m.number m.ran.units (more_units p m.swapper m.feed) r.given
-    bound_at = subst (λ (x : Phase). IsBound (next_in x m.number) m.number m.ran.units (more_units x m.swapper m.feed)
-        r.given) e s.bound
+    bound_at = rw e at s.bound
 
     pub is_at : IsIn c plp m r (has_ended 1 events) p
     is_at = subst (IsIn c plp m r (has_ended 1 events)) e s.is_in
@@ -162,21 +172,14 @@ module _ (c : Config) (plp : ℕ) (events : List Event) (m : SwapMachine) (s : S
       → IsFedWith c g (fed 0 more) (has_ended 0 more) r.given → Shown c plp more (record m { feed = g })
   shown_feed g more e one gave_is fed_is =
       let i = in_records e in
-      subst (ShownAt c plp more (record m { feed = g })) (sym e) (record {
-        base = s.base;
-        read = r;
-        of_feed = fed_is;
-        of_input = reads_same _ _ _ _ r.told r.rest r.tail m.taken m.ended one.fed_is one.ended_is s.of_input;
-        frame = s.frame;
-        had = s.had;
-        sends = subst (Sends c plp m.swapper r.told [] (frames_in c r.given) m.ran.units) (sym gave_is)
-            (sends_in phase.Records e);
-        status = status_at phase.Records e;
-        counted = s.counted;
-        bound = bound_at phase.Records e;
-        live = live_caught c plp g (fed 0 more) (has_ended 0 more) r.given m.swapper r.told m.ran.units fed_is i.caught;
-        is_in = record { caught = i.caught; next = i.next; few = i.few; quiet = i.quiet };
-      })
+      let input = reads_same _ _ _ _ r.told r.rest r.tail m.taken m.ended one.fed_is one.ended_is s.of_input in
+      let sends : Sends c plp m.swapper r.told [] (frames_in c r.given) m.ran.units (gave more) =
+      rw gave_is (sends_in phase.Records e) in
+      let status = status_at phase.Records e in
+      let bound = bound_at phase.Records e in
+      let live = live_caught c plp g (fed 0 more) (has_ended 0 more) r.given m.swapper r.told m.ran.units
+      fed_is i.caught in
+      subst (ShownAt c plp more (record m { feed = g })) (sym e) (search rules)
 
   -- ---- a packet was offered
 
@@ -197,34 +200,26 @@ module _ (c : Config) (plp : ℕ) (events : List Event) (m : SwapMachine) (s : S
       cont_packet r.told p input w.off cont in
       let longer = length-append r.told.packets (p ∷ []) in
       let less = w.less in
-      subst (ShownAt c plp more (record m { swapper = q; taken = m.taken + 1 })) (sym e) (record {
-        base = s.base;
-        read = record { given = r.given; told = t; rest = r.rest; tail = r.tail };
-        of_feed = feed_same false c m.feed _ _ _ _ r.given zero.fed_is zero.ended_is (of_in phase.Packets e);
-        of_input = reads_offer _ _ p _ _ r.told r.rest r.tail m.taken m.ended here ended i.quiet.rest_is
-            i.quiet.tail_is w.off long sync s.of_input;
-        frame = s.frame;
-        had = λ off. let h = s.had w.off in omega (arith, h, longer);
-        sends = sends_told c plp m.swapper q r.told t [] [] (frames_in c r.given) m.ran.units (gave events)
-            (gave more) gave_is back
-            (ap (λ (x : Status). x.finished) status)
-            (stands c plp r.told [] (frames_in c r.given) m.ran.units (sends_in phase.Packets e).stands)
-            (sends_in phase.Packets e);
-        status = status ∙ status_at phase.Packets e;
-        counted = s.counted;
-        bound = bound_at phase.Packets e;
-        live = live_on c plp _ _ r.told t r.given m.ran.units m.ran.units zero.fed_is back (omega arith) s.live;
-        is_in = record {
-          caught = caught_told c plp m.swapper q r.told t (frames_in c r.given) m.ran.units back unit i.caught;
-          waiting = i.waiting;
-          waits = i.waits;
-          early = i.early;
-          behind = i.behind;
-          above = i.above;
-          few = omega (arith, less, longer);
-          quiet = i.quiet;
-        };
-      })
+      let of = feed_same false c m.feed _ _ _ _ r.given zero.fed_is zero.ended_is (of_in phase.Packets e) in
+      let input = reads_offer _ _ p _ _ r.told r.rest r.tail m.taken m.ended here ended i.quiet.rest_is
+      i.quiet.tail_is w.off long sync s.of_input in
+      let had : t.ended ≡ false → slots_of c plp r.given ≤ length t.packets =
+      λ off. let h = s.had w.off in omega (arith, h, longer) in
+      let few : length t.packets ≤ slots_by c plp (m.number * c.ticks) = omega (arith, less, longer) in
+      let old = sends_in phase.Packets e in
+      let sends = sends_told c plp m.swapper q r.told t [] [] (frames_in c r.given) m.ran.units (gave events)
+      (gave more) gave_is back (ap (λ (x : Status). x.finished) status)
+      (stands c plp r.told [] (frames_in c r.given) m.ran.units old.stands) old in
+      let seen = status ∙ status_at phase.Packets e in
+      let bound = bound_at phase.Packets e in
+      let live = live_on c plp _ _ r.told t r.given m.ran.units m.ran.units zero.fed_is back (omega arith) s.live in
+      let caught = caught_told c plp m.swapper q r.told t (frames_in c r.given) m.ran.units back unit i.caught in
+      let now : SwapMachine = record m { swapper = q; taken = m.taken + 1 } in
+      subst (ShownAt c plp more now) (sym e) (search (
+        rules,
+        shown_by c plp more now phase.Packets
+            (record r { told = t }),
+      ))
 
   -- ---- the input ended before the frame under way
 
@@ -240,34 +235,26 @@ module _ (c : Config) (plp : ℕ) (events : List Event) (m : SwapMachine) (s : S
       let t : Told = at_end r.told in
       let back : (input : List (List ℕ)) → Continues t input → Continues r.told input = λ input cont.
       cont_end r.told input cont in
-      subst (ShownAt c plp more (record m { swapper = q; ended = true })) (sym e) (record {
-        base = s.base;
-        read = record { given = r.given; told = t; rest = r.rest; tail = r.tail };
-        of_feed = feed_same false c m.feed _ _ _ _ r.given zero.fed_is zero.ended_is (of_in phase.Packets e);
-        of_input = subst (λ (x : Bool). ReadsPackets (fed 1 more) x t r.rest r.tail m.taken true) (sym ended)
-            (reads_end _ _ _ r.told r.rest r.tail m.taken m.ended here i.quiet.rest_is i.quiet.tail_is s.of_input);
-        frame = s.frame;
-        had = λ off. absurd (true≢false off);
-        sends = sends_told c plp m.swapper q r.told t [] [] (frames_in c r.given) m.ran.units (gave events)
-            (gave more) gave_is back
-            (ap (λ (x : Status). x.finished) status)
-            (stands c plp r.told [] (frames_in c r.given) m.ran.units (sends_in phase.Packets e).stands)
-            (sends_in phase.Packets e);
-        status = status ∙ status_at phase.Packets e;
-        counted = s.counted;
-        bound = bound_at phase.Packets e;
-        live = live_on c plp _ _ r.told t r.given m.ran.units m.ran.units zero.fed_is back (omega arith) s.live;
-        is_in = record {
-          caught = caught_told c plp m.swapper q r.told t (frames_in c r.given) m.ran.units back unit i.caught;
-          waiting = i.waiting;
-          waits = i.waits;
-          early = i.early;
-          behind = i.behind;
-          above = i.above;
-          few = i.few;
-          quiet = record { rest_is = i.quiet.rest_is; tail_is = i.quiet.tail_is; calm = i.quiet.calm; ends = refl };
-        };
-      })
+      let of = feed_same false c m.feed _ _ _ _ r.given zero.fed_is zero.ended_is (of_in phase.Packets e) in
+      let input : ReadsPackets (fed 1 more) (has_ended 1 more) t r.rest r.tail m.taken true =
+      rw ended (reads_end _ _ _ r.told r.rest r.tail m.taken m.ended here i.quiet.rest_is i.quiet.tail_is
+      s.of_input) in
+      let old = sends_in phase.Packets e in
+      let sends = sends_told c plp m.swapper q r.told t [] [] (frames_in c r.given) m.ran.units (gave events)
+      (gave more) gave_is back (ap (λ (x : Status). x.finished) status)
+      (stands c plp r.told [] (frames_in c r.given) m.ran.units old.stands) old in
+      let seen = status ∙ status_at phase.Packets e in
+      let bound = bound_at phase.Packets e in
+      let live = live_on c plp _ _ r.told t r.given m.ran.units m.ran.units zero.fed_is back (omega arith) s.live in
+      let caught = caught_told c plp m.swapper q r.told t (frames_in c r.given) m.ran.units back unit i.caught in
+      let quiet : IsQuiet m.draining true true r.rest r.tail =
+      record { rest_is = i.quiet.rest_is; tail_is = i.quiet.tail_is; calm = i.quiet.calm; ends = refl } in
+      let now : SwapMachine = record m { swapper = q; ended = true } in
+      subst (ShownAt c plp more now) (sym e) (search (
+        rules,
+        shown_by c plp more now phase.Packets
+            (record r { told = t }),
+      ))
 
   -- ---- of the rest a packet was taken, or its end came
 
@@ -280,33 +267,18 @@ module _ (c : Config) (plp : ℕ) (events : List Event) (m : SwapMachine) (s : S
       let longer = length-append r.rest (p ∷ []) in
       let unsent = s.counted.unsent_is in
       let now : SwapMachine = record m { taken = m.taken + 1; ran = record m.ran { unsent = m.ran.unsent + 1 } } in
-      subst (ShownAt c plp more now) (sym e) (record {
-        base = s.base;
-        read = record { given = r.given; told = r.told; rest = r.rest ++ p ∷ []; tail = r.tail };
-        of_feed = feed_same false c m.feed _ _ _ _ r.given zero.fed_is zero.ended_is (of_in phase.Drains e);
-        of_input = reads_drain _ _ p _ _ r.told r.rest r.tail m.taken m.ended here ended i.whole off
-            long sync s.of_input;
-        frame = s.frame;
-        had = s.had;
-        sends = subst (Sends c plp m.swapper r.told [] (frames_in c r.given) m.ran.units) (sym gave_is)
-            (sends_in phase.Drains e);
-        status = status_at phase.Drains e;
-        counted = record {
-          frames_is = s.counted.frames_is;
-          muted_is = s.counted.muted_is;
-          unsent_is = omega (arith, unsent, longer);
-          joined_is = s.counted.joined_is;
-        };
-        bound = bound_at phase.Drains e;
-        live = live_on c plp _ _ r.told r.told r.given m.ran.units m.ran.units zero.fed_is (λ _ cont. cont)
-            (omega arith) s.live;
-        is_in = record {
-          caught = i.caught;
-          behind = i.behind;
-          whole = i.whole;
-          drains = i.drains;
-        };
-      })
+      let of = feed_same false c m.feed _ _ _ _ r.given zero.fed_is zero.ended_is (of_in phase.Drains e) in
+      let input = reads_drain _ _ p _ _ r.told r.rest r.tail m.taken m.ended here ended i.whole off
+      long sync s.of_input in
+      let sends : Sends c plp m.swapper r.told [] (frames_in c r.given) m.ran.units (gave more) =
+      rw gave_is (sends_in phase.Drains e) in
+      let status = status_at phase.Drains e in
+      let count : m.ran.unsent + 1 ≡ length (r.rest ++ p ∷ []) = omega (arith, unsent, longer) in
+      let bound = bound_at phase.Drains e in
+      let live = live_on c plp _ _ r.told r.told r.given m.ran.units m.ran.units zero.fed_is (λ _ cont. cont)
+      (omega arith) s.live in
+      subst (ShownAt c plp more now) (sym e)
+      (search (rules, shown_by c plp more now phase.Drains (record r { rest = r.rest ++ p ∷ [] })))
 
   pub shown_over : (more : List Event) → m.phase ≡ phase.Drains → m.ended ≡ false → Same 0 events more
       → fed 1 more ≡ fed 1 events
@@ -314,28 +286,16 @@ module _ (c : Config) (plp : ℕ) (events : List Event) (m : SwapMachine) (s : S
   shown_over more e off zero here ended gave_is =
       let i = in_drains e in
       let now : SwapMachine = record m { ended = true } in
-      subst (ShownAt c plp more now) (sym e) (record {
-        base = s.base;
-        read = r;
-        of_feed = feed_same false c m.feed _ _ _ _ r.given zero.fed_is zero.ended_is (of_in phase.Drains e);
-        of_input = subst (λ (x : Bool). ReadsPackets (fed 1 more) x r.told r.rest r.tail m.taken true) (sym ended)
-            (reads_over _ _ _ r.told r.rest r.tail m.taken m.ended here i.whole off s.of_input);
-        frame = s.frame;
-        had = s.had;
-        sends = subst (Sends c plp m.swapper r.told [] (frames_in c r.given) m.ran.units) (sym gave_is)
-            (sends_in phase.Drains e);
-        status = status_at phase.Drains e;
-        counted = s.counted;
-        bound = bound_at phase.Drains e;
-        live = live_on c plp _ _ r.told r.told r.given m.ran.units m.ran.units zero.fed_is (λ _ cont. cont)
-            (omega arith) s.live;
-        is_in = record {
-          caught = i.caught;
-          behind = i.behind;
-          whole = i.whole;
-          drains = i.drains;
-        };
-      })
+      let of = feed_same false c m.feed _ _ _ _ r.given zero.fed_is zero.ended_is (of_in phase.Drains e) in
+      let input : ReadsPackets (fed 1 more) (has_ended 1 more) r.told r.rest r.tail m.taken true =
+      rw ended (reads_over _ _ _ r.told r.rest r.tail m.taken m.ended here i.whole off s.of_input) in
+      let sends : Sends c plp m.swapper r.told [] (frames_in c r.given) m.ran.units (gave more) =
+      rw gave_is (sends_in phase.Drains e) in
+      let status = status_at phase.Drains e in
+      let bound = bound_at phase.Drains e in
+      let live = live_on c plp _ _ r.told r.told r.given m.ran.units m.ran.units zero.fed_is (λ _ cont. cont)
+      (omega arith) s.live in
+      subst (ShownAt c plp more now) (sym e) (search rules)
 
   -- ---- a bad packet came
 
@@ -407,12 +367,5 @@ module _ (c : Config) (plp : ℕ) (events : List Event) (m : SwapMachine) (s : S
         bound = bound_as m.number m.number m.ran.units 184 0 r.given (omega arith) can.bound;
         live = live_on c plp _ _ r.told r.told r.given m.ran.units m.ran.units zero.fed_is (λ _ cont. cont)
             (omega arith) s.live;
-        is_in = record {
-          caught = can.caught;
-          number = s.of_input.count;
-          some = some;
-          bad = bad;
-          cut = cut;
-          met = can.met;
-        };
+        is_in = search rules;
       }

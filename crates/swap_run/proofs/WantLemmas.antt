@@ -36,7 +36,7 @@ use Rattle.swap_run.specs.declared.machine.SwapMachine.{SwapMachine}
 use Rattle.swap_run.proofs.GoLemmas.{slots_rise}
 use Rattle.swap_run.proofs.NextLemmas.{slots_in, slots_is}
 use Rattle.swap_run.proofs.ShownLemmas.{feed_end, feed_count, in_packets, in_drains, has_wanted, wants_is}
-use Rattle.swap_run.proofs.StepLemmas.{enough_records, enough_one}
+use Rattle.swap_run.proofs.StepLemmas.{enough, enough_one}
 
 pub taken_length : (bytes : List ℕ) (ended : Bool) (t : Told) (rest : List (List ℕ)) (tail : List ℕ)
     (taken : ℕ) (over : Bool)
@@ -139,7 +139,7 @@ pub room_of : (c : Config) (plp : ℕ) (events : List Event) (m : SwapMachine) (
     → Suffices (step_of m) input count
     → length (fed input events) + count ≤ longest_file → m.phase ≡ phase.Records → fed_of m.feed + count < 2 ^ 60
 room_of c plp events m input count s wanted few e =
-    let w = (enough_records m input count e wanted).0 in
+    let w = (enough m input count wanted phase.Records e).0 in
     let l = subst (λ (k : ℕ). length (fed k events) + count ≤ longest_file) (sym w.at) few in
     let n = feed_count c plp events m s in
     omega (arith, l, n)

@@ -1,14 +1,11 @@
 -- What a swapper does by its files.
-use Rattle.std.proofs.Common.{◌≡◌, ◌⊎◌, ℕ, ◌+◌, ◌-◌, ◌*◌, ◌<◌, ◌≤◌, ◌==◌, min, Bool, true, false, cond, List, ◌++◌}
-use Rattle.std.proofs.Common.{length, refl, ap, sym, subst, ◌∙◌, inl, inr, arith, append_assoc, length-append}
+use Rattle.std.proofs.Common.{◌≡◌, ℕ, ◌+◌, ◌-◌, ◌*◌, ◌<◌, ◌≤◌, ◌==◌, Bool, true, false, cond, List, [], ◌++◌}
+use Rattle.std.proofs.Common.{length, refl, ap, sym, subst, ◌∙◌, arith, rules, append_assoc, length-append}
 use Rattle.std.specs.Prelude.{Err, slice_index}
-use Rattle.plp_config.specs.Laws.{CountRises, SlotLength, NoneAtZero}
 use Rattle.plp_config.specs.SlotTime.{num, den, slots_by}
 use Rattle.plp_config.specs.declared.config.Config.{Config}
 use Rattle.ts_packet.specs.declared.sizes.TheConstants.{SIZE}
 use Rattle.file_run.specs.Reading.{longest_file}
-use Rattle.modulator.specs.Laws.{DueFront, DueFollow}
-use Rattle.t2mi_stream.specs.CompleteLaws.{CompleteLaw}
 use Rattle.frame_groups.specs.Modulated.{FrameRecord}
 use Rattle.feed_merge.specs.FeedStandsFor.{waiting_of}
 use Rattle.feed_merge.specs.FeedStandsFor as feed
@@ -27,30 +24,21 @@ use Rattle.region_swap.specs.StandsFor.{status_of, wants_of}
 use Rattle.swap_run.specs.AsMachine.{Becomes, ending_in, ending_of}
 use Rattle.swap_run.specs.Shown.{Shown, IsIn, IsDone}
 use Rattle.swap_run.specs.Shown as shown
-use Rattle.swap_run.specs.Steps.{step_in, step_of, reach_of, input_reach, drained, record_step, packet_step, drain_step}
-use Rattle.swap_run.specs.Steps.{most_packets}
-use Rattle.swap_run.specs.SwapRun.{HasNone, HasWritten, AreWritten, MayWrite, HasSome, swap_work}
+use Rattle.swap_run.specs.Steps.{step_in, step_of, reach_of, input_reach, drained, record_step}
+use Rattle.swap_run.specs.SwapRun.{least_of, HasNone, HasWritten, AreWritten, MayWrite, HasSome, swap_work}
 use Rattle.swap_run.specs.declared.machine.SwapMachine.{SwapMachine}
 use Rattle.swap_run.specs.declared.phase.Phase.{Phase}
 use Rattle.swap_run.specs.declared.phase.Phase.TheVariants as phase
 use Rattle.swap_run.specs.declared.stop.SwapStop.TheVariants.{NoSuperframe, InputRefused, TooManyFrames}
 use Rattle.swap_run.specs.declared.machine.SwapMachine.{SwapMachine}
 use Rattle.swap_run.proofs.PacketLemmas.{front_empty}
-use Rattle.swap_run.proofs.FileLemmas.{swaps_all, has_none, has_late, meets_bad, has_swapped, wants_packets, wants_rest}
+use Rattle.swap_run.proofs.FileLemmas.{Laws, swaps_all, has_none, has_late, meets_bad, has_swapped}
+use Rattle.swap_run.proofs.FileLemmas.{wants_packets, wants_rest}
 use Rattle.swap_run.proofs.FileLemmas.{gave_front, since, ahead}
 use Rattle.swap_run.proofs.ShownLemmas.{feed_end, feed_count, in_packets, in_drains}
-use Rattle.swap_run.proofs.StepLemmas.{needs_read, short_read, HowRead, OfRecords, OfPackets, OfRest}
+use Rattle.swap_run.proofs.StepLemmas.{Reads, of_least, needs, short}
 use Rattle.swap_run.proofs.NextLemmas.{slots_in, slots_is}
 use Rattle.swap_run.proofs.WantLemmas.{taken_length}
-
--- the laws that a run stands on
-pub record Laws : Type 0 where
-  pub front : DueFront
-  pub follow : DueFollow
-  pub complete : CompleteLaw
-  pub rises : CountRises
-  pub none : NoneAtZero
-  pub slot : SlotLength
 
 -- the network and the PLP of a machine
 abbrev pub network_of : SwapMachine → Config
@@ -96,7 +84,7 @@ module _ (law : Laws) (start m : SwapMachine) (files : ℕ → List ℕ) (places
             ∙ ap (λ (n : ℕ). slots_by k plp n) zero in
             let calm = ap (λ (b : Bool). drained b m.ran.unsent) i.quiet.calm in
             omega (arith, near, none, slots, calm)),
-        has_none law.front law.follow law.complete law.rises law.slot k plp m events s files places are e,
+        has_none law k plp m events s files places are e,
       )
 
   -- it is at its end only in these
@@ -104,45 +92,31 @@ module _ (law : Laws) (start m : SwapMachine) (files : ℕ → List ℕ) (places
   no_record true e = absurd (let z : Read 0 1 read_ahead ≡ End = e in cc)
   no_record false e = absurd (let z : Give ≡ End = e in cc)
 
-  no_packet : (wants : ℕ) → packet_step wants ≡ End → ⊥
-  no_packet wants e = go (wants == 0) e
-    where
-      go : (b : Bool) → cond b Give (Read 1 SIZE (SIZE * min wants most_packets)) ≡ End → ⊥
-      go true e = absurd (let z : Give ≡ End = e in cc)
-      go false e = absurd (let z : Read 1 SIZE (SIZE * min wants most_packets) ≡ End = e in cc)
-
-  no_rest : (b : Bool) → drain_step b ≡ End → ⊥
-  no_rest true e = absurd (let z : Give ≡ End = e in cc)
-  no_rest false e = absurd (let z : Read 1 SIZE read_ahead ≡ End = e in cc)
+  no_other : (b : Bool) (input least most : ℕ) → cond b Give (Read input least most) ≡ End → ⊥
+  no_other true input least most e = absurd (let z : Give ≡ End = e in cc)
+  no_other false input least most e = absurd (let z : Read input least most ≡ End = e in cc)
 
   ends_in : (p : Phase) → m.phase ≡ p
       → step_in p (is_idle (waiting_of m.feed) (feed.has_ended m.feed)) (wants_of m.swapper) m.ended ≡ End
       → IsRightAtEnd (swap_work k plp) files places (gave events) (ending_in p m.ran)
   ends_in phase.Records is end = absurd (no_record (is_idle (waiting_of m.feed) (feed.has_ended m.feed)) end)
-  ends_in phase.Packets is end = absurd (no_packet (wants_of m.swapper) end)
+  ends_in phase.Packets is end = absurd (no_other (wants_of m.swapper == 0) _ _ _ end)
   ends_in phase.Units is end = absurd (let z : Give ≡ End = end in cc)
-  ends_in phase.Drains is end = absurd (no_rest m.ended end)
+  ends_in phase.Drains is end = absurd (no_other m.ended _ _ _ end)
   ends_in phase.Rests is end = absurd (let z : Give ≡ End = end in cc)
-  ends_in phase.Done is end = (
-    whole is,
-    swaps_all law.front law.follow law.complete law.rises law.slot
-        k plp m events s files places are is,
-  )
+  ends_in phase.Done is end = (whole is, swaps_all law k plp m events s files places are is)
   ends_in (phase.Stopped NoSuperframe) is end = finds_none is
   ends_in (phase.Stopped (InputRefused n)) is end =
-      meets_bad law.front law.follow law.complete law.rises law.slot k plp m events s files places are
-      (within 0 (omega arith))
-      (within 1 (omega arith)) n is
+      meets_bad law k plp m events s files places are (within 0 (omega arith)) (within 1 (omega arith)) n is
   ends_in (phase.Stopped TooManyFrames) is end =
-      has_late law.front law.follow law.complete law.rises law.slot k plp m events s files places are
-      (within 0 (omega arith))
-      (within 1 (omega arith)) is
+      has_late law k plp m events s files places are (within 0 (omega arith)) (within 1 (omega arith)) is
 
   -- what is written when an input is to be read on
-  written : (place taken at : ℕ) → HowRead m place → (0 ≡ place → taken ≡ length (fed 0 events))
+  written : (Test : ℕ → ℕ → Type 0) (place count taken at : ℕ) → Reads Test m place count m.phase
+      → (0 ≡ place → taken ≡ length (fed 0 events))
       → (1 ≡ place → (length (fed 1 events) ≤ at) × (at < length (fed 1 events) + SIZE))
       → HasWritten k plp places place taken at files (gave events)
-  written place taken at how first second = go how
+  written Test place count taken at how first second = go m.phase refl how
     where
       close : slice_index places 0 ≤ feed.fed_of m.feed + read_ahead
       close = within 0 (omega arith)
@@ -150,46 +124,43 @@ module _ (law : Laws) (start m : SwapMachine) (files : ℕ → List ℕ) (places
       near : slice_index places 1 ≤ input_reach m
       near = within 1 (omega arith)
 
-      bytes : m.phase ≡ phase.Packets ⊎ (m.phase ≡ phase.Drains) → length (fed 1 events) ≡ SIZE * m.taken
-      bytes (inl e) =
-          let n = taken_length (fed 1 events) (has_ended 1 events) s.read.told s.read.rest s.read.tail
-          m.taken m.ended s.of_input in
-          let tail = ap length (in_packets k plp events m s e).quiet.tail_is in
-          omega (arith, n, tail)
-      bytes (inr e) =
-          let n = taken_length (fed 1 events) (has_ended 1 events) s.read.told s.read.rest s.read.tail
-          m.taken m.ended s.of_input in
-          let tail = ap length (in_drains k plp events m s e).whole in
+      bytes : s.read.tail ≡ [] → length (fed 1 events) ≡ SIZE * m.taken
+      bytes whole =
+          let n = taken_length _ _ s.read.told s.read.rest s.read.tail m.taken m.ended s.of_input in
+          let tail = ap length whole in
           omega (arith, n, tail)
 
-      go : HowRead m place → HasWritten k plp places place taken at files (gave events)
-      go (OfRecords e w) = subst (λ (p : ℕ). HasWritten k plp places p taken at files (gave events)) w.at
-          (has_swapped law.front law.follow law.complete law.rises law.slot k plp m events s files places
-          are near taken e w.none w.going
-          (first w.at))
-      go (OfPackets e w) = subst (λ (p : ℕ). HasWritten k plp places p taken at files (gave events)) w.at
-          (wants_packets law.front law.follow law.complete law.rises law.slot k plp m events s files
-          places are close near at e w.some
-          (let n = (second w.at).0 in let b = bytes (inl e) in omega (arith, n, b))
-          (let n = (second w.at).1 in let b = bytes (inl e) in omega (arith, n, b)))
-      go (OfRest e w) = subst (λ (p : ℕ). HasWritten k plp places p taken at files (gave events)) w.at
-          (wants_rest law.front law.follow law.complete law.rises law.slot k plp m events s files places
-          are close at e w.going
-          (let n = (second w.at).0 in let b = bytes (inr e) in omega (arith, n, b))
-          (let n = (second w.at).1 in let b = bytes (inr e) in omega (arith, n, b)))
+      go : (p : Phase) → m.phase ≡ p → Reads Test m place count p
+          → HasWritten k plp places place taken at files (gave events)
+      go phase.Records e w = rw (sym w.0.at)
+          (has_swapped law k plp m events s files places are near taken e w.0.none w.0.going (first w.0.at))
+      go phase.Packets e w =
+          let n = second w.0.at in
+          let b = bytes (in_packets k plp events m s e).quiet.tail_is in
+          rw (sym w.0.at) (wants_packets law k plp m events s files places are close near at e w.0.some
+          (omega (arith, n.0, b)) (omega (arith, n.1, b)))
+      go phase.Drains e w =
+          let n = second w.0.at in
+          let b = bytes (in_drains k plp events m s e).whole in
+          rw (sym w.0.at) (wants_rest law k plp m events s files places are close at e w.0.going
+          (omega (arith, n.0, b)) (omega (arith, n.1, b)))
+      go phase.Units e how = absurd how
+      go phase.Rests e how = absurd how
+      go phase.Done e how = absurd how
+      go (phase.Stopped why) e how = absurd how
 
   too_long : (input : ℕ) → input < 2 → slice_index places input ≡ longest_file
       → Needs (step_of m) input (slice_index places input - length (fed input events))
       → swap_work k plp files (Err (Files (TooLong input))) places (gave events)
   too_long input lt most wants =
-      let w = needs_read m input (slice_index places input - length (fed input events)) wants in
-      let few = w.1 in
+      let w = needs m input (slice_index places input - length (fed input events)) wants m.phase refl in
+      let few = of_least (λ least n. n ≤ least) m input _ m.phase w in
       let ahead = (are input lt).ahead in
       record {
         taken = length (fed input events);
         near = omega (arith, few, most);
         within = omega (arith, ahead, most);
-        has = written input (length (fed input events)) (length (fed input events)) w.0
+        has = written (λ least n. n ≤ least) input _ (length (fed input events)) (length (fed input events)) w
             (λ e. ap (λ (n : ℕ). length (fed n events)) (sym e))
             (λ e. let n = ap (λ (n : ℕ). length (fed n events)) e in (omega (arith, n), omega (arith, n)));
       }
@@ -198,12 +169,15 @@ module _ (law : Laws) (start m : SwapMachine) (files : ℕ → List ℕ) (places
       → FallsShort (step_of m) input (slice_index places input - length (fed input events))
       → swap_work k plp files (Err (Files (ReadFault input))) places (gave events)
   unread input lt wants =
-      let w = short_read m input (slice_index places input - length (fed input events)) wants in
+      let left : ℕ = slice_index places input - length (fed input events) in
+      let w = short m input left wants m.phase refl in
+      let few = of_least (λ least n. n < least) m input left m.phase w in
       let ahead = (are input lt).ahead in
-      written input (slice_index places input) (slice_index places input) w.0
-      (λ e. let n = ap (λ (n : ℕ). length (fed n events)) e in let few = w.1 e in omega (arith, n, ahead, few))
-      (λ e. let n = ap (λ (n : ℕ). length (fed n events)) e in let few = w.2 in
-      (omega (arith, n, ahead), omega (arith, n, few)))
+      written (λ least n. n < least) input left (slice_index places input) (slice_index places input) w
+      (λ e. let n = ap (λ (n : ℕ). length (fed n events)) e in let one = ap least_of e in
+      omega (arith, n, ahead, few, one))
+      (λ e. let n = ap (λ (n : ℕ). length (fed n events)) e in let size = ap least_of e in
+      (omega (arith, n, ahead), omega (arith, n, few, size)))
 
 unwritten : Laws → (start now : SwapMachine) (files : ℕ → List ℕ) (places : List ℕ) (events : List Event)
     (bytes : List ℕ)
@@ -214,8 +188,7 @@ unwritten law start now files places events bytes are g =
     let k : Config = network_of start in
     let plp : ℕ = plp_of start in
     let mid : SwapMachine = g.mid in
-    let p = gave_front law.front law.follow law.complete law.rises law.slot k plp now (events ++ g.late)
-    g.came_late files places
+    let p = gave_front law k plp now (events ++ g.late) g.came_late files places
     (fed_since 2 files places events g.late g.only are) in
     record {
       more = g.more ++ p.0;
@@ -224,19 +197,11 @@ unwritten law start now files places events bytes are g =
       since = λ taken less.
           let close = g.within 0 (omega arith) in
           let count = feed_count k plp events mid g.came in
-          more_written
-          (since law.front law.follow law.complete law.rises law.slot k plp mid events g.came files places are taken
-          (omega (arith, less, close, count)));
+          more_written (since law k plp mid events g.came files places are taken (omega (arith, less, close, count)));
       ahead = (
-          let a = ahead law.front law.follow law.complete law.rises law.slot k plp mid events g.came files places are
-          (g.within 1 (omega arith)) g.gives in
-          record {
-            before = a.before;
-            after = a.after;
-            parts = a.parts;
-            written = more_written a.written;
-            no_further = a.no_further;
-          });
+          let a = ahead law k plp mid events g.came files places are (g.within 1 (omega arith)) g.gives in
+          let written = more_written a.written in
+          search rules);
     }
   where
     -- so it is with a front of more
@@ -245,11 +210,7 @@ unwritten law start now files places events bytes are g =
         → AreWritten (network_of start) (plp_of start) files bytes records
     more_written w = record {
       early = w.early;
-      front = (
-        w.front.0 ++ g.front,
-        g.is ∙ ap (λ (l : List ℕ). l ++ g.front) w.front.1
-            ∙ append_assoc _ w.front.0 g.front,
-      );
+      front = (w.front.0 ++ g.front, g.is ∙ rw w.front.1 (append_assoc _ w.front.0 g.front));
     }
 
 pub swap_does : Laws → (start : SwapMachine) → DoesWork (swap_work (network_of start) (plp_of start)) 2

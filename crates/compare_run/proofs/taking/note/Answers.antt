@@ -1,15 +1,5 @@
-use Rattle.std.proofs.Common.{◌∙◌}
-use Rattle.std.proofs.lemmas.Option.{IfSome_then}
 use Rattle.compare_run.proofs.NoteLemmas.{brings_or}
 use Rattle.compare_run.proofs.taking.note.Goals as goal
-
-pub note-requires-clause-first : goal.note-requires-clause-first
-note-requires-clause-first c = IfSome_then c.shown_at-first.result c.shown_at-first.ensures.lists (λ pool e. e
-    ∙ c.requires.plps_a)
-
-pub note-requires-clause-second : goal.note-requires-clause-second
-note-requires-clause-second c = IfSome_then c.shown_at-second.result c.shown_at-second.ensures.lists (λ pool e. e
-    ∙ c.requires.plps_b)
 
 pub returns-clause-stands : goal.returns-clause-stands
 returns-clause-stands c = λ same_a same_b ga gb stands a b none_a none_b between_a between_b.

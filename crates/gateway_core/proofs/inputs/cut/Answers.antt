@@ -15,9 +15,8 @@ cut_one-requires-clause-none c =
 pub cut_one-requires-clause-ready : goal.cut_one-requires-clause-ready
 cut_one-requires-clause-ready c = λ d. ∥∥₁_map c.requires.ready
     (λ (s : AreSupplied c.args.plan.now c.args.frame c.args.inputs.now (bits_in c.args.pool.now)).
-    cut_supplied c.early_fits_law.ensures.early c.early_fits_law.ensures.blocks _ _ _ _ _ _ _ _ c.loop-plp.plp d
-    c.rules_law.ensures.plan c.requires.whole (omega (arith, c.loop-plp-test.true)) c.loop-plp.invariant.cut
-    c.requires.frame s)
+    cut_supplied c.loop-plp.invariant.cut c.requires.whole c.requires.frame c.early_fits_law.ensures.early
+    c.early_fits_law.ensures.blocks c.rules_law.ensures.plan d (omega (arith, c.loop-plp-test.true)) s)
 
 pub loop-plp-init : goal.loop-plp-init
 loop-plp-init c = record { cut = cut_none _ _ _ _ _; most = λ j d. refl; short = λ short. short }
@@ -36,21 +35,17 @@ returns c =
     let all : c.loop-plp.plp ≡ length c.args.inputs.now = omega arith in
     let cut = c.loop-plp.invariant.cut in
     let len = c.loop-plp.auto.counts ∙ c.requires.counts in
+    let whole = c.requires.whole in
+    let has = c.requires.frame in
     record {
-      fed = λ events e was. cut_fed _ _ _ _ _ _ _ _ _ events cut all c.loop-plp.auto.inputs e c.requires.frame was;
-      blocks = λ events e was inputs more. cut_blocks _ _ _ _ _ _ _ _ _ events inputs cut all c.requires.whole
-          e c.requires.frame
-          was more;
-      counts = λ events e was stay inputs more. cut_counts _ _ _ _ _ _ _ _ _ events inputs cut all c.requires.whole
-          len e
-          c.requires.frame was stay more;
+      fed = λ events e was. cut_fed cut whole has all events c.loop-plp.auto.inputs e was;
+      blocks = λ events e was inputs more. cut_blocks cut whole has all events inputs e was more;
+      counts = λ events e was stay inputs more. cut_counts cut whole has all events inputs len e was stay more;
       stay = λ events e was stay. counts_stay c.spread_law.ensures.frames _ _ _ events c.rules_law.ensures.plan
-          (λ inputs more. cut_counts _ _ _ _ _ _ _ _ _ events inputs cut all c.requires.whole len e c.requires.frame
-          was stay
-          more);
-      fit = λ are fit. cut_fit _ _ _ _ _ _ _ _ _ cut all c.requires.whole len are fit;
-      within = λ plp lt. cut_within c.early_fits_law.ensures.early c.early_fits_law.ensures.blocks _ _ _ _ _ _ _ _ _ plp
-          c.rules_law.ensures.plan cut all c.requires.whole c.requires.frame lt c.requires.ready;
+          (λ inputs more. cut_counts cut whole has all events inputs len e was stay more);
+      fit = λ are fit. cut_fit cut whole has all len are fit;
+      within = λ plp lt. cut_within cut whole has all c.early_fits_law.ensures.early c.early_fits_law.ensures.blocks
+          c.rules_law.ensures.plan plp lt c.requires.ready;
       len = c.loop-plp.auto.counts;
       most = c.loop-plp.invariant.most;
       short = c.loop-plp.invariant.short;

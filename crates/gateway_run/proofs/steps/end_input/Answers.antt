@@ -1,13 +1,11 @@
-use Rattle.std.proofs.Common.{◌≡◌, ap, subst, sym, [], ◌∷◌, ◌++◌, arith}
+use Rattle.std.proofs.Common.{ap, subst, sym, [], ◌∷◌, ◌++◌, arith}
 use Rattle.std.proofs.lemmas.List.{nil_from_length}
 use Rattle.file_run.specs.Events.{Ended}
 use Rattle.gateway_run.specs.Holds.{Holds}
-use Rattle.gateway_run.specs.Phases.{frame_read}
 use Rattle.gateway_run.specs.Ready.{IsReady}
 use Rattle.gateway_run.specs.declared.place.Place.{Place}
 use Rattle.ts_packet.proofs.FileLemmas.{no_short}
 use Rattle.gateway_run.proofs.TakeLemmas.{input_ended, ended_stopped, met_bad, some_bytes}
-use Rattle.gateway_run.proofs.PhaseLemmas.{looked_read}
 use Rattle.gateway_run.proofs.ReadyLemmas.{ready_on}
 use Rattle.gateway_run.proofs.WaitingLemmas.{waits}
 use Rattle.gateway_run.proofs.steps.end_input.Goals as goal
@@ -18,11 +16,9 @@ returns-then-rest-gt0-clause-holds g c = λ done h.
     let s = g.G.FrameGateway.seen c.args.gateway.now c.args.plan.now in
     let some = some_bytes _ c.if-rest-gt0.true in
     let w = waits way c.args.plan.now s _ c.args.place c.args.ran c.requires.ready done c.requires.wants in
-    let m = met_bad way c.args.plan.now done s.stands c.args.place c.args.ran (s.wants c.args.place.input)
-    c.args.bytes.now w some (no_short _ c.requires.short) h in
-    ended_stopped way c.events_law.ensures c.args.plan.now done s.stands c.args.place _ c.args.ran
-    (s.wants c.args.place.input) c.args.bytes.now _ w
-    (ap (λ (p : Place). p.phase) c.bad.ensures) some h m
+    let wants = s.wants c.args.place.input in
+    ended_stopped wants w h c.events_law.ensures _ c.args.bytes.now _ (ap (λ (p : Place). p.phase) c.bad.ensures) some
+    (met_bad wants w h c.args.bytes.now some (no_short _ c.requires.short))
 
 pub returns-clause-holds : goal.returns-clause-holds
 returns-clause-holds g c = λ done h.
@@ -32,20 +28,10 @@ returns-clause-holds g c = λ done h.
     subst (λ (p : Place). Holds way c.args.plan.now (done ++ Ended c.args.place.input c.args.bytes.now ∷ [])
     next.stands p
     c.args.ran) (sym c.place_by.ensures)
-    (input_ended way c.events_law.ensures c.args.plan.now done s.stands next.stands c.args.place c.end_input.result
-    c.args.ran
-    (s.wants c.args.place.input) c.args.bytes.now
-    (waits way c.args.plan.now s _ c.args.place c.args.ran c.requires.ready done c.requires.wants)
-    (nil_from_length _ (omega (arith, c.if-rest-gt0.false))) c.end_input.ensures.stands h)
-
-pub returns-then-rest-gt0-clause-read : goal.returns-then-rest-gt0-clause-read
-returns-then-rest-gt0-clause-read g c =
-    ap (λ (p : Place). frame_read p.phase c.args.ran.frames) c.bad.ensures
-
-pub returns-clause-read : goal.returns-clause-read
-returns-clause-read g c =
-    subst (λ (p : Place). frame_read p.phase c.args.ran.frames ≡ c.args.ran.frames) (sym c.place_by.ensures)
-    (looked_read _ c.end_input.result)
+    (input_ended (s.wants c.args.place.input)
+    (waits way c.args.plan.now s _ c.args.place c.args.ran c.requires.ready done c.requires.wants) h
+    c.events_law.ensures next.stands c.end_input.result c.args.bytes.now
+    (nil_from_length _ (omega (arith, c.if-rest-gt0.false))) c.end_input.ensures.stands)
 
 pub returns-clause-ready : goal.returns-clause-ready
 returns-clause-ready g c =

@@ -9,18 +9,10 @@ use Rattle.gateway_run.specs.Ready.{IsReady}
 use Rattle.gateway_run.specs.declared.place.Phase.{Phase}
 use Rattle.gateway_run.specs.declared.place.Phase.TheVariants.{Gives}
 use Rattle.gateway_run.specs.declared.place.Place.{Place}
-use Rattle.gateway_run.proofs.GiveLemmas.{unit_gave, units_over, units_out, unit_left, looked_left}
+use Rattle.gateway_run.proofs.GiveLemmas.{unit_gave, units_out, looked_left}
 use Rattle.gateway_run.proofs.PhaseLemmas.{looked_read, gives_at}
 use Rattle.gateway_run.proofs.ReadyLemmas.{ready_behind}
 use Rattle.gateway_run.proofs.steps.go_on.Goals as goal
-
-pub overflow_add-ran : goal.overflow_add-ran
-overflow_add-ran g c =
-    let n = c.requires.ready.counted in
-    let few = n.few in
-    let early = n.early in
-    let less = c.next_ts.ensures.less c.if-next_ts.true in
-    omega (arith, few, early, less)
 
 pub returns-then-next_ts-clause-holds : goal.returns-then-next_ts-clause-holds
 returns-then-next_ts-clause-holds g c = λ done h.
@@ -31,20 +23,6 @@ returns-then-next_ts-clause-holds g c = λ done h.
     c.next_ts.new.out _ c.requires.gives (take_all SIZE c.next_ts.new.out (omega (arith, c.next_ts.array_long)))
     refl refl
     (c.next_ts.ensures.unit c.if-next_ts.true) (c.next_ts.ensures.gave c.if-next_ts.true) h
-
-pub returns-then-next_ts-clause-left : goal.returns-then-next_ts-clause-left
-returns-then-next_ts-clause-left g c =
-    unit_left c.args.place.now.phase _ _ c.args.ran.now.frames c.requires.gives
-    (c.next_ts.ensures.less c.if-next_ts.true)
-
-pub returns-in-Rests-clause-holds : goal.returns-in-Rests-clause-holds
-returns-in-Rests-clause-holds g c = λ done h.
-    let s = g.G.FrameGateway.seen c.args.gateway.now c.args.plan.now in
-    let next = g.G.FrameGateway.seen c.next_ts.new.self c.args.plan.now in
-    units_over g.G.FrameGateway.sharing c.events_law.ensures c.args.plan.now done s.stands next.stands
-    c.args.place.now _ _
-    c.in-Rests.is (ap (λ (p : Place). p.phase) c.place_in.ensures) (c.next_ts.ensures.still c.if-next_ts.false)
-    (c.next_ts.ensures.all c.if-next_ts.false) h
 
 pub returns-clause-ready : goal.returns-clause-ready
 returns-clause-ready g c =

@@ -1,14 +1,12 @@
-use Rattle.std.proofs.Common.{◌≡◌, ap, subst, sym, ◌∙◌, List, [], ◌∷◌, ◌++◌, ℕ, take, length, slice_index_or}
+use Rattle.std.proofs.Common.{ap, subst, sym, ◌∙◌, List, [], ◌∷◌, ◌++◌, ℕ, take, length, slice_index_or}
 use Rattle.std.proofs.lemmas.List.{length-take-le}
 use Rattle.ts_packet.specs.declared.sizes.TheConstants.{SIZE}
 use Rattle.file_run.specs.Events.{Fed}
 use Rattle.gateway_run.specs.Holds.{Holds}
-use Rattle.gateway_run.specs.Phases.{frame_read}
 use Rattle.gateway_run.specs.Ready.{IsReady}
 use Rattle.gateway_run.specs.declared.place.Place.{Place}
 use Rattle.ts_packet.proofs.FileLemmas.{no_sync, some_taken}
 use Rattle.gateway_run.proofs.TakeLemmas.{packet_offered, fed_stopped, met_bad}
-use Rattle.gateway_run.proofs.PhaseLemmas.{looked_read}
 use Rattle.gateway_run.proofs.ReadyLemmas.{ready_on}
 use Rattle.gateway_run.proofs.WaitingLemmas.{waits}
 use Rattle.gateway_run.proofs.steps.take_packet.Goals as goal
@@ -20,13 +18,11 @@ returns-then-as_array-ne-SYNC-clause-holds g c = λ done h.
     let first = ap (λ (l : List ℕ). slice_index_or l 0 0) (c.as_array.ensures.bytes ∙ c.front_of-packet.ensures) in
     let some = some_taken _ c.requires.long in
     let w = waits way c.args.plan.now s _ c.args.place c.args.ran c.requires.ready done c.requires.wants in
-    let m = met_bad way c.args.plan.now done s.stands c.args.place c.args.ran (s.wants c.args.place.input)
-    (take SIZE c.args.bytes.now) w
-    some (no_sync (take SIZE c.args.bytes.now) (λ e. c.if-as_array-ne-SYNC.true (first ∙ e))) h in
-    fed_stopped way c.events_law.ensures c.args.plan.now done s.stands c.args.place _ c.args.ran
-    (s.wants c.args.place.input) (take SIZE c.args.bytes.now) _ w
-    (ap (λ (p : Place). p.phase) c.bad.ensures) some
-    (λ e. c.if-as_array-ne-SYNC.true (first ∙ e)) h m
+    let wants = s.wants c.args.place.input in
+    let packet = take SIZE c.args.bytes.now in
+    fed_stopped wants w h c.events_law.ensures _ packet _ (ap (λ (p : Place). p.phase) c.bad.ensures) some
+    (λ e. c.if-as_array-ne-SYNC.true (first ∙ e))
+    (met_bad wants w h packet some (no_sync packet (λ e. c.if-as_array-ne-SYNC.true (first ∙ e))))
 
 pub returns-clause-holds : goal.returns-clause-holds
 returns-clause-holds g c = λ done h.
@@ -36,22 +32,12 @@ returns-clause-holds g c = λ done h.
     subst (λ (p : Place). Holds way c.args.plan.now (done ++ Fed c.args.place.input (take SIZE c.args.bytes.now) ∷ [])
     next.stands p
     c.args.ran) (sym c.place_by.ensures)
-    (packet_offered way c.events_law.ensures c.args.plan.now done s.stands next.stands c.args.place c.offer.result
-    c.args.ran
-    (s.wants c.args.place.input) c.front_of-packet.result (take SIZE c.args.bytes.now)
-    (waits way c.args.plan.now s _ c.args.place c.args.ran c.requires.ready done c.requires.wants)
+    (packet_offered (s.wants c.args.place.input)
+    (waits way c.args.plan.now s _ c.args.place c.args.ran c.requires.ready done c.requires.wants) h
+    c.events_law.ensures next.stands c.offer.result c.front_of-packet.result (take SIZE c.args.bytes.now)
     c.front_of-packet.ensures
     (ap length c.front_of-packet.ensures ∙ length-take-le SIZE c.args.bytes.now c.requires.long)
-    (let a = c.as_array.ensures.bytes in let f = c.if-as_array-ne-SYNC.false in cc) c.offer.ensures.stands h)
-
-pub returns-then-as_array-ne-SYNC-clause-read : goal.returns-then-as_array-ne-SYNC-clause-read
-returns-then-as_array-ne-SYNC-clause-read g c =
-    ap (λ (p : Place). frame_read p.phase c.args.ran.frames) c.bad.ensures
-
-pub returns-clause-read : goal.returns-clause-read
-returns-clause-read g c =
-    subst (λ (p : Place). frame_read p.phase c.args.ran.frames ≡ c.args.ran.frames) (sym c.place_by.ensures)
-    (looked_read _ c.offer.result)
+    (let a = c.as_array.ensures.bytes in let f = c.if-as_array-ne-SYNC.false in cc) c.offer.ensures.stands)
 
 pub returns-clause-ready : goal.returns-clause-ready
 returns-clause-ready g c =

@@ -1,4 +1,4 @@
-use Rattle.network_laws.proofs.EpochLemmas.{interleaving_is_epoch}
+use Rattle.network_laws.proofs.GatewayLemmas.{interleaving_is_epoch}
 use Rattle.network_laws.proofs.recover_laws.plan_epochs_law.Goals as goal
 
 pub returns : goal.returns

@@ -10,8 +10,7 @@ returns c =
           c.dyn_law.ensures.back
           c.dyn_law.ensures.written c.bit_counts_law.ensures c.fit_law.ensures.told c.block_law.ensures.field
           c.block_law.ensures.chunks c.block_law.ensures.cells c.spread_law.ensures.blocks c.field_law.ensures
-          c.order_law.ensures.counts c.shape_law.ensures
-          c.map_test_law.ensures
+          c.order_law.ensures.counts c.shape_law.ensures c.map_test_law.ensures
           (record {
             superframe = c.interleaving_law.ensures.superframe;
             first = c.interleaving_law.ensures.first;
@@ -36,5 +35,4 @@ returns c =
       cell = c.stand_law.ensures.cell;
       back = c.scramble_twice_law.ensures;
       taken = c.taken_law.ensures;
-    })
-    c.readback_law.ensures.once c.epochs_law.ensures.readback
+    }) c.readback_law.ensures.once c.epochs_law.ensures.readback

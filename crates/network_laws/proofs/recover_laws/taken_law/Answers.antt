@@ -7,8 +7,7 @@ pub returns : goal.returns
 returns c g plp at m plan inside id packets =
     blocks_taken g plp at m
     (sending_by c.iscr_law.ensures.found c.delay_law.ensures c.sent_within_law.ensures c.begin_law.ensures
-    c.end_law.ensures
-    c.first_law.ensures) c.dnp_fits_law.ensures
+    c.end_law.ensures c.first_law.ensures) c.dnp_fits_law.ensures
     (gateway_is
     (plans_by c.plan_epochs_law.ensures c.length_law.ensures.times c.length_law.ensures.frame
     c.spread_law.ensures.frames

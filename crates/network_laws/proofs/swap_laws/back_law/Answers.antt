@@ -1,4 +1,4 @@
-use Rattle.network_laws.proofs.ComeLemmas.{region_comes_back}
+use Rattle.network_laws.proofs.SwapRunLemmas.{region_comes_back}
 use Rattle.network_laws.proofs.swap_laws.back_law.Goals as goal
 
 pub returns : goal.returns

@@ -1,4 +1,4 @@
-use Rattle.network_laws.proofs.SwapWholeLemmas.{whole_is_replaced}
+use Rattle.network_laws.proofs.SwapRunLemmas.{whole_is_replaced}
 use Rattle.network_laws.proofs.swap_laws.whole_region_law.Goals as goal
 
 pub returns : goal.returns

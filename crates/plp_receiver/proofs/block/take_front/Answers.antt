@@ -1,6 +1,6 @@
-use Rattle.std.proofs.Common.{◌≡◌, ◌∙◌, List, ◌++◌, sym, subst, ap, ℕ, arith, append-nil, refl}
+use Rattle.std.proofs.Common.{List, ◌++◌, subst, arith, refl}
 use Rattle.plp_receiver.specs.Strings.{Item}
-use Rattle.plp_receiver.specs.TakenBlocks.{Both, block_of, front_of}
+use Rattle.plp_receiver.specs.TakenBlocks.{Both, block_of}
 use Rattle.plp_receiver.proofs.FieldLemmas.{front_taken}
 use Rattle.plp_receiver.proofs.block.take_front.Goals as goal
 
@@ -11,9 +11,3 @@ returns-clause-both c = λ r z h.
     refl c.requires.start
     (omega arith))
     (c.take_piece.ensures.both r z h)
-
-pub returns-then-start-eq0-clause-both : goal.returns-then-start-eq0-clause-both
-returns-then-start-eq0-clause-both c = λ r z h.
-    let e : c.args.start ≡ 0 = omega arith in
-    subst (λ (y : List Item). Both r y c.args.assembler.now c.args.window.now)
-    (sym (ap (λ (n : ℕ). z ++ front_of r.up_len c.args.epoch (block_of c.args.block.now) n) e ∙ append-nil z)) h

@@ -1,15 +1,7 @@
 use Rattle.std.proofs.Common.{◌∙◌, ℕ, length, take, get_or, false, refl, ap, arith}
 use Rattle.plp_receiver.proofs.HeldLemmas.{place_in, left_behind}
-use Rattle.plp_receiver.proofs.TakeLemmas.{none_took, took_more, took_all}
+use Rattle.plp_receiver.proofs.TakeLemmas.{took_more}
 use Rattle.plp_receiver.proofs.blocks.take_blocks.Goals as goal
-
-pub loop-k-init : goal.loop-k-init
-loop-k-init c = record {
-  took = none_took c.args.deletes c.args.stands.now c.args.len c.args.bytes.now c.args.slots.now;
-  behind = refl;
-  status = refl;
-  len = refl;
-}
 
 pub take_block-requires-clause-inside : goal.take_block-requires-clause-inside
 take_block-requires-clause-inside c =
@@ -31,8 +23,3 @@ loop-k-preserved c =
       status = c.take_block.ensures.status ∙ inv.status;
       len = c.take_block.ensures.len ∙ inv.len;
     }
-
-pub returns-clause-takes : goal.returns-clause-takes
-returns-clause-takes c =
-    took_all c.args.deletes c.args.stands.now c.args.len c.args.bytes.now c.loop-k.k c.args.slots.now c.loop-k.slots
-    (omega arith) c.loop-k.invariant.took

@@ -54,9 +54,6 @@ loop-k-preserved c =
       len = c.put_block.ensures.len ∙ inv.len;
     }
 
-pub returns-clause-each : goal.returns-clause-each
-returns-clause-each c = λ k l. c.loop-k.invariant.each k (omega (arith, l, c.loop-k-test.false))
-
 pub returns-in_default-clause-each : goal.returns-in_default-clause-each
 returns-in_default-clause-each c =
     let has = c.requires.there.0 in

@@ -1,4 +1,4 @@
-use Rattle.std.proofs.Common.{◌≡◌, ◌∙◌, ◌<◌, ℕ, List, take, drop, ap, subst, sym, arith}
+use Rattle.std.proofs.Common.{◌≡◌, ◌∙◌, ◌<◌, ℕ, List, take, drop, ap, subst, sym}
 use Rattle.std.specs.Prelude.{slice_index, sum}
 use Rattle.site_frame.specs.Record.{Block}
 use Rattle.plp_config.specs.Capacity.{block_bytes}
@@ -9,14 +9,6 @@ use Rattle.plp_receiver.proofs.SizeLemmas.{have_length, begun_is}
 use Rattle.plp_receiver.proofs.TakeLemmas.{agrees}
 use Rattle.plp_receiver.proofs.HeldLemmas.{begun_at, first_kept}
 use Rattle.plp_receiver.proofs.parts.see_first.Goals as goal
-
-pub begin-requires-clause-few : goal.begin-requires-clause-few
-begin-requires-clause-few c =
-    let a = agrees c.map_test_law.ensures c.args.plan.now c.args.number c.args.blocks.now c.args.cells.now
-    c.args.shape.now
-    c.rules_law.ensures.plan c.requires.agrees in
-    let most = a.passes.counts c.args.plp c.requires.inside in
-    omega (arith, most, c.requires.few, c.from.ensures, c.count.ensures)
 
 pub begin-requires-clause-there : goal.begin-requires-clause-there
 begin-requires-clause-there c =
@@ -35,16 +27,6 @@ begin-requires-clause-there c =
     (subst (λ (n : ℕ). HaveLength (block_bytes c.args.plan.now c.args.plp) n
     (drop (sum (take c.args.plp counts)) c.args.blocks.now)) count
     (have_length c.args.plan.now counts c.args.blocks.now c.args.plp a.sizes c.requires.inside)))
-
-pub see_cells-requires-clause-passes : goal.see_cells-requires-clause-passes
-see_cells-requires-clause-passes c =
-    (agrees c.map_test_law.ensures c.args.plan.now c.args.number c.args.blocks.now c.args.cells.now c.args.shape.now
-    c.rules_law.ensures.plan c.requires.agrees).passes
-
-pub see_cells-requires-clause-all : goal.see_cells-requires-clause-all
-see_cells-requires-clause-all c =
-    (agrees c.map_test_law.ensures c.args.plan.now c.args.number c.args.blocks.now c.args.cells.now c.args.shape.now
-    c.rules_law.ensures.plan c.requires.agrees).all
 
 pub returns-clause-keeps : goal.returns-clause-keeps
 returns-clause-keeps c =

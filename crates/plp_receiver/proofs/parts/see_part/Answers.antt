@@ -1,25 +1,13 @@
 use Rattle.std.proofs.Common.{◌∙◌, ◌==◌, ◌&&◌, ℕ, ap, sym}
 use Rattle.plp_receiver.specs.Parts.{part_with}
 use Rattle.plp_receiver.proofs.TakeLemmas.{agrees}
-use Rattle.plp_receiver.proofs.HeldLemmas.{begins, goes_on, breaks_off}
+use Rattle.plp_receiver.proofs.HeldLemmas.{goes_on}
 use Rattle.plp_receiver.proofs.parts.see_part.Goals as goal
 
 pub see_cells-requires-clause-passes : goal.see_cells-requires-clause-passes
 see_cells-requires-clause-passes c =
     (agrees c.map_test_law.ensures c.args.plan.now c.args.number c.args.blocks.now c.args.cells.now c.args.shape.now
     c.rules_law.ensures.plan c.requires.agrees).passes
-
-pub see_cells-requires-clause-all : goal.see_cells-requires-clause-all
-see_cells-requires-clause-all c =
-    (agrees c.map_test_law.ensures c.args.plan.now c.args.number c.args.blocks.now c.args.cells.now c.args.shape.now
-    c.rules_law.ensures.plan c.requires.agrees).all
-
-pub returns-then-is_first-clause-sees : goal.returns-then-is_first-clause-sees
-returns-then-is_first-clause-sees c =
-    begins c.args.plan.now c.args.plp (part_with c.args.number c.args.blocks.now c.args.shape.now c.args.cells.now)
-    c.args.number
-    c.args.held.now c.see_first.new.held
-    (sym c.is_first.ensures ∙ c.if-is_first.true) c.see_first.ensures.keeps
 
 pub returns-then-goes_on-clause-sees : goal.returns-then-goes_on-clause-sees
 returns-then-goes_on-clause-sees c =
@@ -34,14 +22,3 @@ returns-then-goes_on-clause-sees c =
       same = c.see_cells.ensures.blocks;
       each = λ k l. c.see_cells.ensures.each c.args.blocks.now k l;
     })
-
-pub returns-else-goes_on-clause-sees : goal.returns-else-goes_on-clause-sees
-returns-else-goes_on-clause-sees c =
-    breaks_off c.args.plan.now c.args.plp (part_with c.args.number c.args.blocks.now c.args.shape.now c.args.cells.now)
-    c.args.number
-    c.args.held.now c.lose.new.self
-    (sym c.is_first.ensures ∙ c.if-is_first.false)
-    (sym (c.goes_on.ensures ∙ ap (λ (n : ℕ). c.args.held.now.there && (c.args.held.now.count == n))
-    (c.from.ensures ∙ c.count.ensures))
-    ∙ c.if-goes_on.false)
-    c.lose.ensures.lost

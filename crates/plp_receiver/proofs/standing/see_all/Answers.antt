@@ -1,5 +1,4 @@
-use Rattle.std.proofs.Common.{◌≡◌, ◌∙◌, ℕ, ◌+◌, ◌&&◌, false, get_or, ap, arith}
-use Rattle.plp_receiver.specs.Seeing.{seen_from}
+use Rattle.std.proofs.Common.{◌∙◌, ◌+◌, false, get_or, arith}
 use Rattle.plp_receiver.proofs.SeenLemmas.{pieces_seen}
 use Rattle.plp_receiver.proofs.standing.see_all.Goals as goal
 
@@ -17,17 +16,3 @@ loop-address-preserved c =
           c.min-count.result (get_or c.args.stands.now k false) (get_or c.loop-address.stands k false)
           (get_or c.see_piece.new.stands k false) (inv.each k l) (c.see_piece.ensures.each k (omega (arith, l, same)));
     }
-
-pub returns-clause-each : goal.returns-clause-each
-returns-clause-each c = λ k l.
-    let inv = c.loop-address.invariant in
-    let all : c.loop-address.address ≡ c.args.plan.now.cells = omega (
-      arith,
-      inv.end,
-      inv.inside,
-      c.loop-address-test.false,
-    ) in
-    inv.each k l ∙ ap (λ (n : ℕ). get_or c.args.stands.now k false && seen_from c.args.plan.now c.args.shape.now
-    c.args.frame_idx
-    c.args.cells.now
-    (c.args.first + k) 0 n) all

@@ -1,9 +1,8 @@
-use Rattle.std.proofs.Common.{◌≡◌, ℕ, ◌/◌, ◌<◌, List, length, take, drop, get_or, Option, refl, sym, subst, ap, ◌∙◌}
+use Rattle.std.proofs.Common.{ℕ, ◌/◌, ◌<◌, List, take, drop, get_or, Option, refl, sym, subst}
 use Rattle.std.proofs.Common.{arith}
 use Rattle.std.proofs.lemmas.Bool.{both_ways}
 use Rattle.terms.specs.Bits.{bits_of}
 use Rattle.bb_frame.specs.BasebandFrame.{Spells}
-use Rattle.plp_receiver.specs.TakenBlocks.{IsPlace}
 use Rattle.plp_receiver.specs.Taken.{IsOfStream, IsTaken}
 use Rattle.plp_receiver.proofs.TakingLemmas as T
 use Rattle.plp_receiver.proofs.taking.taken_block.Goals as goal
@@ -21,13 +20,6 @@ returns-then-not-is_of_stream-clause-none c = λ e b t.
     (c.read_frame.ensures.every t.header t.body spelled) in
     both_ways _ refl (c.if-not-is_of_stream.ensures.1 (subst (IsOfStream c.args.deletes) same t.stream))
 
-pub field_of-requires : goal.field_of-requires
-field_of-requires c =
-    let small : (k : ℕ) → get_or c.args.block.now k 0 < 256 = λ k. omega (arith, c.type_inv.block k) in
-    let spelled : Spells c.in-Ok.view.header c.in-Ok.view.field (bits_of c.args.block.now) =
-    subst (Spells c.in-Ok.view.header c.in-Ok.view.field) c.whole.ensures.bits c.in-Ok.ensures.ok in
-    (T.field_is c.bit_counts_law.ensures c.args.block.now small c.in-Ok.view.header c.in-Ok.view.field spelled).0
-
 pub returns-clause-some : goal.returns-clause-some
 returns-clause-some c =
     let small : (k : ℕ) → get_or c.args.block.now k 0 < 256 = λ k. omega (arith, c.type_inv.block k) in
@@ -42,16 +34,3 @@ returns-clause-some c =
     (T.taken_is c.bit_counts_law.ensures c.args.block.now small c.in-Ok.view.header c.in-Ok.view.field
     spelled c.args.deletes
     stream))
-
-pub returns-clause-places : goal.returns-clause-places
-returns-clause-places c =
-    let small : (k : ℕ) → get_or c.args.block.now k 0 < 256 = λ k. omega (arith, c.type_inv.block k) in
-    let spelled : Spells c.in-Ok.view.header c.in-Ok.view.field (bits_of c.args.block.now) =
-    subst (Spells c.in-Ok.view.header c.in-Ok.view.field) c.whole.ensures.bits c.in-Ok.ensures.ok in
-    let fits = (T.field_is c.bit_counts_law.ensures c.args.block.now small c.in-Ok.view.header c.in-Ok.view.field
-    spelled).0 in
-    let size : length c.field_of.result.now ≡ c.in-Ok.view.header.dfl / 8 = ap length c.field_of.ensures
-    ∙ T.field_len c.args.block.now (c.in-Ok.view.header.dfl / 8) fits in
-    subst (λ (n : ℕ). IsPlace c.first_of.result n) (sym size)
-    (subst (λ (f : Option ℕ). IsPlace f (c.in-Ok.view.header.dfl / 8)) (sym c.first_of.ensures)
-    (T.place_is c.bit_counts_law.ensures c.args.block.now small c.in-Ok.view.header c.in-Ok.view.field spelled))

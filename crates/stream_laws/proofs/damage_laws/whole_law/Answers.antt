@@ -1,4 +1,4 @@
-use Rattle.stream_laws.proofs.AloneLemmas.{carries_alone}
+use Rattle.stream_laws.proofs.WholeLemmas.{carries_alone}
 use Rattle.stream_laws.proofs.WholeLemmas.{whole_told, whole_is_all, not_whole_misses}
 use Rattle.stream_laws.proofs.damage_laws.whole_law.Goals as goal
 

@@ -1,17 +1,6 @@
+use Rattle.std.proofs.Common.{rules}
 use Rattle.stream_laws.proofs.CarryLemmas.{frame_comes_back}
 use Rattle.stream_laws.proofs.formed_laws.back_law.Goals as goal
 
 pub returns : goal.returns
-returns c =
-    frame_comes_back c.bit_counts_law.ensures c.scramble_twice_law.ensures c.pre_law.ensures.bits c.named_law.ensures
-    (record {
-      told = c.parts_law.ensures.whole;
-      conf_told = c.parts_law.ensures.conf;
-      pre_values = c.parts_law.ensures.pre;
-      pre_back = c.pre_law.ensures.back;
-      pre_written = c.pre_law.ensures.written;
-      conf_written = c.conf_law.ensures.written;
-      conf_size = c.post_law.ensures.conf;
-      dyn_back = c.dyn_law.ensures.back;
-      dyn_size = c.dyn_law.ensures.len;
-    })
+returns c = search (rules, frame_comes_back)

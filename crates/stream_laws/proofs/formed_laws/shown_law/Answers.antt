@@ -1,17 +1,6 @@
-use Rattle.stream_laws.proofs.ShownLemmas.{shown_is_sent}
+use Rattle.std.proofs.Common.{rules}
+use Rattle.stream_laws.proofs.BackLemmas.{shown_is_sent}
 use Rattle.stream_laws.proofs.formed_laws.shown_law.Goals as goal
 
 pub returns : goal.returns
-returns c =
-    shown_is_sent c.bit_counts_law.ensures c.scramble_twice_law.ensures c.pre_law.ensures.bits
-    (record {
-      told = c.parts_law.ensures.whole;
-      conf_told = c.parts_law.ensures.conf;
-      pre_values = c.parts_law.ensures.pre;
-      pre_back = c.pre_law.ensures.back;
-      pre_written = c.pre_law.ensures.written;
-      conf_written = c.conf_law.ensures.written;
-      conf_size = c.post_law.ensures.conf;
-      dyn_back = c.dyn_law.ensures.back;
-      dyn_size = c.dyn_law.ensures.len;
-    })
+returns c = search (rules, shown_is_sent)

@@ -4,7 +4,7 @@ use Rattle.feed_merge.proofs.BothCameLemmas.{number_of}
 use Rattle.compare_run.specs.Lines.{plp_text}
 use Rattle.compare_run.specs.Shown.{HasShown}
 use Rattle.compare_run.specs.TallyStandsFor.{other_in}
-use Rattle.compare_run.proofs.BeginLemmas.{plps_fit, shown_told, left_told}
+use Rattle.compare_run.proofs.BeginLemmas.{plps_fit, shown_told}
 use Rattle.compare_run.proofs.machine.CompareMachine.tell.Goals as goal
 
 pub plp_line-requires : goal.plp_line-requires
@@ -18,6 +18,3 @@ returns-clause-shown c = λ k events s.
     let m = c.args.self.now in
     shown_told c.events_law.ensures k m events _ s c.requires.some
     (c.plp_line.ensures.text ∙ ap (λ (n : Config). plp_text n m.last m.plp (other_in m.carried m.plp)) s.config)
-
-pub returns-clause-left : goal.returns-clause-left
-returns-clause-left c = left_told c.args.self.now c.requires.some

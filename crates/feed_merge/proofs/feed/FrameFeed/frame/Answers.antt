@@ -3,14 +3,8 @@ use Rattle.open_group.specs.Shown.{Shows}
 use Rattle.feed_merge.specs.Frames.{dynamic_of, lists_of}
 use Rattle.feed_merge.specs.FeedStandsFor.{config_of}
 use Rattle.feed_merge.proofs.CameLemmas.{came, whole_came, room_came, shows_held}
-use Rattle.feed_merge.proofs.FeedLemmas.{shown, told, own_now, IsOwnNow}
+use Rattle.feed_merge.proofs.FeedLemmas.{shown, told}
 use Rattle.feed_merge.proofs.feed.FrameFeed.frame.Goals as goal
-
-pub dynamic-requires : goal.dynamic-requires
-dynamic-requires c =
-    let f = c.args.self.now in
-    let o : IsOwnNow f.inner.sequence.progress = own_now f.inner.sequence.progress f.waiting f.waits c.requires.whole in
-    record { frame = f.inner.sequence.frame o.closing o.number o.fault }
 
 pub returns-clause-shows : goal.returns-clause-shows
 returns-clause-shows c = λ bytes ended given s x later all g content.

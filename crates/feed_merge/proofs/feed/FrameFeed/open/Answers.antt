@@ -5,9 +5,6 @@ use Rattle.t2mi_stream.specs.UnpiperStandsFor.{UnpiperStandsFor}
 use Rattle.feed_merge.proofs.FeedLemmas.{opened, stands_first}
 use Rattle.feed_merge.proofs.feed.FrameFeed.open.Goals as goal
 
-pub returns-clause-config : goal.returns-clause-config
-returns-clause-config c = ap (λ (r : Rules). r.network) c.new-sequence.ensures.rules ∙ c.in_ok-open.ensures.network
-
 pub returns-clause-stands : goal.returns-clause-stands
 returns-clause-stands c =
     let sequence = c.new-sequence.result in

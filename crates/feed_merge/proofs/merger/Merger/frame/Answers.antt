@@ -1,4 +1,3 @@
-use Rattle.std.proofs.Common.{length, ap, arith}
 use Rattle.feed_merge.specs.StandsFor.{MergerStandsFor}
 use Rattle.feed_merge.proofs.MergerLemmas.{begun}
 use Rattle.feed_merge.proofs.merger.Merger.frame.Goals as goal
@@ -11,9 +10,3 @@ returns-clause-stands c = λ all given h.
     c.first-place.result.number _ _ _
     all given h c.first-place.ensures.number (c.first-place.ensures.left c.args.frame.now) c.begin.ensures.feeds.flows _
     c.begin.ensures.number
-
-pub returns-clause-more : goal.returns-clause-more
-returns-clause-more c =
-    let bound = c.begin.ensures.feeds.bound in
-    let bodies = ap length (c.first-place.ensures.left c.args.frame.now) in
-    omega (arith, bound, bodies)

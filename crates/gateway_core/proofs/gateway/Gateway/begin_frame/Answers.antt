@@ -1,18 +1,17 @@
-use Rattle.std.proofs.Common.{rules, ◌≡◌, ◌∙◌, ◌+◌, ◌++◌, ◌∷◌, [], Bool, List, ℕ, length, ap, sym, subst}
-use Rattle.std.proofs.Math.Logic.{∥∥₁_map}
+use Rattle.std.proofs.Common.{◌≡◌, ◌∙◌, ◌+◌, ◌++◌, ◌∷◌, [], Bool, List, ℕ, length, ap, sym, subst}
 use Rattle.std.specs.Vec.{with_items}
 use Rattle.std.proofs.lemmas.List.{with_items_is}
 use Rattle.plp_config.specs.declared.config.Config.{Config}
 use Rattle.gateway_core.specs.Lists.{bits_in, own_in, later_in}
 use Rattle.gateway_core.specs.Events.{Begun}
 use Rattle.frame_writer.specs.Flowing.{Flows}
-use Rattle.gateway_core.specs.InputsStandFor.{AllFed, AreSupplied, CountsStay}
+use Rattle.gateway_core.specs.InputsStandFor.{AllFed, CountsStay}
 use Rattle.gateway_core.specs.Left.{Layout, Stays, left, early_of}
 use Rattle.gateway_core.specs.StandsFor.{GatewayStandsFor, Holds}
 use Rattle.gateway_core.specs.declared.input.Input.{Input}
 use Rattle.frame_writer.proofs.FlowLemmas.{dry_when}
-use Rattle.gateway_core.proofs.FrameLemmas.{over_left}
-use Rattle.gateway_core.proofs.HoldsLemmas.{early_over, fed_kept, holds_begin, supplied_over, supplied_begun}
+use Rattle.gateway_core.proofs.LeftLemmas.{over_left}
+use Rattle.gateway_core.proofs.HoldsLemmas.{early_over, fed_kept, holds_begin, supplied_by, begun_with}
 use Rattle.gateway_core.proofs.InputsLemmas.{most_stays, fit_on}
 use Rattle.gateway_core.proofs.gateway.Gateway.begin_frame.Goals as goal
 
@@ -72,9 +71,12 @@ cut-requires-clause-ready c =
     let g = c.args.self.now in
     let f = g.frame in
     let over = g.over (dry_when g.flow.dry _ _ g.flow.full (sym c.requires.given)) in
-    ∥∥₁_map g.supplied (λ (s : AreSupplied g.plan.now g.frames g.inputs.items (early_of g.plan.now f)).
-    supplied_over g.plan.now g.frames f.number g.inputs.items c.deref_mut.result.now f.step f.plp f.blocks
-    c.deref_mut.ensures.value over s)
+    supplied_by g.supplied (λ events e fed. (
+      events,
+      e,
+      subst (λ (l : List Input). AllFed l (bits_in f.blocks) g.plan.now events) (sym c.deref_mut.ensures.value)
+          (early_over g.inputs.items g.plan.now f.number f.step f.plp f.blocks g.plan.now events over fed),
+    ))
 
 pub begin-requires-clause-fit : goal.begin-requires-clause-fit
 begin-requires-clause-fit c =
@@ -84,35 +86,42 @@ begin-requires-clause-fit c =
     c.cut.new.counts _
     c.deref_mut.ensures.value c.deref_mut-2.ensures.value counts c.cut.ensures.fit g.most g.fit
 
-pub invariant_of-self-2 : goal.invariant_of-self-2
-invariant_of-self-2 c =
+pub invariant_of-self-2-clause-most : goal.invariant_of-self-2-clause-most
+invariant_of-self-2-clause-most c =
+    let g = c.args.self.now in
+    let p = g.plan.now in
+    let items = with_items_is g.inputs c.cut.new.inputs (c.cut.auto.inputs ∙ c.deref_mut.ensures.len) in
+    most_stays g.inputs.items c.cut.new.inputs c.deref_mut.result.now _ p c.deref_mut.ensures.value items
+    (c.cut.auto.inputs ∙ ap length c.deref_mut.ensures.value) c.cut.ensures.most g.most
+
+pub invariant_of-self-2-clause-fit : goal.invariant_of-self-2-clause-fit
+invariant_of-self-2-clause-fit c =
+    let g = c.args.self.now in
+    let f = g.frame in
+    let p = g.plan.now in
+    let counts = with_items_is f.counts c.cut.new.counts (c.cut.auto.counts ∙ c.deref_mut-2.ensures.len) in
+    fit_on p g.inputs.items c.deref_mut.result.now f.counts.items c.deref_mut-2.result.now c.cut.new.counts _
+    c.deref_mut.ensures.value c.deref_mut-2.ensures.value
+    (ap (λ (s : Stays). s.layout.counts) c.begin-2.ensures.kept ∙ ap (λ (l : Layout). l.counts)
+    c.begin.ensures.layout
+    ∙ counts) c.cut.ensures.fit g.most g.fit
+
+pub invariant_of-self-2-clause-supplied : goal.invariant_of-self-2-clause-supplied
+invariant_of-self-2-clause-supplied c =
     let g = c.args.self.now in
     let f = g.frame in
     let p = g.plan.now in
     let now = c.begin-2.new.source in
     let over = g.over (dry_when g.flow.dry _ _ g.flow.full (sym c.requires.given)) in
     let items = with_items_is g.inputs c.cut.new.inputs (c.cut.auto.inputs ∙ c.deref_mut.ensures.len) in
-    let counts = with_items_is f.counts c.cut.new.counts (c.cut.auto.counts ∙ c.deref_mut-2.ensures.len) in
     let later : ℕ → List (List Bool) = later_in p g.frames c.cut.new.pool in
-    record {
-      whole = search rules;
-      most = most_stays g.inputs.items c.cut.new.inputs c.deref_mut.result.now _ p c.deref_mut.ensures.value items
-          (c.cut.auto.inputs ∙ ap length c.deref_mut.ensures.value) c.cut.ensures.most g.most;
-      early = search rules;
-      lists = search rules;
-      chunks = search rules;
-      over = search rules;
-      fit = fit_on p g.inputs.items c.deref_mut.result.now f.counts.items c.deref_mut-2.result.now c.cut.new.counts _
-          c.deref_mut.ensures.value c.deref_mut-2.ensures.value
-          (ap (λ (s : Stays). s.layout.counts) c.begin-2.ensures.kept ∙ ap (λ (l : Layout). l.counts)
-          c.begin.ensures.layout
-          ∙ counts) c.cut.ensures.fit g.most g.fit;
-      supplied = ∥∥₁_map g.supplied (λ (s : AreSupplied p g.frames g.inputs.items (early_of p f)).
-          supplied_begun p g.frames g.inputs.items _ (early_of p f) (early_of p now)
-          (λ events frames fed. fed_kept _ later (early_of p now) p (events ++ Begun ∷ [])
+    supplied_by g.supplied (λ events frames fed. (
+      events ++ Begun ∷ [],
+      ap (λ (n : ℕ). n + 1) frames ∙ sym (begun_with events Begun),
+      fed_kept _ later (early_of p now) p (events ++ Begun ∷ [])
           (λ j. ap (λ (s : Stays). s.early j) c.begin-2.ensures.kept ∙ c.begin.ensures.early j)
           (subst (λ (l : List Input). AllFed l later p (events ++ Begun ∷ [])) (sym items)
           (c.cut.ensures.fed events frames
           (subst (λ (l : List Input). AllFed l (bits_in f.blocks) p events) (sym c.deref_mut.ensures.value)
-          (early_over g.inputs.items p f.number f.step f.plp f.blocks p events over fed))))) s);
-    }
+          (early_over g.inputs.items p f.number f.step f.plp f.blocks p events over fed)))),
+    ))

@@ -1,14 +1,12 @@
-use Rattle.std.proofs.Common.{rules, ◌≡◌, ◌≢◌, ◌∙◌, ◌++◌, ◌∷◌, [], Bool, List, ℕ, map, sym, subst}
-use Rattle.std.specs.Prelude.{slice_index}
-use Rattle.std.proofs.Math.Logic.{∥∥₁_map}
+use Rattle.std.proofs.Common.{rules, ◌∙◌, ◌++◌, ◌∷◌, [], Bool, List, ℕ, refl, sym, subst}
 use Rattle.std.proofs.lemmas.List.{with_items_is}
 use Rattle.gateway_core.specs.Events.{Ended}
-use Rattle.gateway_core.specs.InputsStandFor.{AllFed, AreSupplied}
+use Rattle.gateway_core.specs.InputsStandFor.{AllFed}
 use Rattle.gateway_core.specs.Left.{early_of}
 use Rattle.gateway_core.specs.StandsFor.{GatewayStandsFor}
 use Rattle.gateway_core.specs.declared.input.Input.{Input}
-use Rattle.gateway_core.specs.IsFed.{wanted}
-use Rattle.gateway_core.proofs.HoldsLemmas.{holds_end, stay_ended, supplied_ended}
+use Rattle.gateway_core.proofs.HoldsLemmas.{holds_with, supplied_by, begun_same}
+use Rattle.gateway_core.proofs.InputsLemmas.{or_false, back}
 use Rattle.gateway_core.proofs.gateway.Gateway.end_input.Goals as goal
 
 pub returns-clause-stands : goal.returns-clause-stands
@@ -19,24 +17,21 @@ returns-clause-stands c = λ config events h.
     subst (λ (l : List Input). AllFed l early config events) (sym c.deref_mut.ensures.value) h.1.fed in
     let items = with_items_is c.args.self.now.inputs c.end.new.inputs (c.end.auto.inputs ∙ c.deref_mut.ensures.len) in (
       h.0,
-      holds_end _ _ early _ _ _ _ _ config events c.args.plp
+      holds_with (Ended c.args.plp) h.1 refl (sym (or_false c.args.self.now.flow.finished))
           (subst (λ (l : List Input). AllFed l early config (events ++ Ended c.args.plp ∷ [])) (sym items)
-          (c.end.ensures.fed early config events old)) h.1,
-      stay_ended config events c.args.plp _ _ h.2,
+          (c.end.ensures.fed early config events old)) (λ j on. refl) (λ all given f. f),
+      λ all more. h.2 all (back config events (Ended c.args.plp) all (λ j on. refl) more),
     )
 
 pub returns-clause-none : goal.returns-clause-none
 returns-clause-none c =
     let items = with_items_is c.args.self.now.inputs c.end.new.inputs (c.end.auto.inputs ∙ c.deref_mut.ensures.len) in
-    subst (λ (l : List Input). slice_index (map wanted l) c.args.plp ≡ 0) (sym items) c.end.ensures.none
+    rw items c.end.ensures.none
 
 pub returns-clause-others : goal.returns-clause-others
 returns-clause-others c =
     let items = with_items_is c.args.self.now.inputs c.end.new.inputs (c.end.auto.inputs ∙ c.deref_mut.ensures.len) in
-    subst (λ (l : List Input). (other : ℕ) → other ≢ c.args.plp → slice_index (map wanted l) other
-    ≡ slice_index (map wanted c.args.self.now.inputs.items) other) (sym items)
-    (subst (λ (l : List Input). (other : ℕ) → other ≢ c.args.plp → slice_index (map wanted c.end.new.inputs) other
-    ≡ slice_index (map wanted l) other) c.deref_mut.ensures.value c.end.ensures.others)
+    rw (items, ← c.deref_mut.ensures.value) c.end.ensures.others
 
 pub invariant_of-self : goal.invariant_of-self
 invariant_of-self c =
@@ -52,9 +47,11 @@ invariant_of-self c =
       chunks = search rules;
       over = search rules;
       fit = search rules;
-      supplied = ∥∥₁_map g.supplied (λ (s : AreSupplied p g.frames g.inputs.items early).
-          supplied_ended p g.frames c.args.plp g.inputs.items _ early
-          (λ events fed. subst (λ (l : List Input). AllFed l early p (events ++ Ended c.args.plp ∷ [])) (sym items)
-          (c.end.ensures.fed early p events (subst (λ (l : List Input). AllFed l early p events)
-          (sym c.deref_mut.ensures.value) fed))) s);
+      supplied = supplied_by g.supplied (λ events e fed. (
+        events ++ Ended c.args.plp ∷ [],
+        e ∙ sym (begun_same events (Ended c.args.plp) refl),
+        subst (λ (l : List Input). AllFed l early p (events ++ Ended c.args.plp ∷ [])) (sym items)
+            (c.end.ensures.fed early p events (subst (λ (l : List Input). AllFed l early p events)
+            (sym c.deref_mut.ensures.value) fed)),
+      ));
     }

@@ -1,10 +1,10 @@
-use Rattle.std.proofs.Common.{rules, ◌≡◌, ℕ, Bool, List, [], refl, ap, sym, subst}
+use Rattle.std.proofs.Common.{◌≡◌, List, [], refl, ap, sym, subst}
 use Rattle.std.proofs.lemmas.Grind.{merely}
 use Rattle.t2mi_packet.specs.declared.packet.Body.{Body}
 use Rattle.frame_writer.specs.Flowing.{Flows, bytes_bound}
-use Rattle.gateway_core.specs.Left.{Layout, early_of}
-use Rattle.gateway_core.specs.StandsFor.{GatewayStandsFor, Status}
-use Rattle.gateway_core.proofs.FrameLemmas.{over_left}
+use Rattle.gateway_core.specs.Left.{Layout, left, early_of}
+use Rattle.gateway_core.specs.StandsFor.{GatewayStandsFor}
+use Rattle.gateway_core.proofs.LeftLemmas.{over_left}
 use Rattle.gateway_core.proofs.HoldsLemmas.{fed_kept, stay_none, fit_zeros}
 use Rattle.gateway_core.proofs.gateway.Gateway.open.Goals as goal
 
@@ -28,40 +28,28 @@ returns-clause-stands c =
       stay_none c.args.plan.now f.counts.items,
     )
 
-abbrev status_with : ℕ → ℕ → Bool → Bool → ℕ → Status
-status_with plps frame unit finished left = record {
-  plps = plps;
-  frame = frame;
-  unit = unit;
-  finished =
-      finished;
-  left = left;
-}
-
-status_is : (p q f g : ℕ) (u v x y : Bool) (l m : ℕ) → p ≡ q → f ≡ g → u ≡ v → x ≡ y → l ≡ m
-    → status_with p f u x l ≡ status_with q g v y m
-status_is p q f g u v x y l m a b c d e = rw (a, b, c, d, e) refl
-
 pub returns-clause-status : goal.returns-clause-status
 returns-clause-status c =
-    let nothing = over_left c.args.plan.now c.in_ok-open.field-0 c.in_ok-open-2.field-0 c.in_ok-open-2.ensures.over in
-    status_is _ _ _ _ _ _ _ _ _ _ c.in_ok-open_inputs.ensures.len refl c.new.ensures.unit c.new.ensures.finished
-    (subst (λ (l : List Body). bytes_bound c.new.result.outlet l ≡ 0) (sym nothing) c.new.ensures.none)
-
-pub invariant_of-result : goal.invariant_of-result
-invariant_of-result c =
-    record {
-      whole = search rules;
-      most = search rules;
-      early = search rules;
-      lists = search rules;
-      chunks = search rules;
-      over = search rules;
-      fit = fit_zeros c.args.plan.now _ (ap (λ (l : Layout). l.counts) c.in_ok-open-2.ensures.layout);
-      supplied = merely (record {
-        events = [];
-        frame_is = refl;
-        fed = fed_kept _ (λ j. []) (early_of c.args.plan.now c.in_ok-open-2.field-0) c.args.plan.now []
-            c.in_ok-open-2.ensures.early c.in_ok-open_inputs.ensures.fed;
-      });
+    let p = c.args.plan.now in
+    let f = c.in_ok-open-2.field-0 in
+    let nothing = over_left p c.in_ok-open.field-0 f c.in_ok-open-2.ensures.over in
+    let none : bytes_bound c.new.result.outlet (left p c.in_ok-open.field-0 f) ≡ 0 = rw nothing c.new.ensures.none in
+    λ i. record {
+      plps = c.in_ok-open_inputs.ensures.len i;
+      frame = 0;
+      unit = c.new.ensures.unit i;
+      finished = c.new.ensures.finished i;
+      left = none i;
     }
+
+pub invariant_of-result-clause-fit : goal.invariant_of-result-clause-fit
+invariant_of-result-clause-fit c =
+    fit_zeros c.args.plan.now _ (ap (λ (l : Layout). l.counts) c.in_ok-open-2.ensures.layout)
+
+pub invariant_of-result-clause-supplied : goal.invariant_of-result-clause-supplied
+invariant_of-result-clause-supplied c = merely (record {
+  events = [];
+  frame_is = refl;
+  fed = fed_kept _ (λ j. []) (early_of c.args.plan.now c.in_ok-open-2.field-0) c.args.plan.now []
+      c.in_ok-open-2.ensures.early c.in_ok-open_inputs.ensures.fed;
+})

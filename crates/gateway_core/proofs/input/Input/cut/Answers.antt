@@ -7,13 +7,12 @@ returns-clause-cut c = λ config plp t plan lt place on e h.
     let filled = c.complete.ensures.fed config plp t place h in
     let still = place_stays config plp c.args.pool.now c.complete.new.pool c.args.list c.complete.ensures.others
     place in
-    fed_cut c.blocks_law.ensures c.slot_time_law.ensures.count_rises c.length_law.ensures.slot
-    c.spread_law.ensures.frames
-    _ _ _ _ _ _ config plp t c.complete.new.pool c.end_frame-count.new.pool c.args.list _
-    c.end_frame-count.ensures.ends plan lt still on c.complete.ensures.full
+    fed_cut c.complete.new.pool c.end_frame-count.new.pool c.args.list still filled c.blocks_law.ensures
+    c.slot_time_law.ensures.count_rises c.length_law.ensures.slot c.spread_law.ensures.frames _ _
+    c.end_frame-count.ensures.ends plan lt on c.complete.ensures.full
     (c.max-self.ensures ∙ next_due c.slot_time_law.ensures.count_rises c.length_law.ensures.slot config
     plp t.frame _ _ plan.rules
-    lt filled.due_is e ∙ e) filled
+    lt filled.due_is e ∙ e)
 
 pub returns-clause-others : goal.returns-clause-others
 returns-clause-others c =

@@ -6,8 +6,8 @@ use Rattle.gateway_core.proofs.input.Input.offer_null.Goals as goal
 
 pub returns-clause-fed : goal.returns-clause-fed
 returns-clause-fed c = λ config plp t ended place h.
-    fed_null _ _ _ _ _ config plp t c.args.pool.now c.offer_to.new.pool c.args.list
-    (rw c.canonical.ensures at c.offer_to.ensures.takes) place ended c.requires.before h
+    fed_null c.args.pool.now c.offer_to.new.pool c.args.list place h
+    (rw c.canonical.ensures at c.offer_to.ensures.takes) ended c.requires.before
 
 pub offer_to-requires-clause-ready : goal.offer_to-requires-clause-ready
 offer_to-requires-clause-ready c = served c.args.self.now c.args.pool.now c.args.list c.requires.ready

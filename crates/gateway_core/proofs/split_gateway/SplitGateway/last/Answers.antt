@@ -11,6 +11,4 @@ unfolding SplitGatewayStandsFor
 returns c = λ d events s.
     let m = c.args.self.now in
     subst (λ (e : Config). (c.last.result ≡ true) ↔ IsLast e events) s.0
-    (last_is c.not_yet_last_law.ensures m.plan.now m.gateway m.held.items events c.last.result c.rules_law.ensures.plan
-    m.plps s.1
-    c.requires c.last.ensures)
+    (last_is s.1 c.not_yet_last_law.ensures c.last.result c.rules_law.ensures.plan m.plps c.requires c.last.ensures)

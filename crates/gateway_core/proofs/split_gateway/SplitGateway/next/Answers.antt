@@ -10,25 +10,6 @@ use Rattle.gateway_core.proofs.FindLemmas.{finds_wanted}
 use Rattle.gateway_core.proofs.StandLemmas.{after_move, asks_of, worked_by}
 use Rattle.gateway_core.proofs.split_gateway.SplitGateway.next.Goals as goal
 
-pub invariant_of-self : goal.invariant_of-self
-invariant_of-self c =
-    let m = c.args.self.now in
-    let f = c.find_next.ensures.moves in
-    let same = take_at c.find_next.new.held _ m.held.len (f.size ∙ c.deref_mut.ensures.len) in
-    record {
-      plps = ap (λ (s : Status). s.plps) f.status ∙ m.plps;
-      whole = m.whole;
-      grouped = m.grouped;
-      wanted = subst (λ (h : List (Option (List ℕ))). HeldWanted m.plan.now c.find_next.new.gateway h)
-          (sym same) f.wanted;
-      worked = worked_by m.plan.now m.gateway c.find_next.new.gateway m.held.items _ m.worked
-          (λ events works. (
-            events,
-            after_move m.plan.now m.gateway c.find_next.new.gateway m.held.items _ _ _ c.deref_mut.ensures.value same
-                f events works,
-          ));
-    }
-
 pub returns-clause-stands : goal.returns-clause-stands
 unfolding SplitGatewayStandsFor
 returns-clause-stands c = λ d events s.
@@ -38,6 +19,27 @@ returns-clause-stands c = λ d events s.
       after_move m.plan.now m.gateway c.find_next.new.gateway m.held.items _ _ _ c.deref_mut.ensures.value
           (take_at c.find_next.new.held _ m.held.len (f.size ∙ c.deref_mut.ensures.len)) f events s.1,
     )
+
+pub invariant_of-self-clause-plps : goal.invariant_of-self-clause-plps
+invariant_of-self-clause-plps c = ap (λ (s : Status). s.plps) c.find_next.ensures.moves.status ∙ c.args.self.now.plps
+
+pub invariant_of-self-clause-wanted : goal.invariant_of-self-clause-wanted
+invariant_of-self-clause-wanted c =
+    let m = c.args.self.now in
+    let f = c.find_next.ensures.moves in
+    subst (λ (h : List (Option (List ℕ))). HeldWanted m.plan.now c.find_next.new.gateway h)
+    (sym (take_at c.find_next.new.held _ m.held.len (f.size ∙ c.deref_mut.ensures.len))) f.wanted
+
+pub invariant_of-self-clause-worked : goal.invariant_of-self-clause-worked
+invariant_of-self-clause-worked c =
+    let m = c.args.self.now in
+    worked_by m.worked (λ events works. (
+      events,
+      after_move m.plan.now m.gateway
+          c.find_next.new.gateway m.held.items _ _ _ c.deref_mut.ensures.value
+          (take_at c.find_next.new.held _ m.held.len (c.find_next.ensures.moves.size ∙ c.deref_mut.ensures.len))
+          c.find_next.ensures.moves events works,
+    ))
 
 pub returns-clause-asks : goal.returns-clause-asks
 returns-clause-asks c =
@@ -54,7 +56,7 @@ returns-clause-first c = λ d events s.
     let f = c.find_next.ensures in
     let same = take_at c.find_next.new.held _ m.held.len (f.moves.size ∙ c.deref_mut.ensures.len) in
     subst (λ (e : Config). FindsWanted e events c.find_next.result) s.0
-    (finds_wanted c.groups_law.ensures.step m.plan.now c.find_next.new.gateway c.find_next.new.held events
-    c.find_next.result
-    c.rules_law.ensures.plan.rules (ap (λ (s : Status). s.plps) f.moves.status ∙ m.plps)
-    (subst (λ (h : List (Option (List ℕ))). Works m.plan.now c.find_next.new.gateway h events) same s.1) f.finds)
+    (finds_wanted c.groups_law.ensures.step c.rules_law.ensures.plan.rules
+    (ap (λ (s : Status). s.plps) f.moves.status ∙ m.plps)
+    (subst (λ (h : List (Option (List ℕ))). Works m.plan.now c.find_next.new.gateway h events) same s.1)
+    c.find_next.result f.finds)

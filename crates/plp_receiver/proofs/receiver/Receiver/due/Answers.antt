@@ -2,15 +2,15 @@ use Rattle.std.proofs.Common.{length}
 use Rattle.plp_receiver.specs.SlotEpochs.{readback}
 use Rattle.plp_receiver.specs.Epochs.{slot_rule}
 use Rattle.plp_receiver.specs.StandsFor.{ReceiverStandsFor, IsFresh}
-use Rattle.plp_receiver.proofs.StandsLemmas.{due_is, given_back}
+use Rattle.plp_receiver.proofs.StandsLemmas.{packets_are, given_back}
 use Rattle.plp_receiver.proofs.receiver.Receiver.due.Goals as goal
 
 pub returns-clause-answer : goal.returns-clause-answer
 unfolding ReceiverStandsFor
 returns-clause-answer c = λ first views released packets s b.
     let v = c.args.self.now in
-    due_is c.readback_law.ensures.once v.network v.plp v.slots v.held first views released packets c.due.result s b
-    c.due.ensures.answer
+    rw (packets_are c.readback_law.ensures.once v.network v.plp v.slots v.held first views released packets s b) at
+    (c.due.ensures.answer (slot_rule v.network v.plp) first (length views) s.told released s.stands)
 
 pub returns-clause-some : goal.returns-clause-some
 unfolding ReceiverStandsFor

@@ -1,7 +1,7 @@
 use Rattle.std.proofs.Common.{◌∙◌, ap, sym}
 use Rattle.plp_config.specs.Plps.{plp_at}
 use Rattle.plp_config.specs.declared.config.Config.{Config}
-use Rattle.plp_receiver.proofs.HeldLemmas.{epoch_told, epoch_lost}
+use Rattle.plp_receiver.proofs.HeldLemmas.{epoch_told}
 use Rattle.plp_receiver.proofs.receiver.Receiver.end_epoch.Goals as goal
 
 pub returns-then-is_there-clause-ends : goal.returns-then-is_there-clause-ends
@@ -11,11 +11,4 @@ returns-then-is_there-clause-ends c = λ parts b h.
     (sym c.is_there.ensures ∙ c.if-is_there.true)
     (c.deletes-deletes.ensures ∙ ap (λ (d : Config). (plp_at d.plps v.plp).delete) c.plan.ensures)
     c.take_epoch.ensures.takes
-    parts b h
-
-pub returns-else-is_there-clause-ends : goal.returns-else-is_there-clause-ends
-returns-else-is_there-clause-ends c = λ parts b h.
-    let v = c.args.self.now in
-    epoch_lost v.network v.plp v.held v.slots c.lose.new.self (sym c.is_there.ensures ∙ c.if-is_there.false)
-    c.lose.ensures.stands
     parts b h

@@ -1,5 +1,7 @@
+use Rattle.std.proofs.Common.{length}
+use Rattle.plp_receiver.specs.Epochs.{slot_rule}
 use Rattle.plp_receiver.specs.StandsFor.{ReceiverStandsFor, IsFresh}
-use Rattle.plp_receiver.proofs.StandsLemmas.{released_or_not, packet_is, none_is, still_fresh}
+use Rattle.plp_receiver.proofs.StandsLemmas.{released_or_not, packets_are, still_fresh}
 use Rattle.plp_receiver.proofs.receiver.Receiver.release.Goals as goal
 
 pub returns-clause-stands : goal.returns-clause-stands
@@ -13,16 +15,15 @@ pub returns-clause-answer : goal.returns-clause-answer
 unfolding ReceiverStandsFor
 returns-clause-answer c = λ e first views released packets s b.
     let v = c.args.self.now in
-    packet_is c.readback_law.ensures.once v.network v.plp v.slots v.held first views released packets
-    c.release.new.out s b
-    (c.release.ensures.answer e)
+    rw (packets_are c.readback_law.ensures.once v.network v.plp v.slots v.held first views released packets s b) at
+    (c.release.ensures.answer e (slot_rule v.network v.plp) first (length views) s.told released s.stands)
 
 pub returns-clause-none : goal.returns-clause-none
 unfolding ReceiverStandsFor
 returns-clause-none c = λ e first views released packets s b.
     let v = c.args.self.now in
-    none_is c.readback_law.ensures.once v.network v.plp v.slots v.held first views released packets s b
-    (c.release.ensures.none e)
+    rw (packets_are c.readback_law.ensures.once v.network v.plp v.slots v.held first views released packets s b) at
+    (c.release.ensures.none e (slot_rule v.network v.plp) first (length views) s.told released s.stands)
 
 pub returns-clause-fresh : goal.returns-clause-fresh
 unfolding IsFresh

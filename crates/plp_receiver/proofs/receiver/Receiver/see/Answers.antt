@@ -2,13 +2,7 @@ use Rattle.std.proofs.Common.{subst, sym}
 use Rattle.site_frame.specs.declared.reading.RecordView.{RecordView}
 use Rattle.plp_receiver.specs.Epochs.{part_of}
 use Rattle.plp_receiver.specs.Holds.{Sees}
-use Rattle.plp_receiver.proofs.HeldLemmas.{muted_seen}
 use Rattle.plp_receiver.proofs.receiver.Receiver.see.Goals as goal
-
-pub returns-in-Muted-clause-sees : goal.returns-in-Muted-clause-sees
-returns-in-Muted-clause-sees c =
-    muted_seen c.args.self.now.network c.args.self.now.plp c.args.self.now.slots.frame c.args.view.now c.in-Muted.moment
-    c.args.self.now.held c.lose.new.self c.in-Muted.is c.lose.ensures.lost
 
 pub returns-in-Frame-clause-sees : goal.returns-in-Frame-clause-sees
 returns-in-Frame-clause-sees c =

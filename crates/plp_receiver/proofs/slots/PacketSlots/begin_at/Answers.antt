@@ -3,7 +3,7 @@ use Rattle.plp_receiver.specs.Window.{Status, Reaches}
 use Rattle.plp_receiver.specs.Times.{due_after}
 use Rattle.plp_receiver.specs.SlotsStandFor.{PacketSlotsStandsFor, IsFresh}
 use Rattle.plp_receiver.specs.declared.slot_rule.SlotRule.{SlotRule}
-use Rattle.plp_receiver.proofs.SlotsStandLemmas.{begins, first_range, begun_status}
+use Rattle.plp_receiver.proofs.SlotsStandLemmas.{begins, first_range}
 use Rattle.plp_receiver.proofs.slots.PacketSlots.begin_at.Goals as goal
 
 pub returns-clause-stands : goal.returns-clause-stands
@@ -23,8 +23,3 @@ invariant_of-self c =
       known = ap (λ (s : Status). s.due_end) c.begin.ensures
           ∙ ap (λ (q : SlotRule). due_after q c.args.first) (sym rule);
     }
-
-pub returns-clause-status : goal.returns-clause-status
-returns-clause-status c =
-    let p = c.args.self.now in
-    begun_status p.window c.begin.new.self c.args.first p.in_frame c.begin.ensures

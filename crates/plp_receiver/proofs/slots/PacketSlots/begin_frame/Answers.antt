@@ -1,7 +1,6 @@
-use Rattle.std.proofs.Common.{true, ap, subst}
+use Rattle.std.proofs.Common.{subst}
 use Rattle.plp_receiver.specs.Sound.{IsSound}
-use Rattle.plp_receiver.specs.SlotsStandFor.{PacketSlotsStandsFor, StandsWithin, status_at}
-use Rattle.plp_receiver.specs.Window.{Status}
+use Rattle.plp_receiver.specs.SlotsStandFor.{PacketSlotsStandsFor, StandsWithin}
 use Rattle.plp_receiver.proofs.SlotsStandLemmas.{enters, low_at}
 use Rattle.plp_receiver.proofs.slots.PacketSlots.begin_frame.Goals as goal
 
@@ -14,6 +13,3 @@ returns-clause-stands c = λ r first count epochs released h.
     p.assembler p.window c.enter.new.self h
     (low_at p.window.rule r p.in_frame p.frame p.window.end h.both.rule c.requires.outside p.reached)
     c.enter.ensures.status c.enter.ensures.order
-
-pub returns-clause-status : goal.returns-clause-status
-returns-clause-status c = ap (λ (s : Status). status_at s c.args.self.now.frame true) c.enter.ensures.status

@@ -6,7 +6,7 @@ use Rattle.plp_receiver.proofs.slots.PacketSlots.held.Goals as goal
 pub returns-clause-answer : goal.returns-clause-answer
 unfolding PacketSlotsStandsFor
 returns-clause-answer c = λ r first count epochs released h. c.held.ensures.value
-    ∙ held_is c.args.self.now.assembler c.args.self.now.window c.args.self.now.frame r first count epochs released h
+    ∙ held_is h
 
 pub returns-clause-fresh : goal.returns-clause-fresh
 unfolding IsFresh

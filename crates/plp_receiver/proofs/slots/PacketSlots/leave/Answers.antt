@@ -2,7 +2,7 @@ use Rattle.std.proofs.Common.{◌∙◌, ◌+◌, ap, sym}
 use Rattle.plp_receiver.specs.Window.{Status}
 use Rattle.plp_receiver.specs.Times.{due_after}
 use Rattle.plp_receiver.specs.declared.slot_rule.SlotRule.{SlotRule}
-use Rattle.plp_receiver.proofs.SlotsStandLemmas.{left_range, left_status}
+use Rattle.plp_receiver.proofs.SlotsStandLemmas.{left_range}
 use Rattle.plp_receiver.proofs.slots.PacketSlots.leave.Goals as goal
 
 pub invariant_of-self : goal.invariant_of-self
@@ -17,8 +17,3 @@ invariant_of-self c =
       known = ap (λ (s : Status). s.due_end) c.leave.ensures
           ∙ ap (λ (q : SlotRule). due_after q (p.frame + 1)) (sym rule);
     }
-
-pub returns-clause-status : goal.returns-clause-status
-returns-clause-status c =
-    let p = c.args.self.now in
-    left_status p.window c.leave.new.self p.frame c.leave.ensures

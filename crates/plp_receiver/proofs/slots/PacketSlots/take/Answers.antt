@@ -5,7 +5,7 @@ use Rattle.plp_receiver.specs.Strings.{Item, block_items}
 use Rattle.plp_receiver.specs.Times.{epoch_of}
 use Rattle.plp_receiver.specs.SlotsStandFor.{StandsWithin, blocks_items}
 use Rattle.plp_receiver.specs.declared.slot_rule.SlotRule.{SlotRule}
-use Rattle.plp_receiver.proofs.SlotsStandLemmas.{takes, times_status}
+use Rattle.plp_receiver.proofs.SlotsStandLemmas.{takes}
 use Rattle.plp_receiver.proofs.slots.PacketSlots.take.Goals as goal
 
 pub returns-clause-stands : goal.returns-clause-stands
@@ -21,8 +21,3 @@ returns-clause-stands c = λ r first count epochs blocks released h.
     c.take_block.new.window)
     (c.epoch_of-epoch.ensures.value ∙ ap (λ (q : SlotRule). epoch_of q p.frame) h.both.rule)
     (c.take_block.ensures.both r z h.both))
-
-pub returns-clause-status : goal.returns-clause-status
-returns-clause-status c =
-    let p = c.args.self.now in
-    times_status p.window c.take_block.new.window p.frame p.in_frame c.take_block.ensures.times

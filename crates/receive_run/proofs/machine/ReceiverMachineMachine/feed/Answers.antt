@@ -23,9 +23,6 @@ pub invariant_of-self : goal.invariant_of-self
 invariant_of-self c = let m = c.args.self.now in
     record { network = m.network; place = m.place; inside = m.inside; room = c.feed-count.ensures.room m.room }
 
-pub see-requires-clause-whole : goal.see-requires-clause-whole
-see-requires-clause-whole c = c.is_whole.ensures.0 c.if-is_whole.true
-
 pub see-requires-clause-ready : goal.see-requires-clause-ready
 see-requires-clause-ready c =
     is_ready c.args.self.now _ _ _ c.requires.room (enough c.args.self.now _ _ c.requires.wanted).0.idle

@@ -1,4 +1,4 @@
-use Rattle.std.proofs.Common.{refl, arith}
+use Rattle.std.proofs.Common.{refl}
 use Rattle.std.proofs.lemmas.List.{take_at}
 use Rattle.ts_packet.specs.declared.sizes.TheConstants.{SIZE}
 use Rattle.plp_receiver.specs.JointStandsFor.{network_of, plp_of, joins_of, due_of}
@@ -24,9 +24,6 @@ returns-clause-becomes c = λ start events came.
     c.times_law.ensures.slot
     (joins_of m.receiver) (network_of m.receiver) (plp_of m.receiver) first views packets
     (known_plan m c.rules_law.ensures.plan).rules (known_inside m) a.small back) came
-
-pub returns-clause-left : goal.returns-clause-left
-returns-clause-left c = let sum = c.give_packet.ensures.gives.due in omega (arith, sum)
 
 pub returns-clause-reach : goal.returns-clause-reach
 returns-clause-reach c = λ other.

@@ -1,7 +1,6 @@
 use Rattle.std.proofs.Common.{ap}
-use Rattle.std.proofs.Math.Logic.{∥∥₁_map}
 use Rattle.gateway_core.specs.InputSoFar.{at_end}
-use Rattle.region_swap.specs.RegionFed.{HasTold, early_in}
+use Rattle.region_swap.specs.RegionFed.{early_in}
 use Rattle.gateway_core.specs.IsFed.{Bounds}
 use Rattle.region_swap.proofs.RegionLemmas.{serves_on, supplies_end, same_lists}
 use Rattle.region_swap.proofs.region.Region.end.Goals as goal
@@ -14,14 +13,5 @@ returns-clause-stands c = λ t h.
     (c.end.ensures.fed p c.args.list t (early_in r.sends r.blocks c.args.list)) h
 
 pub returns-clause-of : goal.returns-clause-of
-returns-clause-of c =
-    let r = c.args.self.now in
-    let p = c.args.plan.now in
-    serves_on r.input c.end.new.self r.blocks r.blocks r.sends r.sends r.next r.next r.count r.count p c.args.list
-    (same_lists r.blocks c.args.list) (λ short. short) (ap (λ (b : Bounds). b.most) c.end.ensures.bounds)
-    c.requires.of.few
-    (∥∥₁_map c.requires.of.told (λ (h : HasTold r.input r.blocks r.sends r.next r.count p c.args.list). record {
-      told = at_end h.told;
-      stands = returns-clause-stands c h.told h.stands;
-    }))
-    c.requires.of
+returns-clause-of c = serves_on (same_lists _ _) (λ short. short) (ap (λ (b : Bounds). b.most) c.end.ensures.bounds)
+    c.requires.of.few at_end (returns-clause-stands c) c.requires.of

@@ -1,9 +1,8 @@
-use Rattle.std.proofs.Common.{◌≡◌, ◌+◌, ◌*◌, ℕ, Bool, false, ap, sym, subst, ◌∙◌}
-use Rattle.std.proofs.Math.Logic.{∥∥₁_map}
+use Rattle.std.proofs.Common.{◌≡◌, ◌+◌, ◌*◌, ℕ, false, ap, sym, ◌∙◌}
 use Rattle.plp_config.specs.InterleavingFrames.{is_first}
 use Rattle.plp_config.specs.SlotTime.{slots_by}
 use Rattle.gateway_core.specs.InputSoFar.{in_next}
-use Rattle.region_swap.specs.RegionFed.{HasTold, Supplies, Gives, early_in}
+use Rattle.region_swap.specs.RegionFed.{early_in}
 use Rattle.gateway_core.specs.IsFed.{Bounds}
 use Rattle.region_swap.proofs.RegionLemmas.{serves_on, same_lists, supplies_pass, gives_pass}
 use Rattle.region_swap.proofs.region.Region.pass.Goals as goal
@@ -27,20 +26,9 @@ returns-clause-gives c = λ t h input more.
     let p = c.args.plan.now in
     let later : is_first p c.args.list t.frame ≡ false = ap (is_first p c.args.list) (sym h.next_is)
     ∙ c.requires.later in
-    subst (λ (b : Bool). Gives r.blocks b r.count p c.args.list t.frame input) (sym c.requires.free)
-    (gives_pass r.input r.blocks r.next r.count p c.args.list t input later
-    (subst (λ (b : Bool). Supplies r.input r.blocks b r.next r.count p c.args.list t) c.requires.free h) more)
+    rw c.requires.free
+    (gives_pass r.input r.blocks r.next r.count p c.args.list t input later (rw c.requires.free at h) more)
 
 pub returns-clause-of : goal.returns-clause-of
-returns-clause-of c =
-    let r = c.args.self.now in
-    let p = c.args.plan.now in
-    serves_on r.input c.pass.new.self r.blocks r.blocks r.sends r.sends r.next (r.next + 1) r.count r.count
-    p c.args.list
-    (same_lists r.blocks c.args.list) (λ short. short) (ap (λ (b : Bounds). b.most) c.pass.ensures.bounds)
-    c.requires.of.few
-    (∥∥₁_map c.requires.of.told (λ (h : HasTold r.input r.blocks r.sends r.next r.count p c.args.list). record {
-      told = in_next h.told;
-      stands = returns-clause-stands c h.told h.stands;
-    }))
-    c.requires.of
+returns-clause-of c = serves_on (same_lists _ _) (λ short. short) (ap (λ (b : Bounds). b.most) c.pass.ensures.bounds)
+    c.requires.of.few in_next (returns-clause-stands c) c.requires.of

@@ -1,18 +1,16 @@
-use Rattle.std.proofs.Common.{◌≤◌, ◌+◌, ◌*◌, ℕ, List, [], length, refl, ap, sym, subst, ◌∙◌, arith}
+use Rattle.std.proofs.Common.{ℕ, List, [], length, refl, ap, sym, subst, ◌∙◌, arith}
 use Rattle.std.proofs.Math.Bridge.{le_prop}
 use Rattle.std.proofs.Math.Logic.{∥∥₁_elim}
 use Rattle.std.specs.Prelude.{slice_set}
 use mathlib.Core.Bool.{Bool-set}
 use Rattle.plp_config.specs.declared.config.Config.{Config}
-use Rattle.frame_writer.specs.Flowing.{bytes_bound, packet_bound}
-use Rattle.stream_laws.specs.Remade.{NumberedView, view_bodies}
+use Rattle.stream_laws.specs.Remade.{NumberedView}
 use Rattle.region_swap.specs.Held.{IsHeld, HasRecord}
 use Rattle.region_swap.specs.Left.{left_by, own_list}
 use Rattle.region_swap.specs.StandsFor.{SwapperStandsFor}
-use Rattle.region_swap.specs.Swapped.{swapped_view}
 use Rattle.region_swap.specs.declared.place.SwapPlace.{SwapPlace}
 use Rattle.region_swap.proofs.LeftLemmas.{can_build}
-use Rattle.region_swap.proofs.SwapLemmas.{swaps_begin, begin_made, to_told}
+use Rattle.region_swap.proofs.SwapLemmas.{swaps_begin, begin_made}
 use Rattle.region_swap.proofs.swapper.Swapper.frame.Goals as goal
 
 pub write-requires-clause-tells : goal.write-requires-clause-tells
@@ -85,8 +83,4 @@ returns-clause-more c = λ config plp t frames given view held h input more.
     h.2 more in
     let bound = c.begin.ensures.feeds.bound in
     let bodies = ap length made in
-    to_told (λ (k : Config) (j : ℕ). bytes_bound c.begin.new.self.outlet (left_by p c.begin.new.source.place
-    f.pre f.conf bits lists)
-    ≤ bytes_bound s.flow.outlet [] + packet_bound * length
-    (view_bodies k s.number (swapped_view k j input s.number view)))
-    p config s.list plp h.0 h.1 (omega (arith, bound, bodies))
+    rw (sym h.0, sym h.1) (omega (arith, bound, bodies))

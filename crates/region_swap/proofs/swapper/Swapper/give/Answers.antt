@@ -1,10 +1,6 @@
-use Rattle.std.proofs.Common.{◌≡◌, ◌≤◌, ◌+◌, ℕ, List, ◌++◌, drop, length, take, ap, sym, subst, ◌∙◌, arith}
+use Rattle.std.proofs.Common.{◌≡◌, ◌+◌, ℕ, List, length, take, ap, sym, subst, ◌∙◌}
 use Rattle.std.specs.Prelude.{slice_set}
-use Rattle.plp_config.specs.declared.config.Config.{Config}
 use Rattle.t2mi_packet.specs.declared.packet.Body.{Body}
-use Rattle.t2mi_stream.specs.Complete.{complete_units}
-use Rattle.t2mi_stream.specs.Pipe.{pipe}
-use Rattle.terms.specs.Lists.{IsPrefix}
 use Rattle.frame_writer.specs.Flowing.{Flows}
 use Rattle.stream_laws.specs.Remade.{remade_bodies, remade_packets}
 use Rattle.region_swap.specs.Left.{left_by, own_list}
@@ -12,31 +8,8 @@ use Rattle.region_swap.specs.StandsFor.{SwapperStandsFor, left_in}
 use Rattle.region_swap.specs.Swapped.{swapped}
 use Rattle.frame_writer.specs.Units.{GivesAll}
 use Rattle.region_swap.specs.declared.place.SwapPlace.{SwapPlace}
-use Rattle.region_swap.proofs.LeftLemmas.{can_build, over_left}
-use Rattle.region_swap.proofs.SwapLemmas.{swaps_flow, to_told}
+use Rattle.region_swap.proofs.SwapLemmas.{swaps_flow}
 use Rattle.region_swap.proofs.swapper.Swapper.give.Goals as goal
-
-pub give-len-requires-clause-of : goal.give-len-requires-clause-of
-give-len-requires-clause-of c =
-    let s = c.args.self.now in
-    let of = s.parts.region_is in
-    let place = c.new-source.ensures.place in
-    let number = ap (λ (p : SwapPlace). p.number) place in
-    let plp = ap (λ (p : SwapPlace). p.plp) place in
-    let early = s.parts.last in
-    let inside = s.parts.inside in
-    can_build s.plan.now c.new-source.result _ (omega (arith, number, early)) (omega (arith, plp, inside))
-    c.requires.can
-    s.dynamic.short of.place of.lists of.short c.new-source.ensures.walks
-
-pub give-len-requires-clause-ends : goal.give-len-requires-clause-ends
-give-len-requires-clause-ends c = λ dry.
-    ap (λ (p : SwapPlace). p.step) c.new-source.ensures.place ∙ c.args.self.now.parts.over dry
-
-pub give-len-requires-clause-over : goal.give-len-requires-clause-over
-give-len-requires-clause-over c = λ dry.
-    over_left _ c.new-source.result.place _ _ _ _
-    (ap (λ (p : SwapPlace). p.step) c.new-source.ensures.place ∙ c.args.self.now.parts.over dry)
 
 pub returns-clause-gives : goal.returns-clause-gives
 unfolding SwapperStandsFor remade_packets
@@ -69,26 +42,17 @@ returns-clause-gives c =
             (g.gives.flows all given x)) h.2,
       );
       next = λ config plp t frames given h input cont more over.
-          to_told (λ (k : Config) (j : ℕ). IsPrefix g.units
-          (drop given (pipe k.pid (remade_packets k (swapped k j input frames) ++ more))))
-          p config s.list plp h.0 h.1
+          rw (sym h.0, sym h.1)
           (g.gives.next (remade_bodies p (swapped p s.list input frames)) given (h.2.flows input cont) more over);
       complete = λ going some config plp t frames given h input cont.
-          to_told (λ (k : Config) (j : ℕ). given + length g.units ≤ length
-          (complete_units k.pid (remade_packets k (swapped k j input frames))))
-          p config s.list plp h.0 h.1
+          rw (sym h.0, sym h.1)
           (g.gives.complete going some (remade_bodies p (swapped p s.list input frames)) given (h.2.flows input cont));
       some = g.some;
       all = λ off going config plp t frames given h input cont.
-          to_told (λ (k : Config) (j : ℕ). given + length g.units ≡ length
-          (complete_units k.pid (remade_packets k (swapped k j input frames))))
-          p config s.list plp h.0 h.1
+          rw (sym h.0, sym h.1)
           ((g.caught off).all (g.gives.finished ∙ going) (remade_bodies p (swapped p s.list input frames))
           (given + length g.units)
           (g.gives.flows (remade_bodies p (swapped p s.list input frames)) given (h.2.flows input cont)));
       spent = λ off. (g.caught off).spent;
       less = g.gives.less;
     }
-
-pub returns-clause-idle : goal.returns-clause-idle
-returns-clause-idle c = λ off. (c.give-len.ensures.gives.caught off).idle

@@ -3,12 +3,6 @@ use Rattle.gateway_core.specs.IsFed.{wanted}
 use Rattle.region_swap.proofs.SwapLemmas.{not_begun, swaps_offer}
 use Rattle.region_swap.proofs.swapper.Swapper.offer.Goals as goal
 
-pub offer-requires : goal.offer-requires
-offer-requires c =
-    let s = c.args.self.now in
-    let b = not_begun s.begun (wanted s.region.input) c.requires in
-    record { of = s.parts.region_is; wanted = b.some; free = s.parts.free b.off }
-
 pub returns-clause-stands : goal.returns-clause-stands
 unfolding SwapperStandsFor
 returns-clause-stands c = λ config plp t left frames given h.

@@ -1,12 +1,11 @@
-use Rattle.std.proofs.Common.{◌≡◌, ◌∙◌, [], List, ℕ, Some, length, refl, ap, sym, append-nil}
+use Rattle.std.proofs.Common.{◌∙◌, [], List, ℕ, refl, ap, sym, append-nil}
 use Rattle.std.specs.Prelude.{slice_get}
-use Rattle.plp_config.specs.declared.config.Config.{Config}
 use Rattle.t2mi_stream.specs.Pipe.{pipe}
 use Rattle.stream_laws.specs.Remade.{remade_bodies, remade_packets}
 use Rattle.region_swap.specs.Left.{number_of}
 use Rattle.region_swap.specs.StandsFor.{SwapperStandsFor}
 use Rattle.region_swap.specs.Swapped.{swapped}
-use Rattle.region_swap.proofs.SwapLemmas.{swaps_flow, to_told}
+use Rattle.region_swap.proofs.SwapLemmas.{swaps_flow}
 use Rattle.region_swap.proofs.swapper.Swapper.rest.Goals as goal
 
 pub returns-clause-unit : goal.returns-clause-unit
@@ -14,9 +13,7 @@ unfolding SwapperStandsFor remade_packets
 returns-clause-unit c = λ on config plp t frames given h input more.
     let s = c.args.self.now in
     let p = s.plan.now in
-    to_told (λ (k : Config) (j : ℕ). slice_get (pipe k.pid (remade_packets k (swapped k j input frames)))
-    given ≡ Some c.rest.new.out)
-    p config s.list plp h.0 h.1
+    rw (sym h.0, sym h.1)
     (ap (λ (l : List (List ℕ)). slice_get (pipe p.pid l) given)
     (sym (append-nil (remade_packets p (swapped p s.list input frames))))
     ∙ c.rest.ensures.unit on p (number_of s.place) (remade_bodies p (swapped p s.list input frames))
@@ -39,8 +36,7 @@ unfolding SwapperStandsFor remade_packets
 returns-clause-none c = λ off config plp t frames given h input more.
     let s = c.args.self.now in
     let p = s.plan.now in
-    to_told (λ (k : Config) (j : ℕ). length (pipe k.pid (remade_packets k (swapped k j input frames))) ≡ given)
-    p config s.list plp h.0 h.1
+    rw (sym h.0, sym h.1)
     (c.rest.ensures.none off c.requires.finished p (number_of s.place) (remade_bodies p (swapped p s.list input frames))
     given
     (h.2.flows input more))

@@ -1,11 +1,10 @@
-use Rattle.std.proofs.Common.{ℕ, ◌+◌, List, [], ◌∷◌, ◌++◌, take, slice_index_or, inl, refl, ap, sym, ◌∙◌, arith}
+use Rattle.std.proofs.Common.{ℕ, List, [], ◌∷◌, ◌++◌, take, slice_index_or, inl, ap, sym, ◌∙◌, arith}
 use Rattle.std.proofs.lemmas.List.{length-take-le}
 use Rattle.ts_packet.specs.declared.sizes.TheConstants.{SIZE}
 use Rattle.file_run.specs.Events.{Fed}
 use Rattle.ts_packet.proofs.FileLemmas.{no_sync, some_taken}
-use Rattle.swap_run.specs.declared.phase.Phase.TheVariants as phase
 use Rattle.swap_run.proofs.ShownLemmas.{shown_drain, shown_refuse, can_drains}
-use Rattle.swap_run.proofs.NextLemmas.{fed_same, zero_one, reach_on, drained_on, few_unsent, reach_refused}
+use Rattle.swap_run.proofs.NextLemmas.{fed_same, zero_one, few_unsent}
 use Rattle.swap_run.proofs.machine.SwapMachine.drain_packet.Goals as goal
 
 pub returns-then-as_array-ne-SYNC-clause-shown : goal.returns-then-as_array-ne-SYNC-clause-shown
@@ -20,11 +19,6 @@ returns-then-as_array-ne-SYNC-clause-shown c = λ k plp events s.
     (some_taken _ c.requires.long)
     (no_sync p (λ e. c.if-as_array-ne-SYNC.true (first ∙ e))) (inl (λ e. c.if-as_array-ne-SYNC.true (first ∙ e))))
 
-pub returns-then-as_array-ne-SYNC-clause-reach : goal.returns-then-as_array-ne-SYNC-clause-reach
-returns-then-as_array-ne-SYNC-clause-reach c = λ other.
-    let m = c.args.self.now in
-    rw c.refuse.ensures (reach_refused m phase.Drains c.requires.drains refl other)
-
 pub returns-clause-shown : goal.returns-clause-shown
 returns-clause-shown c = λ k plp events s.
     let p = take SIZE c.args.bytes.now in
@@ -35,13 +29,6 @@ returns-clause-shown c = λ k plp events s.
     (length-take-le SIZE c.args.bytes.now c.requires.long)
     (let a = c.as_array.ensures.bytes in let b = c.front_of-packet.ensures in let f = c.if-as_array-ne-SYNC.false in
     ap (λ (l : List ℕ). slice_index_or l 0 0) (sym (a ∙ b)) ∙ f)
-
-pub returns-clause-reach : goal.returns-clause-reach
-returns-clause-reach c =
-    let m = c.args.self.now in
-    reach_on m (record m { taken = m.taken + 1; ran = record m.ran { unsent = m.ran.unsent + 1 } }) (omega arith)
-    (omega arith)
-    (drained_on m.draining m.ran.unsent (m.ran.unsent + 1) (omega arith))
 
 pub overflow_add-self-2 : goal.overflow_add-self-2
 overflow_add-self-2 c =

@@ -1,9 +1,8 @@
-use Rattle.std.proofs.Common.{[], ◌∷◌, ◌++◌, inr, true, ◌∙◌, arith, refl}
+use Rattle.std.proofs.Common.{[], ◌∷◌, ◌++◌, inr, ◌∙◌, arith}
 use Rattle.ts_packet.proofs.FileLemmas.{no_short}
 use Rattle.file_run.specs.Events.{Ended, fed}
-use Rattle.swap_run.specs.declared.phase.Phase.TheVariants as phase
 use Rattle.swap_run.proofs.ShownLemmas.{shown_over, shown_refuse, can_drains}
-use Rattle.swap_run.proofs.NextLemmas.{ended_same, zero_one, reach_on, some_length, nothing_more, reach_refused}
+use Rattle.swap_run.proofs.NextLemmas.{ended_same, zero_one, some_length, nothing_more}
 use Rattle.swap_run.proofs.machine.SwapMachine.end_rest.Goals as goal
 
 pub returns-then-rest-gt0-clause-shown : goal.returns-then-rest-gt0-clause-shown
@@ -17,11 +16,6 @@ returns-then-rest-gt0-clause-shown c = λ k plp events s.
     (some_length p (let l = c.if-rest-gt0.true in omega (arith, l)))
     (no_short p c.requires.short) (inr (tell.ended 1 p events).ended))
 
-pub returns-then-rest-gt0-clause-reach : goal.returns-then-rest-gt0-clause-reach
-returns-then-rest-gt0-clause-reach c = λ other.
-    let m = c.args.self.now in
-    rw c.refuse.ensures (reach_refused m phase.Drains c.requires.drains refl other)
-
 pub returns-clause-shown : goal.returns-clause-shown
 returns-clause-shown c = λ k plp events s.
     let p = c.args.bytes.now in
@@ -30,8 +24,3 @@ returns-clause-shown c = λ k plp events s.
     (ended_same tell 1 0 p events zero_one)
     ((tell.ended 1 p events).here ∙ nothing_more (fed 1 events) p (let l = c.if-rest-gt0.false in omega (arith, l)))
     (tell.ended 1 p events).ended (tell.ended 1 p events).gave
-
-pub returns-clause-reach : goal.returns-clause-reach
-returns-clause-reach c =
-    let m = c.args.self.now in
-    reach_on m (record m { ended = true }) (omega arith) (omega arith) (omega arith)

@@ -1,14 +1,12 @@
-use Rattle.std.proofs.Common.{ℕ, ◌+◌, List, [], ◌∷◌, ◌++◌, ap, sym, subst, ◌∙◌, arith, append-nil}
+use Rattle.std.proofs.Common.{ℕ, ◌+◌, List, [], ◌∷◌, ◌++◌, sym, subst, ◌∙◌, arith, append-nil}
 use Rattle.std.proofs.lemmas.List.{take_all}
 use Rattle.ts_packet.specs.declared.sizes.TheConstants.{SIZE}
 use Rattle.file_run.specs.Events.{Gave, gave}
 use Rattle.feed_merge.proofs.BothCameLemmas.{less_of}
-use Rattle.region_swap.specs.StandsFor.{Status}
 use Rattle.swap_run.specs.Shown.{Shown, HasShown}
-use Rattle.swap_run.specs.Steps.{wanted_in}
 use Rattle.swap_run.specs.declared.phase.Phase.TheVariants as phase
 use Rattle.swap_run.proofs.GoLemmas.{shown_rest, shown_done, few_units}
-use Rattle.swap_run.proofs.NextLemmas.{left_by, reach_on, slots_in, slots_status, rests_over, rests_fed, gave_same}
+use Rattle.swap_run.proofs.NextLemmas.{finished_at, rests_fed, gave_same}
 use Rattle.swap_run.proofs.machine.SwapMachine.give_rest.Goals as goal
 
 pub returns-then-rest-clause-shown : goal.returns-then-rest-clause-shown
@@ -26,22 +24,6 @@ returns-then-rest-clause-shown c = λ k plp events s.
     (gave_same tell 1 unit events)
     (tell.given unit events).gave (n.unit on) (n.stands on) n.fed (n.less on) n.status)
 
-pub returns-then-rest-clause-left : goal.returns-then-rest-clause-left
-returns-then-rest-clause-left c =
-    let m = c.args.self.now in
-    let was = left_by m phase.Rests c.requires.rests in
-    let now = left_by (record m { swapper = c.rest.new.self; ran = record m.ran { units = m.ran.units + 1 } })
-    phase.Rests c.requires.rests in
-    let less = c.rest.ensures.less c.if-rest.true in
-    omega (arith, was, now, less)
-
-pub returns-then-rest-clause-reach : goal.returns-then-rest-clause-reach
-returns-then-rest-clause-reach c =
-    let m = c.args.self.now in
-    reach_on m (record m { swapper = c.rest.new.self; ran = record m.ran { units = m.ran.units + 1 } }) (omega arith)
-    (slots_status m c.rest.new.self (wanted_in m.phase m.number) (ap (λ (x : Status). x.plp) c.rest.ensures.status))
-    (omega arith)
-
 pub returns-clause-shown : goal.returns-clause-shown
 returns-clause-shown c = λ k plp events s.
     let n = c.rest.ensures in
@@ -52,21 +34,8 @@ returns-clause-shown c = λ k plp events s.
     (gave_same tell 1 [] events) ((tell.given [] events).gave ∙ append-nil (gave events)) (n.none off)
     (n.kept off) n.status
 
-pub returns-clause-left : goal.returns-clause-left
-returns-clause-left c =
-    let was = left_by c.args.self.now phase.Rests c.requires.rests in
-    omega (arith, was)
-
-pub returns-clause-reach : goal.returns-clause-reach
-returns-clause-reach c =
-    let m = c.args.self.now in
-    let was = slots_in m phase.Rests c.requires.rests in
-    let same = slots_status m c.rest.new.self m.number (ap (λ (x : Status). x.plp) c.rest.ensures.status) in
-    reach_on m (record m { swapper = c.rest.new.self; phase = phase.Done }) (omega arith) (omega (arith, was, same))
-    (omega arith)
-
 pub rest-requires-clause-finished : goal.rest-requires-clause-finished
-rest-requires-clause-finished c = rests_over c.args.self.now c.requires.came c.requires.rests
+rest-requires-clause-finished c = finished_at c.args.self.now c.requires.came phase.Rests c.requires.rests
 
 pub rest-requires-clause-fed : goal.rest-requires-clause-fed
 rest-requires-clause-fed c = rests_fed c.args.self.now c.requires.came c.requires.rests

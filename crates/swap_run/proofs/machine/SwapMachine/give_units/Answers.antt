@@ -1,15 +1,14 @@
-use Rattle.std.proofs.Common.{ℕ, ◌+◌, [], ◌∷◌, ◌++◌, take, refl, ap, sym, subst, ◌∙◌, arith}
+use Rattle.std.proofs.Common.{ℕ, ◌+◌, [], ◌∷◌, ◌++◌, take, ap, sym, subst, ◌∙◌, arith}
 use Rattle.file_run.specs.Events.{Gave, fed, has_ended}
 use Rattle.feed_merge.proofs.BothCameLemmas.{less_of}
 use Rattle.region_swap.specs.StandsFor.{Status}
 use Rattle.swap_run.specs.Shown.{Shown, HasShown}
 use Rattle.swap_run.specs.declared.phase.Phase.TheVariants as phase
 use Rattle.swap_run.specs.declared.stop.SwapRan.{SwapRan}
-use Rattle.swap_run.specs.Steps.{wanted_in}
-use Rattle.swap_run.proofs.GoLemmas.{few_more, less_left, shown_full, shown_behind}
-use Rattle.swap_run.proofs.NextLemmas.{left_by, number_most, reach_on, drained_on, slots_behind, slots_status, frame_is}
-use Rattle.swap_run.proofs.NextLemmas.{units_begun, sent_in, units_early, units_whole, units_waits, units_at}
-use Rattle.swap_run.proofs.NextLemmas.{counted_units, gave_same, some_units}
+use Rattle.swap_run.proofs.GoLemmas.{few_more, shown_full, shown_behind}
+use Rattle.swap_run.proofs.NextLemmas.{number_most, frame_is}
+use Rattle.swap_run.proofs.NextLemmas.{begun_at, sent_in, units_early, units_whole, units_waits, units_at}
+use Rattle.swap_run.proofs.NextLemmas.{counted_units, gave_same}
 use Rattle.swap_run.proofs.machine.SwapMachine.give_units.Goals as goal
 
 pub frame-frame-requires : goal.frame-frame-requires
@@ -20,7 +19,7 @@ give-len-requires-clause-can c = sent_in c.args.self.now c.requires.came c.frame
     c.frame-frame.ensures.is.can
 
 pub give-len-requires-clause-begun : goal.give-len-requires-clause-begun
-give-len-requires-clause-begun c = units_begun c.args.self.now c.requires.came c.requires.units
+give-len-requires-clause-begun c = begun_at c.args.self.now c.requires.came phase.Units c.requires.units
 
 pub add_units-requires : goal.add_units-requires
 add_units-requires c =
@@ -47,9 +46,6 @@ skip-requires-clause-waits c = units_waits c.args.self.now c.requires.came c.req
 pub skip-requires-clause-early : goal.skip-requires-clause-early
 skip-requires-clause-early c = λ w is. units_at c.args.self.now c.requires.came c.requires.units w is
 
-pub pass-requires-clause-wanted : goal.pass-requires-clause-wanted
-pass-requires-clause-wanted c = c.give-len.ensures.wants
-
 pub pass-requires-clause-early : goal.pass-requires-clause-early
 pass-requires-clause-early c =
     let m = c.args.self.now in
@@ -57,9 +53,6 @@ pass-requires-clause-early c =
     let same = ap (λ (x : Status). x.frame) c.give-len.ensures.status in
     let early = units_early m c.requires.came c.requires.units in
     omega (arith, at, same, early)
-
-pub pass-requires-clause-given : goal.pass-requires-clause-given
-pass-requires-clause-given c = λ _. c.give-len.ensures.idle c.if-full.false
 
 pub returns-then-full-clause-shown : goal.returns-then-full-clause-shown
 returns-then-full-clause-shown c = λ k plp events s.
@@ -76,28 +69,6 @@ returns-then-full-clause-shown c = λ k plp events s.
     u.result.1 bytes u.ensures.gives
     u.ensures.status (events ++ Gave bytes ∷ []) (gave_same tell 0 bytes events) (gave_same tell 1 bytes events)
     (tell.given bytes events).gave)
-
-pub returns-then-full-clause-left : goal.returns-then-full-clause-left
-returns-then-full-clause-left c =
-    let m = c.args.self.now in
-    let u = c.give-len in
-    less_of _ _ c.requires.came (λ (h : HasShown m).
-    let less = less_left h.network h.plp h.events m h.shown c.requires.units c.frame-frame.result
-    c.frame-frame.ensures.is u.new.self u.result.1
-    _ u.ensures.gives u.ensures.status in
-    let some = some_units u.ensures.gives.units (u.ensures.gives.some c.if-full.true) in
-    let was = left_by m phase.Units c.requires.units in
-    let now = left_by (record m { swapper = u.new.self; ran = c.add_units.new.self }) phase.Units c.requires.units in
-    omega (arith, less, some, was, now))
-
-pub returns-then-full-clause-reach : goal.returns-then-full-clause-reach
-returns-then-full-clause-reach c =
-    let m = c.args.self.now in
-    let q = c.give-len.new.self in
-    reach_on m (record m { swapper = q; ran = c.add_units.new.self }) (omega arith)
-    (slots_status m q (wanted_in m.phase m.number) (ap (λ (x : Status). x.plp) c.give-len.ensures.status))
-    (drained_on m.draining m.ran.unsent c.add_units.new.self.unsent (let e = ap (λ (r : SwapRan). r.unsent)
-    c.add_units.ensures in omega (arith, e)))
 
 pub returns-clause-shown : goal.returns-clause-shown
 returns-clause-shown c = λ k plp events s.
@@ -125,27 +96,3 @@ returns-clause-shown c = λ k plp events s.
     c.skip.new.self c.pass.new.self c.if-full.false (u.ensures.idle c.if-full.false) c.skip.ensures.config
     (λ given st. c.skip.ensures.skips (fed 0 events) (has_ended 0 events) given st)
     (record { stands = p.stands; unit = p.unit; status = p.status }))
-
-pub returns-clause-left : goal.returns-clause-left
-returns-clause-left c =
-    let was = left_by c.args.self.now phase.Units c.requires.units in
-    let less = c.skip.ensures.left in
-    omega (arith, was, less)
-
-pub returns-clause-reach : goal.returns-clause-reach
-returns-clause-reach c =
-    let m = c.args.self.now in
-    let q = c.pass.new.self in
-    let f = c.skip.ensures.fed in
-    reach_on m (record m {
-      feed = c.skip.new.self;
-      swapper = q;
-      number = m.number + 1;
-      phase = phase.Records;
-      ran = c.add_units.new.self;
-    })
-    (omega (arith, f))
-    (slots_behind m q phase.Units c.requires.units refl
-    (ap (λ (x : Status). x.plp) c.pass.ensures.status ∙ ap (λ (x : Status). x.plp) c.give-len.ensures.status))
-    (drained_on m.draining m.ran.unsent c.add_units.new.self.unsent (let e = ap (λ (r : SwapRan). r.unsent)
-    c.add_units.ensures in omega (arith, e)))

@@ -1,4 +1,4 @@
-use Rattle.std.proofs.Common.{sym, ◌∙◌, subst}
+use Rattle.std.proofs.Common.{sym, subst}
 use Rattle.std.specs.Prelude.{IsSome}
 use Rattle.swap_run.proofs.NextLemmas.{packets_waits}
 use Rattle.swap_run.proofs.machine.SwapMachine.go_on.Goals as goal
@@ -6,9 +6,3 @@ use Rattle.swap_run.proofs.machine.SwapMachine.go_on.Goals as goal
 pub unwrap-waiting-requires : goal.unwrap-waiting-requires
 unwrap-waiting-requires c = subst IsSome (sym c.waiting.ensures) (packets_waits c.args.self.now c.requires.came
     c.requires.packets)
-
-pub pass_frame-requires-clause-waits : goal.pass_frame-requires-clause-waits
-pass_frame-requires-clause-waits c = sym c.waiting.ensures ∙ c.unwrap-waiting.ensures
-
-pub take_record-requires-clause-waits : goal.take_record-requires-clause-waits
-take_record-requires-clause-waits c = sym c.waiting.ensures ∙ c.unwrap-waiting.ensures

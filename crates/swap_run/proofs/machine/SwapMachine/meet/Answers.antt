@@ -1,36 +1,14 @@
 use Rattle.std.proofs.Common.{◌-◌, refl, arith}
 use Rattle.swap_run.specs.declared.phase.Phase.TheVariants as phase
-use Rattle.swap_run.specs.declared.stop.SwapStop.TheVariants.{TooManyFrames}
-use Rattle.swap_run.proofs.GoLemmas.{shown_met, shown_late}
-use Rattle.swap_run.proofs.NextLemmas.{left_by, reach_on, slots_in, slots_next}
+use Rattle.swap_run.proofs.GoLemmas.{shown_met}
+use Rattle.swap_run.proofs.NextLemmas.{reach_on, slots_in, slots_next}
 use Rattle.swap_run.proofs.machine.SwapMachine.meet.Goals as goal
-
-pub returns-then-waiting-ge-MOST_FRAMES-clause-shown : goal.returns-then-waiting-ge-MOST_FRAMES-clause-shown
-returns-then-waiting-ge-MOST_FRAMES-clause-shown c = λ k plp events s.
-    shown_late k plp events c.args.self.now s c.requires.records c.args.waiting c.requires.waits
-    c.if-waiting-ge-MOST_FRAMES.true
-
-pub returns-then-waiting-ge-MOST_FRAMES-clause-left : goal.returns-then-waiting-ge-MOST_FRAMES-clause-left
-returns-then-waiting-ge-MOST_FRAMES-clause-left c =
-    let was = left_by c.args.self.now phase.Records c.requires.records in
-    omega (arith, was)
-
-pub returns-then-waiting-ge-MOST_FRAMES-clause-reach : goal.returns-then-waiting-ge-MOST_FRAMES-clause-reach
-returns-then-waiting-ge-MOST_FRAMES-clause-reach c =
-    let m = c.args.self.now in
-    let was = slots_in m phase.Records c.requires.records in
-    reach_on m (record m { phase = phase.Stopped TooManyFrames }) (omega arith) (omega (arith, was)) (omega arith)
 
 pub returns-clause-shown : goal.returns-clause-shown
 returns-clause-shown c = λ k plp events s.
     shown_met k plp events c.args.self.now s c.due_records_law.ensures.follow c.slot_time_law.ensures.count_rises
     c.length_law.ensures.slot
     c.requires.records c.args.waiting c.requires.waits (let l = c.if-waiting-ge-MOST_FRAMES.false in omega (arith, l))
-
-pub returns-clause-left : goal.returns-clause-left
-returns-clause-left c =
-    let was = left_by c.args.self.now phase.Records c.requires.records in
-    omega (arith, was)
 
 pub returns-clause-reach : goal.returns-clause-reach
 returns-clause-reach c =

@@ -6,9 +6,6 @@ use Rattle.swap_run.proofs.WantLemmas.{none_complete, none_over, none_read, send
 use Rattle.swap_run.proofs.LiveLemmas.{live_caught}
 use Rattle.swap_run.proofs.machine.SwapMachine.open.Goals as goal
 
-pub returns-clause-place : goal.returns-clause-place
-returns-clause-place c = ap (λ (x : Status). x.plp) c.in_ok-swapper.ensures.status
-
 pub returns-clause-becomes : goal.returns-clause-becomes
 returns-clause-becomes c =
     let f = c.in_ok-feed.ensures in

@@ -1,33 +1,12 @@
 use Rattle.std.proofs.Common.{◌-◌, refl, arith, true}
 use Rattle.swap_run.specs.declared.phase.Phase.TheVariants as phase
-use Rattle.swap_run.specs.declared.stop.SwapStop.TheVariants.{NoSuperframe}
-use Rattle.swap_run.proofs.GoLemmas.{shown_nothing, shown_parted}
-use Rattle.swap_run.proofs.NextLemmas.{left_by, reach_on, slots_in, slots_next, drained_more}
+use Rattle.swap_run.proofs.GoLemmas.{shown_nothing}
+use Rattle.swap_run.proofs.NextLemmas.{reach_on, slots_in, slots_next, drained_more}
 use Rattle.swap_run.proofs.machine.SwapMachine.part.Goals as goal
 
 pub returns-then-not-self-clause-shown : goal.returns-then-not-self-clause-shown
 returns-then-not-self-clause-shown c = λ k plp events s.
     shown_nothing k plp events c.args.self.now s c.requires.records c.requires.none c.requires.over c.if-not-self.true
-
-pub returns-then-not-self-clause-left : goal.returns-then-not-self-clause-left
-returns-then-not-self-clause-left c =
-    let was = left_by c.args.self.now phase.Records c.requires.records in
-    omega (arith, was)
-
-pub returns-then-not-self-clause-reach : goal.returns-then-not-self-clause-reach
-returns-then-not-self-clause-reach c =
-    let m = c.args.self.now in
-    let was = slots_in m phase.Records c.requires.records in
-    reach_on m (record m { phase = phase.Stopped NoSuperframe }) (omega arith) (omega (arith, was)) (omega arith)
-
-pub returns-clause-shown : goal.returns-clause-shown
-returns-clause-shown c = λ k plp events s.
-    shown_parted k plp events c.args.self.now s c.requires.records c.requires.none c.requires.over c.if-not-self.false
-
-pub returns-clause-left : goal.returns-clause-left
-returns-clause-left c =
-    let was = left_by c.args.self.now phase.Records c.requires.records in
-    omega (arith, was)
 
 pub returns-clause-reach : goal.returns-clause-reach
 returns-clause-reach c =

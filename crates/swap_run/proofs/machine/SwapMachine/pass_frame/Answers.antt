@@ -2,7 +2,7 @@ use Rattle.std.proofs.Common.{◌+◌, ap, arith}
 use Rattle.region_swap.specs.StandsFor.{Status}
 use Rattle.swap_run.specs.declared.phase.Phase.TheVariants as phase
 use Rattle.swap_run.proofs.GoLemmas.{shown_pass}
-use Rattle.swap_run.proofs.NextLemmas.{left_by, number_most, reach_on, slots_in, slots_next, frame_is, packets_early}
+use Rattle.swap_run.proofs.NextLemmas.{reach_on, slots_in, slots_next, frame_is, packets_early}
 use Rattle.swap_run.proofs.NextLemmas.{packets_idle}
 use Rattle.swap_run.proofs.machine.SwapMachine.pass_frame.Goals as goal
 
@@ -13,15 +13,6 @@ returns-clause-shown c = λ k plp events s.
     c.pass.new.self c.args.waiting
     c.requires.packets c.requires.waits c.requires.before
     (record { stands = p.stands; unit = p.unit; status = p.status })
-
-pub returns-clause-left : goal.returns-clause-left
-returns-clause-left c =
-    let m = c.args.self.now in
-    let was = left_by m phase.Packets c.requires.packets in
-    let now = left_by (record m { swapper = c.pass.new.self; number = m.number + 1 }) phase.Packets
-    c.requires.packets in
-    let most = number_most m c.requires.came in
-    omega (arith, was, now, most)
 
 pub returns-clause-reach : goal.returns-clause-reach
 returns-clause-reach c =
@@ -44,6 +35,3 @@ pass-requires-clause-early c =
 
 pub pass-requires-clause-given : goal.pass-requires-clause-given
 pass-requires-clause-given c = λ _. packets_idle c.args.self.now c.requires.came c.requires.packets
-
-pub overflow_add-self : goal.overflow_add-self
-overflow_add-self c = let most = number_most c.args.self.now c.requires.came in omega (arith, most)

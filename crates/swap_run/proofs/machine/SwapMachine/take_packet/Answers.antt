@@ -1,14 +1,12 @@
-use Rattle.std.proofs.Common.{ℕ, ◌+◌, List, [], ◌∷◌, ◌++◌, take, slice_index_or, inl, refl, ap, sym, subst, ◌∙◌, arith}
+use Rattle.std.proofs.Common.{ℕ, List, [], ◌∷◌, ◌++◌, take, slice_index_or, inl, ap, sym, subst, ◌∙◌}
 use Rattle.std.proofs.lemmas.List.{length-take-le}
 use Rattle.ts_packet.specs.declared.sizes.TheConstants.{SIZE}
 use Rattle.file_run.specs.Events.{Fed}
 use Rattle.ts_packet.proofs.FileLemmas.{no_sync, some_taken}
 use Rattle.gateway_core.specs.InputSoFar.{with_packet}
-use Rattle.region_swap.specs.StandsFor.{SwapperStandsFor, Status}
-use Rattle.swap_run.specs.Steps.{wanted_in}
-use Rattle.swap_run.specs.declared.phase.Phase.TheVariants as phase
+use Rattle.region_swap.specs.StandsFor.{SwapperStandsFor}
 use Rattle.swap_run.proofs.ShownLemmas.{shown_offer, shown_refuse, can_packets}
-use Rattle.swap_run.proofs.NextLemmas.{fed_same, zero_one, reach_on, slots_status, reach_refused}
+use Rattle.swap_run.proofs.NextLemmas.{fed_same, zero_one}
 use Rattle.swap_run.proofs.machine.SwapMachine.take_packet.Goals as goal
 
 pub returns-then-as_array-ne-SYNC-clause-shown : goal.returns-then-as_array-ne-SYNC-clause-shown
@@ -22,11 +20,6 @@ returns-then-as_array-ne-SYNC-clause-shown c = λ k plp events s.
     (fed_same tell 1 0 p events zero_one) (tell.fed 1 p events).here (tell.fed 1 p events).gave
     (some_taken _ c.requires.long)
     (no_sync p (λ e. c.if-as_array-ne-SYNC.true (first ∙ e))) (inl (λ e. c.if-as_array-ne-SYNC.true (first ∙ e))))
-
-pub returns-then-as_array-ne-SYNC-clause-reach : goal.returns-then-as_array-ne-SYNC-clause-reach
-returns-then-as_array-ne-SYNC-clause-reach c = λ other.
-    let m = c.args.self.now in
-    rw c.refuse.ensures (reach_refused m phase.Packets c.requires.packets refl other)
 
 pub returns-clause-shown : goal.returns-clause-shown
 returns-clause-shown c = λ k plp events s.
@@ -44,10 +37,3 @@ returns-clause-shown c = λ k plp events s.
     c.front_of-packet.ensures
     (o.stands a b t left fs n st))
     o.unit o.status
-
-pub returns-clause-reach : goal.returns-clause-reach
-returns-clause-reach c =
-    let m = c.args.self.now in
-    reach_on m (record m { swapper = c.offer.new.self; taken = m.taken + 1 }) (omega arith)
-    (slots_status m c.offer.new.self (wanted_in m.phase m.number) (ap (λ (x : Status). x.plp) c.offer.ensures.status))
-    (omega arith)

@@ -1,19 +1,14 @@
-use Rattle.std.proofs.Common.{◌+◌, true, refl, ap, sym, subst, ◌∙◌, arith}
-use Rattle.std.specs.Prelude.{IsSome}
+use Rattle.std.proofs.Common.{◌+◌, sym, ◌∙◌, arith}
 use Rattle.std.proofs.Math.Logic.{∥∥₁_map}
 use Rattle.file_run.specs.Events.{fed, has_ended}
 use Rattle.feed_merge.proofs.BothCameLemmas.{most_of}
-use Rattle.region_swap.specs.StandsFor.{Status}
 use Rattle.swap_run.specs.Shown.{HasShown, more_units, frame_bytes}
 use Rattle.swap_run.specs.declared.phase.Phase.TheVariants as phase
 use Rattle.swap_run.proofs.GoLemmas.{shown_skip, shown_begin, is_frame, held_there, begun_few}
-use Rattle.swap_run.proofs.NextLemmas.{left_by, number_most, few_counted, reach_on, slots_in, slots_behind}
-use Rattle.swap_run.proofs.NextLemmas.{slots_status, frame_is, packets_early, packets_behind, packets_idle}
-use Rattle.swap_run.proofs.NextLemmas.{packets_free, packets_open, is_muted, not_muted, sent_in}
+use Rattle.swap_run.proofs.NextLemmas.{left_by, number_most, few_counted}
+use Rattle.swap_run.proofs.NextLemmas.{frame_is, packets_early, packets_behind, packets_idle}
+use Rattle.swap_run.proofs.NextLemmas.{begun_at, finished_at, is_muted, not_muted, sent_in}
 use Rattle.swap_run.proofs.machine.SwapMachine.take_record.Goals as goal
-
-pub skip-requires-clause-waits : goal.skip-requires-clause-waits
-skip-requires-clause-waits c = subst IsSome (sym c.requires.waits) refl
 
 pub skip-requires-clause-early : goal.skip-requires-clause-early
 skip-requires-clause-early c = λ w is. packets_early c.args.self.now c.requires.came c.requires.packets w is
@@ -42,10 +37,10 @@ pub frame-requires-clause-can : goal.frame-requires-clause-can
 frame-requires-clause-can c = sent_in c.args.self.now c.requires.came c.frame-frame.result c.frame-frame.ensures.is.can
 
 pub frame-requires-clause-free : goal.frame-requires-clause-free
-frame-requires-clause-free c = packets_free c.args.self.now c.requires.came c.requires.packets
+frame-requires-clause-free c = begun_at c.args.self.now c.requires.came phase.Packets c.requires.packets
 
 pub frame-requires-clause-open : goal.frame-requires-clause-open
-frame-requires-clause-open c = packets_open c.args.self.now c.requires.came c.requires.packets
+frame-requires-clause-open c = finished_at c.args.self.now c.requires.came phase.Packets c.requires.packets
 
 pub frame-requires-clause-held : goal.frame-requires-clause-held
 frame-requires-clause-held c = ∥∥₁_map c.requires.came (λ (h : HasShown c.args.self.now).
@@ -66,28 +61,6 @@ returns-then-is_some-clause-shown c = λ k plp events s.
     c.skip.ensures.config
     (λ given st. c.skip.ensures.skips (fed 0 events) (has_ended 0 events) given st)
     (record { stands = p.stands; unit = p.unit; status = p.status })
-
-pub returns-then-is_some-clause-left : goal.returns-then-is_some-clause-left
-returns-then-is_some-clause-left c =
-    let was = left_by c.args.self.now phase.Packets c.requires.packets in
-    let less = c.skip.ensures.left in
-    omega (arith, was, less)
-
-pub returns-then-is_some-clause-reach : goal.returns-then-is_some-clause-reach
-returns-then-is_some-clause-reach c =
-    let m = c.args.self.now in
-    let f = c.skip.ensures.fed in
-    reach_on m (record m {
-      feed = c.skip.new.self;
-      swapper = c.pass.new.self;
-      number = m.number + 1;
-      joined = true;
-      phase = phase.Records;
-      ran = record m.ran { muted = m.ran.muted + 1 };
-    }) (omega (arith, f))
-    (slots_behind m c.pass.new.self phase.Packets c.requires.packets refl (ap (λ (x : Status). x.plp)
-    c.pass.ensures.status))
-    (omega arith)
 
 pub returns-clause-shown : goal.returns-clause-shown
 returns-clause-shown c = λ k plp events s.
@@ -119,15 +92,3 @@ returns-clause-left c =
     f.ensures.is c.requires.packets x
     (record { stands = b.stands; more = b.more; status = b.status })) in
     omega (arith, was, more)
-
-pub returns-clause-reach : goal.returns-clause-reach
-returns-clause-reach c =
-    let m = c.args.self.now in
-    let was = slots_in m phase.Packets c.requires.packets in
-    let same = slots_status m c.frame.new.self m.number (ap (λ (x : Status). x.plp) c.frame.ensures.status) in
-    reach_on m (record m {
-      swapper = c.frame.new.self;
-      joined = true;
-      phase = phase.Units;
-      ran = record m.ran { frames = m.ran.frames + 1 };
-    }) (omega arith) (omega (arith, was, same)) (omega arith)

@@ -4,31 +4,24 @@ use Rattle.region_swap.specs.StandsFor.{status_of}
 use Rattle.swap_run.specs.Shown.{Shown}
 use Rattle.swap_run.specs.declared.phase.Phase.TheVariants as phase
 use Rattle.swap_run.proofs.FeedLemmas.{ended_one}
-use Rattle.swap_run.proofs.NextLemmas.{ended_same, one_zero, reach_on}
+use Rattle.swap_run.proofs.NextLemmas.{ended_same, one_zero}
 use Rattle.swap_run.proofs.ShownLemmas.{of_in, shown_feed}
-use Rattle.swap_run.proofs.StepLemmas.{short_records, short_packets, short_rest, short_else}
+use Rattle.swap_run.proofs.StepLemmas.{short, short_else}
 use Rattle.swap_run.proofs.machine.SwapMachineMachine.end_input.Goals as goal
 
-pub finish-requires-clause-idle : goal.finish-requires-clause-idle
-finish-requires-clause-idle c = (short_records c.args.self.now c.args._input _ c.in-Records.is c.requires.wanted).0.none
-
-pub finish-requires-clause-open : goal.finish-requires-clause-open
-finish-requires-clause-open c = (short_records c.args.self.now c.args._input _ c.in-Records.is
-    c.requires.wanted).0.going
-
 pub end_packets-requires-clause-wanted : goal.end_packets-requires-clause-wanted
-end_packets-requires-clause-wanted c = (short_packets c.args.self.now c.args._input _ c.in-Packets.is
-    c.requires.wanted).0.some
+end_packets-requires-clause-wanted c =
+    (short c.args.self.now c.args._input _ c.requires.wanted phase.Packets c.in-Packets.is).0.some
 
 pub end_packets-requires-clause-short : goal.end_packets-requires-clause-short
-end_packets-requires-clause-short c = (short_packets c.args.self.now c.args._input _ c.in-Packets.is
-    c.requires.wanted).1
+end_packets-requires-clause-short c =
+    (short c.args.self.now c.args._input _ c.requires.wanted phase.Packets c.in-Packets.is).1
 
 pub end_rest-requires : goal.end_rest-requires
 end_rest-requires c =
     let m = c.args.self.now in
     let d = short_else m c.args._input _ c.requires.wanted c.in_default.not-Records c.in_default.not-Packets in
-    let w = short_rest m c.args._input _ d c.requires.wanted in
+    let w = short m c.args._input _ c.requires.wanted phase.Drains d in
     record { drains = d; going = w.0.going; short = w.1 }
 
 pub returns-in-Records-clause-becomes : goal.returns-in-Records-clause-becomes
@@ -36,7 +29,7 @@ returns-in-Records-clause-becomes c = λ start events s.
     let k = start.plan.now in
     let plp = (status_of start.swapper).plp in
     let m = c.args.self.now in
-    let w = short_records m c.args._input _ c.in-Records.is c.requires.wanted in
+    let w = short m c.args._input _ c.requires.wanted phase.Records c.in-Records.is in
     let p = c.args.bytes.now in
     let g = c.finish.new.self in
     let tell = c.events_law.ensures in
@@ -45,19 +38,13 @@ returns-in-Records-clause-becomes c = λ start events s.
     (tell.ended 0 p events).gave
     (ended_one tell k m.feed g events p s.read.given (record { none = w.0.none; going = w.0.going })
     c.finish.ensures.config
-    (of_in k plp events m s phase.Records c.in-Records.is) w.1 c.finish.ensures.stands))
-
-pub returns-in-Records-clause-reach : goal.returns-in-Records-clause-reach
-returns-in-Records-clause-reach c =
-    let m = c.args.self.now in
-    let f = c.finish.ensures.fed in
-    reach_on m (record m { feed = c.finish.new.self }) (omega (arith, f)) (omega arith) (omega arith)
+    (of_in k plp events m s phase.Records c.in-Records.is) (let l = w.1 in omega (arith, l)) c.finish.ensures.stands))
 
 pub returns-in-Packets-clause-becomes : goal.returns-in-Packets-clause-becomes
 returns-in-Packets-clause-becomes c = λ start events s.
     let k = start.plan.now in
     let plp = (status_of start.swapper).plp in
-    let w = (short_packets c.args.self.now c.args._input _ c.in-Packets.is c.requires.wanted).0 in
+    let w = (short c.args.self.now c.args._input _ c.requires.wanted phase.Packets c.in-Packets.is).0 in
     subst (λ (i : ℕ). Shown k plp (events ++ Ended i c.args.bytes.now ∷ []) c.end_packets.new.self) w.at
     (c.end_packets.ensures.shown k plp events s)
 
@@ -65,7 +52,7 @@ pub returns-in_default : goal.returns-in_default
 returns-in_default c =
     let m = c.args.self.now in
     let d = short_else m c.args._input _ c.requires.wanted c.in_default.not-Records c.in_default.not-Packets in
-    let w = short_rest m c.args._input _ d c.requires.wanted in
+    let w = short m c.args._input _ c.requires.wanted phase.Drains d in
     record {
       becomes = λ start events s.
           let k = start.plan.now in

@@ -5,35 +5,26 @@ use Rattle.region_swap.specs.StandsFor.{status_of}
 use Rattle.swap_run.specs.Shown.{Shown}
 use Rattle.swap_run.specs.declared.phase.Phase.TheVariants as phase
 use Rattle.swap_run.proofs.FeedLemmas.{fed_one}
-use Rattle.swap_run.proofs.NextLemmas.{fed_same, one_zero, reach_on}
+use Rattle.swap_run.proofs.NextLemmas.{fed_same, one_zero}
 use Rattle.swap_run.proofs.ShownLemmas.{has_shown, of_in, shown_feed}
-use Rattle.swap_run.proofs.StepLemmas.{enough_records, enough_packets, enough_rest, enough_else, packets_apart}
+use Rattle.swap_run.proofs.StepLemmas.{enough, enough_else, packets_apart}
 use Rattle.swap_run.proofs.WantLemmas.{room_of, few_of}
 use Rattle.swap_run.proofs.machine.SwapMachineMachine.feed.Goals as goal
 
-pub feed-requires-clause-idle : goal.feed-requires-clause-idle
-feed-requires-clause-idle c = (enough_records c.args.self.now c.args._input _ c.in-Records.is c.requires.wanted).0.none
-
-pub feed-requires-clause-open : goal.feed-requires-clause-open
-feed-requires-clause-open c = (enough_records c.args.self.now c.args._input _ c.in-Records.is c.requires.wanted).0.going
-
-pub feed-requires-clause-some : goal.feed-requires-clause-some
-feed-requires-clause-some c = (enough_records c.args.self.now c.args._input _ c.in-Records.is c.requires.wanted).1
-
 pub take_packet-requires-clause-wanted : goal.take_packet-requires-clause-wanted
-take_packet-requires-clause-wanted c = (enough_packets c.args.self.now c.args._input _ c.in-Packets.is
-    c.requires.wanted).0.some
+take_packet-requires-clause-wanted c =
+    (enough c.args.self.now c.args._input _ c.requires.wanted phase.Packets c.in-Packets.is).0.some
 
 pub take_packet-requires-clause-long : goal.take_packet-requires-clause-long
-take_packet-requires-clause-long c = (enough_packets c.args.self.now c.args._input _ c.in-Packets.is
-    c.requires.wanted).1
+take_packet-requires-clause-long c =
+    (enough c.args.self.now c.args._input _ c.requires.wanted phase.Packets c.in-Packets.is).1
 
 pub drain_packet-requires : goal.drain_packet-requires
 drain_packet-requires c =
     let m = c.args.self.now in
     let r = c.requires.room in
     let d = enough_else m c.args._input _ c.requires.wanted c.in_default.not-Records c.in_default.not-Packets in
-    let w = enough_rest m c.args._input _ d c.requires.wanted in
+    let w = enough m c.args._input _ c.requires.wanted phase.Drains d in
     record {
       drains = d;
       going = w.0.going;
@@ -49,7 +40,7 @@ returns-in-Records-clause-becomes c = λ start events s.
     let k = start.plan.now in
     let plp = (status_of start.swapper).plp in
     let m = c.args.self.now in
-    let w = (enough_records m c.args._input _ c.in-Records.is c.requires.wanted).0 in
+    let w = (enough m c.args._input _ c.requires.wanted phase.Records c.in-Records.is).0 in
     let p = take c.feed.result c.args.bytes.now in
     let g = c.feed.new.self in
     let tell = c.events_law.ensures in
@@ -63,26 +54,20 @@ pub returns-in-Packets-clause-becomes : goal.returns-in-Packets-clause-becomes
 returns-in-Packets-clause-becomes c = λ start events s.
     let k = start.plan.now in
     let plp = (status_of start.swapper).plp in
-    let w = (enough_packets c.args.self.now c.args._input _ c.in-Packets.is c.requires.wanted).0 in
+    let w = (enough c.args.self.now c.args._input _ c.requires.wanted phase.Packets c.in-Packets.is).0 in
     subst (λ (i : ℕ). Shown k plp (events ++ Fed i (take SIZE c.args.bytes.now) ∷ []) c.take_packet.new.self) w.at
     (c.take_packet.ensures.shown k plp events s)
 
 pub returns-in-Packets-clause-some : goal.returns-in-Packets-clause-some
 returns-in-Packets-clause-some c =
-    let w = (enough_packets c.args.self.now c.args._input _ c.in-Packets.is c.requires.wanted).1 in
+    let w = (enough c.args.self.now c.args._input _ c.requires.wanted phase.Packets c.in-Packets.is).1 in
     (omega arith, omega (arith, w))
-
-pub returns-in-Records-clause-reach : goal.returns-in-Records-clause-reach
-returns-in-Records-clause-reach c =
-    let m = c.args.self.now in
-    let f = c.feed.ensures.fed in
-    reach_on m (record m { feed = c.feed.new.self }) (omega (arith, f)) (omega arith) (omega arith)
 
 pub returns-in_default : goal.returns-in_default
 returns-in_default c =
     let m = c.args.self.now in
     let d = enough_else m c.args._input _ c.requires.wanted c.in_default.not-Records c.in_default.not-Packets in
-    let w = enough_rest m c.args._input _ d c.requires.wanted in
+    let w = enough m c.args._input _ c.requires.wanted phase.Drains d in
     let long = w.1 in
     record {
       some = (omega arith, omega (arith, long));

@@ -6,7 +6,7 @@ use Rattle.region_swap.specs.StandsFor.{status_of}
 use Rattle.swap_run.specs.Shown.{Shown}
 use Rattle.swap_run.proofs.NextLemmas.{shown_still}
 use Rattle.swap_run.proofs.ShownLemmas.{has_shown}
-use Rattle.swap_run.proofs.StepLemmas.{gives_record, gives_packet, gives_rest, rests_at}
+use Rattle.swap_run.proofs.StepLemmas.{rests_at}
 use Rattle.swap_run.proofs.machine.SwapMachineMachine.give.Goals as goal
 
 pub returns-in-Records-clause-becomes : goal.returns-in-Records-clause-becomes
@@ -36,20 +36,6 @@ returns-in_default-clause-becomes c = λ start events s.
     (sym (take-append-le c.give_rest.result c.give_rest.new.unit (drop SIZE c.args.out.now) n))
     (c.give_rest.ensures.shown k plp events s)
 
-pub look-requires-clause-busy : goal.look-requires-clause-busy
-look-requires-clause-busy c = gives_record c.args.self.now c.in-Records.is c.requires.gives
-
-pub go_on-requires-clause-wanted : goal.go_on-requires-clause-wanted
-go_on-requires-clause-wanted c = gives_packet c.args.self.now c.in-Packets.is c.requires.gives
-
-pub finish-requires-clause-over : goal.finish-requires-clause-over
-finish-requires-clause-over c = gives_rest c.args.self.now c.in-Drains.is c.requires.gives
-
-pub give_rest-requires-clause-rests : goal.give_rest-requires-clause-rests
-give_rest-requires-clause-rests c =
-    rests_at c.args.self.now c.requires.gives c.in_default.not-Records c.in_default.not-Packets c.in_default.not-Drains
-    c.in_default.not-Units
-
 pub look-requires-clause-came : goal.look-requires-clause-came
 look-requires-clause-came c = has_shown _ c.requires.came
 
@@ -67,3 +53,8 @@ give_units-requires-clause-came c = has_shown _ c.requires.came
 
 pub give_rest-requires-clause-came : goal.give_rest-requires-clause-came
 give_rest-requires-clause-came c = has_shown _ c.requires.came
+
+pub give_rest-requires-clause-rests : goal.give_rest-requires-clause-rests
+give_rest-requires-clause-rests c =
+    rests_at c.args.self.now c.requires.gives c.in_default.not-Records c.in_default.not-Packets c.in_default.not-Drains
+    c.in_default.not-Units
